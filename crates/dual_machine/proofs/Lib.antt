@@ -1,0 +1,7 @@
+pub mod Awaiting
+pub mod Changes
+pub mod Closing
+pub mod Costs
+pub mod Debts
+pub mod Least
+pub mod Room

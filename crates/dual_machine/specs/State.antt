@@ -1,0 +1,113 @@
+-- What callers see of a machine, and what an event does to its origin state.
+use Rattle.std.specs.Prelude.{◌≡◌, ℕ, Bool, true, false, nat_lt, if◌then◌else◌, List, map, Option, Some, None, slice_get, is_some, unwrap_or}
+use Rattle.std.specs.List.{list_any}
+use Rattle.metric.specs.Distance.{infinity}
+use Rattle.metric.specs.declared.kind.Kind.TheVariants.{Query}
+use Rattle.network_model.specs.declared.machine.Event.{Event}
+use Rattle.network_model.specs.declared.machine.Event.TheVariants.{Message, Up, Down, Cost}
+use Rattle.network_model.specs.declared.machine.Neighbour.{Neighbour}
+use Rattle.network_model.specs.declared.machine.PortInfo.{PortInfo}
+use Rattle.network_model.specs.Machine.{Machine, Computation, opening_machine, ways, is_port, asker, via_successor, condition_holds, with_records, awaited_after}
+use Rattle.dual_machine.specs.declared.origin.Origin.{Origin}
+use Rattle.dual_machine.specs.declared.origin.Origin.TheVariants.{Own, Owing}
+use Rattle.dual_machine.specs.declared.mode.Mode.{Mode}
+use Rattle.dual_machine.specs.declared.mode.Mode.TheVariants as mode
+use Rattle.dual_machine.specs.Origin.{rose, queried, lost, restart, owes}
+
+-- a machine, with the origin state of the computation under way
+pub record State : Type 0 where
+  pub machine : Machine
+  pub origin : Option Origin
+
+-- ports as a machine meets them first: nothing reported
+abbrev pub opening_neighbours : List PortInfo → List Neighbour
+opening_neighbours ports = map (λ p. record { up = p.up; cost = p.cost; reported = infinity }) ports
+
+-- a machine that has heard nothing over these ports, passive
+abbrev pub opening_state : Bool → List PortInfo → State
+opening_state local ports = record { machine = opening_machine local (opening_neighbours ports); origin = None }
+
+-- ---- the origin state after an event
+
+-- whether the event takes the successor's link
+abbrev pub is_loss_of : Option ℕ → Event → Bool
+is_loss_of successor (Down q) = is_port q successor
+is_loss_of successor _ = false
+
+-- whether the event is a query from the successor
+abbrev pub is_query_from : Option ℕ → Event → Bool
+is_query_from successor (Message q Query value) = is_port q successor
+is_query_from successor _ = false
+
+-- whether the distance by way of the successor is above the one with which the computation began
+abbrev pub has_risen : Machine → Bool
+has_risen m = nat_lt m.rd (via_successor (ways m) m.successor)
+
+-- the origin state of a computation that goes on: by the successor before the event, and whether the distance has risen. A loss counts
+-- before a query, and a query before the distance
+abbrev pub moved : Option ℕ → Event → Bool → Origin → Origin
+moved successor e risen o =
+    if is_loss_of successor e then lost o
+    else if is_query_from successor e then queried o
+    else if risen then rose o
+    else o
+
+-- the origin state of a computation that begins; with no one up it is over at once
+abbrev pub new_origin : Machine → Origin → Option Origin
+new_origin m o = if list_any (λ n. n.up) m.ports then Some o else None
+
+-- of one that an event begins: a query from the successor leaves a debt
+abbrev pub started_origin : Machine → Option ℕ → Option Origin
+started_origin m None = new_origin m Own
+started_origin m (Some q) = new_origin m (if is_port q m.successor then Owing else Own)
+
+-- of a computation that is over: none where the condition holds, else that of the next
+abbrev pub completion_origin : Machine → Origin → Option Origin
+completion_origin m o = if condition_holds m.rd (ways m) then None else new_origin m (restart o)
+
+-- of a passive machine, with its records changed
+abbrev pub passive_origin : Machine → Event → Option Origin
+passive_origin m e = if condition_holds m.fd (ways m) then None else started_origin m (asker e)
+
+-- of an active machine, with its records changed
+abbrev pub active_origin : Machine → Event → Computation → Origin → Option Origin
+active_origin m e c o = if list_any (λ b. b) (awaited_after e c.awaited) then Some o else completion_origin m o
+
+-- the origin state once the records have changed by the event; the owner has none
+abbrev pub decided_origin : State → Event → Option Origin
+decided_origin s e = by_owner (s.machine).local
+  where
+    by_mode : Option Computation → Option Origin → Option Origin
+    by_mode (Some c) (Some o) = active_origin (with_records s.machine e) e c (moved (s.machine).successor e (has_risen (with_records s.machine e)) o)
+    by_mode _ _ = passive_origin (with_records s.machine e) e
+
+    by_owner : Bool → Option Origin
+    by_owner true = s.origin
+    by_owner false = by_mode (s.machine).computation s.origin
+
+-- the origin state after an event: a link that comes up leaves it as it is
+abbrev pub origin_after : State → Event → Option Origin
+origin_after s (Up q cost) = s.origin
+origin_after s (Message q kind value) = decided_origin s (Message q kind value)
+origin_after s (Down q) = decided_origin s (Down q)
+origin_after s (Cost q cost) = decided_origin s (Cost q cost)
+
+-- ---- what a machine shows
+
+-- what a machine is at
+abbrev pub mode_of : State → Mode
+mode_of s = by_computation (s.machine).computation s.origin
+  where
+    by_computation : Option Computation → Option Origin → Mode
+    by_computation (Some c) (Some o) = mode.Active o c.debt
+    by_computation _ _ = mode.Passive
+
+-- a debt is shown exactly in the origin states that owe a reply
+abbrev pub OwesByOrigin : Mode → Type 0
+OwesByOrigin mode.Passive = Unit {0}
+OwesByOrigin (mode.Active origin debt) = is_some debt ≡ owes origin
+
+-- whether a reply from this port is awaited
+abbrev pub awaits_at : Option Computation → ℕ → Bool
+awaits_at None q = false
+awaits_at (Some c) q = unwrap_or (slice_get c.awaited q) false

@@ -1,0 +1,17 @@
+//! The machine of DUAL: what one router keeps for one prefix, and what it does at each event.
+#![tactic(auto)]
+
+mod distances;
+mod events;
+mod machine;
+mod mode;
+mod origin;
+mod sends;
+#[cfg(test)]
+mod tests;
+
+pub use machine::Machine;
+pub use mode::Mode;
+pub use network_model::{Cost, Distance, Event, Kind, NoMemory, Outgoing, PortInfo};
+pub use origin::Origin;
+pub use sends::Sends;

@@ -1,0 +1,370 @@
+//! The machine itself.
+
+ghost use Rattle.std.specs.Prelude.{◌≡◌, ℕ, ◌+◌, ◌<◌, ◌≤◌, ◌++◌, ◌↔◌, IsTrue, true, false, length, None, IsOk, OnOk, OnErr, IfOk, All, is_none};
+ghost use Rattle.metric.specs.Distance.{IsCost, infinity};
+ghost use Rattle.network_model.specs.Machine as dual;
+ghost use Rattle.dual_machine.specs.Event.{port_of, IsTimely};
+ghost use Rattle.dual_machine.specs.Origin as table;
+ghost use Rattle.dual_machine.specs.Outbox.{HasRoom, most_sent};
+ghost use Rattle.dual_machine.specs.Parts.{IsDebtOf};
+ghost use Rattle.dual_machine.specs.State as state;
+
+use crate::distances::{
+    chosen_successor, condition_holds, is_any_up, is_up_at, least, nearer, up_count, via_successor,
+};
+use crate::events::{
+    asker, await_all, change_record, debt_after, end_wait, has_risen, is_awaiting, is_port, moved,
+    other_asker, successor_after,
+};
+use crate::mode::{Active, Mode};
+use crate::origin::Origin;
+use crate::sends::Sends;
+use network_model::{Distance, Event, Kind, Neighbour, NoMemory, PortInfo};
+use std::alloc::{AllocError, Global};
+use std::marker::Model;
+
+/// The machine of one router for one prefix.
+#[derive(Debug, Drop)]
+pub struct Machine {
+    local: bool,
+    ports: Vec<Neighbour>,
+    // While a computation is under way: by port, whether the reply is awaited.
+    awaited: Vec<bool>,
+    rd: Distance,
+    fd: Distance,
+    successor: Option<u8>,
+    active: Option<Active>,
+}
+
+impl Model for Machine {
+    ghost use Rattle.dual_machine.specs.State.{State};
+    ghost use Rattle.dual_machine.specs.Parts.{IsSound, computation_of, origin_of};
+
+    ghost Value = { State };
+
+    ghost view = { λ m. record {
+      machine = record {
+        local = m.local;
+        ports = m.ports.items;
+        rd = m.rd;
+        fd = m.fd;
+        successor = m.successor;
+        computation = computation_of m.awaited.items m.active;
+      };
+      origin = origin_of m.active;
+    } };
+
+    ghost invariant = { λ m. IsSound m.local m.ports.items m.awaited.items m.successor m.active };
+}
+
+// A neighbour that has reported nothing.
+fn opening_neighbour(port: &PortInfo) -> Neighbour
+    ensures value { result ≡ record { up = port.now.up; cost = port.now.cost; reported = infinity } }
+    ensures cost { IsCost result.cost }
+{
+    prove!(port.cost.value() > 0);
+    Neighbour {
+        up: port.up,
+        cost: port.cost,
+        reported: Distance::INF,
+    }
+}
+
+fn opening_neighbours(alloc: Global, ports: &[PortInfo]) -> Result<Vec<Neighbour>, AllocError>
+    ensures items { IfOk result (λ v. v.items ≡ state.opening_neighbours ports.now) }
+    ensures costs { IfOk result (λ v. All (λ n. IsCost n.cost) v.items) }
+    ensures full { OnErr result (0 < length ports.now) }
+{
+    let mut neighbours = Vec::with_capacity(alloc, ports.len())?;
+    for port in ports {
+        neighbours.push_reserved(opening_neighbour(port));
+    }
+    Ok(neighbours)
+}
+
+impl Machine {
+    /// A machine that has heard nothing over these ports; `local` where the router owns the prefix.
+    pub fn new(alloc: Global, local: bool, ports: &[PortInfo]) -> Result<Machine, NoMemory>
+        requires { length ports.now ≤ 32 }
+        ensures ok { IfOk result (λ m. m ≡ state.opening_state local ports.now) }
+
+        // Without ports it takes no memory.
+        ensures full { OnErr result (0 < length ports.now) }
+    {
+        let neighbours = opening_neighbours(alloc, ports)?;
+        let mut awaited = Vec::new(alloc);
+        awaited.resize(ports.len(), false)?;
+        let distance = if local { Distance::ZERO } else { Distance::INF };
+        Ok(Machine {
+            local,
+            ports: neighbours,
+            awaited,
+            rd: distance,
+            fd: distance,
+            successor: None,
+            active: None,
+        })
+    }
+
+    /// Whether the router owns the prefix.
+    pub fn is_local(&self) -> bool
+        ensures { result ≡ (self.now).machine.local }
+    {
+        self.local
+    }
+
+    /// The reported distance.
+    pub fn rd(&self) -> Distance
+        ensures { result ≡ (self.now).machine.rd }
+    {
+        self.rd
+    }
+
+    /// The feasible distance.
+    pub fn fd(&self) -> Distance
+        ensures { result ≡ (self.now).machine.fd }
+    {
+        self.fd
+    }
+
+    /// The port of the successor, if there is one.
+    pub fn successor(&self) -> Option<u8>
+        ensures { result ≡ (self.now).machine.successor }
+    {
+        self.successor
+    }
+
+    /// Whether no computation is under way.
+    pub fn is_passive(&self) -> bool
+        ensures { result ≡ is_none (self.now).machine.computation }
+    {
+        self.active.is_none()
+    }
+
+    /// Whether a computation is under way, and which.
+    pub fn mode(&self) -> Mode
+        ensures mode { result ≡ state.mode_of self.now }
+
+        // A debt is there exactly in the states 2 and 3.
+        ensures debt { state.OwesByOrigin result }
+    {
+        match self.active {
+            None => Mode::Passive,
+            Some(Active { origin, debt }) => Mode::Active { origin, debt },
+        }
+    }
+
+    /// Whether a computation is under way that awaits the reply of the neighbour at this port.
+    pub fn awaits(&self, port: u8) -> bool
+        ensures { result ≡ state.awaits_at (self.now).machine.computation port }
+    {
+        self.active.is_some() && self.awaited.get(port as usize) == Some(&true)
+    }
+
+    /// Whether the machine may be told of the event: its port is known, `Up` names one that is
+    /// down, and any other event one that is up.
+    pub fn is_timely(&self, event: Event) -> bool
+        ensures { IsTrue result ↔ ((port_of event < length (self.now).machine.ports)
+            × IsTimely (self.now).machine.ports event) }
+    {
+        match event {
+            Event::Up { port, .. } => {
+                (port as usize) < self.ports.len() && !is_up_at(&self.ports, port)
+            }
+            Event::Message { port, .. } | Event::Down { port } | Event::Cost { port, .. } => {
+                (port as usize) < self.ports.len() && is_up_at(&self.ports, port)
+            }
+        }
+    }
+
+    /// Tells the machine of an event, and appends what it sends. All growth is made first, so that
+    /// a refused call changes nothing.
+    pub fn event(&mut self, event: Event, sends: &mut Sends) -> Result<(), NoMemory>
+        requires known { port_of event < length (self.old).machine.ports }
+        requires timely { IsTimely (self.old).machine.ports event }
+        ensures machine { OnOk result ((self.new).machine ≡ (dual.reaction (self.old).machine event).machine) }
+        ensures origin { OnOk result ((self.new).origin ≡ state.origin_after self.old event) }
+        ensures sent { OnOk result (sends.new.list ≡ sends.old.list
+            ++ (dual.reaction (self.old).machine event).sends) }
+
+        // One message more than there are neighbours that are up, at most.
+        ensures few { OnOk result (length sends.new.list
+            ≤ length sends.old.list + most_sent (self.old).machine.ports) }
+        ensures capacity { sends.old.capacity ≤ sends.new.capacity }
+
+        // It fails only where there was no room for so many, and then all stays.
+        ensures room { HasRoom sends.old (most_sent (self.old).machine.ports) → IsOk result }
+        ensures full { OnErr result (sends.old.capacity
+            < length sends.old.list + most_sent (self.old).machine.ports) }
+        ensures err { OnErr result ((self.new ≡ self.old) × (sends.new ≡ sends.old)) }
+    {
+        sends.reserve(up_count(&self.ports) + 1)?;
+        match event {
+            Event::Up { port, .. } => {
+                change_record(&mut self.ports, &event);
+                self.greet(port, sends);
+            }
+            _ => self.react(&event, sends),
+        }
+        Ok(())
+    }
+
+    // A neighbour that came up is told the distance, if there is one.
+    fn greet(&self, port: u8, sends: &mut Sends)
+        requires { HasRoom sends.old (length (dual.greeting (self.now).machine port)) }
+        ensures sent { sends.new.list ≡ sends.old.list ++ dual.greeting (self.now).machine port }
+        ensures capacity { sends.new.capacity ≡ sends.old.capacity }
+    {
+        if !self.rd.is_infinite() {
+            sends.push_to(Some(port), Kind::Update, self.rd);
+        }
+    }
+
+    // What an event other than Up does.
+    fn react(&mut self, event: &Event, sends: &mut Sends)
+        requires known { port_of event.now < length (self.old).machine.ports }
+        requires room { HasRoom sends.old
+            (length (dual.decision (dual.with_records (self.old).machine event.now) event.now).sends) }
+        ensures machine { (self.new).machine
+            ≡ (dual.decision (dual.with_records (self.old).machine event.now) event.now).machine }
+        ensures origin { (self.new).origin ≡ state.decided_origin self.old event.now }
+        ensures sent { sends.new.list ≡ sends.old.list
+            ++ (dual.decision (dual.with_records (self.old).machine event.now) event.now).sends }
+        ensures capacity { sends.new.capacity ≡ sends.old.capacity }
+    {
+        let before = self.successor;
+        change_record(&mut self.ports, event);
+        self.successor = successor_after(event, before);
+        if self.local {
+            sends.push_to(asker(event), Kind::Reply, Distance::ZERO);
+            return;
+        }
+        let Some(active) = self.active else {
+            self.decide(event, sends);
+            return;
+        };
+        let risen = has_risen(self.rd, &self.ports, self.successor);
+        let origin = moved(active.origin, event, before, risen);
+        let debt = debt_after(event, self.successor, active.debt);
+        sends.push_to(other_asker(event, self.successor), Kind::Reply, self.rd);
+        end_wait(&mut self.awaited, event);
+        if is_awaiting(&self.awaited) {
+            self.active = Some(Active { origin, debt });
+        } else {
+            self.active = None;
+            self.complete(origin, debt, sends);
+        }
+    }
+
+    // A passive machine stays passive where the condition holds, and else begins a computation.
+    fn decide(&mut self, event: &Event, sends: &mut Sends)
+        requires remote { (self.old).machine.local ≡ false }
+        requires room { HasRoom sends.old (length (dual.passive_reaction (self.old).machine event.now).sends) }
+        ensures machine { (self.new).machine ≡ (dual.passive_reaction (self.old).machine event.now).machine }
+        ensures origin { (self.new).origin ≡ state.passive_origin (self.old).machine event.now }
+        ensures sent { sends.new.list ≡ sends.old.list
+            ++ (dual.passive_reaction (self.old).machine event.now).sends }
+        ensures capacity { sends.new.capacity ≡ sends.old.capacity }
+    {
+        let asker = asker(event);
+        if condition_holds(self.fd, &self.ports) {
+            let fd = self.fd;
+            self.become_passive(fd, asker, sends);
+        } else {
+            self.start(asker, sends);
+        }
+    }
+
+    // A computation that an event begins. A query from the successor leaves a debt; one from
+    // another port is answered first.
+    fn start(&mut self, asker: Option<u8>, sends: &mut Sends)
+        requires remote { (self.old).machine.local ≡ false }
+        requires room { HasRoom sends.old (length (dual.started_computation (self.old).machine asker).sends) }
+        ensures machine { (self.new).machine ≡ (dual.started_computation (self.old).machine asker).machine }
+        ensures origin { (self.new).origin ≡ state.started_origin (self.old).machine asker }
+        ensures sent { sends.new.list ≡ sends.old.list
+            ++ (dual.started_computation (self.old).machine asker).sends }
+        ensures capacity { sends.new.capacity ≡ sends.old.capacity }
+    {
+        let fd = self.fd;
+        match asker {
+            Some(port) if is_port(port, self.successor) => {
+                self.begin(fd, Origin::Owing, asker, sends);
+            }
+            _ => {
+                let v = via_successor(&self.ports, self.successor);
+                sends.push_to(asker, Kind::Reply, v);
+                self.begin(fd, Origin::Own, None, sends);
+            }
+        }
+    }
+
+    // A computation whose last reply is there. Where its origin state needs no test, the condition
+    // holds.
+    fn complete(&mut self, origin: Origin, debt: Option<u8>, sends: &mut Sends)
+        requires remote { (self.old).machine.local ≡ false }
+        requires debt { IsDebtOf origin (self.old).machine.successor debt }
+        requires tested { table.needs_test origin ≡ false
+            → dual.condition_holds (self.old).machine.rd (dual.ways (self.old).machine) ≡ true }
+        requires room { HasRoom sends.old (length (dual.completion (self.old).machine debt).sends) }
+        ensures machine { (self.new).machine ≡ (dual.completion (self.old).machine debt).machine }
+        ensures origin { (self.new).origin ≡ state.completion_origin (self.old).machine origin }
+        ensures sent { sends.new.list ≡ sends.old.list ++ (dual.completion (self.old).machine debt).sends }
+        ensures capacity { sends.new.capacity ≡ sends.old.capacity }
+    {
+        let v = self.rd;
+        if !origin.needs_test() || condition_holds(v, &self.ports) {
+            self.become_passive(v, debt, sends);
+        } else {
+            self.begin(v, origin.restart(), debt, sends);
+        }
+    }
+
+    // Passive at the least distance. A reply goes to the port to which one is owed, and news to the
+    // others.
+    fn become_passive(&mut self, fd: Distance, owed: Option<u8>, sends: &mut Sends)
+        requires room { HasRoom sends.old (length (dual.passive_result (self.old).machine fd owed).sends) }
+        ensures machine { (self.new).machine ≡ (dual.passive_result (self.old).machine fd owed).machine }
+        ensures origin { (self.new).origin ≡ None }
+        ensures sent { sends.new.list ≡ sends.old.list
+            ++ (dual.passive_result (self.old).machine fd owed).sends }
+        ensures capacity { sends.new.capacity ≡ sends.old.capacity }
+    {
+        let rd = least(&self.ports);
+        sends.push_to(owed, Kind::Reply, rd);
+        if rd != self.rd {
+            sends.push_to_all(owed, Kind::Update, rd, &self.ports);
+        }
+        self.successor = chosen_successor(fd, &self.ports, self.successor);
+        self.rd = rd;
+        self.fd = nearer(fd, rd);
+        self.active = None;
+    }
+
+    // A computation that begins: everyone who is up is asked, and awaited. With no one up it is over
+    // at once.
+    fn begin(&mut self, fd: Distance, origin: Origin, debt: Option<u8>, sends: &mut Sends)
+        requires remote { (self.old).machine.local ≡ false }
+        requires debt { IsDebtOf origin (self.old).machine.successor debt }
+        requires room { HasRoom sends.old (length (dual.new_computation (self.old).machine fd debt).sends) }
+        ensures machine { (self.new).machine ≡ (dual.new_computation (self.old).machine fd debt).machine }
+        ensures origin { (self.new).origin ≡ state.new_origin (self.old).machine origin }
+        ensures sent { sends.new.list ≡ sends.old.list
+            ++ (dual.new_computation (self.old).machine fd debt).sends }
+        ensures capacity { sends.new.capacity ≡ sends.old.capacity }
+    {
+        if is_any_up(&self.ports) {
+            let v = via_successor(&self.ports, self.successor);
+            sends.push_to_all(None, Kind::Query, v, &self.ports);
+            await_all(&mut self.awaited, &self.ports);
+            self.rd = v;
+            self.fd = fd;
+            self.active = Some(Active { origin, debt });
+        } else {
+            self.rd = Distance::INF;
+            self.fd = Distance::INF;
+            self.successor = None;
+            self.active = None;
+        }
+    }
+}

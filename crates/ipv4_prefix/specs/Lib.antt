@@ -1,0 +1,4 @@
+pub mod Prefix
+pub mod LongestMatch
+pub mod Texts
+pub mod Faults

@@ -1,0 +1,20 @@
+-- What a call on a link answers, by what its tests found.
+use Rattle.std.proofs.Common.{◌≡◌, ℕ, zero, suc, ◌<◌, Bool, List, [], ◌∷◌, arith, Result, Ok, Err, length, subst}
+use Rattle.std.specs.Prelude.{IfSome, MatchBool, OnOk, slice_get}
+use Rattle.network_model.specs.World.{Link}
+use Rattle.network_model.specs.Step.{is_up_in}
+use Rattle.link_fifo.specs.declared.refusal.LinkRefusal.{LinkRefusal}
+use Rattle.link_fifo.specs.declared.refusal.Put.{Put}
+use Rattle.link_fifo.specs.declared.refusal.Put.TheVariants.{Stale}
+use Rattle.link_fifo.specs.Refusals.{IsQueuedUnlessFull, AnswersPut}
+
+-- what holds anyway holds on Ok
+pub OnOk-always : {T E : Type 0} (r : Result T E) {P : Type 0} → P → OnOk r P
+OnOk-always (Ok x) p = p
+OnOk-always (Err e) p = tt
+
+-- the answer to a message at a link that is there, by whether that is up in the message's session
+pub AnswersPut-known : (session : ℕ) (links : List Link) (l : ℕ) (b : Bool) (r : Result Put LinkRefusal) → l < length links → IfSome (slice_get links l) (λ k. b ≡ is_up_in session k) → MatchBool b (IsQueuedUnlessFull r) (r ≡ Ok Stale) → AnswersPut session (slice_get links l) r
+AnswersPut-known session [] l b r known test answer = absurd (omega arith)
+AnswersPut-known session (k ∷ ks) zero b r known test answer = subst (λ c. MatchBool c (IsQueuedUnlessFull r) (r ≡ Ok Stale)) test answer
+AnswersPut-known session (k ∷ ks) (suc l) b r known test answer = AnswersPut-known session ks l b r (omega arith) test answer

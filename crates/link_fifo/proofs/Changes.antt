@@ -1,0 +1,37 @@
+-- A link that is read at its number, changed, and written back there.
+use Rattle.std.proofs.Common.{◌≡◌, ℕ, zero, suc, ◌<◌, Bool, false, List, [], ◌∷◌, Option, Some, length, get_or, set, refl, sym, ap, subst, ◌∙◌}
+use Rattle.std.specs.Prelude.{IfSome, slice_get, if◌then◌else◌}
+use Rattle.std.proofs.lemmas.Option.{slice_get_read}
+use Rattle.network_model.specs.declared.item.Item.{Item}
+use Rattle.network_model.specs.declared.item.Held.{Held}
+use Rattle.network_model.specs.declared.network.End.{End}
+use Rattle.network_model.specs.Machine.{changed_at}
+use Rattle.network_model.specs.World.{Link, other}
+use Rattle.network_model.specs.Step.{with_message, with_item, changed_side, is_up_in}
+
+-- a change at a place writes the changed element there
+pub changed_at-set : {A : Type 0} (f : A → A) (k : ℕ) (xs : List A) (d : A) → changed_at k f xs ≡ set xs k (f (get_or xs k d))
+changed_at-set f k [] d = refl
+changed_at-set f zero (x ∷ xs) d = refl
+changed_at-set f (suc k) (x ∷ xs) d = ap (λ ys. x ∷ ys) (changed_at-set f k xs d)
+
+-- the element x of xs at place i, written back as f x, changes the list ys that xs is
+pub written : {A : Type 0} (f : A → A) {xs ys : List A} {i k : ℕ} {x y : A} → i ≡ k → x ≡ get_or xs i x → y ≡ f x → xs ≡ ys → set xs i y ≡ changed_at k f ys
+written f {xs = xs} {ys = ys} {i = i} {k = k} {x = x} at read is seen =
+    ap (set xs i) (is ∙ ap f read) ∙ sym (changed_at-set f i xs x) ∙ ap (λ j. changed_at j f xs) at ∙ ap (changed_at k f) seen
+
+-- the element that stands at a place
+pub slice_get-read : {A : Type 0} {xs ys : List A} {i k : ℕ} {x : A} → i ≡ k → x ≡ get_or xs i x → xs ≡ ys → k < length ys → slice_get ys k ≡ Some x
+slice_get-read {xs = xs} {ys = ys} {i = i} {k = k} {x = x} at read seen below =
+    slice_get_read ys (length ys) k x refl below (read ∙ ap (λ j. get_or xs j x) at ∙ ap (λ zs. get_or zs k x) seen)
+
+-- what is known of an element that is there
+pub IfSome-holds : {A : Type 0} (P : A → Type 0) {o : Option A} {x : A} → o ≡ Some x → IfSome o P → P x
+IfSome-holds P is holds = subst (λ o. IfSome o P) is holds
+
+-- a message of a session in which its link is not up changes nothing
+pub changed_at-stale : (h : Held) (from : End) (links : List Link) (l : ℕ) → IfSome (slice_get links l) (λ k. false ≡ is_up_in h.session k) → changed_at l (with_message h from) links ≡ links
+changed_at-stale h from [] l over = refl
+changed_at-stale h from (k ∷ ks) zero over =
+    ap (λ (b : Bool). (if b then changed_side (other from) (with_item (Item.Message h.message)) k else k) ∷ ks) (sym over)
+changed_at-stale h from (k ∷ ks) (suc l) over = ap (λ (js : List Link). k ∷ js) (changed_at-stale h from ks l over)

@@ -1,0 +1,2 @@
+mod Changes
+mod Answers

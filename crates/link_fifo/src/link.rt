@@ -1,0 +1,240 @@
+//! One link, and what stands on it.
+
+ghost use Rattle.std.specs.Prelude.{◌≡◌, ◌<◌, ◌≤◌, [], filter, length, slice_get, true, OnErr, OnOk};
+ghost use Rattle.std.specs.VecDeque.{deque_capacity, deque_len};
+ghost use Rattle.network_model.specs.World as world;
+ghost use Rattle.network_model.specs.Step as step;
+ghost use Rattle.link_fifo.specs.Side.{side_of};
+ghost use Rattle.link_fifo.specs.Refusals.{sent_in};
+
+use network_model::{Cost, End, Item, LinkSpec, Message};
+use std::alloc::{AllocError, Global};
+use std::collections::VecDeque;
+use std::marker::Model;
+
+// One end: its router, the cost from here, and the items that it has yet to take.
+#[derive(Debug, Drop)]
+pub(crate) struct Side {
+    router: u16,
+    cost: Cost,
+    inbox: VecDeque<Item>,
+}
+
+#[derive(Debug, Drop)]
+pub(crate) struct Link {
+    up: bool,
+    session: u16,
+    a: Side,
+    b: Side,
+}
+
+impl Model for Link {
+    ghost use Rattle.network_model.specs.World.{Link as WorldLink};
+
+    ghost Value = { WorldLink };
+
+    ghost use Rattle.link_fifo.specs.Side.{side_of};
+
+    ghost view = { λ k. record { up = k.up; session = k.session; a = side_of k.a; b = side_of k.b } };
+}
+
+fn is_notice(item: &Item) -> bool
+    ensures { result ≡ step.is_notice item.now }
+{
+    !matches!(item, Item::Message(_))
+}
+
+// Only the notices stay, so that there is no less room than before.
+fn drop_messages(inbox: &mut VecDeque<Item>)
+    ensures items { inbox.new.items ≡ filter step.is_notice inbox.old.items }
+    ensures len { deque_len inbox.new ≤ deque_len inbox.old }
+    ensures capacity { deque_capacity inbox.new ≡ deque_capacity inbox.old }
+{
+    inbox.retain(|item| is_notice(item));
+}
+
+impl Side {
+    fn new(alloc: Global, router: u16, cost: Cost) -> Side
+        ensures { side_of result ≡ record { router = router; cost = cost; inbox = [] } }
+    {
+        Side {
+            router,
+            cost,
+            inbox: VecDeque::new(alloc),
+        }
+    }
+
+    // Puts an item into the room that was made for it.
+    fn queue(&mut self, item: Item)
+        requires { deque_len self.old.inbox < deque_capacity self.old.inbox }
+        ensures { side_of self.new ≡ step.with_item item (side_of self.old) }
+    {
+        self.inbox.push_back(item).unwrap();
+    }
+
+    // Drops the messages, and tells this end that the link went down.
+    fn cut(&mut self, session: u16)
+        requires { deque_len self.old.inbox < deque_capacity self.old.inbox }
+        ensures { side_of self.new ≡ step.side_cut session (side_of self.old) }
+    {
+        drop_messages(&mut self.inbox);
+        self.queue(Item::Down { session });
+    }
+
+    fn put(&mut self, item: Item) -> Result<(), AllocError>
+        ensures ok { OnOk result (side_of self.new ≡ step.with_item item (side_of self.old)) }
+        ensures err { OnErr result (side_of self.new ≡ side_of self.old) }
+    {
+        self.inbox.push_back(item)?;
+        Ok(())
+    }
+
+    fn set_cost(&mut self, session: u16, cost: Cost) -> Result<(), AllocError>
+        ensures ok { let changed = record (side_of self.old) { cost = cost } in
+            OnOk result (side_of self.new ≡ step.with_item (Item.Cost session cost) changed) }
+        ensures err { OnErr result (side_of self.new ≡ side_of self.old) }
+    {
+        self.put(Item::Cost { session, cost })?;
+        self.cost = cost;
+        Ok(())
+    }
+}
+
+impl Link {
+    pub(crate) fn new(alloc: Global, spec: &LinkSpec) -> Link
+        ensures { result ≡ world.opening_link spec.now }
+    {
+        Link {
+            up: false,
+            session: 0,
+            a: Side::new(alloc, spec.a, spec.from_a),
+            b: Side::new(alloc, spec.b, spec.from_b),
+        }
+    }
+
+    pub(crate) fn is_up(&self) -> bool
+        ensures { result ≡ (self.now).up }
+    {
+        self.up
+    }
+
+    pub(crate) fn session(&self) -> u16
+        ensures { result ≡ (self.now).session }
+    {
+        self.session
+    }
+
+    pub(crate) fn is_up_in(&self, session: u16) -> bool
+        ensures { result ≡ step.is_up_in session self.now }
+    {
+        self.up && self.session == session
+    }
+
+    fn side(&self, end: End) -> &Side
+        ensures { side_of result.now ≡ world.side end self.now }
+    {
+        match end {
+            End::A => &self.a,
+            End::B => &self.b,
+        }
+    }
+
+    pub(crate) fn router(&self, end: End) -> u16
+        ensures { result ≡ (world.side end self.now).router }
+    {
+        self.side(end).router
+    }
+
+    pub(crate) fn cost(&self, end: End) -> Cost
+        ensures { result ≡ (world.side end self.now).cost }
+    {
+        self.side(end).cost
+    }
+
+    pub(crate) fn queued(&self, to: End) -> usize
+        ensures { result ≡ length (world.side to self.now).inbox }
+    {
+        self.side(to).inbox.len()
+    }
+
+    pub(crate) fn front(&self, to: End) -> Option<Item>
+        ensures { result ≡ slice_get (world.side to self.now).inbox 0 }
+    {
+        self.side(to).inbox.front().copied()
+    }
+
+    pub(crate) fn come_up(&mut self) -> Result<(), AllocError>
+        requires { (self.old).session < step.last_session }
+        ensures ok { OnOk result (self.new ≡ step.link_come_up self.old) }
+        ensures err { OnErr result (self.new ≡ self.old) }
+    {
+        self.a.inbox.reserve(1)?;
+        self.b.inbox.reserve(1)?;
+        let session = self.session + 1;
+        let (from_a, from_b) = (self.a.cost, self.b.cost);
+        self.a.queue(Item::Up {
+            session,
+            cost: from_a,
+        });
+        self.b.queue(Item::Up {
+            session,
+            cost: from_b,
+        });
+        self.session = session;
+        self.up = true;
+        Ok(())
+    }
+
+    pub(crate) fn go_down(&mut self) -> Result<(), AllocError>
+        ensures ok { OnOk result (self.new ≡ step.link_gone_down self.old) }
+        ensures err { OnErr result (self.new ≡ self.old) }
+    {
+        self.a.inbox.reserve(1)?;
+        self.b.inbox.reserve(1)?;
+        let session = self.session;
+        self.a.cut(session);
+        self.b.cut(session);
+        self.up = false;
+        Ok(())
+    }
+
+    pub(crate) fn set_cost(&mut self, end: End, cost: Cost) -> Result<(), AllocError>
+        ensures ok { OnOk result (self.new ≡ step.with_cost cost end self.old) }
+        ensures err { OnErr result (self.new ≡ self.old) }
+    {
+        let session = self.session;
+        match end {
+            End::A => self.a.set_cost(session, cost),
+            End::B => self.b.set_cost(session, cost),
+        }
+    }
+
+    // Puts a message of the link's present session on it.
+    pub(crate) fn put(
+        &mut self,
+        from: End,
+        session: u16,
+        message: Message,
+    ) -> Result<(), AllocError>
+        requires { step.is_up_in session self.old ≡ true }
+        ensures ok { let held = sent_in session message in
+            OnOk result (self.new ≡ step.with_message held from self.old) }
+        ensures err { OnErr result (self.new ≡ self.old) }
+    {
+        let item = Item::Message(message);
+        match from {
+            End::A => self.b.put(item),
+            End::B => self.a.put(item),
+        }
+    }
+
+    pub(crate) fn take(&mut self, to: End) -> Option<Item>
+        ensures taken { result ≡ slice_get (world.side to self.old).inbox 0 }
+        ensures rest { self.new ≡ step.with_front_taken to self.old }
+    {
+        match to {
+            End::A => self.a.inbox.pop_front(),
+            End::B => self.b.inbox.pop_front(),
+        }
+    }
+}

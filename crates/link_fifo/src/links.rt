@@ -1,0 +1,211 @@
+//! The links of a network, by number.
+
+ghost use Rattle.std.specs.Prelude.{◌≡◌, ◌<◌, ◌↔◌, [], IsTrue, map, length, slice_get, IfSome, IfOk, OnOk, OnErr};
+ghost use Rattle.network_model.specs.Machine.{changed_at};
+ghost use Rattle.network_model.specs.World as world;
+ghost use Rattle.network_model.specs.Step as step;
+ghost use Rattle.link_fifo.specs.Refusals.{refusal_to_come_up, refusal_to_change, IsDoneUnless, front_of, sent_in, AnswersPut};
+
+use crate::link::Link;
+use crate::refusal::{LinkRefusal, Put};
+use network_model::{Cost, End, Item, LinkSpec, Message, NoMemory};
+use std::alloc::Global;
+use std::marker::Model;
+
+/// The links of a network, numbered from 0. Each direction of a link is a list of items, put at the
+/// back and taken at the front.
+#[derive(Debug, Drop)]
+pub struct Links {
+    links: Vec<Link>,
+}
+
+impl Model for Links {
+    ghost use Rattle.std.specs.Prelude.{List};
+    ghost use Rattle.network_model.specs.World.{Link as WorldLink};
+
+    ghost Value = { List WorldLink };
+
+    ghost view = { λ s. s.links.items };
+}
+
+impl Links {
+    /// Links as these say, each down, in session 0, with nothing on it.
+    pub fn new(alloc: Global, specs: &[LinkSpec]) -> Result<Links, NoMemory>
+        ensures { IfOk result (λ links. links ≡ map world.opening_link specs.now) }
+    {
+        let links = specs
+            .iter()
+            .map(|spec| Link::new(alloc, spec))
+            .collect(alloc)?;
+        Ok(Links { links })
+    }
+
+    /// How many links there are.
+    pub fn len(&self) -> usize
+        ensures { result ≡ length self.now }
+    {
+        self.links.len()
+    }
+
+    /// Whether there is no link.
+    pub fn is_empty(&self) -> bool
+        ensures { IsTrue result ↔ (self.now ≡ []) }
+    {
+        self.links.is_empty()
+    }
+
+    /// Whether the link is up.
+    pub fn is_up(&self, link: u16) -> bool
+        requires known { link < length self.now }
+        ensures up { IfSome (slice_get self.now link) (λ k. result ≡ k.up) }
+    {
+        self.links[usize::from(link)].is_up()
+    }
+
+    /// How often the link has come up.
+    pub fn session(&self, link: u16) -> u16
+        requires known { link < length self.now }
+        ensures session { IfSome (slice_get self.now link) (λ k. result ≡ k.session) }
+    {
+        self.links[usize::from(link)].session()
+    }
+
+    /// The router at an end of the link.
+    pub fn router(&self, link: u16, end: End) -> u16
+        requires known { link < length self.now }
+        ensures router { IfSome (slice_get self.now link) (λ k. result ≡ (world.side end k).router) }
+    {
+        self.links[usize::from(link)].router(end)
+    }
+
+    /// The cost of the link from one end, which it keeps while it is down.
+    pub fn cost(&self, link: u16, end: End) -> Cost
+        requires known { link < length self.now }
+        ensures cost { IfSome (slice_get self.now link) (λ k. result ≡ (world.side end k).cost) }
+    {
+        self.links[usize::from(link)].cost(end)
+    }
+
+    /// How many items the end `to` has yet to take.
+    pub fn queued(&self, link: u16, to: End) -> usize
+        requires known { link < length self.now }
+        ensures queued { IfSome (slice_get self.now link) (λ k. result ≡ length (world.side to k).inbox) }
+    {
+        self.links[usize::from(link)].queued(to)
+    }
+
+    /// The link comes up in its next session, and each end is told so with the cost from there. Refused
+    /// with `UnknownLink`, `AlreadyUp`, `SessionsSpent` and `NoMemory`, in this order.
+    pub fn up(&mut self, link: u16) -> Result<(), LinkRefusal>
+        ensures ok { OnOk result (self.new ≡ changed_at link step.link_come_up self.old) }
+        ensures err { OnErr result (self.new ≡ self.old) }
+        ensures cause { IsDoneUnless (refusal_to_come_up self.old link) result }
+    {
+        if usize::from(link) >= self.len() {
+            return Err(LinkRefusal::UnknownLink);
+        }
+        if self.is_up(link) {
+            return Err(LinkRefusal::AlreadyUp);
+        }
+        if self.session(link) >= u16::MAX {
+            return Err(LinkRefusal::SessionsSpent);
+        }
+        self.links[usize::from(link)].come_up()?;
+        Ok(())
+    }
+
+    /// The link goes down: the messages on it are lost, the notices stay in order, and each end is told.
+    /// Refused with `UnknownLink`, `IsDown` and `NoMemory`, in this order.
+    pub fn down(&mut self, link: u16) -> Result<(), LinkRefusal>
+        ensures ok { OnOk result (self.new ≡ changed_at link step.link_gone_down self.old) }
+        ensures err { OnErr result (self.new ≡ self.old) }
+        ensures cause { IsDoneUnless (refusal_to_change self.old link) result }
+    {
+        if usize::from(link) >= self.len() {
+            return Err(LinkRefusal::UnknownLink);
+        }
+        if !self.is_up(link) {
+            return Err(LinkRefusal::IsDown);
+        }
+        self.links[usize::from(link)].go_down()?;
+        Ok(())
+    }
+
+    /// The link has another cost from this end, which is told it. Refused with `UnknownLink`, `IsDown`
+    /// and `NoMemory`, in this order.
+    pub fn set_cost(&mut self, link: u16, end: End, cost: Cost) -> Result<(), LinkRefusal>
+        ensures ok { OnOk result (self.new ≡ changed_at link (step.with_cost cost end) self.old) }
+        ensures err { OnErr result (self.new ≡ self.old) }
+        ensures cause { IsDoneUnless (refusal_to_change self.old link) result }
+    {
+        if usize::from(link) >= self.len() {
+            return Err(LinkRefusal::UnknownLink);
+        }
+        if !self.is_up(link) {
+            return Err(LinkRefusal::IsDown);
+        }
+        self.links[usize::from(link)].set_cost(end, cost)?;
+        Ok(())
+    }
+
+    // Whether the link is up in this session.
+    fn is_up_in(&self, link: u16, session: u16) -> bool
+        requires known { link < length self.now }
+        ensures answer { IfSome (slice_get self.now link) (λ k. result ≡ step.is_up_in session k) }
+    {
+        self.links[usize::from(link)].is_up_in(session)
+    }
+
+    /// Puts a message of this session on the link, on its way from one end to the other. Where the link
+    /// is down, or up in another session, the message is lost; that takes no memory. Refused with
+    /// `UnknownLink` and `NoMemory`.
+    pub fn put(
+        &mut self,
+        link: u16,
+        from: End,
+        session: u16,
+        message: Message,
+    ) -> Result<Put, LinkRefusal>
+        ensures ok { let held = sent_in session message in
+            OnOk result (self.new ≡ changed_at link (step.with_message held from) self.old) }
+        ensures err { OnErr result (self.new ≡ self.old) }
+        ensures answer { AnswersPut session (slice_get self.old link) result }
+    {
+        if usize::from(link) >= self.len() {
+            return Err(LinkRefusal::UnknownLink);
+        }
+        if !self.is_up_in(link, session) {
+            return Ok(Put::Stale);
+        }
+        self.links[usize::from(link)].put(from, session, message)?;
+        Ok(Put::Queued)
+    }
+
+    /// The item that the end `to` takes next. Refused with `UnknownLink` and `NothingToDeliver`.
+    pub fn front(&self, link: u16, to: End) -> Result<Item, LinkRefusal>
+        ensures { result ≡ front_of to (slice_get self.now link) }
+    {
+        let found = self
+            .links
+            .get(usize::from(link))
+            .ok_or(LinkRefusal::UnknownLink)?;
+        found.front(to).ok_or(LinkRefusal::NothingToDeliver)
+    }
+
+    /// Takes the front item towards the end `to`. Refused with `UnknownLink` and `NothingToDeliver`.
+    pub fn take(&mut self, link: u16, to: End) -> Result<Item, LinkRefusal>
+        ensures answer { result ≡ front_of to (slice_get self.old link) }
+        ensures ok { OnOk result (self.new ≡ changed_at link (step.with_front_taken to) self.old) }
+        ensures err { OnErr result (self.new ≡ self.old) }
+    {
+        if usize::from(link) >= self.len() {
+            return Err(LinkRefusal::UnknownLink);
+        }
+        self.links[usize::from(link)]
+            .take(to)
+            .ok_or(LinkRefusal::NothingToDeliver)
+    }
+}
+
+#[cfg(test)]
+mod tests;

@@ -1,0 +1,82 @@
+//! Why a call on links is refused, and what became of a message.
+
+ghost use Rattle.std.specs.Prelude.{◌≡◌};
+ghost use Rattle.link_fifo.specs.declared.refusal.LinkRefusal.TheVariants.{NoMemory as OutOfMemory};
+
+use network_model::{NoMemory, Refusal};
+use std::alloc::{AllocError, AllocFailed};
+use thiserror::Error;
+
+/// Why a call on links is refused. Its text is its number and name.
+#[derive(Clone, Copy, Debug, PartialEq, Eq, Drop, Error)]
+pub enum LinkRefusal {
+    /// The link's number is too large.
+    #[error("11 UnknownLink")]
+    UnknownLink,
+    /// The link is up.
+    #[error("13 AlreadyUp")]
+    AlreadyUp,
+    /// The link is down.
+    #[error("14 IsDown")]
+    IsDown,
+    /// The link has come up 65535 times.
+    #[error("15 SessionsSpent")]
+    SessionsSpent,
+    /// The end has no item to take.
+    #[error("16 NothingToDeliver")]
+    NothingToDeliver,
+    /// A growth was refused.
+    #[error("20 NoMemory")]
+    NoMemory,
+}
+
+impl From<NoMemory> for LinkRefusal {
+    ghost from_gives = { λ _ e. e ≡ OutOfMemory };
+
+    fn from(_error: NoMemory) -> LinkRefusal {
+        LinkRefusal::NoMemory
+    }
+}
+
+impl From<AllocError> for LinkRefusal {
+    ghost from_gives = { λ _ e. e ≡ OutOfMemory };
+
+    fn from(_error: AllocError) -> LinkRefusal {
+        LinkRefusal::NoMemory
+    }
+}
+
+impl<T: Drop> From<AllocFailed<T>> for LinkRefusal {
+    ghost from_gives = { λ _ e. e ≡ OutOfMemory };
+
+    fn from(_error: AllocFailed<T>) -> LinkRefusal {
+        LinkRefusal::NoMemory
+    }
+}
+
+impl From<LinkRefusal> for Refusal {
+    ghost use Rattle.std.specs.Prelude.{◌≡◌};
+    ghost use Rattle.link_fifo.specs.Refusals.{step_refusal};
+
+    ghost from_gives = { λ refusal e. e ≡ step_refusal refusal };
+
+    fn from(refusal: LinkRefusal) -> Refusal {
+        match refusal {
+            LinkRefusal::UnknownLink => Refusal::UnknownLink,
+            LinkRefusal::AlreadyUp => Refusal::AlreadyUp,
+            LinkRefusal::IsDown => Refusal::IsDown,
+            LinkRefusal::SessionsSpent => Refusal::SessionsSpent,
+            LinkRefusal::NothingToDeliver => Refusal::NothingToDeliver,
+            LinkRefusal::NoMemory => Refusal::NoMemory,
+        }
+    }
+}
+
+/// What became of a message that was put on a link.
+#[derive(Clone, Copy, Debug, PartialEq, Eq)]
+pub enum Put {
+    /// It stands at the back, on its way to the other end.
+    Queued,
+    /// Its session is over: it is lost, and the link is as it was.
+    Stale,
+}

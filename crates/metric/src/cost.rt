@@ -1,0 +1,60 @@
+//! Link costs.
+
+ghost use Rattle.std.specs.Prelude.{◌≡◌, IfOk, IsOk, ◌↔◌};
+ghost use Rattle.metric.specs.Distance.{IsCost};
+
+use std::fmt;
+use std::marker::Model;
+use thiserror::Error;
+
+/// The cost of a link from one of its ends, 1..=65535. A cost of zero would let a loop of links
+/// cost nothing, so there is none.
+#[derive(Clone, Copy, Debug, PartialEq, Eq, PartialOrd, Ord, Hash)]
+pub struct Cost {
+    value: u16,
+}
+
+impl Model for Cost {
+    ghost use Rattle.std.specs.Prelude.{ℕ, ◌≤◌};
+
+    ghost Value = { ℕ };
+
+    ghost view = { λ c. c.value };
+
+    ghost inverse = { λ n. record { value = n } };
+
+    ghost invariant = { λ c. 1 ≤ c.value };
+}
+
+/// A number that is no cost: 0, or above 65535.
+#[derive(Clone, Copy, Debug, PartialEq, Eq, Drop, Error)]
+#[error("5 BadCost")]
+pub struct BadCost;
+
+impl Cost {
+    /// The cost of this number, where there is one.
+    pub fn new(value: u32) -> Result<Cost, BadCost>
+        ensures ok { IfOk result (λ c. c ≡ value) }
+        ensures exactly { IsOk result ↔ IsCost value }
+    {
+        match u16::try_from(value) {
+            Ok(value) if value > 0 => Ok(Cost { value }),
+            _ => Err(BadCost),
+        }
+    }
+
+    /// The cost as a number.
+    pub fn value(self) -> u32
+        ensures value { result ≡ self }
+        ensures cost { IsCost result }
+    {
+        u32::from(self.value)
+    }
+}
+
+impl fmt::Display for Cost {
+    fn fmt<W: fmt::Write>(&self, f: &mut fmt::Formatter<W>) -> fmt::Result {
+        let value = self.value;
+        write!(f, "{value}")
+    }
+}

@@ -1,0 +1,7 @@
+pub mod ListLaws
+pub mod Lawful
+pub mod JournalLaws
+mod MachineLaws
+pub mod RecordsLaws
+mod MachineRows
+mod NetworkRows

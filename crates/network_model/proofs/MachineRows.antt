@@ -1,0 +1,80 @@
+-- One machine at work: two ports that are up at cost 1, and what each event gives.
+use Rattle.std.specs.Prelude.{◌≡◌, ℕ, Bool, true, false, List, [], ◌∷◌, Option, Some, None, map, option_and_then}
+use Rattle.std.specs.Option.{option_map_or}
+use Rattle.std.proofs.Common.{refl}
+use Rattle.metric.specs.Distance.{infinity}
+use Rattle.metric.specs.declared.kind.Kind.{Kind}
+use Rattle.metric.specs.declared.kind.Kind.TheVariants.{Update, Query, Reply}
+use Rattle.network_model.specs.declared.machine.Event.{Event}
+use Rattle.network_model.specs.declared.machine.Event.TheVariants.{Message, Cost}
+use Rattle.network_model.specs.Machine.{Machine, Reaction, reaction, opening_machine}
+
+-- what is seen of a machine after an event: its distances, its successor, whom it awaits, to whom it owes a reply, and what it sent
+record Line : Type 0 where
+  rd : ℕ
+  fd : ℕ
+  successor : Option ℕ
+  awaited : List Bool
+  debt : Option ℕ
+  sends : List (Kind × ℕ × ℕ)
+
+line : Reaction → Line
+line r = record {
+  rd = (r.machine).rd;
+  fd = (r.machine).fd;
+  successor = (r.machine).successor;
+  awaited = option_map_or (λ c. c.awaited) (r.machine).computation [];
+  debt = option_and_then (λ c. c.debt) (r.machine).computation;
+  sends = map (λ s. (s.kind, s.value, s.port)) r.sends;
+}
+
+lines : Machine → List Event → List Line
+lines m [] = []
+lines m (e ∷ es) = line (reaction m e) ∷ lines (reaction m e).machine es
+
+passive : ℕ → ℕ → ℕ → List (Kind × ℕ × ℕ) → Line
+passive rd fd q sends = record { rd = rd; fd = fd; successor = Some q; awaited = []; debt = None; sends = sends }
+
+active : ℕ → ℕ → List Bool → Option ℕ → List (Kind × ℕ × ℕ) → Line
+active rd fd awaited debt sends = record { rd = rd; fd = fd; successor = Some 0; awaited = awaited; debt = debt; sends = sends }
+
+fresh : Machine
+fresh = opening_machine false (record { up = true; cost = 1; reported = infinity } ∷ record { up = true; cost = 1; reported = infinity } ∷ [])
+
+-- a cost that rises, and rises again while the machine asks
+dearer : lines fresh (Message 0 Update 0 ∷ Message 1 Update 2 ∷ Cost 0 10 ∷ Message 0 Reply 0 ∷ Cost 0 20 ∷ Message 1 Reply 11 ∷ Message 0 Reply 0 ∷ Message 1 Reply 12 ∷ [])
+    ≡ passive 1 1 0 ((Update, 1, 0) ∷ (Update, 1, 1) ∷ [])
+    ∷ passive 1 1 0 []
+    ∷ active 10 1 (true ∷ true ∷ []) None ((Query, 10, 0) ∷ (Query, 10, 1) ∷ [])
+    ∷ active 10 1 (false ∷ true ∷ []) None []
+    ∷ active 10 1 (false ∷ true ∷ []) None []
+    ∷ active 20 10 (true ∷ true ∷ []) None ((Query, 20, 0) ∷ (Query, 20, 1) ∷ [])
+    ∷ active 20 10 (false ∷ true ∷ []) None []
+    ∷ passive 13 13 1 ((Update, 13, 0) ∷ (Update, 13, 1) ∷ [])
+    ∷ []
+unfolding lines line passive active fresh
+dearer = refl
+
+-- queries from the successor, and one from the other neighbour
+asked : lines fresh (Message 0 Update 0 ∷ Message 0 Query 5 ∷ Message 0 Query 7 ∷ Message 0 Reply 7 ∷ Message 1 Query 3 ∷ Message 1 Reply 4 ∷ [])
+    ≡ passive 1 1 0 ((Update, 1, 0) ∷ (Update, 1, 1) ∷ [])
+    ∷ active 6 1 (true ∷ true ∷ []) (Some 0) ((Query, 6, 0) ∷ (Query, 6, 1) ∷ [])
+    ∷ active 6 1 (true ∷ true ∷ []) (Some 0) []
+    ∷ active 6 1 (false ∷ true ∷ []) (Some 0) []
+    ∷ active 6 1 (false ∷ true ∷ []) (Some 0) ((Reply, 6, 1) ∷ [])
+    ∷ passive 5 5 1 ((Reply, 5, 0) ∷ (Update, 5, 1) ∷ [])
+    ∷ []
+unfolding lines line passive active fresh
+asked = refl
+
+-- the same, where the last reply is too far
+asked_again : lines fresh (Message 0 Update 0 ∷ Message 0 Query 5 ∷ Message 0 Query 7 ∷ Message 0 Reply 7 ∷ Message 1 Query 3 ∷ Message 1 Reply 20 ∷ [])
+    ≡ passive 1 1 0 ((Update, 1, 0) ∷ (Update, 1, 1) ∷ [])
+    ∷ active 6 1 (true ∷ true ∷ []) (Some 0) ((Query, 6, 0) ∷ (Query, 6, 1) ∷ [])
+    ∷ active 6 1 (true ∷ true ∷ []) (Some 0) []
+    ∷ active 6 1 (false ∷ true ∷ []) (Some 0) []
+    ∷ active 6 1 (false ∷ true ∷ []) (Some 0) ((Reply, 6, 1) ∷ [])
+    ∷ active 8 6 (true ∷ true ∷ []) (Some 0) ((Query, 8, 0) ∷ (Query, 8, 1) ∷ [])
+    ∷ []
+unfolding lines line passive active fresh
+asked_again = refl

@@ -1,0 +1,408 @@
+-- Networks of two to four routers at work: worked examples, each with the steps that it takes shown to be lawful.
+use Rattle.std.specs.Prelude.{◌≡◌, ℕ, zero, suc, ◌+◌, ◌*◌, ◌^◌, Bool, true, false, if◌then◌else◌, List, [], ◌∷◌, ◌++◌, Option, Some, None, map, length, option_map, option_and_then, slice_get, is_some, is_none}
+use Rattle.std.specs.FinMap.{find as row_of}
+use Rattle.std.proofs.Common.{refl}
+use Rattle.metric.specs.Distance.{infinity}
+use Rattle.metric.specs.declared.kind.Kind.TheVariants.{Update}
+use Rattle.ipv4_prefix.specs.Prefix.{Prefix, prefix_cmp}
+use Rattle.network_model.specs.declared.item.Item.{Item}
+use Rattle.network_model.specs.declared.route.Entry.{Entry}
+use Rattle.network_model.specs.declared.route.Entry.TheVariants.{Local, Via}
+use Rattle.network_model.specs.declared.network.LinkSpec.{LinkSpec}
+use Rattle.network_model.specs.declared.network.NetworkFault.TheVariants.{BadRouters, BadLink, TooManyLinks, BadOwner}
+use Rattle.network_model.specs.declared.step.Step.{Step}
+use Rattle.network_model.specs.declared.step.Step.TheVariants.{LinkUp, LinkDown, SetCost, Deliver, Publish, Release}
+use Rattle.network_model.specs.declared.step.Refusal.{Refusal}
+use Rattle.network_model.specs.declared.step.Refusal.TheVariants.{AlreadyUp, IsDown, NothingToDeliver, NothingDue, NothingRipe, UnknownRouter, UnknownLink}
+use Rattle.network_model.specs.Machine.{Machine}
+use Rattle.network_model.specs.World.{World, Network, Link, Router, opening}
+use Rattle.network_model.specs.Network.{network_fault}
+use Rattle.network_model.specs.Step.{entry_of, refusal, next}
+use Rattle.network_model.specs.Run.{History, history, run}
+use Rattle.network_model.specs.Turns.{settling_steps, is_settled}
+use Rattle.network_model.specs.Forwarding.{Trace, Ending, Delivered, DeadLink, Crossed, trace, row_for, hop, is_quiet}
+use Rattle.network_model.specs.View.{destination_view, machine_at, published_hop, published_fd, inbox_at, far_router, pipe}
+use Rattle.network_model.specs.Journal.{step_number, journal_sum, steps_in_sum}
+
+-- ---- scripts
+
+-- a step, or a run until the network is settled
+data Command : Type 0 where
+  Do : (step : Step) → Command
+  Settle : Command
+
+-- the world after these steps, lawful or not
+world_after : World → List Step → World
+world_after w [] = w
+world_after w (s ∷ ss) = world_after (next w s) ss
+
+-- the steps that a script does; a run that settles has at most a hundred thousand turns
+script_steps : World → List Command → List Step
+script_steps w [] = []
+script_steps w (Do s ∷ cs) = s ∷ script_steps (next w s) cs
+script_steps w (Settle ∷ cs) = let ss = settling_steps 100000 0 w in ss ++ script_steps (world_after w ss) cs
+
+steps_of : Network → List Command → List Step
+steps_of n cs = script_steps (opening n) cs
+
+-- why a step of the script is refused; none where each is lawful
+refused_in : Network → List Command → Option Refusal
+refused_in n cs = (run (opening n) (steps_of n cs)).refused
+
+-- what the script makes of the network
+played : Network → List Command → History
+played n cs = history n (steps_of n cs)
+
+world_of : Network → List Command → World
+world_of n cs = (played n cs).world
+
+-- ---- what is seen of a network
+
+-- a machine: whether it is in a computation and owes a reply, its distances and its row
+record Line : Type 0 where
+  active : Bool
+  debt : Option ℕ
+  rd : ℕ
+  fd : ℕ
+  entry : Entry
+
+line_of : Router → Machine → Line
+line_of r m = record {
+  active = is_some m.computation;
+  debt = option_and_then (λ c. c.debt) m.computation;
+  rd = m.rd;
+  fd = m.fd;
+  entry = entry_of r.ports m;
+}
+
+-- a passive machine
+passive : ℕ → ℕ → Entry → Line
+passive rd fd entry = record { active = false; debt = None; rd = rd; fd = fd; entry = entry }
+
+-- a machine in a computation
+active : Option ℕ → ℕ → ℕ → Entry → Line
+active debt rd fd entry = record { active = true; debt = debt; rd = rd; fd = fd; entry = entry }
+
+line : World → ℕ → Prefix → Option Line
+line w i p = option_and_then (λ r. option_map (line_of r) (row_of prefix_cmp p r.machines)) (slice_get w.routers i)
+
+trace_is : List ℕ → Ending → Trace
+trace_is path end = record { path = path; end = end }
+
+-- ---- the networks
+
+-- 10.0.0.0/8, 10.1.0.0/16 and 0.0.0.0/0
+ten : Prefix
+ten = record { addr = 0x0a000000; len = 8 }
+
+ten_one : Prefix
+ten_one = record { addr = 0x0a010000; len = 16 }
+
+everything : Prefix
+everything = record { addr = 0; len = 0 }
+
+-- 10.0.0.1
+address : ℕ
+address = 0x0a000001
+
+link : ℕ → ℕ → ℕ → ℕ → LinkSpec
+link a b from_a from_b = record { a = a; b = b; from_a = from_a; from_b = from_b }
+
+network : ℕ → List LinkSpec → List (Prefix × ℕ) → Network
+network routers links owners = record { routers = routers; links = links; owners = owners }
+
+-- ---- two routers
+
+two : Network
+two = network 2 (link 0 1 5 5 ∷ []) ((ten, 0) ∷ [])
+
+abbrev report_of_link : Link → Bool × ℕ × ℕ × ℕ × ℕ × ℕ
+report_of_link k = (k.up, k.session, (k.a).cost, (k.b).cost, length (k.a).inbox, length (k.b).inbox)
+
+abbrev report_of_router : Router → ℕ × ℕ × ℕ
+report_of_router r = (r.generation, length (r.gate).held, (r.gate).ripe)
+
+-- the first seven steps: b knows the way to a's prefix
+first_seven : List Command
+first_seven = Do (LinkUp 0) ∷ Do (Deliver 0 0) ∷ Do (Deliver 1 0) ∷ Do (Publish 0) ∷ Do (Release 0) ∷ Do (Deliver 1 0) ∷ Do (Publish 1) ∷ []
+
+first_seven_seen : (refused_in two first_seven ≡ None)
+    × (map report_of_link (world_of two first_seven).links ≡ (true, 1, 5, 5, 0, 0) ∷ [])
+    × (map report_of_router (world_of two first_seven).routers ≡ (1, 0, 0) ∷ (1, 1, 1) ∷ [])
+    × (row_for (world_of two first_seven) 1 address ≡ Some (ten, Via 0 1))
+unfolding first_seven refused_in world_of played steps_of script_steps two network link ten address
+first_seven_seen = (refl, refl, refl, refl)
+
+two_settled : List Command
+two_settled = Do (LinkUp 0) ∷ Settle ∷ []
+
+two_seen : (steps_of two two_settled ≡ LinkUp 0 ∷ Deliver 0 0 ∷ Deliver 1 0 ∷ Publish 0 ∷ Release 0 ∷ Deliver 1 0 ∷ Publish 1 ∷ Release 1 ∷ Deliver 0 0 ∷ [])
+    × (refused_in two two_settled ≡ None)
+    × (map report_of_link (world_of two two_settled).links ≡ (true, 1, 5, 5, 0, 0) ∷ [])
+    × (map report_of_router (world_of two two_settled).routers ≡ (1, 0, 0) ∷ (1, 0, 0) ∷ [])
+    × (line (world_of two two_settled) 0 ten ≡ Some (passive 0 0 Local))
+    × (line (world_of two two_settled) 1 ten ≡ Some (passive 5 5 (Via 0 1)))
+    × (is_settled (world_of two two_settled) ≡ true)
+    × (is_quiet (world_of two two_settled) ≡ true)
+unfolding two_settled refused_in world_of played steps_of script_steps world_after two network link ten line line_of passive
+two_seen = (refl, refl, refl, refl, refl, refl, refl, refl)
+
+-- each step, one after another, where it is lawful; and why each is refused, none for a step done
+tried : World → List Step → List (Option Refusal)
+tried w [] = []
+tried w (s ∷ ss) = refusal w s ∷ tried (if is_none (refusal w s) then next w s else w) ss
+
+two_tried : tried (opening two) (LinkUp 0 ∷ Deliver 0 0 ∷ Deliver 0 0 ∷ Release 0 ∷ Publish 0 ∷ Publish 0 ∷ Release 0 ∷ Release 0 ∷ LinkUp 0 ∷ LinkDown 0 ∷ LinkDown 0 ∷ [])
+    ≡ None ∷ None ∷ Some NothingToDeliver ∷ Some NothingRipe ∷ None ∷ Some NothingDue ∷ None ∷ Some NothingRipe ∷ Some AlreadyUp ∷ None ∷ Some IsDown ∷ []
+unfolding tried two network link ten
+two_tried = refl
+
+-- at the opening nothing can be delivered, published or released, and what is not there is named first
+two_refused : map (refusal (opening two)) (Publish 0 ∷ Deliver 0 0 ∷ Release 0 ∷ SetCost 0 0 9 ∷ Publish 2 ∷ Deliver 2 0 ∷ Deliver 0 1 ∷ LinkUp 1 ∷ LinkDown 0 ∷ [])
+    ≡ Some NothingDue ∷ Some NothingToDeliver ∷ Some NothingRipe ∷ Some IsDown ∷ Some UnknownRouter ∷ Some UnknownRouter ∷ Some UnknownLink ∷ Some UnknownLink ∷ Some IsDown ∷ []
+unfolding two network link ten
+two_refused = refl
+
+-- a release over an ended session is done, and the message discarded
+two_flapped : List Command
+two_flapped = Do (LinkUp 0) ∷ Do (Deliver 0 0) ∷ Do (Publish 0) ∷ Do (LinkDown 0) ∷ Do (LinkUp 0) ∷ Do (Release 0) ∷ []
+
+two_flapped_seen : (refused_in two two_flapped ≡ None)
+    × (map report_of_link (world_of two two_flapped).links ≡ (true, 2, 5, 5, 2, 3) ∷ [])
+    × (map report_of_router (world_of two two_flapped).routers ≡ (1, 0, 0) ∷ (0, 0, 0) ∷ [])
+    × (length (steps_of two (two_flapped ++ Settle ∷ [])) ≡ 17)
+    × (row_for (world_of two (two_flapped ++ Settle ∷ [])) 1 address ≡ Some (ten, Via 0 2))
+unfolding two_flapped refused_in world_of played steps_of script_steps world_after two network link ten address
+two_flapped_seen = (refl, refl, refl, refl, refl)
+
+-- ---- a triangle
+
+-- routers a, b and c; the link of a and c costs x each way
+triangle : ℕ → Network
+triangle x = network 3 (link 0 1 1 1 ∷ link 1 2 1 1 ∷ link 0 2 x x ∷ []) ((ten, 0) ∷ [])
+
+triangle_settled : List Command
+triangle_settled = Do (LinkUp 0) ∷ Do (LinkUp 1) ∷ Do (LinkUp 2) ∷ Settle ∷ []
+
+-- the link of a and b is lost
+lost : List Command
+lost = triangle_settled ++ Do (LinkDown 0) ∷ []
+
+lost_noticed : List Command
+lost_noticed = lost ++ Do (Deliver 1 0) ∷ []
+
+lost_published : List Command
+lost_published = lost_noticed ++ Do (Publish 1) ∷ []
+
+lost_told : List Command
+lost_told = lost_published ++ Do (Release 1) ∷ Do (Deliver 2 0) ∷ []
+
+lost_turned : List Command
+lost_turned = lost_told ++ Do (Publish 2) ∷ []
+
+lost_settled : List Command
+lost_settled = lost_turned ++ Settle ∷ []
+
+lost_seen : (refused_in (triangle 5) lost_settled ≡ None)
+    × (line (world_of (triangle 5) triangle_settled) 1 ten ≡ Some (passive 1 1 (Via 0 1)))
+    × (line (world_of (triangle 5) triangle_settled) 2 ten ≡ Some (passive 2 2 (Via 0 1)))
+    × (trace (world_of (triangle 5) lost) 2 address ≡ trace_is (2 ∷ 1 ∷ []) DeadLink)
+    × (line (world_of (triangle 5) lost_noticed) 1 ten ≡ Some (active None infinity 1 Entry.Unreachable))
+    × (trace (world_of (triangle 5) lost_published) 2 address ≡ trace_is (2 ∷ 1 ∷ []) Ending.Unreachable)
+    × (trace (world_of (triangle 5) lost_told) 2 address ≡ trace_is (2 ∷ 1 ∷ []) Ending.Unreachable)
+    × (trace (world_of (triangle 5) lost_turned) 2 address ≡ trace_is (2 ∷ 0 ∷ []) Delivered)
+    × (trace (world_of (triangle 5) lost_settled) 1 address ≡ trace_is (1 ∷ 2 ∷ 0 ∷ []) Delivered)
+    × (line (world_of (triangle 5) lost_settled) 1 ten ≡ Some (passive 6 6 (Via 1 1)))
+    × (line (world_of (triangle 5) lost_settled) 2 ten ≡ Some (passive 5 2 (Via 1 1)))
+unfolding lost lost_noticed lost_published lost_told lost_turned lost_settled triangle_settled triangle refused_in world_of played steps_of script_steps world_after network link ten address line line_of passive active trace_is
+lost_seen = (refl, refl, refl, refl, refl, refl, refl, refl, refl, refl, refl)
+
+-- the cost from b to a rises, and rises again while b asks
+dearer : List Command
+dearer = triangle_settled ++ Do (SetCost 1 0 10) ∷ Do (Deliver 1 0) ∷ []
+
+dearer_still : List Command
+dearer_still = dearer ++ Do (SetCost 1 0 20) ∷ Do (Deliver 1 0) ∷ []
+
+dearer_settled : List Command
+dearer_settled = dearer_still ++ Settle ∷ []
+
+dearer_seen : (refused_in (triangle 12) dearer_settled ≡ None)
+    × (line (world_of (triangle 12) dearer) 1 ten ≡ Some (active None 10 1 (Via 0 1)))
+    × (line (world_of (triangle 12) dearer_still) 1 ten ≡ Some (active None 10 1 (Via 0 1)))
+    × (line (world_of (triangle 12) dearer_settled) 1 ten ≡ Some (passive 13 13 (Via 1 1)))
+    × (line (world_of (triangle 12) dearer_settled) 2 ten ≡ Some (passive 12 11 (Via 1 1)))
+unfolding dearer dearer_still dearer_settled triangle_settled triangle refused_in world_of played steps_of script_steps world_after network link ten line line_of passive active
+dearer_seen = (refl, refl, refl, refl, refl)
+
+-- the link of a and b comes back in another session
+flapped : List Command
+flapped = triangle_settled ++ Do (LinkDown 0) ∷ Do (LinkUp 0) ∷ []
+
+flapped_seen : (refused_in (triangle 5) (flapped ++ Settle ∷ []) ≡ None)
+    × (trace (world_of (triangle 5) flapped) 1 address ≡ trace_is (1 ∷ []) DeadLink)
+    × (trace (world_of (triangle 5) (flapped ++ Settle ∷ [])) 1 address ≡ trace_is (1 ∷ 0 ∷ []) Delivered)
+    × (line (world_of (triangle 5) (flapped ++ Settle ∷ [])) 1 ten ≡ Some (passive 1 1 (Via 0 2)))
+unfolding flapped triangle_settled triangle refused_in world_of played steps_of script_steps world_after network link ten address line line_of passive trace_is
+flapped_seen = (refl, refl, refl, refl)
+
+-- three flaps of a link
+flapping : List Command
+flapping = triangle_settled ++ Do (LinkDown 0) ∷ Do (LinkUp 0) ∷ Do (LinkDown 0) ∷ Do (LinkUp 0) ∷ Do (LinkDown 0) ∷ Do (LinkUp 0) ∷ Settle ∷ []
+
+flapping_seen : (refused_in (triangle 5) flapping ≡ None)
+    × (line (world_of (triangle 5) flapping) 1 ten ≡ Some (passive 1 1 (Via 0 4)))
+    × (line (world_of (triangle 5) flapping) 2 ten ≡ Some (passive 2 2 (Via 0 1)))
+unfolding flapping triangle_settled triangle refused_in world_of played steps_of script_steps world_after network link ten line line_of passive
+flapping_seen = (refl, refl, refl)
+
+-- ---- lines of routers
+
+-- three routers in a line, each link at cost 1; the last owns the default route
+three : Network
+three = network 3 (link 0 1 1 1 ∷ link 1 2 1 1 ∷ []) ((ten, 0) ∷ (everything, 2) ∷ [])
+
+three_asked : List Command
+three_asked = Do (LinkUp 0) ∷ Do (LinkUp 1) ∷ Settle ∷ Do (LinkDown 0) ∷ Do (Deliver 1 0) ∷ Do (Publish 1) ∷ Do (Release 1) ∷ Do (Deliver 2 0) ∷ []
+
+three_settled : List Command
+three_settled = three_asked ++ Settle ∷ []
+
+three_seen : (refused_in three three_settled ≡ None)
+    × (line (world_of three three_asked) 2 ten ≡ Some (active (Some 0) infinity 2 (Via 0 1)))
+    × (row_for (world_of three three_settled) 1 address ≡ Some (ten, Entry.Unreachable))
+    × (row_for (world_of three three_settled) 1 0x0b000001 ≡ Some (everything, Via 1 1))
+    × (line (world_of three three_settled) 2 ten ≡ Some (passive infinity infinity Entry.Unreachable))
+    × (line (world_of three three_settled) 0 everything ≡ Some (passive infinity infinity Entry.Unreachable))
+unfolding three three_asked three_settled refused_in world_of played steps_of script_steps world_after network link ten everything address line line_of passive active
+three_seen = (refl, refl, refl, refl, refl, refl)
+
+four : Network
+four = network 4 (link 0 1 1 1 ∷ link 1 2 1 1 ∷ link 2 3 1 1 ∷ []) ((ten, 0) ∷ [])
+
+four_asked : List Command
+four_asked = Do (LinkUp 0) ∷ Do (LinkUp 1) ∷ Do (LinkUp 2) ∷ Settle ∷ Do (LinkDown 0) ∷ Do (Deliver 1 0) ∷ Do (Publish 1) ∷ Do (Release 1) ∷ Do (Deliver 2 0) ∷ []
+
+-- the asker's link is lost, and with it the debt
+four_cut : List Command
+four_cut = four_asked ++ Do (LinkDown 1) ∷ Do (Deliver 2 0) ∷ []
+
+four_seen : (refused_in four (four_cut ++ Settle ∷ []) ≡ None)
+    × (line (world_of four four_asked) 2 ten ≡ Some (active (Some 0) infinity 2 (Via 0 1)))
+    × (line (world_of four four_cut) 2 ten ≡ Some (active None infinity 2 Entry.Unreachable))
+    × (line (world_of four (four_cut ++ Settle ∷ [])) 3 ten ≡ Some (passive infinity infinity Entry.Unreachable))
+unfolding four four_asked four_cut refused_in world_of played steps_of script_steps world_after network link ten line line_of passive active
+four_seen = (refl, refl, refl, refl)
+
+-- a packet that another prefix matches on its way
+crossing : Network
+crossing = network 3 (link 0 1 1 1 ∷ link 1 2 1 1 ∷ []) ((ten, 0) ∷ (ten_one, 1) ∷ [])
+
+crossed : List Command
+crossed = Do (LinkUp 0) ∷ Settle ∷ Do (LinkUp 1) ∷ Do (Deliver 1 1) ∷ Do (Publish 1) ∷ Do (Release 1) ∷ Do (Deliver 2 0) ∷ Do (Deliver 2 0) ∷ Do (Publish 2) ∷ []
+
+crossed_seen : (refused_in crossing crossed ≡ None) × (trace (world_of crossing crossed) 2 0x0a010001 ≡ trace_is (2 ∷ 1 ∷ []) Crossed)
+unfolding crossing crossed refused_in world_of played steps_of script_steps world_after network link ten ten_one trace_is
+crossed_seen = (refl, refl)
+
+-- ---- least costs
+
+uneven : Network
+uneven = network 3 (link 0 1 1 10 ∷ link 1 2 2 1 ∷ link 0 2 9 3 ∷ []) ((ten, 0) ∷ [])
+
+uneven_dearer : List Command
+uneven_dearer = triangle_settled ++ Do (SetCost 2 1 20) ∷ Settle ∷ []
+
+uneven_seen : (refused_in uneven uneven_dearer ≡ None)
+    × (line (world_of uneven triangle_settled) 1 ten ≡ Some (passive 5 5 (Via 1 1)))
+    × (line (world_of uneven triangle_settled) 2 ten ≡ Some (passive 3 3 (Via 1 1)))
+    × (trace (world_of uneven triangle_settled) 1 address ≡ trace_is (1 ∷ 2 ∷ 0 ∷ []) Delivered)
+    × (line (world_of uneven uneven_dearer) 1 ten ≡ Some (passive 10 5 (Via 0 1)))
+    × (line (world_of uneven uneven_dearer) 2 ten ≡ Some (passive 11 11 (Via 0 1)))
+    × (trace (world_of uneven uneven_dearer) 2 address ≡ trace_is (2 ∷ 1 ∷ 0 ∷ []) Delivered)
+unfolding uneven uneven_dearer triangle_settled refused_in world_of played steps_of script_steps world_after network link ten address line line_of passive trace_is
+uneven_seen = (refl, refl, refl, refl, refl, refl, refl)
+
+-- ---- what one prefix sees
+
+-- after a's publication and release, b's port has the update to take, and b's published row is none
+half_way : List Command
+half_way = Do (LinkUp 0) ∷ Do (Deliver 0 0) ∷ Do (Deliver 1 0) ∷ Do (Publish 0) ∷ Do (Release 0) ∷ []
+
+told_zero : Item
+told_zero = Item.Message (record { kind = Update; prefix = ten; value = 0 })
+
+half_way_seen : (refused_in two half_way ≡ None)
+    × (inbox_at (destination_view ten (played two half_way)).world 1 0 ≡ told_zero ∷ [])
+    × (pipe (destination_view ten (played two half_way)).world 0 0 ≡ told_zero ∷ [])
+    × (inbox_at (destination_view everything (played two half_way)).world 1 0 ≡ [])
+    × ((machine_at (destination_view ten (played two half_way)).world 1).fd ≡ infinity)
+    × (published_fd (destination_view ten (played two half_way)) 0 ≡ 0)
+    × (far_router (destination_view ten (played two half_way)).world 0 0 ≡ Some 1)
+unfolding half_way told_zero refused_in played steps_of script_steps two network link ten everything
+half_way_seen = (refl, refl, refl, refl, refl, refl, refl)
+
+-- b published its row at distance 5; its machine has none once the link is lost
+cut_off : List Command
+cut_off = two_settled ++ Do (LinkDown 0) ∷ Do (Deliver 1 0) ∷ []
+
+cut_off_seen : (refused_in two cut_off ≡ None)
+    × (published_hop (destination_view ten (played two cut_off)).world 1 ≡ Some (record { port = 0; session = 1 }))
+    × (published_fd (destination_view ten (played two cut_off)) 1 ≡ 5)
+    × ((machine_at (destination_view ten (played two cut_off)).world 1).fd ≡ infinity)
+    × (hop (world_of two cut_off) address 1 ≡ None)
+    × (hop (world_of two two_settled) address 1 ≡ Some 0)
+unfolding cut_off two_settled refused_in world_of played steps_of script_steps world_after two network link ten address
+cut_off_seen = (refl, refl, refl, refl, refl, refl)
+
+-- ---- numbers of steps
+
+numbers : map step_number (LinkUp 3 ∷ SetCost 1 2 5 ∷ Release 7 ∷ [])
+    ≡ (2 ^ 104 + 3 * 2 ^ 64) ∷ (2 ^ 104 + 2 * 2 ^ 80 + 2 ^ 64 + 2 * 2 ^ 56 + 5 * 2 ^ 40) ∷ (2 ^ 104 + 5 * 2 ^ 80 + 7 * 2 ^ 64) ∷ []
+numbers = refl
+
+sum_of_nine : steps_in_sum (journal_sum (steps_of two two_settled)) ≡ 9
+unfolding two_settled steps_of script_steps world_after two network link ten
+sum_of_nine = refl
+
+-- ---- what is no network
+
+faults : map network_fault (
+    network 0 [] []
+    ∷ network 257 [] []
+    ∷ network 1 (link 0 0 1 1 ∷ []) []
+    ∷ network 2 (link 0 1 5 5 ∷ link 1 0 1 1 ∷ []) []
+    ∷ network 2 (link 0 2 1 1 ∷ []) []
+    ∷ network 2 (link 0 1 1 1 ∷ []) ((ten, 0) ∷ (ten, 1) ∷ [])
+    ∷ network 2 (link 0 1 1 1 ∷ []) ((ten, 2) ∷ [])
+    ∷ two ∷ [])
+    ≡ Some BadRouters ∷ Some BadRouters ∷ Some (BadLink 0) ∷ Some (BadLink 1) ∷ Some (BadLink 0) ∷ Some (BadOwner 1) ∷ Some (BadOwner 0) ∷ None ∷ []
+unfolding network link ten two
+faults = refl
+
+-- a star: one router more than a router has ports for
+star : ℕ → ℕ → List LinkSpec
+star zero i = []
+star (suc n) i = link 0 i 1 1 ∷ star n (i + 1)
+
+star_faults : map network_fault (network 33 (star 32 1) [] ∷ network 34 (star 33 1) [] ∷ []) ≡ None ∷ Some (TooManyLinks 32) ∷ []
+unfolding network link star
+star_faults = refl
+
+-- ---- a long line
+
+long_links : ℕ → ℕ → List LinkSpec
+long_links zero i = []
+long_links (suc n) i = link i (i + 1) 65535 65535 ∷ long_links n (i + 1)
+
+all_up : ℕ → ℕ → List Command
+all_up zero i = Settle ∷ []
+all_up (suc n) i = Do (LinkUp i) ∷ all_up n (i + 1)
+
+-- twenty links in a line, each at the greatest cost
+long : Network
+long = network 21 (long_links 20 0) ((ten, 0) ∷ [])
+
+long_seen : (refused_in long (all_up 20 0) ≡ None) × (line (world_of long (all_up 20 0)) 20 ten ≡ Some (passive 1310700 1310700 (Via 0 1)))
+unfolding long long_links all_up refused_in world_of played steps_of script_steps world_after network link ten line line_of passive
+long_seen = (refl, refl)

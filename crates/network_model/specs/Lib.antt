@@ -1,0 +1,10 @@
+pub mod Machine
+pub mod World
+pub mod Network
+pub mod Step
+pub mod Run
+pub mod Turns
+pub mod Forwarding
+pub mod Publication
+pub mod Journal
+pub mod View

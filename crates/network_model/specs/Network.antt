@@ -1,0 +1,84 @@
+-- What a network must be before it is opened, and why one cannot be.
+use Rattle.std.specs.Prelude.{◌≡◌, ℕ, Bool, not, ◌&&◌, ◌||◌, ◌==◌, nat_lt, nat_le, if◌then◌else◌, List, [], ◌∷◌, ◌++◌, Option, Some, None, length, count_by, All}
+use Rattle.std.specs.List.{list_any}
+use Rattle.metric.specs.Distance.{IsCost}
+use Rattle.ipv4_prefix.specs.Prefix.{Prefix, IsPrefix, prefix_eq}
+use Rattle.network_model.specs.declared.network.LinkSpec.{LinkSpec}
+use Rattle.network_model.specs.declared.network.NetworkFault.{NetworkFault}
+use Rattle.network_model.specs.declared.network.NetworkFault.TheVariants.{BadRouters, BadLink, TooManyLinks, BadOwner}
+use Rattle.network_model.specs.World.{Network}
+
+-- the greatest numbers of routers, links, links of one router, and prefixes
+abbrev pub most_routers : ℕ
+most_routers = 256
+
+abbrev pub most_links : ℕ
+most_links = 1024
+
+abbrev pub most_ports : ℕ
+most_ports = 32
+
+abbrev pub most_prefixes : ℕ
+most_prefixes = 4096
+
+-- of tests with causes, in order, the cause of the first that passes
+abbrev pub first_cause : {X : Type 0} → List (Bool × X) → Option X
+first_cause [] = None
+first_cause (c ∷ cs) = if c.0 then Some c.1 else first_cause cs
+
+-- whether the link has router i at an end
+abbrev pub touches : ℕ → LinkSpec → Bool
+touches i s = (s.a == i) || (s.b == i)
+
+-- how many of the links touch a router
+abbrev pub degree : ℕ → List LinkSpec → ℕ
+degree i links = count_by (touches i) links
+
+-- whether both links join the same two routers
+abbrev pub has_same_ends : LinkSpec → LinkSpec → Bool
+has_same_ends s t = touches t.a s && touches t.b s
+
+-- a link that cannot be: an unknown end, both ends one router, or a second link of the two
+abbrev pub is_bad_link : ℕ → List LinkSpec → LinkSpec → Bool
+is_bad_link routers before s = not (nat_lt s.a routers && nat_lt s.b routers) || (s.a == s.b) || list_any (has_same_ends s) before
+
+-- a link too many: past the greatest number of links, or of ports of a router
+abbrev pub is_link_too_many : List LinkSpec → LinkSpec → Bool
+is_link_too_many before s = not (nat_lt (length before) most_links && nat_lt (degree s.a before) most_ports && nat_lt (degree s.b before) most_ports)
+
+-- a prefix that cannot be owned: an unknown owner, a prefix given before, or past the greatest number of prefixes
+abbrev pub is_bad_owner : ℕ → List (Prefix × ℕ) → Prefix × ℕ → Bool
+is_bad_owner routers before o = not (nat_lt o.1 routers && nat_lt (length before) most_prefixes) || list_any (λ b. prefix_eq b.0 o.0) before
+
+-- the faults of these links, which come after others
+abbrev pub link_causes : ℕ → List LinkSpec → List LinkSpec → List (Bool × NetworkFault)
+link_causes routers before [] = []
+link_causes routers before (s ∷ ss) =
+    (is_bad_link routers before s, BadLink (length before))
+    ∷ (is_link_too_many before s, TooManyLinks (length before))
+    ∷ link_causes routers (before ++ s ∷ []) ss
+
+-- the faults of these owners, which come after others
+abbrev pub owner_causes : ℕ → List (Prefix × ℕ) → List (Prefix × ℕ) → List (Bool × NetworkFault)
+owner_causes routers before [] = []
+owner_causes routers before (o ∷ os) =
+    (is_bad_owner routers before o, BadOwner (length before))
+    ∷ owner_causes routers (before ++ o ∷ []) os
+
+-- the first fault of a network, in the order of the tests: the routers, each link, each prefix; none where it may be opened
+abbrev pub network_fault : Network → Option NetworkFault
+network_fault n = first_cause (
+    (not (nat_lt 0 n.routers && nat_le n.routers most_routers), BadRouters)
+    ∷ link_causes n.routers [] n.links
+    ++ owner_causes n.routers [] n.owners)
+
+-- the costs of a link that can be: each is the cost of a link
+pub record HasCosts (s : LinkSpec) : Type 0 where
+  pub from_a : IsCost s.from_a
+  pub from_b : IsCost s.from_b
+
+-- a network that can be opened: no fault stands in it, its costs are costs of links, and its prefixes can be written
+pub record IsNetwork (n : Network) : Type 0 where
+  pub no_fault : network_fault n ≡ None
+  pub costs : All HasCosts n.links
+  pub prefixes : All (λ o. IsPrefix o.0) n.owners

@@ -1,0 +1,39 @@
+-- Patches, the lists of patches that a writer published, and the tables and images that they stand for.
+use Rattle.std.specs.Prelude.{ℕ, List, [], ◌∷◌, Option}
+use Rattle.std.specs.FinMap.{put}
+use Rattle.ipv4_prefix.specs.Prefix.{Prefix, prefix_cmp}
+use Rattle.ipv4_prefix.specs.LongestMatch.{longest_match}
+use Rattle.network_model.specs.declared.route.Entry.{Entry}
+
+-- rows to set, with the generation that they make
+pub record Patch : Type 0 where
+  pub generation : ℕ
+  pub rows : List (Prefix × Entry)
+
+-- a table with these rows set, in order
+abbrev pub with_rows : List (Prefix × Entry) → List (Prefix × Entry) → List (Prefix × Entry)
+with_rows [] table = table
+with_rows (r ∷ rs) table = with_rows rs (put prefix_cmp r.0 r.1 table)
+
+-- the table that a list of patches makes of an opening table
+abbrev pub published_table : List (Prefix × Entry) → List Patch → List (Prefix × Entry)
+published_table table [] = table
+published_table table (p ∷ ps) = published_table (with_rows p.rows table) ps
+
+-- the generation that a list of patches makes: that of its last patch; given the one before it
+abbrev pub published_generation : ℕ → List Patch → ℕ
+published_generation before [] = before
+published_generation before (p ∷ ps) = published_generation p.generation ps
+
+-- an image: a generation, and the rows by which it answers
+pub record Image : Type 0 where
+  pub generation : ℕ
+  pub rows : List (Prefix × Entry)
+
+-- what an image answers for an address
+abbrev pub image_answer : Image → ℕ → Option (Prefix × Entry)
+image_answer image addr = longest_match addr image.rows
+
+-- the image of a list of patches over an opening table, whose generation is 0
+abbrev pub published_image : List (Prefix × Entry) → List Patch → Image
+published_image table ps = record { generation = published_generation 0 ps; rows = published_table table ps }

@@ -1,0 +1,256 @@
+-- The steps of a network: which are lawful, why another is refused, and what a lawful one makes.
+use Rattle.std.specs.Prelude.{◌≡◌, ℕ, ◌+◌, ◌-◌, ◌<◌, Bool, true, false, not, ◌&&◌, ◌||◌, ◌==◌, nat_lt, if◌then◌else◌, List, [], ◌∷◌, ◌++◌, map, length, drop, Option, Some, None, slice_get, filter, option_and_then, is_none}
+use Rattle.std.specs.List.{flat_map}
+use Rattle.std.specs.Option.{option_map_or}
+use Rattle.std.specs.FinMap.{find as row_of, put}
+use Rattle.metric.specs.Distance.{IsCost}
+use Rattle.ipv4_prefix.specs.Prefix.{Prefix, prefix_cmp}
+use Rattle.network_model.specs.declared.machine.Event.{Event}
+use Rattle.network_model.specs.declared.machine.Outgoing.{Outgoing}
+use Rattle.network_model.specs.declared.item.Message.{Message}
+use Rattle.network_model.specs.declared.item.Item.{Item}
+use Rattle.network_model.specs.declared.item.Held.{Held}
+use Rattle.network_model.specs.declared.route.Entry.{Entry}
+use Rattle.network_model.specs.declared.route.Entry.TheVariants.{Local, Via, Unreachable}
+use Rattle.network_model.specs.declared.network.End.{End}
+use Rattle.network_model.specs.declared.network.Port.{Port}
+use Rattle.network_model.specs.declared.step.Step.{Step}
+use Rattle.network_model.specs.declared.step.Step.TheVariants.{LinkUp, LinkDown, SetCost, Deliver, Publish, Release}
+use Rattle.network_model.specs.declared.step.Refusal.{Refusal}
+use Rattle.network_model.specs.declared.step.Refusal.TheVariants.{UnknownRouter, UnknownLink, AlreadyUp, IsDown, SessionsSpent, NothingToDeliver, NothingDue, NothingRipe}
+use Rattle.network_model.specs.Machine.{Machine, Reaction, reaction, changed_at}
+use Rattle.network_model.specs.World.{Side, Link, Table, Router, World, other, place_at, link_at, side_at, machine_of}
+use Rattle.network_model.specs.Network.{first_cause}
+
+-- ---- links
+
+-- whether an item tells of the link itself
+abbrev pub is_notice : Item → Bool
+is_notice (Item.Up session cost) = true
+is_notice (Item.Down session) = true
+is_notice (Item.Cost session cost) = true
+is_notice (Item.Message message) = false
+
+-- the side with one more item at the back
+abbrev pub with_item : Item → Side → Side
+with_item item s = record s { inbox = s.inbox ++ item ∷ [] }
+
+-- the link with one of its sides changed
+abbrev pub changed_side : End → (Side → Side) → Link → Link
+changed_side End.A f k = record k { a = f k.a }
+changed_side End.B f k = record k { b = f k.b }
+
+-- a link that comes up: the next session, and both ends are told it with the cost from there
+abbrev pub link_come_up : Link → Link
+link_come_up k = record {
+  up = true;
+  session = k.session + 1;
+  a = with_item (Item.Up (k.session + 1) (k.a).cost) k.a;
+  b = with_item (Item.Up (k.session + 1) (k.b).cost) k.b;
+}
+
+-- the side of a link that goes down: the messages are lost, the notices stay in order, and one more comes
+abbrev pub side_cut : ℕ → Side → Side
+side_cut session s = record s { inbox = filter is_notice s.inbox ++ Item.Down session ∷ [] }
+
+-- a link that goes down: both ends are told; the session stays
+abbrev pub link_gone_down : Link → Link
+link_gone_down k = record k { up = false; a = side_cut k.session k.a; b = side_cut k.session k.b }
+
+-- another cost from one end, which is told it
+abbrev pub with_cost : ℕ → End → Link → Link
+with_cost cost e k = changed_side e (λ s. record s { cost = cost; inbox = s.inbox ++ Item.Cost k.session cost ∷ [] }) k
+
+-- the link without the front item towards this end
+abbrev pub with_front_taken : End → Link → Link
+with_front_taken e k = changed_side e (λ s. record s { inbox = drop 1 s.inbox }) k
+
+-- whether the link is up in this session
+abbrev pub is_up_in : ℕ → Link → Bool
+is_up_in session k = k.up && (k.session == session)
+
+-- the link with a message from this end, which is discarded where the link is not up in the message's session
+abbrev pub with_message : Held → End → Link → Link
+with_message h e k = if is_up_in h.session k then changed_side (other e) (with_item (Item.Message h.message)) k else k
+
+-- ---- routers
+
+-- the session that the router's notices said last of a port
+abbrev pub session_at : List Port → ℕ → ℕ
+session_at ports q = option_map_or (λ p. p.session) (slice_get ports q) 0
+
+-- the entry of a machine: local at the owner, by way of the successor where there is one, also while a computation runs, else unreachable
+abbrev pub entry_of : List Port → Machine → Entry
+entry_of ports m = if m.local then Local else option_map_or (λ q. Via q (session_at ports q)) m.successor Unreachable
+
+-- what a machine sends becomes held for the session of its port
+abbrev pub held_of : List Port → Prefix → Outgoing → Held
+held_of ports p s = record {
+  port = s.port;
+  session = session_at ports s.port;
+  message = record { kind = s.kind; prefix = p; value = s.value };
+}
+
+-- the rows that these machines choose
+abbrev pub chosen_rows : List Port → List (Prefix × Machine) → List (Prefix × Entry)
+chosen_rows ports machines = map (λ m. (m.0, entry_of ports m.1)) machines
+
+-- a router with these ports and machines: its control rows follow them, and what they sent is held at the back, not ripe
+abbrev pub with_machines : List Port → List (Prefix × Machine) → List Held → Router → Router
+with_machines ports machines sent r = record r {
+  ports = ports;
+  machines = machines;
+  table = record r.table { control = chosen_rows ports machines };
+  gate = record r.gate { held = (r.gate).held ++ sent };
+}
+
+-- what each machine does at an event, in the order of the prefixes
+abbrev pub reactions : Event → List (Prefix × Machine) → List (Prefix × Reaction)
+reactions e machines = map (λ m. (m.0, reaction m.1 e)) machines
+
+-- a router that took a notice: its ports changed, and each of its machines meets the event
+abbrev pub router_noticing : Event → List Port → Router → Router
+router_noticing e ports r =
+    let all = reactions e r.machines in
+    with_machines ports (map (λ x. (x.0, (x.1).machine)) all) (flat_map (λ x. map (held_of ports x.0) (x.1).sends) all) r
+
+-- a router that took a message: the machine of its prefix meets it. A prefix that was unheard is heard of from now on
+abbrev pub router_told : ℕ → Message → Router → Router
+router_told q m r =
+    let x = reaction (machine_of r m.prefix) (Event.Message q m.kind m.value) in
+    with_machines r.ports (put prefix_cmp m.prefix x.machine r.machines) (map (held_of r.ports m.prefix) x.sends) r
+
+-- a router that took an item from its port q
+abbrev pub router_accepting : ℕ → Item → Router → Router
+router_accepting q (Item.Up session cost) r = router_noticing (Event.Up q cost) (changed_at q (λ p. record { up = true; session = session; cost = cost }) r.ports) r
+router_accepting q (Item.Down session) r = router_noticing (Event.Down q) (changed_at q (λ p. record p { up = false; session = session }) r.ports) r
+router_accepting q (Item.Cost session cost) r = router_noticing (Event.Cost q cost) (changed_at q (λ p. record p { session = session; cost = cost }) r.ports) r
+router_accepting q (Item.Message m) r = router_told q m r
+
+-- a router that publishes: its control rows are in force, and all that it holds is ripe
+abbrev pub router_publishing : Router → Router
+router_publishing r = record r {
+  table = record r.table { published = (r.table).control };
+  gate = record r.gate { ripe = length (r.gate).held };
+  generation = r.generation + 1;
+}
+
+-- a router without the front of what it holds
+abbrev pub router_releasing : Router → Router
+router_releasing r = record r { gate = record { held = drop 1 (r.gate).held; ripe = (r.gate).ripe - 1 } }
+
+-- the oldest message that a router holds, where it is ripe
+abbrev pub ripe_front : Router → Option Held
+ripe_front r = if nat_lt 0 (r.gate).ripe then slice_get (r.gate).held 0 else None
+
+-- whether two entries are one
+abbrev pub entry_eq : Entry → Entry → Bool
+entry_eq Local Local = true
+entry_eq (Via p s) (Via q t) = (p == q) && (s == t)
+entry_eq Unreachable Unreachable = true
+entry_eq _ _ = false
+
+-- whether a row stands among these
+abbrev pub has_row : List (Prefix × Entry) → Prefix × Entry → Bool
+has_row rows r = option_map_or (λ e. entry_eq e r.1) (row_of prefix_cmp r.0 rows) false
+
+-- the control rows that differ from the published ones
+abbrev pub changed_rows : Table → List (Prefix × Entry)
+changed_rows t = filter (λ r. not (has_row t.published r)) t.control
+
+-- whether there is something to publish: a row that differs, or a held message that is not ripe
+abbrev pub is_due : Router → Bool
+is_due r = nat_lt 0 (length (changed_rows r.table)) || nat_lt (r.gate).ripe (length (r.gate).held)
+
+-- ---- the world
+
+-- the world with one router changed
+abbrev pub changed_router : ℕ → (Router → Router) → World → World
+changed_router i f w = record w { routers = changed_at i f w.routers }
+
+-- the world with the link at a port changed, as seen from its end there
+abbrev pub changed_link : ℕ → ℕ → (End → Link → Link) → World → World
+changed_link i q f w = option_map_or (λ p. record w { links = changed_at p.link (f p.end) w.links }) (place_at w i q) w
+
+-- the item that a port takes next
+abbrev pub front_at : World → ℕ → ℕ → Option Item
+front_at w i q = option_and_then (λ s. slice_get s.inbox 0) (side_at w i q)
+
+-- the message that a router releases next
+abbrev pub release_at : World → ℕ → Option Held
+release_at w i = option_and_then ripe_front (slice_get w.routers i)
+
+-- router i took this item from its port q
+abbrev pub with_delivered : ℕ → ℕ → World → Item → World
+with_delivered i q w item = changed_router i (router_accepting q item) (changed_link i q with_front_taken w)
+
+-- router i released this message
+abbrev pub with_released : ℕ → World → Held → World
+with_released i w h = changed_router i router_releasing (changed_link i h.port (with_message h) w)
+
+-- the world after a lawful step
+abbrev pub next : World → Step → World
+next w (LinkUp l) = record w { links = changed_at l link_come_up w.links }
+next w (LinkDown l) = record w { links = changed_at l link_gone_down w.links }
+next w (SetCost i q cost) = changed_link i q (with_cost cost) w
+next w (Deliver i q) = option_map_or (with_delivered i q w) (front_at w i q) w
+next w (Publish i) = changed_router i router_publishing w
+next w (Release i) = option_map_or (with_released i w) (release_at w i) w
+
+-- ---- lawful steps
+
+-- a link's session never passes this
+abbrev pub last_session : ℕ
+last_session = 65535
+
+-- what must be true for a step to be done
+abbrev pub Lawful : World → Step → Type 0
+Lawful w (LinkUp l) = (k : Link) × (slice_get w.links l ≡ Some k) × (k.up ≡ false) × (k.session < last_session)
+Lawful w (LinkDown l) = (k : Link) × (slice_get w.links l ≡ Some k) × (k.up ≡ true)
+Lawful w (SetCost i q cost) = (r : Router) × (k : Link) × (slice_get w.routers i ≡ Some r) × (link_at w i q ≡ Some k) × (k.up ≡ true) × IsCost cost
+Lawful w (Deliver i q) = (r : Router) × (item : Item) × (slice_get w.routers i ≡ Some r) × (front_at w i q ≡ Some item)
+Lawful w (Publish i) = (r : Router) × (slice_get w.routers i ≡ Some r) × (is_due r ≡ true)
+Lawful w (Release i) = (h : Held) × (release_at w i ≡ Some h)
+
+-- a step that can be asked: a cost that is set is the cost of a link
+abbrev pub CanBeAsked : Step → Type 0
+CanBeAsked (LinkUp l) = Unit {0}
+CanBeAsked (LinkDown l) = Unit {0}
+CanBeAsked (SetCost i q cost) = IsCost cost
+CanBeAsked (Deliver i q) = Unit {0}
+CanBeAsked (Publish i) = Unit {0}
+CanBeAsked (Release i) = Unit {0}
+
+-- ---- refusals
+
+-- whether the link that is there, if any, is up
+abbrev pub is_up : Option Link → Bool
+is_up k = option_map_or (λ l. l.up) k false
+
+-- each cause that a step may be refused for, in the order of the tests
+abbrev pub causes : World → Step → List (Bool × Refusal)
+causes w (LinkUp l) =
+    (is_none (slice_get w.links l), UnknownLink)
+    ∷ (is_up (slice_get w.links l), AlreadyUp)
+    ∷ (not (option_map_or (λ k. nat_lt k.session last_session) (slice_get w.links l) false), SessionsSpent) ∷ []
+causes w (LinkDown l) =
+    (is_none (slice_get w.links l), UnknownLink)
+    ∷ (not (is_up (slice_get w.links l)), IsDown) ∷ []
+causes w (SetCost i q cost) =
+    (is_none (slice_get w.routers i), UnknownRouter)
+    ∷ (is_none (link_at w i q), UnknownLink)
+    ∷ (not (is_up (link_at w i q)), IsDown) ∷ []
+causes w (Deliver i q) =
+    (is_none (slice_get w.routers i), UnknownRouter)
+    ∷ (is_none (link_at w i q), UnknownLink)
+    ∷ (is_none (front_at w i q), NothingToDeliver) ∷ []
+causes w (Publish i) =
+    (is_none (slice_get w.routers i), UnknownRouter)
+    ∷ (not (option_map_or is_due (slice_get w.routers i) false), NothingDue) ∷ []
+causes w (Release i) =
+    (is_none (slice_get w.routers i), UnknownRouter)
+    ∷ (is_none (release_at w i), NothingRipe) ∷ []
+
+-- why a step that can be asked is refused; none where it is lawful
+abbrev pub refusal : World → Step → Option Refusal
+refusal w s = first_cause (causes w s)

@@ -1,0 +1,19 @@
+//! What a network of DUAL routers is: the plain types that code and definitions share, and, in
+//! `specs/`, the definitions that every contract above cites.
+#![tactic(auto)]
+
+mod item;
+mod machine;
+mod memory;
+mod network;
+mod route;
+mod step;
+
+pub use ipv4_prefix::Prefix;
+pub use item::{Held, Item, Message};
+pub use machine::{Event, Neighbour, Outgoing, PortInfo};
+pub use memory::NoMemory;
+pub use metric::{BadCost, Cost, Distance, Kind};
+pub use network::{End, LinkSpec, NetworkFault, Place, Port};
+pub use route::Entry;
+pub use step::{Refusal, Step};

@@ -1,0 +1,86 @@
+//! Links, their ends, the ports of routers, and why a network cannot be opened.
+
+ghost use Rattle.std.specs.Prelude.{◌≡◌};
+ghost use Rattle.network_model.specs.declared.network.NetworkFault.TheVariants.{NoMemory as OutOfMemory};
+
+use crate::memory::NoMemory;
+use metric::Cost;
+use std::alloc::{AllocError, AllocFailed};
+use thiserror::Error;
+
+/// One of the two ends of a link.
+#[derive(Clone, Copy, Debug, PartialEq, Eq)]
+pub enum End {
+    A,
+    B,
+}
+
+/// A link to be: its two routers, and the cost from each.
+#[derive(Clone, Copy, Debug, PartialEq, Eq)]
+pub struct LinkSpec {
+    pub a: u16,
+    pub b: u16,
+    pub from_a: Cost,
+    pub from_b: Cost,
+}
+
+/// The end of a link at which a router's port lies.
+#[derive(Clone, Copy, Debug, PartialEq, Eq)]
+pub struct Place {
+    pub link: u16,
+    pub end: End,
+}
+
+/// What a router's notices said last of one of its ports.
+#[derive(Clone, Copy, Debug, PartialEq, Eq)]
+pub struct Port {
+    pub up: bool,
+    pub session: u16,
+    pub cost: Cost,
+}
+
+/// Why a network cannot be opened. A fault of a link or a prefix has its position in the list that
+/// was given, from 0. Its text is its number and name.
+#[derive(Clone, Copy, Debug, PartialEq, Eq, Drop, Error)]
+pub enum NetworkFault {
+    /// There is no router, or there are more than 256.
+    #[error("24 BadRouters")]
+    BadRouters,
+    /// An end of the link is no router of the network, both ends are one router, or an earlier link
+    /// joins the same two.
+    #[error("25 BadLink")]
+    BadLink { link: usize },
+    /// It is the 1025th link, or the 33rd of one of its routers.
+    #[error("26 TooManyLinks")]
+    TooManyLinks { link: usize },
+    /// The owner is no router of the network, the prefix was given before, or it is the 4097th.
+    #[error("27 BadOwner")]
+    BadOwner { prefix: usize },
+    /// A growth was refused.
+    #[error("20 NoMemory")]
+    NoMemory,
+}
+
+impl From<NoMemory> for NetworkFault {
+    ghost from_gives = { λ _ e. e ≡ OutOfMemory };
+
+    fn from(_error: NoMemory) -> NetworkFault {
+        NetworkFault::NoMemory
+    }
+}
+
+impl From<AllocError> for NetworkFault {
+    ghost from_gives = { λ _ e. e ≡ OutOfMemory };
+
+    fn from(_error: AllocError) -> NetworkFault {
+        NetworkFault::NoMemory
+    }
+}
+
+impl<T: Drop> From<AllocFailed<T>> for NetworkFault {
+    ghost from_gives = { λ _ e. e ≡ OutOfMemory };
+
+    fn from(_error: AllocFailed<T>) -> NetworkFault {
+        NetworkFault::NoMemory
+    }
+}

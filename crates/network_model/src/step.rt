@@ -1,0 +1,82 @@
+//! The atomic steps of a network, and why one is refused.
+
+ghost use Rattle.std.specs.Prelude.{◌≡◌};
+ghost use Rattle.network_model.specs.declared.step.Refusal.TheVariants.{NoMemory as OutOfMemory};
+
+use crate::memory::NoMemory;
+use metric::Cost;
+use std::alloc::{AllocError, AllocFailed};
+use thiserror::Error;
+
+/// One atomic step of a network. Routers and links go by their numbers, ports by their router's.
+#[derive(Clone, Copy, Debug, PartialEq, Eq)]
+pub enum Step {
+    /// The link comes up, in its next session.
+    LinkUp { link: u16 },
+    /// The link goes down, and the messages on it are lost.
+    LinkDown { link: u16 },
+    /// The cost from the router on the link at its port changes.
+    SetCost { router: u16, port: u8, cost: Cost },
+    /// The router takes the front item from its port.
+    Deliver { router: u16, port: u8 },
+    /// The router puts its chosen rows in force, and what it holds may leave.
+    Publish { router: u16 },
+    /// The router puts the front message that it holds on its link.
+    Release { router: u16 },
+}
+
+/// Why a step, or a call on the network that does steps, is refused. Its text is its number and name.
+#[derive(Clone, Copy, Debug, PartialEq, Eq, Drop, Error)]
+pub enum Refusal {
+    /// The router's number is too large.
+    #[error("10 UnknownRouter")]
+    UnknownRouter,
+    /// The number of the link or of the port is too large.
+    #[error("11 UnknownLink")]
+    UnknownLink,
+    /// The link is up.
+    #[error("13 AlreadyUp")]
+    AlreadyUp,
+    /// The link is down.
+    #[error("14 IsDown")]
+    IsDown,
+    /// The link has come up 65535 times.
+    #[error("15 SessionsSpent")]
+    SessionsSpent,
+    /// Nothing is on its way to the port.
+    #[error("16 NothingToDeliver")]
+    NothingToDeliver,
+    /// The router's chosen rows are those in force, and all that it holds may leave.
+    #[error("17 NothingDue")]
+    NothingDue,
+    /// The router holds nothing, or its front message may not leave yet.
+    #[error("18 NothingRipe")]
+    NothingRipe,
+    /// A growth was refused.
+    #[error("20 NoMemory")]
+    NoMemory,
+}
+
+impl From<NoMemory> for Refusal {
+    ghost from_gives = { λ _ e. e ≡ OutOfMemory };
+
+    fn from(_error: NoMemory) -> Refusal {
+        Refusal::NoMemory
+    }
+}
+
+impl From<AllocError> for Refusal {
+    ghost from_gives = { λ _ e. e ≡ OutOfMemory };
+
+    fn from(_error: AllocError) -> Refusal {
+        Refusal::NoMemory
+    }
+}
+
+impl<T: Drop> From<AllocFailed<T>> for Refusal {
+    ghost from_gives = { λ _ e. e ≡ OutOfMemory };
+
+    fn from(_error: AllocFailed<T>) -> Refusal {
+        Refusal::NoMemory
+    }
+}

@@ -1,0 +1,117 @@
+//! A gate that messages pass once they are ripe.
+
+ghost use Rattle.std.specs.Prelude.{◌≡◌, ◌+◌, ◌<◌, ◌≤◌, length, OnOk, OnErr, OnSome, IfNone};
+ghost use Rattle.release_gate.specs.GateState.{empty, with_held, with_all_ripe, ripe_front, with_front_released};
+
+use network_model::{Held, NoMemory};
+use std::alloc::Global;
+use std::collections::VecDeque;
+use std::marker::Model;
+
+/// The messages that a router holds back, in the order in which it sent them. Those at the front may
+/// be ripe, which is to say may leave.
+#[derive(Debug, Drop)]
+pub struct Gate {
+    messages: VecDeque<Held>,
+    ripe: usize,
+}
+
+impl Model for Gate {
+    ghost use Rattle.std.specs.Prelude.{◌-◌, ◌≤◌};
+    ghost use Rattle.std.specs.VecDeque.{deque_len, deque_capacity};
+    ghost use Rattle.release_gate.specs.GateState.{GateState};
+
+    ghost Value = { GateState };
+
+    ghost view = { λ g. record {
+      gate = record { held = g.messages.items; ripe = g.ripe };
+      room = deque_capacity g.messages - deque_len g.messages;
+    } };
+
+    ghost invariant = { λ g. g.ripe ≤ deque_len g.messages };
+}
+
+impl Gate {
+    /// A gate that holds nothing.
+    pub fn new(alloc: Global) -> Gate
+        ensures { result.gate ≡ empty }
+    {
+        Gate {
+            messages: VecDeque::new(alloc),
+            ripe: 0,
+        }
+    }
+
+    /// Makes room for `count` more messages, so that as many calls of `hold` succeed.
+    pub fn reserve(&mut self, count: usize) -> Result<(), NoMemory>
+        ensures gate { (self.new).gate ≡ (self.old).gate }
+        ensures room { OnOk result (count ≤ (self.new).room) }
+        ensures no_less { (self.old).room ≤ (self.new).room }
+        ensures full { OnErr result ((self.old).room < count) }
+    {
+        self.messages.reserve(count)?;
+        Ok(())
+    }
+
+    /// Holds a message back, behind the others.
+    pub fn hold(&mut self, message: Held) -> Result<(), NoMemory>
+        ensures ok { OnOk result ((self.new).gate ≡ with_held message (self.old).gate) }
+        ensures err { OnErr result ((self.new).gate ≡ (self.old).gate) }
+        ensures full { OnErr result ((self.old).room ≡ 0) }
+        ensures room { (self.old).room ≤ (self.new).room + 1 }
+    {
+        self.messages.push_back(message)?;
+        Ok(())
+    }
+
+    /// What `release` would give: the oldest message, where it is ripe.
+    pub fn front(&self) -> Option<Held>
+        ensures { result ≡ ripe_front (self.now).gate }
+    {
+        if self.ripe > 0 {
+            self.messages.front().copied()
+        } else {
+            None
+        }
+    }
+
+    /// All messages that are held now become ripe.
+    pub fn ripen(&mut self)
+        ensures gate { (self.new).gate ≡ with_all_ripe (self.old).gate }
+        ensures room { (self.new).room ≡ (self.old).room }
+    {
+        self.ripe = self.held();
+    }
+
+    /// Takes the oldest message, where it is ripe.
+    pub fn release(&mut self) -> Option<Held>
+        ensures released { result ≡ ripe_front (self.old).gate }
+        ensures some { OnSome result ((self.new).gate ≡ with_front_released (self.old).gate) }
+        ensures none { IfNone result ((self.new).gate ≡ (self.old).gate) }
+        ensures room { (self.old).room ≤ (self.new).room }
+    {
+        if self.ripe == 0 {
+            return None;
+        }
+        self.ripe -= 1;
+        self.messages.pop_front()
+    }
+
+    /// How many messages are held.
+    pub fn held(&self) -> usize
+        ensures { result ≡ length (self.now).gate.held }
+    {
+        self.messages.len()
+    }
+
+    /// How many of the messages, at the front, are ripe.
+    pub fn ripe(&self) -> usize
+        ensures ripe { result ≡ (self.now).gate.ripe }
+        ensures at_most_all { result ≤ length (self.now).gate.held }
+    {
+        self.ripe
+    }
+}
+
+#[cfg(test)]
+mod tests;

@@ -1,0 +1,11 @@
+-- What a map from prefixes shows: its rows in the order of the prefixes, and how many fit without memory.
+use Rattle.std.specs.Prelude.{ℕ, List}
+use Rattle.std.specs.Vec.{vec_capacity}
+use Rattle.ipv4_prefix.specs.Prefix.{Prefix}
+use Rattle.route_table.specs.declared.prefix_map.PrefixMap.{PrefixMap}
+
+abbrev pub map_rows : {X : Type 0} → PrefixMap X → List (Prefix × X)
+map_rows m = (m.entries).items
+
+abbrev pub map_capacity : {X : Type 0} → PrefixMap X → ℕ
+map_capacity m = vec_capacity m.entries

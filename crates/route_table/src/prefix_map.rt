@@ -1,0 +1,112 @@
+//! A map from prefixes, in their order.
+
+ghost use Rattle.std.specs.Prelude.{◌≡◌, ◌≤◌, ◌+◌, max, [], length, IsTrue, OnOk, OnErr};
+ghost use Rattle.std.specs.FinMap.{find as value_at, put, is_sorted};
+ghost use Rattle.ipv4_prefix.specs.Prefix.{prefix_cmp};
+ghost use Rattle.route_table.specs.Place.{IsPlace, without};
+
+use network_model::Prefix;
+use std::alloc::{AllocError, Global};
+
+/// A map from prefixes to small values: one vector, in the order of the prefixes. A look-up takes
+/// time by the logarithm of the length.
+#[derive(Drop)]
+pub struct PrefixMap<X> {
+    entries: Vec<(Prefix, X)>,
+    ghost sorted: { IsTrue (is_sorted prefix_cmp entries.items) },
+}
+
+impl<X: Copy> PrefixMap<X> {
+    ghost use Rattle.route_table.specs.PrefixMap.{map_rows, map_capacity};
+
+    pub fn new(alloc: Global) -> Self
+        ensures rows { map_rows result ≡ [] }
+        ensures capacity { map_capacity result ≡ 0 }
+    {
+        PrefixMap {
+            entries: Vec::new(alloc),
+        }
+    }
+
+    pub fn as_slice(&self) -> &[(Prefix, X)]
+        ensures { result.now ≡ map_rows self.now }
+    {
+        self.entries.as_slice()
+    }
+
+    pub fn len(&self) -> usize
+        ensures { result ≡ length (map_rows self.now) }
+    {
+        self.entries.len()
+    }
+
+    /// How many rows fit without memory.
+    pub fn capacity(&self) -> usize
+        ensures { result ≡ map_capacity self.now }
+    {
+        self.entries.capacity()
+    }
+
+    pub fn get(&self, prefix: Prefix) -> Option<X>
+        ensures { result ≡ value_at prefix_cmp prefix (map_rows self.now) }
+    {
+        match self.place(prefix) {
+            Ok(place) => Some(self.entries[place].1),
+            Err(_) => None,
+        }
+    }
+
+    // Where the row of the prefix stands, or would go.
+    fn place(&self, prefix: Prefix) -> Result<usize, usize>
+        ensures { IsPlace prefix (map_rows self.now) result }
+    {
+        self.entries.binary_search_by_key(&prefix, |entry| entry.0)
+    }
+
+    /// Writes the value of a prefix that is there, or of one for which there is room.
+    pub fn put(&mut self, prefix: Prefix, value: X)
+        requires { length (put prefix_cmp prefix value (map_rows self.old)) ≤ map_capacity self.old }
+        ensures rows { map_rows self.new ≡ put prefix_cmp prefix value (map_rows self.old) }
+        ensures capacity { map_capacity self.new ≡ map_capacity self.old }
+    {
+        match self.place(prefix) {
+            Ok(place) => self.entries[place].1 = value,
+            Err(place) => self.entries.insert(place, (prefix, value)).unwrap(),
+        }
+    }
+
+    pub fn remove(&mut self, prefix: Prefix)
+        ensures rows { map_rows self.new ≡ without prefix (map_rows self.old) }
+        ensures capacity { map_capacity self.new ≡ map_capacity self.old }
+    {
+        if let Ok(place) = self.place(prefix) {
+            self.entries.remove(place);
+        }
+    }
+
+    pub fn clear(&mut self)
+        ensures rows { map_rows self.new ≡ [] }
+        ensures capacity { map_capacity self.new ≡ map_capacity self.old }
+    {
+        self.entries.clear();
+    }
+
+    /// Room for this many more rows, or for more than that.
+    pub fn reserve(&mut self, additional: usize) -> Result<(), AllocError>
+        ensures rows { map_rows self.new ≡ map_rows self.old }
+        ensures ok { OnOk result (length (map_rows self.old) + additional ≤ map_capacity self.new) }
+        ensures capacity { map_capacity self.old ≤ map_capacity self.new }
+    {
+        self.entries.reserve(additional)
+    }
+
+    /// Room for this many rows in all, and for no more than that, unless there is more already.
+    pub fn reserve_in_all(&mut self, limit: usize) -> Result<(), AllocError>
+        ensures rows { map_rows self.new ≡ map_rows self.old }
+        ensures ok { OnOk result (map_capacity self.new ≡ max (map_capacity self.old) limit) }
+        ensures err { OnErr result (map_capacity self.new ≡ map_capacity self.old) }
+    {
+        let additional = limit.saturating_sub(self.entries.len());
+        self.entries.reserve_exact(additional)
+    }
+}

@@ -1,0 +1,50 @@
+-- The control rows that a notice makes: each machine's row set in turn is all of them set at once.
+use Rattle.std.specs.Prelude.{◌≡◌, true, List, [], ◌∷◌, map}
+use Rattle.std.specs.FinMap.{put, is_sorted}
+use Rattle.std.specs.FinMap.Entries.{below_all}
+use Rattle.std.specs.declared.cmp.Ordering.{Ordering}
+use Rattle.std.specs.declared.cmp.Ordering.TheVariants.{Less, Equal, Greater}
+use Rattle.std.specs.Ordering.{is_lt, ordering_reverse}
+use Rattle.std.proofs.Common.{refl, ap, ◌∙◌}
+use Rattle.std.proofs.lemmas.Bool.{and_parts, and_from}
+use Rattle.std.proofs.lemmas.Cmp.{tied_itself}
+use Rattle.ipv4_prefix.specs.Prefix.{Prefix, prefix_cmp}
+use Rattle.network_model.specs.declared.route.Entry.{Entry}
+use Rattle.network_model.specs.Publication.{with_rows}
+use Rattle.ipv4_prefix.proofs.PrefixOrder.{prefix_cmp_total}
+use Rattle.route_table.proofs.Places.{put_here, put_past}
+
+is_less : (o : Ordering) → is_lt o ≡ true → o ≡ Less
+is_less Less e = refl
+is_less Equal e = absurd (cc)
+is_less Greater e = absurd (cc)
+
+above : (p q : Prefix) → is_lt (prefix_cmp p q) ≡ true → prefix_cmp q p ≡ Greater
+above p q e = prefix_cmp_total.antisymm q p ∙ ap ordering_reverse (is_less (prefix_cmp p q) e)
+
+-- rows of longer or later prefixes leave the first row
+with_rows-past : (r : Prefix × Entry) (rs table : List (Prefix × Entry)) → below_all prefix_cmp r.0 rs ≡ true → with_rows rs (r ∷ table) ≡ r ∷ with_rows rs table
+with_rows-past r [] table below = refl
+with_rows-past r (s ∷ rs) table below =
+    let parts : _ = and_parts _ _ below in
+    ap (with_rows rs) (put_past prefix_cmp s.0 s.1 r table (above r.0 s.0 parts.0)) ∙ with_rows-past r rs (put prefix_cmp s.0 s.1 table) parts.1
+
+-- a row for each element, in the order of its prefix
+module _ {A : Type 0} (f g : Prefix × A → Entry) where
+  abbrev pub rows_by : (Prefix × A → Entry) → List (Prefix × A) → List (Prefix × Entry)
+  rows_by h xs = map (λ x. (x.0, h x)) xs
+
+  below-rows_by : (p : Prefix) (xs : List (Prefix × A)) → below_all prefix_cmp p xs ≡ true → below_all prefix_cmp p (rows_by f xs) ≡ true
+  below-rows_by p [] below = refl
+  below-rows_by p (x ∷ xs) below =
+      let parts : _ = and_parts _ _ below in
+      and_from _ _ parts.0 (below-rows_by p xs parts.1)
+
+  -- one set of rows in the place of another
+  pub with_rows-rows_by : (xs : List (Prefix × A)) → is_sorted prefix_cmp xs ≡ true → with_rows (rows_by f xs) (rows_by g xs) ≡ rows_by f xs
+  with_rows-rows_by [] sorted = refl
+  with_rows-rows_by (x ∷ xs) sorted =
+      let parts : _ = and_parts _ _ sorted in
+      ap (with_rows (rows_by f xs)) (put_here prefix_cmp x.0 (f x) (x.0, g x) (rows_by g xs) (tied_itself prefix_cmp_total x.0))
+      ∙ with_rows-past (x.0, f x) (rows_by f xs) (rows_by g xs) (below-rows_by x.0 xs parts.0)
+      ∙ ap (λ rs. (x.0, f x) ∷ rs) (with_rows-rows_by xs parts.1)

@@ -1,0 +1,129 @@
+-- What every router keeps, whatever it takes, publishes or releases.
+use Rattle.std.specs.Prelude.{◌≡◌, ℕ, zero, suc, ◌<◌, ◌≤◌, Bool, true, false, cond, List, [], ◌∷◌, map, length, get_or, Some, unwrap_or}
+use Rattle.std.specs.List.{AllByRecursion}
+use Rattle.std.specs.FinMap.{find as row_of, put, is_sorted}
+use Rattle.std.specs.FinMap.Entries.{by_order}
+use Rattle.std.specs.declared.cmp.Ordering.{Ordering}
+use Rattle.std.specs.declared.cmp.Ordering.TheVariants.{Less, Equal, Greater}
+use Rattle.std.specs.Ordering.{eq_by_cmp}
+use Rattle.std.proofs.Common.{refl, sym, ap, ◌∙◌, arith}
+use Rattle.ipv4_prefix.specs.Prefix.{Prefix, prefix_cmp}
+use Rattle.network_model.specs.declared.machine.Event.{Event}
+use Rattle.network_model.specs.declared.item.Message.{Message}
+use Rattle.network_model.specs.declared.network.Port.{Port}
+use Rattle.network_model.specs.Machine.{Machine, reaction, opening_machine}
+use Rattle.network_model.specs.World.{Router, machine_of, neighbours, rows_of, opening_router}
+use Rattle.network_model.specs.Step.{chosen_rows, entry_of, reactions, router_noticing, router_told, router_publishing, router_releasing}
+use Rattle.network_model.specs.Publication.{with_rows}
+use Rattle.route_table.proofs.MapPut.{map-put, sorted-map}
+use Rattle.route_table.proofs.PrefixPlaces.{sorted-put}
+use Rattle.router_core.specs.Parts.{HasPorts, IsKept, ups, port_ups, ups_after}
+use Rattle.router_core.proofs.Ports.{ups-reaction, ups-neighbours}
+use Rattle.router_core.proofs.ControlRows.{with_rows-rows_by}
+use Rattle.router_core.proofs.Meetings.{reacted, chosen}
+
+-- ---- each of a list
+
+pub all_at : {A : Type 0} (P : A → Type 0) (xs : List A) → AllByRecursion P xs → (k : ℕ) (d : A) → k < length xs → P (get_or xs k d)
+all_at P [] all k d h = absurd (omega arith)
+all_at P (x ∷ xs) all zero d h = all.0
+all_at P (x ∷ xs) all (suc k) d h = all_at P xs all.1 k d (omega arith)
+
+all-put : {X : Type 0} (P : Prefix × X → Type 0) (p : Prefix) (v : X) (rows : List (Prefix × X)) → ((q : Prefix) → P (q, v)) → AllByRecursion P rows → AllByRecursion P (put prefix_cmp p v rows)
+all-put P p v [] new all = (new p, tt)
+all-put P p v (r ∷ rs) new all = by_place (prefix_cmp p r.0) (all-put P p v rs new all.1)
+  where
+    by_place : (o : Ordering) → AllByRecursion P (put prefix_cmp p v rs) → AllByRecursion P (by_order o ((p, v) ∷ r ∷ rs) ((r.0, v) ∷ rs) (r ∷ put prefix_cmp p v rs))
+    by_place Less rest = (new p, (all.0, all.1))
+    by_place Equal rest = (new r.0, all.1)
+    by_place Greater rest = (all.0, rest)
+
+-- what is found is one of them
+pub found_has : {X : Type 0} (P : Prefix × X → Type 0) (Q : X → Type 0) (p : Prefix) (rows : List (Prefix × X)) (d : X) → ((r : Prefix × X) → P r → Q r.1) → AllByRecursion P rows → Q d → Q (unwrap_or (row_of prefix_cmp p rows) d)
+found_has P Q p [] d part all default = default
+found_has P Q p (r ∷ rs) d part all default = by_key (eq_by_cmp prefix_cmp p r.0) (found_has P Q p rs d part all.1 default)
+  where
+    by_key : (b : Bool) → Q (unwrap_or (row_of prefix_cmp p rs) d) → Q (unwrap_or (cond b (Some r.1) (row_of prefix_cmp p rs)) d)
+    by_key true rest = part r all.0
+    by_key false rest = rest
+
+-- ---- a notice
+
+all-reacted : (e : Event) (before after : List Port) (ms : List (Prefix × Machine)) → port_ups after ≡ ups_after e (port_ups before)
+    → AllByRecursion (HasPorts before) ms → AllByRecursion (HasPorts after) (reacted e ms)
+all-reacted e before after [] moves all = tt
+all-reacted e before after (m ∷ ms) moves all =
+    (ups-reaction m.1 e ∙ ap (ups_after e) all.0 ∙ sym moves, all-reacted e before after ms moves all.1)
+
+pub sorted-reacted : (e : Event) (ms : List (Prefix × Machine)) → is_sorted prefix_cmp (reacted e ms) ≡ is_sorted prefix_cmp ms
+sorted-reacted e ms = sorted-map prefix_cmp (λ r. r.machine) (reactions e ms) ∙ sorted-map prefix_cmp (λ m. reaction m e) ms
+
+chosen-reacted : (e : Event) (ports : List Port) (ms : List (Prefix × Machine)) → chosen e ports ms ≡ map (λ m. (m.0, entry_of ports (reaction m.1 e).machine)) ms
+chosen-reacted e ports [] = refl
+chosen-reacted e ports (m ∷ ms) = ap (λ rs. (m.0, entry_of ports (reaction m.1 e).machine) ∷ rs) (chosen-reacted e ports ms)
+
+-- the rows set one after another are the rows that the machines choose now
+pub control-noticing : (e : Event) (ports : List Port) (r : Router) → IsKept r → with_rows (chosen e ports r.machines) (r.table).control ≡ chosen e ports r.machines
+control-noticing e ports r kept =
+    ap (with_rows (chosen e ports r.machines)) kept.rows
+    ∙ ap (λ rs. with_rows rs (chosen_rows r.ports r.machines)) (chosen-reacted e ports r.machines)
+    ∙ with_rows-rows_by (λ m. entry_of ports (reaction m.1 e).machine) (λ m. entry_of r.ports m.1) r.machines kept.sorted
+    ∙ sym (chosen-reacted e ports r.machines)
+
+pub kept-noticing : (e : Event) (ports : List Port) (r : Router) → IsKept r → length ports ≤ 32 → port_ups ports ≡ ups_after e (port_ups r.ports) → IsKept (router_noticing e ports r)
+kept-noticing e ports r kept few moves = record {
+  few = few;
+  sorted = sorted-reacted e r.machines ∙ kept.sorted;
+  same_ports = all-reacted e r.ports ports r.machines moves kept.same_ports;
+  rows = refl;
+}
+
+-- ---- a message
+
+machine_of-ports : (r : Router) (p : Prefix) → IsKept r → ups (machine_of r p).ports ≡ port_ups r.ports
+machine_of-ports r p kept = found_has (HasPorts r.ports) (λ m. ups m.ports ≡ port_ups r.ports) p r.machines (opening_machine false (neighbours r.ports)) (λ m h. h) kept.same_ports (ups-neighbours r.ports)
+
+pub kept-told : (q : ℕ) (m : Message) (r : Router) → IsKept r → IsKept (router_told q m r)
+kept-told q m r kept = record {
+  few = kept.few;
+  sorted = sorted-put r.machines m.prefix _ kept.sorted;
+  same_ports = all-put (HasPorts r.ports) m.prefix _ r.machines (λ p. ups-reaction (machine_of r m.prefix) (Event.Message q m.kind m.value) ∙ machine_of-ports r m.prefix kept) kept.same_ports;
+  rows = refl;
+}
+
+-- the rows that a message makes: that of its prefix is set
+pub control-told : (q : ℕ) (m : Message) (r : Router) → IsKept r
+    → put prefix_cmp m.prefix (entry_of r.ports (reaction (machine_of r m.prefix) (Event.Message q m.kind m.value)).machine) (r.table).control ≡ ((router_told q m r).table).control
+control-told q m r kept =
+    ap (put prefix_cmp m.prefix _) kept.rows
+    ∙ sym (map-put prefix_cmp (entry_of r.ports) m.prefix (reaction (machine_of r m.prefix) (Event.Message q m.kind m.value)).machine r.machines)
+
+-- ---- the opening
+
+pub chosen-rows_of : (ports : List Port) (x : Machine) (ps : List Prefix) → chosen_rows ports (rows_of x ps) ≡ rows_of (entry_of ports x) ps
+chosen-rows_of ports x [] = refl
+chosen-rows_of ports x (p ∷ ps) = map-put prefix_cmp (entry_of ports) p x (rows_of x ps) ∙ ap (put prefix_cmp p (entry_of ports x)) (chosen-rows_of ports x ps)
+
+pub sorted-rows_of : {X : Type 0} (x : X) (ps : List Prefix) → is_sorted prefix_cmp (rows_of x ps) ≡ true
+sorted-rows_of x [] = refl
+sorted-rows_of x (p ∷ ps) = sorted-put (rows_of x ps) p x (sorted-rows_of x ps)
+
+all-rows_of : {X : Type 0} (P : Prefix × X → Type 0) (x : X) (ps : List Prefix) → ((q : Prefix) → P (q, x)) → AllByRecursion P (rows_of x ps)
+all-rows_of P x [] each = tt
+all-rows_of P x (p ∷ ps) each = all-put P p x (rows_of x ps) each (all-rows_of P x ps each)
+
+pub kept-opening : (ports : List Port) (own : List Prefix) → length ports ≤ 32 → IsKept (opening_router ports own)
+kept-opening ports own few = record {
+  few = few;
+  sorted = sorted-rows_of (opening_machine true (neighbours ports)) own;
+  same_ports = all-rows_of (HasPorts ports) (opening_machine true (neighbours ports)) own (λ q. ups-neighbours ports);
+  rows = sym (chosen-rows_of ports (opening_machine true (neighbours ports)) own);
+}
+
+-- ---- a publication, and a release
+
+pub kept-publishing : (r : Router) → IsKept r → IsKept (router_publishing r)
+kept-publishing r kept = record { few = kept.few; sorted = kept.sorted; same_ports = kept.same_ports; rows = kept.rows }
+
+pub kept-releasing : (r : Router) → IsKept r → IsKept (router_releasing r)
+kept-releasing r kept = record { few = kept.few; sorted = kept.sorted; same_ports = kept.same_ports; rows = kept.rows }

@@ -1,0 +1,6 @@
+pub mod ControlRows
+pub mod Ports
+pub mod Meetings
+pub mod Kept
+pub mod Opening
+pub mod Notices

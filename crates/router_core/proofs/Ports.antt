@@ -1,0 +1,63 @@
+-- The machines of a router have its ports, up and down as the notices said.
+use Rattle.std.specs.Prelude.{◌≡◌, ℕ, zero, suc, Bool, true, false, List, [], ◌∷◌, map, length, Option, Some, None, slice_get, option_map}
+use Rattle.std.specs.Option.{option_map_or}
+use Rattle.std.proofs.Common.{refl, sym, ap, ◌∙◌}
+use Rattle.std.proofs.lemmas.Option.{slice_get-map}
+use Rattle.network_model.specs.declared.machine.Event.{Event}
+use Rattle.network_model.specs.declared.machine.Event.TheVariants.{Message, Up, Down, Cost}
+use Rattle.network_model.specs.declared.machine.Neighbour.{Neighbour}
+use Rattle.network_model.specs.declared.network.Port.{Port}
+use Rattle.network_model.specs.Machine.{Machine, changed_at, records_after, reaction}
+use Rattle.network_model.specs.World.{neighbours}
+use Rattle.router_core.specs.Parts.{ups, port_ups, ups_after}
+use Rattle.network_model.proofs.ListLaws.{map-changed_at}
+use Rattle.network_model.proofs.RecordsLaws.{reaction-keeps}
+
+-- a change at one place, seen through a function
+pub map-changed : {A B : Type 0} (f : A → B) (g : A → A) (h : B → B) (k : ℕ) (xs : List A) → ((x : A) → f (g x) ≡ h (f x)) → map f (changed_at k g xs) ≡ changed_at k h (map f xs)
+map-changed f g h k [] same = refl
+map-changed f g h zero (x ∷ xs) same = ap (λ y. y ∷ map f xs) (same x)
+map-changed f g h (suc k) (x ∷ xs) same = ap (λ ys. f x ∷ ys) (map-changed f g h k xs same)
+
+pub ups-records_after : (e : Event) (ns : List Neighbour) → ups (records_after e ns) ≡ ups_after e (ups ns)
+ups-records_after (Message q kind value) ns = map-changed_at _ (λ n. n.up) q ns (λ n _. refl)
+ups-records_after (Up q cost) ns = map-changed (λ (n : Neighbour). n.up) (λ n. record { up = true; cost = cost; reported = 4294967295 }) (λ _. true) q ns (λ n. refl)
+ups-records_after (Down q) ns = map-changed (λ (n : Neighbour). n.up) (λ n. record { up = false; cost = n.cost; reported = n.reported }) (λ _. false) q ns (λ n. refl)
+ups-records_after (Cost q cost) ns = map-changed_at _ (λ n. n.up) q ns (λ n _. refl)
+
+pub ups-reaction : (m : Machine) (e : Event) → ups (reaction m e).machine.ports ≡ ups_after e (ups m.ports)
+ups-reaction m e = ap ups (reaction-keeps m e).ports ∙ ups-records_after e m.ports
+
+-- what a router's ports become with an event
+pub ups-come_up : (q session cost : ℕ) (ports : List Port) → port_ups (changed_at q (λ p. record { up = true; session = session; cost = cost }) ports) ≡ changed_at q (λ _. true) (port_ups ports)
+ups-come_up q session cost ports = map-changed (λ (p : Port). p.up) (λ p. record { up = true; session = session; cost = cost }) (λ _. true) q ports (λ p. refl)
+
+pub ups-go_down : (q session : ℕ) (ports : List Port) → port_ups (changed_at q (λ p. record p { up = false; session = session }) ports) ≡ changed_at q (λ _. false) (port_ups ports)
+ups-go_down q session ports = map-changed (λ (p : Port). p.up) (λ p. record p { up = false; session = session }) (λ _. false) q ports (λ p. refl)
+
+pub ups-cost : (q session cost : ℕ) (ports : List Port) → port_ups (changed_at q (λ p. record p { session = session; cost = cost }) ports) ≡ port_ups ports
+ups-cost q session cost ports = map-changed_at _ (λ p. p.up) q ports (λ p _. refl)
+
+-- a machine that opens over the ports has them
+pub ups-neighbours : (ports : List Port) → ups (neighbours ports) ≡ port_ups ports
+ups-neighbours [] = refl
+ups-neighbours (p ∷ ps) = ap (λ bs. p.up ∷ bs) (ups-neighbours ps)
+
+-- ---- what the machine with the router's ports says of one of them
+
+length-map : {A B : Type 0} (f : A → B) (xs : List A) → length (map f xs) ≡ length xs
+length-map f [] = refl
+length-map f (x ∷ xs) = ap suc (length-map f xs)
+
+pub length-ups : (ns : List Neighbour) (ports : List Port) → ups ns ≡ port_ups ports → length ns ≡ length ports
+length-ups ns ports same = sym (length-map (λ (n : Neighbour). n.up) ns) ∙ ap length same ∙ length-map (λ (p : Port). p.up) ports
+
+option_map_or-map : {A : Type 0} (f : A → Bool) (o : Option A) → option_map_or f o false ≡ option_map_or (λ b. b) (option_map f o) false
+option_map_or-map f None = refl
+option_map_or-map f (Some x) = refl
+
+pub up_at-ups : (ns : List Neighbour) (ports : List Port) (q : ℕ) → ups ns ≡ port_ups ports → option_map_or (λ n. n.up) (slice_get ns q) false ≡ option_map_or (λ p. p.up) (slice_get ports q) false
+up_at-ups ns ports q same =
+    option_map_or-map (λ n. n.up) (slice_get ns q)
+    ∙ ap (λ o. option_map_or (λ b. b) o false) (sym (slice_get-map (λ n. n.up) ns q) ∙ ap (λ bs. slice_get bs q) same ∙ slice_get-map (λ p. p.up) ports q)
+    ∙ sym (option_map_or-map (λ p. p.up) (slice_get ports q))

@@ -1,0 +1,46 @@
+-- A router's machines as the network sees them, and what every router keeps.
+use Rattle.std.specs.Prelude.{◌≡◌, ℕ, ◌≤◌, true, false, Bool, List, map, length}
+use Rattle.std.specs.List.{AllByRecursion}
+use Rattle.std.specs.FinMap.{is_sorted}
+use Rattle.ipv4_prefix.specs.Prefix.{Prefix, prefix_cmp}
+use Rattle.network_model.specs.declared.machine.Neighbour.{Neighbour}
+use Rattle.network_model.specs.declared.network.Port.{Port}
+use Rattle.network_model.specs.declared.machine.Event.{Event}
+use Rattle.network_model.specs.declared.machine.Event.TheVariants.{Message, Up, Down, Cost}
+use Rattle.network_model.specs.Machine.{Machine, changed_at}
+use Rattle.network_model.specs.World.{Table, Gate, Router}
+use Rattle.network_model.specs.Step.{chosen_rows}
+use Rattle.dual_machine.specs.State.{State}
+
+-- the machines without their origin states
+abbrev pub machines_of : List (Prefix × State) → List (Prefix × Machine)
+machines_of ms = map (λ m. (m.0, (m.1).machine)) ms
+
+-- whether each neighbour, or each port, is up
+abbrev pub ups : List Neighbour → List Bool
+ups ns = map (λ n. n.up) ns
+
+abbrev pub port_ups : List Port → List Bool
+port_ups ports = map (λ p. p.up) ports
+
+-- the machine has these ports, up and down as they are
+abbrev pub HasPorts : List Port → Prefix × Machine → Type 0
+HasPorts ports m = ups (m.1).ports ≡ port_ups ports
+
+-- what every router keeps: at most 32 ports, machines in the order of their prefixes, each over the router's ports, and the control rows that they choose
+pub record IsKept (r : Router) : Type 0 where
+  pub few : length r.ports ≤ 32
+  pub sorted : is_sorted prefix_cmp r.machines ≡ true
+  pub same_ports : AllByRecursion (HasPorts r.ports) r.machines
+  pub rows : (r.table).control ≡ chosen_rows r.ports r.machines
+
+-- a router of its parts
+abbrev pub router_of : List Port → List (Prefix × State) → Table → Gate → ℕ → Router
+router_of ports machines table gate generation = record { ports = ports; machines = machines_of machines; table = table; gate = gate; generation = generation }
+
+-- what an event makes of whether each port is up
+abbrev pub ups_after : Event → List Bool → List Bool
+ups_after (Up q cost) bs = changed_at q (λ _. true) bs
+ups_after (Down q) bs = changed_at q (λ _. false) bs
+ups_after (Message q kind value) bs = bs
+ups_after (Cost q cost) bs = bs

@@ -1,0 +1,138 @@
+//! What a router's machines do to its table and its gate.
+
+ghost use Rattle.std.specs.Prelude.{◌≡◌, ◌≤◌, ◌<◌, ◌+◌, ◌*◌, ◌++◌, map, length, IsSome, All, OnOk};
+ghost use Rattle.std.specs.List.{flat_map};
+ghost use Rattle.std.specs.FinMap.{find as row_of, put};
+ghost use Rattle.ipv4_prefix.specs.Prefix.{prefix_cmp};
+ghost use Rattle.network_model.specs.Machine.{reaction};
+ghost use Rattle.network_model.specs.Step as step;
+ghost use Rattle.dual_machine.specs.Event.{port_of, IsTimely};
+ghost use Rattle.dual_machine.specs.Outbox.{most_sent};
+ghost use Rattle.network_model.specs.Publication.{with_rows};
+ghost use Rattle.router_core.specs.Effects.{HasRoomFor, KeepsRoom};
+ghost use Rattle.router_core.specs.Parts.{machines_of};
+
+use dual_machine::{Machine, Sends};
+use network_model::{Entry, Event, Held, Message, NoMemory, Outgoing, Port, Prefix};
+use release_gate::Gate;
+use route_table::RouteTable;
+
+/// Where the reactions of a router's machines go: the rows that they choose, and what they send.
+#[derive(Drop)]
+pub struct Effects {
+    pub table: RouteTable,
+    pub gate: Gate,
+    // What the present machine sends; between calls its content is of no matter.
+    pub sends: Sends,
+}
+
+// The session that the router's notices said last of a port.
+fn session_at(ports: &[Port], port: u8) -> u16
+    ensures { result ≡ step.session_at ports.now port }
+{
+    match ports.get(usize::from(port)) {
+        Some(found) => found.session,
+        None => 0,
+    }
+}
+
+// The entry that a machine chooses.
+pub fn entry_of(ports: &[Port], machine: &Machine) -> Entry
+    ensures { result ≡ step.entry_of ports.now machine.now.machine }
+{
+    if machine.is_local() {
+        return Entry::Local;
+    }
+    match machine.successor() {
+        Some(port) => Entry::Via {
+            port,
+            session: session_at(ports, port),
+        },
+        None => Entry::Unreachable,
+    }
+}
+
+// What a machine sends, for the session of its port.
+fn held_of(ports: &[Port], prefix: Prefix, sent: &Outgoing) -> Held
+    ensures { result ≡ step.held_of ports.now prefix sent.now }
+{
+    Held {
+        port: sent.port,
+        session: session_at(ports, sent.port),
+        message: Message {
+            kind: sent.kind,
+            prefix,
+            value: sent.value,
+        },
+    }
+}
+
+// Holds what a machine sent, in order.
+fn hold_all(gate: &mut Gate, ports: &[Port], prefix: Prefix, sent: &[Outgoing])
+    requires { length sent.now ≤ gate.old.room }
+    ensures held { gate.new.gate.held ≡ gate.old.gate.held ++ map (step.held_of ports.now prefix) sent.now }
+    ensures ripe { gate.new.gate.ripe ≡ gate.old.gate.ripe }
+    ensures room { gate.old.room ≤ gate.new.room + length sent.now }
+{
+    for outgoing in sent {
+        gate.hold(held_of(ports, prefix, outgoing)).unwrap();
+    }
+}
+
+impl Effects {
+    /// Room for `each` messages of one reaction, and for `all` messages to be held.
+    pub fn reserve(&mut self, each: usize, all: usize) -> Result<(), NoMemory>
+        ensures table { self.new.table ≡ self.old.table }
+        ensures gate { self.new.gate.gate ≡ self.old.gate.gate }
+        ensures sends { OnOk result (each ≤ self.new.sends.capacity) }
+        ensures room { OnOk result (all ≤ self.new.gate.room) }
+    {
+        self.sends.clear();
+        self.sends.reserve(each)?;
+        self.gate.reserve(all)
+    }
+
+    /// A machine meets an event: its row is set, and what it sends is held.
+    pub fn meet(&mut self, machine: &mut Machine, event: &Event, prefix: Prefix, ports: &[Port])
+        requires known { port_of event.now < length machine.old.machine.ports }
+        requires timely { IsTimely machine.old.machine.ports event.now }
+        requires room { HasRoomFor (most_sent machine.old.machine.ports) prefix self.old }
+        ensures machine { machine.new.machine ≡ (reaction machine.old.machine event.now).machine }
+        ensures control { self.new.table.table.control ≡ put prefix_cmp prefix (step.entry_of ports.now machine.new.machine) self.old.table.table.control }
+        ensures published { self.new.table.table.published ≡ self.old.table.table.published }
+        ensures held { self.new.gate.gate.held ≡ self.old.gate.gate.held ++ map (step.held_of ports.now prefix) (reaction machine.old.machine event.now).sends }
+        ensures ripe { self.new.gate.gate.ripe ≡ self.old.gate.gate.ripe }
+        ensures room { KeepsRoom (most_sent machine.old.machine.ports) self.old self.new }
+    {
+        self.sends.clear();
+        machine.event(*event, &mut self.sends).unwrap();
+        hold_all(&mut self.gate, ports, prefix, self.sends.as_slice());
+        self.table.set(prefix, entry_of(ports, machine)).unwrap();
+    }
+}
+
+// Each machine of a router meets an event, in the order of the prefixes.
+pub fn meet_all(
+    machines: &mut [(Prefix, Machine)],
+    event: &Event,
+    ports: &[Port],
+    effects: &mut Effects,
+    each: usize,
+)
+    requires known { All (λ m. port_of event.now < length ((m.1).machine).ports) machines.old }
+    requires timely { All (λ m. IsTimely ((m.1).machine).ports event.now) machines.old }
+    requires each { All (λ m. most_sent ((m.1).machine).ports ≤ each) machines.old }
+    requires sends { each ≤ effects.old.sends.capacity }
+    requires gate { length machines.old * each ≤ effects.old.gate.room }
+    requires rows { All (λ m. IsSome (row_of prefix_cmp m.0 effects.old.table.table.control)) machines.old }
+    ensures machines { machines_of machines.new ≡ map (λ x. (x.0, (x.1).machine)) (step.reactions event.now (machines_of machines.old)) }
+    ensures control { effects.new.table.table.control ≡ with_rows (step.chosen_rows ports.now (machines_of machines.new)) effects.old.table.table.control }
+    ensures published { effects.new.table.table.published ≡ effects.old.table.table.published }
+    ensures held { effects.new.gate.gate.held ≡ effects.old.gate.gate.held ++ flat_map (λ x. map (step.held_of ports.now x.0) (x.1).sends) (step.reactions event.now (machines_of machines.old)) }
+    ensures ripe { effects.new.gate.gate.ripe ≡ effects.old.gate.gate.ripe }
+{
+    for row in machines.iter_mut() {
+        let prefix = row.0;
+        effects.meet(&mut row.1, event, prefix, ports);
+    }
+}

@@ -1,0 +1,12 @@
+//! One router of a network: its ports, a machine for each prefix that it has heard of, its table
+//! and its gate.
+#![tactic(auto)]
+
+mod effects;
+mod router;
+
+pub use network_model::{Entry, Held, Item, Message, NoMemory, Port, Prefix};
+pub use router::Router;
+
+#[cfg(test)]
+mod tests;

@@ -1,0 +1,321 @@
+//! The router.
+
+ghost use Rattle.std.specs.Prelude.{◌≡◌, ◌+◌, ◌^◌, ◌<◌, ◌≤◌, ◌↔◌, map, length, true, false, IsTrue, IfOk, IfSome, OnOk, OnErr, OnSome, IfNone, slice_set, is_none, option_map};
+ghost use Rattle.std.specs.List.{list_all};
+ghost use Rattle.std.specs.FinMap.{find as row_of, put, is_sorted};
+ghost use Rattle.std.specs.Option.{option_copied};
+ghost use Rattle.ipv4_prefix.specs.Prefix.{prefix_cmp};
+ghost use Rattle.network_model.specs.Machine.{opening_machine};
+ghost use Rattle.network_model.specs.World as world;
+ghost use Rattle.network_model.specs.Step as step;
+ghost use Rattle.dual_machine.specs.Event.{port_of};
+ghost use Rattle.route_table.specs.Place.{IsPlace};
+ghost use Rattle.router_core.specs.Parts.{ups_after, port_ups, IsKept};
+ghost use Rattle.router_core.specs.Router.{CanTake, IsTimelyAt, is_port_up};
+
+use crate::effects::{Effects, meet_all};
+use dual_machine::{Machine, Sends};
+use network_model::{Entry, Event, Held, Item, Message, NoMemory, Port, PortInfo, Prefix};
+use release_gate::Gate;
+use route_table::RouteTable;
+use std::alloc::{AllocError, Global};
+use std::marker::Model;
+
+/// A router: what its notices said of its ports, a machine for each prefix that it has heard of, the
+/// rows that it has chosen and published, and the messages that it holds back.
+#[derive(Drop)]
+pub struct Router {
+    ports: Vec<Port>,
+    // In the order of the prefixes.
+    machines: Vec<(Prefix, Machine)>,
+    effects: Effects,
+    generation: u64,
+}
+
+impl Model for Router {
+    ghost use Rattle.network_model.specs.World.{Router as WorldRouter};
+    ghost use Rattle.router_core.specs.Parts.{router_of, IsKept};
+
+    ghost Value = { WorldRouter };
+
+    ghost view = { λ r. router_of r.ports.items r.machines.items r.effects.table.table r.effects.gate.gate r.generation };
+
+    ghost invariant = { λ r. IsKept (router_of r.ports.items r.machines.items r.effects.table.table r.effects.gate.gate r.generation) };
+}
+
+// The ports as a machine meets them first.
+fn port_infos(alloc: Global, ports: &[Port]) -> Result<Vec<PortInfo>, AllocError>
+    ensures { IfOk result (λ v. v.items ≡ map (λ p. record { up = p.up; cost = p.cost }) ports.now) }
+{
+    ports
+        .iter()
+        .map(|port| PortInfo {
+            up: port.up,
+            cost: port.cost,
+        })
+        .collect(alloc)
+}
+
+// Where the machine of the prefix stands, or where it would.
+fn place_of(machines: &[(Prefix, Machine)], prefix: Prefix) -> Result<usize, usize>
+    requires { is_sorted prefix_cmp machines.now ≡ true }
+    ensures { IsPlace prefix machines.now result }
+{
+    machines.binary_search_by_key(&prefix, |machine| machine.0)
+}
+
+fn are_passive(machines: &[(Prefix, Machine)]) -> bool
+    ensures { result ≡ list_all (λ m. is_none (m.1).machine.computation) machines.now }
+{
+    machines.iter().all(|machine| machine.1.is_passive())
+}
+
+// Puts the machine of a prefix in its place, over one that is there.
+fn put_machine(
+    machines: &mut Vec<(Prefix, Machine)>,
+    prefix: Prefix,
+    machine: Machine,
+) -> Result<(), AllocError>
+    requires { is_sorted prefix_cmp machines.old.items ≡ true }
+    ensures ok { OnOk result (machines.new.items ≡ put prefix_cmp prefix machine machines.old.items) }
+    ensures err { OnErr result (machines.new.items ≡ machines.old.items) }
+{
+    match place_of(machines, prefix) {
+        Ok(place) => machines[place].1 = machine,
+        Err(place) => machines.insert(place, (prefix, machine))?,
+    }
+    Ok(())
+}
+
+impl Router {
+    /// A router with these ports, at most 32, that owns these prefixes and has published them.
+    pub fn new(alloc: Global, ports: Vec<Port>, own: &[Prefix]) -> Result<Router, NoMemory>
+        requires { length ports.items ≤ 32 }
+        ensures { IfOk result (λ r. r ≡ world.opening_router ports.items own.now) }
+    {
+        let infos = port_infos(alloc, &ports)?;
+        let mut machines = Vec::new(alloc);
+        let mut table = RouteTable::new(alloc);
+        for i in (0..own.len()).rev() {
+            let prefix = own[i];
+            let machine = Machine::new(alloc, true, &infos)?;
+            put_machine(&mut machines, prefix, machine)?;
+            table.set(prefix, Entry::Local)?;
+        }
+        table.mark_published();
+        Ok(Router {
+            ports,
+            machines,
+            effects: Effects {
+                table,
+                gate: Gate::new(alloc),
+                sends: Sends::new(alloc),
+            },
+            generation: 0,
+        })
+    }
+
+    /// How many ports the router has, at most 32.
+    pub fn port_count(&self) -> usize
+        ensures count { result ≡ length (self.now).ports }
+        ensures few { result ≤ 32 }
+    {
+        self.ports.len()
+    }
+
+    /// How often the router has published.
+    pub fn generation(&self) -> u64
+        ensures { result ≡ (self.now).generation }
+    {
+        self.generation
+    }
+
+    /// The rows that the router has chosen and published.
+    pub fn table(&self) -> &RouteTable
+        ensures { result.now.table ≡ (self.now).table }
+    {
+        &self.effects.table
+    }
+
+    /// How many messages the router holds.
+    pub fn held(&self) -> usize
+        ensures { result ≡ length (self.now).gate.held }
+    {
+        self.effects.gate.held()
+    }
+
+    /// How many of the held messages, at the front, are ripe, which is to say may leave.
+    pub fn ripe(&self) -> usize
+        ensures { result ≡ (self.now).gate.ripe }
+    {
+        self.effects.gate.ripe()
+    }
+
+    /// The message that `release` would give: the oldest, where it is ripe.
+    pub fn front(&self) -> Option<Held>
+        ensures { result ≡ step.ripe_front self.now }
+    {
+        self.effects.gate.front()
+    }
+
+    /// Whether a publication is due: a chosen row differs from the published ones, or a held message
+    /// is not ripe.
+    pub fn due(&self) -> bool
+        ensures { result ≡ step.is_due self.now }
+    {
+        self.effects.table.is_changed() || self.effects.gate.ripe() < self.effects.gate.held()
+    }
+
+    /// The rows that a publication would put in force, in the order of the prefixes.
+    pub fn patch_rows(&self, alloc: Global) -> Result<Vec<(Prefix, Entry)>, NoMemory>
+        ensures { IfOk result (λ rows. rows.items ≡ step.changed_rows (self.now).table) }
+    {
+        let rows = self.effects.table.changed().collect(alloc)?;
+        Ok(rows)
+    }
+
+    /// Publishes: the chosen rows are in force, and all that is held is ripe.
+    pub fn mark_published(&mut self)
+        requires { (self.old).generation + 1 < 2 ^ 64 }
+        ensures { self.new ≡ step.router_publishing self.old }
+    {
+        self.effects.table.mark_published();
+        self.effects.gate.ripen();
+        self.generation += 1;
+    }
+
+    /// Takes the oldest message, where it is ripe.
+    pub fn release(&mut self) -> Option<Held>
+        ensures released { result ≡ step.ripe_front self.old }
+        ensures some { OnSome result (self.new ≡ step.router_releasing self.old) }
+        ensures none { IfNone result (self.new ≡ self.old) }
+    {
+        self.effects.gate.release()
+    }
+
+    /// Whether no machine of the router has a computation under way.
+    pub fn is_passive(&self) -> bool
+        ensures { result ≡ list_all (λ m. is_none (m.1).computation) (self.now).machines }
+    {
+        are_passive(&self.machines)
+    }
+
+    /// The machine of the prefix, where the router has heard of it.
+    pub fn machine(&self, prefix: Prefix) -> Option<&Machine>
+        ensures { option_map (λ m. m.machine) (option_copied result) ≡ row_of prefix_cmp prefix (self.now).machines }
+    {
+        match place_of(&self.machines, prefix) {
+            Ok(place) => Some(&self.machines[place].1),
+            Err(_) => None,
+        }
+    }
+
+    /// Whether the router may take the item from this port: the port is known, and the item is the
+    /// notice that its link came up where the port is down, and any other where it is up.
+    pub fn can_take(&self, port: u8, item: &Item) -> bool
+        ensures { IsTrue result ↔ ((port < length (self.now).ports) × CanTake (self.now).ports port item.now) }
+    {
+        match self.ports.get(usize::from(port)) {
+            Some(found) => found.up != matches!(item, Item::Up { .. }),
+            None => false,
+        }
+    }
+
+    /// Takes an item from a port. A notice changes the port, and each machine meets it, in the order of
+    /// the prefixes; a message meets the machine of its prefix, which is opened over the ports where it
+    /// is the first to name that prefix. All growth is made first: refused, the router stays as it was.
+    pub fn accept(&mut self, port: u8, item: &Item) -> Result<(), NoMemory>
+        requires known { port < length (self.old).ports }
+        requires timely { CanTake (self.old).ports port item.now }
+        ensures ok { OnOk result (self.new ≡ step.router_accepting port item.now self.old) }
+        ensures err { OnErr result (self.new ≡ self.old) }
+    {
+        let was = self.ports[usize::from(port)];
+        match *item {
+            Item::Up { session, cost } => {
+                let event = Event::Up { port, cost };
+                let up = true;
+                self.take_notice(port, Port { up, session, cost }, &event)
+            }
+            Item::Down { session } => {
+                let event = Event::Down { port };
+                let up = false;
+                self.take_notice(port, Port { up, session, ..was }, &event)
+            }
+            Item::Cost { session, cost } => {
+                let event = Event::Cost { port, cost };
+                let up = was.up;
+                self.take_notice(port, Port { up, session, cost }, &event)
+            }
+            Item::Message(message) => self.take_message(port, &message),
+        }
+    }
+
+    // Each machine meets the event of a port that changes.
+    fn take_notice(&mut self, port: u8, changed: Port, event: &Event) -> Result<(), NoMemory>
+        requires known { port < length (self.old).ports }
+        requires at_port { port_of event.now ≡ port }
+        requires timely { IsTimelyAt (self.old).ports event.now }
+        requires moves { port_ups (slice_set (self.old).ports port changed) ≡ ups_after event.now (port_ups (self.old).ports) }
+        ensures ok { OnOk result (self.new ≡ step.router_noticing event.now (slice_set (self.old).ports port changed) self.old) }
+        ensures err { OnErr result (self.new ≡ self.old) }
+    {
+        // A machine sends at most one message more than it has ports.
+        let each = self.ports.len() + 1;
+        let all = self.machines.len().checked_mul(each).ok_or(NoMemory)?;
+        self.effects.reserve(each, all)?;
+        self.ports[usize::from(port)] = changed;
+        meet_all(
+            &mut self.machines,
+            event,
+            &self.ports,
+            &mut self.effects,
+            each,
+        );
+        Ok(())
+    }
+
+    // The machine of a message's prefix meets it.
+    fn take_message(&mut self, port: u8, message: &Message) -> Result<(), NoMemory>
+        requires known { port < length (self.old).ports }
+        requires up { is_port_up (self.old).ports port ≡ true }
+        ensures ok { OnOk result (self.new ≡ step.router_told port message.now self.old) }
+        ensures err { OnErr result (self.new ≡ self.old) }
+    {
+        let each = self.ports.len() + 1;
+        let event = Event::Message {
+            port,
+            kind: message.kind,
+            value: message.value,
+        };
+        match place_of(&self.machines, message.prefix) {
+            Ok(place) => {
+                self.effects.reserve(each, each)?;
+                let row = &mut self.machines[place];
+                self.effects
+                    .meet(&mut row.1, &event, message.prefix, &self.ports);
+            }
+            Err(place) => {
+                let mut machine = self.opened()?;
+                self.machines.reserve(1)?;
+                self.effects.table.reserve(1)?;
+                self.effects.reserve(each, each)?;
+                self.effects
+                    .meet(&mut machine, &event, message.prefix, &self.ports);
+                self.machines
+                    .insert(place, (message.prefix, machine))
+                    .unwrap();
+            }
+        }
+        Ok(())
+    }
+
+    // A machine over the router's ports that has heard nothing.
+    fn opened(&self) -> Result<Machine, NoMemory>
+        ensures { IfOk result (λ m. m.machine ≡ opening_machine false (world.neighbours (self.now).ports)) }
+    {
+        let alloc = *self.machines.allocator();
+        let infos = port_infos(alloc, &self.ports)?;
+        Machine::new(alloc, false, &infos)
+    }
+}
