@@ -1,12 +1,15 @@
 -- A link that is read at its number, changed, and written back there.
-use Rattle.std.proofs.Common.{◌≡◌, ℕ, zero, suc, ◌<◌, Bool, false, List, [], ◌∷◌, Option, Some, length, get_or, set, refl, sym, ap, subst, ◌∙◌}
+use Rattle.std.proofs.Common.{◌≡◌, ℕ, zero, suc, ◌<◌, Bool, false, List, [], ◌∷◌, Option, Some, None, Result, Ok, Err, length, get_or, set, refl, sym, ap, subst, ◌∙◌}
 use Rattle.std.specs.Prelude.{IfSome, slice_get, if◌then◌else◌}
+use Rattle.std.specs.Option.{ok_or}
 use Rattle.std.proofs.lemmas.Option.{slice_get_read}
 use Rattle.network_model.specs.declared.item.Item.{Item}
 use Rattle.network_model.specs.declared.item.Held.{Held}
 use Rattle.network_model.specs.declared.network.End.{End}
 use Rattle.network_model.specs.Machine.{changed_at}
-use Rattle.network_model.specs.World.{Link, other}
+use Rattle.network_model.specs.World.{Link, other, side}
+use Rattle.link_fifo.specs.declared.refusal.LinkRefusal.{LinkRefusal}
+use Rattle.link_fifo.specs.Refusals.{front_of}
 use Rattle.network_model.specs.Step.{with_message, with_item, changed_side, is_up_in}
 
 -- a change at a place writes the changed element there
@@ -35,3 +38,15 @@ changed_at-stale h from [] l over = refl
 changed_at-stale h from (k ∷ ks) zero over =
     ap (λ (b : Bool). (if b then changed_side (other from) (with_item (Item.Message h.message)) k else k) ∷ ks) (sym over)
 changed_at-stale h from (k ∷ ks) (suc l) over = ap (λ (js : List Link). k ∷ js) (changed_at-stale h from ks l over)
+
+-- the item that a link answers is the front one of its inbox
+pub front_of-Some : (to : End) (k : Link) (item : Item) → front_of to (Some k) ≡ Ok item → slice_get (side to k).inbox 0 ≡ Some item
+front_of-Some to k item answer = by_front (slice_get (side to k).inbox 0) answer
+  where
+    got : Result Item LinkRefusal → Option Item
+    got (Ok x) = Some x
+    got (Err e) = None
+
+    by_front : (o : Option Item) → ok_or o LinkRefusal.NothingToDeliver ≡ Ok item → o ≡ Some item
+    by_front None none = ap got none
+    by_front (Some x) some = ap got some

@@ -1,2 +1,2 @@
-mod Changes
+pub mod Changes
 mod Answers

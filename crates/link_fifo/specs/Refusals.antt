@@ -1,6 +1,6 @@
 -- Why a call on links is refused, and what else it answers.
 use Rattle.std.specs.Prelude.{◌≡◌, ℕ, false, not, nat_lt, List, [], ◌∷◌, Option, Some, None, Result, Ok, Err, MatchBool, MatchOption, MatchResult, IsOkUnless, slice_get, is_none}
-use Rattle.std.specs.Option.{option_map_or}
+use Rattle.std.specs.Option.{option_map_or, ok_or}
 use Rattle.network_model.specs.declared.item.Item.{Item}
 use Rattle.network_model.specs.declared.item.Message.{Message}
 use Rattle.network_model.specs.declared.item.Held.{Held}
@@ -43,11 +43,7 @@ IsDoneUnless cause r = MatchOption cause (IsOkUnless r NoMemory) (λ e. r ≡ Er
 -- the item that an end takes next, or why it takes none
 abbrev pub front_of : End → Option Link → Result Item LinkRefusal
 front_of to None = Err UnknownLink
-front_of to (Some k) = of_item (slice_get (side to k).inbox 0)
-  where
-    of_item : Option Item → Result Item LinkRefusal
-    of_item None = Err NothingToDeliver
-    of_item (Some item) = Ok item
+front_of to (Some k) = ok_or (slice_get (side to k).inbox 0) NothingToDeliver
 
 -- a message of this session. The port by which it left is of no matter to the link, and stands as 0
 abbrev pub sent_in : ℕ → Message → Held

@@ -6,8 +6,8 @@ use Rattle.metric.specs.Distance.{infinity}
 use Rattle.metric.specs.declared.kind.Kind.{Kind}
 use Rattle.metric.specs.declared.kind.Kind.TheVariants.{Update, Query, Reply}
 use Rattle.network_model.specs.declared.machine.Event.{Event}
-use Rattle.network_model.specs.declared.machine.Event.TheVariants.{Message, Cost}
-use Rattle.network_model.specs.Machine.{Machine, Reaction, reaction, opening_machine}
+use Rattle.network_model.specs.declared.machine.Event.TheVariants.{Message, Up, Down, Cost}
+use Rattle.network_model.specs.Machine.{Machine, Reaction, reaction, opening_machine, machine_after}
 
 -- what is seen of a machine after an event: its distances, its successor, whom it awaits, to whom it owes a reply, and what it sent
 record Line : Type 0 where
@@ -78,3 +78,39 @@ asked_again : lines fresh (Message 0 Update 0 ∷ Message 0 Query 5 ∷ Message 
     ∷ []
 unfolding lines line passive active fresh
 asked_again = refl
+
+-- a neighbour that reported the feasible distance itself may not be taken; and where the least distance is above that of a
+-- computation which is over, the feasible distance is that of the computation
+farther : lines fresh (Message 0 Update 0 ∷ Message 1 Update 1 ∷ Cost 0 10 ∷ Cost 0 20 ∷ Cost 1 5 ∷ Message 0 Reply 0 ∷ Message 1 Reply 8 ∷ [])
+    ≡ passive 1 1 0 ((Update, 1, 0) ∷ (Update, 1, 1) ∷ [])
+    ∷ passive 1 1 0 []
+    ∷ active 10 1 (true ∷ true ∷ []) None ((Query, 10, 0) ∷ (Query, 10, 1) ∷ [])
+    ∷ active 10 1 (true ∷ true ∷ []) None []
+    ∷ active 10 1 (true ∷ true ∷ []) None []
+    ∷ active 10 1 (false ∷ true ∷ []) None []
+    ∷ passive 13 10 1 ((Update, 13, 0) ∷ (Update, 13, 1) ∷ [])
+    ∷ []
+unfolding lines line passive active fresh
+farther = refl
+
+-- what a neighbour reported before its link was lost is forgotten where the link comes back
+reports : Machine → List ℕ
+reports m = map (λ n. n.reported) m.ports
+
+forgotten : reports (machine_after fresh (Message 0 Update 0 ∷ Message 1 Update 2 ∷ Down 1 ∷ Up 1 1 ∷ [])) ≡ 0 ∷ infinity ∷ []
+unfolding reports fresh
+forgotten = refl
+
+-- of two ways at the least distance the present successor is kept, though the other port is lower
+tied : lines fresh (Message 1 Update 0 ∷ Message 0 Update 0 ∷ [])
+    ≡ passive 1 1 1 ((Update, 1, 0) ∷ (Update, 1, 1) ∷ [])
+    ∷ passive 1 1 1 []
+    ∷ []
+unfolding lines line passive fresh
+tied = refl
+
+-- a neighbour that comes up is told a distance, and no want of one
+greeted : ((line (reaction (machine_after fresh (Message 0 Update 0 ∷ Down 1 ∷ [])) (Up 1 1))).sends ≡ (Update, 1, 1) ∷ [])
+    × ((line (reaction (machine_after fresh (Down 1 ∷ [])) (Up 1 1))).sends ≡ [])
+unfolding line fresh
+greeted = (refl, refl)

@@ -8,6 +8,7 @@ use Rattle.ipv4_prefix.specs.Prefix.{Prefix, prefix_cmp}
 use Rattle.network_model.specs.declared.item.Item.{Item}
 use Rattle.network_model.specs.declared.route.Entry.{Entry}
 use Rattle.network_model.specs.declared.route.Entry.TheVariants.{Local, Via}
+use Rattle.network_model.specs.declared.network.End.TheVariants.{A, B}
 use Rattle.network_model.specs.declared.network.LinkSpec.{LinkSpec}
 use Rattle.network_model.specs.declared.network.NetworkFault.TheVariants.{BadRouters, BadLink, TooManyLinks, BadOwner}
 use Rattle.network_model.specs.declared.step.Step.{Step}
@@ -20,7 +21,7 @@ use Rattle.network_model.specs.Network.{network_fault}
 use Rattle.network_model.specs.Step.{entry_of, refusal, next}
 use Rattle.network_model.specs.Run.{History, history, run}
 use Rattle.network_model.specs.Turns.{settling_steps, is_settled}
-use Rattle.network_model.specs.Forwarding.{Trace, Ending, Delivered, DeadLink, Crossed, trace, row_for, hop, is_quiet}
+use Rattle.network_model.specs.Forwarding.{Trace, Ending, Delivered, DeadLink, Crossed, trace, row_for, hop, is_quiet, walk_cost}
 use Rattle.network_model.specs.View.{destination_view, machine_at, published_hop, published_fd, inbox_at, far_router, pipe}
 use Rattle.network_model.specs.Journal.{step_number, journal_sum, steps_in_sum}
 
@@ -175,6 +176,14 @@ two_flapped_seen : (refused_in two two_flapped ≡ None)
 unfolding two_flapped refused_in world_of played steps_of script_steps world_after two network link ten address
 two_flapped_seen = (refl, refl, refl, refl, refl)
 
+-- a message on its way is lost with its link, and the notices stay
+two_lost : List Command
+two_lost = Do (LinkUp 0) ∷ Do (Deliver 0 0) ∷ Do (Publish 0) ∷ Do (Release 0) ∷ Do (LinkDown 0) ∷ []
+
+two_lost_seen : (refused_in two two_lost ≡ None) × (map report_of_link (world_of two two_lost).links ≡ (false, 1, 5, 5, 1, 2) ∷ [])
+unfolding two_lost refused_in world_of played steps_of script_steps two network link ten
+two_lost_seen = (refl, refl)
+
 -- ---- a triangle
 
 -- routers a, b and c; the link of a and c costs x each way
@@ -216,6 +225,15 @@ lost_seen : (refused_in (triangle 5) lost_settled ≡ None)
     × (line (world_of (triangle 5) lost_settled) 2 ten ≡ Some (passive 5 2 (Via 1 1)))
 unfolding lost lost_noticed lost_published lost_told lost_turned lost_settled triangle_settled triangle refused_in world_of played steps_of script_steps world_after network link ten address line line_of passive active trace_is
 lost_seen = (refl, refl, refl, refl, refl, refl, refl, refl, refl, refl, refl)
+
+-- a publication makes all that is held ripe
+two_greeted : List Command
+two_greeted = Do (LinkUp 0) ∷ Do (LinkUp 2) ∷ Do (Deliver 0 0) ∷ Do (Deliver 0 1) ∷ Do (Publish 0) ∷ []
+
+two_greeted_seen : (refused_in (triangle 5) two_greeted ≡ None)
+    × (map report_of_router (world_of (triangle 5) two_greeted).routers ≡ (1, 2, 2) ∷ (0, 0, 0) ∷ (0, 0, 0) ∷ [])
+unfolding two_greeted triangle refused_in world_of played steps_of script_steps network link ten
+two_greeted_seen = (refl, refl)
 
 -- the cost from b to a rises, and rises again while b asks
 dearer : List Command
@@ -354,6 +372,23 @@ cut_off_seen : (refused_in two cut_off ≡ None)
     × (hop (world_of two two_settled) address 1 ≡ Some 0)
 unfolding cut_off two_settled refused_in world_of played steps_of script_steps world_after two network link ten address
 cut_off_seen = (refl, refl, refl, refl, refl, refl)
+
+-- ---- not quiet yet, and what walks cost
+
+-- a message is held, and no more; a row waits to be published, and no more
+cut_off_noticed : List Command
+cut_off_noticed = cut_off ++ Do (Deliver 0 0) ∷ []
+
+unquiet_seen : (is_quiet (world_of two first_seven) ≡ false)
+    × (is_quiet (world_of two cut_off_noticed) ≡ false)
+    × (is_quiet (world_of two (cut_off_noticed ++ Do (Publish 1) ∷ [])) ≡ true)
+unfolding first_seven cut_off_noticed cut_off two_settled world_of played steps_of script_steps world_after two network link ten
+unquiet_seen = (refl, refl, refl)
+
+-- the walk from b by way of c to a, each link at the cost from the router that sends
+uneven_walk : walk_cost (world_of uneven triangle_settled) (record { link = 1; end = A } ∷ record { link = 2; end = B } ∷ []) ≡ 5
+unfolding uneven triangle_settled world_of played steps_of script_steps world_after network link ten
+uneven_walk = refl
 
 -- ---- numbers of steps
 

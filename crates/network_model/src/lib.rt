@@ -15,5 +15,5 @@ pub use machine::{Event, Neighbour, Outgoing, PortInfo};
 pub use memory::NoMemory;
 pub use metric::{BadCost, Cost, Distance, Kind};
 pub use network::{End, LinkSpec, NetworkFault, Place, Port};
-pub use route::Entry;
+pub use route::{Answer, Entry};
 pub use step::{Refusal, Step};

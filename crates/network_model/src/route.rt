@@ -1,4 +1,6 @@
-//! Rows of a routing table.
+//! Rows of a routing table, and what they answer.
+
+use ipv4_prefix::Prefix;
 
 /// Where packets that a prefix matches go.
 #[derive(Clone, Copy, Debug, PartialEq, Eq)]
@@ -9,4 +11,13 @@ pub enum Entry {
     Via { port: u8, session: u16 },
     /// Nowhere: the prefix was heard of, and no way to it is known.
     Unreachable,
+}
+
+/// What a router's image in force answers for an address.
+#[derive(Clone, Copy, Debug, PartialEq, Eq)]
+pub struct Answer {
+    /// Which publication of its router the image is, from 0.
+    pub generation: u64,
+    /// The row with the longest prefix that covers the address; none where no row covers it.
+    pub matched: Option<(Prefix, Entry)>,
 }

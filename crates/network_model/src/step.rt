@@ -52,6 +52,9 @@ pub enum Refusal {
     /// The router holds nothing, or its front message may not leave yet.
     #[error("18 NothingRipe")]
     NothingRipe,
+    /// The journal has 1,000,000 steps.
+    #[error("19 JournalFull")]
+    JournalFull,
     /// A growth was refused.
     #[error("20 NoMemory")]
     NoMemory,

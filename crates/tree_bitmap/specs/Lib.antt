@@ -1,1 +1,1 @@
-pub mod Image
+pub mod Match

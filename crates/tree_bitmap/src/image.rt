@@ -1,8 +1,9 @@
 //! The rows of one publication, in the form in which a router forwards by them.
 
 ghost use Rattle.std.specs.Prelude.{◌≡◌, Some};
-ghost use Rattle.ipv4_prefix.specs.LongestMatch.{longest_match, HasDistinctPrefixes};
-ghost use Rattle.tree_bitmap.specs.Image.{longer_match};
+ghost use Rattle.ipv4_prefix.specs.LongestMatch.{HasDistinctPrefixes};
+ghost use Rattle.network_model.specs.Publication.{image_answer};
+ghost use Rattle.tree_bitmap.specs.Match.{longer_match};
 
 use network_model::{Entry, Prefix};
 use std::marker::Model;
@@ -16,7 +17,7 @@ pub struct Image {
 
 impl Model for Image {
     ghost use Rattle.ipv4_prefix.specs.LongestMatch.{HasDistinctPrefixes};
-    ghost use Rattle.tree_bitmap.specs.Image.{Image as ImageRows};
+    ghost use Rattle.network_model.specs.Publication.{Image as ImageRows};
 
     ghost Value = { ImageRows };
 
@@ -44,7 +45,7 @@ impl Image {
     /// Of the rows whose prefix covers the address, the one with the longest prefix; None where no
     /// row covers it (RFC 1812, section 5.2.4.3). It needs no memory.
     pub fn lookup(&self, addr: u32) -> Option<(Prefix, Entry)>
-        ensures { result ≡ longest_match addr (self.now).rows }
+        ensures { result ≡ image_answer self.now addr }
     {
         let mut best = None;
         for &row in &self.rows {

@@ -1,6 +1,6 @@
 use Rattle.std.proofs.Common.{◌≡◌, drop}
 use Rattle.ipv4_prefix.specs.LongestMatch.{longest_match}
-use Rattle.tree_bitmap.specs.Image.{longer_match}
+use Rattle.tree_bitmap.specs.Match.{longer_match}
 use Rattle.tree_bitmap.proofs.image.Image.lookup.Given as goal
 
 -- the best row so far, with the match among the rows that are left, gives the match among all

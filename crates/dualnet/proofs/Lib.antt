@@ -1,0 +1,4 @@
+mod Whole
+mod Printed
+mod Doing
+mod Stops

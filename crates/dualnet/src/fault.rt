@@ -1,0 +1,133 @@
+//! Why the program stops, and the status that it ends with.
+
+ghost use Rattle.std.specs.Prelude.{◌≡◌};
+ghost use Rattle.dualnet.specs.declared.fault.Cause.TheVariants.{Text as OfText, Refused as OfRefusal};
+ghost use Rattle.script.specs.declared.fault.Fault.TheVariants.{NoMemory as OutOfMemory};
+ghost use Rattle.dualnet.specs.Faults.{status_of, unplaced, document_fault, line_fault, opening_fault};
+
+use network_model::{NetworkFault, NoMemory, Refusal};
+use script::{Key, Located, Place};
+use std::fmt;
+use thiserror::Error;
+
+/// What is wrong. Its text is its number and name.
+#[derive(Clone, Copy, Debug, PartialEq, Eq, Drop, Error)]
+pub enum Cause {
+    /// The file could not be opened or read.
+    #[error("47 Unreadable")]
+    Unreadable,
+    /// The text is no scenario.
+    #[error(transparent)]
+    Text(script::Fault),
+    /// The network cannot be opened.
+    #[error(transparent)]
+    Network(NetworkFault),
+    /// The network refused a command.
+    #[error(transparent)]
+    Refused(Refusal),
+}
+
+/// What is wrong, and where: it is displayed as `25 BadLink at links 0`, or without a place as
+/// `24 BadRouters`.
+#[derive(Clone, Copy, Debug, PartialEq, Eq)]
+pub struct Fault {
+    pub cause: Cause,
+    pub place: Option<Place>,
+}
+
+impl Fault {
+    /// The exit status of the program.
+    pub fn status(&self) -> u8
+        ensures { result ≡ status_of (self.now).cause }
+    {
+        match self.cause {
+            Cause::Unreadable => 1,
+            Cause::Text(fault) => fault.status(),
+            Cause::Network(NetworkFault::NoMemory) | Cause::Refused(_) => 2,
+            Cause::Network(_) => 1,
+        }
+    }
+}
+
+impl From<Cause> for Fault {
+    ghost from_gives = { λ cause e. e ≡ unplaced cause };
+
+    fn from(cause: Cause) -> Fault {
+        Fault { cause, place: None }
+    }
+}
+
+impl From<NoMemory> for Fault {
+    ghost from_gives = { λ _ e. e ≡ unplaced (OfText OutOfMemory) };
+
+    fn from(_error: NoMemory) -> Fault {
+        Fault::from(Cause::Text(script::Fault::NoMemory))
+    }
+}
+
+impl From<scenario::Fault> for Fault {
+    ghost from_gives = { λ fault e. e ≡ document_fault fault };
+
+    fn from(fault: scenario::Fault) -> Fault {
+        Fault::from(Cause::Text(match fault {
+            scenario::Fault::BadToml => script::Fault::BadToml,
+            scenario::Fault::BadKey => script::Fault::BadKey,
+            scenario::Fault::NoMemory => script::Fault::NoMemory,
+        }))
+    }
+}
+
+impl From<Located> for Fault {
+    ghost from_gives = { λ at e. e ≡ line_fault at };
+
+    fn from(at: Located) -> Fault {
+        Fault {
+            cause: Cause::Text(at.fault),
+            place: at.place,
+        }
+    }
+}
+
+impl From<NetworkFault> for Fault {
+    ghost from_gives = { λ fault e. e ≡ opening_fault fault };
+
+    fn from(fault: NetworkFault) -> Fault {
+        let place = match fault {
+            NetworkFault::BadLink { link } | NetworkFault::TooManyLinks { link } => {
+                let key = Key::Links;
+                Some(Place {
+                    key,
+                    position: link,
+                })
+            }
+            NetworkFault::BadOwner { prefix } => {
+                let key = Key::Prefixes;
+                Some(Place {
+                    key,
+                    position: prefix,
+                })
+            }
+            NetworkFault::BadRouters | NetworkFault::NoMemory => None,
+        };
+        let cause = Cause::Network(fault);
+        Fault { cause, place }
+    }
+}
+
+impl From<Refusal> for Fault {
+    ghost from_gives = { λ refusal e. e ≡ unplaced (OfRefusal refusal) };
+
+    fn from(refusal: Refusal) -> Fault {
+        Fault::from(Cause::Refused(refusal))
+    }
+}
+
+impl fmt::Display for Fault {
+    fn fmt<W: fmt::Write>(&self, f: &mut fmt::Formatter<W>) -> fmt::Result {
+        let cause = self.cause;
+        match self.place {
+            Some(place) => write!(f, "{cause} at {place}"),
+            None => write!(f, "{cause}"),
+        }
+    }
+}

@@ -1,0 +1,116 @@
+-- What a step leaves of what every fabric keeps.
+use Rattle.std.specs.Prelude.{◌≡◌, ℕ, zero, suc, ◌+◌, ◌<◌, ◌≤◌, cond, List, [], ◌∷◌, ◌++◌, map, length, set, Some, None, slice_get, option_and_then}
+use Rattle.std.proofs.Common.{refl, sym, ap, subst, ◌∙◌, arith, length-append}
+use Rattle.network_model.specs.declared.item.Item.{Item}
+use Rattle.network_model.specs.declared.network.End.{End}
+use Rattle.network_model.specs.declared.step.Step.{Step}
+use Rattle.network_model.specs.declared.step.Step.TheVariants.{LinkUp, LinkDown, SetCost, Deliver, Publish, Release}
+use Rattle.network_model.specs.Machine.{changed_at}
+use Rattle.network_model.specs.World.{Link, Router, World, place_at, opening}
+use Rattle.network_model.specs.Step.{Lawful, next, is_due, changed_router, changed_link, with_cost, with_front_taken, with_message, with_delivered, with_released, front_at, release_at, router_accepting, router_publishing, router_releasing}
+use Rattle.network_model.specs.Run.{Runs}
+use Rattle.network_model.specs.Journal.{most_steps}
+use Rattle.network_model.specs.Publication.{Image}
+use Rattle.network_model.proofs.ListLaws.{map-changed_at, option_map_or-ind, None_not_Some, Some_injective}
+use Rattle.world.specs.Steps.{HasRoomForSteps}
+use Rattle.world.proofs.Runs.{one_more, run-room, opening-room}
+use Rattle.fabric.specs.Images.{image_in_force, due_at}
+use Rattle.fabric.specs.Fabric.{Fabric, after_step, IsKept}
+
+-- the journal is too short for a generation to pass 64 bits
+pub room_left : (f : Fabric) (images : List Image) (capacity : ℕ) → IsKept f images capacity → HasRoomForSteps 1 f.world
+room_left f images capacity kept = run-room f.journal 1 (opening f.network) f.world kept.runs (opening-room (length f.journal + 1) f.network (omega (arith, kept.short)))
+
+-- ---- the images in force
+
+-- the images at the routers of a world
+abbrev images_of : World → List Image
+images_of w = map image_in_force w.routers
+
+images-changed_link : (i q : ℕ) (f : End → Link → Link) (w : World) → images_of (changed_link i q f w) ≡ images_of w
+images-changed_link i q f w = option_map_or-ind (λ v. images_of v ≡ images_of w) (λ p. record w { links = changed_at p.link (f p.end) w.links }) (place_at w i q) w refl (λ p _. refl)
+
+images-changed_router : (i : ℕ) (f : Router → Router) (w : World) → ((r : Router) → image_in_force (f r) ≡ image_in_force r) → images_of (changed_router i f w) ≡ images_of w
+images-changed_router i f w same = map-changed_at f image_in_force i w.routers (λ r _. same r)
+
+image-accepting : (q : ℕ) (item : Item) (r : Router) → image_in_force (router_accepting q item r) ≡ image_in_force r
+image-accepting q (Item.Up session cost) r = refl
+image-accepting q (Item.Down session) r = refl
+image-accepting q (Item.Cost session cost) r = refl
+image-accepting q (Item.Message m) r = refl
+
+-- only a publication puts another image in force
+pub images-next : (w : World) (s : Step) → ((i : ℕ) → s ≡ Publish i → ⊥) → map image_in_force (next w s).routers ≡ map image_in_force w.routers
+images-next w s other = by_step s other
+  where
+    by_step : (s : Step) → ((i : ℕ) → s ≡ Publish i → ⊥) → images_of (next w s) ≡ images_of w
+    by_step (LinkUp l) _ = refl
+    by_step (LinkDown l) _ = refl
+    by_step (SetCost i q cost) _ = images-changed_link i q (with_cost cost) w
+    by_step (Deliver i q) _ = option_map_or-ind (λ v. images_of v ≡ images_of w) (with_delivered i q w) (front_at w i q) w refl
+        (λ item _. images-changed_router i (router_accepting q item) (changed_link i q with_front_taken w) (image-accepting q item) ∙ images-changed_link i q with_front_taken w)
+    by_step (Publish i) other = absurd (other i refl)
+    by_step (Release i) _ = option_map_or-ind (λ v. images_of v ≡ images_of w) (with_released i w) (release_at w i) w refl
+        (λ h _. images-changed_router i router_releasing (changed_link i h.port (with_message h) w) (λ _. refl) ∙ images-changed_link i h.port (with_message h) w)
+
+-- it puts its router's in force
+images-published : (i : ℕ) (rs : List Router) (r : Router) → slice_get rs i ≡ Some r → set (map image_in_force rs) i (image_in_force (router_publishing r)) ≡ map image_in_force (changed_at i router_publishing rs)
+images-published i [] r none = absurd (None_not_Some none)
+images-published zero (x ∷ xs) r here = ap (λ y. image_in_force (router_publishing y) ∷ map image_in_force xs) (sym (Some_injective here))
+images-published (suc i) (x ∷ xs) r there = ap (λ ys. image_in_force x ∷ ys) (images-published i xs r there)
+
+-- the image that is due at a router that publishes
+pub due_of : (w : World) (i : ℕ) → Lawful w (Publish i) → (r : Router) × (slice_get w.routers i ≡ Some r) × (due_at w i ≡ Some (image_in_force (router_publishing r)))
+due_of w i lawful =
+    let r : Router = lawful.0 in (
+      r,
+      lawful.1,
+      ap (option_and_then (λ x. cond (is_due x) (Some (image_in_force (router_publishing x))) None)) lawful.1
+          ∙ ap (λ b. cond b (Some (image_in_force (router_publishing r))) None) lawful.2,
+    )
+
+-- a router that publishes has an image
+pub image_at : (f : Fabric) (images : List Image) (capacity : ℕ) → IsKept f images capacity → (i : ℕ) → Lawful f.world (Publish i) → i < length images
+image_at f images capacity kept i lawful = subst (λ xs. i < length xs) (sym kept.in_force) (within f.world.routers i lawful.1)
+  where
+    within : (rs : List Router) (i : ℕ) {r : Router} → slice_get rs i ≡ Some r → i < length (map image_in_force rs)
+    within [] i is = absurd (None_not_Some is)
+    within (x ∷ xs) zero is = omega arith
+    within (x ∷ xs) (suc i) is = (let rest : i < length (map image_in_force xs) = within xs i is in omega (arith, rest))
+
+-- ---- one step more
+
+-- a step, with the images that are then in force
+kept_with : (f : Fabric) (s : Step) (images : List Image) (capacity : ℕ) → Runs (opening f.network) f.journal f.world → Lawful f.world s → length f.journal < most_steps → most_steps ≤ capacity
+    → images ≡ map image_in_force (next f.world s).routers → IsKept (after_step f s) images capacity
+kept_with f s images capacity runs lawful short room in_force = record {
+  runs = one_more (opening f.network) f.journal f.world s runs lawful;
+  short = (let longer : length (f.journal ++ s ∷ []) ≡ length f.journal + 1 = length-append f.journal (s ∷ []) in omega (arith, longer, short));
+  room = room;
+  in_force = in_force;
+}
+
+pub kept_by_other : (f : Fabric) (s : Step) (images : List Image) (capacity : ℕ) → IsKept f images capacity → Lawful f.world s → length f.journal < most_steps
+    → ((i : ℕ) → s ≡ Publish i → ⊥) → IsKept (after_step f s) images capacity
+kept_by_other f s images capacity kept lawful short other =
+    kept_with f s images capacity kept.runs lawful short kept.room (kept.in_force ∙ sym (images-next f.world s other))
+
+pub kept_by_publication : (f : Fabric) (i : ℕ) (images : List Image) (capacity : ℕ) (image : Image) → IsKept f images capacity → Lawful f.world (Publish i) → length f.journal < most_steps
+    → due_at f.world i ≡ Some image → IsKept (after_step f (Publish i)) (set images i image) capacity
+kept_by_publication f i images capacity image kept lawful short due =
+    kept_with f (Publish i) (set images i image) capacity kept.runs lawful short kept.room (by_router (due_of f.world i lawful))
+  where
+    by_router : (r : Router) × (slice_get f.world.routers i ≡ Some r) × (due_at f.world i ≡ Some (image_in_force (router_publishing r))) → set images i image ≡ map image_in_force (next f.world (Publish i)).routers
+    by_router r =
+        ap (λ xs. set xs i image) kept.in_force
+        ∙ ap (λ y. set (map image_in_force f.world.routers) i y) (Some_injective (sym due ∙ r.2))
+        ∙ images-published i f.world.routers r.0 r.1
+
+-- the same of what is the same, with at least as much room
+pub kept_as : {f g : Fabric} {images others : List Image} {capacity more : ℕ} → IsKept f images capacity → f ≡ g → images ≡ others → capacity ≤ more → IsKept g others more
+kept_as {f = f} {g = g} {images = images} {others = others} {capacity = capacity} {more = more} kept same alike room = record {
+  runs = subst (λ (x : Fabric). Runs (opening x.network) x.journal x.world) same kept.runs;
+  short = subst (λ (x : Fabric). length x.journal ≤ most_steps) same kept.short;
+  room = (let enough : most_steps ≤ capacity = kept.room in omega (arith, enough, room));
+  in_force = sym alike ∙ kept.in_force ∙ ap (λ (x : Fabric). map image_in_force x.world.routers) same;
+}

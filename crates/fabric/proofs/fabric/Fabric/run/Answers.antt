@@ -1,0 +1,23 @@
+use Rattle.std.proofs.Common.{◌≡◌, ◌+◌, ◌++◌, [], ◌∷◌, take, sym, ap, subst, ◌∙◌, arith, add-one}
+use Rattle.std.proofs.Math.Seq.{take-suc}
+use Rattle.std.proofs.lemmas.List.{append_assoc}
+use Rattle.network_model.specs.declared.step.Step.{Step}
+use Rattle.network_model.specs.Step.{Lawful}
+use Rattle.network_model.specs.Run.{Runs}
+use Rattle.fabric.specs.Fabric.{Fabric, after_step}
+use Rattle.world.proofs.Runs.{one_more}
+use Rattle.fabric.proofs.fabric.Fabric.run.Goals as goal
+
+pub loop-done-preserved : goal.loop-done-preserved
+loop-done-preserved c =
+    let s : Step = c.index-steps-done.result in
+    let done : Lawful c.loop-done.self.world s × (c.step.new.self ≡ after_step c.loop-done.self s) = c.in_default.ensures.ok in
+    let steps : take (c.loop-done.done + 1) c.args.steps.now ≡ take c.loop-done.done c.args.steps.now ++ s ∷ []
+    = ap (λ n. take n c.args.steps.now) (add-one c.loop-done.done) ∙ take-suc c.args.steps.now c.loop-done.done s (omega arith) ∙ ap (λ x. take c.loop-done.done c.args.steps.now ++ x ∷ []) (sym c.index-steps-done.is) in
+    record {
+      runs = subst (λ ss. Runs c.args.self.now.world ss c.step.new.self.world) (sym steps)
+          (subst (Runs c.args.self.now.world (take c.loop-done.done c.args.steps.now ++ s ∷ [])) (sym (ap (λ (f : Fabric). f.world) done.1))
+          (one_more c.args.self.now.world (take c.loop-done.done c.args.steps.now) c.loop-done.self.world s c.loop-done.invariant.runs done.0));
+      journal = ap (λ (f : Fabric). f.journal) done.1 ∙ ap (λ ss. ss ++ s ∷ []) c.loop-done.invariant.journal ∙ append_assoc c.args.self.now.journal (take c.loop-done.done c.args.steps.now) (s ∷ []) ∙ ap (λ ss. c.args.self.now.journal ++ ss) (sym steps);
+      network = ap (λ (f : Fabric). f.network) done.1 ∙ c.loop-done.invariant.network;
+    }

@@ -1,0 +1,22 @@
+-- The images in force, and what they answer.
+use Rattle.std.specs.Prelude.{ℕ, if◌then◌else◌, Option, Some, None, option_map, option_and_then, slice_get}
+use Rattle.network_model.specs.declared.route.Answer.{Answer}
+use Rattle.network_model.specs.World.{Router, World}
+use Rattle.network_model.specs.Step.{is_due, router_publishing}
+use Rattle.network_model.specs.Publication.{Image, image_answer}
+
+-- the image in force at a router: the rows that it published, and which publication that was
+abbrev pub image_in_force : Router → Image
+image_in_force r = record { generation = r.generation; rows = (r.table).published }
+
+-- what an image answers for an address
+abbrev pub answer_of : ℕ → Image → Answer
+answer_of addr image = record { generation = image.generation; matched = image_answer image addr }
+
+-- what the image in force at a router answers for an address; nothing where there is no such router
+abbrev pub answer_at : World → ℕ → ℕ → Option Answer
+answer_at w i addr = option_map (λ r. answer_of addr (image_in_force r)) (slice_get w.routers i)
+
+-- the image that a publication of router i would put in force; nothing where it would be refused
+abbrev pub due_at : World → ℕ → Option Image
+due_at w i = option_and_then (λ r. if is_due r then Some (image_in_force (router_publishing r)) else None) (slice_get w.routers i)

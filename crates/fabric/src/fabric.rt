@@ -1,0 +1,166 @@
+//! The fabric: a world, the images in force, and the journal.
+
+ghost use Rattle.std.specs.Prelude.{◌≡◌, ◌≤◌, ◌++◌, ◌<◌, ◌↔◌, [], ◌∷◌, take, length, slice_get, IfOk, IfErr, IfSome, IsOk, OnOk, OnErr, MatchOption};
+ghost use Rattle.std.specs.Option.{ok_or};
+ghost use Rattle.network_model.specs.World as model;
+ghost use Rattle.network_model.specs.Step as steps;
+ghost use Rattle.network_model.specs.Run.{Runs};
+ghost use Rattle.network_model.specs.Journal.{most_steps};
+ghost use Rattle.world.specs.Steps.{IsDoneOr, StopsAt};
+ghost use Rattle.fabric.specs.Fabric.{opening_fabric, after_step, fabric_refusal};
+ghost use Rattle.fabric.specs.Images.{answer_at};
+
+use crate::images::{image_due, opening_images};
+use network_model::{Answer, Refusal, Step};
+use route_table::RouteTable;
+use std::alloc::Global;
+use std::marker::Model;
+use tree_bitmap::Image;
+use world::{Network, Ran, World};
+
+/// The greatest number of steps in a journal.
+pub const MOST_STEPS: usize = 1_000_000;
+
+/// A network that runs, with the image in force at each router, and the journal: all steps done since
+/// it was opened, in order.
+#[derive(Drop)]
+pub struct Fabric {
+    network: Network,
+    world: World,
+    images: Vec<Image>,
+    // Its room was made at the opening.
+    journal: Vec<Step>,
+}
+
+impl Model for Fabric {
+    ghost use Rattle.std.specs.Prelude.{vec_capacity};
+    ghost use Rattle.fabric.specs.Fabric.{Fabric as FabricState, fabric_of, IsKept};
+
+    ghost Value = { FabricState };
+
+    ghost view = { λ f. fabric_of f.network f.journal.items f.world };
+
+    ghost invariant = { λ f. IsKept (fabric_of f.network f.journal.items f.world) f.images.items (vec_capacity f.journal) };
+}
+
+impl Fabric {
+    /// Opens a network: every link is down, each prefix is known at its owner alone, whose image in
+    /// force has it, and the journal is empty. It makes the room for a full journal.
+    pub fn open(alloc: Global, network: Network) -> Result<Fabric, Refusal>
+        ensures ok { IfOk result (λ f. f ≡ opening_fabric network) }
+        ensures err { IfErr result (λ e. e ≡ Refusal.NoMemory) }
+    {
+        let world = World::open(alloc, &network)?;
+        let images = opening_images(alloc, &world)?;
+        let journal = Vec::with_capacity(alloc, MOST_STEPS)?;
+        Ok(Fabric {
+            network,
+            world,
+            images,
+            journal,
+        })
+    }
+
+    /// The network that was opened.
+    pub fn network(&self) -> &Network
+        ensures { result.now ≡ (self.now).network }
+    {
+        &self.network
+    }
+
+    /// The steps done, in order: done one after another from the opening of the network, each of them
+    /// lawful, they make the present world.
+    pub fn journal(&self) -> &[Step]
+        ensures journal { result.now ≡ (self.now).journal }
+        ensures few { length result.now ≤ most_steps }
+        ensures runs { Runs (model.opening (self.now).network) result.now (self.now).world }
+    {
+        &self.journal
+    }
+
+    /// The world that the steps made.
+    pub fn world(&self) -> &World
+        ensures { result.now ≡ (self.now).world }
+    {
+        &self.world
+    }
+
+    /// What the image in force at a router answers for an address: its generation, and the row with
+    /// the longest prefix that covers the address, of the rows that the router published. Refused with
+    /// `UnknownRouter`.
+    pub fn lookup(&self, router: u16, addr: u32) -> Result<Answer, Refusal>
+        ensures { result ≡ ok_or (answer_at (self.now).world router addr) Refusal.UnknownRouter }
+    {
+        let image = self
+            .images
+            .get(usize::from(router))
+            .ok_or(Refusal::UnknownRouter)?;
+        Ok(Answer {
+            generation: image.generation(),
+            matched: image.lookup(addr),
+        })
+    }
+
+    /// The rows that a router has chosen and published. Refused with `UnknownRouter`.
+    pub fn table(&self, router: u16) -> Result<&RouteTable, Refusal>
+        ensures ok { IfOk result (λ t. IfSome (slice_get (self.now).world.routers router) (λ r. t.now.table ≡ r.table)) }
+        ensures known { IsOk result ↔ (router < length (self.now).world.routers) }
+        ensures err { IfErr result (λ e. e ≡ Refusal.UnknownRouter) }
+    {
+        let found = self
+            .world
+            .routers()
+            .get(usize::from(router))
+            .ok_or(Refusal::UnknownRouter)?;
+        Ok(found.table())
+    }
+
+    /// Does one step, and writes it into the journal. Refused, it leaves all as it was: with
+    /// `JournalFull` where the journal is full, then as the world refuses it; want of memory comes
+    /// last.
+    pub fn step(&mut self, step: Step) -> Result<(), Refusal>
+        ensures ok { OnOk result (steps.Lawful (self.old).world step × (self.new ≡ after_step self.old step)) }
+        ensures err { OnErr result (self.new ≡ self.old) }
+        ensures cause { IsDoneOr (fabric_refusal self.old step) result }
+    {
+        if self.journal.len() >= MOST_STEPS {
+            return Err(Refusal::JournalFull);
+        }
+        let done = step;
+        match step {
+            Step::Publish { router } => {
+                let alloc = *self.images.allocator();
+                let image = image_due(alloc, &self.world, router)?;
+                self.world.step(step)?;
+                if let Some(image) = image {
+                    self.images[usize::from(router)] = image;
+                }
+            }
+            _ => self.world.step(step)?,
+        }
+        self.journal.push(done).unwrap();
+        Ok(())
+    }
+
+    /// Does the steps in order, up to the first that is refused.
+    pub fn run(&mut self, steps: &[Step]) -> Ran
+        ensures done { result.done ≤ length steps.now }
+        ensures runs { Runs (self.old).world (take result.done steps.now) (self.new).world }
+        ensures journal { (self.new).journal ≡ (self.old).journal ++ take result.done steps.now }
+        ensures network { (self.new).network ≡ (self.old).network }
+        ensures stop { MatchOption result.refusal (result.done ≡ length steps.now) (StopsAt (fabric_refusal self.new) steps.now result.done) }
+    {
+        for (done, &step) in steps.iter().enumerate() {
+            if let Err(refusal) = self.step(step) {
+                return Ran {
+                    done,
+                    refusal: Some(refusal),
+                };
+            }
+        }
+        Ran {
+            done: steps.len(),
+            refusal: None,
+        }
+    }
+}

@@ -1,0 +1,12 @@
+//! A network that runs, with each router's image in force and the journal of all steps done.
+#![tactic(auto)]
+
+mod fabric;
+mod images;
+
+pub use fabric::{Fabric, MOST_STEPS};
+pub use network_model::{Answer, Entry, Prefix, Refusal, Step};
+pub use world::{Network, Ran, World};
+
+#[cfg(test)]
+mod tests;

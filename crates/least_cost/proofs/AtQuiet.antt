@@ -1,0 +1,298 @@
+-- The law at rest: in a quiet network each router's successors lead along a cheapest way to an owner.
+use Rattle.std.proofs.Common.{◌≡◌, ◌⊎◌, ℕ, zero, suc, ◌+◌, ◌*◌, ◌<◌, ◌≤◌, Bool, true, false, List, [], ◌∷◌, Option, Some, None, length, refl, ap, sym, inl, inr, arith, ◌∙◌, eq-eqb, lt-ltb}
+use Rattle.std.specs.Prelude.{slice_get, nat_lt, if◌then◌else◌}
+use Rattle.std.proofs.lemmas.Bool.{both_ways, cases_lt, false≢true}
+use Rattle.network_model.specs.declared.machine.Neighbour.{Neighbour}
+use Rattle.network_model.specs.Machine.{Machine, distance}
+use Rattle.metric.specs.Distance.{infinity, plus}
+use Rattle.machine_laws.specs.Laws.{is_up_at, reported_at}
+use Rattle.loop_freedom.specs.Network.{LinkEnd, Topology, State, IsWalk, NextHop, next_hop_of, at_port}
+use Rattle.least_cost.specs.Quiet.{LeadsHome, Follows, IsQuiet, IsRouted, IsCutOff, IsOptimal, OptimalAtQuiet, end_of, walk_cost}
+use Rattle.machine_laws.proofs.Distances.{distance_cases, least_below}
+use Rattle.least_cost.proofs.Replay.{replay, cost_of}
+use Rattle.least_cost.proofs.Told.{last_held}
+use Rattle.least_cost.proofs.Kept.{pending, port_at, line, held, Kept}
+use Rattle.least_cost.proofs.Runs.{kept_run}
+use Rattle.least_cost.proofs.Below.{count_below, below_at_most, below_gains}
+
+-- the distance plus a cost is at most their sum
+plus_under : (a c : ℕ) → plus a c ≤ a + c
+plus_under a c = go (nat_lt (a + c) infinity) refl
+  where
+    go : (b : Bool) → nat_lt (a + c) infinity ≡ b → (if b then a + c else infinity) ≤ a + c
+    go true h = omega arith
+    go false h = not_below (cases_lt (a + c) infinity)
+      where
+        not_below : (a + c < infinity) ⊎ (infinity ≤ a + c) → infinity ≤ a + c
+        not_below (inl l) = absurd (both_ways (nat_lt (a + c) infinity) h (lt-ltb (a + c) infinity l))
+        not_below (inr l) = l
+
+-- a walk along edges is one along any edges that they are
+walk_map : (t : Topology) (f g : LinkEnd → Type 0) → ((e : LinkEnd) → f e → g e) → (i : ℕ) (es : List LinkEnd) → IsWalk t f i es → IsWalk t g i es
+walk_map t f g h i [] w = tt
+walk_map t f g h i (e ∷ es) w = (w.0, w.1, h e w.2, walk_map t f g h (t.far e).router es w.3)
+
+-- the neighbour at a port that is up
+record UpPort (m : Machine) (p : ℕ) : Type 0 where
+  neighbour : Neighbour
+  at : slice_get m.ports p ≡ Some neighbour
+  is_up : neighbour.up ≡ true
+  reported : neighbour.reported ≡ reported_at m p
+  costs : neighbour.cost ≡ cost_of (slice_get m.ports p)
+
+-- there is a neighbour at each port that is up
+up_port : (m : Machine) (p : ℕ) → is_up_at m p ≡ true → UpPort m p
+up_port m p u = go (slice_get m.ports p) refl
+  where
+    go : (o : Option Neighbour) → slice_get m.ports p ≡ o → UpPort m p
+    go None h = absurd (false≢true (rw h at u))
+    go (Some n) h = record { neighbour = n; at = h; is_up = rw h at u; reported = rw h refl; costs = rw h refl }
+
+-- ---- a quiet network in a state that is kept: n routers, at most 256, and costs of 16 bits
+module _ (t : Topology) (n : ℕ) (s : State) (k : Kept t s) (q : IsQuiet t n s) (few : n ≤ 256) (placed : (e : LinkEnd) → t.valid e ≡ true → e.router < n) (cheap : (e : LinkEnd) → t.valid e ≡ true → s.cost e ≤ 65535) where
+  -- nothing waits, so each port is what it will be
+  pending_now : (e : LinkEnd) → t.valid e ≡ true → pending (line s e) ≡ port_at s e
+  pending_now e v = ap (λ x. replay x (port_at s e)) (q.inbox_empty e v)
+
+  -- each machine knows whether the link is up
+  up_now : (e : LinkEnd) → t.valid e ≡ true → is_up_at (s.machine e.router) e.port ≡ s.up e
+  up_now e v = sym (ap (λ p. p.up) (pending_now e v)) ∙ (k.lines e v).end_up
+
+  -- each router sees the present session
+  seen_now : (e : LinkEnd) → t.valid e ≡ true → s.seen e ≡ s.session e
+  seen_now e v = sym (ap (λ p. p.session) (pending_now e v)) ∙ (k.lines e v).end_session
+
+  -- each machine knows the cost of a link that is up
+  cost_now : (e : LinkEnd) → t.valid e ≡ true → s.up e ≡ true → cost_of (slice_get (s.machine e.router).ports e.port) ≡ s.cost e
+  cost_now e v u = sym (ap (λ p. p.cost) (pending_now e v)) ∙ (k.lines e v).end_cost u
+
+  -- the far end of a link that is up was told the distance
+  told_now : (e : LinkEnd) → t.valid e ≡ true → s.up e ≡ true → reported_at (s.machine (t.far e).router) (t.far e).port ≡ (s.machine e.router).rd
+  told_now e v u =
+      sym (ap (λ p. p.reported) (pending_now (t.far e) (t.far_valid e v)))
+      ∙ sym (ap (last_held (s.session e) (pending (line s (t.far e))).reported) nothing)
+      ∙ k.sight e v u
+      ∙ ap (λ b. if b then (s.machine e.router).rd else infinity) (eq-eqb (s.seen e) (s.session e) (seen_now e v))
+    where
+      nothing : held s e ≡ []
+      nothing = rw (q.ripe_empty e v, q.unripe_empty e v) refl
+
+  -- each machine knows the distance of the neighbour over a link that is up
+  reported_now : (e : LinkEnd) → t.valid e ≡ true → s.up e ≡ true → reported_at (s.machine e.router) e.port ≡ (s.machine (t.far e).router).rd
+  reported_now e v u =
+      sym (ap (λ x. reported_at (s.machine x.router) x.port) (t.far_far e v))
+      ∙ told_now (t.far e) (t.far_valid e v) (k.ends_up e v ∙ u)
+
+  -- the distance of router i
+  rd : ℕ → ℕ
+  rd i = (s.machine i).rd
+
+  -- no router is further away than by way of a neighbour
+  rd_under : (e : LinkEnd) → t.valid e ≡ true → s.up e ≡ true → rd e.router ≤ s.cost e + rd (t.far e).router
+  unfolding rd
+  rd_under e v u = go (s.machine e.router).local refl
+    where
+      port : UpPort (s.machine e.router) e.port
+      port = up_port (s.machine e.router) e.port (up_now e v ∙ u)
+
+      go : (b : Bool) → (s.machine e.router).local ≡ b → rd e.router ≤ s.cost e + rd (t.far e).router
+      go true h = omega (arith, (k.sound e.router).local_rd h)
+      go false h =
+          let by : distance port.neighbour ≡ plus port.neighbour.reported port.neighbour.cost = rw port.is_up refl in
+          omega (
+            arith,
+            (k.sound e.router).passive_least h (q.passive e.router (placed e v)),
+            least_below (s.machine e.router).ports e.port port.neighbour port.at,
+            by,
+            plus_under port.neighbour.reported port.neighbour.cost,
+            port.reported,
+            port.costs,
+            reported_now e v u,
+            cost_now e v u,
+          )
+
+  -- no walk to an owner costs less than the distance
+  walk_under : (i : ℕ) (es : List LinkEnd) → LeadsHome t s i es → rd i ≤ walk_cost s es
+  unfolding rd
+  walk_under i [] w = omega (arith, (k.sound i).local_rd w.home)
+  walk_under i (e ∷ es) w =
+      let rest = walk_under (t.far e).router es (record { live = w.live.3; home = w.home }) in
+      omega (arith, rd_under e w.live.1 w.live.2, rest, ap (λ j. (s.machine j).rd) w.live.0)
+
+  -- a link that router i follows, at whose other end its distance is less by the cost
+  record Hop (i : ℕ) : Type 0 where
+    place : LinkEnd
+    from : place.router ≡ i
+    there : t.valid place ≡ true
+    follows : Follows s place
+    adds : rd i ≡ s.cost place + rd (t.far place).router
+
+  -- a router that is not the owner, and not out of reach, hops to its successor
+  hop_by : (i p : ℕ) → i < n → (s.machine i).local ≡ false → rd i < infinity → (s.machine i).successor ≡ Some p → Hop i
+  unfolding rd
+  hop_by i p l far b h = record {
+    place = at_port i p;
+    from = refl;
+    there = v;
+    follows = record {
+      sends = record { linked = up; chosen = q.published_is i l ∙ ap (next_hop_of (λ x. s.seen (at_port i x))) h ∙ ap (λ x. Some (let o : NextHop = record { port = p; session = x } in o)) (seen_now (at_port i p) v) };
+      chooses = record { linked = up; port_up = on; present = seen_now (at_port i p) v; chosen = h };
+    };
+    adds = go (distance_cases port.neighbour);
+  }
+    where
+      on : is_up_at (s.machine i) p ≡ true
+      on = (k.sound i).successor_up p h
+
+      v : t.valid (at_port i p) ≡ true
+      v = k.up_valid (at_port i p) on
+
+      up : s.up (at_port i p) ≡ true
+      up = sym (up_now (at_port i p) v) ∙ on
+
+      port : UpPort (s.machine i) p
+      port = up_port (s.machine i) p on
+
+      attains : distance port.neighbour ≡ (s.machine i).rd
+      attains = (k.sound i).passive_attains p port.neighbour (q.passive i l) h port.at ∙ sym ((k.sound i).passive_least far (q.passive i l))
+
+      go : ((port.neighbour.up ≡ true) × (distance port.neighbour ≡ port.neighbour.reported + port.neighbour.cost) × (distance port.neighbour < infinity)) ⊎ (distance port.neighbour ≡ infinity)
+          → (s.machine i).rd ≡ s.cost (at_port i p) + (s.machine (t.far (at_port i p)).router).rd
+      go (inl (u, d, f)) = omega (arith, attains, d, port.reported, port.costs, reported_now (at_port i p) v up, cost_now (at_port i p) v up)
+      go (inr f) = absurd (omega (arith, attains, f, b))
+
+  -- a router that is not the owner, and not out of reach, has a hop
+  hop : (i : ℕ) → i < n → (s.machine i).local ≡ false → rd i < infinity → Hop i
+  unfolding rd
+  hop i l far b = go (s.machine i).successor refl
+    where
+      go : (o : Option ℕ) → (s.machine i).successor ≡ o → Hop i
+      go None h = absurd (omega (arith, ((k.sound i).passive_none far (q.passive i l) h).0, b))
+      go (Some p) h = hop_by i p l far b h
+
+  -- links followed from router i lead to an owner, at its distance, past no more routers than are nearer
+  record Chain (i : ℕ) : Type 0 where
+    places : List LinkEnd
+    follows : IsWalk t (Follows s) i places
+    reaches : (s.machine (end_of t i places)).local ≡ true
+    cost_is : walk_cost s places ≡ rd i
+    few_hops : length places ≤ count_below rd (rd i) n
+    near : rd i ≤ 65535 * count_below rd (rd i) n
+
+  -- the owner is where the chain ends
+  chain_here : (i : ℕ) → (s.machine i).local ≡ true → Chain i
+  unfolding rd
+  chain_here i h = record { places = []; follows = tt; reaches = h; cost_is = sym ((k.sound i).local_rd h); few_hops = omega arith; near = omega (arith, (k.sound i).local_rd h) }
+
+  -- a hop and the chain from its other end are a chain
+  chain_on : (i : ℕ) (h : Hop i) → Chain (t.far h.place).router → Chain i
+  chain_on i h c =
+      let e = h.place in
+      let j = (t.far e).router in
+      let rises : rd j < rd i = omega (arith, h.adds, (k.lines e h.there).positive) in
+      let gains = below_gains rd (rd j) (rd i) n j (placed (t.far e) (t.far_valid e h.there)) (omega arith) rises in
+      record {
+        places = e ∷ c.places;
+        follows = (h.from, h.there, h.follows, c.follows);
+        reaches = c.reaches;
+        cost_is = omega (arith, h.adds, c.cost_is);
+        few_hops = omega (arith, c.few_hops, gains);
+        near = omega (arith, c.near, gains, h.adds, cheap e h.there);
+      }
+
+  -- a router at a distance below d has a chain, if it is not out of reach
+  chain_by : (d i : ℕ) → rd i < d → i < n → rd i < infinity → Chain i
+  chain_by zero i b l f = absurd (omega (arith, b))
+  chain_by (suc d) i b l f = go (s.machine i).local refl (chain_by d)
+    where
+      go : (c : Bool) → (s.machine i).local ≡ c → ((j : ℕ) → rd j < d → j < n → rd j < infinity → Chain j) → Chain i
+      go true h rest = chain_here i h
+      go false h rest =
+          let first = hop i l h f in
+          let v = first.there in
+          let e = first.place in
+          let rises : rd (t.far e).router < rd i = omega (arith, first.adds, (k.lines e v).positive) in
+          chain_on i first (rest (t.far e).router (omega (arith, rises, b)) (placed (t.far e) (t.far_valid e v)) (omega (arith, rises, f)))
+
+  -- a router that is not out of reach has a chain
+  chain : (i : ℕ) → i < n → rd i < infinity → Chain i
+  chain i l f = chain_by (suc (rd i)) i (omega arith) l f
+
+  -- fewer than n routers are nearer than a router
+  fewer : (i : ℕ) → i < n → count_below rd (rd i) n < n
+  fewer i l = omega (arith, below_gains rd (rd i) (suc (rd i)) n i l (omega arith) (omega arith), below_at_most rd (suc (rd i)) n)
+
+  -- a router that is not out of reach is no further than 255 links of the greatest cost
+  near_by : (i : ℕ) → i < n → rd i < infinity → rd i ≤ 16711425
+  near_by i l f = omega (arith, (chain i l f).near, fewer i l, few)
+
+  -- a neighbour of a router that is not out of reach is not out of reach
+  reached_one : (e : LinkEnd) → t.valid e ≡ true → s.up e ≡ true → rd (t.far e).router < infinity → rd e.router < infinity
+  reached_one e v u f = omega (arith, rd_under e v u, cheap e v, near_by (t.far e).router (placed (t.far e) (t.far_valid e v)) f)
+
+  -- a router from which a walk leads to an owner is not out of reach
+  reached : (i : ℕ) (es : List LinkEnd) → LeadsHome t s i es → rd i < infinity
+  unfolding rd
+  reached i [] w = omega (arith, (k.sound i).local_rd w.home)
+  reached i (e ∷ es) w =
+      let rest = reached (t.far e).router es (record { live = w.live.3; home = w.home }) in
+      omega (arith, reached_one e w.live.1 w.live.2 rest, ap (λ j. (s.machine j).rd) w.live.0)
+
+  -- a router that is not out of reach is routed
+  routed : (i : ℕ) → i < n → rd i < infinity → IsRouted t n s i
+  unfolding rd
+  routed i l f = record {
+    here_or_on = go (s.machine i).local refl;
+    chain = (chain i l f).places;
+    follows = (chain i l f).follows;
+    reaches = (chain i l f).reaches;
+    hops = omega (arith, (chain i l f).few_hops, fewer i l);
+    cost_is = (chain i l f).cost_is;
+    least_cost = walk_under i;
+  }
+    where
+      on : (o : Option ℕ) → (s.machine i).successor ≡ o → (s.machine i).local ≡ false → (p : ℕ) × ((s.machine i).successor ≡ Some p)
+      on None h far = absurd (omega (arith, ((k.sound i).passive_none far (q.passive i l) h).0, f))
+      on (Some p) h far = (p, h)
+
+      go : (b : Bool) → (s.machine i).local ≡ b → (((s.machine i).local ≡ true) × ((s.machine i).rd ≡ 0)) ⊎ (((s.machine i).local ≡ false) × ((p : ℕ) × ((s.machine i).successor ≡ Some p)))
+      go true h = inl (h, (k.sound i).local_rd h)
+      go false h = inr (h, on (s.machine i).successor refl h)
+
+  -- a router with a successor is not out of reach
+  successor_reached : (i p : ℕ) → i < n → (s.machine i).successor ≡ Some p → rd i < infinity
+  unfolding rd
+  successor_reached i p l h =
+      let on = (k.sound i).successor_up p h in
+      let v = k.up_valid (at_port i p) on in
+      let up : s.up (at_port i p) ≡ true = sym (up_now (at_port i p) v) ∙ on in
+      let nearer : rd (t.far (at_port i p)).router < infinity = omega (arith, (k.sound i).passive_feasible p (q.passive i l) h, (k.sound i).fd_below, (k.sound i).rd_bounded, reported_now (at_port i p) v up) in
+      reached_one (at_port i p) v up nearer
+
+  -- a router that is out of reach is cut off
+  cut_off : (i : ℕ) → i < n → infinity ≤ rd i → IsCutOff s i
+  unfolding rd
+  cut_off i l f = record { no_successor = none; no_next_hop = q.published_is i l ∙ ap (next_hop_of (λ x. s.seen (at_port i x))) none; far_away = omega (arith, f, (k.sound i).rd_bounded) }
+    where
+      go : (o : Option ℕ) → (s.machine i).successor ≡ o → (s.machine i).successor ≡ None
+      go None h = h
+      go (Some p) h = absurd (omega (arith, successor_reached i p l h, f))
+
+      none : (s.machine i).successor ≡ None
+      none = go (s.machine i).successor refl
+
+  -- a chain is a walk of links that are up, to an owner
+  leads : (i : ℕ) (c : Chain i) → LeadsHome t s i c.places
+  leads i c = record { live = walk_map t (Follows s) (λ e. s.up e ≡ true) (λ e f. f.sends.linked) i c.places c.follows; home = c.reaches }
+
+  -- each router is routed where a walk leads to an owner, and else cut off
+  optimal_here : (i : ℕ) → i < n → IsOptimal t n s i
+  optimal_here i l = record { connected = λ es w. routed i l (reached i es w); disconnected = λ none. go none (cases_lt (rd i) infinity) }
+    where
+      go : ((es : List LinkEnd) → LeadsHome t s i es → ⊥) → (rd i < infinity) ⊎ (infinity ≤ rd i) → IsCutOff s i
+      go none (inl f) = absurd (none (chain i l f).places (leads i (chain i l f)))
+      go none (inr f) = cut_off i l f
+
+-- after every run, each router of a quiet network is routed or cut off
+pub optimal_at_quiet : OptimalAtQuiet
+optimal_at_quiet t first last o run n few placed cheap q i l = optimal_here t n last (kept_run t first last o run) q few placed cheap i l

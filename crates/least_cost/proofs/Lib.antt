@@ -1,0 +1,10 @@
+pub mod Replay
+pub mod Told
+pub mod Kept
+pub mod Takes
+pub mod Releases
+pub mod Links
+pub mod Runs
+pub mod Below
+pub mod AtQuiet
+pub mod Reached

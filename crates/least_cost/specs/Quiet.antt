@@ -1,0 +1,63 @@
+-- What holds of a network that has come to rest: successors lead along cheapest ways to an owner.
+use Rattle.std.specs.Prelude.{◌≡◌, ◌⊎◌, ℕ, ◌+◌, ◌<◌, ◌≤◌, true, false, List, [], ◌∷◌, Some, None, length}
+use Rattle.metric.specs.Distance.{infinity}
+use Rattle.machine_laws.specs.Laws.{is_active}
+use Rattle.loop_freedom.specs.Network.{LinkEnd, Topology, State, PublishedEdge, ControlEdge, IsWalk, AlwaysHolds, next_hop_of, at_port}
+
+-- the router at which a walk from router i ends
+abbrev pub end_of : Topology → ℕ → List LinkEnd → ℕ
+end_of t i [] = i
+end_of t i (e ∷ es) = end_of t (t.far e).router es
+
+-- the sum of the costs along a walk, each that of the router which sends
+abbrev pub walk_cost : State → List LinkEnd → ℕ
+walk_cost s [] = 0
+walk_cost s (e ∷ es) = s.cost e + walk_cost s es
+
+-- a walk of links that are up, from router i to an owner
+pub record LeadsHome (t : Topology) (s : State) (i : ℕ) (es : List LinkEnd) : Type 0 where
+  pub live : IsWalk t (λ e. s.up e ≡ true) i es
+  pub home : (s.machine (end_of t i es)).local ≡ true
+
+-- the router's machine has chosen this way, and its traffic takes it
+pub record Follows (s : State) (e : LinkEnd) : Type 0 where
+  pub sends : PublishedEdge s e
+  pub chooses : ControlEdge s e
+
+-- every router below n is passive and its successor published, and nothing is on a link or held
+pub record IsQuiet (t : Topology) (n : ℕ) (s : State) : Type 0 where
+  pub passive : (i : ℕ) → i < n → is_active (s.machine i) ≡ false
+  pub inbox_empty : (e : LinkEnd) → t.valid e ≡ true → s.inbox e ≡ []
+  pub ripe_empty : (e : LinkEnd) → t.valid e ≡ true → s.ripe e ≡ []
+  pub unripe_empty : (e : LinkEnd) → t.valid e ≡ true → s.unripe e ≡ []
+  pub published_is : (i : ℕ) → i < n → s.published i ≡ next_hop_of (λ q. s.seen (at_port i q)) (s.machine i).successor
+
+-- the successors from router i lead to an owner in fewer than n hops, at its distance, and no walk to one costs less
+pub record IsRouted (t : Topology) (n : ℕ) (s : State) (i : ℕ) : Type 0 where
+  pub here_or_on : (((s.machine i).local ≡ true) × ((s.machine i).rd ≡ 0)) ⊎ (((s.machine i).local ≡ false) × ((q : ℕ) × ((s.machine i).successor ≡ Some q)))
+  pub chain : List LinkEnd
+  pub follows : IsWalk t (Follows s) i chain
+  pub reaches : (s.machine (end_of t i chain)).local ≡ true
+  pub hops : length chain < n
+  pub cost_is : walk_cost s chain ≡ (s.machine i).rd
+  pub least_cost : (es : List LinkEnd) → LeadsHome t s i es → (s.machine i).rd ≤ walk_cost s es
+
+-- router i has no successor, sends no traffic on, and is at distance infinity
+pub record IsCutOff (s : State) (i : ℕ) : Type 0 where
+  pub no_successor : (s.machine i).successor ≡ None
+  pub no_next_hop : s.published i ≡ None
+  pub far_away : (s.machine i).rd ≡ infinity
+
+-- router i is routed where a walk leads to an owner, and cut off where none does
+pub record IsOptimal (t : Topology) (n : ℕ) (s : State) (i : ℕ) : Type 0 where
+  pub connected : (es : List LinkEnd) → LeadsHome t s i es → IsRouted t n s i
+  pub disconnected : ((es : List LinkEnd) → LeadsHome t s i es → ⊥) → IsCutOff s i
+
+-- in a quiet network of at most 256 routers, whose costs have 16 bits, every router is routed or cut off
+abbrev pub QuietIsOptimal : Topology → State → Type 0
+QuietIsOptimal t s = (n : ℕ) → n ≤ 256 → ((e : LinkEnd) → t.valid e ≡ true → e.router < n) → ((e : LinkEnd) → t.valid e ≡ true → s.cost e ≤ 65535) → IsQuiet t n s
+    → (i : ℕ) → i < n → IsOptimal t n s i
+
+-- after every run from an opening, each router of a quiet network is routed or cut off
+abbrev pub OptimalAtQuiet : Type 0
+OptimalAtQuiet = AlwaysHolds QuietIsOptimal

@@ -1,0 +1,17 @@
+-- A run that comes to rest: the law at rest speaks of some network.
+use Rattle.std.specs.Prelude.{◌≡◌, ◌<◌, ◌≤◌, true, Some}
+use Rattle.loop_freedom.specs.Network.{LinkEnd, Topology, State, Opening, Run}
+use Rattle.least_cost.specs.Quiet.{IsQuiet}
+
+-- a run of two routers to which the law at rest applies: it ends quiet, with router 1 at distance 7 by way of its port 0
+pub record QuietRun : Type 0 where
+  pub topology : Topology
+  pub first : State
+  pub last : State
+  pub opening : Opening topology first
+  pub run : Run topology first last
+  pub placed : (e : LinkEnd) → topology.valid e ≡ true → e.router < 2
+  pub cheap : (e : LinkEnd) → topology.valid e ≡ true → last.cost e ≤ 65535
+  pub quiet : IsQuiet topology 2 last
+  pub distance : (last.machine 1).rd ≡ 7
+  pub successor : (last.machine 1).successor ≡ Some 0

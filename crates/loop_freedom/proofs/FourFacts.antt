@@ -1,0 +1,54 @@
+-- The four facts, from what every state keeps.
+use Rattle.std.specs.Prelude.{◌≡◌, ◌⊎◌, ◌+◌, ◌<◌, ◌≤◌, false}
+use Rattle.std.proofs.Common.{ap, subst, ◌∙◌, arith, inl, inr}
+use Rattle.metric.specs.declared.kind.Kind.TheVariants.{Query, Reply}
+use Rattle.machine_laws.specs.Laws.{one_if}
+use Rattle.machine_laws.proofs.MachineLaws.{machine_laws}
+use Rattle.loop_freedom.specs.Network.{AlwaysHolds, LinkEnd, Topology, State}
+use Rattle.loop_freedom.specs.Facts.{End, count, pipe, LinkFacts, HasFacts, end_at}
+use Rattle.loop_freedom.proofs.Lists.{one_if_at_most_one}
+use Rattle.loop_freedom.proofs.Link.{EndInvariant}
+use Rattle.loop_freedom.proofs.Invariant.{Invariant}
+use Rattle.loop_freedom.proofs.Opened.{opening_keeps}
+use Rattle.loop_freedom.proofs.Walks.{run_keeps}
+
+-- where y does not await x, or x's reply is on its way, no query of y is on its way and x owes no reply
+none_open : (x y : End) → EndInvariant y x → (y.awaits ≡ false) ⊎ (0 < count Reply (pipe x)) → count Query (pipe y) + one_if x.owes ≡ 0
+none_open x y h (inl not) =
+    let none : one_if y.awaits ≡ 0 = ap one_if not in
+    omega (arith, h.awaited_once, none)
+none_open x y h (inr answered) =
+    let few : one_if y.awaits ≤ 1 = one_if_at_most_one y.awaits in
+    omega (arith, h.awaited_once, few, answered)
+
+-- where y does not await x, or x has released its reply, x has released at least what y awaits
+answer_out : (x y : End) → (y.awaits ≡ false) ⊎ (0 < count Reply x.out) → one_if y.awaits ≤ count Reply x.out
+answer_out x y (inl not) =
+    let none : one_if y.awaits ≡ 0 = ap one_if not in
+    omega (arith, none)
+answer_out x y (inr answered) =
+    let few : one_if y.awaits ≤ 1 = one_if_at_most_one y.awaits in
+    omega (arith, few, answered)
+
+-- the facts hold between two ends that keep the invariant both ways
+link_facts : (x y : End) → EndInvariant x y → EndInvariant y x → LinkFacts x y
+link_facts x y h g = record {
+  feasible_below_sent = h.feasible_below_sent;
+  feasible_below_kept = h.feasible_below_kept;
+  published_below_sent = h.published_below_sent;
+  published_below_kept = h.published_below_kept;
+  control_edge_falls = h.control_edge_falls;
+  published_edge_falls = h.published_edge_falls;
+  control_edge_waits = λ active chosen answered. h.control_edge_waits active chosen (none_open x y g answered);
+  published_edge_waits = λ active shown answered. h.published_edge_waits active shown (answer_out x y answered);
+}
+
+-- the facts hold in a state that keeps the invariant
+pub facts_kept : (t : Topology) (s : State) → Invariant t s → HasFacts t s
+facts_kept t s I e valid up =
+    link_facts (end_at t s e) (end_at t s (t.far e)) (I.links e valid up)
+    (subst (λ (x : LinkEnd). EndInvariant (end_at t s (t.far e)) (end_at t s x)) (t.far_far e valid) (I.links (t.far e) (t.far_valid e valid) (I.up_far e valid ∙ up)))
+
+-- the facts hold in every state of every run
+pub always_facts : AlwaysHolds HasFacts
+always_facts t first last O r = facts_kept t last (run_keeps machine_laws t first last (opening_keeps t first O) r)

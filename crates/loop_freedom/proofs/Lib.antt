@@ -1,0 +1,17 @@
+pub mod Lists
+pub mod Link
+pub mod LinkSteps
+pub mod Published
+pub mod OnTheWay
+pub mod Reacts
+pub mod Notices
+pub mod Ports
+pub mod Invariant
+pub mod Taking
+pub mod StillMachines
+pub mod Publishing
+pub mod Linking
+pub mod Opened
+pub mod Walks
+pub mod Example
+pub mod FourFacts

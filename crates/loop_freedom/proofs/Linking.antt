@@ -1,0 +1,226 @@
+-- A link that comes up or goes down keeps the invariant.
+use Rattle.std.specs.Prelude.{◌≡◌, ◌⊎◌, ℕ, suc, ◌<◌, ◌≤◌, true, false, ◌==◌, [], ◌∷◌}
+use Rattle.std.proofs.Common.{refl, sym, ◌∙◌, ap, subst, arith, inl, inr}
+use Rattle.std.proofs.lemmas.List.{append-nil}
+use Rattle.std.proofs.lemmas.Bool.{both_ways, ne_eqb, and_left, and_right, false_from_ne_true}
+use Rattle.network_model.specs.Machine.{Machine, is_port}
+use Rattle.metric.specs.Distance.{infinity}
+use Rattle.machine_laws.specs.Laws.{is_up_at, awaits, owes}
+use Rattle.loop_freedom.specs.Network.{UpNotice, LinkEnd, Topology, State, LinkUp, LinkDown, IsEnd}
+use Rattle.loop_freedom.proofs.Link.{EndInvariant}
+use Rattle.loop_freedom.specs.Facts.{pipe, messages, live, is_current, is_next_hop, end_at}
+use Rattle.loop_freedom.proofs.OnTheWay.{messages-append}
+use Rattle.loop_freedom.proofs.Notices.{IsLawfulInbox, lawful_seen, lawful_up, lawful_down, lawful_empty, nothing_held_later, lawfully_held_later}
+use Rattle.loop_freedom.proofs.Invariant.{Invariant, IsLawfulAt, same_place, end_at_cong, end_invariant_same, end_invariant_new}
+
+-- e is an end of the link at a, or it is not
+pub is_end : (t : Topology) (a e : LinkEnd) → IsEnd t a e ⊎ (IsEnd t a e → ⊥)
+is_end t a e = elim (same_place e a) [
+  | inl p ↦ inl (inl p)
+  | inr d ↦ elim (same_place e (t.far a)) [
+    | inl p ↦ inl (inr p)
+    | inr f ↦ inr (λ x. elim x [ inl p ↦ d p | inr p ↦ f p ])
+  ]
+]
+
+-- the end across from an end of a link is an end of it
+end_far : (t : Topology) (a e : LinkEnd) → t.valid a ≡ true → IsEnd t a e → IsEnd t a (t.far e)
+end_far t a e v (inl p) = inr (ap t.far p)
+end_far t a e v (inr p) = inl (ap t.far p ∙ t.far_far a v)
+
+-- an end is one of the link where the end across is
+end_near : (t : Topology) (a e : LinkEnd) → t.valid a ≡ true → t.valid e ≡ true → IsEnd t a (t.far e) → IsEnd t a e
+end_near t a e v w x = subst (λ (z : LinkEnd). IsEnd t a z) (t.far_far e w) (end_far t a (t.far e) v x)
+
+-- both ends of a link that is there are there
+end_valid : (t : Topology) (a e : LinkEnd) → t.valid a ≡ true → IsEnd t a e → t.valid e ≡ true
+end_valid t a e v (inl p) = subst (λ (z : LinkEnd). t.valid z ≡ true) (sym p) v
+end_valid t a e v (inr p) = subst (λ (z : LinkEnd). t.valid z ≡ true) (sym p) (t.far_valid a v)
+
+-- a port that saw an earlier session does not know of the link's present one
+not_seen : (m : Machine) (q seen n : ℕ) → seen < n → is_current m q seen n ≡ false
+not_seen m q seen n lt = and_right (is_up_at m q) (seen == n) (ne_eqb seen n (λ e. omega (arith, e, lt)))
+
+module _ (t : Topology) (old new : State) (I : Invariant t old) (L : LinkUp t old new) where
+  -- both ends were down
+  was_down_at : (e : LinkEnd) → IsEnd t L.a e → old.up e ≡ false
+  was_down_at e (inl p) = ap old.up p ∙ L.was_down
+  was_down_at e (inr p) = ap old.up p ∙ I.up_far L.a L.valid_place ∙ L.was_down
+
+  -- an end of a link that has just come up: it does not know of it, has nothing on its way, and no published edge
+  record NewEnd (e : LinkEnd) : Type 0 where
+    off : (end_at t new e).current ≡ false
+    empty : pipe (end_at t new e) ≡ []
+    hidden : (end_at t new e).shown ≡ false
+
+  -- each end of the link that came up is such an end
+  new_end : (e : LinkEnd) → IsEnd t L.a e → NewEnd e
+  new_end e x =
+      let v = end_valid t L.a e L.valid_place x in
+      let f = t.far e in
+      let xf = end_far t L.a e L.valid_place x in
+      let vf = end_valid t L.a f L.valid_place xf in
+      let seen_is : new.seen e ≡ old.seen e = L.machines.seen_same e in
+      let ses : new.session e ≡ suc (old.session e) = L.session_at e x in
+      let le : old.seen e ≤ old.session e = lawful_seen (is_up_at (old.machine e.router) e.port) (old.seen e) (old.up e) (old.session e) (old.inbox e) (I.lawful e v) in
+      let lt : new.seen e < new.session e = omega (arith, seen_is, ses, le) in
+      let later : old.session e < new.session e = omega (arith, ses) in
+      let ripe_none : live (new.session e) (new.ripe e) ≡ [] = rw (L.holdings.ripe_same e) (nothing_held_later (old.session e) (new.session e) (old.ripe e) later (I.ripe_lawful e v)) in
+      let unripe_none : live (new.session e) (new.unripe e) ≡ [] = rw (L.holdings.unripe_same e) (nothing_held_later (old.session e) (new.session e) (old.unripe e) later (I.unripe_lawful e v)) in
+      let lawful_f : IsLawfulInbox (is_up_at (old.machine f.router) f.port) (old.seen f) false (old.session f) (old.inbox f) = rw (was_down_at f xf) at (I.lawful f vf) in
+      let none : messages (old.inbox f) ≡ [] = lawful_empty (is_up_at (old.machine f.router) f.port) (old.seen f) (old.session f) (old.inbox f) lawful_f in
+      let inbox_none : messages (new.inbox f) ≡ [] = ap messages (L.inbox_at f xf) ∙ messages-append (old.inbox f) (UpNotice (new.session f) (new.cost f) ∷ []) ∙ append-nil (messages (old.inbox f)) ∙ none in
+      let hides : is_next_hop e.port (new.session e) (new.published e.router) ≡ true → ⊥ = λ h.
+      let g = I.next_hop_old e v (new.session e) (rw (L.publications.published_same e.router) at h) in omega (arith, g, later) in
+      record {
+        off = not_seen (new.machine e.router) e.port (new.seen e) (new.session e) lt;
+        empty = rw (inbox_none, ripe_none, unripe_none) refl;
+        hidden = false_from_ne_true (is_next_hop e.port (new.session e) (new.published e.router)) hides;
+      }
+
+  -- published feasible distances are at most infinity after the step
+  up_bounded : (e : LinkEnd) → (end_at t new e).pfd ≤ infinity
+  up_bounded e = rw (L.publications.published_fd_same e.router) (I.pfd_bounded e.router)
+
+  -- the invariant holds on the link that came up
+  came_up : (e : LinkEnd) → IsEnd t L.a e → EndInvariant (end_at t new e) (end_at t new (t.far e))
+  came_up e x =
+      let f = t.far e in
+      let X = new_end e x in
+      let Y = new_end f (end_far t L.a e L.valid_place x) in
+      let mx = new.machine e.router in
+      let my = new.machine f.router in
+      end_invariant_new (end_at t new e) (end_at t new f) X.off X.empty Y.empty Y.off
+      (and_left (is_current mx e.port (new.seen e) (new.session e)) (is_port e.port mx.successor) X.off)
+      X.hidden
+      (and_left (is_current mx e.port (new.seen e) (new.session e)) (awaits mx e.port) X.off)
+      (and_left (is_current my f.port (new.seen f) (new.session f)) (owes my f.port) Y.off)
+      (up_bounded e)
+
+  -- the ends of other links are as before
+  other_end : (e : LinkEnd) → (IsEnd t L.a e → ⊥) → (IsEnd t L.a (t.far e) → ⊥) → end_at t new e ≡ end_at t old e
+  other_end e d df =
+      let ses : new.session e ≡ old.session e = L.session_elsewhere e d in
+      let fre : new.unripe e ≡ old.unripe e = L.holdings.unripe_same e in
+      let rip : new.ripe e ≡ old.ripe e = L.holdings.ripe_same e in
+      let inb : new.inbox (t.far e) ≡ old.inbox (t.far e) = L.inbox_elsewhere (t.far e) df in
+      end_at_cong t old new e (L.machines.machine_same e.router) (L.machines.seen_same e) ses (L.publications.published_same e.router) (L.publications.published_fd_same e.router) (cc) (cc)
+
+  -- the invariant holds on every live link after one came up
+  up_links : (e : LinkEnd) → t.valid e ≡ true → new.up e ≡ true → EndInvariant (end_at t new e) (end_at t new (t.far e))
+  up_links e v u = elim (is_end t L.a e) [
+    | inl x ↦ came_up e x
+    | inr d ↦
+        let df : IsEnd t L.a (t.far e) → ⊥ = λ y. d (end_near t L.a e L.valid_place v y) in
+        let dff : IsEnd t L.a (t.far (t.far e)) → ⊥ = λ y. d (subst (λ (z : LinkEnd). IsEnd t L.a z) (t.far_far e v) y) in
+        end_invariant_same (other_end e d df) (other_end (t.far e) df dff) (I.links e v (sym (L.up_elsewhere e d) ∙ u))
+  ]
+
+  -- the items at every end are lawful after a link came up
+  up_lawful : (e : LinkEnd) → t.valid e ≡ true → IsLawfulAt new e
+  up_lawful e v = elim (is_end t L.a e) [
+    | inl x ↦
+        let before : IsLawfulInbox (is_up_at (old.machine e.router) e.port) (old.seen e) false (old.session e) (old.inbox e) = rw (was_down_at e x) at (I.lawful e v) in
+        let cost : 0 < new.cost e = rw (L.costs.cost_same e) (I.cost_positive e v) in
+        rw (L.machines.machine_same e.router, L.machines.seen_same e, L.inbox_at e x, L.up_at e x, L.session_at e x)
+        (lawful_up (is_up_at (old.machine e.router) e.port) (old.seen e) (old.session e) (new.cost e) (old.inbox e) cost before)
+    | inr d ↦ rw (L.machines.machine_same e.router, L.machines.seen_same e, L.up_elsewhere e d, L.session_elsewhere e d, L.inbox_elsewhere e d) (I.lawful e v)
+  ]
+
+  -- no link's session falls
+  grows : (e : LinkEnd) → old.session e ≤ new.session e
+  grows e = elim (is_end t L.a e) [
+    | inl x ↦ (let s = L.session_at e x in omega (arith, s))
+    | inr d ↦ (let s = L.session_elsewhere e d in omega (arith, s))
+  ]
+
+  -- both ends of each link have one state and one session after a link came up
+  up_pair : (e : LinkEnd) → t.valid e ≡ true → (new.up (t.far e) ≡ new.up e) × (new.session (t.far e) ≡ new.session e)
+  up_pair e v = elim (is_end t L.a e) [
+    | inl x ↦
+        let xf = end_far t L.a e L.valid_place x in (
+          L.up_at (t.far e) xf ∙ sym (L.up_at e x),
+          L.session_at (t.far e) xf ∙ ap (λ (n : ℕ). suc n) (I.session_far e v) ∙ sym (L.session_at e x),
+        )
+    | inr d ↦
+        let df : IsEnd t L.a (t.far e) → ⊥ = λ y. d (end_near t L.a e L.valid_place v y) in (
+          L.up_elsewhere (t.far e) df ∙ I.up_far e v ∙ sym (L.up_elsewhere e d),
+          L.session_elsewhere (t.far e) df ∙ I.session_far e v ∙ sym (L.session_elsewhere e d),
+        )
+  ]
+
+  -- a link that comes up keeps the invariant
+  pub link_up_keeps : Invariant t new
+  link_up_keeps = record {
+    sound = λ i. rw (L.machines.machine_same i) (I.sound i);
+    pfd_bounded = λ i. rw (L.publications.published_fd_same i) (I.pfd_bounded i);
+    there = λ e v. rw (L.machines.machine_same e.router) (I.there e v);
+    up_far = λ e v. (up_pair e v).0;
+    session_far = λ e v. (up_pair e v).1;
+    cost_positive = λ e v. rw (L.costs.cost_same e) (I.cost_positive e v);
+    lawful = up_lawful;
+    ripe_lawful = λ e v. rw (L.holdings.ripe_same e) (lawfully_held_later (old.session e) (new.session e) (old.ripe e) (grows e) (I.ripe_lawful e v));
+    unripe_lawful = λ e v. rw (L.holdings.unripe_same e) (lawfully_held_later (old.session e) (new.session e) (old.unripe e) (grows e) (I.unripe_lawful e v));
+    next_hop_old = λ e v k h. (let g = I.next_hop_old e v k (rw (L.publications.published_same e.router) at h) in let w = grows e in omega (arith, g, w));
+    links = up_links;
+  }
+
+module _ (t : Topology) (old new : State) (I : Invariant t old) (L : LinkDown t old new) where
+  -- both ends were up
+  was_up_at : (e : LinkEnd) → IsEnd t L.a e → old.up e ≡ true
+  was_up_at e (inl p) = ap old.up p ∙ L.was_up
+  was_up_at e (inr p) = ap old.up p ∙ I.up_far L.a L.valid_place ∙ L.was_up
+
+  -- the ends of other links are as before
+  down_other_end : (e : LinkEnd) → (IsEnd t L.a (t.far e) → ⊥) → end_at t new e ≡ end_at t old e
+  down_other_end e df =
+      let ses : new.session e ≡ old.session e = L.session_same e in
+      let fre : new.unripe e ≡ old.unripe e = L.holdings.unripe_same e in
+      let rip : new.ripe e ≡ old.ripe e = L.holdings.ripe_same e in
+      let inb : new.inbox (t.far e) ≡ old.inbox (t.far e) = L.inbox_elsewhere (t.far e) df in
+      end_at_cong t old new e (L.machines.machine_same e.router) (L.machines.seen_same e) ses (L.publications.published_same e.router) (L.publications.published_fd_same e.router) (cc) (cc)
+
+  -- the invariant holds on every live link after another went down
+  down_links : (e : LinkEnd) → t.valid e ≡ true → new.up e ≡ true → EndInvariant (end_at t new e) (end_at t new (t.far e))
+  down_links e v u = elim (is_end t L.a e) [
+    | inl x ↦ absurd (both_ways (new.up e) (L.up_at e x) u)
+    | inr d ↦
+        let df : IsEnd t L.a (t.far e) → ⊥ = λ y. d (end_near t L.a e L.valid_place v y) in
+        let dff : IsEnd t L.a (t.far (t.far e)) → ⊥ = λ y. d (subst (λ (z : LinkEnd). IsEnd t L.a z) (t.far_far e v) y) in
+        end_invariant_same (down_other_end e df) (down_other_end (t.far e) dff) (I.links e v (sym (L.up_elsewhere e d) ∙ u))
+  ]
+
+  -- the items at every end are lawful after a link went down
+  down_lawful : (e : LinkEnd) → t.valid e ≡ true → IsLawfulAt new e
+  down_lawful e v = elim (is_end t L.a e) [
+    | inl x ↦
+        let before : IsLawfulInbox (is_up_at (old.machine e.router) e.port) (old.seen e) true (old.session e) (old.inbox e) = rw (was_up_at e x) at (I.lawful e v) in
+        rw (L.machines.machine_same e.router, L.machines.seen_same e, L.inbox_at e x, L.up_at e x, L.session_same e)
+        (lawful_down (is_up_at (old.machine e.router) e.port) (old.seen e) (old.session e) (old.inbox e) before)
+    | inr d ↦ rw (L.machines.machine_same e.router, L.machines.seen_same e, L.up_elsewhere e d, L.session_same e, L.inbox_elsewhere e d) (I.lawful e v)
+  ]
+
+  -- both ends of each link are up or both are down after a link went down
+  down_pair : (e : LinkEnd) → t.valid e ≡ true → new.up (t.far e) ≡ new.up e
+  down_pair e v = elim (is_end t L.a e) [
+    | inl x ↦ L.up_at (t.far e) (end_far t L.a e L.valid_place x) ∙ sym (L.up_at e x)
+    | inr d ↦
+        let df : IsEnd t L.a (t.far e) → ⊥ = λ y. d (end_near t L.a e L.valid_place v y) in
+        L.up_elsewhere (t.far e) df ∙ I.up_far e v ∙ sym (L.up_elsewhere e d)
+  ]
+
+  -- a link that goes down keeps the invariant
+  pub link_down_keeps : Invariant t new
+  link_down_keeps = record {
+    sound = λ i. rw (L.machines.machine_same i) (I.sound i);
+    pfd_bounded = λ i. rw (L.publications.published_fd_same i) (I.pfd_bounded i);
+    there = λ e v. rw (L.machines.machine_same e.router) (I.there e v);
+    up_far = down_pair;
+    session_far = λ e v. L.session_same (t.far e) ∙ I.session_far e v ∙ sym (L.session_same e);
+    cost_positive = λ e v. rw (L.costs.cost_same e) (I.cost_positive e v);
+    lawful = down_lawful;
+    ripe_lawful = λ e v. rw (L.holdings.ripe_same e, L.session_same e) (I.ripe_lawful e v);
+    unripe_lawful = λ e v. rw (L.holdings.unripe_same e, L.session_same e) (I.unripe_lawful e v);
+    next_hop_old = λ e v k h. rw (L.session_same e) (I.next_hop_old e v k (rw (L.publications.published_same e.router) at h));
+    links = down_links;
+  }

@@ -1,0 +1,45 @@
+-- The invariant holds at the opening.
+use Rattle.std.specs.Prelude.{◌≡◌, ℕ, ◌≤◌, Bool, true, false, if◌then◌else◌, List, Option, Some, None, slice_get}
+use Rattle.std.proofs.Common.{refl, sym, ◌∙◌, arith}
+use Rattle.std.proofs.lemmas.Bool.{false≢true, both_ways}
+use Rattle.network_model.specs.declared.machine.Neighbour.{Neighbour}
+use Rattle.metric.specs.Distance.{infinity}
+use Rattle.network_model.specs.Machine.{opening_machine}
+use Rattle.machine_laws.specs.Laws.{IsSound, test_at}
+use Rattle.machine_laws.proofs.Opened.{opened_sound}
+use Rattle.loop_freedom.specs.Network.{Topology, State, Opening, OpeningPorts}
+use Rattle.loop_freedom.proofs.Invariant.{Invariant}
+
+-- a port that is down, or not there, is not up
+down_or_absent : (o : Option Neighbour) → ((n : Neighbour) → o ≡ Some n → n.up ≡ false) → test_at (λ (n : Neighbour). n.up) o ≡ false
+down_or_absent None f = refl
+down_or_absent (Some n) f = f n refl
+
+-- no port is up at the opening
+opening_ports_down : (ns : List Neighbour) → OpeningPorts ns → (p : ℕ) → test_at (λ (n : Neighbour). n.up) (slice_get ns p) ≡ false
+opening_ports_down ns P p = down_or_absent (slice_get ns p) (λ n e. P.ports_down p n e)
+
+-- the distance of a machine at the opening is at most infinity
+opening_distance_bounded : (b : Bool) → (if b then 0 else infinity) ≤ infinity
+opening_distance_bounded true = omega arith
+opening_distance_bounded false = omega arith
+
+-- a machine at the opening is sound
+sound_at_opening : (b : Bool) (ns : List Neighbour) → OpeningPorts ns → IsSound (opening_machine b ns)
+sound_at_opening b ns P = opened_sound b ns (λ p n e. record { costs = P.ports_cost p n e; bounded = let r = P.ports_report p n e in omega (arith, r) }) P.ports_report
+
+-- the invariant holds of an opening
+pub opening_keeps : (t : Topology) (s : State) → Opening t s → Invariant t s
+opening_keeps t s O = record {
+  sound = λ i. rw (O.machines i) (sound_at_opening (O.owns i) (O.ports i) (O.opening_ports i));
+  pfd_bounded = λ i. rw (O.opening_fd i, O.machines i) (opening_distance_bounded (O.owns i));
+  there = λ e v. rw (O.machines e.router) (O.ports_there e v);
+  up_far = λ e v. O.all_down (t.far e) ∙ sym (O.all_down e);
+  session_far = λ e v. O.session_none (t.far e) ∙ sym (O.session_none e);
+  cost_positive = O.cost_positive;
+  lawful = λ e v. rw (O.machines e.router, O.seen_none e, O.all_down e, O.session_none e, O.inbox_empty e) (opening_ports_down (O.ports e.router) (O.opening_ports e.router) e.port, refl);
+  ripe_lawful = λ e v. rw (O.ripe_empty e) tt;
+  unripe_lawful = λ e v. rw (O.unripe_empty e) tt;
+  next_hop_old = λ e v k h. absurd (false≢true (rw (O.nothing_published e.router) at h));
+  links = λ e v u. absurd (both_ways (s.up e) (O.all_down e) u);
+}

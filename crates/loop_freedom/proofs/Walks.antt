@@ -1,0 +1,97 @@
+-- Every run keeps the invariant, and so no walk along its edges meets a router twice.
+use Rattle.std.specs.Prelude.{◌≡◌, ◌⊎◌, ℕ, ◌<◌, max, true, false, ◌==◌, List, [], ◌∷◌}
+use Rattle.std.proofs.Common.{refl, ap, arith, inl, inr}
+use Rattle.std.proofs.lemmas.Bool.{and_from, ne_eqb, eq-eqb, or_from}
+use Rattle.network_model.specs.Machine.{is_port}
+use Rattle.machine_laws.specs.Laws.{MachineLaws, is_up_at}
+use Rattle.loop_freedom.specs.Network.{LinkEnd, Topology, State, Step, Takes, Publishes, Releases, LinkComes, LinkGoes, CostChanges, Skips, Run, Start, Then, PublishedEdge, ControlEdge, IsWalk, met, is_met, meets_twice, AlwaysHolds, PublishedLoopFree, MixedLoopFree}
+use Rattle.loop_freedom.specs.Facts.{is_current, is_next_hop}
+use Rattle.loop_freedom.proofs.Invariant.{Invariant}
+use Rattle.loop_freedom.proofs.Taking.{take_keeps}
+use Rattle.loop_freedom.proofs.Publishing.{publish_keeps}
+use Rattle.loop_freedom.proofs.StillMachines.{release_keeps, set_cost_keeps, skip_keeps}
+use Rattle.loop_freedom.proofs.Linking.{link_up_keeps, link_down_keeps}
+use Rattle.loop_freedom.proofs.Opened.{opening_keeps}
+
+-- every step keeps the invariant
+pub steps_keep : MachineLaws → (t : Topology) (old new : State) → Invariant t old → Step t old new → Invariant t new
+steps_keep laws t old new I (Takes s) = take_keeps laws t old new I s
+steps_keep laws t old new I (Publishes s) = publish_keeps t old new I s
+steps_keep laws t old new I (Releases s) = release_keeps t old new I s
+steps_keep laws t old new I (LinkComes s) = link_up_keeps t old new I s
+steps_keep laws t old new I (LinkGoes s) = link_down_keeps t old new I s
+steps_keep laws t old new I (CostChanges s) = set_cost_keeps t old new I s
+steps_keep laws t old new I (Skips s) = skip_keeps t old new I s
+
+-- every run keeps the invariant
+pub run_keeps : MachineLaws → (t : Topology) (first last : State) → Invariant t first → Run t first last → Invariant t last
+run_keeps laws t first last I Start = I
+run_keeps laws t first last I (Then {middle = b} r s) = steps_keep laws t b last (run_keeps laws t first b I r) s
+
+-- a router's height: the greater of its feasible distance and its published one
+abbrev height : State → ℕ → ℕ
+height s i = max (s.machine i).fd (s.published_fd i)
+
+-- along a published edge the height falls
+published_falls : (t : Topology) (s : State) → Invariant t s → (e : LinkEnd) → t.valid e ≡ true → PublishedEdge s e → height s (t.far e).router < height s e.router
+published_falls t s I e v E =
+    let shown : is_next_hop e.port (s.session e) (s.published e.router) ≡ true = rw E.chosen (and_from (e.port == e.port) (s.session e == s.session e) (eq-eqb e.port e.port refl) (eq-eqb (s.session e) (s.session e) refl)) in
+    let h = (I.links e v E.linked).published_edge_falls shown in
+    omega (arith, h.0, h.1)
+
+-- along an edge that a machine has chosen the height falls
+control_falls : (t : Topology) (s : State) → Invariant t s → (e : LinkEnd) → t.valid e ≡ true → ControlEdge s e → height s (t.far e).router < height s e.router
+control_falls t s I e v E =
+    let m = s.machine e.router in
+    let port : is_port e.port m.successor ≡ true = rw E.chosen (eq-eqb e.port e.port refl) in
+    let cur : is_current m e.port (s.seen e) (s.session e) ≡ true = and_from (is_up_at m e.port) (s.seen e == s.session e) E.port_up (eq-eqb (s.seen e) (s.session e) E.present) in
+    let h = (I.links e v E.linked).control_edge_falls (and_from (is_current m e.port (s.seen e) (s.session e)) (is_port e.port m.successor) cur port) in
+    omega (arith, h.0, h.1)
+
+-- a walk along edges that fall, from a router lower than j, does not meet j
+meets_lower : (t : Topology) (edge : LinkEnd → Type 0) (h : ℕ → ℕ) → ((e : LinkEnd) → t.valid e ≡ true → edge e → h (t.far e).router < h e.router)
+    → (i j : ℕ) (es : List LinkEnd) → IsWalk t edge i es → h i < h j → is_met j (met t es) ≡ false
+meets_lower t edge h f i j [] w lt = refl
+meets_lower t edge h f i j (e ∷ es) w lt =
+    let k = (t.far e).router in
+    let at_e : h e.router ≡ h i = ap h w.0 in
+    let falls : h k < h e.router = f e w.1 w.2 in
+    let lower : h k < h j = omega (arith, lt, at_e, falls) in
+    or_from (j == k) (is_met j (met t es))
+    (ne_eqb j k (λ p. (let q : h j ≡ h k = ap h p in omega (arith, lower, q))))
+    (meets_lower t edge h f k j es w.3 lower)
+
+-- a walk along edges that fall meets no router twice
+walk_distinct : (t : Topology) (edge : LinkEnd → Type 0) (h : ℕ → ℕ) → ((e : LinkEnd) → t.valid e ≡ true → edge e → h (t.far e).router < h e.router)
+    → (i : ℕ) (es : List LinkEnd) → IsWalk t edge i es → meets_twice (i ∷ met t es) ≡ false
+walk_distinct t edge h f i [] w = refl
+walk_distinct t edge h f i (e ∷ es) w =
+    let k = (t.far e).router in
+    let at_e : h e.router ≡ h i = ap h w.0 in
+    let falls : h k < h e.router = f e w.1 w.2 in
+    let lower : h k < h i = omega (arith, at_e, falls) in
+    or_from (is_met i (k ∷ met t es)) (meets_twice (k ∷ met t es))
+    (or_from (i == k) (is_met i (met t es))
+    (ne_eqb i k (λ p. (let q : h i ≡ h k = ap h p in omega (arith, lower, q))))
+    (meets_lower t edge h f k i es w.3 lower))
+    (walk_distinct t edge h f k es w.3)
+
+-- the invariant rules out loops along published and chosen edges
+pub mixed_loop_free : (t : Topology) (s : State) → Invariant t s → MixedLoopFree t s
+mixed_loop_free t s I = walk_distinct t (λ e. PublishedEdge s e ⊎ ControlEdge s e) (height s) falls
+  where
+    falls : (e : LinkEnd) → t.valid e ≡ true → PublishedEdge s e ⊎ ControlEdge s e → height s (t.far e).router < height s e.router
+    falls e v (inl p) = published_falls t s I e v p
+    falls e v (inr c) = control_falls t s I e v c
+
+-- the invariant rules out loops along published edges
+pub published_loop_free : (t : Topology) (s : State) → Invariant t s → PublishedLoopFree t s
+published_loop_free t s I = walk_distinct t (PublishedEdge s) (height s) (published_falls t s I)
+
+-- published edges are free of loops in every state of every run
+pub always_published : MachineLaws → AlwaysHolds PublishedLoopFree
+always_published laws t first last O r = published_loop_free t last (run_keeps laws t first last (opening_keeps t first O) r)
+
+-- published and chosen edges together are free of loops in every state of every run
+pub always_mixed : MachineLaws → AlwaysHolds MixedLoopFree
+always_mixed laws t first last O r = mixed_loop_free t last (run_keeps laws t first last (opening_keeps t first O) r)

@@ -1,0 +1,13 @@
+pub mod Lists
+pub mod Distances
+pub mod Sends
+pub mod Events
+pub mod Outcomes
+pub mod Keeping
+pub mod Counting
+pub mod Sending
+pub mod Debts
+pub mod Choosing
+pub mod Soundness
+pub mod MachineLaws
+pub mod Opened

@@ -1,0 +1,55 @@
+-- Lists: what a change at one place keeps, and where a test passes.
+use Rattle.std.proofs.Common.{◌≡◌, ◌⊎◌, ℕ, zero, suc, ◌+◌, Bool, true, false, cond, ◌||◌, List, [], ◌∷◌, Some, None, refl, sym, inl, inr, arith, subst}
+use Rattle.std.specs.Prelude.{slice_get}
+use Rattle.std.specs.List.{list_any, position_from}
+use Rattle.std.proofs.lemmas.Bool.{or_cases, or_parts}
+use Rattle.std.proofs.lemmas.Option.{same_Some, none-some}
+use Rattle.network_model.specs.Machine.{changed_at}
+
+-- what holds of each element holds of each after a change that keeps it
+pub changed_keeps : {A : Type 0} (P : A → Type 0) (q : ℕ) (f : A → A) (xs : List A) → ((x : A) → P x → P (f x)) → ((p : ℕ) (x : A) → slice_get xs p ≡ Some x → P x) → (p : ℕ) (x : A) → slice_get (changed_at q f xs) p ≡ Some x → P x
+changed_keeps P q f [] keeps each p x h = absurd (none-some x h)
+changed_keeps P zero f (y ∷ ys) keeps each zero x h = subst P (same_Some (f y) x h) (keeps y (each zero y refl))
+changed_keeps P zero f (y ∷ ys) keeps each (suc p) x h = each (suc p) x h
+changed_keeps P (suc q) f (y ∷ ys) keeps each zero x h = each zero x h
+changed_keeps P (suc q) f (y ∷ ys) keeps each (suc p) x h = changed_keeps P q f ys keeps (λ k. each (suc k)) p x h
+
+-- some element passes the test
+abbrev pub Passes : {A : Type 0} → (A → Bool) → List A → Type 0
+Passes {A} test xs = (p : ℕ) × (x : A) × (slice_get xs p ≡ Some x) × (test x ≡ true)
+
+-- where a test passes in a list, some element passes it
+pub list_any_place : {A : Type 0} (test : A → Bool) (xs : List A) → list_any test xs ≡ true → Passes test xs
+list_any_place test [] h = cc
+list_any_place test (x ∷ xs) h = go (or_cases (test x) (list_any test xs) h) (list_any_place test xs)
+  where
+    go : ((test x ≡ true) ⊎ (list_any test xs ≡ true)) → (list_any test xs ≡ true → Passes test xs) → Passes test (x ∷ xs)
+    go (inl t) rest = (zero, x, refl, t)
+    go (inr t) rest = let (p, y, e, u) = rest t in (suc p, y, e, u)
+
+-- where a test passes nowhere in a list, no element passes it
+pub list_any_nowhere : {A : Type 0} (test : A → Bool) (xs : List A) → list_any test xs ≡ false → (p : ℕ) (x : A) → slice_get xs p ≡ Some x → test x ≡ false
+list_any_nowhere test [] h p x e = absurd (none-some x e)
+list_any_nowhere test (y ∷ ys) h zero x e = subst (λ z. test z ≡ false) (same_Some y x e) (or_parts (test y) (list_any test ys) h).0
+list_any_nowhere test (y ∷ ys) h (suc p) x e = list_any_nowhere test ys (or_parts (test y) (list_any test ys) h).1 p x e
+
+-- the first place that passes, counted from k, has an element that passes
+pub position_passes : {A : Type 0} (test : A → Bool) (k : ℕ) (xs : List A) (p : ℕ) → position_from test k xs ≡ Some p → (j : ℕ) × (x : A) × (p ≡ k + j) × (slice_get xs j ≡ Some x) × (test x ≡ true)
+position_passes test k [] p h = absurd (none-some p h)
+position_passes test k (x ∷ xs) p h = go (test x) refl h (position_passes test (k + 1) xs p)
+  where
+    go : (b : Bool) → test x ≡ b → cond b (Some k) (position_from test (k + 1) xs) ≡ Some p
+        → (position_from test (k + 1) xs ≡ Some p → (j : ℕ) × (y : _) × (p ≡ k + 1 + j) × (slice_get xs j ≡ Some y) × (test y ≡ true))
+        → (j : ℕ) × (y : _) × (p ≡ k + j) × (slice_get (x ∷ xs) j ≡ Some y) × (test y ≡ true)
+    go true t e rest = (zero, x, omega (arith, same_Some k p e), refl, t)
+    go false t e rest = let (j, y, at, here, passes) = rest e in (suc j, y, omega (arith, at), here, passes)
+
+-- where some element passes, there is a first place that does
+pub position_found : {A : Type 0} (test : A → Bool) (k : ℕ) (xs : List A) → list_any test xs ≡ true → position_from test k xs ≡ None → ⊥
+position_found test k [] h e = cc
+position_found test k (x ∷ xs) h e = go (test x) h e (position_found test (k + 1) xs)
+  where
+    go : (b : Bool) → (b || list_any test xs) ≡ true → cond b (Some k) (position_from test (k + 1) xs) ≡ None
+        → (list_any test xs ≡ true → position_from test (k + 1) xs ≡ None → ⊥) → ⊥
+    go true t e rest = none-some k (sym e)
+    go false t e rest = rest t e

@@ -1,0 +1,267 @@
+-- The view of the opening of a network is an opening.
+use Rattle.std.specs.Prelude.{◌≡◌, ◌⊎◌, ℕ, ◌<◌, Bool, true, false, cond, List, [], ◌∷◌, map, length, Option, Some, None, is_some, slice_get, option_map, option_and_then, unwrap_or, T}
+use Rattle.std.specs.List.{range_with_len}
+use Rattle.std.specs.Option.{option_map_or}
+use Rattle.std.specs.declared.cmp.Ordering.{Ordering}
+use Rattle.std.specs.declared.cmp.Ordering.TheVariants.{Less, Equal, Greater}
+use Rattle.std.specs.FinMap.{find as row_of, put}
+use Rattle.std.specs.FinMap.Entries.{find-put, is_sorted, is_sorted-put, by_order}
+use Rattle.std.proofs.Common.{refl, sym, ap, subst, ◌∙◌, arith, inl, inr}
+use Rattle.std.proofs.lemmas.List.{length-map}
+use Rattle.std.proofs.lemmas.Bool.{false≢true}
+use Rattle.std.proofs.lemmas.Option.{slice_get-map, slice_get_within}
+use Rattle.ipv4_prefix.specs.Prefix.{Prefix, prefix_cmp, prefix_eq}
+use Rattle.network_model.specs.Machine.{Machine, opening_machine}
+use Rattle.network_model.specs.declared.machine.Neighbour.{Neighbour}
+use Rattle.metric.specs.Distance.{infinity}
+use Rattle.network_model.specs.declared.route.Entry.{Entry}
+use Rattle.network_model.specs.declared.network.End.{End}
+use Rattle.network_model.specs.declared.network.End.TheVariants.{A, B}
+use Rattle.network_model.specs.World.{Link, Router, Network, side, neighbours, machine_of, places_from, opening_link, opening_port, rows_of, opening_router, owned, opening}
+use Rattle.network_model.specs.declared.network.Place.{Place}
+use Rattle.network_model.specs.declared.network.Port.{Port}
+use Rattle.network_model.specs.declared.network.LinkSpec.{LinkSpec}
+use Rattle.network_model.specs.Step.{session_at, entry_of}
+use Rattle.network_model.proofs.ListLaws.{Some_injective, None_not_Some}
+use Rattle.ipv4_prefix.proofs.PrefixOrder.{prefix_cmp_total}
+use Rattle.loop_freedom.specs.Network.{LinkEnd, State, Opening, OpeningPorts, at_port}
+use Rattle.packet_loops.proofs.Wiring.{IsWiredLink, IsWired}
+use Rattle.packet_loops.proofs.Places.{lay, laid, topology, listed_at, listed_within}
+use Rattle.packet_loops.proofs.View.{next_hop, on_link, inbox_of, kept, ripe_of, unripe_of, next_hop_at, view, on_link-there, on_router-there}
+use Rattle.packet_loops.proofs.Kept.{ends, spec_ends, RouterKept, WorldKept}
+
+-- ---- one value at each of these prefixes
+
+-- a prefix has no row among those with one value at some prefixes, or has that value
+found_row : {X : Type 0} (p : Prefix) (x : X) (ps : List Prefix) → (row_of prefix_cmp p (rows_of x ps) ≡ None) ⊎ (row_of prefix_cmp p (rows_of x ps) ≡ Some x)
+found_row p x [] = inl refl
+found_row p x (k ∷ ks) = elim (prefix_eq p k) as (λ b. prefix_eq p k ≡ b → (row_of prefix_cmp p (rows_of x (k ∷ ks)) ≡ None) ⊎ (row_of prefix_cmp p (rows_of x (k ∷ ks)) ≡ Some x)) [
+  | true ↦ λ is. inr (find-put prefix_cmp prefix_cmp_total p k x (rows_of x ks) ∙ ap (λ b. cond b (Some x) (row_of prefix_cmp p (rows_of x ks))) is)
+  | false ↦ λ is. let e = find-put prefix_cmp prefix_cmp_total p k x (rows_of x ks) ∙ ap (λ b. cond b (Some x) (row_of prefix_cmp p (rows_of x ks))) is in elim (found_row p x ks) [ inl h ↦ inl (e ∙ h) | inr h ↦ inr (e ∙ h) ]
+] refl
+
+-- rows with one value at some prefixes are sorted
+sorted_rows : {X : Type 0} (x : X) (ps : List Prefix) → T (is_sorted prefix_cmp (rows_of x ps))
+sorted_rows x [] = tt
+sorted_rows x (k ∷ ks) = is_sorted-put prefix_cmp prefix_cmp_total k x (rows_of x ks) (sorted_rows x ks)
+
+module _ {X Y : Type 0} (h : X → Y) where
+  -- a row put among rows that are then changed is a changed row put among changed rows
+  map-put : (k : Prefix) (x : X) (rows : List (Prefix × X)) → map (λ e. (e.0, h e.1)) (put prefix_cmp k x rows) ≡ put prefix_cmp k (h x) (map (λ e. (e.0, h e.1)) rows)
+  map-put k x [] = refl
+  map-put k x (e ∷ es) = by_rank (prefix_cmp k e.0) (map-put k x es)
+    where
+      by_rank : (o : Ordering) → map (λ e. (e.0, h e.1)) (put prefix_cmp k x es) ≡ put prefix_cmp k (h x) (map (λ e. (e.0, h e.1)) es)
+          → map (λ e. (e.0, h e.1)) (by_order o ((k, x) ∷ e ∷ es) ((e.0, x) ∷ es) (e ∷ put prefix_cmp k x es))
+          ≡ by_order o ((k, h x) ∷ (e.0, h e.1) ∷ map (λ e. (e.0, h e.1)) es) ((e.0, h x) ∷ map (λ e. (e.0, h e.1)) es) ((e.0, h e.1) ∷ put prefix_cmp k (h x) (map (λ e. (e.0, h e.1)) es))
+      by_rank Less r = refl
+      by_rank Equal r = refl
+      by_rank Greater r = ap (λ ys. (e.0, h e.1) ∷ ys) r
+
+  -- rows with one value at some prefixes, changed, are rows with the changed value there
+  map-rows_of : (x : X) (ps : List Prefix) → map (λ e. (e.0, h e.1)) (rows_of x ps) ≡ rows_of (h x) ps
+  map-rows_of x [] = refl
+  map-rows_of x (k ∷ ks) = map-put k x (rows_of x ks) ∙ ap (put prefix_cmp k (h x)) (map-rows_of x ks)
+
+module _ (n : Network) (N : IsWired n) (p : Prefix) where
+  -- the links of the world at the start
+  abbrev links : List Link
+  links = map opening_link n.links
+
+  -- the ports of router i at the start
+  abbrev ports_of : ℕ → List Port
+  ports_of i = map (opening_port links) (places_from 0 i n.links)
+
+  -- router i at the start
+  abbrev first : ℕ → Router
+  first i = opening_router (ports_of i) (owned n i)
+
+  -- ---- machines
+
+  -- the machine is as opened over the ports of router i
+  record Opens (i : ℕ) (m : Machine) : Type 0 where
+    owns : Bool
+    is : m ≡ opening_machine owns (neighbours (ports_of i))
+
+  -- each machine at the start is as opened over the ports of its router
+  opens : (i : ℕ) → Opens i (machine_of (first i) p)
+  opens i = elim (found_row p (opening_machine true (neighbours (ports_of i))) (owned n i)) [
+    | inl h ↦ record { owns = false; is = ap (λ o. unwrap_or o (opening_machine false (neighbours (ports_of i)))) h }
+    | inr h ↦ record { owns = true; is = ap (λ o. unwrap_or o (opening_machine false (neighbours (ports_of i)))) h }
+  ]
+
+  -- router i has as many ports as the network has places for it
+  count_of : (i : ℕ) → length (ports_of i) ≡ length (places_from 0 i n.links)
+  count_of i = length-map (places_from 0 i n.links) (opening_port links)
+
+  -- each machine has as many neighbours as its router has ports
+  machine_count : (i : ℕ) → length (machine_of (first i) p).ports ≡ length (ports_of i)
+  machine_count i = ap (λ (m : Machine). length m.ports) (opens i).is ∙ length-map (ports_of i) (λ (x : Port). record { up = x.up; cost = x.cost; reported = infinity })
+
+  -- router i at the start keeps what a router keeps
+  first_kept : (i : ℕ) → RouterKept n p i (first i)
+  first_kept i = record {
+    ripe_within = omega arith;
+    sorted = sorted_rows (opening_machine true (neighbours (ports_of i))) (owned n i);
+    published_sorted = sorted_rows Entry.Local (owned n i);
+    control_is = sym (map-rows_of (λ (m : Machine). entry_of (ports_of i) m) (opening_machine true (neighbours (ports_of i))) (owned n i));
+    port_count = count_of i;
+    machine_ports = machine_count i;
+    placed = λ q out. refl;
+  }
+
+  -- the links at the start end at the routers of the links of the network
+  ends_first : (ss : List LinkSpec) → map ends (map opening_link ss) ≡ map spec_ends ss
+  ends_first [] = refl
+  ends_first (s ∷ ss) = ap (λ xs. (s.a, s.b) ∷ xs) (ends_first ss)
+
+  -- the world at the start keeps what a world keeps
+  pub opening_kept : WorldKept n p (opening n)
+  opening_kept = record {
+    places_same = refl;
+    ends_same = ends_first n.links;
+    routers_kept = λ i r at. (let e = listed_within first n.routers i r at in subst (λ (x : Router). RouterKept n p i x) e.1 (first_kept i));
+  }
+
+  -- ---- ports
+
+  -- the cost from each end of a wired link is positive
+  cost_at : (s : LinkSpec) → IsWiredLink n.routers s → (e : End) → 0 < (side e (opening_link s)).cost
+  cost_at s L A = L.from_a_costs
+  cost_at s L B = L.from_b_costs
+
+  -- the neighbour is down, its link costs something, and it reported nothing
+  record FirstPort (nb : Neighbour) : Type 0 where
+    is_down : nb.up ≡ false
+    costs : 0 < nb.cost
+    silent : nb.reported ≡ infinity
+
+  -- each link of the network is there at the start, as opened
+  link_there : (l : ℕ) (s : LinkSpec) → slice_get n.links l ≡ Some s → slice_get links l ≡ Some (opening_link s)
+  link_there l s is = slice_get-map opening_link n.links l ∙ ap (option_map opening_link) is
+
+  -- each neighbour at the start is down, its link costs something, and it reported nothing
+  first_port : (i : ℕ) → i < n.routers → (q : ℕ) (nb : Neighbour) → slice_get (neighbours (ports_of i)) q ≡ Some nb → FirstPort nb
+  first_port i lt q nb e = by_place (slice_get (places_from 0 i n.links) q) refl
+      (sym (slice_get-map (λ (x : Port). record { up = x.up; cost = x.cost; reported = infinity }) (ports_of i) q ∙ ap (option_map (λ (x : Port). record { up = x.up; cost = x.cost; reported = infinity })) (slice_get-map (opening_port links) (places_from 0 i n.links) q)) ∙ e)
+    where
+      one : (x : Place) → slice_get (places_from 0 i n.links) q ≡ Some x → 0 < (opening_port links x).cost
+      one x at =
+          let L = laid n (at_port i q) x (ap (option_and_then (λ (ps : List Place). slice_get ps q)) (listed_at (λ y. places_from 0 y n.links) n.routers i lt) ∙ at) in
+          let same : (opening_port links x).cost ≡ (side x.end (opening_link L.spec)).cost = ap (λ o. option_map_or (λ (k : Link). (side x.end k).cost) o 0) (link_there x.link L.spec L.is_link) in
+          let positive : 0 < (side x.end (opening_link L.spec)).cost = cost_at L.spec (N.are_links x.link L.spec L.is_link) x.end in
+          omega (arith, same, positive)
+
+      by_place : (o : Option Place) → slice_get (places_from 0 i n.links) q ≡ o → option_map (λ (x : Port). record { up = x.up; cost = x.cost; reported = infinity }) (option_map (opening_port links) o) ≡ Some nb → FirstPort nb
+      by_place None at h = absurd (None_not_Some h)
+      by_place (Some x) at h = subst FirstPort (Some_injective h) (record { is_down = refl; costs = one x at; silent = refl })
+
+  -- the feasible distance of each router at the start, which counts as published
+  abbrev pub first_fd : ℕ → ℕ
+  first_fd i = (option_map_or (λ (r : Router). machine_of r p) (slice_get (opening n).routers i) (opening_machine false [])).fd
+
+  -- the view at the start
+  abbrev s : State
+  s = view n p (opening n) first_fd
+
+  -- where f says d of each router as opened, it says d of every router at the start, also of one that is not there
+  all_routers : {X : Type 0} (f : Router → X) (d : X) → ((i : ℕ) → f (first i) ≡ d) → (j : ℕ) → option_map_or f (slice_get (opening n).routers j) d ≡ d
+  all_routers f d same j = ap (λ o. option_map_or f o d) (slice_get-map first (range_with_len 0 n.routers) j) ∙ by_number (slice_get (range_with_len 0 n.routers) j)
+    where
+      by_number : (o : Option ℕ) → option_map_or f (option_map first o) d ≡ d
+      by_number None = refl
+      by_number (Some i) = same i
+
+  -- where f says d of each link as opened, it says d of every link at the start, also of one that is not there
+  all_links : {X : Type 0} (f : End → Link → X) (d : X) → ((e : End) (x : LinkSpec) → f e (opening_link x) ≡ d) → (o : Option Place) → on_link f d o links ≡ d
+  all_links f d same None = refl
+  all_links f d same (Some x) = ap (λ o. option_map_or (f x.end) o d) (slice_get-map opening_link n.links x.link) ∙ by_link (slice_get n.links x.link)
+    where
+      by_link : (o : Option LinkSpec) → option_map_or (f x.end) (option_map opening_link o) d ≡ d
+      by_link None = refl
+      by_link (Some y) = same x.end y
+
+  -- no end of a link has an item to take at the start
+  first_inbox : (e : End) (x : LinkSpec) → inbox_of p e (opening_link x) ≡ []
+  first_inbox A x = refl
+  first_inbox B x = refl
+
+  -- every port is in session 0 at the start
+  first_session : (q : ℕ) (i : ℕ) → session_at (ports_of i) q ≡ 0
+  first_session q i = ap (λ o. option_map_or (λ (x : Port). x.session) o 0) (slice_get-map (opening_port links) (places_from 0 i n.links) q) ∙ by_place (slice_get (places_from 0 i n.links) q)
+    where
+      by_place : (o : Option Place) → option_map_or (λ (x : Port). x.session) (option_map (opening_port links) o) 0 ≡ 0
+      by_place None = refl
+      by_place (Some x) = refl
+
+  -- no router has published a next hop at the start
+  first_hop : (i : ℕ) → next_hop_at p (first i) ≡ None
+  first_hop i = elim (found_row p Entry.Local (owned n i)) [
+    | inl h ↦ ap (option_and_then next_hop) h
+    | inr h ↦ ap (option_and_then next_hop) h
+  ]
+
+  -- the machine is as opened over its ports, which are those of an opening
+  record First (m : Machine) : Type 0 where
+    is : m ≡ opening_machine m.local m.ports
+    ports : OpeningPorts m.ports
+
+  -- a machine as opened over ports of an opening is such a machine
+  first_of : (m : Machine) (b : Bool) (ns : List Neighbour) → m ≡ opening_machine b ns → OpeningPorts ns → First m
+  first_of m b ns is P = subst First (sym is) (record { is = refl; ports = P })
+
+  -- no ports at all are ports of an opening
+  no_ports : OpeningPorts []
+  no_ports = record { ports_down = λ q x e. absurd (None_not_Some e); ports_cost = λ q x e. absurd (None_not_Some e); ports_report = λ q x e. absurd (None_not_Some e) }
+
+  -- the ports of a router of the network are ports of an opening
+  some_ports : (i : ℕ) → i < n.routers → OpeningPorts (neighbours (ports_of i))
+  some_ports i lt = record {
+    ports_down = λ q x e. (first_port i lt q x e).is_down;
+    ports_cost = λ q x e. (first_port i lt q x e).costs;
+    ports_report = λ q x e. (first_port i lt q x e).silent;
+  }
+
+  -- every machine of the view at the start is as opened over ports of an opening
+  first_machine : (i : ℕ) → First (s.machine i)
+  first_machine i = by_router (slice_get (opening n).routers i) refl
+    where
+      by_router : (o : Option Router) → slice_get (opening n).routers i ≡ o → First (option_map_or (λ (r : Router). machine_of r p) o (opening_machine false []))
+      by_router None at = record { is = refl; ports = no_ports }
+      by_router (Some r) at =
+          let e = listed_within first n.routers i r at in
+          subst (λ (x : Router). First (machine_of x p)) e.1 (first_of (machine_of (first i) p) (opens i).owns (neighbours (ports_of i)) (opens i).is (some_ports i e.0))
+
+  -- a port that is there is a port of its machine, and costs something
+  valid_there : (e : LinkEnd) → is_some (lay n e) ≡ true → (e.port < length (s.machine e.router).ports) × (0 < s.cost e)
+  valid_there e v = by_place (lay n e) refl v
+    where
+      by_place : (o : Option Place) → lay n e ≡ o → is_some o ≡ true → (e.port < length (s.machine e.router).ports) × (0 < s.cost e)
+      by_place None is h = absurd (false≢true h)
+      by_place (Some x) is h =
+          let L = laid n e x is in
+          let lt : e.port < length (places_from 0 e.router n.links) = slice_get_within (places_from 0 e.router n.links) e.port x L.listed in
+          let m : s.machine e.router ≡ machine_of (first e.router) p = on_router-there (λ (r : Router). machine_of r p) (opening_machine false []) (opening n).routers e.router (first e.router) (listed_at first n.routers e.router L.known) in
+          let count : length (s.machine e.router).ports ≡ length (places_from 0 e.router n.links) = ap (λ (y : Machine). length y.ports) m ∙ machine_count e.router ∙ count_of e.router in
+          let cost : s.cost e ≡ (side x.end (opening_link L.spec)).cost = on_link-there (λ en k. (side en k).cost) 0 links (lay n e) x (opening_link L.spec) is (link_there x.link L.spec L.is_link) in
+          let positive : 0 < (side x.end (opening_link L.spec)).cost = cost_at L.spec (N.are_links x.link L.spec L.is_link) x.end in
+          (omega (arith, lt, count), omega (arith, cost, positive))
+
+  -- the view at the start is an opening
+  pub opening_view : Opening (topology n N) (view n p (opening n) first_fd)
+  opening_view = record {
+    owns = λ i. (s.machine i).local;
+    ports = λ i. (s.machine i).ports;
+    opening_ports = λ i. (first_machine i).ports;
+    ports_there = λ e v. (valid_there e v).0;
+    machines = λ i. (first_machine i).is;
+    seen_none = λ e. all_routers (λ r. session_at r.ports e.port) 0 (first_session e.port) e.router;
+    all_down = λ e. all_links (λ en k. k.up) false (λ en x. refl) (lay n e);
+    session_none = λ e. all_links (λ en k. k.session) 0 (λ en x. refl) (lay n e);
+    cost_positive = λ e v. (valid_there e v).1;
+    inbox_empty = λ e. all_links (inbox_of p) [] first_inbox (lay n e);
+    ripe_empty = λ e. all_routers (λ r. kept p e.port (ripe_of r)) [] (λ i. refl) e.router;
+    unripe_empty = λ e. all_routers (λ r. kept p e.port (unripe_of r)) [] (λ i. refl) e.router;
+    nothing_published = all_routers (next_hop_at p) None first_hop;
+    opening_fd = λ i. refl;
+  }

@@ -1,0 +1,259 @@
+-- The places of a network's links: each end of each link is one port of one router.
+use Rattle.std.specs.Prelude.{◌≡◌, ◌≢◌, ℕ, zero, suc, ◌+◌, ◌<◌, Bool, true, false, ◌==◌, if◌then◌else◌, List, [], ◌∷◌, ◌++◌, map, Option, Some, None, is_some, slice_get, option_and_then, option_map}
+use Rattle.std.specs.List.{range_with_len}
+use Rattle.std.specs.Option.{option_map_or}
+use Rattle.std.proofs.Common.{refl, sym, ap, subst, ◌∙◌, arith}
+use Rattle.std.proofs.lemmas.Bool.{eqb-true, eq-eqb, ne_eqb, false≢true}
+use Rattle.std.proofs.lemmas.Option.{slice_get-map}
+use Rattle.network_model.specs.declared.network.End.{End}
+use Rattle.network_model.specs.declared.network.End.TheVariants.{A, B}
+use Rattle.network_model.specs.declared.network.Place.{Place}
+use Rattle.network_model.specs.declared.network.LinkSpec.{LinkSpec}
+use Rattle.network_model.specs.World.{Network, other, place_at, places_from, opening}
+use Rattle.network_model.proofs.ListLaws.{Some_injective, None_not_Some}
+use Rattle.loop_freedom.specs.Network.{LinkEnd, Topology, at_port}
+use Rattle.packet_loops.proofs.Wiring.{IsWiredLink, IsWired}
+
+-- the router at an end of a link
+abbrev pub router_end : End → LinkSpec → ℕ
+router_end A s = s.a
+router_end B s = s.b
+
+-- one port for a link that ends at the router
+abbrev pub one_if_at : ℕ → LinkSpec → ℕ
+one_if_at i s = if s.a == i then 1 else if s.b == i then 1 else 0
+
+-- how many ports router i has on the links before number k
+abbrev pub ports_before : ℕ → ℕ → List LinkSpec → ℕ
+ports_before zero i ss = 0
+ports_before (suc k) i [] = 0
+ports_before (suc k) i (s ∷ ss) = one_if_at i s + ports_before k i ss
+
+-- the place at this end of link l
+abbrev pub place_of : ℕ → End → Place
+place_of l e = record { link = l; end = e }
+
+-- port q of router i has this place, on a link that ends at the router, with q ports of the router on the links before
+pub record IsPort (l i : ℕ) (ss : List LinkSpec) (q : ℕ) (x : Place) : Type 0 where
+  pub number : ℕ
+  pub spec : LinkSpec
+  pub link_is : x.link ≡ l + number
+  pub is_link : slice_get ss number ≡ Some spec
+  pub router_is : router_end x.end spec ≡ i
+  pub port_is : ports_before number i ss ≡ q
+
+module _ (l i : ℕ) (s : LinkSpec) (ss : List LinkSpec) (x : Place) (deeper : (k : ℕ) → slice_get (places_from (l + 1) i ss) k ≡ Some x → IsPort (l + 1) i ss k x) where
+  -- a port among the later links is one among all, after those on the first link
+  later : (q m r : ℕ) → one_if_at i s ≡ m → m + r ≡ q → IsPort (l + 1) i ss r x → IsPort l i (s ∷ ss) q x
+  later q m r one is P = record {
+    number = suc P.number;
+    spec = P.spec;
+    link_is = omega (arith, P.link_is);
+    is_link = P.is_link;
+    router_is = P.router_is;
+    port_is = omega (arith, P.port_is, one, is);
+  }
+
+  -- a place on the first link is port 0
+  first : (q : ℕ) (en : End) → router_end en s ≡ i → place_of l en ≡ x → 0 ≡ q → IsPort l i (s ∷ ss) q x
+  first q en at is port = record {
+    number = 0;
+    spec = s;
+    link_is = (let e : x.link ≡ l = ap (λ (y : Place). y.link) (sym is) in omega (arith, e));
+    is_link = refl;
+    router_is = subst (λ (y : Place). router_end y.end s ≡ i) is at;
+    port_is = port;
+  }
+
+  -- where the first link ends at the router, each port is that on it or one among the later links
+  at_one : (q : ℕ) (en : End) → router_end en s ≡ i → one_if_at i s ≡ 1 → slice_get (place_of l en ∷ places_from (l + 1) i ss) q ≡ Some x → IsPort l i (s ∷ ss) q x
+  at_one zero en at one h = first zero en at (Some_injective h) refl
+  at_one (suc k) en at one h = later (suc k) 1 k one (omega arith) (deeper k h)
+
+  -- so it is where the first link does not begin at the router, whether it ends there or not
+  by_b : (q : ℕ) (b : Bool) → (s.a == i) ≡ false → (s.b == i) ≡ b → slice_get ((if b then place_of l B ∷ [] else []) ++ places_from (l + 1) i ss) q ≡ Some x → IsPort l i (s ∷ ss) q x
+  by_b q true na eb h = at_one q B (eqb-true s.b i eb) (rw (na, eb) refl) h
+  by_b q false na eb h = later q 0 q (rw (na, eb) refl) (omega arith) (deeper q h)
+
+  -- so it is whether the first link begins at the router or not
+  by_a : (q : ℕ) (b : Bool) → (s.a == i) ≡ b → slice_get ((if b then place_of l A ∷ [] else if s.b == i then place_of l B ∷ [] else []) ++ places_from (l + 1) i ss) q ≡ Some x → IsPort l i (s ∷ ss) q x
+  by_a q true ea h = at_one q A (eqb-true s.a i ea) (rw ea refl) h
+  by_a q false na h = by_b q (s.b == i) na refl h
+
+-- each place in the list of the places of router i is the port at its position
+is_port : (l i : ℕ) (ss : List LinkSpec) (q : ℕ) (x : Place) → slice_get (places_from l i ss) q ≡ Some x → IsPort l i ss q x
+is_port l i [] q x e = absurd (None_not_Some e)
+is_port l i (s ∷ ss) q x e = by_a l i s ss x (λ k. is_port (l + 1) i ss k x) q (s.a == i) refl e
+
+-- a first link that ends at the router has its port 0, at that end
+front_at : (l i : ℕ) (s : LinkSpec) (ss : List LinkSpec) (e : End) → router_end e s ≡ i → s.a ≢ s.b → slice_get (places_from l i (s ∷ ss)) 0 ≡ Some (place_of l e)
+front_at l i s ss A at apart = rw (eq-eqb s.a i at) refl
+front_at l i s ss B at apart = rw (ne_eqb s.a i (λ p. apart (p ∙ sym at)), eq-eqb s.b i at) refl
+
+-- the ports of the later links follow that on the first, if it has one
+behind : (l i : ℕ) (s : LinkSpec) (ss : List LinkSpec) (k : ℕ) → slice_get (places_from l i (s ∷ ss)) (one_if_at i s + k) ≡ slice_get (places_from (l + 1) i ss) k
+behind l i s ss k = by_a (s.a == i)
+  where
+    one_more : (y : Place) (ys : List Place) → slice_get (y ∷ ys) (1 + k) ≡ slice_get ys k
+    one_more y ys = let e : 1 + k ≡ suc k = omega arith in ap (slice_get (y ∷ ys)) e
+
+    no_more : (ys : List Place) → slice_get ys (0 + k) ≡ slice_get ys k
+    no_more ys = let e : 0 + k ≡ k = omega arith in ap (slice_get ys) e
+
+    by_b : (b : Bool) → slice_get ((if b then place_of l B ∷ [] else []) ++ places_from (l + 1) i ss) ((if b then 1 else 0) + k) ≡ slice_get (places_from (l + 1) i ss) k
+    by_b true = one_more (place_of l B) (places_from (l + 1) i ss)
+    by_b false = no_more (places_from (l + 1) i ss)
+
+    by_a : (b : Bool) → slice_get ((if b then place_of l A ∷ [] else if s.b == i then place_of l B ∷ [] else []) ++ places_from (l + 1) i ss) ((if b then 1 else if s.b == i then 1 else 0) + k) ≡ slice_get (places_from (l + 1) i ss) k
+    by_a true = one_more (place_of l A) (places_from (l + 1) i ss)
+    by_a false = by_b (s.b == i)
+
+-- the end of link k at router i is the port numbered by the ports of the links before
+port_there : (l i : ℕ) (ss : List LinkSpec) (k : ℕ) (s : LinkSpec) (e : End) → slice_get ss k ≡ Some s → router_end e s ≡ i → s.a ≢ s.b
+    → slice_get (places_from l i ss) (ports_before k i ss) ≡ Some (place_of (l + k) e)
+port_there l i [] k s e is at apart = absurd (None_not_Some is)
+port_there l i (x ∷ xs) zero s e is at apart =
+    let same : x ≡ s = Some_injective is in
+    let sum : l ≡ l + 0 = omega arith in
+    front_at l i x xs e (ap (router_end e) same ∙ at) (λ p. apart (sym (ap (λ (y : LinkSpec). y.a) same) ∙ p ∙ ap (λ (y : LinkSpec). y.b) same))
+    ∙ ap (λ (m : ℕ). Some (place_of m e)) sum
+port_there l i (x ∷ xs) (suc k) s e is at apart =
+    let sum : (l + 1) + k ≡ l + suc k = omega arith in
+    behind l i x xs (ports_before k i xs) ∙ port_there (l + 1) i xs k s e is at apart ∙ ap (λ (m : ℕ). Some (place_of m e)) sum
+
+-- ---- lists by number
+
+-- the i-th of n numbers from a on is a + i
+range_at : (a n i : ℕ) → i < n → slice_get (range_with_len a n) i ≡ Some (a + i)
+range_at a zero i lt = absurd (omega arith)
+range_at a (suc n) zero lt = let e : a ≡ a + 0 = omega arith in ap Some e
+range_at a (suc n) (suc i) lt = let e : (a + 1) + i ≡ a + suc i = omega arith in range_at (a + 1) n i (omega (arith, lt)) ∙ ap Some e
+
+-- what is found among n numbers from a on at position i is a + i, and i is below n
+range_within : (a n i x : ℕ) → slice_get (range_with_len a n) i ≡ Some x → (i < n) × (x ≡ a + i)
+range_within a zero i x e = absurd (None_not_Some e)
+range_within a (suc n) zero x e = (omega arith, (let f : a ≡ x = Some_injective e in omega (arith, f)))
+range_within a (suc n) (suc i) x e = let h : (i < n) × (x ≡ (a + 1) + i) = range_within (a + 1) n i x e in (omega (arith, h.0), omega (arith, h.1))
+
+-- the i-th of the values of f at 0 to n - 1 is f i
+pub listed_at : {X : Type 0} (f : ℕ → X) (n i : ℕ) → i < n → slice_get (map f (range_with_len 0 n)) i ≡ Some (f i)
+listed_at f n i lt = let e : 0 + i ≡ i = omega arith in slice_get-map f (range_with_len 0 n) i ∙ ap (option_map f) (range_at 0 n i lt) ∙ ap (λ (k : ℕ). Some (f k)) e
+
+-- what is found among the values of f at 0 to n - 1 at position i is f i, and i is below n
+pub listed_within : {X : Type 0} (f : ℕ → X) (n i : ℕ) (x : X) → slice_get (map f (range_with_len 0 n)) i ≡ Some x → (i < n) × (f i ≡ x)
+listed_within f n i x e = by_found (slice_get (range_with_len 0 n) i) refl (sym (slice_get-map f (range_with_len 0 n) i) ∙ e)
+  where
+    by_found : (o : Option ℕ) → slice_get (range_with_len 0 n) i ≡ o → option_map f o ≡ Some x → (i < n) × (f i ≡ x)
+    by_found None is h = absurd (None_not_Some h)
+    by_found (Some k) is h = let r : (i < n) × (k ≡ 0 + i) = range_within 0 n i k is in let same : k ≡ i = omega (arith, r.1) in (r.0, ap f (sym same) ∙ Some_injective h)
+
+-- ---- a network
+
+-- the place at which a port lies, if there is such a port
+abbrev pub lay : Network → LinkEnd → Option Place
+lay n e = place_at (opening n) e.router e.port
+
+-- the router and the port of a place, on a link that is known
+abbrev pub spot_on : Network → Place → LinkSpec → LinkEnd
+spot_on n x s = at_port (router_end x.end s) (ports_before x.link (router_end x.end s) n.links)
+
+-- the router and the port of a place
+abbrev pub spot : Network → Place → LinkEnd
+spot n x = option_map_or (spot_on n x) (slice_get n.links x.link) (at_port 0 0)
+
+-- the other end of the same link
+abbrev pub across : Place → Place
+across x = place_of x.link (other x.end)
+
+-- the router and the port across the link; the port itself where it has no place
+abbrev pub far : Network → LinkEnd → LinkEnd
+far n e = option_map_or (λ x. spot n (across x)) (lay n e) e
+
+-- port e lies at place x: its router and its link are known, and the router is at that end of the link
+pub record Laid (n : Network) (e : LinkEnd) (x : Place) : Type 0 where
+  pub known : e.router < n.routers
+  pub listed : slice_get (places_from 0 e.router n.links) e.port ≡ Some x
+  pub spec : LinkSpec
+  pub is_link : slice_get n.links x.link ≡ Some spec
+  pub router_is : router_end x.end spec ≡ e.router
+  pub spot_is : spot n x ≡ e
+
+-- what is known of a port that lies at a place
+pub laid : (n : Network) (e : LinkEnd) (x : Place) → lay n e ≡ Some x → Laid n e x
+laid n e x is = by_list (slice_get (opening n).places e.router) refl is
+  where
+    by_port : (e.router < n.routers) → (h : slice_get (places_from 0 e.router n.links) e.port ≡ Some x) → IsPort 0 e.router n.links e.port x → Laid n e x
+    by_port known h P =
+        let link : P.number ≡ x.link = omega (arith, P.link_is) in
+        let found : slice_get n.links x.link ≡ Some P.spec = ap (slice_get n.links) (sym link) ∙ P.is_link in
+        let port : ports_before x.link e.router n.links ≡ e.port = ap (λ (k : ℕ). ports_before k e.router n.links) (sym link) ∙ P.port_is in
+        record {
+          known = known;
+          listed = h;
+          spec = P.spec;
+          is_link = found;
+          router_is = P.router_is;
+          spot_is = ap (λ o. option_map_or (spot_on n x) o (at_port 0 0)) found
+              ∙ ap (λ (k : ℕ). at_port k (ports_before x.link k n.links)) P.router_is
+              ∙ ap (λ (q : ℕ). at_port e.router q) port;
+        }
+
+    by_list : (o : Option (List Place)) → slice_get (opening n).places e.router ≡ o → option_and_then (λ ps. slice_get ps e.port) o ≡ Some x → Laid n e x
+    by_list None at h = absurd (None_not_Some h)
+    by_list (Some ps) at h =
+        let r = listed_within (λ i. places_from 0 i n.links) n.routers e.router ps at in
+        let there : slice_get (places_from 0 e.router n.links) e.port ≡ Some x = ap (λ (ys : List Place). slice_get ys e.port) r.1 ∙ h in
+        by_port r.0 there (is_port 0 e.router n.links e.port x there)
+
+module _ (n : Network) (N : IsWired n) where
+  -- both ends of a wired link are routers of the network
+  end_known : (s : LinkSpec) → IsWiredLink n.routers s → (e : End) → router_end e s < n.routers
+  end_known s L A = L.a_known
+  end_known s L B = L.b_known
+
+  -- the port of a place lies at that place
+  pub lay-spot : (x : Place) (s : LinkSpec) → slice_get n.links x.link ≡ Some s → lay n (spot n x) ≡ Some x
+  lay-spot x s is =
+      let i = router_end x.end s in
+      let q = ports_before x.link i n.links in
+      let L = N.are_links x.link s is in
+      let sum : 0 + x.link ≡ x.link = omega arith in
+      ap (lay n) (ap (λ o. option_map_or (spot_on n x) o (at_port 0 0)) is)
+      ∙ ap (option_and_then (λ ps. slice_get ps q)) (listed_at (λ k. places_from 0 k n.links) n.routers i (end_known s L x.end))
+      ∙ port_there 0 i n.links x.link s x.end is refl L.ends_differ
+      ∙ ap (λ (m : ℕ). Some (place_of m x.end)) sum
+
+  -- the port across the link lies at the other end
+  pub far_laid : (e : LinkEnd) (x : Place) → lay n e ≡ Some x → lay n (far n e) ≡ Some (across x)
+  far_laid e x is =
+      let H = laid n e x is in
+      ap (lay n) (ap (λ o. option_map_or (λ y. spot n (across y)) o e) is) ∙ lay-spot (across x) H.spec H.is_link
+
+  -- the end across from the end across is the end itself
+  across_twice : (x : Place) → across (across x) ≡ x
+  across_twice x = by_end x.end
+    where
+      by_end : (d : End) → place_of x.link (other (other d)) ≡ place_of x.link d
+      by_end A = refl
+      by_end B = refl
+
+  -- across from a port that is there a port is there
+  pub far_valid : (e : LinkEnd) → is_some (lay n e) ≡ true → is_some (lay n (far n e)) ≡ true
+  far_valid e v = by_place (lay n e) refl v
+    where
+      by_place : (o : Option Place) → lay n e ≡ o → is_some o ≡ true → is_some (lay n (far n e)) ≡ true
+      by_place None is h = absurd (false≢true h)
+      by_place (Some x) is h = ap is_some (far_laid e x is)
+
+  -- across from the port across is the port itself
+  pub far_far : (e : LinkEnd) → is_some (lay n e) ≡ true → far n (far n e) ≡ e
+  far_far e v = by_place (lay n e) refl v
+    where
+      by_place : (o : Option Place) → lay n e ≡ o → is_some o ≡ true → far n (far n e) ≡ e
+      by_place None is h = absurd (false≢true h)
+      by_place (Some x) is h =
+          ap (λ o. option_map_or (λ y. spot n (across y)) o (far n e)) (far_laid e x is) ∙ ap (spot n) (across_twice x) ∙ (laid n e x is).spot_is
+
+  -- which ports a network has, and which port is across from which
+  abbrev pub topology : Topology
+  topology = record { far = far n; valid = λ e. is_some (lay n e); far_valid = far_valid; far_far = far_far }

@@ -1,0 +1,145 @@
+-- A router that publishes does so in the view.
+use Rattle.std.specs.Prelude.{◌≡◌, ℕ, Bool, true, false, ◌==◌, if◌then◌else◌, List, [], ◌++◌, length, Option, Some, None, slice_get, option_map, option_and_then, unwrap_or, T}
+use Rattle.std.specs.Option.{option_map_or}
+use Rattle.std.specs.FinMap.{find as row_of}
+use Rattle.std.specs.FinMap.Entries.{is_sorted}
+use Rattle.std.proofs.Common.{refl, sym, ap, subst, ◌∙◌, arith, take_all, take-append-drop}
+use Rattle.std.proofs.lemmas.Bool.{eq-eqb, ne_eqb}
+use Rattle.std.proofs.lemmas.List.{drop_all}
+use Rattle.ipv4_prefix.specs.Prefix.{Prefix, prefix_cmp}
+use Rattle.network_model.specs.Machine.{Machine, opening_machine}
+use Rattle.network_model.specs.declared.route.Entry.{Entry}
+use Rattle.network_model.specs.declared.network.Port.{Port}
+use Rattle.network_model.specs.World.{Router, World, Network, machine_of, neighbours}
+use Rattle.network_model.specs.declared.step.Step.TheVariants.{Publish}
+use Rattle.network_model.specs.Step.{next, router_publishing, entry_of, session_at, chosen_rows}
+use Rattle.network_model.proofs.ListLaws.{Some_injective, slice_get-changed_at}
+use Rattle.machine_laws.specs.Laws.{IsSound}
+use Rattle.loop_freedom.specs.Network.{LinkEnd, State, Publish as NetPublish, Publishes, next_hop_of, at_port}
+use Rattle.loop_freedom.proofs.Invariant.{Invariant}
+use Rattle.packet_loops.proofs.Wiring.{IsWired}
+use Rattle.packet_loops.proofs.Places.{topology}
+use Rattle.packet_loops.proofs.View.{next_hop, kept, ripe_of, unripe_of, next_hop_at, view, kept-append, on_router-there, on_router-miss, on_router-same}
+use Rattle.packet_loops.proofs.Machines.{row_of-map, is_sorted-map}
+use Rattle.packet_loops.proofs.Kept.{RouterKept, WorldKept, StepKept, with_router}
+
+-- the next hop of a machine's entry is its successor, in the session seen there
+next_hop_entry : (ports : List Port) (m : Machine) (seen : ℕ → ℕ) → (m.local ≡ true → m.successor ≡ None) → ((q : ℕ) → seen q ≡ session_at ports q) → next_hop (entry_of ports m) ≡ next_hop_of seen m.successor
+next_hop_entry ports m seen none same = by_owner m.local refl
+  where
+    by_port : (s : Option ℕ) → next_hop (option_map_or (λ q. Entry.Via q (session_at ports q)) s Entry.Unreachable) ≡ next_hop_of seen s
+    by_port None = refl
+    by_port (Some q) = ap (λ (n : ℕ). Some (record { port = q; session = n })) (sym (same q))
+
+    by_owner : (b : Bool) → m.local ≡ b → next_hop (if b then Entry.Local else option_map_or (λ q. Entry.Via q (session_at ports q)) m.successor Entry.Unreachable) ≡ next_hop_of seen m.successor
+    by_owner true is = ap (next_hop_of seen) (sym (none is))
+    by_owner false is = by_port m.successor
+
+-- the next hop of the row that a router has chosen is its machine's successor, in the session seen there
+pub control_hop : (p : Prefix) (r : Router) (seen : ℕ → ℕ) → (r.table).control ≡ chosen_rows r.ports r.machines → ((machine_of r p).local ≡ true → (machine_of r p).successor ≡ None) → ((q : ℕ) → seen q ≡ session_at r.ports q)
+    → option_and_then next_hop (row_of prefix_cmp p (r.table).control) ≡ next_hop_of seen (machine_of r p).successor
+control_hop p r seen is none same =
+    ap (λ (rows : List (Prefix × Entry)). option_and_then next_hop (row_of prefix_cmp p rows)) is
+    ∙ ap (option_and_then next_hop) (row_of-map (λ (m : Machine). entry_of r.ports m) p r.machines)
+    ∙ by_row (row_of prefix_cmp p r.machines) none
+  where
+    by_row : (o : Option Machine) → ((unwrap_or o (opening_machine false (neighbours r.ports))).local ≡ true → (unwrap_or o (opening_machine false (neighbours r.ports))).successor ≡ None)
+        → option_and_then next_hop (option_map (λ m. entry_of r.ports m) o) ≡ next_hop_of seen (unwrap_or o (opening_machine false (neighbours r.ports))).successor
+    by_row None none = refl
+    by_row (Some m) none = next_hop_entry r.ports m seen none same
+
+module _ (n : Network) (N : IsWired n) (p : Prefix) (w : World) (pfd : ℕ → ℕ) (K : WorldKept n p w) (I : Invariant (topology n N) (view n p w pfd)) (i : ℕ) (r : Router) (router_at : slice_get w.routers i ≡ Some r) where
+  -- the view before
+  abbrev old : State
+  old = view n p w pfd
+
+  -- the world after router i published
+  abbrev v : World
+  v = next w (Publish i)
+
+  -- the feasible distances as published then: that of router i is its present one
+  abbrev pfd' : ℕ → ℕ
+  pfd' j = if j == i then (old.machine i).fd else pfd j
+
+  -- the view after
+  abbrev new : State
+  new = view n p v pfd'
+
+  -- the router before keeps what a router keeps
+  R : RouterKept n p i r
+  R = K.routers_kept i r router_at
+
+  -- router i is then the router that published
+  new_at : (j : ℕ) → j ≡ i → slice_get v.routers j ≡ Some (router_publishing r)
+  new_at j e = ap (slice_get v.routers) e ∙ slice_get-changed_at router_publishing i w.routers ∙ ap (option_map router_publishing) router_at
+
+  -- router i was the router r
+  old_at : (j : ℕ) → j ≡ i → slice_get w.routers j ≡ Some r
+  old_at j e = ap (slice_get w.routers) e ∙ router_at
+
+  -- the view shows the machine of router i
+  machine_was : old.machine i ≡ machine_of r p
+  machine_was = on_router-there (λ y. machine_of y p) (opening_machine false []) w.routers i r router_at
+
+  -- the router that published keeps what a router keeps
+  router_kept : RouterKept n p i (router_publishing r)
+  router_kept = record {
+    ripe_within = omega arith;
+    sorted = R.sorted;
+    published_sorted = subst T (sym (ap (is_sorted prefix_cmp) R.control_is ∙ is_sorted-map (λ (m : Machine). entry_of r.ports m) r.machines)) R.sorted;
+    control_is = R.control_is;
+    port_count = R.port_count;
+    machine_ports = R.machine_ports;
+    placed = R.placed;
+  }
+
+  -- the published next hop is the successor, in the session seen there
+  published_is : new.published i ≡ next_hop_of (λ q. old.seen (at_port i q)) (old.machine i).successor
+  published_is =
+      let sound : IsSound (machine_of r p) = subst IsSound machine_was (I.sound i) in
+      on_router-there (next_hop_at p) None v.routers i (router_publishing r) (new_at i refl)
+      ∙ control_hop p r (λ q. old.seen (at_port i q)) R.control_is sound.local_successor (λ q. on_router-there (λ y. session_at y.ports q) 0 w.routers i r router_at)
+      ∙ ap (λ (m : Machine). next_hop_of (λ q. old.seen (at_port i q)) m.successor) (sym machine_was)
+
+  -- all that the router held may be released
+  ripe_is : (e : LinkEnd) → e.router ≡ i → new.ripe e ≡ old.ripe e ++ old.unripe e
+  ripe_is e h =
+      let held = (r.gate).held in
+      on_router-there (λ y. kept p e.port (ripe_of y)) [] v.routers e.router (router_publishing r) (new_at e.router h)
+      ∙ ap (kept p e.port) (take_all (length held) held (omega arith) ∙ sym (take-append-drop (r.gate).ripe held))
+      ∙ kept-append p e.port (ripe_of r) (unripe_of r)
+      ∙ (λ z. sym (on_router-there (λ y. kept p e.port (ripe_of y)) [] w.routers e.router r (old_at e.router h)) z ++ sym (on_router-there (λ y. kept p e.port (unripe_of y)) [] w.routers e.router r (old_at e.router h)) z)
+
+  -- nothing is left that may not be released
+  unripe_is : (e : LinkEnd) → e.router ≡ i → new.unripe e ≡ []
+  unripe_is e h =
+      on_router-there (λ y. kept p e.port (unripe_of y)) [] v.routers e.router (router_publishing r) (new_at e.router h)
+      ∙ ap (kept p e.port) (drop_all (length (r.gate).held) (r.gate).held (omega arith))
+
+  -- a router that publishes does so in the view
+  net : NetPublish (topology n N) old new
+  net = record {
+    j = i;
+    published_at = published_is;
+    published_fd_at = rw (eq-eqb i i refl) refl;
+    published_elsewhere = λ j apart. on_router-miss (next_hop_at p) None w.routers router_publishing i j apart;
+    published_fd_elsewhere = λ j apart. rw (ne_eqb j i apart) refl;
+    ripe_at = ripe_is;
+    unripe_at = unripe_is;
+    ripe_elsewhere = λ e apart. on_router-miss (λ y. kept p e.port (ripe_of y)) [] w.routers router_publishing i e.router apart;
+    unripe_elsewhere = λ e apart. on_router-miss (λ y. kept p e.port (unripe_of y)) [] w.routers router_publishing i e.router apart;
+    machines = record {
+      machine_same = λ j. on_router-same (λ y. machine_of y p) (opening_machine false []) w.routers router_publishing i j (λ y there. refl);
+      seen_same = λ e. on_router-same (λ y. session_at y.ports e.port) 0 w.routers router_publishing i e.router (λ y there. refl);
+    };
+    inboxes = record { inbox_same = λ e. refl };
+    links = record { up_same = λ e. refl; session_same = λ e. refl };
+    costs = record { cost_same = λ e. refl };
+  }
+
+  -- the step Publish is one of the view, and keeps what a world keeps
+  pub publishes : StepKept n N p w pfd (next w (Publish i)) pfd'
+  publishes = record {
+    kept = with_router n p w i router_publishing (λ y there. subst (λ (z : Router). RouterKept n p i (router_publishing z)) (Some_injective (sym router_at ∙ there)) router_kept) K;
+    step = Publishes net;
+  }

@@ -1,0 +1,2 @@
+-- The definitions of the laws about packets.
+pub mod Packets

@@ -1,0 +1,201 @@
+-- At a quiet world each router has its best row.
+use Rattle.std.specs.Prelude.{◌≡◌, ◌⊎◌, ℕ, ◌<◌, ◌≤◌, Bool, true, false, if◌then◌else◌, List, [], map, Option, Some, None, is_some, slice_get, option_map, option_and_then, unwrap_or}
+use Rattle.std.specs.Option.{option_map_or}
+use Rattle.std.specs.FinMap.{find as row_of}
+use Rattle.std.proofs.Common.{refl, sym, ap, subst, ◌∙◌, inl, inr, arith}
+use Rattle.std.proofs.lemmas.Bool.{false≢true, both_ways}
+use Rattle.ipv4_prefix.specs.Prefix.{Prefix, prefix_cmp}
+use Rattle.network_model.specs.Machine.{Machine, opening_machine}
+use Rattle.network_model.specs.declared.route.Entry.TheVariants.{Local, Via, Unreachable}
+use Rattle.network_model.specs.declared.network.End.{End}
+use Rattle.network_model.specs.declared.network.End.TheVariants.{A, B}
+use Rattle.network_model.specs.World.{Link, Router, World, Network, side, machine_of, neighbours, opening}
+use Rattle.network_model.specs.declared.network.Place.{Place}
+use Rattle.network_model.specs.declared.network.Port.{Port}
+use Rattle.network_model.specs.Step.{entry_of, session_at}
+use Rattle.network_model.specs.Forwarding.{IsWalk as IsWay, walk_cost as way_cost, is_quiet}
+use Rattle.loop_freedom.specs.Network.{LinkEnd, State, Topology, IsWalk as NetWalk}
+use Rattle.network_model.specs.Network.{IsNetwork}
+use Rattle.packet_loops.specs.Packets.{published_entry}
+use Rattle.packet_loops.proofs.Wiring.{IsWired, wired, few_routers}
+use Rattle.packet_loops.proofs.Machines.{row_of-map}
+use Rattle.packet_loops.proofs.Places.{lay, laid, spot, topology}
+use Rattle.packet_loops.proofs.Opened.{first_fd, opening_view}
+use Rattle.packet_loops.proofs.View.{on_link, view}
+use Rattle.packet_loops.proofs.Runs.{Reached, reached}
+use Rattle.network_model.specs.Run.{history}
+use Rattle.least_cost.specs.Quiet.{LeadsHome, Follows, IsRouted as IsNetRouted, IsOptimal, end_of, walk_cost}
+use Rattle.least_cost.proofs.AtQuiet.{optimal_at_quiet}
+use Rattle.quiet_routes.specs.Routes.{Owns, IsRouted, IsChain, IsUnheard, HasBestRow, QuietRoutes}
+use Rattle.quiet_routes.proofs.Worlds.{CheapLink, Good, good}
+use Rattle.quiet_routes.proofs.Owners.{run_local, owner_local, local_owner, one_owner}
+use Rattle.quiet_routes.proofs.Still.{row_now, quiet_now}
+use Rattle.quiet_routes.proofs.Ways.{IsUp, place_for, walk_more, to_walk, to_cost, from_walk, from_cost, from_chain}
+
+module _ (n : Network) (V : IsNetwork n) (p : Prefix) (w : World) (rs : List Router) (R : Reached n (wired n V) p w rs) (G : Good p w) (quiet : is_quiet w ≡ true) (o : ℕ) (owner : Owns n p o) where
+  -- the network is wired
+  abbrev N : IsWired n
+  N = wired n V
+
+  -- the topology of the network
+  abbrev t : Topology
+  t = topology n N
+
+  -- the view of the quiet world
+  abbrev s : State
+  s = view n p w R.published_fd
+
+  -- a port that is there is one of a router of the network
+  placed : (e : LinkEnd) → t.valid e ≡ true → e.router < n.routers
+  placed e v = by_place (lay n e) refl v
+    where
+      by_place : (x : Option Place) → lay n e ≡ x → is_some x ≡ true → e.router < n.routers
+      by_place None is h = absurd (false≢true h)
+      by_place (Some x) is h = (laid n e x is).known
+
+  -- the cost from each place has 16 bits
+  costs_fit : (x : Option Place) → on_link (λ en k. (side en k).cost) 0 x w.links ≤ 65535
+  costs_fit None = omega arith
+  costs_fit (Some x) = by_link (slice_get w.links x.link) refl
+    where
+      by_end : (k : Link) (e : End) → CheapLink k → (side e k).cost ≤ 65535
+      by_end k A c = c.0
+      by_end k B c = c.1
+
+      by_link : (k : Option Link) → slice_get w.links x.link ≡ k → option_map_or (λ y. (side x.end y).cost) k 0 ≤ 65535
+      by_link None at = omega arith
+      by_link (Some k) at = by_end k x.end (G.cheap x.link k at)
+
+  -- the view has a least way, or none, at each router
+  optimal : (i : ℕ) → i < n.routers → IsOptimal t n.routers s i
+  optimal = optimal_at_quiet t (view n p (opening n) (first_fd n N p)) s (opening_view n N p) R.run n.routers (few_routers n V) placed (λ e v. costs_fit (lay n e)) (quiet_now n N p w rs R G quiet)
+
+  -- ---- owners
+
+  -- a machine is local where it was so at the start
+  local_is : (i : ℕ) → (s.machine i).local ≡ ((view n p (opening n) (first_fd n N p)).machine i).local
+  local_is i = run_local t (view n p (opening n) (first_fd n N p)) s R.run i
+
+  -- the machine of the owner is local
+  at_home : (s.machine o).local ≡ true
+  at_home = local_is o ∙ owner_local n N p (first_fd n N p) o owner
+
+  -- a machine that is local is the owner's
+  home : (i : ℕ) → (s.machine i).local ≡ true → i ≡ o
+  home i h = one_owner n N p (first_fd n N p) i o (local_owner n N p (first_fd n N p) i (sym (local_is i) ∙ h)) owner
+
+  -- ---- rows
+
+  -- router i has not heard of the prefix, or its published row is the entry of its machine
+  data Shows (i : ℕ) : Type 0 where
+    Silent : (s.machine i).local ≡ false → IsUnheard w p i → Shows i
+    Row : (ports : List Port) → published_entry w i p ≡ Some (entry_of ports (s.machine i)) → Shows i
+
+  -- so it is at each router
+  shows : (i : ℕ) → Shows i
+  shows i = by_router (slice_get w.routers i) refl
+    where
+      by_row : (r : Router) → slice_get w.routers i ≡ Some r → (x : Option Machine) → row_of prefix_cmp p r.machines ≡ x → Shows i
+      by_row r at None is =
+          let machine : s.machine i ≡ opening_machine false (neighbours r.ports) =
+          ap (λ y. option_map_or (λ (z : Router). machine_of z p) y (opening_machine false [])) at ∙ ap (λ y. unwrap_or y (opening_machine false (neighbours r.ports))) is in
+          Silent (ap (λ (m : Machine). m.local) machine) (record {
+            not_published = ap (option_and_then (λ (y : Router). row_of prefix_cmp p (y.table).published)) at ∙ row_now n N p w rs R G quiet i r at ∙ ap (option_map (λ m. entry_of r.ports m)) is;
+            not_chosen = ap (option_and_then (λ (y : Router). row_of prefix_cmp p (y.table).control)) at
+                ∙ ap (row_of prefix_cmp p) (R.kept.routers_kept i r at).control_is
+                ∙ row_of-map (λ (m : Machine). entry_of r.ports m) p r.machines
+                ∙ ap (option_map (λ m. entry_of r.ports m)) is;
+          })
+      by_row r at (Some m) is =
+          let machine : s.machine i ≡ m =
+          ap (λ y. option_map_or (λ (z : Router). machine_of z p) y (opening_machine false [])) at ∙ ap (λ y. unwrap_or y (opening_machine false (neighbours r.ports))) is in
+          Row r.ports (
+          ap (option_and_then (λ (y : Router). row_of prefix_cmp p (y.table).published)) at
+          ∙ row_now n N p w rs R G quiet i r at
+          ∙ ap (option_map (λ x. entry_of r.ports x)) is
+          ∙ ap (λ (x : Machine). Some (entry_of r.ports x)) (sym machine)
+          )
+
+      by_router : (x : Option Router) → slice_get w.routers i ≡ x → Shows i
+      by_router None at = Silent (ap (λ y. (option_map_or (λ (z : Router). machine_of z p) y (opening_machine false [])).local) at) (record {
+        not_published = ap (option_and_then (λ (y : Router). row_of prefix_cmp p (y.table).published)) at;
+        not_chosen = ap (option_and_then (λ (y : Router). row_of prefix_cmp p (y.table).control)) at;
+      })
+      by_router (Some r) at = by_row r at (row_of prefix_cmp p r.machines) refl
+
+  -- the entry of a local machine is Local
+  entry_local : (ports : List Port) (m : Machine) → m.local ≡ true → entry_of ports m ≡ Local
+  entry_local ports m h = ap (λ b. if b then Local else option_map_or (λ q. Via q (session_at ports q)) m.successor Unreachable) h
+
+  -- the entry of a machine that is not local and has no successor is Unreachable
+  entry_lost : (ports : List Port) (m : Machine) → m.local ≡ false → m.successor ≡ None → entry_of ports m ≡ Unreachable
+  entry_lost ports m h none =
+      ap (λ b. if b then Local else option_map_or (λ q. Via q (session_at ports q)) m.successor Unreachable) h
+      ∙ ap (λ x. option_map_or (λ q. Via q (session_at ports q)) x Unreachable) none
+
+  -- the row of the owner is Local
+  local_row : published_entry w o p ≡ Some Local
+  local_row = by_shows (shows o)
+    where
+      by_shows : Shows o → published_entry w o p ≡ Some Local
+      by_shows (Silent h u) = absurd (both_ways (s.machine o).local h at_home)
+      by_shows (Row ports row) = row ∙ ap Some (entry_local ports (s.machine o) at_home)
+
+  -- ---- the two cases
+
+  -- a walk of the world to the owner is one of the view to a local machine
+  leads_home : (i : ℕ) (ps : List Place) → IsWay w i ps o → LeadsHome t s i (map (spot n) ps)
+  leads_home i ps h =
+      let W = to_walk n N p w rs R i ps o h in
+      record { live = W.0; home = ap (λ (j : ℕ). (s.machine j).local) W.1 ∙ at_home }
+
+  -- a router that has a least way in the view is routed in the world
+  routed : (i : ℕ) → IsNetRouted t n.routers s i → IsRouted w p i o
+  routed i Q =
+      let ends : end_of t i Q.chain ≡ o = home (end_of t i Q.chain) Q.reaches in
+      let up : NetWalk t (IsUp n N p w rs R) i Q.chain = walk_more t (Follows s) (IsUp n N p w rs R) (λ e f. f.sends.linked) i Q.chain Q.follows in
+      let cost : way_cost w (map (place_for n N p w rs R) Q.chain) ≡ (s.machine i).rd = from_cost n N p w rs R i Q.chain up ∙ Q.cost_is in
+      record {
+        local_at_owner = λ e. ap (λ (j : ℕ). published_entry w j p) e ∙ local_row;
+        chain = map (place_for n N p w rs R) Q.chain;
+        leads = subst (λ (j : ℕ). IsChain w p i (map (place_for n N p w rs R) Q.chain) j) ends
+            (from_chain n N p w rs R i Q.chain Q.follows (ap (λ (j : ℕ). published_entry w j p) ends ∙ local_row));
+        cost_is = cost;
+        least = record {
+          walk = subst (λ (j : ℕ). IsWay w i (map (place_for n N p w rs R) Q.chain) j) ends (from_walk n N p w rs R i Q.chain up);
+          least = λ others h. (
+              let under : (s.machine i).rd ≤ walk_cost s (map (spot n) others) = Q.least_cost (map (spot n) others) (leads_home i others h) in
+              let same : walk_cost s (map (spot n) others) ≡ way_cost w others = to_cost n N p w rs R i others o h in
+              omega (arith, cost, under, same)
+              );
+        };
+      }
+
+  -- where no walk of the world leads to the owner, none of the view does
+  no_way : (i : ℕ) → ((ps : List Place) → IsWay w i ps o → ⊥) → (es : List LinkEnd) → LeadsHome t s i es → ⊥
+  no_way i none es h =
+      none (map (place_for n N p w rs R) es) (subst (λ (j : ℕ). IsWay w i (map (place_for n N p w rs R) es) j) (home (end_of t i es) h.home) (from_walk n N p w rs R i es h.live))
+
+  -- without a walk to the owner and a successor, the row is Unreachable or the prefix unheard
+  lost : (i : ℕ) → ((ps : List Place) → IsWay w i ps o → ⊥) → (s.machine i).successor ≡ None → (published_entry w i p ≡ Some Unreachable) ⊎ IsUnheard w p i
+  lost i none gone = by_shows (shows i)
+    where
+      by_local : (ports : List Port) → published_entry w i p ≡ Some (entry_of ports (s.machine i)) → (b : Bool) → (s.machine i).local ≡ b → published_entry w i p ≡ Some Unreachable
+      by_local ports row true h = absurd (none [] (home i h))
+      by_local ports row false h = row ∙ ap Some (entry_lost ports (s.machine i) h gone)
+
+      by_shows : Shows i → (published_entry w i p ≡ Some Unreachable) ⊎ IsUnheard w p i
+      by_shows (Silent h u) = inr u
+      by_shows (Row ports row) = inl (by_local ports row (s.machine i).local refl)
+
+  -- each router of a quiet world has its best row
+  pub best : (i : ℕ) → i < n.routers → HasBestRow w p i o
+  best i lt = record {
+    connected = λ ps h. routed i ((optimal i lt).connected (map (spot n) ps) (leads_home i ps h));
+    cut_off = λ none. lost i none ((optimal i lt).disconnected (no_way i none)).no_successor;
+  }
+
+-- in every quiet world to which a run leads, each router has its best row for each prefix that is owned
+pub quiet_routes : QuietRoutes
+quiet_routes n ss w V r quiet p o owner i lt =
+    best n V p w (history n ss).published (reached n (wired n V) p ss w r) (good p n ss w V r) quiet o owner i lt

@@ -1,0 +1,196 @@
+-- A quiet world is a quiet state of the view, and its published rows are those of its machines.
+use Rattle.std.specs.Prelude.{◌≡◌, ℕ, zero, suc, Bool, true, false, cond, not, ◌&&◌, ◌==◌, List, [], ◌∷◌, take, drop, Option, Some, None, slice_get, filter, option_map, option_and_then, unwrap_or, is_none, is_some}
+use Rattle.std.specs.List.{list_all}
+use Rattle.std.specs.Option.{option_map_or}
+use Rattle.std.specs.FinMap.{find as row_of}
+use Rattle.std.proofs.Common.{refl, sym, ap, subst, ◌∙◌}
+use Rattle.std.proofs.Math.Seq.{take-nil, drop-nil}
+use Rattle.std.proofs.lemmas.Bool.{and_parts, eqb-true, false≢true}
+use Rattle.ipv4_prefix.specs.Prefix.{Prefix, prefix_cmp, prefix_eq}
+use Rattle.network_model.specs.Machine.{Machine, Computation, opening_machine}
+use Rattle.network_model.specs.declared.item.Held.{Held}
+use Rattle.network_model.specs.declared.route.Entry.{Entry}
+use Rattle.network_model.specs.declared.route.Entry.TheVariants.{Local, Via, Unreachable}
+use Rattle.network_model.specs.declared.network.End.{End}
+use Rattle.network_model.specs.declared.network.End.TheVariants.{A, B}
+use Rattle.network_model.specs.World.{Link, Router, World, Network, side, machine_of, neighbours}
+use Rattle.network_model.specs.declared.network.Place.{Place}
+use Rattle.network_model.specs.Step.{entry_eq, has_row, changed_rows, entry_of, session_at}
+use Rattle.network_model.specs.Forwarding.{is_empty, is_quiet_router, is_quiet_link, is_quiet}
+use Rattle.network_model.proofs.ListLaws.{Some_injective, None_not_Some}
+use Rattle.machine_laws.specs.Laws.{IsSound, is_active}
+use Rattle.loop_freedom.specs.Network.{State, next_hop_of, at_port}
+use Rattle.packet_loops.proofs.Wiring.{IsWired}
+use Rattle.packet_loops.proofs.Machines.{row_of-map, prefix_same}
+use Rattle.packet_loops.proofs.Places.{lay, topology}
+use Rattle.packet_loops.proofs.Publishing.{control_hop}
+use Rattle.packet_loops.proofs.Runs.{Reached}
+use Rattle.packet_loops.proofs.View.{next_hop, next_hop_at, on_link, inbox_of, heard, kept, ripe_of, unripe_of, view, on_router-there}
+use Rattle.least_cost.specs.Quiet.{IsQuiet}
+use Rattle.quiet_routes.proofs.Worlds.{Good}
+
+-- ---- lists all of whose elements pass
+
+-- where all elements pass, the one at a position does
+all_at : {A : Type 0} (f : A → Bool) (xs : List A) → list_all f xs ≡ true → (k : ℕ) (x : A) → slice_get xs k ≡ Some x → f x ≡ true
+all_at f [] h k x e = absurd (None_not_Some e)
+all_at f (y ∷ ys) h zero x e = ap f (sym (Some_injective e)) ∙ (and_parts (f y) (list_all f ys) h).0
+all_at f (y ∷ ys) h (suc k) x e = all_at f ys (and_parts (f y) (list_all f ys) h).1 k x e
+
+-- where all rows pass, the one that is found does
+row_passes : {X : Type 0} (p : Prefix) (f : Prefix × X → Bool) (rows : List (Prefix × X)) → list_all f rows ≡ true → (x : X) → row_of prefix_cmp p rows ≡ Some x → f (p, x) ≡ true
+row_passes p f [] h x e = absurd (None_not_Some e)
+row_passes p f (r ∷ rs) h x e = by_key (prefix_eq p r.0) refl e (row_passes p f rs (and_parts (f r) (list_all f rs) h).1 x)
+  where
+    by_key : (b : Bool) → prefix_eq p r.0 ≡ b → cond b (Some r.1) (row_of prefix_cmp p rs) ≡ Some x → (row_of prefix_cmp p rs ≡ Some x → f (p, x) ≡ true) → f (p, x) ≡ true
+    by_key true is g rest =
+        let k : p ≡ r.0 = prefix_same p r.0 is in
+        let v : x ≡ r.1 = sym (Some_injective g) in
+        (λ z. f (k z, v z)) ∙ (and_parts (f r) (list_all f rs) h).0
+    by_key false is g rest = rest g
+
+-- where no element that fails is left, all pass
+nothing_filtered : {A : Type 0} (f : A → Bool) (xs : List A) → is_empty (filter (λ x. not (f x)) xs) ≡ true → list_all f xs ≡ true
+nothing_filtered f [] h = refl
+nothing_filtered f (x ∷ xs) h = by_test (f x) h (nothing_filtered f xs)
+  where
+    by_test : (b : Bool) → is_empty (cond (not b) (x ∷ filter (λ y. not (f y)) xs) (filter (λ y. not (f y)) xs)) ≡ true → (is_empty (filter (λ y. not (f y)) xs) ≡ true → list_all f xs ≡ true) → (b && list_all f xs) ≡ true
+    by_test true e rest = rest e
+    by_test false e rest = absurd (false≢true e)
+
+-- a list that is empty by the test is the empty list
+empty_is : {A : Type 0} (xs : List A) → is_empty xs ≡ true → xs ≡ []
+empty_is [] h = refl
+empty_is (x ∷ xs) h = absurd (false≢true h)
+
+-- entries that are equal by the test are one entry
+entry_same : (a b : Entry) → entry_eq a b ≡ true → a ≡ b
+entry_same Local Local h = refl
+entry_same Local (Via q s) h = absurd (false≢true h)
+entry_same Local Unreachable h = absurd (false≢true h)
+entry_same (Via q s) Local h = absurd (false≢true h)
+entry_same (Via q s) (Via k t) h =
+    let both = and_parts (q == k) (s == t) h in
+    let a = eqb-true q k both.0 in
+    let b = eqb-true s t both.1 in
+    λ z. Via (a z) (b z)
+entry_same (Via q s) Unreachable h = absurd (false≢true h)
+entry_same Unreachable Local h = absurd (false≢true h)
+entry_same Unreachable (Via q s) h = absurd (false≢true h)
+entry_same Unreachable Unreachable h = refl
+
+-- ---- one router
+
+-- the machine of the prefix is passive, nothing is held, and the published row is the chosen one
+pub record Still (p : Prefix) (r : Router) : Type 0 where
+  pub passive : is_active (machine_of r p) ≡ false
+  pub held_none : (r.gate).held ≡ []
+  -- the published row is the chosen one
+  pub row_is : row_of prefix_cmp p (r.table).published ≡ row_of prefix_cmp p (r.table).control
+
+module _ (n : Network) (N : IsWired n) (p : Prefix) (w : World) (rs : List Router) (R : Reached n N p w rs) (G : Good p w) (quiet : is_quiet w ≡ true) where
+  -- the view of the world
+  abbrev s : State
+  s = view n p w R.published_fd
+
+  -- every router of a quiet world is quiet
+  router_quiet : (i : ℕ) (r : Router) → slice_get w.routers i ≡ Some r → is_quiet_router r ≡ true
+  router_quiet i r at = all_at is_quiet_router w.routers (and_parts (list_all is_quiet_router w.routers) (list_all is_quiet_link w.links) quiet).0 i r at
+
+  -- every link of a quiet world is quiet
+  link_quiet : (l : ℕ) (k : Link) → slice_get w.links l ≡ Some k → is_quiet_link k ≡ true
+  link_quiet l k at = all_at is_quiet_link w.links (and_parts (list_all is_quiet_router w.routers) (list_all is_quiet_link w.links) quiet).1 l k at
+
+  -- every router of a quiet world is still
+  pub still : (i : ℕ) (r : Router) → slice_get w.routers i ≡ Some r → Still p r
+  still i r at = record { passive = passive (row_of prefix_cmp p r.machines) refl; held_none = empty_is (r.gate).held first.1; row_is = row (row_of prefix_cmp p (r.table).control) refl }
+    where
+      parts : ((list_all (λ m. is_none (m.1).computation) r.machines && is_empty (r.gate).held) ≡ true) × (is_empty (changed_rows r.table) ≡ true)
+      parts = and_parts (list_all (λ m. is_none (m.1).computation) r.machines && is_empty (r.gate).held) (is_empty (changed_rows r.table)) (router_quiet i r at)
+
+      first : (list_all (λ m. is_none (m.1).computation) r.machines ≡ true) × (is_empty (r.gate).held ≡ true)
+      first = and_parts (list_all (λ m. is_none (m.1).computation) r.machines) (is_empty (r.gate).held) parts.0
+
+      not_active : (c : Option Computation) → is_none c ≡ true → is_some c ≡ false
+      not_active None h = refl
+      not_active (Some c) h = absurd (false≢true h)
+
+      passive : (o : Option Machine) → row_of prefix_cmp p r.machines ≡ o → is_active (unwrap_or o (opening_machine false (neighbours r.ports))) ≡ false
+      passive None is = refl
+      passive (Some m) is = not_active m.computation (row_passes p (λ x. is_none (x.1).computation) r.machines first.0 m is)
+
+      found : (e : Entry) (o : Option Entry) → option_map_or (λ x. entry_eq x e) o false ≡ true → o ≡ Some e
+      found e None h = absurd (false≢true h)
+      found e (Some x) h = ap Some (entry_same x e h)
+
+      unheard : (o : Option Machine) → row_of prefix_cmp p r.machines ≡ o → option_map (λ m. entry_of r.ports m) o ≡ None → row_of prefix_cmp p r.machines ≡ None
+      unheard None is e = is
+      unheard (Some m) is e = absurd (None_not_Some (sym e))
+
+      row : (o : Option Entry) → row_of prefix_cmp p (r.table).control ≡ o → row_of prefix_cmp p (r.table).published ≡ row_of prefix_cmp p (r.table).control
+      row None is =
+          let no_machine = unheard (row_of prefix_cmp p r.machines) refl
+          (sym (ap (row_of prefix_cmp p) (R.kept.routers_kept i r at).control_is ∙ row_of-map (λ (m : Machine). entry_of r.ports m) p r.machines) ∙ is) in
+          (G.heard i r at no_machine).1 ∙ sym is
+      row (Some e) is =
+          let all : list_all (has_row (r.table).published) (r.table).control ≡ true = nothing_filtered (has_row (r.table).published) (r.table).control parts.1 in
+          found e (row_of prefix_cmp p (r.table).published) (row_passes p (has_row (r.table).published) (r.table).control all e is) ∙ sym is
+
+  -- the row that a router of a quiet world published is the entry of its machine, if the prefix was heard of
+  pub row_now : (i : ℕ) (r : Router) → slice_get w.routers i ≡ Some r → row_of prefix_cmp p (r.table).published ≡ option_map (λ m. entry_of r.ports m) (row_of prefix_cmp p r.machines)
+  row_now i r at = (still i r at).row_is ∙ ap (row_of prefix_cmp p) (R.kept.routers_kept i r at).control_is ∙ row_of-map (λ (m : Machine). entry_of r.ports m) p r.machines
+
+  -- no port has an item to take
+  inbox_none : (o : Option Place) → on_link (inbox_of p) [] o w.links ≡ []
+  inbox_none None = refl
+  inbox_none (Some x) = by_link (slice_get w.links x.link) refl
+    where
+      by_end : (k : Link) (e : End) → (is_empty (k.a).inbox ≡ true) × (is_empty (k.b).inbox ≡ true) → heard p (side e k).inbox ≡ []
+      by_end k A h = ap (heard p) (empty_is (k.a).inbox h.0)
+      by_end k B h = ap (heard p) (empty_is (k.b).inbox h.1)
+
+      by_link : (o : Option Link) → slice_get w.links x.link ≡ o → option_map_or (inbox_of p x.end) o [] ≡ []
+      by_link None at = refl
+      by_link (Some k) at = by_end k x.end (and_parts (is_empty (k.a).inbox) (is_empty (k.b).inbox) (link_quiet x.link k at))
+
+  -- every machine of the view is passive
+  passive_now : (i : ℕ) → is_active (s.machine i) ≡ false
+  passive_now i = by_router (slice_get w.routers i) refl
+    where
+      by_router : (o : Option Router) → slice_get w.routers i ≡ o → is_active (option_map_or (λ r. machine_of r p) o (opening_machine false [])) ≡ false
+      by_router None at = refl
+      by_router (Some r) at = (still i r at).passive
+
+  -- nothing is kept of any part of what routers hold
+  kept_none : (part : Router → List Held) → ((r : Router) → (r.gate).held ≡ [] → part r ≡ []) → (i q : ℕ) → option_map_or (λ r. kept p q (part r)) (slice_get w.routers i) [] ≡ []
+  kept_none part none i q = by_router (slice_get w.routers i) refl
+    where
+      by_router : (o : Option Router) → slice_get w.routers i ≡ o → option_map_or (λ r. kept p q (part r)) o [] ≡ []
+      by_router None at = refl
+      by_router (Some r) at = ap (kept p q) (none r (still i r at).held_none)
+
+  -- every published next hop is the successor, in the session seen there
+  published_now : (i : ℕ) → s.published i ≡ next_hop_of (λ q. s.seen (at_port i q)) (s.machine i).successor
+  published_now i = by_router (slice_get w.routers i) refl
+    where
+      by_router : (o : Option Router) → slice_get w.routers i ≡ o → s.published i ≡ next_hop_of (λ q. s.seen (at_port i q)) (s.machine i).successor
+      by_router None at =
+          ap (λ o. option_map_or (next_hop_at p) o None) at
+          ∙ sym (ap (λ o. next_hop_of (λ q. s.seen (at_port i q)) (option_map_or (λ r. machine_of r p) o (opening_machine false [])).successor) at)
+      by_router (Some r) at =
+          let was : s.machine i ≡ machine_of r p = on_router-there (λ y. machine_of y p) (opening_machine false []) w.routers i r at in
+          let sound : IsSound (machine_of r p) = subst IsSound was (R.inv.sound i) in
+          on_router-there (next_hop_at p) None w.routers i r at
+          ∙ ap (option_and_then next_hop) (still i r at).row_is
+          ∙ control_hop p r (λ q. s.seen (at_port i q)) (R.kept.routers_kept i r at).control_is sound.local_successor (λ q. on_router-there (λ y. session_at y.ports q) 0 w.routers i r at)
+          ∙ ap (λ (m : Machine). next_hop_of (λ q. s.seen (at_port i q)) m.successor) (sym was)
+
+  -- the view of a quiet world is quiet
+  pub quiet_now : IsQuiet (topology n N) n.routers s
+  quiet_now = record {
+    passive = λ i l. passive_now i;
+    inbox_empty = λ e v. inbox_none (lay n e);
+    ripe_empty = λ e v. kept_none ripe_of (λ r h. ap (take (r.gate).ripe) h ∙ take-nil (r.gate).ripe) e.router e.port;
+    unripe_empty = λ e v. kept_none unripe_of (λ r h. ap (drop (r.gate).ripe) h ∙ drop-nil (r.gate).ripe) e.router e.port;
+    published_is = λ i l. published_now i;
+  }

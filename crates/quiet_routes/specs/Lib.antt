@@ -1,0 +1,2 @@
+-- The definitions of the law about networks at rest.
+pub mod Routes

@@ -1,0 +1,18 @@
+// What holds of a network of routers that has come to rest: published rows lead along cheapest ways.
+#![tactic(auto)]
+
+ghost use Rattle.quiet_routes.specs.Routes.{QuietRoutes, SomeQuietRuns};
+
+/// Where a walk of up links leads from a router to the owner, its row for the prefix is Local (at
+/// the owner) or begins a chain of Via rows over up links in their present sessions to the owner;
+/// the chain's cost is the router's reported distance and is least. Where none leads there, the row
+/// is Unreachable or the prefix is unheard at that router.
+pub fn quiet_routes()
+    ensures { QuietRoutes }
+{}
+
+/// The law above speaks of some worlds: runs that come to rest, with a route, with none, and with
+/// a router that has not heard of the prefix.
+pub fn some_quiet_runs()
+    ensures { SomeQuietRuns }
+{}

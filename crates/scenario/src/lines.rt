@@ -1,0 +1,142 @@
+//! The four lists of lines of a scenario.
+
+ghost use Rattle.std.specs.Prelude.{◌≡◌, ◌≢◌, IfOk, Some, None, map, string_bytes, option_and_then};
+ghost use Rattle.toml.specs.Parse.{parse_document};
+ghost use Rattle.toml.specs.View.{table_view, items_view};
+ghost use Rattle.scenario.specs.Scenario.{lists_in, texts_of, texts_at, HasNoLists};
+ghost use Rattle.scenario.specs.Seen.{lists_of};
+
+use crate::fault::Fault;
+use std::alloc::Global;
+use toml::{Table, Value};
+
+/// The lines of a scenario, in order. What they say is not read here.
+#[derive(Debug, Drop)]
+pub struct Lines {
+    /// The names of the routers.
+    pub routers: Vec<String>,
+    /// The links.
+    pub links: Vec<String>,
+    /// The prefixes and their owners.
+    pub prefixes: Vec<String>,
+    /// The commands.
+    pub script: Vec<String>,
+}
+
+/// The lines of a scenario's text. A text that is no TOML document is a `BadToml`, a document with
+/// other keys or values a `BadKey`.
+pub fn read_scenario(alloc: Global, text: &str) -> Result<Lines, Fault>
+    ensures ok { IfOk result (λ lines. option_and_then lists_in (parse_document text.now) ≡ Some (lists_of lines)) }
+    ensures bad_key { result ≡ Err Fault.BadKey → HasNoLists (parse_document text.now) }
+    ensures bad_toml { result ≡ Err Fault.BadToml → parse_document text.now ≡ None }
+{
+    let table = match toml::table_from_str(alloc, text) {
+        Ok(table) => table,
+        Err(error) => {
+            return Err(if error.is_memory() {
+                Fault::NoMemory
+            } else {
+                Fault::BadToml
+            });
+        }
+    };
+    if table.len() != 4 {
+        return Err(Fault::BadKey);
+    }
+    let routers = lines_at(alloc, &table, "routers")?;
+    let links = lines_at(alloc, &table, "links")?;
+    let prefixes = lines_at(alloc, &table, "prefixes")?;
+    let script = lines_at(alloc, &table, "script")?;
+    Ok(Lines {
+        routers,
+        links,
+        prefixes,
+        script,
+    })
+}
+
+// The strings of the array at a key.
+fn lines_at(alloc: Global, table: &Table, key: &str) -> Result<Vec<String>, Fault>
+    ensures ok { IfOk result (λ v. texts_at key.now (table_view table.now) ≡ Some (map string_bytes v.items)) }
+    ensures bad_key { result ≡ Err Fault.BadKey → texts_at key.now (table_view table.now) ≡ None }
+    ensures no_toml { result ≢ Err Fault.BadToml }
+{
+    let Some(value) = table.get(key) else {
+        return Err(Fault::BadKey);
+    };
+    match value.as_array() {
+        Some(values) => strings(alloc, values),
+        None => Err(Fault::BadKey),
+    }
+}
+
+// The strings of an array, in order.
+fn strings(alloc: Global, values: &[Value]) -> Result<Vec<String>, Fault>
+    ensures ok { IfOk result (λ v. texts_of (items_view values.now) ≡ Some (map string_bytes v.items)) }
+    ensures bad_key { result ≡ Err Fault.BadKey → texts_of (items_view values.now) ≡ None }
+    ensures no_toml { result ≢ Err Fault.BadToml }
+{
+    let mut lines = Vec::new(alloc);
+    for value in values {
+        let text = value.as_str().ok_or(Fault::BadKey)?;
+        lines.push(String::from_str(alloc, text)?)?;
+    }
+    Ok(lines)
+}
+
+#[cfg(test)]
+mod tests {
+    use super::*;
+    use std::test::Fail;
+
+    #[test]
+    fn reads_lines_in_order(rt: HostRuntime) -> Result<(), Fail> {
+        let text =
+            "routers = [\"a\", \"b\"]\nlinks = [\"a b 1 1\"]\nprefixes = []\nscript = [\"x\"]\n";
+        let lines = read_scenario(rt.alloc(), text)?;
+        assert_eq!(rt; lines.routers.len(), 2);
+        assert_eq!(rt; lines.routers[0].as_str(), "a");
+        assert_eq!(rt; lines.routers[1].as_str(), "b");
+        assert_eq!(rt; lines.links.len(), 1);
+        assert_eq!(rt; lines.links[0].as_str(), "a b 1 1");
+        assert_eq!(rt; lines.prefixes.len(), 0);
+        assert_eq!(rt; lines.script.len(), 1);
+        Ok(())
+    }
+
+    #[test]
+    fn names_the_fault(rt: HostRuntime) -> Result<(), Fail> {
+        for (text, want) in [
+            ("routers = [\"a\"", "40 BadToml"),
+            ("", "41 BadKey"),
+            ("routers = []\nlinks = []\nprefixes = []\n", "41 BadKey"),
+            (
+                "routers = []\nlinks = []\nprefixes = []\nscripts = []\n",
+                "41 BadKey",
+            ),
+            (
+                "routers = []\nlinks = []\nprefixes = []\nscript = []\nx = 1\n",
+                "41 BadKey",
+            ),
+            (
+                "routers = [1]\nlinks = []\nprefixes = []\nscript = []\n",
+                "41 BadKey",
+            ),
+            (
+                "routers = \"a\"\nlinks = []\nprefixes = []\nscript = []\n",
+                "41 BadKey",
+            ),
+            (
+                "routers = []\nrouters = []\nlinks = []\nprefixes = []\nscript = []\n",
+                "40 BadToml",
+            ),
+        ] {
+            let Err(fault) = read_scenario(rt.alloc(), text) else {
+                return Err("a scenario was read".into());
+            };
+            let got = fault.to_string(rt.alloc())?;
+            assert_eq!(rt; got.as_str(), want, "at {text}");
+        }
+        Ok(())
+    }
+}

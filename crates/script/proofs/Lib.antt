@@ -1,0 +1,13 @@
+pub mod Splits
+pub mod Numbers
+pub mod NameTexts
+pub mod NameNumbers
+pub mod ReadLines
+pub mod Ports
+pub mod LinkTexts
+pub mod OwnerTexts
+pub mod StepTexts
+pub mod CommandTexts
+pub mod Exits
+pub mod Ranges
+pub mod Rows

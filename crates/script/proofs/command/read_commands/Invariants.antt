@@ -1,0 +1,11 @@
+use Rattle.std.proofs.Common.{◌≡◌, length}
+use Rattle.script.specs.Commands.{IsCommand}
+use Rattle.script.specs.Reading.{ReadsFirst}
+use Rattle.script.specs.Seen.{texts}
+use Rattle.script.proofs.command.read_commands.Given as goal
+
+abbrev pub invariant-loop-position : goal.invariant-loop-position
+invariant-loop-position l = record {
+  reads : ReadsFirst (IsCommand l.names l.links) (texts l.lines) l.commands.items;
+  count : length l.commands.items ≡ l.position;
+}

@@ -1,0 +1,10 @@
+use Rattle.std.proofs.Common.{◌≡◌, take}
+use Rattle.script.specs.Routers.{AreNames}
+use Rattle.script.specs.Seen.{texts}
+use Rattle.script.proofs.names.read_names.Given as goal
+
+abbrev pub invariant-loop-position : goal.invariant-loop-position
+invariant-loop-position l = record {
+  read : l.names ≡ take l.position (texts l.lines);
+  valid : AreNames l.names;
+}

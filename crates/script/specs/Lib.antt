@@ -1,0 +1,9 @@
+pub mod Words
+pub mod Routers
+pub mod Links
+pub mod Owners
+pub mod Commands
+pub mod Places
+pub mod Reading
+pub mod Seen
+pub mod Directories

@@ -1,0 +1,105 @@
+-- What is read of a scenario's lines, and where reading stops.
+use Rattle.std.specs.Prelude.{◌≡◌, ℕ, ◌<◌, ◌≤◌, List, [], Option, Some, None, length, take, slice_get}
+use Rattle.std.specs.List.{AllZip}
+use Rattle.ipv4_prefix.specs.Prefix.{Prefix}
+use Rattle.network_model.specs.declared.network.LinkSpec.{LinkSpec}
+use Rattle.script.specs.declared.command.Command.{Command}
+use Rattle.script.specs.declared.fault.Fault.{Fault}
+use Rattle.script.specs.declared.fault.Fault.TheVariants.{BadName, TooLarge}
+use Rattle.script.specs.declared.place.Key.{Key}
+use Rattle.script.specs.declared.place.Key.TheVariants.{Routers, Links, Prefixes, Script}
+use Rattle.script.specs.declared.place.Place.{Place}
+use Rattle.script.specs.declared.place.Located.{Located}
+use Rattle.script.specs.Words.{Text}
+use Rattle.script.specs.Routers.{AreNames, IsBadName}
+use Rattle.script.specs.Links.{IsLink, IsLinkFault}
+use Rattle.script.specs.Owners.{IsOwner, IsOwnerFault}
+use Rattle.script.specs.Commands.{IsCommand, IsCommandFault}
+
+-- the greatest number of commands
+abbrev pub most_commands : ℕ
+most_commands = 10000
+
+-- the lines of a scenario's four lists
+pub record Lists : Type 0 where
+  pub routers : List Text
+  pub links : List Text
+  pub prefixes : List Text
+  pub script : List Text
+
+-- what was read of them
+pub record Parts : Type 0 where
+  pub names : List Text
+  pub links : List LinkSpec
+  pub owners : List (Prefix × ℕ)
+  pub commands : List Command
+
+-- nothing
+abbrev pub no_parts : Parts
+no_parts = record { names = []; links = []; owners = []; commands = [] }
+
+-- the items are what the first lines of a list say, in order
+abbrev pub ReadsFirst : {X : Type 0} → (Text → X → Type 0) → List Text → List X → Type 0
+ReadsFirst Says lines items = AllZip Says (take (length items) lines) items
+
+-- each part is what the first lines of its list say, in order
+pub record AreParts (lists : Lists) (parts : Parts) : Type 0 where
+  pub names : parts.names ≡ take (length parts.names) lists.routers
+  pub valid : AreNames parts.names
+  pub links : ReadsFirst (IsLink parts.names) lists.links parts.links
+  pub owners : ReadsFirst (IsOwner parts.names) lists.prefixes parts.owners
+  pub commands : ReadsFirst (IsCommand parts.names parts.links) lists.script parts.commands
+
+-- a line for each item
+abbrev pub IsWhole : {X : Type 0} → List Text → List X → Type 0
+IsWhole lines items = length items ≡ length lines
+
+-- the first line past the items has the fault, and its position
+pub record IsStopped {X : Type 0} (IsFault : Text → Fault → Type 0) (lines : List Text) (items : List X) (position : ℕ) (fault : Fault) : Type 0 where
+  pub line : Text
+  pub is_line : slice_get lines position ≡ Some line
+  pub has_fault : IsFault line fault
+  pub first : length items ≡ position
+
+-- reading stopped at a place in the list of the key
+pub record StopsHere {X : Type 0} (IsFault : Text → Fault → Type 0) (key : Key) (lines : List Text) (items : List X) (at : Located) : Type 0 where
+  pub position : ℕ
+  pub place : at.place ≡ Some (record { key = key; position = position })
+  pub stopped : IsStopped IsFault lines items position at.fault
+
+-- why a line says no further name
+abbrev pub IsNameFault : List Text → Text → Fault → Type 0
+IsNameFault names line fault = (fault ≡ BadName) × IsBadName names line
+
+-- reading stopped in the list of the key: what stands before was read whole, and nothing after
+abbrev pub StopsIn : Lists → Parts → Key → ℕ → Fault → Type 0
+StopsIn lists parts Routers position fault =
+    IsStopped (IsNameFault parts.names) lists.routers parts.names position fault
+    × (parts.links ≡ []) × (parts.owners ≡ []) × (parts.commands ≡ [])
+StopsIn lists parts Links position fault =
+    IsWhole lists.routers parts.names
+    × IsStopped IsLinkFault lists.links parts.links position fault
+    × (parts.owners ≡ []) × (parts.commands ≡ [])
+StopsIn lists parts Prefixes position fault =
+    IsWhole lists.routers parts.names × IsWhole lists.links parts.links
+    × IsStopped (IsOwnerFault parts.names) lists.prefixes parts.owners position fault
+    × (parts.commands ≡ [])
+StopsIn lists parts Script position fault =
+    IsWhole lists.routers parts.names × IsWhole lists.links parts.links × IsWhole lists.prefixes parts.owners
+    × (length lists.script ≤ most_commands)
+    × IsStopped (IsCommandFault parts.names parts.links) lists.script parts.commands position fault
+
+-- reading stopped at the place, or, without one, before the script, which is too long
+abbrev pub StopsAt : Lists → Parts → Fault → Option Place → Type 0
+StopsAt lists parts fault (Some place) = StopsIn lists parts place.key place.position fault
+StopsAt lists parts fault None =
+    (fault ≡ TooLarge) × (most_commands < length lists.script)
+    × IsWhole lists.routers parts.names × IsWhole lists.links parts.links × IsWhole lists.prefixes parts.owners
+    × (parts.commands ≡ [])
+
+-- reading came to the end, or stopped at the fault
+abbrev pub Stops : Lists → Parts → Option Located → Type 0
+Stops lists parts (Some at) = StopsAt lists parts at.fault at.place
+Stops lists parts None =
+    IsWhole lists.routers parts.names × IsWhole lists.links parts.links × IsWhole lists.prefixes parts.owners
+    × IsWhole lists.script parts.commands × (length lists.script ≤ most_commands)

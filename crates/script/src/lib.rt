@@ -1,0 +1,21 @@
+//! Reads the lines of a scenario: the parts of a network, and the commands to do on it.
+#![tactic(auto)]
+
+mod command;
+mod directory;
+mod fault;
+mod link;
+mod names;
+mod owner;
+mod place;
+mod reading;
+#[cfg(test)]
+mod tests;
+mod words;
+
+pub use command::Command;
+pub use directory::{Directory, LookupText, RowText};
+pub use fault::Fault;
+pub use names::Names;
+pub use place::{Key, Located, Place};
+pub use reading::{Reading, Script, read_script};

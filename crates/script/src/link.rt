@@ -1,0 +1,59 @@
+//! The lines of links.
+
+ghost use Rattle.std.specs.Prelude.{◌≡◌, [], ◌⊎◌, IfOk, IfErr, OnOk};
+ghost use Rattle.script.specs.Links.{IsLink, IsLinkFault};
+ghost use Rattle.script.specs.Reading.{StopsHere, ReadsFirst, IsWhole};
+ghost use Rattle.script.specs.Seen.{texts};
+
+use crate::fault::Fault;
+use crate::names::Names;
+use crate::place::{Key, Located};
+use crate::words::{four_words, read_number};
+use metric::Cost;
+use network_model::LinkSpec;
+
+/// Reads the lines of links, up to the first fault.
+pub(crate) fn read_links(
+    names: &Names,
+    links: &mut Vec<LinkSpec>,
+    lines: &[String],
+) -> Result<(), Located>
+    requires { links.old.items ≡ [] }
+    ensures read { ReadsFirst (IsLink names.now) (texts lines.now) links.new.items }
+    ensures whole { OnOk result (IsWhole (texts lines.now) links.new.items) }
+    ensures stop { IfErr result (λ at. (at.fault ≡ Fault.NoMemory)
+        ⊎ StopsHere IsLinkFault Key.Links (texts lines.now) links.new.items at) }
+{
+    for (position, line) in lines.iter().enumerate() {
+        match read_link(names, line.as_str()) {
+            Ok(link) => links.push(link)?,
+            Err(fault) => return Err(Located::at(fault, Key::Links, position)),
+        }
+    }
+    Ok(())
+}
+
+/// The link that a line says: `A B C1 C2`, with C1 the cost from A and C2 the cost from B. A name that
+/// is not known stands for the router 65535, which no network has. The words are tested first, and
+/// then the costs.
+pub(crate) fn read_link(names: &Names, line: &str) -> Result<LinkSpec, Fault>
+    ensures ok { IfOk result (IsLink names.now line.now) }
+    ensures err { IfErr result (IsLinkFault line.now) }
+{
+    let (a, b, from_a, from_b) = four_words(line).ok_or(Fault::BadLine)?;
+    if a.is_empty() || b.is_empty() {
+        return Err(Fault::BadLine);
+    }
+    let from_a = read_number(from_a).ok_or(Fault::BadLine)?;
+    let from_b = read_number(from_b).ok_or(Fault::BadLine)?;
+    let from_a = Cost::new(from_a)?;
+    let from_b = Cost::new(from_b)?;
+    let a = names.number(a).unwrap_or(u16::MAX);
+    let b = names.number(b).unwrap_or(u16::MAX);
+    Ok(LinkSpec {
+        a,
+        b,
+        from_a,
+        from_b,
+    })
+}

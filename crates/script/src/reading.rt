@@ -1,0 +1,112 @@
+//! Reads the four lists of a scenario.
+
+ghost use Rattle.std.specs.Prelude.{◌≡◌, IfOk, IfErr, OnOk, ◌⊎◌, None, Some};
+ghost use Rattle.script.specs.Reading.{AreParts, Stops, no_parts};
+ghost use Rattle.script.specs.Seen.{lists_of, parts_of};
+
+use crate::command::{Command, read_commands};
+use crate::fault::Fault;
+use crate::link::read_links;
+use crate::names::{Names, read_names};
+use crate::owner::read_owners;
+use crate::place::Located;
+use ipv4_prefix::Prefix;
+use network_model::{LinkSpec, NoMemory};
+use std::alloc::Global;
+
+/// The greatest number of commands in a script.
+const MOST_COMMANDS: usize = 10_000;
+
+/// What was read of a scenario: the parts of a network, and the commands to do on it.
+#[derive(Drop)]
+pub struct Script {
+    /// The routers' names.
+    pub names: Names,
+    /// The links, in the order of their numbers. An end whose name is not known is router 65535.
+    pub links: Vec<LinkSpec>,
+    /// The prefixes, each with the number of its owner.
+    pub owners: Vec<(Prefix, u16)>,
+    /// The commands, in the order in which to do them.
+    pub commands: Vec<Command>,
+}
+
+/// A script, and the first fault in its lines. What stands before the fault was read.
+#[derive(Drop)]
+pub struct Reading {
+    /// What was read.
+    pub script: Script,
+    /// The first fault. Where the network cannot be opened of what was read, that fault comes first,
+    /// unless this one is a router's name.
+    pub fault: Option<Located>,
+}
+
+/// Reads the lines of a scenario in the order of its lists, and stops at the first fault. That a
+/// network cannot be opened of the parts is no fault here: an end of a link may be unknown.
+pub fn read_script(
+    alloc: Global,
+    routers: &[String],
+    links: &[String],
+    prefixes: &[String],
+    script: &[String],
+) -> Result<Reading, NoMemory>
+    ensures parts { IfOk result (λ r.
+        AreParts (lists_of routers.now links.now prefixes.now script.now) (parts_of r.script)) }
+    ensures stop { IfOk result (λ r.
+        Stops (lists_of routers.now links.now prefixes.now script.now) (parts_of r.script) r.fault) }
+{
+    let mut read = Script::new(alloc);
+    match read.read(alloc, routers, links, prefixes, script) {
+        Ok(()) => Ok(Reading {
+            script: read,
+            fault: None,
+        }),
+        Err(located) => match located.fault {
+            Fault::NoMemory => Err(NoMemory),
+            _ => Ok(Reading {
+                script: read,
+                fault: Some(located),
+            }),
+        },
+    }
+}
+
+impl Script {
+    fn new(alloc: Global) -> Script
+        ensures { parts_of result ≡ no_parts }
+    {
+        Script {
+            names: Names::new(alloc),
+            links: Vec::new(alloc),
+            owners: Vec::new(alloc),
+            commands: Vec::new(alloc),
+        }
+    }
+
+    // Reads the lists one after another, up to the first fault.
+    fn read(
+        &mut self,
+        alloc: Global,
+        routers: &[String],
+        links: &[String],
+        prefixes: &[String],
+        script: &[String],
+    ) -> Result<(), Located>
+        requires { parts_of self.old ≡ no_parts }
+        ensures parts { AreParts (lists_of routers.now links.now prefixes.now script.now) (parts_of self.new) }
+        ensures whole { OnOk result
+            (Stops (lists_of routers.now links.now prefixes.now script.now) (parts_of self.new) None) }
+        ensures stop { IfErr result (λ at. (at.fault ≡ Fault.NoMemory)
+            ⊎ Stops (lists_of routers.now links.now prefixes.now script.now) (parts_of self.new) (Some at)) }
+    {
+        read_names(alloc, &mut self.names, routers)?;
+        read_links(&self.names, &mut self.links, links)?;
+        read_owners(&self.names, &mut self.owners, prefixes)?;
+        if script.len() > MOST_COMMANDS {
+            return Err(Located {
+                fault: Fault::TooLarge,
+                place: None,
+            });
+        }
+        read_commands(&self.names, &self.links, &mut self.commands, script)
+    }
+}

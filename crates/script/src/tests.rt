@@ -1,0 +1,248 @@
+//! Readings of whole scenarios, and the texts of faults and rows.
+
+use crate::{Command, Directory, Fault, Reading, read_script};
+use network_model::{Entry, Step};
+use std::alloc::{AllocError, Global};
+use std::test::Fail;
+
+// The parts of a text between bars, as lines; no lines of an empty text.
+fn lines(alloc: Global, text: &str) -> Result<Vec<String>, AllocError> {
+    let mut lines = Vec::new(alloc);
+    if text.is_empty() {
+        return Ok(lines);
+    }
+    for line in text.split('|') {
+        lines.push(String::from_str(alloc, line)?)?;
+    }
+    Ok(lines)
+}
+
+fn read(
+    alloc: Global,
+    routers: &str,
+    links: &str,
+    prefixes: &str,
+    script: &str,
+) -> Result<Reading, Fail> {
+    let routers = lines(alloc, routers)?;
+    let links = lines(alloc, links)?;
+    let prefixes = lines(alloc, prefixes)?;
+    let script = lines(alloc, script)?;
+    Ok(read_script(alloc, &routers, &links, &prefixes, &script)?)
+}
+
+// The fault's text, or none where all lines are read.
+fn fault(alloc: Global, reading: &Reading) -> Result<String, AllocError> {
+    match reading.fault {
+        Some(located) => format!(in alloc; "{located}"),
+        None => format!(in alloc; "none"),
+    }
+}
+
+#[test]
+fn names(rt: HostRuntime) -> Result<(), Fail> {
+    for (routers, want) in [
+        ("|a", "42 BadName at routers 0"),
+        ("1a", "42 BadName at routers 0"),
+        ("A", "42 BadName at routers 0"),
+        ("a|abcdefghijklmnopq", "42 BadName at routers 1"),
+        ("a-b", "42 BadName at routers 0"),
+        ("a b", "42 BadName at routers 0"),
+        ("é", "42 BadName at routers 0"),
+        ("a|b|a", "42 BadName at routers 2"),
+        ("abcdefghijklmnop|a0|z9", "none"),
+    ] {
+        let reading = read(rt.alloc(), routers, "", "", "")?;
+        let got = fault(rt.alloc(), &reading)?;
+        assert_eq!(rt; got.as_str(), want, "at {routers}");
+    }
+    Ok(())
+}
+
+#[test]
+fn links(rt: HostRuntime) -> Result<(), Fail> {
+    for (links, want) in [
+        ("a b 1", "43 BadLine at links 0"),
+        ("a b 1 1 1", "43 BadLine at links 0"),
+        ("a  b 1 1", "43 BadLine at links 0"),
+        ("a b 1 1 ", "43 BadLine at links 0"),
+        (" a b 1 1", "43 BadLine at links 0"),
+        (" b 1 1", "43 BadLine at links 0"),
+        ("a  1 1", "43 BadLine at links 0"),
+        ("a b  1", "43 BadLine at links 0"),
+        ("a b 05 1", "43 BadLine at links 0"),
+        ("a b +1 1", "43 BadLine at links 0"),
+        ("a b 1 4294967296", "43 BadLine at links 0"),
+        ("a b 0 x", "43 BadLine at links 0"),
+        ("a b 1 1|a b 0 1", "5 BadCost at links 1"),
+        ("a b 65536 1", "5 BadCost at links 0"),
+        ("a b 1 0", "5 BadCost at links 0"),
+        ("a b 1 4294967295", "5 BadCost at links 0"),
+        ("a b 65535 65535", "none"),
+        ("a z 1 1", "none"),
+    ] {
+        let reading = read(rt.alloc(), "a|b", links, "", "")?;
+        let got = fault(rt.alloc(), &reading)?;
+        assert_eq!(rt; got.as_str(), want, "at {links}");
+    }
+    Ok(())
+}
+
+#[test]
+fn prefixes(rt: HostRuntime) -> Result<(), Fail> {
+    for (prefixes, want) in [
+        ("10.0.0.0/8", "43 BadLine at prefixes 0"),
+        ("10.0.0.0/8 a b", "43 BadLine at prefixes 0"),
+        ("10.0.0.0/8  a", "43 BadLine at prefixes 0"),
+        (" a", "43 BadLine at prefixes 0"),
+        ("10.0.0.0/8 ", "43 BadLine at prefixes 0"),
+        ("10.0.0.1/8 z", "43 BadLine at prefixes 0"),
+        ("0.0.0.0/0 a|10.0.0.0 a", "1 NoSlash at prefixes 1"),
+        ("010.0.0.0/8 a", "2 BadAddress at prefixes 0"),
+        ("10.0.0.0/33 a", "3 BadLength at prefixes 0"),
+        ("10.0.0.1/8 a", "4 HostBits at prefixes 0"),
+        ("10.0.0.0/8 a|0.0.0.0/0 b", "none"),
+    ] {
+        let reading = read(rt.alloc(), "a|b", "a b 1 1", prefixes, "")?;
+        let got = fault(rt.alloc(), &reading)?;
+        assert_eq!(rt; got.as_str(), want, "at {prefixes}");
+    }
+    Ok(())
+}
+
+#[test]
+fn commands(rt: HostRuntime) -> Result<(), Fail> {
+    for (script, want) in [
+        ("|", "45 BadCommand at script 0"),
+        ("fly a", "45 BadCommand at script 0"),
+        ("up", "45 BadCommand at script 0"),
+        ("up a", "45 BadCommand at script 0"),
+        ("up a b c", "45 BadCommand at script 0"),
+        ("up  a b", "45 BadCommand at script 0"),
+        ("up a z", "45 BadCommand at script 0"),
+        ("up a c", "45 BadCommand at script 0"),
+        ("up a a", "45 BadCommand at script 0"),
+        ("up a b|down a b", "45 BadCommand at script 1"),
+        ("publish", "45 BadCommand at script 0"),
+        ("publish z", "45 BadCommand at script 0"),
+        ("release a b", "45 BadCommand at script 0"),
+        ("table z", "45 BadCommand at script 0"),
+        ("lookup a", "45 BadCommand at script 0"),
+        ("lookup a ", "45 BadCommand at script 0"),
+        ("table ", "45 BadCommand at script 0"),
+        (" publish a", "45 BadCommand at script 0"),
+        ("lookup z 1.2.3", "45 BadCommand at script 0"),
+        ("lookup a 1.2.3", "2 BadAddress at script 0"),
+        ("lookup a 10.0.0.256", "2 BadAddress at script 0"),
+        ("up b a|up a b|table c", "none"),
+    ] {
+        let reading = read(rt.alloc(), "a|b|c", "a b 1 1", "", script)?;
+        let got = fault(rt.alloc(), &reading)?;
+        assert_eq!(rt; got.as_str(), want, "at {script}");
+    }
+    Ok(())
+}
+
+#[test]
+fn order_of_lists(rt: HostRuntime) -> Result<(), Fail> {
+    for (routers, links, prefixes, want) in [
+        ("A", "x", "x", "42 BadName at routers 0"),
+        ("a", "x", "x", "43 BadLine at links 0"),
+        ("a", "", "x", "43 BadLine at prefixes 0"),
+        ("a", "", "", "45 BadCommand at script 0"),
+    ] {
+        let reading = read(rt.alloc(), routers, links, prefixes, "x")?;
+        let got = fault(rt.alloc(), &reading)?;
+        assert_eq!(rt; got.as_str(), want);
+        if let Some(located) = reading.fault {
+            assert_eq!(rt; located.fault.status(), 1);
+        }
+    }
+    assert_eq!(rt; Fault::NoMemory.status(), 2);
+    Ok(())
+}
+
+#[test]
+fn long_script(rt: HostRuntime) -> Result<(), Fail> {
+    for (count, want) in [(10_000usize, "none"), (10_001, "46 TooLarge")] {
+        let routers = lines(rt.alloc(), "a")?;
+        let none = lines(rt.alloc(), "")?;
+        let mut script = Vec::new(rt.alloc());
+        for _ in 0..count {
+            script.push(String::from_str(rt.alloc(), "publish a")?)?;
+        }
+        let reading = read_script(rt.alloc(), &routers, &none, &none, &script)?;
+        let got = fault(rt.alloc(), &reading)?;
+        assert_eq!(rt; got.as_str(), want);
+    }
+    Ok(())
+}
+
+#[test]
+fn parts(rt: HostRuntime) -> Result<(), Fail> {
+    let script = "up b a|deliver c a|deliver a c|publish b|release c|table a|lookup b 10.0.0.1";
+    let links = "a b 1 2|b c 3 4|a c 5 6|c z 7 8";
+    let reading = read(rt.alloc(), "a|b|c", links, "10.0.0.0/8 c", script)?;
+    assert!(rt; reading.fault.is_none());
+    let script = reading.script;
+    assert_eq!(rt; script.names.count(), 3);
+    assert_eq!(rt; script.names.number("c"), Some(2));
+    assert!(rt; !script.names.is_empty());
+    assert_eq!(rt; script.links.len(), 4);
+    let ends = [(0, 1, 1, 2), (1, 2, 3, 4), (0, 2, 5, 6), (2, 65535, 7, 8)];
+    for (link, want) in script.links.iter().zip(ends.as_slice()) {
+        let got = (link.a, link.b, link.from_a.value(), link.from_b.value());
+        assert_eq!(rt; got, *want);
+    }
+    assert_eq!(rt; script.owners.len(), 1);
+    for (prefix, owner) in script.owners.iter() {
+        assert_eq!(rt; prefix.addr(), 0x0a00_0000);
+        assert_eq!(rt; *owner, 2);
+    }
+    let commands = [
+        Command::Step(Step::LinkUp { link: 0 }),
+        Command::Step(Step::Deliver { router: 2, port: 1 }),
+        Command::Step(Step::Deliver { router: 0, port: 1 }),
+        Command::Step(Step::Publish { router: 1 }),
+        Command::Step(Step::Release { router: 2 }),
+        Command::Table { router: 0 },
+        Command::Lookup {
+            router: 1,
+            addr: 0x0a00_0001,
+        },
+    ];
+    assert_eq!(rt; script.commands.as_slice(), commands.as_slice());
+    Ok(())
+}
+
+#[test]
+fn texts(rt: HostRuntime) -> Result<(), Fail> {
+    let reading = read(rt.alloc(), "a|b", "a b 1 1", "10.0.0.0/8 a|0.0.0.0/0 a", "")?;
+    let script = reading.script;
+    let directory = Directory::new(rt.alloc(), script.names, &script.links)?;
+    assert_eq!(rt; directory.neighbour(1, 0), Some(0));
+    assert_eq!(rt; directory.neighbour(1, 1), None);
+    assert_eq!(rt; directory.names().name(1), Some("b"));
+    assert_eq!(rt; script.owners.len(), 2);
+    let (block, _) = script.owners[0];
+    let (all, _) = script.owners[1];
+    let via = Entry::Via {
+        port: 0,
+        session: 1,
+    };
+    for (entry, want) in [
+        (Entry::Local, "b 10.0.0.0/8 local"),
+        (via, "b 10.0.0.0/8 via a 1"),
+        (Entry::Unreachable, "b 10.0.0.0/8 unreachable"),
+    ] {
+        let got = format!(in rt.alloc(); "{}", directory.row(1, block, entry))?;
+        assert_eq!(rt; got.as_str(), want);
+    }
+    let found = directory.lookup(0, u32::MAX, Some((all, Entry::Local)));
+    let got = format!(in rt.alloc(); "{found}")?;
+    assert_eq!(rt; got.as_str(), "lookup a 255.255.255.255: 0.0.0.0/0 local");
+    let missed = directory.lookup(0, 0, None);
+    let got = format!(in rt.alloc(); "{missed}")?;
+    assert_eq!(rt; got.as_str(), "lookup a 0.0.0.0: none");
+    Ok(())
+}

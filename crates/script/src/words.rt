@@ -1,0 +1,55 @@
+//! The words of a line, and the numbers that words spell.
+
+ghost use Rattle.std.specs.Prelude.{◌≡◌, ◌≢◌, ◌+◌, ℕ, [], ◌∷◌, length, slice_index, IfSome, IfNone, IsTrue, ◌↔◌, Some};
+ghost use Rattle.script.specs.Words.{Text, words_of, Spells};
+
+/// The first word of a line and what follows its space; nothing where the line is one word.
+pub(crate) fn first_word(line: &str) -> Option<(&str, &str)>
+    ensures some { IfSome result (λ w. words_of line.now ≡ w.0.now ∷ words_of w.1.now) }
+    ensures none { IfNone result (words_of line.now ≡ line.now ∷ []) }
+{
+    line.split_once(' ')
+}
+
+/// The words of a line of two.
+pub(crate) fn two_words(line: &str) -> Option<(&str, &str)>
+    ensures some { IfSome result (λ w. words_of line.now ≡ w.0.now ∷ w.1.now ∷ []) }
+    ensures none { IfNone result ((a b : Text) → words_of line.now ≢ a ∷ b ∷ []) }
+{
+    let (first, rest) = first_word(line)?;
+    match first_word(rest) {
+        Some(_) => None,
+        None => Some((first, rest)),
+    }
+}
+
+/// The words of a line of four.
+pub(crate) fn four_words(line: &str) -> Option<(&str, &str, &str, &str)>
+    ensures some { IfSome result (λ w. words_of line.now ≡ w.0.now ∷ w.1.now ∷ w.2.now ∷ w.3.now ∷ []) }
+    ensures none { IfNone result ((a b c d : Text) → words_of line.now ≢ a ∷ b ∷ c ∷ d ∷ []) }
+{
+    let (first, rest) = first_word(line)?;
+    let (second, rest) = first_word(rest)?;
+    let (third, fourth) = two_words(rest)?;
+    Some((first, second, third, fourth))
+}
+
+/// The number that a word spells in decimal digits, without a sign or a leading zero, where it is
+/// at most 4294967295.
+pub(crate) fn read_number(word: &str) -> Option<u32>
+    ensures read { IfSome result (Spells word.now) }
+    ensures every { (n : ℕ) → Spells word.now n → result ≡ Some n }
+{
+    if !has_canonical_start(word) {
+        return None;
+    }
+    word.parse().ok()
+}
+
+// Whether the word has neither a sign nor a leading zero, which `parse` would take.
+fn has_canonical_start(word: &str) -> bool
+    ensures { IsTrue result
+        ↔ ((slice_index word.now 0 ≢ 43) × (slice_index word.now 0 ≡ 48 → length word.now ≡ 1)) }
+{
+    !word.starts_with('+') && (word.len() == 1 || !word.starts_with('0'))
+}

@@ -1,0 +1,28 @@
+-- The program's command line, as clap's definition reads it.
+use Rattle.std.specs.Prelude.{◌≡◌, List, [], ◌∷◌, codes, true, false}
+use Rattle.clap.specs.Words.{App, Rule, Text, Kinds, app_of, fault_of, new_app, new_rule, with_rule, with_subcommand}
+use Rattle.clap.specs.Kinds.{or_else}
+use Rattle.clap.specs.declared.error.kind.ErrorKind.TheVariants.{MissingRequiredArgument}
+use Rattle.clap.specs.Simple.{on_top}
+use Rattle.clap.specs.declared.builder.command.Command.{Command}
+use Rattle.clap.specs.declared.builder.command.Command.TheViews.{out-Command}
+
+-- a word that has to be there
+abbrev pub file_rule : Text → Rule
+file_rule id = record (new_rule id) { value_names = 1; required = true }
+
+-- `run FILE`
+abbrev pub run_app : App
+run_app = with_rule (new_app (codes "run")) (file_rule (codes "file"))
+
+-- the program, which has to be given one of its commands
+abbrev pub program : App
+program = with_subcommand (on_top (λ s. record s { subcommand_required = true }) (new_app (codes "dualnet"))) run_app.top
+
+-- a command that reads as this, with no global argument
+abbrev pub IsCommand : App → Command → Type 0
+IsCommand app c = (app_of c ≡ app) × ((out-Command c).has_globals ≡ false)
+
+-- the kinds of error that the words may give: those of clap's definition, and where it gives none a missing word
+abbrev pub kinds_of : List Text → Kinds
+kinds_of words = or_else (fault_of program words) (MissingRequiredArgument ∷ [])

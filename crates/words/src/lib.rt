@@ -1,0 +1,8 @@
+//! Reads the program's command line.
+#![tactic(auto)]
+
+mod status;
+mod words;
+
+pub use status::exit_status;
+pub use words::{Words, read_words};

@@ -1,0 +1,8 @@
+use Rattle.std.proofs.Common.{sym, subst}
+use Rattle.std.specs.Prelude.{◌≤◌, length}
+use Rattle.world.specs.Parts.{network_of}
+use Rattle.world.proofs.Degrees.{few_links}
+use Rattle.world.proofs.network.Network.links.Goals as goal
+
+pub returns-clause-few : goal.returns-clause-few
+returns-clause-few c = subst (λ xs. length xs ≤ 1024) (sym c.deref.ensures.value) (few_links (network_of c.self.inside.routers c.self.inside.links.items c.self.inside.owners.items) c.self.invariant.no_fault)

@@ -1,0 +1,8 @@
+use Rattle.std.proofs.Common.{◌≡◌, ◌++◌, ◌-◌}
+use Rattle.std.specs.Prelude.{map}
+use Rattle.std.specs.List.{range_with_len}
+use Rattle.network_model.specs.World.{opening_router_of}
+use Rattle.world.proofs.opening.opening_routers.Given as goal
+
+abbrev pub invariant-loop-router : goal.invariant-loop-router
+invariant-loop-router l = l.routers.items ++ map (opening_router_of l.network) (range_with_len l.router (l.router-end - l.router)) ≡ map (opening_router_of l.network) (range_with_len 0 l.router-end)

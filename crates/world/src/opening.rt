@@ -1,0 +1,113 @@
+//! The parts of a network that opens.
+
+ghost use Rattle.std.specs.Prelude.{◌≡◌, ◌<◌, ◌^◌, map, length, filter, ◌==◌, IfOk, All};
+ghost use Rattle.std.specs.List.{range_with_len};
+ghost use Rattle.network_model.specs.World as model;
+
+use crate::network::Network;
+use network_model::{End, LinkSpec, NoMemory, Place, Port, Prefix};
+use router_core::Router;
+use std::alloc::{AllocError, Global};
+
+// The ends of the links at one router: the places of its ports, in the order of the links.
+pub fn places_of(alloc: Global, router: u16, links: &[LinkSpec]) -> Result<Vec<Place>, AllocError>
+    requires { length links.now < 2 ^ 16 }
+    ensures { IfOk result (λ places. places.items ≡ model.places_from 0 router links.now) }
+{
+    let mut places = Vec::new(alloc);
+    for i in 0..links.len() {
+        let link = &links[i];
+        if link.a == router {
+            places.push(Place {
+                link: i as u16,
+                end: End::A,
+            })?;
+        } else if link.b == router {
+            places.push(Place {
+                link: i as u16,
+                end: End::B,
+            })?;
+        }
+    }
+    Ok(places)
+}
+
+// A port at the opening: down, never up, with the cost of its link from there.
+fn opening_port(links: &[LinkSpec], place: &Place) -> Port
+    requires { place.now.link < length links.now }
+    ensures { result ≡ model.opening_port (map model.opening_link links.now) place.now }
+{
+    let link = &links[usize::from(place.link)];
+    Port {
+        up: false,
+        session: 0,
+        cost: match place.end {
+            End::A => link.from_a,
+            End::B => link.from_b,
+        },
+    }
+}
+
+// The ports at these places.
+pub fn opening_ports(
+    alloc: Global,
+    links: &[LinkSpec],
+    places: &[Place],
+) -> Result<Vec<Port>, AllocError>
+    requires { All (λ p. p.link < length links.now) places.now }
+    ensures { IfOk result (λ ports. ports.items ≡ map (model.opening_port (map model.opening_link links.now)) places.now) }
+{
+    let mut ports = Vec::new(alloc);
+    for place in places {
+        ports.push(opening_port(links, place))?;
+    }
+    Ok(ports)
+}
+
+// The prefixes that one router owns, in the order in which they were given.
+pub fn owned(
+    alloc: Global,
+    router: u16,
+    owners: &[(Prefix, u16)],
+) -> Result<Vec<Prefix>, AllocError>
+    ensures { IfOk result (λ own. own.items ≡ map (λ o. o.0) (filter (λ o. o.1 == router) owners.now)) }
+{
+    owners
+        .iter()
+        .filter(|owner| owner.1 == router)
+        .map(|owner| owner.0)
+        .collect(alloc)
+}
+
+// The places of each router's ports.
+pub fn opening_places(alloc: Global, network: &Network) -> Result<Vec<Vec<Place>>, AllocError>
+    ensures { IfOk result (λ places. map (λ v. v.items) places.items ≡ map (λ i. model.places_from 0 i (network.now).links) (range_with_len 0 (network.now).routers)) }
+{
+    let mut places = Vec::new(alloc);
+    for router in 0..network.routers() {
+        places.push(places_of(alloc, router, network.links())?)?;
+    }
+    Ok(places)
+}
+
+// One router at the opening.
+fn opening_router(alloc: Global, network: &Network, router: u16) -> Result<Router, NoMemory>
+    ensures { IfOk result (λ r. r ≡ model.opening_router_of network.now router) }
+{
+    let links = network.links();
+    let places = places_of(alloc, router, links)?;
+    let ports = opening_ports(alloc, links, &places)?;
+    let own = owned(alloc, router, network.owners())?;
+    Router::new(alloc, ports, &own)
+}
+
+// The routers at the opening.
+pub fn opening_routers(alloc: Global, network: &Network) -> Result<Vec<Router>, NoMemory>
+    ensures { IfOk result (λ routers. routers.items ≡ map (model.opening_router_of network.now) (range_with_len 0 (network.now).routers)) }
+{
+    let mut routers = Vec::new(alloc);
+    for router in 0..network.routers() {
+        routers.push(opening_router(alloc, network, router)?)?;
+    }
+    Ok(routers)
+}

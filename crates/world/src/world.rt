@@ -1,0 +1,230 @@
+//! The world: routers and links, and the steps that change them.
+
+ghost use Rattle.std.specs.Prelude.{ℕ, ◌≡◌, ◌+◌, ◌^◌, ◌<◌, ◌≤◌, ◌↔◌, true, length, map, take, slice_get, is_none, None, Some, Err, IfOk, IfErr, IfSome, IsOk, OnOk, OnErr, MatchOption, IsOkUnless, IsTrue, All};
+ghost use Rattle.std.specs.Option.{option_copied};
+ghost use Rattle.network_model.specs.World as model;
+ghost use Rattle.network_model.specs.Step as steps;
+ghost use Rattle.network_model.specs.Step.{refusal};
+ghost use Rattle.network_model.specs.Run.{Runs};
+ghost use Rattle.world.specs.Steps.{IsDoneOr, HasRoomForSteps, IsPort, port_refusal, StopsAt};
+
+use crate::network::Network;
+use crate::opening::{opening_places, opening_routers};
+use link_fifo::Links;
+use network_model::{Cost, NoMemory, Place, Refusal, Step};
+use router_core::Router;
+use std::alloc::Global;
+use std::marker::Model;
+
+/// How far a list of steps came.
+#[derive(Clone, Copy, Debug, PartialEq, Eq)]
+pub struct Ran {
+    /// How many steps were done.
+    pub done: usize,
+    /// Why the next step was refused; None where all were done.
+    pub refusal: Option<Refusal>,
+}
+
+/// A network that runs: its links, its routers, and the place of each router's ports on the links.
+#[derive(Drop)]
+pub struct World {
+    places: Vec<Vec<Place>>,
+    links: Links,
+    routers: Vec<Router>,
+}
+
+impl Model for World {
+    ghost use Rattle.network_model.specs.World.{World as NetworkWorld};
+    ghost use Rattle.world.specs.Parts.{world_of};
+    ghost use Rattle.world.specs.Kept.{IsKept};
+
+    ghost Value = { NetworkWorld };
+
+    ghost view = { λ w. world_of w.places.items w.links w.routers.items };
+
+    ghost invariant = { λ w. IsKept (world_of w.places.items w.links w.routers.items) };
+}
+
+impl World {
+    /// The world of a network that opens: every link is down, nothing is queued or held, and each
+    /// prefix is known at its owner alone.
+    pub fn open(alloc: Global, network: &Network) -> Result<World, NoMemory>
+        ensures { IfOk result (λ w. w ≡ model.opening network.now) }
+    {
+        let links = Links::new(alloc, network.links())?;
+        let places = opening_places(alloc, network)?;
+        let routers = opening_routers(alloc, network)?;
+        Ok(World {
+            places,
+            links,
+            routers,
+        })
+    }
+
+    /// The links, by number.
+    pub fn links(&self) -> &Links
+        ensures { result.now ≡ (self.now).links }
+    {
+        &self.links
+    }
+
+    /// The routers, by number.
+    pub fn routers(&self) -> &[Router]
+        ensures { result.now ≡ (self.now).routers }
+    {
+        &self.routers
+    }
+
+    /// The router of this number.
+    pub fn router(&self, number: u16) -> &Router
+        requires { number < length (self.now).routers }
+        ensures { slice_get (self.now).routers number ≡ Some result.now }
+    {
+        &self.routers[usize::from(number)]
+    }
+
+    /// The link and the end at which a router's port lies, where there is such a port.
+    pub fn port(&self, router: u16, port: u8) -> Option<Place>
+        ensures { result ≡ model.place_at self.now router port }
+    {
+        let places = self.places.get(usize::from(router))?;
+        places.get(usize::from(port)).copied()
+    }
+
+    /// Whether each router can publish as often as this: a generation is a number of 64 bits.
+    pub fn has_room_for(&self, steps: usize) -> bool
+        ensures { IsTrue result ↔ HasRoomForSteps steps self.now }
+    {
+        self.routers
+            .iter()
+            .all(|router| steps as u64 <= u64::MAX - router.generation())
+    }
+
+    /// Does one step. Refused, it leaves all as it was. The causes are tested in the order of the
+    /// definition; want of memory comes after them. A publication takes no memory.
+    pub fn step(&mut self, step: Step) -> Result<(), Refusal>
+        requires { HasRoomForSteps 1 self.old }
+        ensures ok { OnOk result (steps.Lawful self.old step × (self.new ≡ steps.next self.old step)) }
+        ensures err { OnErr result (self.new ≡ self.old) }
+        ensures cause { IsDoneOr (steps.refusal self.old step) result }
+        ensures publication { (i : ℕ) → step ≡ Step.Publish i → MatchOption (steps.refusal self.old step) (IsOk result) (λ e. result ≡ Err e) }
+    {
+        match step {
+            Step::LinkUp { link } => self.link_up(link),
+            Step::LinkDown { link } => self.link_down(link),
+            Step::SetCost { router, port, cost } => self.set_cost(router, port, cost),
+            Step::Deliver { router, port } => self.deliver(router, port),
+            Step::Publish { router } => self.publish(router),
+            Step::Release { router } => self.release(router),
+        }
+    }
+
+    /// Does the steps in order, up to the first that is refused.
+    pub fn run(&mut self, steps: &[Step]) -> Ran
+        requires { HasRoomForSteps (length steps.now) self.old }
+        ensures done { result.done ≤ length steps.now }
+        ensures runs { Runs self.old (take result.done steps.now) self.new }
+        ensures stop { MatchOption result.refusal (result.done ≡ length steps.now) (StopsAt (refusal self.new) steps.now result.done) }
+    {
+        for (done, &step) in steps.iter().enumerate() {
+            if let Err(refusal) = self.step(step) {
+                return Ran {
+                    done,
+                    refusal: Some(refusal),
+                };
+            }
+        }
+        Ran {
+            done: steps.len(),
+            refusal: None,
+        }
+    }
+
+    fn link_up(&mut self, link: u16) -> Result<(), Refusal>
+        ensures ok { OnOk result (self.new ≡ steps.next self.old (Step.LinkUp link)) }
+        ensures err { OnErr result (self.new ≡ self.old) }
+        ensures cause { IsDoneOr (steps.refusal self.old (Step.LinkUp link)) result }
+    {
+        self.links.up(link)?;
+        Ok(())
+    }
+
+    fn link_down(&mut self, link: u16) -> Result<(), Refusal>
+        ensures ok { OnOk result (self.new ≡ steps.next self.old (Step.LinkDown link)) }
+        ensures err { OnErr result (self.new ≡ self.old) }
+        ensures cause { IsDoneOr (steps.refusal self.old (Step.LinkDown link)) result }
+    {
+        self.links.down(link)?;
+        Ok(())
+    }
+
+    fn set_cost(&mut self, router: u16, port: u8, cost: Cost) -> Result<(), Refusal>
+        ensures ok { OnOk result (self.new ≡ steps.next self.old (Step.SetCost router port cost)) }
+        ensures err { OnErr result (self.new ≡ self.old) }
+        ensures cause { IsDoneOr (steps.refusal self.old (Step.SetCost router port cost)) result }
+    {
+        let place = self.known_port(router, port)?;
+        prove!(cost.value() > 0);
+        self.links.set_cost(place.link, place.end, cost)?;
+        Ok(())
+    }
+
+    fn deliver(&mut self, router: u16, port: u8) -> Result<(), Refusal>
+        ensures ok { OnOk result (self.new ≡ steps.next self.old (Step.Deliver router port)) }
+        ensures err { OnErr result (self.new ≡ self.old) }
+        ensures cause { IsDoneOr (steps.refusal self.old (Step.Deliver router port)) result }
+    {
+        let place = self.known_port(router, port)?;
+        let item = self.links.front(place.link, place.end)?;
+        let taker = &mut self.routers[usize::from(router)];
+        taker.accept(port, &item)?;
+        let _taken = self.links.take(place.link, place.end);
+        Ok(())
+    }
+
+    fn publish(&mut self, router: u16) -> Result<(), Refusal>
+        requires { HasRoomForSteps 1 self.old }
+        ensures ok { OnOk result (self.new ≡ steps.next self.old (Step.Publish router)) }
+        ensures err { OnErr result (self.new ≡ self.old) }
+        ensures cause { MatchOption (steps.refusal self.old (Step.Publish router)) (IsOk result) (λ e. result ≡ Err e) }
+    {
+        if usize::from(router) >= self.routers.len() {
+            return Err(Refusal::UnknownRouter);
+        }
+        if !self.router(router).due() {
+            return Err(Refusal::NothingDue);
+        }
+        self.routers[usize::from(router)].mark_published();
+        Ok(())
+    }
+
+    fn release(&mut self, router: u16) -> Result<(), Refusal>
+        ensures ok { OnOk result (self.new ≡ steps.next self.old (Step.Release router)) }
+        ensures err { OnErr result (self.new ≡ self.old) }
+        ensures cause { IsDoneOr (steps.refusal self.old (Step.Release router)) result }
+    {
+        if usize::from(router) >= self.routers.len() {
+            return Err(Refusal::UnknownRouter);
+        }
+        let Some(held) = self.router(router).front() else {
+            return Err(Refusal::NothingRipe);
+        };
+        if let Some(place) = self.port(router, held.port) {
+            self.links
+                .put(place.link, place.end, held.session, held.message)?;
+        }
+        let _released = self.routers[usize::from(router)].release();
+        Ok(())
+    }
+
+    // The place of a port that is asked for.
+    fn known_port(&self, router: u16, port: u8) -> Result<Place, Refusal>
+        ensures ok { IfOk result (λ p. IsPort self.now router port p) }
+        ensures cause { IfErr result (λ e. port_refusal self.now router port ≡ Some e) }
+    {
+        if usize::from(router) >= self.routers.len() {
+            return Err(Refusal::UnknownRouter);
+        }
+        self.port(router, port).ok_or(Refusal::UnknownLink)
+    }
+}
