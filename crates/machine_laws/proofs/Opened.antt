@@ -1,17 +1,12 @@
 -- A machine that has heard nothing is sound, so the laws speak of some machine.
-use Rattle.std.proofs.Common.{◌≡◌, ◌⊎◌, ℕ, zero, suc, ◌+◌, ◌<◌, Bool, true, false, List, [], ◌∷◌, Some, refl, sym, inl, inr, arith}
-use Rattle.std.specs.Prelude.{slice_get}
+use Rattle.std.proofs.Common.{◌≡◌, ◌⊎◌, zero, suc, ◌+◌, ◌<◌, true, false, List, [], ◌∷◌, refl, sym, inl, inr, arith}
 use Rattle.std.proofs.lemmas.Bool.{true≢false, false≢true}
 use Rattle.std.proofs.lemmas.Option.{none-some}
 use Rattle.network_model.specs.declared.machine.Neighbour.{Neighbour}
 use Rattle.metric.specs.Distance.{infinity}
-use Rattle.network_model.specs.Machine.{distance, least, opening_machine}
-use Rattle.machine_laws.specs.Laws.{IsSound}
-use Rattle.machine_laws.proofs.Distances.{AllSound, distance_cases}
-
--- no neighbour has reported a distance
-abbrev pub NothingHeard : List Neighbour → Type 0
-NothingHeard ns = (p : ℕ) (n : Neighbour) → slice_get ns p ≡ Some n → n.reported ≡ infinity
+use Rattle.network_model.specs.Machine.{distance, least}
+use Rattle.machine_laws.specs.Laws.{NothingHeard, OpensSound}
+use Rattle.machine_laws.proofs.Distances.{distance_cases}
 
 -- the distance by way of a neighbour that has reported nothing is infinity
 distance_unheard : (n : Neighbour) → n.reported ≡ infinity → distance n ≡ infinity
@@ -27,7 +22,7 @@ least_unheard [] h = refl
 least_unheard (n ∷ ns) h = omega (arith, distance_unheard n (h zero n refl), least_unheard ns (λ p. h (suc p)))
 
 -- a machine that has heard nothing is sound
-pub opened_sound : (local : Bool) (ns : List Neighbour) → AllSound ns → NothingHeard ns → IsSound (opening_machine local ns)
+pub opened_sound : OpensSound
 opened_sound true ns sound h = record {
   ports_sound = sound;
   rd_bounded = omega arith;

@@ -5,7 +5,7 @@ use Rattle.network_model.specs.declared.machine.Event.{Event}
 use Rattle.network_model.specs.declared.machine.Event.TheVariants.{Message, Up, Down, Cost}
 use Rattle.metric.specs.declared.kind.Kind.{Kind}
 use Rattle.metric.specs.declared.kind.Kind.TheVariants.{Update, Query, Reply}
-use Rattle.network_model.specs.Machine.{Machine, Computation, reaction, distance, least, records_after, is_port}
+use Rattle.network_model.specs.Machine.{Machine, Computation, opening_machine, reaction, distance, least, records_after, is_port}
 use Rattle.network_model.specs.declared.machine.Outgoing.{Outgoing}
 use Rattle.metric.specs.Distance.{infinity}
 
@@ -171,6 +171,14 @@ TellsAll = (m : Machine) (e : Event) → IsSound m → Meets m e → ((reaction 
 -- the records are those after the event
 abbrev pub KeepsRecords : Type 0
 KeepsRecords = (m : Machine) (e : Event) → (reaction m e).machine.ports ≡ records_after e m.ports
+
+-- no neighbour has reported a distance
+abbrev pub NothingHeard : List Neighbour → Type 0
+NothingHeard ns = (p : ℕ) (n : Neighbour) → slice_get ns p ≡ Some n → n.reported ≡ infinity
+
+-- a machine that opens over sound ports which reported nothing is sound, at the owner and elsewhere
+abbrev pub OpensSound : Type 0
+OpensSound = (local : Bool) (ns : List Neighbour) → ((p : ℕ) (n : Neighbour) → slice_get ns p ≡ Some n → IsSoundPort n) → NothingHeard ns → IsSound (opening_machine local ns)
 
 -- a sound machine stays sound
 abbrev pub StaysSound : Type 0

@@ -59,7 +59,7 @@ some_quiet_runs = record {
   routed_run = record { steps = to_rest; runs = run-Runs (opening three) to_rest (tt, (tt, (tt, (tt, (tt, (tt, (tt, (tt, (tt, tt))))))))) refl; quiet = refl };
   sends_on = refl;
   is_there = omega arith;
-  unheard = record { not_published = refl; not_chosen = refl };
+  unheard = record { no_machine = refl; not_published = refl; not_chosen = refl };
   lost = rest_again;
   lost_run = record { steps = to_rest_again; runs = run-Runs (opening three) to_rest_again (tt, (tt, (tt, (tt, (tt, (tt, (tt, (tt, (tt, (tt, (tt, (tt, (tt, tt))))))))))))) refl; quiet = refl };
   has_no_way = refl;

@@ -100,6 +100,7 @@ module _ (n : Network) (V : IsNetwork n) (p : Prefix) (w : World) (rs : List Rou
           let machine : s.machine i ≡ opening_machine false (neighbours r.ports) =
           ap (λ y. option_map_or (λ (z : Router). machine_of z p) y (opening_machine false [])) at ∙ ap (λ y. unwrap_or y (opening_machine false (neighbours r.ports))) is in
           Silent (ap (λ (m : Machine). m.local) machine) (record {
+            no_machine = ap (option_and_then (λ (y : Router). row_of prefix_cmp p y.machines)) at ∙ is;
             not_published = ap (option_and_then (λ (y : Router). row_of prefix_cmp p (y.table).published)) at ∙ row_now n N p w rs R G quiet i r at ∙ ap (option_map (λ m. entry_of r.ports m)) is;
             not_chosen = ap (option_and_then (λ (y : Router). row_of prefix_cmp p (y.table).control)) at
                 ∙ ap (row_of prefix_cmp p) (R.kept.routers_kept i r at).control_is
@@ -118,6 +119,7 @@ module _ (n : Network) (V : IsNetwork n) (p : Prefix) (w : World) (rs : List Rou
 
       by_router : (x : Option Router) → slice_get w.routers i ≡ x → Shows i
       by_router None at = Silent (ap (λ y. (option_map_or (λ (z : Router). machine_of z p) y (opening_machine false [])).local) at) (record {
+        no_machine = ap (option_and_then (λ (y : Router). row_of prefix_cmp p y.machines)) at;
         not_published = ap (option_and_then (λ (y : Router). row_of prefix_cmp p (y.table).published)) at;
         not_chosen = ap (option_and_then (λ (y : Router). row_of prefix_cmp p (y.table).control)) at;
       })

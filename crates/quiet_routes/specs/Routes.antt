@@ -1,7 +1,8 @@
 -- What holds of a world that is quiet: published rows lead along cheapest ways to the owner.
-use Rattle.std.specs.Prelude.{◌≡◌, ◌⊎◌, ℕ, ◌<◌, true, false, List, [], ◌∷◌, Some, None, slice_get}
+use Rattle.std.specs.Prelude.{◌≡◌, ◌⊎◌, ℕ, ◌<◌, true, false, List, [], ◌∷◌, Some, None, slice_get, option_and_then}
 use Rattle.std.specs.Option.{option_map_or}
-use Rattle.ipv4_prefix.specs.Prefix.{Prefix}
+use Rattle.std.specs.FinMap.{find as row_of}
+use Rattle.ipv4_prefix.specs.Prefix.{Prefix, prefix_cmp}
 use Rattle.network_model.specs.Machine.{Machine, opening_machine}
 use Rattle.network_model.specs.declared.route.Entry.TheVariants.{Local, Via, Unreachable}
 use Rattle.network_model.specs.World.{Link, World, Network, other, side, place_at, machine_of, opening}
@@ -44,8 +45,9 @@ pub record IsRouted (w : World) (p : Prefix) (i o : ℕ) : Type 0 where
   pub cost_is : walk_cost w chain ≡ (machine_at w i p).rd
   pub least : IsLeastWalk w i chain o
 
--- the router has neither published nor chosen a row for the prefix
+-- the router has no machine for the prefix, and has neither published nor chosen a row for it
 pub record IsUnheard (w : World) (p : Prefix) (i : ℕ) : Type 0 where
+  pub no_machine : option_and_then (λ r. row_of prefix_cmp p r.machines) (slice_get w.routers i) ≡ None
   pub not_published : published_entry w i p ≡ None
   pub not_chosen : control_entry w i p ≡ None
 

@@ -38,7 +38,7 @@ fn program_command<'a>(alloc: Global) -> Result<Command<'a>, AllocError>
     ensures { IfOk result (λ c. app_of c ≡ program) }
 {
     Command::new(alloc, "dualnet")
-        .about("A network of IPv4 routers that never forwards in a circle")
+        .about("A network of IPv4 routers that route by DUAL and forward by longest match")
         .subcommand_required(true)
         .subcommand(run_command(alloc)?)
 }

@@ -1,4 +1,5 @@
 use Rattle.machine_laws.proofs.MachineLaws.{machine_laws}
+use Rattle.machine_laws.proofs.Opened.{opened_sound}
 use Rattle.machine_laws.proofs.machine_laws.Goals as goal
 
 pub returns : goal.returns
@@ -12,6 +13,7 @@ returns c = record {
   keeps_debt = machine_laws.keeps_debt;
   tells_all = machine_laws.tells_all;
   keeps_records = machine_laws.keeps_records;
+  opens_sound = opened_sound;
   stays_sound = machine_laws.stays_sound;
   stays_local = machine_laws.stays_local;
 }
