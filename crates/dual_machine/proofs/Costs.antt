@@ -2,6 +2,7 @@
 use Rattle.std.specs.Prelude.{◌≡◌, ◌≢◌, ℕ, zero, suc, ◌<◌, ◌≤◌, min, Bool, true, false, ◌&&◌, ◌||◌, ◌==◌, nat_lt, if◌then◌else◌, List, [], ◌∷◌, Option, Some, None, All}
 use Rattle.std.specs.List.{list_any}
 use Rattle.std.proofs.Common.{refl, arith}
+use Rattle.std.proofs.lemmas.Bool.{or_left, or_right}
 use Rattle.std.proofs.lemmas.Bool.Decides.{nat_tests}
 use Rattle.std.proofs.lemmas.List.Elements.{All-cons, All-head, All-tail}
 use Rattle.metric.specs.Distance.{infinity, plus, IsCost}
@@ -10,7 +11,7 @@ use Rattle.network_model.specs.declared.machine.Event.TheVariants.{Message, Up, 
 use Rattle.network_model.specs.declared.machine.Neighbour.{Neighbour}
 use Rattle.network_model.specs.Machine.{changed_at, records_after, distance, least, is_feasible, condition_holds, via_successor}
 use Rattle.dual_machine.specs.Event.{BringsCost}
-use Rattle.dual_machine.proofs.Least.{least_le}
+use Rattle.network_model.proofs.MachineLaws.{least_bounded}
 
 abbrev HasCost : Neighbour → Type 0
 HasCost n = IsCost n.cost
@@ -31,7 +32,7 @@ HasCost-records_after (Cost q cost) ns brought costs = HasCost-changed_at _ (λ 
 -- ---- the condition
 
 least_le_via : (ns : List Neighbour) (s : Option ℕ) → least ns ≤ via_successor ns s
-least_le_via ns None = least_le ns
+least_le_via ns None = least_bounded ns
 least_le_via [] (Some q) = omega arith
 least_le_via (n ∷ ns) (Some zero) = omega arith
 least_le_via (n ∷ ns) (Some (suc q)) = omega (arith, least_le_via ns (Some q))
@@ -43,14 +44,6 @@ nearer_up cost reported fd d positive finite near at = grind (arith, nat_tests)
 nearer : (up : Bool) (cost reported fd d : ℕ) → 1 ≤ cost → d < infinity → d ≤ fd → (if up then plus reported cost else infinity) ≡ d → is_feasible fd d (record { up = up; cost = cost; reported = reported }) ≡ true
 nearer true cost reported fd d positive finite near at = nearer_up cost reported fd d positive finite near at
 nearer false cost reported fd d positive finite near at = absurd (omega arith)
-
-first_passes : (a b : Bool) → a ≡ true → a || b ≡ true
-first_passes true b h = refl
-first_passes false b h = cc
-
-second_passes : (a b : Bool) → b ≡ true → a || b ≡ true
-second_passes true b h = refl
-second_passes false b h = h
 
 least_of_rest : (a b d : ℕ) → min a b ≡ d → a == d ≡ false → b ≡ d
 least_of_rest a b d at apart = grind (arith, nat_tests)
@@ -69,8 +62,8 @@ has_feasible fd d [] costs finite near at = absurd (omega arith)
 has_feasible fd d (n ∷ ns) costs finite near at = by_first (distance n == d) refl (has_feasible fd d ns (All-tail HasCost n ns costs) finite near)
   where
     by_first : (b : Bool) → distance n == d ≡ b → (least ns ≡ d → list_any (is_feasible fd d) ns ≡ true) → is_feasible fd d n || list_any (is_feasible fd d) ns ≡ true
-    by_first true first rest = first_passes (is_feasible fd d n) _ (nearer n.up n.cost n.reported fd d (All-head HasCost n ns costs).positive finite near (same_number (distance n) d first))
-    by_first false first rest = second_passes (is_feasible fd d n) _ (rest (least_of_rest (distance n) (least ns) d at first))
+    by_first true first rest = or_left (is_feasible fd d n) _ (nearer n.up n.cost n.reported fd d (All-head HasCost n ns costs).positive finite near (same_number (distance n) d first))
+    by_first false first rest = or_right (is_feasible fd d n) _ (rest (least_of_rest (distance n) (least ns) d at first))
 
 -- the condition holds where the distance by way of the successor has not risen above the feasible distance
 pub condition_holds_near : (fd : ℕ) (ns : List Neighbour) (s : Option ℕ) → All (λ n. IsCost n.cost) ns → fd ≤ infinity → via_successor ns s ≤ fd → condition_holds fd ns ≡ true
@@ -78,7 +71,7 @@ condition_holds_near fd ns s costs fits near = by_least (least ns == infinity) r
   where
     by_least : (b : Bool) → least ns == infinity ≡ b → (if b then fd == infinity else list_any (is_feasible fd (least ns)) ns) ≡ true
     by_least true at = passes_same fd infinity (omega (arith, least_le_via ns s, same_number (least ns) infinity at))
-    by_least false at = has_feasible fd (least ns) ns costs (omega (arith, least_le ns, apart (least ns) infinity at)) (omega (arith, least_le_via ns s)) refl
+    by_least false at = has_feasible fd (least ns) ns costs (omega (arith, least_bounded ns, apart (least ns) infinity at)) (omega (arith, least_le_via ns s)) refl
 
 pub not_above : (a b : ℕ) → nat_lt a b ≡ false → b ≤ a
 not_above a b h = grind (arith, nat_tests)

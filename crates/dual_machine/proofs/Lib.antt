@@ -3,5 +3,4 @@ pub mod Changes
 pub mod Closing
 pub mod Costs
 pub mod Debts
-pub mod Least
 pub mod Room

@@ -27,7 +27,7 @@ pub(crate) fn nearer(a: Distance, b: Distance) -> Distance
 }
 
 // The least distance by way of any neighbour.
-#[tactic(auto, using(crate::proofs::Least::least_le))]
+#[tactic(auto, using(network_model::proofs::MachineLaws::least_bounded))]
 pub(crate) fn least(ports: &[Neighbour]) -> Distance
     ensures { result ≡ dual.least ports.now }
 {

@@ -4,7 +4,7 @@ use Rattle.std.proofs.lemmas.List.{append-nil, append_assoc}
 use Rattle.network_model.specs.declared.step.Step.{Step as NetworkStep}
 use Rattle.network_model.specs.Step.{Lawful}
 use Rattle.network_model.specs.Run.{Runs}
-use Rattle.world.proofs.Runs.{one_more}
+use Rattle.world.proofs.Runs.{with_last_step}
 use Rattle.fabric.specs.Fabric.{Fabric, after_step}
 use Rattle.script.specs.declared.command.Command.{Command}
 use Rattle.script.specs.declared.command.Command.TheVariants.{Step, Table, Lookup}
@@ -33,7 +33,7 @@ one_step cs s f g h done lawful after =
     let steps : steps_of (cs ++ Step s ∷ []) ≡ steps_of cs ++ s ∷ [] = steps_of-append cs (Step s ∷ []) in
     record {
       runs = subst (λ ss. Runs f.world ss h.world) (sym steps)
-          (subst (λ (k : Fabric). Runs f.world (steps_of cs ++ s ∷ []) k.world) (sym after) (one_more f.world (steps_of cs) g.world s done.runs lawful));
+          (subst (λ (k : Fabric). Runs f.world (steps_of cs ++ s ∷ []) k.world) (sym after) (with_last_step f.world (steps_of cs) g.world s done.runs lawful));
       journal = ap (λ (k : Fabric). k.journal) after ∙ ap (λ ss. ss ++ s ∷ []) done.journal ∙ append_assoc f.journal (steps_of cs) (s ∷ []) ∙ ap (λ ss. f.journal ++ ss) (sym steps);
       network = ap (λ (k : Fabric). k.network) after ∙ done.network;
     }

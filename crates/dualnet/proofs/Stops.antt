@@ -1,6 +1,5 @@
 -- Why opening and running stop.
 use Rattle.std.proofs.Common.{◌≡◌, ◌≤◌, ◌⊎◌, inl, inr, ◌∙◌, List, Option, Some, None, Result, Ok, Err, IfErr, IfSome, MatchOption, length, refl, sym, subst}
-use Rattle.std.specs.Result.{IsErrAnd}
 use Rattle.script.specs.Words.{Text}
 use Rattle.script.specs.Reading.{Parts}
 use Rattle.script.specs.declared.place.Located.{Located}
@@ -12,11 +11,6 @@ use Rattle.dualnet.specs.declared.open.Opened.{Opened}
 use Rattle.dualnet.specs.Faults.{IsWantOfMemory, IsUnread, most_bytes}
 use Rattle.dualnet.specs.Scenarios.{IsRead, IsFaultOf, IsScenario, IsOpeningOf, IsEndOf, StopsFor, first_fault, network_read}
 use Rattle.dualnet.specs.Commands.{AreDone, StopsAtCommand}
-
--- what the exit of a `?` returns
-pub at_err : {T E : Type 0} (r : Result T E) (P : E → Type 0) (e : E) → IsErrAnd r (λ y. y ≡ e) → P e → IfErr r P
-at_err (Ok x) P e is holds = tt
-at_err (Err y) P e is holds = subst P (sym is) holds
 
 -- where the fault of what was read comes first, opening stops for it
 pub stops_opening : {T : Type 0} (r : Result T Fault) (text : Text) (parts : Parts) (stop : Option Located) → IsRead text parts stop

@@ -1,9 +1,8 @@
 -- The program's faults.
-use Rattle.std.specs.Prelude.{◌≡◌, ℕ, ◌<◌, ⊤, Bool, true, false, IsTrue, IsUtf8, None, Some, length}
-use Rattle.scenario.specs.declared.fault.Fault.{Fault as DocumentFault}
-use Rattle.scenario.specs.declared.fault.Fault.TheVariants.{BadToml as IsNoToml, BadKey as HasBadKey, NoMemory as NoMemoryForLists}
-use Rattle.script.specs.declared.fault.Fault.TheVariants.{BadToml, BadKey, TooLarge, NoMemory as NoMemoryForText}
-use Rattle.script.specs.Words.{Text as Bytes}
+use Rattle.std.specs.Prelude.{◌≡◌, ℕ, ◌<◌, ⊤, Bool, true, false, ◌||◌, if◌then◌else◌, IsTrue, IsUtf8, None, Some, length}
+use Rattle.scenario.specs.declared.fault.Fault.TheVariants.{BadToml as IsNoToml, NoMemory as NoMemoryForLists}
+use Rattle.script.specs.declared.fault.Fault.TheVariants.{NoMemory as NoMemoryForLines}
+use Rattle.script.specs.Words.{Text}
 use Rattle.script.specs.declared.place.Key.{Key}
 use Rattle.script.specs.declared.place.Key.TheVariants.{Links, Prefixes}
 use Rattle.script.specs.declared.place.Located.{Located}
@@ -11,29 +10,33 @@ use Rattle.network_model.specs.declared.network.NetworkFault.{NetworkFault}
 use Rattle.network_model.specs.declared.network.NetworkFault.TheVariants.{BadRouters, BadLink, TooManyLinks, BadOwner, NoMemory as NoMemoryForNetwork}
 use Rattle.network_model.specs.declared.step.Refusal.TheVariants.{NoMemory as NoMemoryForStep}
 use Rattle.dualnet.specs.declared.fault.Cause.{Cause}
-use Rattle.dualnet.specs.declared.fault.Cause.TheVariants.{Unreadable, Text, Network, Refused}
+use Rattle.dualnet.specs.declared.fault.Cause.TheVariants.{Memory, Unreadable, TooLarge, Document, Lines, Network, Refused}
 use Rattle.dualnet.specs.declared.fault.Fault.{Fault}
 
 -- ---- statuses
 
--- the exit status of a program that stops for a cause
-abbrev pub status_of : Cause → ℕ
-status_of Unreadable = 1
-status_of (Text NoMemoryForText) = 2
-status_of (Text _) = 1
-status_of (Network NoMemoryForNetwork) = 2
-status_of (Network _) = 1
-status_of (Refused _) = 2
-
 -- whether the cause is want of memory
 abbrev pub is_memory : Cause → Bool
+is_memory (Memory _) = true
 is_memory Unreadable = false
-is_memory (Text NoMemoryForText) = true
-is_memory (Text _) = false
+is_memory TooLarge = false
+is_memory (Document NoMemoryForLists) = true
+is_memory (Document _) = false
+is_memory (Lines NoMemoryForLines) = true
+is_memory (Lines _) = false
 is_memory (Network NoMemoryForNetwork) = true
 is_memory (Network _) = false
 is_memory (Refused NoMemoryForStep) = true
 is_memory (Refused _) = false
+
+-- whether the cause is that of a command that was refused
+abbrev pub is_refusal : Cause → Bool
+is_refusal (Refused _) = true
+is_refusal _ = false
+
+-- the exit status of a program that stops for a cause: 2 where a command was refused or memory ran out, else 1
+abbrev pub status_of : Cause → ℕ
+status_of cause = if is_refusal cause || is_memory cause then 2 else 1
 
 -- ---- places
 
@@ -45,15 +48,9 @@ unplaced cause = record { cause = cause; place = None }
 abbrev pub at_line : Cause → Key → ℕ → Fault
 at_line cause key position = record { cause = cause; place = Some (record { key = key; position = position }) }
 
--- the fault of a text that is no scenario
-abbrev pub document_fault : DocumentFault → Fault
-document_fault IsNoToml = unplaced (Text BadToml)
-document_fault HasBadKey = unplaced (Text BadKey)
-document_fault NoMemoryForLists = unplaced (Text NoMemoryForText)
-
 -- the fault of a line that cannot be read
 abbrev pub line_fault : Located → Fault
-line_fault at = record { cause = Text at.fault; place = at.place }
+line_fault at = record { cause = Lines at.fault; place = at.place }
 
 -- the fault of a network that cannot be opened
 abbrev pub opening_fault : NetworkFault → Fault
@@ -75,9 +72,9 @@ abbrev pub most_bytes : ℕ
 most_bytes = 4194304
 
 -- why the bytes of a file are not read as a text; that a reader fails, or that memory runs out, can come anywhere
-abbrev pub IsUnread : Bytes → Cause → Type 0
+abbrev pub IsUnread : Text → Cause → Type 0
+IsUnread bytes (Memory _) = ⊤
 IsUnread bytes Unreadable = ⊤
-IsUnread bytes (Text NoMemoryForText) = ⊤
-IsUnread bytes (Text TooLarge) = most_bytes < length bytes
-IsUnread bytes (Text BadToml) = ¬ (IsUtf8 bytes)
+IsUnread bytes TooLarge = most_bytes < length bytes
+IsUnread bytes (Document IsNoToml) = ¬ (IsUtf8 bytes)
 IsUnread bytes _ = ⊥

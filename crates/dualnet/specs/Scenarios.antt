@@ -18,7 +18,8 @@ use Rattle.world.specs.Parts.{network_of}
 use Rattle.fabric.specs.Fabric.{Fabric, opening_fabric}
 use Rattle.dualnet.specs.declared.fault.Fault.{Fault}
 use Rattle.dualnet.specs.declared.open.Opened.{Opened}
-use Rattle.dualnet.specs.Faults.{document_fault, line_fault, opening_fault, most_bytes, IsUnread, IsWantOfMemory}
+use Rattle.dualnet.specs.declared.fault.Cause.TheVariants.{Document as OfDocument}
+use Rattle.dualnet.specs.Faults.{unplaced, line_fault, opening_fault, most_bytes, IsUnread, IsWantOfMemory}
 use Rattle.dualnet.specs.Commands.{AreDone, StopsAtCommand}
 
 -- ---- what was read
@@ -53,8 +54,8 @@ first_fault network (Some at) = Some (if is_name_fault at.fault then line_fault 
 -- why no network can be opened of a text: it is no scenario, or the first fault of what was read
 abbrev pub IsFaultOf : Text → Fault → Type 0
 IsFaultOf text fault =
-    ((fault ≡ document_fault IsNoToml) × (parse_document text ≡ None))
-    ⊎ ((fault ≡ document_fault HasBadKey) × HasNoLists (parse_document text))
+    ((fault ≡ unplaced (OfDocument IsNoToml)) × (parse_document text ≡ None))
+    ⊎ ((fault ≡ unplaced (OfDocument HasBadKey)) × HasNoLists (parse_document text))
     ⊎ ((parts : Parts) × (stop : Option Located) × IsRead text parts stop × (first_fault (network_fault (network_read parts)) stop ≡ Some fault))
 
 -- ---- runs

@@ -1,9 +1,8 @@
 //! Why the program stops, and the status that it ends with.
 
 ghost use Rattle.std.specs.Prelude.{◌≡◌};
-ghost use Rattle.dualnet.specs.declared.fault.Cause.TheVariants.{Text as OfText, Refused as OfRefusal};
-ghost use Rattle.script.specs.declared.fault.Fault.TheVariants.{NoMemory as OutOfMemory};
-ghost use Rattle.dualnet.specs.Faults.{status_of, unplaced, document_fault, line_fault, opening_fault};
+ghost use Rattle.dualnet.specs.declared.fault.Cause.TheVariants.{Memory as OfMemory, Document as OfDocument, Refused as OfRefusal};
+ghost use Rattle.dualnet.specs.Faults.{status_of, unplaced, line_fault, opening_fault};
 
 use network_model::{NetworkFault, NoMemory, Refusal};
 use script::{Key, Located, Place};
@@ -13,12 +12,21 @@ use thiserror::Error;
 /// What is wrong. Its text is its number and name.
 #[derive(Clone, Copy, Debug, PartialEq, Eq, Drop, Error)]
 pub enum Cause {
+    /// A growth was refused.
+    #[error(transparent)]
+    Memory(NoMemory),
     /// The file could not be opened or read.
     #[error("47 Unreadable")]
     Unreadable,
+    /// The file is larger than 4,194,304 bytes.
+    #[error("46 TooLarge")]
+    TooLarge,
     /// The text is no scenario.
     #[error(transparent)]
-    Text(script::Fault),
+    Document(scenario::Fault),
+    /// The lines of the scenario cannot be read.
+    #[error(transparent)]
+    Lines(script::Fault),
     /// The network cannot be opened.
     #[error(transparent)]
     Network(NetworkFault),
@@ -41,10 +49,12 @@ impl Fault {
         ensures { result ≡ status_of (self.now).cause }
     {
         match self.cause {
-            Cause::Unreadable => 1,
-            Cause::Text(fault) => fault.status(),
-            Cause::Network(NetworkFault::NoMemory) | Cause::Refused(_) => 2,
-            Cause::Network(_) => 1,
+            Cause::Memory(_)
+            | Cause::Document(scenario::Fault::NoMemory)
+            | Cause::Lines(script::Fault::NoMemory)
+            | Cause::Network(NetworkFault::NoMemory)
+            | Cause::Refused(_) => 2,
+            _ => 1,
         }
     }
 }
@@ -58,22 +68,18 @@ impl From<Cause> for Fault {
 }
 
 impl From<NoMemory> for Fault {
-    ghost from_gives = { λ _ e. e ≡ unplaced (OfText OutOfMemory) };
+    ghost from_gives = { λ memory e. e ≡ unplaced (OfMemory memory) };
 
-    fn from(_error: NoMemory) -> Fault {
-        Fault::from(Cause::Text(script::Fault::NoMemory))
+    fn from(error: NoMemory) -> Fault {
+        Fault::from(Cause::Memory(error))
     }
 }
 
 impl From<scenario::Fault> for Fault {
-    ghost from_gives = { λ fault e. e ≡ document_fault fault };
+    ghost from_gives = { λ fault e. e ≡ unplaced (OfDocument fault) };
 
     fn from(fault: scenario::Fault) -> Fault {
-        Fault::from(Cause::Text(match fault {
-            scenario::Fault::BadToml => script::Fault::BadToml,
-            scenario::Fault::BadKey => script::Fault::BadKey,
-            scenario::Fault::NoMemory => script::Fault::NoMemory,
-        }))
+        Fault::from(Cause::Document(fault))
     }
 }
 
@@ -82,7 +88,7 @@ impl From<Located> for Fault {
 
     fn from(at: Located) -> Fault {
         Fault {
-            cause: Cause::Text(at.fault),
+            cause: Cause::Lines(at.fault),
             place: at.place,
         }
     }

@@ -16,7 +16,7 @@ use network_model::NoMemory;
 use play::{play, refuse};
 use std::process::ExitCode;
 use std::{env, fs, io};
-use words::{Words, exit_status, read_words};
+use words::{ErrorKind, Words, exit_status, read_words};
 
 fn main(rt: HostRuntime) -> ExitCode {
     let status = match status(&rt) {
@@ -37,10 +37,13 @@ fn status(rt: &HostRuntime) -> io::Result<u8> {
             let scenario = open_file(rt, file);
             Ok(play(alloc, &words, scenario, &mut rt.stdout(), &mut rt.stderr()))
         }
-        Err(error) => {
-            let _ = error.print(rt);
-            Ok(exit_status(&error))
-        }
+        Err(error) => match error.kind() {
+            ErrorKind::OutOfMemory => Ok(refuse(Fault::from(NoMemory), &mut rt.stderr())),
+            _ => {
+                let _ = error.print(rt);
+                Ok(exit_status(&error))
+            }
+        },
     }
 }
 

@@ -1,14 +1,16 @@
 //! Reads the file of a scenario.
 
-ghost use Rattle.std.specs.Prelude.{◌≡◌, ◌≤◌, IfOk, IfErr, IfSome, length, string_bytes};
+ghost use Rattle.std.specs.Prelude.{◌≡◌, ◌≤◌, ◌↔◌, IsTrue, IfOk, IfErr, IfSome, length, string_bytes};
+ghost use Rattle.std.specs.IoError.{error_kind};
 ghost use Rattle.script.specs.Words.{Text};
-ghost use Rattle.dualnet.specs.Faults.{IsUnread};
+ghost use Rattle.dualnet.specs.Faults.{IsUnread, is_memory};
 
 use crate::fault::Cause;
-use script::Fault;
+use network_model::NoMemory;
+use scenario::Fault;
 use std::alloc::Global;
 use std::io;
-use std::io::Read;
+use std::io::{ErrorKind, Read};
 
 /// The most bytes that the file of a scenario may have.
 const MOST_BYTES: usize = 4_194_304;
@@ -25,20 +27,21 @@ pub fn read_text<R: Read + Drop>(alloc: Global, reader: R) -> Result<String, Cau
         return Err(read_failure(&error));
     }
     if bytes.len() > MOST_BYTES {
-        return Err(Cause::Text(Fault::TooLarge));
+        return Err(Cause::TooLarge);
     }
     match String::from_utf8(bytes) {
         Ok(text) => Ok(text),
-        Err(_) => Err(Cause::Text(Fault::BadToml)),
+        Err(_) => Err(Cause::Document(Fault::BadToml)),
     }
 }
 
 // Why a reader failed.
 fn read_failure(error: &io::Error) -> Cause
-    ensures { (bytes : Text) → IsUnread bytes result }
+    ensures unread { (bytes : Text) → IsUnread bytes result }
+    ensures memory { IsTrue (is_memory result) ↔ (error_kind error.now ≡ ErrorKind.OutOfMemory) }
 {
     match error.kind() {
-        io::ErrorKind::OutOfMemory => Cause::Text(Fault::NoMemory),
+        ErrorKind::OutOfMemory => Cause::Memory(NoMemory),
         _ => Cause::Unreadable,
     }
 }

@@ -1,19 +1,22 @@
 -- What a step leaves of what every fabric keeps.
 use Rattle.std.specs.Prelude.{◌≡◌, ℕ, zero, suc, ◌+◌, ◌<◌, ◌≤◌, cond, List, [], ◌∷◌, ◌++◌, map, length, set, Some, None, slice_get, option_and_then}
 use Rattle.std.proofs.Common.{refl, sym, ap, subst, ◌∙◌, arith, length-append}
+use Rattle.std.proofs.lemmas.List.{length-map}
+use Rattle.std.proofs.lemmas.Option.{slice_get_within}
 use Rattle.network_model.specs.declared.item.Item.{Item}
 use Rattle.network_model.specs.declared.network.End.{End}
 use Rattle.network_model.specs.declared.step.Step.{Step}
 use Rattle.network_model.specs.declared.step.Step.TheVariants.{LinkUp, LinkDown, SetCost, Deliver, Publish, Release}
 use Rattle.network_model.specs.Machine.{changed_at}
-use Rattle.network_model.specs.World.{Link, Router, World, place_at, opening}
+use Rattle.network_model.specs.World.{Link, Router, World, opening}
 use Rattle.network_model.specs.Step.{Lawful, next, is_due, changed_router, changed_link, with_cost, with_front_taken, with_message, with_delivered, with_released, front_at, release_at, router_accepting, router_publishing, router_releasing}
 use Rattle.network_model.specs.Run.{Runs}
 use Rattle.network_model.specs.Journal.{most_steps}
 use Rattle.network_model.specs.Publication.{Image}
 use Rattle.network_model.proofs.ListLaws.{map-changed_at, option_map_or-ind, None_not_Some, Some_injective}
+use Rattle.network_model.proofs.WorldLaws.{routers-changed_link}
 use Rattle.world.specs.Steps.{HasRoomForSteps}
-use Rattle.world.proofs.Runs.{one_more, run-room, opening-room}
+use Rattle.world.proofs.Runs.{with_last_step, run-room, opening-room}
 use Rattle.fabric.specs.Images.{image_in_force, due_at}
 use Rattle.fabric.specs.Fabric.{Fabric, after_step, IsKept}
 
@@ -28,7 +31,7 @@ abbrev images_of : World → List Image
 images_of w = map image_in_force w.routers
 
 images-changed_link : (i q : ℕ) (f : End → Link → Link) (w : World) → images_of (changed_link i q f w) ≡ images_of w
-images-changed_link i q f w = option_map_or-ind (λ v. images_of v ≡ images_of w) (λ p. record w { links = changed_at p.link (f p.end) w.links }) (place_at w i q) w refl (λ p _. refl)
+images-changed_link i q f w = ap (map image_in_force) (routers-changed_link i q f w)
 
 images-changed_router : (i : ℕ) (f : Router → Router) (w : World) → ((r : Router) → image_in_force (f r) ≡ image_in_force r) → images_of (changed_router i f w) ≡ images_of w
 images-changed_router i f w same = map-changed_at f image_in_force i w.routers (λ r _. same r)
@@ -71,12 +74,9 @@ due_of w i lawful =
 
 -- a router that publishes has an image
 pub image_at : (f : Fabric) (images : List Image) (capacity : ℕ) → IsKept f images capacity → (i : ℕ) → Lawful f.world (Publish i) → i < length images
-image_at f images capacity kept i lawful = subst (λ xs. i < length xs) (sym kept.in_force) (within f.world.routers i lawful.1)
-  where
-    within : (rs : List Router) (i : ℕ) {r : Router} → slice_get rs i ≡ Some r → i < length (map image_in_force rs)
-    within [] i is = absurd (None_not_Some is)
-    within (x ∷ xs) zero is = omega arith
-    within (x ∷ xs) (suc i) is = (let rest : i < length (map image_in_force xs) = within xs i is in omega (arith, rest))
+image_at f images capacity kept i lawful =
+    subst (λ xs. i < length xs) (sym kept.in_force)
+    (subst (λ n. i < n) (sym (length-map f.world.routers image_in_force)) (slice_get_within f.world.routers i lawful.0 lawful.1))
 
 -- ---- one step more
 
@@ -84,7 +84,7 @@ image_at f images capacity kept i lawful = subst (λ xs. i < length xs) (sym kep
 kept_with : (f : Fabric) (s : Step) (images : List Image) (capacity : ℕ) → Runs (opening f.network) f.journal f.world → Lawful f.world s → length f.journal < most_steps → most_steps ≤ capacity
     → images ≡ map image_in_force (next f.world s).routers → IsKept (after_step f s) images capacity
 kept_with f s images capacity runs lawful short room in_force = record {
-  runs = one_more (opening f.network) f.journal f.world s runs lawful;
+  runs = with_last_step (opening f.network) f.journal f.world s runs lawful;
   short = (let longer : length (f.journal ++ s ∷ []) ≡ length f.journal + 1 = length-append f.journal (s ∷ []) in omega (arith, longer, short));
   room = room;
   in_force = in_force;

@@ -1,5 +1,4 @@
 pub mod AddressTexts
-pub mod LengthTexts
 pub mod PrefixTexts
 pub mod PrefixOrder
 pub mod LongestMatches

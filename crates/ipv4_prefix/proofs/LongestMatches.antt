@@ -4,7 +4,7 @@ use Rattle.std.specs.List.{slice_index_or}
 use Rattle.std.proofs.Common.{refl, sym, ap, subst, ◌∙◌, arith, inl, inr, eqb-true}
 use Rattle.std.proofs.Math.Nat.{div-add-mod}
 use Rattle.std.proofs.lemmas.Bool.{true≢false, ltb-true, ltb-false, cases_order}
-use Rattle.std.proofs.lemmas.Option.{none-some}
+use Rattle.std.proofs.lemmas.Option.{same_Some, none-some}
 use Rattle.std.proofs.lemmas.List.Elements.{All-contains, at_from_Contains}
 use Rattle.ipv4_prefix.specs.Prefix.{Prefix, IsPrefix, covers}
 use Rattle.ipv4_prefix.specs.LongestMatch.{longer_row, longest_match, IsLongestMatch, HasDistinctPrefixes, HasWritablePrefixes}
@@ -21,9 +21,6 @@ covering_same addr p q valid_p valid_q covers_p covers_q same =
     let none_q : q.addr % 2 ^ (32 - p.len) ≡ 0 = rw same valid_q.no_host_bits in
     let addrs = same_by_parts p.addr q.addr (2 ^ (32 - p.len)) (bits_p ∙ sym bits_q) (valid_p.no_host_bits ∙ sym none_q) in
     λ i. record { addr = addrs i; len = same i }
-
-Some_same : {A : Type 0} {x y : A} → Some x ≡ Some y → x ≡ y
-Some_same e = cc
 
 Contains-first : {X : Type 0} (x : X) (xs : List X) → Contains (x ∷ xs) x
 Contains-first x xs = (0, omega arith, refl)
@@ -87,12 +84,12 @@ module _ {X : Type 0} (addr : ℕ) where
       by_test : (b : Bool) → covers s.0 addr ≡ b → (o : Option (Prefix × X)) → longest_match addr rows ≡ o → cond b (longer_row s o) o ≡ Some found
           → ((f : Prefix × X) → longest_match addr rows ≡ Some f → IsLongestMatch addr rows f) → IsLongestMatch addr (s ∷ rows) found
       by_test false fails o is e onward = later (onward found (is ∙ e)) (λ c. absurd (true≢false (sym c ∙ fails)))
-      by_test true covered None none e onward = first (Some_same e) covered (λ r h c. absurd (true≢false (sym c ∙ longest_match-none rows none r h)))
+      by_test true covered None none e onward = first (same_Some _ _ e) covered (λ r h c. absurd (true≢false (sym c ∙ longest_match-none rows none r h)))
       by_test true covered (Some t) some e onward = by_length (nat_lt (s.0).len (t.0).len) refl e
         where
           by_length : (b : Bool) → nat_lt (s.0).len (t.0).len ≡ b → cond b (Some t) (Some s) ≡ Some found → IsLongestMatch addr (s ∷ rows) found
-          by_length true less same = later (onward found (some ∙ same)) (λ c. omega (arith, ltb-true _ _ less, ap (λ (x : Prefix × X). (x.0).len) (Some_same same)))
-          by_length false least same = first (Some_same same) covered (λ r h c. omega (arith, ltb-false _ _ least, (onward t some).longest r h c))
+          by_length true less same = later (onward found (some ∙ same)) (λ c. omega (arith, ltb-true _ _ less, ap (λ (x : Prefix × X). (x.0).len) (same_Some _ _ same)))
+          by_length false least same = first (same_Some _ _ same) covered (λ r h c. omega (arith, ltb-false _ _ least, (onward t some).longest r h c))
 
   -- where some row covers the address, there is a match
   pub longest_match-covered : (rows : List (Prefix × X)) (r : Prefix × X) → Contains rows r → covers r.0 addr ≡ true → (found : Prefix × X) × (longest_match addr rows ≡ Some found)

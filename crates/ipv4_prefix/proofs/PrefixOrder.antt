@@ -2,7 +2,7 @@
 use Rattle.std.proofs.Common.{◌≡◌, ℕ, true, arith, Ordering, refl, sym, ap, ◌∙◌}
 use Rattle.std.specs.declared.cmp.Ordering.TheVariants.{Less, Equal, Greater}
 use Rattle.std.specs.Cmp.{IsTotalOrder}
-use Rattle.std.specs.Ordering.{nat_cmp, ordering_then, is_eq}
+use Rattle.std.specs.Ordering.{nat_cmp, ordering_then, is_eq, is_lt}
 use Rattle.std.proofs.lemmas.Cmp.{ranked, nat_cmp_total, on_total, then_total, tied_itself}
 use Rattle.std.proofs.lemmas.Bool.{false≢true}
 use Rattle.std.proofs.lemmas.Bool.Decides.{nat_tests}
@@ -34,10 +34,17 @@ prefix_cmp-tied p q tied =
     let len = nat_cmp-tied p.len q.len both.1 in
     λ i. record { addr = addr i; len = len i }
 
-equal_from_test : (o : Ordering) → is_eq o ≡ true → o ≡ Equal
+-- an order that passes the test for equal is `Equal`
+pub equal_from_test : (o : Ordering) → is_eq o ≡ true → o ≡ Equal
 equal_from_test Less h = absurd (false≢true h)
 equal_from_test Equal h = refl
 equal_from_test Greater h = absurd (false≢true h)
+
+-- an order that passes the test for less is `Less`
+pub less_from_test : (o : Ordering) → is_lt o ≡ true → o ≡ Less
+less_from_test Less h = refl
+less_from_test Equal h = absurd (false≢true h)
+less_from_test Greater h = absurd (false≢true h)
 
 -- `prefix_eq` tells whether two prefixes are equal
 pub prefix_eq-Decides : (p q : Prefix) → Decides (prefix_eq p q) (p ≡ q)

@@ -15,7 +15,7 @@ use Rattle.ipv4_prefix.specs.Prefix.{Prefix, IsPrefix}
 use Rattle.ipv4_prefix.specs.Texts.{address_text, prefix_text}
 use Rattle.ipv4_prefix.specs.Faults.{block, SpellsAddress, SpellsLength, SpellsPrefix, slash, is_slash, address_part, length_part, IsFirstFault}
 use Rattle.ipv4_prefix.proofs.AddressTexts.{SpellsAddress_unique}
-use Rattle.ipv4_prefix.proofs.LengthTexts.{SpellsLength_unique}
+use Rattle.decimal_text.proofs.Numbers.{Spells_unique}
 
 -- what stands round the first byte that passes
 module _ (p : ℕ → Bool) (front back : List ℕ) (byte : ℕ) (none : All (λ b. p b ≡ false) front) (passes : p byte ≡ true) where
@@ -74,6 +74,10 @@ module _ (text : List ℕ) (p : Prefix) (spells : SpellsPrefix text p) where
 
   pub spells_length : SpellsLength (length_part text) p.len
   spells_length = (spells.0.short, rw apart (after_first-append is_slash _ _ slash (NoSlash-address_text p.addr spells.0.fits) refl))
+
+-- a text spells one length
+SpellsLength_unique : (text : List ℕ) (m n : ℕ) → SpellsLength text m → SpellsLength text n → m ≡ n
+SpellsLength_unique text m n h k = Spells_unique text m n (omega (arith, h.0), h.1) (omega (arith, k.0), k.1)
 
 -- the parts make the text of a prefix
 pub SpellsPrefix-parts : (text : List ℕ) (addr len : ℕ) → position_or_len is_slash text < length text → SpellsAddress (address_part text) addr → SpellsLength (length_part text) len → IsPrefix (block addr len) → SpellsPrefix text (block addr len)

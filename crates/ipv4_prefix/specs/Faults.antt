@@ -1,5 +1,5 @@
 -- Which texts spell addresses and prefixes, and what is wrong with the others.
-use Rattle.std.specs.Prelude.{◌≡◌, ℕ, ◌-◌, ◌%◌, ◌^◌, ◌<◌, ◌≤◌, ◌≢◌, Bool, ◌==◌, List, length, slice_index, Contains, decimal}
+use Rattle.std.specs.Prelude.{◌≡◌, ℕ, ◌-◌, ◌%◌, ◌^◌, ◌<◌, ◌≤◌, ◌≢◌, Bool, ◌==◌, List, Contains, decimal}
 use Rattle.std.specs.List.{before_first, after_first}
 use Rattle.ipv4_prefix.specs.declared.fault.PrefixFault.{PrefixFault}
 use Rattle.ipv4_prefix.specs.declared.fault.PrefixFault.TheVariants.{NoSlash, BadAddress, BadLength, HostBits}
@@ -63,15 +63,3 @@ IsFirstFault text NoSlash = ¬ (Contains text slash)
 IsFirstFault text BadAddress = Contains text slash × ¬ (IsAddressText (address_part text))
 IsFirstFault text BadLength = Contains text slash × IsAddressText (address_part text) × ¬ (IsLengthText (length_part text))
 IsFirstFault text HostBits = Contains text slash × SpellsHostBits text
-
--- the byte `+`
-abbrev pub plus_sign : ℕ
-plus_sign = 43
-
--- the byte `0`
-abbrev pub zero_digit : ℕ
-zero_digit = 48
-
--- the text has neither a sign nor a leading zero
-abbrev pub HasCanonicalStart : List ℕ → Type 0
-HasCanonicalStart text = (slice_index text 0 ≢ plus_sign) × (slice_index text 0 ≡ zero_digit → length text ≡ 1)

@@ -4,11 +4,11 @@ ghost use Rattle.std.specs.Prelude.{◌≡◌, ◌<◌, ◌≤◌, ◌↔◌, If
 ghost use Rattle.ipv4_prefix.specs.Prefix.{Prefix as Block, IsPrefix, covers as is_in_block};
 ghost use Rattle.ipv4_prefix.specs.Texts.{prefix_text};
 ghost use Rattle.ipv4_prefix.specs.declared.fault.PrefixFault.{PrefixFault as Fault};
-ghost use Rattle.ipv4_prefix.specs.Faults.{block, SetsHostBits, HasCanonicalStart, SpellsLength};
-ghost use Rattle.ipv4_prefix.specs.Faults.{IsLengthText, SpellsPrefix, IsFirstFault};
+ghost use Rattle.ipv4_prefix.specs.Faults.{block, SetsHostBits, SpellsLength, IsLengthText, SpellsPrefix, IsFirstFault};
 
 use crate::addr::{Addr, parse_addr};
 use crate::fault::PrefixFault;
+use decimal_text::read_number;
 use std::fmt;
 use std::marker::Model;
 
@@ -110,16 +110,8 @@ fn parse_len(text: &str) -> Result<u8, PrefixFault>
     ensures bad_length { IsOkUnless result PrefixFault.BadLength }
     ensures no_length { OnErr result (¬ IsLengthText text.now) }
 {
-    let starts_well = has_canonical_start(text);
-    match text.parse::<u8>() {
-        Ok(len) if starts_well && len <= 32 => Ok(len),
+    match read_number(text) {
+        Some(len) if len <= 32 => Ok(len as u8),
         _ => Err(PrefixFault::BadLength),
     }
-}
-
-// Whether the text has neither a sign nor a leading zero, which `parse` would take.
-fn has_canonical_start(text: &str) -> bool
-    ensures { IsTrue result ↔ HasCanonicalStart text.now }
-{
-    !text.starts_with('+') && (text.len() == 1 || !text.starts_with('0'))
 }

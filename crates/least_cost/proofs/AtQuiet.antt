@@ -7,7 +7,8 @@ use Rattle.network_model.specs.Machine.{Machine, distance}
 use Rattle.metric.specs.Distance.{infinity, plus}
 use Rattle.machine_laws.specs.Laws.{is_up_at, reported_at}
 use Rattle.loop_freedom.specs.Network.{LinkEnd, Topology, State, IsWalk, NextHop, next_hop_of, at_port}
-use Rattle.least_cost.specs.Quiet.{LeadsHome, Follows, IsQuiet, IsRouted, IsCutOff, IsOptimal, OptimalAtQuiet, end_of, walk_cost}
+use Rattle.loop_freedom.proofs.Walks.{walk_map}
+use Rattle.least_cost.specs.Quiet.{LeadsHome, Follows, IsQuiet, IsRouted, IsCutOff, IsOptimal, OptimalAtQuiet, walk_end, walk_cost}
 use Rattle.machine_laws.proofs.Distances.{distance_cases, least_below}
 use Rattle.least_cost.proofs.Replay.{replay, cost_of}
 use Rattle.least_cost.proofs.Told.{last_held}
@@ -26,11 +27,6 @@ plus_under a c = go (nat_lt (a + c) infinity) refl
         not_below : (a + c < infinity) ⊎ (infinity ≤ a + c) → infinity ≤ a + c
         not_below (inl l) = absurd (both_ways (nat_lt (a + c) infinity) h (lt-ltb (a + c) infinity l))
         not_below (inr l) = l
-
--- a walk along edges is one along any edges that they are
-walk_map : (t : Topology) (f g : LinkEnd → Type 0) → ((e : LinkEnd) → f e → g e) → (i : ℕ) (es : List LinkEnd) → IsWalk t f i es → IsWalk t g i es
-walk_map t f g h i [] w = tt
-walk_map t f g h i (e ∷ es) w = (w.0, w.1, h e w.2, walk_map t f g h (t.far e).router es w.3)
 
 -- the neighbour at a port that is up
 record UpPort (m : Machine) (p : ℕ) : Type 0 where
@@ -174,7 +170,7 @@ module _ (t : Topology) (n : ℕ) (s : State) (k : Kept t s) (q : IsQuiet t n s)
   record Chain (i : ℕ) : Type 0 where
     places : List LinkEnd
     follows : IsWalk t (Follows s) i places
-    reaches : (s.machine (end_of t i places)).local ≡ true
+    reaches : (s.machine (walk_end t i places)).local ≡ true
     cost_is : walk_cost s places ≡ rd i
     few_hops : length places ≤ count_below rd (rd i) n
     near : rd i ≤ 65535 * count_below rd (rd i) n

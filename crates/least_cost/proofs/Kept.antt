@@ -1,6 +1,5 @@
 -- What every state of a run keeps of each link and of what its ends were told.
-use Rattle.std.proofs.Common.{◌≡◌, ◌⊎◌, ℕ, zero, suc, ◌<◌, ◌≤◌, Bool, true, false, List, [], ◌∷◌, ◌++◌, length, refl, ap, sym, inl, inr, arith, ◌∙◌}
-use Rattle.std.proofs.lemmas.Bool.{cases_eq}
+use Rattle.std.proofs.Common.{◌≡◌, ℕ, zero, suc, ◌<◌, ◌≤◌, Bool, true, false, List, [], ◌∷◌, ◌++◌, length, refl, ap, sym, arith, ◌∙◌}
 use Rattle.network_model.specs.declared.machine.Outgoing.{Outgoing}
 use Rattle.metric.specs.Distance.{infinity}
 use Rattle.machine_laws.specs.Laws.{is_up_at, IsSound}
@@ -98,15 +97,6 @@ seen_past l k = omega (arith, session_rises l.inbox l.port k.fits, k.end_session
 -- places of the same router and port are the same
 pub place_same : (a : LinkEnd) (r p : ℕ) → r ≡ a.router → p ≡ a.port → (let e : LinkEnd = record { router = r; port = p } in e ≡ a)
 place_same a r p h k = rw (h, k) refl
-
--- a place is another or it is not
-pub place_cases : (e a : LinkEnd) → (e ≡ a) ⊎ (e ≡ a → ⊥)
-place_cases e a = go (cases_eq e.router a.router) (cases_eq e.port a.port)
-  where
-    go : (e.router ≡ a.router) ⊎ (e.router ≡ a.router → ⊥) → (e.port ≡ a.port) ⊎ (e.port ≡ a.port → ⊥) → (e ≡ a) ⊎ (e ≡ a → ⊥)
-    go (inl r) (inl p) = inl (place_same a e.router e.port r p)
-    go (inr r) c = inr (λ h. r (ap (λ x. x.router) h))
-    go (inl r) (inr p) = inr (λ h. p (ap (λ x. x.port) h))
 
 -- places with the same far end are the same
 pub far_same : (t : Topology) (e a : LinkEnd) → t.valid e ≡ true → t.valid a ≡ true → t.far e ≡ t.far a → e ≡ a

@@ -4,40 +4,13 @@ use Rattle.std.specs.Prelude.{if◌then◌else◌}
 use Rattle.std.proofs.lemmas.Bool.{both_ways}
 use Rattle.metric.specs.Distance.{infinity}
 use Rattle.loop_freedom.specs.Network.{LinkEnd, Topology, UpNotice, DownNotice, CostNotice, Held, State, LinkUp, LinkDown, SetCost, IsEnd, notices}
+use Rattle.loop_freedom.proofs.Ends.{place_cases, end_cases, end_far, end_near, end_valid}
 use Rattle.least_cost.proofs.Replay.{Fits, Alike, replay, port_after, replay_append, fits_append, notices_alike, notices_fit}
 use Rattle.least_cost.proofs.Told.{last_held, expected_past}
-use Rattle.least_cost.proofs.Kept.{LineKept, pending, line, held, AllRecent, recent_more, Sees, Kept, seen_past, place_cases, far_same, line_same, sees_same, port_same, held_same, kept_links, ends_up_same, ends_session_same}
+use Rattle.least_cost.proofs.Kept.{LineKept, pending, line, held, AllRecent, recent_more, Sees, Kept, seen_past, line_same, sees_same, port_same, held_same, kept_links, ends_up_same, ends_session_same}
 use Rattle.least_cost.proofs.Releases.{line_gains}
 
 -- ---- the ends of a link
-
--- a place is an end of the link or it is not
-end_cases : (t : Topology) (a e : LinkEnd) → IsEnd t a e ⊎ (IsEnd t a e → ⊥)
-end_cases t a e = go (place_cases e a) (place_cases e (t.far a))
-  where
-    go : (e ≡ a) ⊎ (e ≡ a → ⊥) → (e ≡ t.far a) ⊎ (e ≡ t.far a → ⊥) → IsEnd t a e ⊎ (IsEnd t a e → ⊥)
-    go (inl h) c = inl (inl h)
-    go (inr d) (inl h) = inl (inr h)
-    go (inr d) (inr f) = inr neither
-      where
-        neither : IsEnd t a e → ⊥
-        neither (inl h) = d h
-        neither (inr h) = f h
-
--- the far end of an end of the link is an end of it
-far_end : (t : Topology) (a e : LinkEnd) → t.valid a ≡ true → IsEnd t a e → IsEnd t a (t.far e)
-far_end t a e v (inl h) = inr (ap t.far h)
-far_end t a e v (inr h) = inl (ap t.far h ∙ t.far_far a v)
-
--- a place whose far end is an end of the link is an end of it
-end_far : (t : Topology) (a e : LinkEnd) → t.valid a ≡ true → t.valid e ≡ true → IsEnd t a (t.far e) → IsEnd t a e
-end_far t a e v w (inl h) = inr (sym (t.far_far e w) ∙ ap t.far h)
-end_far t a e v w (inr h) = inl (far_same t e a w v h)
-
--- an end of the link is a place
-end_valid : (t : Topology) (a e : LinkEnd) → t.valid a ≡ true → IsEnd t a e → t.valid e ≡ true
-end_valid t a e v (inl h) = ap t.valid h ∙ v
-end_valid t a e v (inr h) = ap t.valid h ∙ t.far_valid a v
 
 -- both ends are up, or down, as the one is
 end_up_is : (t : Topology) (s : State) (a e : LinkEnd) (b : Bool) → Kept t s → t.valid a ≡ true → s.up a ≡ b → IsEnd t a e → s.up e ≡ b
@@ -81,16 +54,16 @@ module _ (t : Topology) (old new : State) (k : Kept t old) (s : LinkUp t old new
   ends_up_up e v = go (end_cases t s.a e)
     where
       go : IsEnd t s.a e ⊎ (IsEnd t s.a e → ⊥) → new.up (t.far e) ≡ new.up e
-      go (inl h) = s.up_at (t.far e) (far_end t s.a e s.valid_place h) ∙ sym (s.up_at e h)
-      go (inr d) = s.up_elsewhere (t.far e) (λ h. d (end_far t s.a e s.valid_place v h)) ∙ k.ends_up e v ∙ sym (s.up_elsewhere e d)
+      go (inl h) = s.up_at (t.far e) (end_far t s.a e s.valid_place h) ∙ sym (s.up_at e h)
+      go (inr d) = s.up_elsewhere (t.far e) (λ h. d (end_near t s.a e s.valid_place v h)) ∙ k.ends_up e v ∙ sym (s.up_elsewhere e d)
 
   -- the ends of each link agree on its session
   ends_session_up : (e : LinkEnd) → t.valid e ≡ true → new.session (t.far e) ≡ new.session e
   ends_session_up e v = go (end_cases t s.a e)
     where
       go : IsEnd t s.a e ⊎ (IsEnd t s.a e → ⊥) → new.session (t.far e) ≡ new.session e
-      go (inl h) = s.session_at (t.far e) (far_end t s.a e s.valid_place h) ∙ ap suc (k.ends_session e v) ∙ sym (s.session_at e h)
-      go (inr d) = s.session_elsewhere (t.far e) (λ h. d (end_far t s.a e s.valid_place v h)) ∙ k.ends_session e v ∙ sym (s.session_elsewhere e d)
+      go (inl h) = s.session_at (t.far e) (end_far t s.a e s.valid_place h) ∙ ap suc (k.ends_session e v) ∙ sym (s.session_at e h)
+      go (inr d) = s.session_elsewhere (t.far e) (λ h. d (end_near t s.a e s.valid_place v h)) ∙ k.ends_session e v ∙ sym (s.session_elsewhere e d)
 
   -- what is held is for no later session, with no value above infinity
   recent_up : (e : LinkEnd) → t.valid e ≡ true → AllRecent (new.session e) (held new e)
@@ -106,12 +79,12 @@ module _ (t : Topology) (old new : State) (k : Kept t old) (s : LinkUp t old new
     where
       go : IsEnd t s.a e ⊎ (IsEnd t s.a e → ⊥) → Sees t new e
       go (inl h) up =
-          ap (λ x. last_held (new.session e) x (held new e)) (ap (λ p. p.reported) (gains_up (t.far e) (far_end t s.a e s.valid_place h)).1)
+          ap (λ x. last_held (new.session e) x (held new e)) (ap (λ p. p.reported) (gains_up (t.far e) (end_far t s.a e s.valid_place h)).1)
           ∙ ap (last_held (new.session e) infinity) (held_same old new s.holdings e)
           ∙ last_none (old.session e) (new.session e) infinity (held old e) (k.recent e v) (omega (arith, s.session_at e h))
           ∙ sym (expected_past (new.seen e) (new.session e) (new.machine e.router).rd (omega (arith, s.session_at e h, s.machines.seen_same e, seen_past (line old e) (k.lines e v))))
       go (inr d) up =
-          sees_same t old new e (s.up_elsewhere e d) (s.session_elsewhere e d) (ap (λ l. (pending l).reported) (same_line_up (t.far e) (λ h. d (end_far t s.a e s.valid_place v h))))
+          sees_same t old new e (s.up_elsewhere e d) (s.session_elsewhere e d) (ap (λ l. (pending l).reported) (same_line_up (t.far e) (λ h. d (end_near t s.a e s.valid_place v h))))
           (held_same old new s.holdings e) (s.machines.seen_same e) (s.machines.machine_same e.router) (k.sight e v) up
 
   -- a link that comes up keeps the state
@@ -164,8 +137,8 @@ module _ (t : Topology) (old new : State) (k : Kept t old) (s : LinkDown t old n
   ends_up_down e v = go (end_cases t s.a e)
     where
       go : IsEnd t s.a e ⊎ (IsEnd t s.a e → ⊥) → new.up (t.far e) ≡ new.up e
-      go (inl h) = s.up_at (t.far e) (far_end t s.a e s.valid_place h) ∙ sym (s.up_at e h)
-      go (inr d) = s.up_elsewhere (t.far e) (λ h. d (end_far t s.a e s.valid_place v h)) ∙ k.ends_up e v ∙ sym (s.up_elsewhere e d)
+      go (inl h) = s.up_at (t.far e) (end_far t s.a e s.valid_place h) ∙ sym (s.up_at e h)
+      go (inr d) = s.up_elsewhere (t.far e) (λ h. d (end_near t s.a e s.valid_place v h)) ∙ k.ends_up e v ∙ sym (s.up_elsewhere e d)
 
   -- each far end of a link that is up is told the distance
   sight_down : (e : LinkEnd) → t.valid e ≡ true → Sees t new e
@@ -174,7 +147,7 @@ module _ (t : Topology) (old new : State) (k : Kept t old) (s : LinkDown t old n
       go : IsEnd t s.a e ⊎ (IsEnd t s.a e → ⊥) → Sees t new e
       go (inl h) up = absurd (both_ways (new.up e) (s.up_at e h) up)
       go (inr d) up =
-          sees_same t old new e (s.up_elsewhere e d) (s.session_same e) (ap (λ l. (pending l).reported) (same_line_down (t.far e) (λ h. d (end_far t s.a e s.valid_place v h))))
+          sees_same t old new e (s.up_elsewhere e d) (s.session_same e) (ap (λ l. (pending l).reported) (same_line_down (t.far e) (λ h. d (end_near t s.a e s.valid_place v h))))
           (held_same old new s.holdings e) (s.machines.seen_same e) (s.machines.machine_same e.router) (k.sight e v) up
 
   -- a link that goes down keeps the state

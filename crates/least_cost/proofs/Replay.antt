@@ -1,5 +1,5 @@
 -- What a port will be once the items that wait there are taken.
-use Rattle.std.proofs.Common.{◌≡◌, ℕ, zero, suc, ◌<◌, ◌≤◌, Bool, true, false, List, [], ◌∷◌, ◌++◌, Option, Some, None, length, refl, sym, arith, ◌∙◌}
+use Rattle.std.proofs.Common.{◌≡◌, ℕ, ◌<◌, ◌≤◌, Bool, true, false, List, [], ◌∷◌, ◌++◌, Option, Some, None, length, refl, sym, arith, ◌∙◌}
 use Rattle.std.specs.Prelude.{slice_get}
 use Rattle.std.proofs.lemmas.Bool.{both_ways}
 use Rattle.network_model.specs.declared.machine.Neighbour.{Neighbour}
@@ -7,7 +7,7 @@ use Rattle.network_model.specs.Machine.{Machine, records_after}
 use Rattle.metric.specs.Distance.{infinity}
 use Rattle.machine_laws.specs.Laws.{test_at, reported_of, Meets}
 use Rattle.loop_freedom.specs.Network.{Item, UpNotice, DownNotice, CostNotice, Reported, event_of, seen_after, notices}
-use Rattle.network_model.proofs.ListLaws.{slice_get-changed_at, slice_get-changed_at_other, length-changed_at}
+use Rattle.network_model.proofs.ListLaws.{slice_get-changed_at, slice_get-changed_at_other, element_there}
 
 -- what a machine keeps of a port, with the session seen there
 pub record Port : Type 0 where
@@ -122,12 +122,6 @@ port_taken_at ns q seen (DownNotice s) n h = rw (slice_get-changed_at (λ y. rec
 port_taken_at ns q seen (CostNotice s c) n h = rw (slice_get-changed_at (λ y. record { up = y.up; cost = c; reported = y.reported }) q ns, h) refl
 port_taken_at ns q seen (Reported m) n h = rw (slice_get-changed_at (λ y. record { up = y.up; cost = y.cost; reported = m.value }) q ns, h) refl
 
--- there is an element at each place below the length
-element_there : {A : Type 0} (xs : List A) (k : ℕ) → k < length xs → (x : A) × (slice_get xs k ≡ Some x)
-element_there [] k l = absurd (omega (arith, l))
-element_there (y ∷ ys) zero l = (y, refl)
-element_there (y ∷ ys) (suc k) l = element_there ys k (omega (arith, l))
-
 -- the port at which an item is taken is as the item leaves it
 pub port_taken : (ns : List Neighbour) (q seen : ℕ) (x : Item) → q < length ns → port_in (records_after (event_of q x) ns) q (seen_after x seen) ≡ port_after x (port_in ns q seen)
 port_taken ns q seen x l = let (n, h) = element_there ns q l in port_taken_at ns q seen x n h
@@ -138,13 +132,6 @@ port_other ns q p seen (UpNotice s c) ne = rw (slice_get-changed_at_other (λ y.
 port_other ns q p seen (DownNotice s) ne = rw (slice_get-changed_at_other (λ y. record { up = false; cost = y.cost; reported = y.reported }) q p ns ne) refl
 port_other ns q p seen (CostNotice s c) ne = rw (slice_get-changed_at_other (λ y. record { up = y.up; cost = c; reported = y.reported }) q p ns ne) refl
 port_other ns q p seen (Reported m) ne = rw (slice_get-changed_at_other (λ y. record { up = y.up; cost = y.cost; reported = m.value }) q p ns ne) refl
-
--- an item leaves the number of ports
-pub length_after : (ns : List Neighbour) (q : ℕ) (x : Item) → length (records_after (event_of q x) ns) ≡ length ns
-length_after ns q (UpNotice s c) = length-changed_at (λ y. record { up = true; cost = c; reported = infinity }) q ns
-length_after ns q (DownNotice s) = length-changed_at (λ y. record { up = false; cost = y.cost; reported = y.reported }) q ns
-length_after ns q (CostNotice s c) = length-changed_at (λ y. record { up = y.up; cost = c; reported = y.reported }) q ns
-length_after ns q (Reported m) = length-changed_at (λ y. record { up = y.up; cost = y.cost; reported = m.value }) q ns
 
 -- an item that fits is an event that the machine meets
 pub meets_item : (m : Machine) (q seen : ℕ) (x : Item) → q < length m.ports → FitsOne x (port_in m.ports q seen) → Meets m (event_of q x)

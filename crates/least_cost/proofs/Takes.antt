@@ -10,9 +10,11 @@ use Rattle.machine_laws.proofs.Sends.{EachSend}
 use Rattle.machine_laws.proofs.Keeping.{keeps_records}
 use Rattle.machine_laws.proofs.Sending.{sends_distance}
 use Rattle.machine_laws.proofs.Soundness.{stays_sound}
-use Rattle.least_cost.proofs.Replay.{Fits, replay, port_after, port_taken, port_other, length_after, meets_item, session_one}
+use Rattle.loop_freedom.proofs.Ends.{place_cases}
+use Rattle.loop_freedom.proofs.Ports.{ports_length}
+use Rattle.least_cost.proofs.Replay.{Fits, replay, port_after, port_taken, port_other, meets_item, session_one}
 use Rattle.least_cost.proofs.Told.{last_held, last_sent, last_append, each_sent, expected, told_after, told_up, told_more}
-use Rattle.least_cost.proofs.Kept.{LineKept, pending, port_at, line, held, AllRecent, recent_append, recent_sent, Sees, Kept, current_up, seen_past, place_same, place_cases, sees_same, ends_up_same, ends_session_same}
+use Rattle.least_cost.proofs.Kept.{LineKept, pending, port_at, line, held, AllRecent, recent_append, recent_sent, Sees, Kept, current_up, seen_past, place_same, sees_same, ends_up_same, ends_session_same}
 
 -- an item that begins a session at a port has the machine tell its distance there
 comes_one : (m : Machine) (q seen : ℕ) (x : Item) → seen < seen_after x seen → last_sent infinity (sent_to q (reaction m (event_of q x)).sends) ≡ (reaction m (event_of q x)).machine.rd
@@ -123,7 +125,7 @@ module _ (t : Topology) (old new : State) (k : Kept t old) (s : Take t old new) 
   there_still e v = go (cases_eq e.router s.a.router)
     where
       go : (e.router ≡ s.a.router) ⊎ (e.router ≡ s.a.router → ⊥) → e.port < length (new.machine e.router).ports
-      go (inl h) = omega (arith, k.there e v, ap length (ports_here e.router h), length_after m.ports s.a.port s.item, ap (λ x. length x.ports) (was_here e.router h))
+      go (inl h) = omega (arith, k.there e v, ap length (ports_here e.router h), ports_length s.a.port s.item m.ports, ap (λ x. length x.ports) (was_here e.router h))
       go (inr d) = omega (arith, k.there e v, ap (λ x. length x.ports) (s.machine_elsewhere e.router d))
 
   -- each port that is up is still that of a place

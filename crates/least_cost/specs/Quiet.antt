@@ -5,9 +5,9 @@ use Rattle.machine_laws.specs.Laws.{is_active}
 use Rattle.loop_freedom.specs.Network.{LinkEnd, Topology, State, PublishedEdge, ControlEdge, IsWalk, AlwaysHolds, next_hop_of, at_port}
 
 -- the router at which a walk from router i ends
-abbrev pub end_of : Topology → ℕ → List LinkEnd → ℕ
-end_of t i [] = i
-end_of t i (e ∷ es) = end_of t (t.far e).router es
+abbrev pub walk_end : Topology → ℕ → List LinkEnd → ℕ
+walk_end t i [] = i
+walk_end t i (e ∷ es) = walk_end t (t.far e).router es
 
 -- the sum of the costs along a walk, each that of the router which sends
 abbrev pub walk_cost : State → List LinkEnd → ℕ
@@ -17,7 +17,7 @@ walk_cost s (e ∷ es) = s.cost e + walk_cost s es
 -- a walk of links that are up, from router i to an owner
 pub record LeadsHome (t : Topology) (s : State) (i : ℕ) (es : List LinkEnd) : Type 0 where
   pub live : IsWalk t (λ e. s.up e ≡ true) i es
-  pub home : (s.machine (end_of t i es)).local ≡ true
+  pub home : (s.machine (walk_end t i es)).local ≡ true
 
 -- the router's machine has chosen this way, and its traffic takes it
 pub record Follows (s : State) (e : LinkEnd) : Type 0 where
@@ -37,7 +37,7 @@ pub record IsRouted (t : Topology) (n : ℕ) (s : State) (i : ℕ) : Type 0 wher
   pub here_or_on : (((s.machine i).local ≡ true) × ((s.machine i).rd ≡ 0)) ⊎ (((s.machine i).local ≡ false) × ((q : ℕ) × ((s.machine i).successor ≡ Some q)))
   pub chain : List LinkEnd
   pub follows : IsWalk t (Follows s) i chain
-  pub reaches : (s.machine (end_of t i chain)).local ≡ true
+  pub reaches : (s.machine (walk_end t i chain)).local ≡ true
   pub hops : length chain < n
   pub cost_is : walk_cost s chain ≡ (s.machine i).rd
   pub least_cost : (es : List LinkEnd) → LeadsHome t s i es → (s.machine i).rd ≤ walk_cost s es

@@ -8,15 +8,10 @@ use Rattle.network_model.specs.declared.item.Held.{Held}
 use Rattle.network_model.specs.declared.network.End.{End}
 use Rattle.network_model.specs.Machine.{changed_at}
 use Rattle.network_model.specs.World.{Link, other, side}
+use Rattle.network_model.proofs.ListLaws.{changed_at-set}
 use Rattle.link_fifo.specs.declared.refusal.LinkRefusal.{LinkRefusal}
 use Rattle.link_fifo.specs.Refusals.{front_of}
 use Rattle.network_model.specs.Step.{with_message, with_item, changed_side, is_up_in}
-
--- a change at a place writes the changed element there
-pub changed_at-set : {A : Type 0} (f : A → A) (k : ℕ) (xs : List A) (d : A) → changed_at k f xs ≡ set xs k (f (get_or xs k d))
-changed_at-set f k [] d = refl
-changed_at-set f zero (x ∷ xs) d = refl
-changed_at-set f (suc k) (x ∷ xs) d = ap (λ ys. x ∷ ys) (changed_at-set f k xs d)
 
 -- the element x of xs at place i, written back as f x, changes the list ys that xs is
 pub written : {A : Type 0} (f : A → A) {xs ys : List A} {i k : ℕ} {x y : A} → i ≡ k → x ≡ get_or xs i x → y ≡ f x → xs ≡ ys → set xs i y ≡ changed_at k f ys

@@ -1,11 +1,11 @@
 -- What every state of a run keeps, and when two states show the same of a link.
-use Rattle.std.specs.Prelude.{◌≡◌, ◌⊎◌, ℕ, ◌<◌, ◌≤◌, true, false, List, [], ◌++◌, Option, length}
-use Rattle.std.proofs.Common.{refl, sym, ◌∙◌, ap, subst, inl, inr}
-use Rattle.std.proofs.lemmas.Bool.{cases_eq, both_ways}
+use Rattle.std.specs.Prelude.{◌≡◌, ℕ, ◌<◌, ◌≤◌, true, false, List, [], ◌++◌, Option, length}
+use Rattle.std.proofs.Common.{refl, sym, subst}
+use Rattle.std.proofs.lemmas.Bool.{both_ways}
 use Rattle.network_model.specs.Machine.{Machine}
 use Rattle.metric.specs.Distance.{infinity}
 use Rattle.machine_laws.specs.Laws.{IsSound, is_up_at}
-use Rattle.loop_freedom.specs.Network.{Held, Item, NextHop, LinkEnd, Topology, State, at_port}
+use Rattle.loop_freedom.specs.Network.{Held, Item, NextHop, LinkEnd, Topology, State}
 use Rattle.loop_freedom.specs.Facts.{AtLeast, AtLeastFromLastQuery, End, pipe, messages, live, is_next_hop, end_of, end_at}
 use Rattle.loop_freedom.proofs.Lists.{at_least_left}
 use Rattle.loop_freedom.proofs.Link.{EndInvariant}
@@ -28,19 +28,6 @@ pub record Invariant (t : Topology) (s : State) : Type 0 where
   pub unripe_lawful : (e : LinkEnd) → t.valid e ≡ true → IsLawfullyHeld (s.session e) (s.unripe e)
   pub next_hop_old : (e : LinkEnd) → t.valid e ≡ true → (k : ℕ) → is_next_hop e.port k (s.published e.router) ≡ true → k ≤ s.session e
   pub links : (e : LinkEnd) → t.valid e ≡ true → s.up e ≡ true → EndInvariant (end_at t s e) (end_at t s (t.far e))
-
--- two link ends are one or they are not
-pub same_place : (e a : LinkEnd) → (e ≡ a) ⊎ (e ≡ a → ⊥)
-same_place e a = elim (cases_eq e.router a.router) [
-  | inl r ↦ elim (cases_eq e.port a.port) [
-    | inl p ↦ inl (places e a r p)
-    | inr d ↦ inr (λ x. d (ap (λ (w : LinkEnd). w.port) x))
-  ]
-  | inr d ↦ inr (λ x. d (ap (λ (w : LinkEnd). w.router) x))
-]
-  where
-    places : (e a : LinkEnd) → e.router ≡ a.router → e.port ≡ a.port → e ≡ a
-    places e a r p = ap (λ (n : ℕ). at_port n e.port) r ∙ ap (λ (n : ℕ). at_port a.router n) p
 
 -- ends with equal parts, and with the same on its way, are equal
 pub end_cong : {m m' : Machine} {seen seen' n n' : ℕ} {o o' : Option NextHop} {pfd pfd' : ℕ} (q : ℕ) (items items' : List Item) (ripe ripe' unripe unripe' : List Held)

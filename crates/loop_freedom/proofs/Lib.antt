@@ -1,4 +1,5 @@
 pub mod Lists
+pub mod Ends
 pub mod Link
 pub mod LinkSteps
 pub mod Published

@@ -1,5 +1,5 @@
 -- A link that comes up or goes down keeps the invariant.
-use Rattle.std.specs.Prelude.{◌≡◌, ◌⊎◌, ℕ, suc, ◌<◌, ◌≤◌, true, false, ◌==◌, [], ◌∷◌}
+use Rattle.std.specs.Prelude.{◌≡◌, ℕ, suc, ◌<◌, ◌≤◌, true, false, ◌==◌, [], ◌∷◌}
 use Rattle.std.proofs.Common.{refl, sym, ◌∙◌, ap, subst, arith, inl, inr}
 use Rattle.std.proofs.lemmas.List.{append-nil}
 use Rattle.std.proofs.lemmas.Bool.{both_ways, ne_eqb, and_left, and_right, false_from_ne_true}
@@ -7,35 +7,12 @@ use Rattle.network_model.specs.Machine.{Machine, is_port}
 use Rattle.metric.specs.Distance.{infinity}
 use Rattle.machine_laws.specs.Laws.{is_up_at, awaits, owes}
 use Rattle.loop_freedom.specs.Network.{UpNotice, LinkEnd, Topology, State, LinkUp, LinkDown, IsEnd}
+use Rattle.loop_freedom.proofs.Ends.{end_cases, end_far, end_near, end_valid}
 use Rattle.loop_freedom.proofs.Link.{EndInvariant}
 use Rattle.loop_freedom.specs.Facts.{pipe, messages, live, is_current, is_next_hop, end_at}
 use Rattle.loop_freedom.proofs.OnTheWay.{messages-append}
 use Rattle.loop_freedom.proofs.Notices.{IsLawfulInbox, lawful_seen, lawful_up, lawful_down, lawful_empty, nothing_held_later, lawfully_held_later}
-use Rattle.loop_freedom.proofs.Invariant.{Invariant, IsLawfulAt, same_place, end_at_cong, end_invariant_same, end_invariant_new}
-
--- e is an end of the link at a, or it is not
-pub is_end : (t : Topology) (a e : LinkEnd) → IsEnd t a e ⊎ (IsEnd t a e → ⊥)
-is_end t a e = elim (same_place e a) [
-  | inl p ↦ inl (inl p)
-  | inr d ↦ elim (same_place e (t.far a)) [
-    | inl p ↦ inl (inr p)
-    | inr f ↦ inr (λ x. elim x [ inl p ↦ d p | inr p ↦ f p ])
-  ]
-]
-
--- the end across from an end of a link is an end of it
-end_far : (t : Topology) (a e : LinkEnd) → t.valid a ≡ true → IsEnd t a e → IsEnd t a (t.far e)
-end_far t a e v (inl p) = inr (ap t.far p)
-end_far t a e v (inr p) = inl (ap t.far p ∙ t.far_far a v)
-
--- an end is one of the link where the end across is
-end_near : (t : Topology) (a e : LinkEnd) → t.valid a ≡ true → t.valid e ≡ true → IsEnd t a (t.far e) → IsEnd t a e
-end_near t a e v w x = subst (λ (z : LinkEnd). IsEnd t a z) (t.far_far e w) (end_far t a (t.far e) v x)
-
--- both ends of a link that is there are there
-end_valid : (t : Topology) (a e : LinkEnd) → t.valid a ≡ true → IsEnd t a e → t.valid e ≡ true
-end_valid t a e v (inl p) = subst (λ (z : LinkEnd). t.valid z ≡ true) (sym p) v
-end_valid t a e v (inr p) = subst (λ (z : LinkEnd). t.valid z ≡ true) (sym p) (t.far_valid a v)
+use Rattle.loop_freedom.proofs.Invariant.{Invariant, IsLawfulAt, end_at_cong, end_invariant_same, end_invariant_new}
 
 -- a port that saw an earlier session does not know of the link's present one
 not_seen : (m : Machine) (q seen n : ℕ) → seen < n → is_current m q seen n ≡ false
@@ -108,7 +85,7 @@ module _ (t : Topology) (old new : State) (I : Invariant t old) (L : LinkUp t ol
 
   -- the invariant holds on every live link after one came up
   up_links : (e : LinkEnd) → t.valid e ≡ true → new.up e ≡ true → EndInvariant (end_at t new e) (end_at t new (t.far e))
-  up_links e v u = elim (is_end t L.a e) [
+  up_links e v u = elim (end_cases t L.a e) [
     | inl x ↦ came_up e x
     | inr d ↦
         let df : IsEnd t L.a (t.far e) → ⊥ = λ y. d (end_near t L.a e L.valid_place v y) in
@@ -118,7 +95,7 @@ module _ (t : Topology) (old new : State) (I : Invariant t old) (L : LinkUp t ol
 
   -- the items at every end are lawful after a link came up
   up_lawful : (e : LinkEnd) → t.valid e ≡ true → IsLawfulAt new e
-  up_lawful e v = elim (is_end t L.a e) [
+  up_lawful e v = elim (end_cases t L.a e) [
     | inl x ↦
         let before : IsLawfulInbox (is_up_at (old.machine e.router) e.port) (old.seen e) false (old.session e) (old.inbox e) = rw (was_down_at e x) at (I.lawful e v) in
         let cost : 0 < new.cost e = rw (L.costs.cost_same e) (I.cost_positive e v) in
@@ -129,14 +106,14 @@ module _ (t : Topology) (old new : State) (I : Invariant t old) (L : LinkUp t ol
 
   -- no link's session falls
   grows : (e : LinkEnd) → old.session e ≤ new.session e
-  grows e = elim (is_end t L.a e) [
+  grows e = elim (end_cases t L.a e) [
     | inl x ↦ (let s = L.session_at e x in omega (arith, s))
     | inr d ↦ (let s = L.session_elsewhere e d in omega (arith, s))
   ]
 
   -- both ends of each link have one state and one session after a link came up
   up_pair : (e : LinkEnd) → t.valid e ≡ true → (new.up (t.far e) ≡ new.up e) × (new.session (t.far e) ≡ new.session e)
-  up_pair e v = elim (is_end t L.a e) [
+  up_pair e v = elim (end_cases t L.a e) [
     | inl x ↦
         let xf = end_far t L.a e L.valid_place x in (
           L.up_at (t.far e) xf ∙ sym (L.up_at e x),
@@ -182,7 +159,7 @@ module _ (t : Topology) (old new : State) (I : Invariant t old) (L : LinkDown t 
 
   -- the invariant holds on every live link after another went down
   down_links : (e : LinkEnd) → t.valid e ≡ true → new.up e ≡ true → EndInvariant (end_at t new e) (end_at t new (t.far e))
-  down_links e v u = elim (is_end t L.a e) [
+  down_links e v u = elim (end_cases t L.a e) [
     | inl x ↦ absurd (both_ways (new.up e) (L.up_at e x) u)
     | inr d ↦
         let df : IsEnd t L.a (t.far e) → ⊥ = λ y. d (end_near t L.a e L.valid_place v y) in
@@ -192,7 +169,7 @@ module _ (t : Topology) (old new : State) (I : Invariant t old) (L : LinkDown t 
 
   -- the items at every end are lawful after a link went down
   down_lawful : (e : LinkEnd) → t.valid e ≡ true → IsLawfulAt new e
-  down_lawful e v = elim (is_end t L.a e) [
+  down_lawful e v = elim (end_cases t L.a e) [
     | inl x ↦
         let before : IsLawfulInbox (is_up_at (old.machine e.router) e.port) (old.seen e) true (old.session e) (old.inbox e) = rw (was_up_at e x) at (I.lawful e v) in
         rw (L.machines.machine_same e.router, L.machines.seen_same e, L.inbox_at e x, L.up_at e x, L.session_same e)
@@ -202,7 +179,7 @@ module _ (t : Topology) (old new : State) (I : Invariant t old) (L : LinkDown t 
 
   -- both ends of each link are up or both are down after a link went down
   down_pair : (e : LinkEnd) → t.valid e ≡ true → new.up (t.far e) ≡ new.up e
-  down_pair e v = elim (is_end t L.a e) [
+  down_pair e v = elim (end_cases t L.a e) [
     | inl x ↦ L.up_at (t.far e) (end_far t L.a e L.valid_place x) ∙ sym (L.up_at e x)
     | inr d ↦
         let df : IsEnd t L.a (t.far e) → ⊥ = λ y. d (end_near t L.a e L.valid_place v y) in

@@ -9,7 +9,8 @@ use Rattle.loop_freedom.specs.Network.{Held, Item, Reported, CostNotice, LinkEnd
 use Rattle.loop_freedom.specs.Facts.{messages, live, end_at}
 use Rattle.loop_freedom.proofs.OnTheWay.{messages-append}
 use Rattle.loop_freedom.proofs.Notices.{IsLawfulInbox, lawful_cost, lawful_message, IsLawfullyHeld}
-use Rattle.loop_freedom.proofs.Invariant.{Invariant, IsLawfulAt, same_place, end_at_cong, end_invariant_same}
+use Rattle.loop_freedom.proofs.Ends.{place_cases}
+use Rattle.loop_freedom.proofs.Invariant.{Invariant, IsLawfulAt, end_at_cong, end_invariant_same}
 
 -- a step keeps the invariant where it leaves machines, publications, links, and what is on its way as a whole
 pub still_keeps : (t : Topology) (old new : State) → Invariant t old → SameMachines old new → SamePublished old new → SameLinks old new
@@ -61,11 +62,11 @@ messages_cost xs n c = messages-append xs (CostNotice n c ∷ []) ∙ append-nil
 pub set_cost_keeps : (t : Topology) (old new : State) → Invariant t old → SetCost t old new → Invariant t new
 set_cost_keeps t old new I S =
     still_keeps t old new I S.machines S.publications S.links
-    (λ e v. elim (same_place e S.a) [
+    (λ e v. elim (place_cases e S.a) [
       | inl p ↦ subst (λ (w : LinkEnd). 0 < new.cost w) (sym p) S.positive
       | inr d ↦ rw (S.cost_elsewhere e d) (I.cost_positive e v)
     ])
-    (λ e v. elim (same_place e S.a) [
+    (λ e v. elim (place_cases e S.a) [
       | inl p ↦ subst (λ (w : LinkEnd). IsLawfulAt new w) (sym p) here
       | inr d ↦ rw (S.machines.machine_same e.router, S.machines.seen_same e, S.links.up_same e, S.links.session_same e, S.inbox_elsewhere e d) (I.lawful e v)
     ])
@@ -82,7 +83,7 @@ set_cost_keeps t old new I S =
         (lawful_cost (is_up_at (old.machine S.a.router) S.a.port) (old.seen S.a) (old.session S.a) (new.cost S.a) (old.inbox S.a) S.positive before)
 
     inbox_same : (e : LinkEnd) → messages (new.inbox e) ≡ messages (old.inbox e)
-    inbox_same e = elim (same_place e S.a) [
+    inbox_same e = elim (place_cases e S.a) [
       | inl p ↦ subst (λ (w : LinkEnd). messages (new.inbox w) ≡ messages (old.inbox w)) (sym p) (ap messages S.inbox_at ∙ messages_cost (old.inbox S.a) (old.session S.a) (new.cost S.a))
       | inr d ↦ ap messages (S.inbox_elsewhere e d)
     ]
@@ -109,16 +110,16 @@ pub release_keeps : (t : Topology) (old new : State) → Invariant t old → Rel
 release_keeps t old new I S =
     still_keeps t old new I S.machines S.publications S.links
     (λ e v. rw (S.costs.cost_same e) (I.cost_positive e v))
-    (λ e v. elim (same_place e (t.far S.a)) [
+    (λ e v. elim (place_cases e (t.far S.a)) [
       | inl p ↦ subst (λ (w : LinkEnd). IsLawfulAt new w) (sym p) here
       | inr d ↦ rw (S.machines.machine_same e.router, S.machines.seen_same e, S.links.up_same e, S.links.session_same e, S.inbox_elsewhere e d) (I.lawful e v)
     ])
-    (λ e v. elim (same_place e S.a) [
+    (λ e v. elim (place_cases e S.a) [
       | inl p ↦ subst (λ (w : LinkEnd). IsLawfullyHeld (old.session w) (new.ripe w)) (sym p) held.2
       | inr d ↦ rw (S.ripe_elsewhere e d) (I.ripe_lawful e v)
     ])
     (λ e v. rw (S.unripe_same e) (I.unripe_lawful e v))
-    (λ e v u. elim (same_place e S.a) [
+    (λ e v u. elim (place_cases e S.a) [
       | inl p ↦ subst (λ (w : LinkEnd). old.up w ≡ true → messages (new.inbox (t.far w)) ++ live (new.session w) (new.ripe w) ≡ messages (old.inbox (t.far w)) ++ live (old.session w) (old.ripe w)) (sym p) outs_here u
       | inr d ↦ rw (S.inbox_elsewhere (t.far e) (apart e v d), S.links.session_same e, S.ripe_elsewhere e d) refl
     ])

@@ -16,7 +16,8 @@ use Rattle.loop_freedom.proofs.Notices.{IsLawfulInbox, lawful_seen, IsLawfullyHe
 use Rattle.loop_freedom.proofs.Reacts.{PortStep, reacts, rests}
 use Rattle.loop_freedom.proofs.Ports.{ports_length, ports_other, port_step_other, port_step_same, meets_item, lawful_after, message_of}
 use Rattle.loop_freedom.proofs.LinkSteps.{LinkStep, step_keeps}
-use Rattle.loop_freedom.proofs.Invariant.{Invariant, IsLawfulAt, same_place, end_cong}
+use Rattle.loop_freedom.proofs.Ends.{place_cases}
+use Rattle.loop_freedom.proofs.Invariant.{Invariant, IsLawfulAt, end_cong}
 
 -- what a machine sends is lawfully held, where its session is not later than n and its values are not above infinity
 lawfully_held_for : (k n q : ℕ) (ss : List Outgoing) → k ≤ n → ((s : Outgoing) (i : ℕ) → slice_get ss i ≡ Some s → s.value ≤ infinity) → IsLawfullyHeld n (held_for k (sent_to q ss))
@@ -72,7 +73,7 @@ module _ (laws : MachineLaws) (t : Topology) (old new : State) (I : Invariant t 
 
   -- another end of the same router is at another port
   other_port : (e : LinkEnd) → (e ≡ T.a → ⊥) → e.router ≡ T.a.router → T.a.port ≡ e.port → ⊥
-  other_port e d r p = d (elim (same_place e T.a) [ inl x ↦ x | inr f ↦ absurd (f (ap (λ (n : ℕ). at_port n e.port) r ∙ ap (λ (n : ℕ). at_port T.a.router n) (sym p))) ])
+  other_port e d r p = d (elim (place_cases e T.a) [ inl x ↦ x | inr f ↦ absurd (f (ap (λ (n : ℕ). at_port n e.port) r ∙ ap (λ (n : ℕ). at_port T.a.router n) (sym p))) ])
 
   -- what the machine adds to the messages on their way from e
   sent_from : LinkEnd → List Report
@@ -147,7 +148,7 @@ module _ (laws : MachineLaws) (t : Topology) (old new : State) (I : Invariant t 
 
   -- every end of a live link makes an end step
   stepped : (e : LinkEnd) → old.up e ≡ true → Stepped t old new e
-  stepped e live_link = elim (same_place e T.a) [
+  stepped e live_link = elim (place_cases e T.a) [
     | inl p ↦ subst (λ (w : LinkEnd). Stepped t old new w) (sym p) (stepped_at (subst (λ (w : LinkEnd). old.up w ≡ true) p live_link))
     | inr d ↦ elim (cases_eq e.router T.a.router) [ inl r ↦ stepped_beside e d r | inr f ↦ stepped_away e f ]
   ]
@@ -206,7 +207,7 @@ module _ (laws : MachineLaws) (t : Topology) (old new : State) (I : Invariant t 
 
   -- the items at every end are lawful after the step
   lawful' : (e : LinkEnd) → t.valid e ≡ true → IsLawfulAt new e
-  lawful' e v = elim (same_place e T.a) [
+  lawful' e v = elim (place_cases e T.a) [
     | inl p ↦ subst (λ (w : LinkEnd). IsLawfulAt new w) (sym p) lawful_here
     | inr d ↦ rw (ups e d, T.seen_elsewhere e d, T.links.up_same e, T.links.session_same e, T.inbox_elsewhere e d) (I.lawful e v)
   ]

@@ -28,6 +28,11 @@ pub run_keeps : MachineLaws → (t : Topology) (first last : State) → Invarian
 run_keeps laws t first last I Start = I
 run_keeps laws t first last I (Then {middle = b} r s) = steps_keep laws t b last (run_keeps laws t first b I r) s
 
+-- a walk along edges of one kind is one along edges of each wider kind
+pub walk_map : (t : Topology) (f g : LinkEnd → Type 0) → ((e : LinkEnd) → f e → g e) → (i : ℕ) (es : List LinkEnd) → IsWalk t f i es → IsWalk t g i es
+walk_map t f g h i [] w = tt
+walk_map t f g h i (e ∷ es) w = (w.0, w.1, h e w.2, walk_map t f g h (t.far e).router es w.3)
+
 -- a router's height: the greater of its feasible distance and its published one
 abbrev height : State → ℕ → ℕ
 height s i = max (s.machine i).fd (s.published_fd i)

@@ -7,6 +7,7 @@ use Rattle.std.proofs.lemmas.Option.{same_Some, none-some}
 use Rattle.network_model.specs.declared.machine.Neighbour.{Neighbour}
 use Rattle.metric.specs.Distance.{infinity, plus}
 use Rattle.network_model.specs.Machine.{distance, least, is_feasible, condition_holds, is_feasible_at, kept_or_first, chosen_successor, via_successor, changed_at}
+use Rattle.network_model.proofs.MachineLaws.{least_bounded}
 use Rattle.machine_laws.specs.Laws.{IsSoundPort, test_at}
 use Rattle.machine_laws.proofs.Lists.{list_any_nowhere, position_passes, position_found}
 
@@ -43,11 +44,6 @@ distance_bounded n = go (distance_cases n)
     go : ((n.up ≡ true) × (distance n ≡ n.reported + n.cost) × (distance n < infinity)) ⊎ (distance n ≡ infinity) → distance n ≤ infinity
     go (inl (u, e, l)) = omega (arith, l)
     go (inr e) = omega (arith, e)
-
--- the least distance is not above infinity
-pub least_bounded : (ns : List Neighbour) → least ns ≤ infinity
-least_bounded [] = omega arith
-least_bounded (n ∷ ns) = omega (arith, least_bounded ns)
 
 -- the least distance is at most that of each neighbour
 pub least_below : (ns : List Neighbour) (p : ℕ) (n : Neighbour) → slice_get ns p ≡ Some n → least ns ≤ distance n
@@ -186,19 +182,6 @@ via_range ns (Some q) = go (slice_get ns q) refl
     go : (o : Option Neighbour) → slice_get ns q ≡ o → (least ns ≤ via_successor ns (Some q)) × (via_successor ns (Some q) ≤ infinity)
     go None e = rw e (least_bounded ns, omega arith)
     go (Some n) e = rw e (least_below ns q n e, distance_bounded n)
-
--- with no neighbour up the least distance is infinity
-pub least_none_up : (ns : List Neighbour) → list_any (λ n. n.up) ns ≡ false → least ns ≡ infinity
-unfolding Attains
-least_none_up ns h = go (least_attained ns)
-  where
-    at_one : (p : ℕ) (n : Neighbour) → slice_get ns p ≡ Some n → distance n ≡ least ns → ((n.up ≡ true) × (distance n ≡ n.reported + n.cost) × (distance n < infinity)) ⊎ (distance n ≡ infinity) → least ns ≡ infinity
-    at_one p n at e (inl (u, d, l)) = absurd (both_ways n.up (list_any_nowhere (λ x. x.up) ns h p n at) u)
-    at_one p n at e (inr i) = sym e ∙ i
-
-    go : (least ns ≡ infinity) ⊎ Attains ns (least ns) → least ns ≡ infinity
-    go (inl e) = e
-    go (inr (p, n, at, e)) = at_one p n at e (distance_cases n)
 
 -- where the least distance is below infinity, a neighbour that may be taken reported less than it
 pub feasible_below_least : (fd : ℕ) (ns : List Neighbour) (p : ℕ) → AllSound ns → least ns < infinity → (f : IsFeasibleAt fd ns p) → f.neighbour.reported < least ns

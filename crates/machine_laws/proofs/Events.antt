@@ -12,7 +12,7 @@ use Rattle.network_model.specs.Machine.{Machine, changed_at, is_port, records_af
 use Rattle.metric.specs.Distance.{infinity}
 use Rattle.machine_laws.specs.Laws.{released, test_at, is_up_at, is_message, is_down, Meets, IsSoundPort}
 use Rattle.network_model.proofs.ListLaws.{slice_get-changed_at_other}
-use Rattle.machine_laws.proofs.Lists.{changed_keeps}
+use Rattle.network_model.proofs.ListLaws.{changed_keeps}
 use Rattle.machine_laws.proofs.Distances.{AllSound}
 use Rattle.machine_laws.proofs.Sends.{eqb_sym, eqb_same}
 

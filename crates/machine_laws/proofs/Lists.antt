@@ -1,18 +1,9 @@
--- Lists: what a change at one place keeps, and where a test passes.
+-- Lists: where a test passes.
 use Rattle.std.proofs.Common.{◌≡◌, ◌⊎◌, ℕ, zero, suc, ◌+◌, Bool, true, false, cond, ◌||◌, List, [], ◌∷◌, Some, None, refl, sym, inl, inr, arith, subst}
 use Rattle.std.specs.Prelude.{slice_get}
 use Rattle.std.specs.List.{list_any, position_from}
 use Rattle.std.proofs.lemmas.Bool.{or_cases, or_parts}
 use Rattle.std.proofs.lemmas.Option.{same_Some, none-some}
-use Rattle.network_model.specs.Machine.{changed_at}
-
--- what holds of each element holds of each after a change that keeps it
-pub changed_keeps : {A : Type 0} (P : A → Type 0) (q : ℕ) (f : A → A) (xs : List A) → ((x : A) → P x → P (f x)) → ((p : ℕ) (x : A) → slice_get xs p ≡ Some x → P x) → (p : ℕ) (x : A) → slice_get (changed_at q f xs) p ≡ Some x → P x
-changed_keeps P q f [] keeps each p x h = absurd (none-some x h)
-changed_keeps P zero f (y ∷ ys) keeps each zero x h = subst P (same_Some (f y) x h) (keeps y (each zero y refl))
-changed_keeps P zero f (y ∷ ys) keeps each (suc p) x h = each (suc p) x h
-changed_keeps P (suc q) f (y ∷ ys) keeps each zero x h = each zero x h
-changed_keeps P (suc q) f (y ∷ ys) keeps each (suc p) x h = changed_keeps P q f ys keeps (λ k. each (suc k)) p x h
 
 -- some element passes the test
 abbrev pub Passes : {A : Type 0} → (A → Bool) → List A → Type 0

@@ -17,7 +17,7 @@ distance_unheard n h = go (distance_cases n)
     go (inr e) = e
 
 -- where no neighbour has reported a distance, the least is infinity
-least_unheard : (ns : List Neighbour) → NothingHeard ns → least ns ≡ infinity
+pub least_unheard : (ns : List Neighbour) → NothingHeard ns → least ns ≡ infinity
 least_unheard [] h = refl
 least_unheard (n ∷ ns) h = omega (arith, distance_unheard n (h zero n refl), least_unheard ns (λ p. h (suc p)))
 

@@ -12,7 +12,8 @@ use Rattle.metric.specs.Distance.{infinity}
 use Rattle.machine_laws.specs.Laws.{released, test_at, is_up_at, awaits, owes, is_active, is_down, Meets, IsSound, StaysSound}
 use Rattle.network_model.proofs.ListLaws.{slice_get-changed_at_other}
 use Rattle.machine_laws.proofs.Lists.{list_any_place}
-use Rattle.machine_laws.proofs.Distances.{AllSound, chosen_feasible, chosen_none, condition_fails, least_bounded, via_range, least_none_up, least_came_up}
+use Rattle.network_model.proofs.MachineLaws.{least_bounded, least-none_up}
+use Rattle.machine_laws.proofs.Distances.{AllSound, chosen_feasible, chosen_none, condition_fails, via_range, least_came_up}
 use Rattle.machine_laws.proofs.Events.{sound_after, successor_none, stays_up, is_port-Some, down_released}
 use Rattle.machine_laws.proofs.Outcomes.{Account, Decision, Outcome, came_up, at_home, goes_on, settles, asks, is_alone, waiting, asked, alone, outcome, successor_up_after, active_awaits, awaited_kept}
 use Rattle.machine_laws.proofs.Counting.{passive_nothing, awaited_up, awaited_off}
@@ -171,7 +172,7 @@ sound_alone m e sound meets far none = record {
   local_successor = λ l. refl;
   local_passive = λ l. refl;
   successor_up = λ p s. absurd (none-some p s);
-  passive_least = λ l k. sym (least_none_up (records_after e m.ports) none);
+  passive_least = λ l k. sym (least-none_up (records_after e m.ports) none);
   passive_feasible = λ p k s. absurd (none-some p s);
   passive_attains = λ p n k s. absurd (none-some p s);
   passive_none = λ l k s. (refl, refl);

@@ -1,7 +1,12 @@
 pub mod ListLaws
+pub mod Causes
+pub mod EntryLaws
+pub mod PortPlaces
+pub mod RowLaws
+pub mod WorldLaws
 pub mod Lawful
 pub mod JournalLaws
-mod MachineLaws
+pub mod MachineLaws
 pub mod RecordsLaws
 mod MachineRows
 mod NetworkRows

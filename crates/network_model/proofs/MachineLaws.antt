@@ -1,6 +1,6 @@
--- Two choices of the machine's definition that lose nothing: to choose again where a link comes up would give the same,
--- and a computation with no one to ask is over by the rule of completion.
-use Rattle.std.specs.Prelude.{◌≡◌, ℕ, zero, suc, ◌+◌, min, Bool, true, false, cond, not, ◌&&◌, ◌||◌, ◌==◌, nat_lt, if◌then◌else◌, List, [], ◌∷◌, Option, Some, None, slice_get}
+-- The least distance, and two choices of the machine's definition that lose nothing: to choose again where a link comes up
+-- would give the same, and a computation with no one to ask is over by the rule of completion.
+use Rattle.std.specs.Prelude.{◌≡◌, ℕ, zero, suc, ◌+◌, ◌≤◌, min, Bool, true, false, cond, not, ◌&&◌, ◌||◌, ◌==◌, nat_lt, if◌then◌else◌, List, [], ◌∷◌, Option, Some, None, slice_get}
 use Rattle.std.specs.List.{list_any, position_from}
 use Rattle.std.specs.Option.{option_map_or}
 use Rattle.std.proofs.Common.{refl, sym, ap, subst, ◌∙◌, arith}
@@ -11,21 +11,18 @@ use Rattle.metric.specs.declared.kind.Kind.{Kind}
 use Rattle.metric.specs.declared.kind.Kind.TheVariants.{Update}
 use Rattle.network_model.specs.Machine.{Machine, Reaction, distance, least, via_successor, chosen_successor, condition_holds, new_computation, passive_result, kept_or_first, is_feasible, is_port, all_from, news_to_others, changed_at}
 use Rattle.network_model.proofs.ListLaws.{Some_injective, None_not_Some}
-use Rattle.std.proofs.lemmas.Bool.{true≢false, eq-eqb, ne_eqb, ltb-true}
+use Rattle.std.proofs.lemmas.Bool.{true≢false, eq-eqb, ne_eqb, ltb-true, or_parts}
+
+-- the least distance is not above infinity
+pub least_bounded : (ns : List Neighbour) → least ns ≤ infinity
+least_bounded [] = omega arith
+least_bounded (n ∷ ns) = omega (arith, least_bounded ns)
 
 -- ---- nobody is up
 
 -- no neighbour is up
-abbrev IsNoneUp : List Neighbour → Type 0
+abbrev pub IsNoneUp : List Neighbour → Type 0
 IsNoneUp ns = list_any (λ n. n.up) ns ≡ false
-
-first_down : (b c : Bool) → (b || c) ≡ false → b ≡ false
-first_down true c e = e
-first_down false c e = refl
-
-rest_down : (b c : Bool) → (b || c) ≡ false → c ≡ false
-rest_down true c e = absurd (true≢false e)
-rest_down false c e = e
 
 distance-down : (n : Neighbour) → n.up ≡ false → distance n ≡ infinity
 distance-down n down = ap (λ b. if b then plus n.reported n.cost else infinity) down
@@ -34,15 +31,15 @@ distance-down n down = ap (λ b. if b then plus n.reported n.cost else infinity)
 pub least-none_up : (ns : List Neighbour) → IsNoneUp ns → least ns ≡ infinity
 least-none_up [] none = refl
 least-none_up (n ∷ ns) none =
-    let here : distance n ≡ infinity = distance-down n (first_down n.up (list_any (λ m. m.up) ns) none) in
-    let onward : least ns ≡ infinity = least-none_up ns (rest_down n.up (list_any (λ m. m.up) ns) none) in
+    let here : distance n ≡ infinity = distance-down n (or_parts n.up (list_any (λ m. m.up) ns) none).0 in
+    let onward : least ns ≡ infinity = least-none_up ns (or_parts n.up (list_any (λ m. m.up) ns) none).1 in
     omega (arith, here, onward)
 
 -- so is the distance by way of any successor
 neighbour_down : (ns : List Neighbour) (q : ℕ) (n : Neighbour) → IsNoneUp ns → slice_get ns q ≡ Some n → n.up ≡ false
 neighbour_down [] q n none at = absurd (None_not_Some at)
-neighbour_down (m ∷ ms) zero n none at = sym (ap (λ x. x.up) (Some_injective at)) ∙ first_down m.up (list_any (λ x. x.up) ms) none
-neighbour_down (m ∷ ms) (suc q) n none at = neighbour_down ms q n (rest_down m.up (list_any (λ x. x.up) ms) none) at
+neighbour_down (m ∷ ms) zero n none at = sym (ap (λ x. x.up) (Some_injective at)) ∙ (or_parts m.up (list_any (λ x. x.up) ms) none).0
+neighbour_down (m ∷ ms) (suc q) n none at = neighbour_down ms q n (or_parts m.up (list_any (λ x. x.up) ms) none).1 at
 
 pub via_successor-none_up : (ns : List Neighbour) (s : Option ℕ) → IsNoneUp ns → via_successor ns s ≡ infinity
 via_successor-none_up ns None none = refl
@@ -57,8 +54,8 @@ all_from-none_up : (q : ℕ) (but : Option ℕ) (kind : Kind) (value : ℕ) (ns 
 all_from-none_up q but kind value [] none = refl
 all_from-none_up q but kind value (n ∷ ns) none =
     ap (λ b. if b && not (is_port q but) then record { port = q; kind = kind; value = value } ∷ all_from (suc q) but kind value ns else all_from (suc q) but kind value ns)
-    (first_down n.up (list_any (λ m. m.up) ns) none)
-    ∙ all_from-none_up (suc q) but kind value ns (rest_down n.up (list_any (λ m. m.up) ns) none)
+    (or_parts n.up (list_any (λ m. m.up) ns) none).0
+    ∙ all_from-none_up (suc q) but kind value ns (or_parts n.up (list_any (λ m. m.up) ns) none).1
 
 news_to_others-none_up : (but : Option ℕ) (old new : ℕ) (ns : List Neighbour) → IsNoneUp ns → news_to_others but old new ns ≡ []
 news_to_others-none_up but old new ns none = by_test (old == new)

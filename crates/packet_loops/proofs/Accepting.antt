@@ -1,9 +1,9 @@
 -- What a router does with an item, as one prefix sees it.
-use Rattle.std.specs.Prelude.{◌≡◌, ◌≢◌, ℕ, ◌<◌, true, false, cond, List, [], ◌++◌, map, length, Option, Some, None, slice_get, option_map, unwrap_or, get_or, T}
+use Rattle.std.specs.Prelude.{◌≡◌, ◌≢◌, ℕ, ◌<◌, true, false, cond, List, [], ◌++◌, map, length, Option, Some, None, slice_get, option_map, unwrap_or, get_or}
 use Rattle.std.specs.Option.{option_map_or}
 use Rattle.std.specs.FinMap.{find as row_of, put}
-use Rattle.std.specs.FinMap.Entries.{find-put, is_sorted, is_sorted-put}
-use Rattle.std.proofs.Common.{refl, sym, ap, subst, ◌∙◌, arith, length-append}
+use Rattle.std.specs.FinMap.Entries.{find-put, is_sorted}
+use Rattle.std.proofs.Common.{refl, sym, ap, ◌∙◌, arith, length-append}
 use Rattle.std.proofs.lemmas.List.{append-nil, take-append-le, drop-append-le}
 use Rattle.std.proofs.lemmas.Option.{slice_get-get_or}
 use Rattle.ipv4_prefix.specs.Prefix.{Prefix, prefix_cmp, prefix_eq}
@@ -25,7 +25,8 @@ use Rattle.loop_freedom.specs.Network.{Item as NetItem, Reported, event_of, seen
 use Rattle.loop_freedom.proofs.Ports.{ports_length}
 use Rattle.packet_loops.proofs.Places.{lay}
 use Rattle.packet_loops.proofs.View.{msg_of, kept, ripe_of, unripe_of, kept-append, kept-sent, kept-other}
-use Rattle.packet_loops.proofs.Machines.{StaysOpened, prefix_same, row_of-map, is_sorted-map, sent, kept_reactions}
+use Rattle.network_model.proofs.RowLaws.{find-map, sorted-map, sorted-put}
+use Rattle.packet_loops.proofs.Machines.{StaysOpened, prefix_same, sent, kept_reactions}
 use Rattle.packet_loops.proofs.Kept.{RouterKept}
 
 -- nothing is sent to a port that is not there
@@ -69,7 +70,7 @@ module _ (n : Network) (p : Prefix) (i : ℕ) (r : Router) (R : RouterKept n p i
   kept_fresh j = ap (kept p j) unripe_new ∙ kept-append p j (unripe_of r) more
 
   -- it keeps what a router keeps, if its machines do and nothing is for a port that is not there
-  keeps_new : T (is_sorted prefix_cmp machines) → length ports ≡ length r.ports → length (machine_of new p).ports ≡ length ports
+  keeps_new : is_sorted prefix_cmp machines ≡ true → length ports ≡ length r.ports → length (machine_of new p).ports ≡ length ports
       → ((j : ℕ) → lay n (at_port i j) ≡ None → kept p j more ≡ []) → RouterKept n p i new
   keeps_new sorted count opens none = record {
     ripe_within = (let le = R.ripe_within in omega (arith, le, length-append (r.gate).held more));
@@ -111,7 +112,7 @@ module _ (n : Network) (p : Prefix) (i : ℕ) (r : Router) (R : RouterKept n p i
   -- its machine for the prefix is the old one after the notice, also where the prefix is unheard
   machine_noticed : machine_of after p ≡ (reaction (machine_of r p) (event_of q item)).machine
   machine_noticed =
-      ap (λ o. unwrap_or o (opening_machine false (neighbours ports'))) (row_of-map (λ (x : Reaction). x.machine) p all ∙ ap (option_map (λ (x : Reaction). x.machine)) (row_of-map (λ (m : Machine). reaction m (event_of q item)) p r.machines))
+      ap (λ o. unwrap_or o (opening_machine false (neighbours ports'))) (find-map prefix_cmp (λ (x : Reaction). x.machine) p all ∙ ap (option_map (λ (x : Reaction). x.machine)) (find-map prefix_cmp (λ (m : Machine). reaction m (event_of q item)) p r.machines))
       ∙ by_row (row_of prefix_cmp p r.machines)
     where
       by_row : (o : Option Machine) → unwrap_or (option_map (λ x. x.machine) (option_map (λ m. reaction m (event_of q item)) o)) (opening_machine false (neighbours ports')) ≡ (reaction (unwrap_or o (opening_machine false (neighbours r.ports))) (event_of q item)).machine
@@ -121,8 +122,8 @@ module _ (n : Network) (p : Prefix) (i : ℕ) (r : Router) (R : RouterKept n p i
   -- of all that its machines send, what the machine of the prefix sends to port j is kept for j
   sends_noticed : (j : ℕ) → kept p j (sent p j ports' all) ≡ held_for (session_at ports' j) (sent_to j (reaction (machine_of r p) (event_of q item)).sends)
   sends_noticed j =
-      kept_reactions p j ports' all (subst T (sym (is_sorted-map (λ (m : Machine). reaction m (event_of q item)) r.machines)) R.sorted)
-      ∙ ap (λ ss. held_for (session_at ports' j) (sent_to j ss)) (ap (λ o. option_map_or (λ (x : Reaction). x.sends) o []) (row_of-map (λ (m : Machine). reaction m (event_of q item)) p r.machines) ∙ by_row (row_of prefix_cmp p r.machines))
+      kept_reactions p j ports' all (sorted-map prefix_cmp (λ (m : Machine). reaction m (event_of q item)) r.machines ∙ R.sorted)
+      ∙ ap (λ ss. held_for (session_at ports' j) (sent_to j ss)) (ap (λ o. option_map_or (λ (x : Reaction). x.sends) o []) (find-map prefix_cmp (λ (m : Machine). reaction m (event_of q item)) p r.machines) ∙ by_row (row_of prefix_cmp p r.machines))
     where
       by_row : (o : Option Machine) → option_map_or (λ (x : Reaction). x.sends) (option_map (λ m. reaction m (event_of q item)) o) [] ≡ (reaction (unwrap_or o (opening_machine false (neighbours r.ports))) (event_of q item)).sends
       by_row None = sym S.sends_none
@@ -157,7 +158,7 @@ module _ (n : Network) (p : Prefix) (i : ℕ) (r : Router) (R : RouterKept n p i
     ripe_is = λ j. ap (kept p j) (ripe_new n p i r R ports' machines' (sent p j ports' all));
     unripe_is = λ j. kept_fresh n p i r R ports' machines' (sent p j ports' all) j ∙ ap (λ xs. kept p j (unripe_of r) ++ xs) (sends_noticed j);
     keeps = λ silent. keeps_new n p i r R ports' machines' (sent p 0 ports' all)
-        (subst T (sym (is_sorted-map (λ (x : Reaction). x.machine) all ∙ is_sorted-map (λ (m : Machine). reaction m (event_of q item)) r.machines)) R.sorted)
+        (sorted-map prefix_cmp (λ (x : Reaction). x.machine) all ∙ sorted-map prefix_cmp (λ (m : Machine). reaction m (event_of q item)) r.machines ∙ R.sorted)
         counts machine_counts
         (λ j out. sends_noticed j ∙ held_none (session_at ports' j) (sent_to j (reaction (machine_of r p) (event_of q item)).sends) (silent j out));
   }
@@ -174,8 +175,8 @@ module _ (n : Network) (p : Prefix) (i : ℕ) (r : Router) (R : RouterKept n p i
   rows = put prefix_cmp m.prefix x.machine r.machines
 
   -- they stay in the order of the prefixes
-  sorted_rows : T (is_sorted prefix_cmp rows)
-  sorted_rows = is_sorted-put prefix_cmp prefix_cmp_total m.prefix x.machine r.machines R.sorted
+  sorted_rows : is_sorted prefix_cmp rows ≡ true
+  sorted_rows = sorted-put r.machines m.prefix x.machine R.sorted
 
   -- a router that takes a message of the prefix reacts to it
   pub reacts_to_message : prefix_eq p m.prefix ≡ true → Reacted n p i q (Reported (msg_of m)) r (router_told q m r)

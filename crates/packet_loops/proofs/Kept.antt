@@ -1,5 +1,5 @@
 -- What every world of a run keeps, for one prefix.
-use Rattle.std.specs.Prelude.{◌≡◌, ◌≢◌, ◌⊎◌, ℕ, ◌≤◌, List, [], map, length, Option, Some, None, slice_get, option_map, T}
+use Rattle.std.specs.Prelude.{◌≡◌, ◌≢◌, ◌⊎◌, ℕ, ◌≤◌, true, List, [], map, length, Option, Some, None, slice_get, option_map}
 use Rattle.std.specs.Option.{option_map_or}
 use Rattle.std.specs.FinMap.Entries.{is_sorted}
 use Rattle.std.proofs.Common.{refl, sym, ap, subst, ◌∙◌, inl, inr}
@@ -16,7 +16,9 @@ use Rattle.network_model.specs.Step.{chosen_rows, changed_side}
 use Rattle.network_model.proofs.ListLaws.{Some_injective, None_not_Some, map-changed_at, slice_get-changed_at, slice_get-changed_at_other}
 use Rattle.loop_freedom.specs.Network.{LinkEnd, Step as NetStep, at_port, IsEnd}
 use Rattle.packet_loops.proofs.Wiring.{IsWired}
-use Rattle.packet_loops.proofs.Places.{router_end, lay, spot, far, across, laid, far_laid, topology}
+use Rattle.network_model.proofs.PortPlaces.{router_end}
+use Rattle.packet_loops.specs.LinkEnds.{across}
+use Rattle.packet_loops.proofs.Places.{lay, spot, far, laid, far_laid, topology}
 use Rattle.packet_loops.proofs.View.{kept, view}
 
 -- the two routers of a link
@@ -30,8 +32,8 @@ spec_ends s = (s.a, s.b)
 -- what router i keeps for the prefix: sorted rows that follow its machines, the ports of the network, no message without a port
 pub record RouterKept (n : Network) (p : Prefix) (i : ℕ) (r : Router) : Type 0 where
   pub ripe_within : (r.gate).ripe ≤ length (r.gate).held
-  pub sorted : T (is_sorted prefix_cmp r.machines)
-  pub published_sorted : T (is_sorted prefix_cmp (r.table).published)
+  pub sorted : is_sorted prefix_cmp r.machines ≡ true
+  pub published_sorted : is_sorted prefix_cmp (r.table).published ≡ true
   pub control_is : (r.table).control ≡ chosen_rows r.ports r.machines
   pub port_count : length r.ports ≡ length (places_from 0 i n.links)
   pub machine_ports : length (machine_of r p).ports ≡ length r.ports

@@ -15,3 +15,4 @@ pub mod Runs
 pub mod Walks
 pub mod Example
 pub mod Traces
+pub mod FourFacts

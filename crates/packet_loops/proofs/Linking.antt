@@ -12,7 +12,8 @@ use Rattle.network_model.specs.declared.step.Step.TheVariants.{LinkUp, LinkDown}
 use Rattle.network_model.specs.Step.{next, link_come_up, link_gone_down, with_cost, is_notice}
 use Rattle.loop_freedom.specs.Network.{LinkEnd, Item as NetItem, UpNotice, DownNotice, CostNotice, LinkComes, LinkGoes, CostChanges, LinkUp as NetLinkUp, LinkDown as NetLinkDown, SetCost as NetSetCost, IsEnd, notices}
 use Rattle.packet_loops.proofs.Wiring.{IsWired}
-use Rattle.packet_loops.proofs.Places.{lay, spot, place_of, lay-spot, topology}
+use Rattle.network_model.proofs.PortPlaces.{place_of}
+use Rattle.packet_loops.proofs.Places.{lay, spot, lay-spot, topology}
 use Rattle.packet_loops.proofs.View.{view, heard, inbox_of, heard-append, heard-notices, on_link-there, on_link-hit, on_link-miss, on_link-same}
 use Rattle.packet_loops.proofs.Kept.{WorldKept, StepKept, with_links, changed_side-ends, changed_beside, up_beside, session_beside, specified, on_link, off_link, other_end}
 

@@ -1,11 +1,9 @@
 -- The view of the opening of a network is an opening.
-use Rattle.std.specs.Prelude.{◌≡◌, ◌⊎◌, ℕ, ◌<◌, Bool, true, false, cond, List, [], ◌∷◌, map, length, Option, Some, None, is_some, slice_get, option_map, option_and_then, unwrap_or, T}
+use Rattle.std.specs.Prelude.{◌≡◌, ◌⊎◌, ℕ, ◌<◌, Bool, true, false, cond, List, [], ◌∷◌, map, length, Option, Some, None, is_some, slice_get, option_map, option_and_then, unwrap_or}
 use Rattle.std.specs.List.{range_with_len}
 use Rattle.std.specs.Option.{option_map_or}
-use Rattle.std.specs.declared.cmp.Ordering.{Ordering}
-use Rattle.std.specs.declared.cmp.Ordering.TheVariants.{Less, Equal, Greater}
-use Rattle.std.specs.FinMap.{find as row_of, put}
-use Rattle.std.specs.FinMap.Entries.{find-put, is_sorted, is_sorted-put, by_order}
+use Rattle.std.specs.FinMap.{find as row_of}
+use Rattle.std.specs.FinMap.Entries.{find-put}
 use Rattle.std.proofs.Common.{refl, sym, ap, subst, ◌∙◌, arith, inl, inr}
 use Rattle.std.proofs.lemmas.List.{length-map}
 use Rattle.std.proofs.lemmas.Bool.{false≢true}
@@ -22,11 +20,12 @@ use Rattle.network_model.specs.declared.network.Place.{Place}
 use Rattle.network_model.specs.declared.network.Port.{Port}
 use Rattle.network_model.specs.declared.network.LinkSpec.{LinkSpec}
 use Rattle.network_model.specs.Step.{session_at, entry_of}
-use Rattle.network_model.proofs.ListLaws.{Some_injective, None_not_Some}
+use Rattle.network_model.proofs.ListLaws.{Some_injective, None_not_Some, listed_at, listed_within}
 use Rattle.ipv4_prefix.proofs.PrefixOrder.{prefix_cmp_total}
 use Rattle.loop_freedom.specs.Network.{LinkEnd, State, Opening, OpeningPorts, at_port}
+use Rattle.network_model.proofs.RowLaws.{sorted-rows_of, map-rows_of}
 use Rattle.packet_loops.proofs.Wiring.{IsWiredLink, IsWired}
-use Rattle.packet_loops.proofs.Places.{lay, laid, topology, listed_at, listed_within}
+use Rattle.packet_loops.proofs.Places.{lay, laid, topology}
 use Rattle.packet_loops.proofs.View.{next_hop, on_link, inbox_of, kept, ripe_of, unripe_of, next_hop_at, view, on_link-there, on_router-there}
 use Rattle.packet_loops.proofs.Kept.{ends, spec_ends, RouterKept, WorldKept}
 
@@ -39,29 +38,6 @@ found_row p x (k ∷ ks) = elim (prefix_eq p k) as (λ b. prefix_eq p k ≡ b �
   | true ↦ λ is. inr (find-put prefix_cmp prefix_cmp_total p k x (rows_of x ks) ∙ ap (λ b. cond b (Some x) (row_of prefix_cmp p (rows_of x ks))) is)
   | false ↦ λ is. let e = find-put prefix_cmp prefix_cmp_total p k x (rows_of x ks) ∙ ap (λ b. cond b (Some x) (row_of prefix_cmp p (rows_of x ks))) is in elim (found_row p x ks) [ inl h ↦ inl (e ∙ h) | inr h ↦ inr (e ∙ h) ]
 ] refl
-
--- rows with one value at some prefixes are sorted
-sorted_rows : {X : Type 0} (x : X) (ps : List Prefix) → T (is_sorted prefix_cmp (rows_of x ps))
-sorted_rows x [] = tt
-sorted_rows x (k ∷ ks) = is_sorted-put prefix_cmp prefix_cmp_total k x (rows_of x ks) (sorted_rows x ks)
-
-module _ {X Y : Type 0} (h : X → Y) where
-  -- a row put among rows that are then changed is a changed row put among changed rows
-  map-put : (k : Prefix) (x : X) (rows : List (Prefix × X)) → map (λ e. (e.0, h e.1)) (put prefix_cmp k x rows) ≡ put prefix_cmp k (h x) (map (λ e. (e.0, h e.1)) rows)
-  map-put k x [] = refl
-  map-put k x (e ∷ es) = by_rank (prefix_cmp k e.0) (map-put k x es)
-    where
-      by_rank : (o : Ordering) → map (λ e. (e.0, h e.1)) (put prefix_cmp k x es) ≡ put prefix_cmp k (h x) (map (λ e. (e.0, h e.1)) es)
-          → map (λ e. (e.0, h e.1)) (by_order o ((k, x) ∷ e ∷ es) ((e.0, x) ∷ es) (e ∷ put prefix_cmp k x es))
-          ≡ by_order o ((k, h x) ∷ (e.0, h e.1) ∷ map (λ e. (e.0, h e.1)) es) ((e.0, h x) ∷ map (λ e. (e.0, h e.1)) es) ((e.0, h e.1) ∷ put prefix_cmp k (h x) (map (λ e. (e.0, h e.1)) es))
-      by_rank Less r = refl
-      by_rank Equal r = refl
-      by_rank Greater r = ap (λ ys. (e.0, h e.1) ∷ ys) r
-
-  -- rows with one value at some prefixes, changed, are rows with the changed value there
-  map-rows_of : (x : X) (ps : List Prefix) → map (λ e. (e.0, h e.1)) (rows_of x ps) ≡ rows_of (h x) ps
-  map-rows_of x [] = refl
-  map-rows_of x (k ∷ ks) = map-put k x (rows_of x ks) ∙ ap (put prefix_cmp k (h x)) (map-rows_of x ks)
 
 module _ (n : Network) (N : IsWired n) (p : Prefix) where
   -- the links of the world at the start
@@ -102,8 +78,8 @@ module _ (n : Network) (N : IsWired n) (p : Prefix) where
   first_kept : (i : ℕ) → RouterKept n p i (first i)
   first_kept i = record {
     ripe_within = omega arith;
-    sorted = sorted_rows (opening_machine true (neighbours (ports_of i))) (owned n i);
-    published_sorted = sorted_rows Entry.Local (owned n i);
+    sorted = sorted-rows_of (opening_machine true (neighbours (ports_of i))) (owned n i);
+    published_sorted = sorted-rows_of Entry.Local (owned n i);
     control_is = sym (map-rows_of (λ (m : Machine). entry_of (ports_of i) m) (opening_machine true (neighbours (ports_of i))) (owned n i));
     port_count = count_of i;
     machine_ports = machine_count i;

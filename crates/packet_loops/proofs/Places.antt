@@ -1,89 +1,18 @@
 -- The places of a network's links: each end of each link is one port of one router.
-use Rattle.std.specs.Prelude.{◌≡◌, ◌≢◌, ℕ, zero, suc, ◌+◌, ◌<◌, Bool, true, false, ◌==◌, if◌then◌else◌, List, [], ◌∷◌, ◌++◌, map, Option, Some, None, is_some, slice_get, option_and_then, option_map}
-use Rattle.std.specs.List.{range_with_len}
+use Rattle.std.specs.Prelude.{◌≡◌, ◌≢◌, ℕ, zero, suc, ◌+◌, ◌<◌, Bool, true, false, ◌==◌, if◌then◌else◌, List, [], ◌∷◌, ◌++◌, Option, Some, None, is_some, slice_get, option_and_then}
 use Rattle.std.specs.Option.{option_map_or}
-use Rattle.std.proofs.Common.{refl, sym, ap, subst, ◌∙◌, arith}
-use Rattle.std.proofs.lemmas.Bool.{eqb-true, eq-eqb, ne_eqb, false≢true}
-use Rattle.std.proofs.lemmas.Option.{slice_get-map}
+use Rattle.std.proofs.Common.{refl, sym, ap, ◌∙◌, arith}
+use Rattle.std.proofs.lemmas.Bool.{eq-eqb, ne_eqb, false≢true}
 use Rattle.network_model.specs.declared.network.End.{End}
 use Rattle.network_model.specs.declared.network.End.TheVariants.{A, B}
 use Rattle.network_model.specs.declared.network.Place.{Place}
 use Rattle.network_model.specs.declared.network.LinkSpec.{LinkSpec}
 use Rattle.network_model.specs.World.{Network, other, place_at, places_from, opening}
-use Rattle.network_model.proofs.ListLaws.{Some_injective, None_not_Some}
+use Rattle.network_model.proofs.ListLaws.{Some_injective, None_not_Some, listed_at, listed_within}
+use Rattle.network_model.proofs.PortPlaces.{router_end, one_if_at, ports_before, place_of, IsPort, place_to_IsPort}
 use Rattle.loop_freedom.specs.Network.{LinkEnd, Topology, at_port}
+use Rattle.packet_loops.specs.LinkEnds.{across}
 use Rattle.packet_loops.proofs.Wiring.{IsWiredLink, IsWired}
-
--- the router at an end of a link
-abbrev pub router_end : End → LinkSpec → ℕ
-router_end A s = s.a
-router_end B s = s.b
-
--- one port for a link that ends at the router
-abbrev pub one_if_at : ℕ → LinkSpec → ℕ
-one_if_at i s = if s.a == i then 1 else if s.b == i then 1 else 0
-
--- how many ports router i has on the links before number k
-abbrev pub ports_before : ℕ → ℕ → List LinkSpec → ℕ
-ports_before zero i ss = 0
-ports_before (suc k) i [] = 0
-ports_before (suc k) i (s ∷ ss) = one_if_at i s + ports_before k i ss
-
--- the place at this end of link l
-abbrev pub place_of : ℕ → End → Place
-place_of l e = record { link = l; end = e }
-
--- port q of router i has this place, on a link that ends at the router, with q ports of the router on the links before
-pub record IsPort (l i : ℕ) (ss : List LinkSpec) (q : ℕ) (x : Place) : Type 0 where
-  pub number : ℕ
-  pub spec : LinkSpec
-  pub link_is : x.link ≡ l + number
-  pub is_link : slice_get ss number ≡ Some spec
-  pub router_is : router_end x.end spec ≡ i
-  pub port_is : ports_before number i ss ≡ q
-
-module _ (l i : ℕ) (s : LinkSpec) (ss : List LinkSpec) (x : Place) (deeper : (k : ℕ) → slice_get (places_from (l + 1) i ss) k ≡ Some x → IsPort (l + 1) i ss k x) where
-  -- a port among the later links is one among all, after those on the first link
-  later : (q m r : ℕ) → one_if_at i s ≡ m → m + r ≡ q → IsPort (l + 1) i ss r x → IsPort l i (s ∷ ss) q x
-  later q m r one is P = record {
-    number = suc P.number;
-    spec = P.spec;
-    link_is = omega (arith, P.link_is);
-    is_link = P.is_link;
-    router_is = P.router_is;
-    port_is = omega (arith, P.port_is, one, is);
-  }
-
-  -- a place on the first link is port 0
-  first : (q : ℕ) (en : End) → router_end en s ≡ i → place_of l en ≡ x → 0 ≡ q → IsPort l i (s ∷ ss) q x
-  first q en at is port = record {
-    number = 0;
-    spec = s;
-    link_is = (let e : x.link ≡ l = ap (λ (y : Place). y.link) (sym is) in omega (arith, e));
-    is_link = refl;
-    router_is = subst (λ (y : Place). router_end y.end s ≡ i) is at;
-    port_is = port;
-  }
-
-  -- where the first link ends at the router, each port is that on it or one among the later links
-  at_one : (q : ℕ) (en : End) → router_end en s ≡ i → one_if_at i s ≡ 1 → slice_get (place_of l en ∷ places_from (l + 1) i ss) q ≡ Some x → IsPort l i (s ∷ ss) q x
-  at_one zero en at one h = first zero en at (Some_injective h) refl
-  at_one (suc k) en at one h = later (suc k) 1 k one (omega arith) (deeper k h)
-
-  -- so it is where the first link does not begin at the router, whether it ends there or not
-  by_b : (q : ℕ) (b : Bool) → (s.a == i) ≡ false → (s.b == i) ≡ b → slice_get ((if b then place_of l B ∷ [] else []) ++ places_from (l + 1) i ss) q ≡ Some x → IsPort l i (s ∷ ss) q x
-  by_b q true na eb h = at_one q B (eqb-true s.b i eb) (rw (na, eb) refl) h
-  by_b q false na eb h = later q 0 q (rw (na, eb) refl) (omega arith) (deeper q h)
-
-  -- so it is whether the first link begins at the router or not
-  by_a : (q : ℕ) (b : Bool) → (s.a == i) ≡ b → slice_get ((if b then place_of l A ∷ [] else if s.b == i then place_of l B ∷ [] else []) ++ places_from (l + 1) i ss) q ≡ Some x → IsPort l i (s ∷ ss) q x
-  by_a q true ea h = at_one q A (eqb-true s.a i ea) (rw ea refl) h
-  by_a q false na h = by_b q (s.b == i) na refl h
-
--- each place in the list of the places of router i is the port at its position
-is_port : (l i : ℕ) (ss : List LinkSpec) (q : ℕ) (x : Place) → slice_get (places_from l i ss) q ≡ Some x → IsPort l i ss q x
-is_port l i [] q x e = absurd (None_not_Some e)
-is_port l i (s ∷ ss) q x e = by_a l i s ss x (λ k. is_port (l + 1) i ss k x) q (s.a == i) refl e
 
 -- a first link that ends at the router has its port 0, at that end
 front_at : (l i : ℕ) (s : LinkSpec) (ss : List LinkSpec) (e : End) → router_end e s ≡ i → s.a ≢ s.b → slice_get (places_from l i (s ∷ ss)) 0 ≡ Some (place_of l e)
@@ -121,32 +50,6 @@ port_there l i (x ∷ xs) (suc k) s e is at apart =
     let sum : (l + 1) + k ≡ l + suc k = omega arith in
     behind l i x xs (ports_before k i xs) ∙ port_there (l + 1) i xs k s e is at apart ∙ ap (λ (m : ℕ). Some (place_of m e)) sum
 
--- ---- lists by number
-
--- the i-th of n numbers from a on is a + i
-range_at : (a n i : ℕ) → i < n → slice_get (range_with_len a n) i ≡ Some (a + i)
-range_at a zero i lt = absurd (omega arith)
-range_at a (suc n) zero lt = let e : a ≡ a + 0 = omega arith in ap Some e
-range_at a (suc n) (suc i) lt = let e : (a + 1) + i ≡ a + suc i = omega arith in range_at (a + 1) n i (omega (arith, lt)) ∙ ap Some e
-
--- what is found among n numbers from a on at position i is a + i, and i is below n
-range_within : (a n i x : ℕ) → slice_get (range_with_len a n) i ≡ Some x → (i < n) × (x ≡ a + i)
-range_within a zero i x e = absurd (None_not_Some e)
-range_within a (suc n) zero x e = (omega arith, (let f : a ≡ x = Some_injective e in omega (arith, f)))
-range_within a (suc n) (suc i) x e = let h : (i < n) × (x ≡ (a + 1) + i) = range_within (a + 1) n i x e in (omega (arith, h.0), omega (arith, h.1))
-
--- the i-th of the values of f at 0 to n - 1 is f i
-pub listed_at : {X : Type 0} (f : ℕ → X) (n i : ℕ) → i < n → slice_get (map f (range_with_len 0 n)) i ≡ Some (f i)
-listed_at f n i lt = let e : 0 + i ≡ i = omega arith in slice_get-map f (range_with_len 0 n) i ∙ ap (option_map f) (range_at 0 n i lt) ∙ ap (λ (k : ℕ). Some (f k)) e
-
--- what is found among the values of f at 0 to n - 1 at position i is f i, and i is below n
-pub listed_within : {X : Type 0} (f : ℕ → X) (n i : ℕ) (x : X) → slice_get (map f (range_with_len 0 n)) i ≡ Some x → (i < n) × (f i ≡ x)
-listed_within f n i x e = by_found (slice_get (range_with_len 0 n) i) refl (sym (slice_get-map f (range_with_len 0 n) i) ∙ e)
-  where
-    by_found : (o : Option ℕ) → slice_get (range_with_len 0 n) i ≡ o → option_map f o ≡ Some x → (i < n) × (f i ≡ x)
-    by_found None is h = absurd (None_not_Some h)
-    by_found (Some k) is h = let r : (i < n) × (k ≡ 0 + i) = range_within 0 n i k is in let same : k ≡ i = omega (arith, r.1) in (r.0, ap f (sym same) ∙ Some_injective h)
-
 -- ---- a network
 
 -- the place at which a port lies, if there is such a port
@@ -160,10 +63,6 @@ spot_on n x s = at_port (router_end x.end s) (ports_before x.link (router_end x.
 -- the router and the port of a place
 abbrev pub spot : Network → Place → LinkEnd
 spot n x = option_map_or (spot_on n x) (slice_get n.links x.link) (at_port 0 0)
-
--- the other end of the same link
-abbrev pub across : Place → Place
-across x = place_of x.link (other x.end)
 
 -- the router and the port across the link; the port itself where it has no place
 abbrev pub far : Network → LinkEnd → LinkEnd
@@ -203,7 +102,7 @@ laid n e x is = by_list (slice_get (opening n).places e.router) refl is
     by_list (Some ps) at h =
         let r = listed_within (λ i. places_from 0 i n.links) n.routers e.router ps at in
         let there : slice_get (places_from 0 e.router n.links) e.port ≡ Some x = ap (λ (ys : List Place). slice_get ys e.port) r.1 ∙ h in
-        by_port r.0 there (is_port 0 e.router n.links e.port x there)
+        by_port r.0 there (place_to_IsPort 0 e.router n.links e.port x there)
 
 module _ (n : Network) (N : IsWired n) where
   -- both ends of a wired link are routers of the network

@@ -1,5 +1,5 @@
 -- A router that publishes does so in the view.
-use Rattle.std.specs.Prelude.{◌≡◌, ℕ, Bool, true, false, ◌==◌, if◌then◌else◌, List, [], ◌++◌, length, Option, Some, None, slice_get, option_map, option_and_then, unwrap_or, T}
+use Rattle.std.specs.Prelude.{◌≡◌, ℕ, Bool, true, false, ◌==◌, if◌then◌else◌, List, [], ◌++◌, length, Option, Some, None, slice_get, option_map, option_and_then, unwrap_or}
 use Rattle.std.specs.Option.{option_map_or}
 use Rattle.std.specs.FinMap.{find as row_of}
 use Rattle.std.specs.FinMap.Entries.{is_sorted}
@@ -20,7 +20,7 @@ use Rattle.loop_freedom.proofs.Invariant.{Invariant}
 use Rattle.packet_loops.proofs.Wiring.{IsWired}
 use Rattle.packet_loops.proofs.Places.{topology}
 use Rattle.packet_loops.proofs.View.{next_hop, kept, ripe_of, unripe_of, next_hop_at, view, kept-append, on_router-there, on_router-miss, on_router-same}
-use Rattle.packet_loops.proofs.Machines.{row_of-map, is_sorted-map}
+use Rattle.network_model.proofs.RowLaws.{find-map, sorted-map}
 use Rattle.packet_loops.proofs.Kept.{RouterKept, WorldKept, StepKept, with_router}
 
 -- the next hop of a machine's entry is its successor, in the session seen there
@@ -40,7 +40,7 @@ pub control_hop : (p : Prefix) (r : Router) (seen : ℕ → ℕ) → (r.table).c
     → option_and_then next_hop (row_of prefix_cmp p (r.table).control) ≡ next_hop_of seen (machine_of r p).successor
 control_hop p r seen is none same =
     ap (λ (rows : List (Prefix × Entry)). option_and_then next_hop (row_of prefix_cmp p rows)) is
-    ∙ ap (option_and_then next_hop) (row_of-map (λ (m : Machine). entry_of r.ports m) p r.machines)
+    ∙ ap (option_and_then next_hop) (find-map prefix_cmp (λ (m : Machine). entry_of r.ports m) p r.machines)
     ∙ by_row (row_of prefix_cmp p r.machines) none
   where
     by_row : (o : Option Machine) → ((unwrap_or o (opening_machine false (neighbours r.ports))).local ≡ true → (unwrap_or o (opening_machine false (neighbours r.ports))).successor ≡ None)
@@ -86,7 +86,7 @@ module _ (n : Network) (N : IsWired n) (p : Prefix) (w : World) (pfd : ℕ → �
   router_kept = record {
     ripe_within = omega arith;
     sorted = R.sorted;
-    published_sorted = subst T (sym (ap (is_sorted prefix_cmp) R.control_is ∙ is_sorted-map (λ (m : Machine). entry_of r.ports m) r.machines)) R.sorted;
+    published_sorted = ap (is_sorted prefix_cmp) R.control_is ∙ sorted-map prefix_cmp (λ (m : Machine). entry_of r.ports m) r.machines ∙ R.sorted;
     control_is = R.control_is;
     port_count = R.port_count;
     machine_ports = R.machine_ports;

@@ -16,7 +16,8 @@ use Rattle.network_model.proofs.ListLaws.{Some_injective, None_not_Some, slice_g
 use Rattle.machine_laws.proofs.Sends.{eqb_sym}
 use Rattle.loop_freedom.specs.Network.{LinkEnd, State, Reported, Releases, Skips, SameLinks, SameCosts, SameMachines, SamePublished, arriving, at_port}
 use Rattle.packet_loops.proofs.Wiring.{IsWired}
-use Rattle.packet_loops.proofs.Places.{lay, far, across, far_laid}
+use Rattle.packet_loops.specs.LinkEnds.{across}
+use Rattle.packet_loops.proofs.Places.{lay, far, far_laid}
 use Rattle.packet_loops.proofs.View.{msg_of, held_as, heard, inbox_of, is_kept, kept, ripe_of, unripe_of, next_hop_at, view, heard-append, on_link-there, on_link-hit, on_link-same, on_router-there, on_router-miss, on_router-same}
 use Rattle.packet_loops.proofs.Kept.{ends, RouterKept, WorldKept, StepKept, with_links, with_router, changed_side-ends, changed_beside, changed_here, up_beside, session_beside, other_end}
 

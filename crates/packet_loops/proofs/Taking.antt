@@ -15,16 +15,17 @@ use Rattle.network_model.specs.World.{Side, Link, Router, World, Network, side, 
 use Rattle.network_model.specs.declared.network.Place.{Place}
 use Rattle.network_model.specs.declared.network.Port.{Port}
 use Rattle.network_model.specs.Step.{router_accepting, with_front_taken, session_at}
-use Rattle.network_model.proofs.ListLaws.{Some_injective, None_not_Some, slice_get-changed_at}
+use Rattle.network_model.proofs.ListLaws.{Some_injective, None_not_Some, slice_get-changed_at, listed_at}
 use Rattle.machine_laws.specs.Laws.{Meets, IsSound, is_up_at, test_at, sent_to}
 use Rattle.machine_laws.proofs.MachineLaws.{machine_laws}
 use Rattle.loop_freedom.specs.Network.{LinkEnd, State, Item as NetItem, UpNotice, DownNotice, CostNotice, Reported, Takes, Skips, event_of, seen_after, held_for, at_port, SameLinks, SameCosts}
 use Rattle.loop_freedom.proofs.OnTheWay.{none_sent}
 use Rattle.loop_freedom.proofs.Notices.{IsLawfulInbox}
 use Rattle.loop_freedom.proofs.Ports.{ports_length, meets_item}
-use Rattle.loop_freedom.proofs.Invariant.{Invariant, same_place}
+use Rattle.loop_freedom.proofs.Ends.{place_cases}
+use Rattle.loop_freedom.proofs.Invariant.{Invariant}
 use Rattle.packet_loops.proofs.Wiring.{IsWired}
-use Rattle.packet_loops.proofs.Places.{lay, laid, topology, listed_at}
+use Rattle.packet_loops.proofs.Places.{lay, laid, topology}
 use Rattle.packet_loops.proofs.View.{msg_of, next_hop, heard, heard_item, inbox_of, kept, ripe_of, unripe_of, next_hop_at, view, on_link-there, on_link-hit, on_link-same, on_router-there, on_router-miss, on_router-same}
 use Rattle.packet_loops.proofs.Machines.{up_opened, down_opened, cost_opened}
 use Rattle.packet_loops.proofs.Kept.{RouterKept, WorldKept, StepKept, with_links, with_router, changed_side-ends, changed_beside, changed_here, up_beside, session_beside, other_end}
@@ -140,7 +141,7 @@ module _ (n : Network) (N : IsWired n) (p : Prefix) (w : World) (pfd : ℕ → �
 
   -- an item of which the prefix hears nothing leaves all that is to be taken in the view
   inboxes_same : heard_item p item ≡ [] → (e : LinkEnd) → new.inbox e ≡ old.inbox e
-  inboxes_same silent e = elim (same_place e a) [
+  inboxes_same silent e = elim (place_cases e a) [
     | inl h ↦ subst (λ (z : LinkEnd). new.inbox z ≡ old.inbox z) (sym h) (inbox_now ∙ sym (inbox_was ∙ ap (λ xs. xs ++ heard p (drop 1 (side x0.end k).inbox)) silent))
     | inr h ↦ inbox_elsewhere e h
   ]

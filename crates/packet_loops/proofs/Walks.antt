@@ -1,5 +1,5 @@
 -- Ways of packets are walks of the view, so they meet no router twice; along rows the feasible distances fall.
-use Rattle.std.specs.Prelude.{◌<◌, ◌≡◌, ◌⊎◌, ℕ, Bool, true, false, cond, ◌&&◌, ◌==◌, nat_lt, if◌then◌else◌, List, [], ◌∷◌, Option, Some, None, is_some, slice_get, option_map, option_and_then, ⊤, T}
+use Rattle.std.specs.Prelude.{◌<◌, ◌≡◌, ◌⊎◌, ℕ, Bool, true, false, cond, ◌&&◌, ◌==◌, nat_lt, if◌then◌else◌, List, [], ◌∷◌, Option, Some, None, is_some, slice_get, option_map, option_and_then, ⊤}
 use Rattle.std.specs.Option.{option_map_or}
 use Rattle.std.specs.FinMap.{find as row_of}
 use Rattle.std.specs.FinMap.Entries.{is_sorted, below_all}
@@ -21,9 +21,12 @@ use Rattle.loop_freedom.specs.Network.{LinkEnd, State, Topology, NextHop, Publis
 use Rattle.loop_freedom.proofs.Walks.{always_mixed}
 use Rattle.packet_loops.specs.Packets.{AlwaysHolds, NoPacketLoops, NoMixtureLoops, IsForwardedBy, IsMixtureWalk, published_entry, control_entry, fd_in, DistancesAlwaysFall}
 use Rattle.packet_loops.proofs.Wiring.{IsWired, wired}
-use Rattle.packet_loops.proofs.Places.{lay, laid, far, far_laid, across, spot_on, router_end, topology}
+use Rattle.network_model.proofs.PortPlaces.{router_end}
+use Rattle.packet_loops.specs.LinkEnds.{across}
+use Rattle.packet_loops.proofs.Places.{lay, laid, far, far_laid, spot_on, topology}
 use Rattle.packet_loops.proofs.View.{next_hop, next_hop_at, view, on_link-there, on_router-there}
-use Rattle.packet_loops.proofs.Machines.{first_part, second_part, prefix_same, prefix_itself, row_below, is_sorted-map}
+use Rattle.network_model.proofs.RowLaws.{find_below, sorted-map}
+use Rattle.packet_loops.proofs.Machines.{prefix_same, prefix_itself}
 use Rattle.packet_loops.proofs.Kept.{specified, far_is}
 use Rattle.packet_loops.proofs.Publishing.{control_hop}
 use Rattle.packet_loops.proofs.Opened.{first_fd, opening_view}
@@ -55,20 +58,20 @@ module _ {X : Type 0} (addr : ℕ) (p : Prefix) (x : X) where
       subst (λ (y : Prefix × X). row_of prefix_cmp y.0 (r ∷ rs) ≡ Some y.1) e own
 
   -- in sorted rows a row that is found behind the first is found among all
-  row_later : (r : Prefix × X) (rs : List (Prefix × X)) → T (is_sorted prefix_cmp (r ∷ rs)) → row_of prefix_cmp p rs ≡ Some x → row_of prefix_cmp p (r ∷ rs) ≡ Some x
+  row_later : (r : Prefix × X) (rs : List (Prefix × X)) → is_sorted prefix_cmp (r ∷ rs) ≡ true → row_of prefix_cmp p rs ≡ Some x → row_of prefix_cmp p (r ∷ rs) ≡ Some x
   row_later r rs sorted later = by_eq (prefix_eq p r.0) refl
     where
       by_eq : (b : Bool) → prefix_eq p r.0 ≡ b → cond b (Some r.1) (row_of prefix_cmp p rs) ≡ Some x
       by_eq false is = later
       by_eq true is =
           let same : p ≡ r.0 = prefix_same p r.0 is in
-          let none : row_of prefix_cmp r.0 rs ≡ None = row_below r.0 rs (first_part (below_all prefix_cmp r.0 rs) (is_sorted prefix_cmp rs) sorted) in
+          let none : row_of prefix_cmp r.0 rs ≡ None = find_below prefix_cmp r.0 rs (and_parts (below_all prefix_cmp r.0 rs) (is_sorted prefix_cmp rs) sorted).0 in
           absurd (None_not_Some (sym none ∙ ap (λ (k : Prefix). row_of prefix_cmp k rs) (sym same) ∙ later))
 
   -- the longest match in sorted rows is the row of its prefix
-  pub match_is_row : (rows : List (Prefix × X)) → T (is_sorted prefix_cmp rows) → longest_match addr rows ≡ Some (p, x) → row_of prefix_cmp p rows ≡ Some x
+  pub match_is_row : (rows : List (Prefix × X)) → is_sorted prefix_cmp rows ≡ true → longest_match addr rows ≡ Some (p, x) → row_of prefix_cmp p rows ≡ Some x
   match_is_row [] sorted e = absurd (None_not_Some e)
-  match_is_row (r ∷ rs) sorted e = by_cover (covers r.0 addr) (λ f. row_later r rs sorted (match_is_row rs (second_part (below_all prefix_cmp r.0 rs) (is_sorted prefix_cmp rs) sorted) f)) e
+  match_is_row (r ∷ rs) sorted e = by_cover (covers r.0 addr) (λ f. row_later r rs sorted (match_is_row rs (and_parts (below_all prefix_cmp r.0 rs) (is_sorted prefix_cmp rs) sorted).1 f)) e
     where
       by_length : (s : Prefix × X) (b : Bool) → longest_match addr rs ≡ Some s → (longest_match addr rs ≡ Some (p, x) → row_of prefix_cmp p (r ∷ rs) ≡ Some x) → (if b then Some s else Some r) ≡ Some (p, x) → row_of prefix_cmp p (r ∷ rs) ≡ Some x
       by_length s true is deeper f = deeper (is ∙ f)
@@ -270,7 +273,7 @@ module _ (n : Network) (N : IsWired n) (p : Prefix) (w : World) (rs : List Route
           → (row_of prefix_cmp p (r.table).published ≡ Some F.entry) ⊎ (row_of prefix_cmp p (r.table).control ≡ Some F.entry)
       by_table r at true g =
           let Q = R.kept.routers_kept i r at in
-          inr (match_is_row addr p F.entry (r.table).control (subst T (sym (ap (is_sorted prefix_cmp) Q.control_is ∙ is_sorted-map (λ (m : Machine). entry_of r.ports m) r.machines)) Q.sorted) g)
+          inr (match_is_row addr p F.entry (r.table).control (ap (is_sorted prefix_cmp) Q.control_is ∙ sorted-map prefix_cmp (λ (m : Machine). entry_of r.ports m) r.machines ∙ Q.sorted) g)
       by_table r at false g = inl (match_is_row addr p F.entry (r.table).published (R.kept.routers_kept i r at).published_sorted g)
 
       by_router : (o : Option Router) → slice_get w.routers i ≡ o → longest_match addr (option_map_or (λ (r : Router). if by_control i then (r.table).control else (r.table).published) o []) ≡ Some (p, F.entry)

@@ -11,6 +11,7 @@ use Rattle.network_model.specs.declared.network.NetworkFault.{NetworkFault}
 use Rattle.network_model.specs.declared.network.NetworkFault.TheVariants.{BadRouters, BadLink, TooManyLinks, BadOwner}
 use Rattle.network_model.specs.World.{Network}
 use Rattle.network_model.specs.Network.{first_cause, link_causes, owner_causes, is_bad_link, is_bad_owner, is_link_too_many, has_same_ends, most_routers, most_prefixes, HasCosts, IsNetwork}
+use Rattle.network_model.proofs.Causes.{first_none, none_in_both}
 use Rattle.network_model.proofs.ListLaws.{Some_injective, None_not_Some}
 
 -- a link whose two ends are routers of the network, and not one and the same, and that costs at least 1 each way
@@ -27,18 +28,7 @@ pub record IsWired (n : Network) : Type 0 where
   pub owners_known : (k : ℕ) (o : Prefix × ℕ) → slice_get n.owners k ≡ Some o → o.1 < n.routers
   pub prefixes_once : (k j : ℕ) (o u : Prefix × ℕ) → slice_get n.owners k ≡ Some o → slice_get n.owners j ≡ Some u → o.0 ≡ u.0 → k ≡ j
 
--- ---- causes that are not there
-
--- where no cause applies, the first does not, nor does one of the rest
-first_none : {X : Type 0} (b : Bool) (x : X) (cs : List (Bool × X)) → first_cause ((b, x) ∷ cs) ≡ None → (b ≡ false) × (first_cause cs ≡ None)
-first_none true x cs e = absurd (None_not_Some (sym e))
-first_none false x cs e = (refl, e)
-
--- where no cause of two lists applies, none of either does
-none_in_both : {X : Type 0} (cs ds : List (Bool × X)) → first_cause (cs ++ ds) ≡ None → (first_cause cs ≡ None) × (first_cause ds ≡ None)
-none_in_both [] ds e = (refl, e)
-none_in_both ((true, x) ∷ cs) ds e = absurd (None_not_Some (sym e))
-none_in_both ((false, x) ∷ cs) ds e = none_in_both cs ds e
+-- ---- tests that do not pass
 
 -- where none of three tests passes, the first two do not
 neither : (a b c : Bool) → (a || b || c) ≡ false → (a ≡ false) × (b ≡ false)

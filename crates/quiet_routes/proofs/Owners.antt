@@ -8,13 +8,12 @@ use Rattle.std.proofs.lemmas.Bool.{cases_eq, eqb-true, eq-eqb, false≢true}
 use Rattle.ipv4_prefix.specs.Prefix.{Prefix, prefix_cmp, prefix_eq}
 use Rattle.network_model.specs.Machine.{Machine, opening_machine}
 use Rattle.network_model.specs.World.{Router, Network, neighbours, machine_of, rows_of, owned, opening_router_of, opening}
-use Rattle.network_model.proofs.ListLaws.{Some_injective, None_not_Some}
+use Rattle.network_model.proofs.ListLaws.{Some_injective, None_not_Some, listed_at, listed_within}
 use Rattle.ipv4_prefix.proofs.PrefixOrder.{prefix_cmp_total}
 use Rattle.machine_laws.proofs.MachineLaws.{machine_laws}
 use Rattle.loop_freedom.specs.Network.{State, Topology, Step as NetStep, Takes, Publishes, Releases, LinkComes, LinkGoes, CostChanges, Skips, Run, Start, Then, event_of}
 use Rattle.packet_loops.proofs.Wiring.{IsWired}
 use Rattle.packet_loops.proofs.Machines.{prefix_same, prefix_itself}
-use Rattle.packet_loops.proofs.Places.{listed_at, listed_within}
 use Rattle.packet_loops.proofs.View.{view}
 use Rattle.quiet_routes.specs.Routes.{Owns}
 

@@ -18,19 +18,20 @@ use Rattle.loop_freedom.specs.Network.{LinkEnd, State, Topology, IsWalk as NetWa
 use Rattle.network_model.specs.Network.{IsNetwork}
 use Rattle.packet_loops.specs.Packets.{published_entry}
 use Rattle.packet_loops.proofs.Wiring.{IsWired, wired, few_routers}
-use Rattle.packet_loops.proofs.Machines.{row_of-map}
+use Rattle.network_model.proofs.RowLaws.{find-map}
 use Rattle.packet_loops.proofs.Places.{lay, laid, spot, topology}
 use Rattle.packet_loops.proofs.Opened.{first_fd, opening_view}
 use Rattle.packet_loops.proofs.View.{on_link, view}
 use Rattle.packet_loops.proofs.Runs.{Reached, reached}
 use Rattle.network_model.specs.Run.{history}
-use Rattle.least_cost.specs.Quiet.{LeadsHome, Follows, IsRouted as IsNetRouted, IsOptimal, end_of, walk_cost}
+use Rattle.least_cost.specs.Quiet.{LeadsHome, Follows, IsRouted as IsNetRouted, IsOptimal, walk_end, walk_cost}
 use Rattle.least_cost.proofs.AtQuiet.{optimal_at_quiet}
 use Rattle.quiet_routes.specs.Routes.{Owns, IsRouted, IsChain, IsUnheard, HasBestRow, QuietRoutes}
 use Rattle.quiet_routes.proofs.Worlds.{CheapLink, Good, good}
 use Rattle.quiet_routes.proofs.Owners.{run_local, owner_local, local_owner, one_owner}
 use Rattle.quiet_routes.proofs.Still.{row_now, quiet_now}
-use Rattle.quiet_routes.proofs.Ways.{IsUp, place_for, walk_more, to_walk, to_cost, from_walk, from_cost, from_chain}
+use Rattle.loop_freedom.proofs.Walks.{walk_map}
+use Rattle.quiet_routes.proofs.Ways.{IsUp, place_for, to_walk, to_cost, from_walk, from_cost, from_chain}
 
 module _ (n : Network) (V : IsNetwork n) (p : Prefix) (w : World) (rs : List Router) (R : Reached n (wired n V) p w rs) (G : Good p w) (quiet : is_quiet w ≡ true) (o : ℕ) (owner : Owns n p o) where
   -- the network is wired
@@ -104,7 +105,7 @@ module _ (n : Network) (V : IsNetwork n) (p : Prefix) (w : World) (rs : List Rou
             not_published = ap (option_and_then (λ (y : Router). row_of prefix_cmp p (y.table).published)) at ∙ row_now n N p w rs R G quiet i r at ∙ ap (option_map (λ m. entry_of r.ports m)) is;
             not_chosen = ap (option_and_then (λ (y : Router). row_of prefix_cmp p (y.table).control)) at
                 ∙ ap (row_of prefix_cmp p) (R.kept.routers_kept i r at).control_is
-                ∙ row_of-map (λ (m : Machine). entry_of r.ports m) p r.machines
+                ∙ find-map prefix_cmp (λ (m : Machine). entry_of r.ports m) p r.machines
                 ∙ ap (option_map (λ m. entry_of r.ports m)) is;
           })
       by_row r at (Some m) is =
@@ -154,8 +155,8 @@ module _ (n : Network) (V : IsNetwork n) (p : Prefix) (w : World) (rs : List Rou
   -- a router that has a least way in the view is routed in the world
   routed : (i : ℕ) → IsNetRouted t n.routers s i → IsRouted w p i o
   routed i Q =
-      let ends : end_of t i Q.chain ≡ o = home (end_of t i Q.chain) Q.reaches in
-      let up : NetWalk t (IsUp n N p w rs R) i Q.chain = walk_more t (Follows s) (IsUp n N p w rs R) (λ e f. f.sends.linked) i Q.chain Q.follows in
+      let ends : walk_end t i Q.chain ≡ o = home (walk_end t i Q.chain) Q.reaches in
+      let up : NetWalk t (IsUp n N p w rs R) i Q.chain = walk_map t (Follows s) (IsUp n N p w rs R) (λ e f. f.sends.linked) i Q.chain Q.follows in
       let cost : way_cost w (map (place_for n N p w rs R) Q.chain) ≡ (s.machine i).rd = from_cost n N p w rs R i Q.chain up ∙ Q.cost_is in
       record {
         local_at_owner = λ e. ap (λ (j : ℕ). published_entry w j p) e ∙ local_row;
@@ -176,7 +177,7 @@ module _ (n : Network) (V : IsNetwork n) (p : Prefix) (w : World) (rs : List Rou
   -- where no walk of the world leads to the owner, none of the view does
   no_way : (i : ℕ) → ((ps : List Place) → IsWay w i ps o → ⊥) → (es : List LinkEnd) → LeadsHome t s i es → ⊥
   no_way i none es h =
-      none (map (place_for n N p w rs R) es) (subst (λ (j : ℕ). IsWay w i (map (place_for n N p w rs R) es) j) (home (end_of t i es) h.home) (from_walk n N p w rs R i es h.live))
+      none (map (place_for n N p w rs R) es) (subst (λ (j : ℕ). IsWay w i (map (place_for n N p w rs R) es) j) (home (walk_end t i es) h.home) (from_walk n N p w rs R i es h.live))
 
   -- without a walk to the owner and a successor, the row is Unreachable or the prefix unheard
   lost : (i : ℕ) → ((ps : List Place) → IsWay w i ps o → ⊥) → (s.machine i).successor ≡ None → (published_entry w i p ≡ Some Unreachable) ⊎ IsUnheard w p i

@@ -1,27 +1,28 @@
 -- A quiet world is a quiet state of the view, and its published rows are those of its machines.
-use Rattle.std.specs.Prelude.{◌≡◌, ℕ, zero, suc, Bool, true, false, cond, not, ◌&&◌, ◌==◌, List, [], ◌∷◌, take, drop, Option, Some, None, slice_get, filter, option_map, option_and_then, unwrap_or, is_none, is_some}
+use Rattle.std.specs.Prelude.{◌≡◌, ℕ, zero, suc, Bool, true, false, cond, not, ◌&&◌, List, [], ◌∷◌, take, drop, Option, Some, None, slice_get, filter, option_map, option_and_then, unwrap_or, is_none, is_some}
 use Rattle.std.specs.List.{list_all}
 use Rattle.std.specs.Option.{option_map_or}
 use Rattle.std.specs.FinMap.{find as row_of}
 use Rattle.std.proofs.Common.{refl, sym, ap, subst, ◌∙◌}
 use Rattle.std.proofs.Math.Seq.{take-nil, drop-nil}
-use Rattle.std.proofs.lemmas.Bool.{and_parts, eqb-true, false≢true}
+use Rattle.std.proofs.lemmas.Bool.{and_parts, false≢true}
 use Rattle.ipv4_prefix.specs.Prefix.{Prefix, prefix_cmp, prefix_eq}
 use Rattle.network_model.specs.Machine.{Machine, Computation, opening_machine}
 use Rattle.network_model.specs.declared.item.Held.{Held}
 use Rattle.network_model.specs.declared.route.Entry.{Entry}
-use Rattle.network_model.specs.declared.route.Entry.TheVariants.{Local, Via, Unreachable}
 use Rattle.network_model.specs.declared.network.End.{End}
 use Rattle.network_model.specs.declared.network.End.TheVariants.{A, B}
 use Rattle.network_model.specs.World.{Link, Router, World, Network, side, machine_of, neighbours}
 use Rattle.network_model.specs.declared.network.Place.{Place}
 use Rattle.network_model.specs.Step.{entry_eq, has_row, changed_rows, entry_of, session_at}
 use Rattle.network_model.specs.Forwarding.{is_empty, is_quiet_router, is_quiet_link, is_quiet}
+use Rattle.network_model.proofs.EntryLaws.{entry_from_eq}
 use Rattle.network_model.proofs.ListLaws.{Some_injective, None_not_Some}
 use Rattle.machine_laws.specs.Laws.{IsSound, is_active}
 use Rattle.loop_freedom.specs.Network.{State, next_hop_of, at_port}
 use Rattle.packet_loops.proofs.Wiring.{IsWired}
-use Rattle.packet_loops.proofs.Machines.{row_of-map, prefix_same}
+use Rattle.network_model.proofs.RowLaws.{find-map}
+use Rattle.packet_loops.proofs.Machines.{prefix_same}
 use Rattle.packet_loops.proofs.Places.{lay, topology}
 use Rattle.packet_loops.proofs.Publishing.{control_hop}
 use Rattle.packet_loops.proofs.Runs.{Reached}
@@ -62,22 +63,6 @@ nothing_filtered f (x ∷ xs) h = by_test (f x) h (nothing_filtered f xs)
 empty_is : {A : Type 0} (xs : List A) → is_empty xs ≡ true → xs ≡ []
 empty_is [] h = refl
 empty_is (x ∷ xs) h = absurd (false≢true h)
-
--- entries that are equal by the test are one entry
-entry_same : (a b : Entry) → entry_eq a b ≡ true → a ≡ b
-entry_same Local Local h = refl
-entry_same Local (Via q s) h = absurd (false≢true h)
-entry_same Local Unreachable h = absurd (false≢true h)
-entry_same (Via q s) Local h = absurd (false≢true h)
-entry_same (Via q s) (Via k t) h =
-    let both = and_parts (q == k) (s == t) h in
-    let a = eqb-true q k both.0 in
-    let b = eqb-true s t both.1 in
-    λ z. Via (a z) (b z)
-entry_same (Via q s) Unreachable h = absurd (false≢true h)
-entry_same Unreachable Local h = absurd (false≢true h)
-entry_same Unreachable (Via q s) h = absurd (false≢true h)
-entry_same Unreachable Unreachable h = refl
 
 -- ---- one router
 
@@ -121,7 +106,7 @@ module _ (n : Network) (N : IsWired n) (p : Prefix) (w : World) (rs : List Route
 
       found : (e : Entry) (o : Option Entry) → option_map_or (λ x. entry_eq x e) o false ≡ true → o ≡ Some e
       found e None h = absurd (false≢true h)
-      found e (Some x) h = ap Some (entry_same x e h)
+      found e (Some x) h = ap Some (entry_from_eq x e h)
 
       unheard : (o : Option Machine) → row_of prefix_cmp p r.machines ≡ o → option_map (λ m. entry_of r.ports m) o ≡ None → row_of prefix_cmp p r.machines ≡ None
       unheard None is e = is
@@ -130,7 +115,7 @@ module _ (n : Network) (N : IsWired n) (p : Prefix) (w : World) (rs : List Route
       row : (o : Option Entry) → row_of prefix_cmp p (r.table).control ≡ o → row_of prefix_cmp p (r.table).published ≡ row_of prefix_cmp p (r.table).control
       row None is =
           let no_machine = unheard (row_of prefix_cmp p r.machines) refl
-          (sym (ap (row_of prefix_cmp p) (R.kept.routers_kept i r at).control_is ∙ row_of-map (λ (m : Machine). entry_of r.ports m) p r.machines) ∙ is) in
+          (sym (ap (row_of prefix_cmp p) (R.kept.routers_kept i r at).control_is ∙ find-map prefix_cmp (λ (m : Machine). entry_of r.ports m) p r.machines) ∙ is) in
           (G.heard i r at no_machine).1 ∙ sym is
       row (Some e) is =
           let all : list_all (has_row (r.table).published) (r.table).control ≡ true = nothing_filtered (has_row (r.table).published) (r.table).control parts.1 in
@@ -138,7 +123,7 @@ module _ (n : Network) (N : IsWired n) (p : Prefix) (w : World) (rs : List Route
 
   -- the row that a router of a quiet world published is the entry of its machine, if the prefix was heard of
   pub row_now : (i : ℕ) (r : Router) → slice_get w.routers i ≡ Some r → row_of prefix_cmp p (r.table).published ≡ option_map (λ m. entry_of r.ports m) (row_of prefix_cmp p r.machines)
-  row_now i r at = (still i r at).row_is ∙ ap (row_of prefix_cmp p) (R.kept.routers_kept i r at).control_is ∙ row_of-map (λ (m : Machine). entry_of r.ports m) p r.machines
+  row_now i r at = (still i r at).row_is ∙ ap (row_of prefix_cmp p) (R.kept.routers_kept i r at).control_is ∙ find-map prefix_cmp (λ (m : Machine). entry_of r.ports m) p r.machines
 
   -- no port has an item to take
   inbox_none : (o : Option Place) → on_link (inbox_of p) [] o w.links ≡ []

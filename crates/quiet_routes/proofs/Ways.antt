@@ -15,17 +15,14 @@ use Rattle.network_model.proofs.ListLaws.{Some_injective, None_not_Some}
 use Rattle.loop_freedom.specs.Network.{LinkEnd, State, Topology, NextHop, IsWalk, at_port}
 use Rattle.packet_loops.specs.Packets.{published_entry}
 use Rattle.packet_loops.proofs.Wiring.{IsWired}
-use Rattle.packet_loops.proofs.Places.{lay, laid, lay-spot, far, across, spot, spot_on, router_end, place_of, topology}
+use Rattle.network_model.proofs.PortPlaces.{router_end, place_of}
+use Rattle.packet_loops.specs.LinkEnds.{across}
+use Rattle.packet_loops.proofs.Places.{lay, laid, lay-spot, far, spot, spot_on, topology}
 use Rattle.packet_loops.proofs.Kept.{specified, linked, far_is}
 use Rattle.packet_loops.proofs.View.{next_hop, next_hop_at, on_link, view, on_link-there}
 use Rattle.packet_loops.proofs.Runs.{Reached, place_is}
-use Rattle.least_cost.specs.Quiet.{Follows, end_of, walk_cost}
+use Rattle.least_cost.specs.Quiet.{Follows, walk_end, walk_cost}
 use Rattle.quiet_routes.specs.Routes.{SendsBy, IsChain}
-
--- a walk along edges of one kind is one along edges of each wider kind
-pub walk_more : (t : Topology) (f g : LinkEnd → Type 0) → ((e : LinkEnd) → f e → g e) → (i : ℕ) (es : List LinkEnd) → IsWalk t f i es → IsWalk t g i es
-walk_more t f g h i [] w = tt
-walk_more t f g h i (e ∷ es) w = (w.0, w.1, h e w.2, walk_more t f g h (t.far e).router es w.3)
 
 module _ (n : Network) (N : IsWired n) (p : Prefix) (w : World) (rs : List Router) (R : Reached n N p w rs) where
   -- the topology of the network
@@ -60,7 +57,7 @@ module _ (n : Network) (N : IsWired n) (p : Prefix) (w : World) (rs : List Route
       }
 
   -- a walk of the world is one of the view, to the same router
-  pub to_walk : (i : ℕ) (ps : List Place) (o : ℕ) → IsWay w i ps o → IsWalk t IsUp i (map (spot n) ps) × (end_of t i (map (spot n) ps) ≡ o)
+  pub to_walk : (i : ℕ) (ps : List Place) (o : ℕ) → IsWay w i ps o → IsWalk t IsUp i (map (spot n) ps) × (walk_end t i (map (spot n) ps) ≡ o)
   to_walk i [] o h = (tt, h)
   to_walk i (x ∷ xs) o (l, at, up, from, rest) =
       let P = of_place x l at in
@@ -71,7 +68,7 @@ module _ (n : Network) (N : IsWired n) (p : Prefix) (w : World) (rs : List Route
           on_link-there (λ en k. k.up) false w.links (lay n (spot n x)) x l P.laid_at at ∙ up,
           subst (λ (j : ℕ). IsWalk t IsUp j (map (spot n) xs)) (sym P.across_from) W.0,
         ),
-        ap (λ (j : ℕ). end_of t j (map (spot n) xs)) P.across_from ∙ W.1,
+        ap (λ (j : ℕ). walk_end t j (map (spot n) xs)) P.across_from ∙ W.1,
       )
 
   -- a walk of the world costs as much in the view
@@ -119,7 +116,7 @@ module _ (n : Network) (N : IsWired n) (p : Prefix) (w : World) (rs : List Route
       }
 
   -- a walk of the view is one of the world, to the same router
-  pub from_walk : (i : ℕ) (es : List LinkEnd) → IsWalk t IsUp i es → IsWay w i (map place_for es) (end_of t i es)
+  pub from_walk : (i : ℕ) (es : List LinkEnd) → IsWalk t IsUp i es → IsWay w i (map place_for es) (walk_end t i es)
   from_walk i [] h = refl
   from_walk i (e ∷ es) h =
       let P = of_spot e h.1 in (
@@ -127,7 +124,7 @@ module _ (n : Network) (N : IsWired n) (p : Prefix) (w : World) (rs : List Route
         P.is_link,
         sym (on_link-there (λ en k. k.up) false w.links (lay n e) (place_for e) P.link P.laid_at P.is_link) ∙ h.2,
         P.near ∙ h.0,
-        subst (λ (j : ℕ). IsWay w j (map place_for es) (end_of t (far n e).router es)) P.across_from (from_walk (far n e).router es h.3),
+        subst (λ (j : ℕ). IsWay w j (map place_for es) (walk_end t (far n e).router es)) P.across_from (from_walk (far n e).router es h.3),
       )
 
   -- a walk of the view costs as much in the world
@@ -155,7 +152,7 @@ module _ (n : Network) (N : IsWired n) (p : Prefix) (w : World) (rs : List Route
       by_router (Some r) e = by_row (row_of prefix_cmp p (r.table).published) e
 
   -- a walk of the view along published successors to a Local row is a chain of rows of the world
-  pub from_chain : (i : ℕ) (es : List LinkEnd) → IsWalk t (Follows s) i es → published_entry w (end_of t i es) p ≡ Some Local → IsChain w p i (map place_for es) (end_of t i es)
+  pub from_chain : (i : ℕ) (es : List LinkEnd) → IsWalk t (Follows s) i es → published_entry w (walk_end t i es) p ≡ Some Local → IsChain w p i (map place_for es) (walk_end t i es)
   from_chain i [] h local = (refl, local)
   from_chain i (e ∷ es) h local =
       let P = of_spot e h.1 in
@@ -169,6 +166,6 @@ module _ (n : Network) (N : IsWired n) (p : Prefix) (w : World) (rs : List Route
         is_up = sym (on_link-there (λ en k. k.up) false w.links (lay n e) x P.link P.laid_at P.is_link) ∙ h.2.sends.linked;
         row = published_via e.router e.port (P.link).session (h.2.sends.chosen ∙ ap (λ (m : ℕ). Some (record { port = e.port; session = m })) session);
       } in
-      let on : IsChain w p (side (other x.end) P.link).router (map place_for es) (end_of t (far n e).router es) =
-      subst (λ (j : ℕ). IsChain w p j (map place_for es) (end_of t (far n e).router es)) P.across_from (from_chain (far n e).router es h.3 local) in
-      subst (λ (j : ℕ). IsChain w p j (map place_for (e ∷ es)) (end_of t (far n e).router es)) h.0 (sends, on)
+      let on : IsChain w p (side (other x.end) P.link).router (map place_for es) (walk_end t (far n e).router es) =
+      subst (λ (j : ℕ). IsChain w p j (map place_for es) (walk_end t (far n e).router es)) P.across_from (from_chain (far n e).router es h.3 local) in
+      subst (λ (j : ℕ). IsChain w p j (map place_for (e ∷ es)) (walk_end t (far n e).router es)) h.0 (sends, on)

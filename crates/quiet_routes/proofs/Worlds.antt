@@ -1,5 +1,5 @@
 -- What every world of a run keeps besides: costs have 16 bits, and no row is published or chosen of a prefix that was not heard of.
-use Rattle.std.specs.Prelude.{◌≡◌, ℕ, zero, suc, ◌≤◌, Bool, true, false, cond, ◌&&◌, ◌==◌, List, [], ◌∷◌, map, Option, Some, None, slice_get, option_map}
+use Rattle.std.specs.Prelude.{◌≡◌, ℕ, ◌≤◌, Bool, true, false, cond, ◌&&◌, ◌==◌, List, [], ◌∷◌, map, Option, Some, None, slice_get, option_map}
 use Rattle.std.specs.FinMap.{find as row_of, put}
 use Rattle.std.specs.FinMap.Entries.{find-put}
 use Rattle.std.proofs.Common.{refl, sym, ap, subst, ◌∙◌}
@@ -21,10 +21,9 @@ use Rattle.network_model.specs.declared.step.Step.{Step}
 use Rattle.network_model.specs.declared.step.Step.TheVariants.{LinkUp, LinkDown, SetCost, Deliver, Publish, Release}
 use Rattle.network_model.specs.Step.{Lawful, next, changed_side, with_item, link_come_up, link_gone_down, with_cost, with_front_taken, with_message, entry_of, reactions, router_noticing, router_told, router_accepting, router_publishing, router_releasing, changed_router, changed_link, front_at, release_at, with_delivered, with_released}
 use Rattle.network_model.specs.Run.{Runs}
-use Rattle.network_model.proofs.ListLaws.{option_map_or-ind, Some_injective, None_not_Some}
+use Rattle.network_model.proofs.ListLaws.{option_map_or-ind, Some_injective, None_not_Some, listed_within, changed_keeps}
 use Rattle.ipv4_prefix.proofs.PrefixOrder.{prefix_cmp_total}
-use Rattle.packet_loops.proofs.Machines.{row_of-map}
-use Rattle.packet_loops.proofs.Places.{listed_within}
+use Rattle.network_model.proofs.RowLaws.{find-map}
 use Rattle.network_model.specs.Network.{IsNetwork}
 use Rattle.packet_loops.proofs.Wiring.{link_has_costs}
 
@@ -33,15 +32,6 @@ use Rattle.packet_loops.proofs.Wiring.{link_has_costs}
 -- each element of the list has the property
 abbrev pub Each : {A : Type 0} → (A → Type 0) → List A → Type 0
 Each {A} P xs = (j : ℕ) (x : A) → slice_get xs j ≡ Some x → P x
-
-module _ {A : Type 0} (P : A → Type 0) (f : A → A) (keeps : (x : A) → P x → P (f x)) where
-  -- a change of one element that keeps the property leaves it to each
-  each_changed : (k : ℕ) (xs : List A) → Each P xs → Each P (changed_at k f xs)
-  each_changed k [] h j x e = h j x e
-  each_changed zero (y ∷ ys) h zero x e = subst P (Some_injective e) (keeps y (h 0 y refl))
-  each_changed zero (y ∷ ys) h (suc j) x e = h (suc j) x e
-  each_changed (suc k) (y ∷ ys) h zero x e = h 0 x e
-  each_changed (suc k) (y ∷ ys) h (suc j) x e = each_changed k ys (λ i z a. h (suc i) z a) j x e
 
 -- ---- links
 
@@ -75,11 +65,11 @@ HeardRows p r = NoRow p r.machines → NoRow p (r.table).control × NoRow p (r.t
 module _ (p : Prefix) where
   -- a prefix with no row has none among the changed rows
   no_row-map : {X Y : Type 0} (h : X → Y) (rows : List (Prefix × X)) → NoRow p rows → NoRow p (map (λ e. (e.0, h e.1)) rows)
-  no_row-map h rows none = row_of-map h p rows ∙ ap (option_map h) none
+  no_row-map h rows none = find-map prefix_cmp h p rows ∙ ap (option_map h) none
 
   -- a prefix with no row among the changed rows has none
   no_row-from_map : {X Y : Type 0} (h : X → Y) (rows : List (Prefix × X)) → NoRow p (map (λ e. (e.0, h e.1)) rows) → NoRow p rows
-  no_row-from_map {X} h rows none = by_row (row_of prefix_cmp p rows) (sym (row_of-map h p rows) ∙ none)
+  no_row-from_map {X} h rows none = by_row (row_of prefix_cmp p rows) (sym (find-map prefix_cmp h p rows) ∙ none)
     where
       by_row : (o : Option X) → option_map h o ≡ None → o ≡ None
       by_row None e = refl
@@ -126,7 +116,7 @@ module _ (p : Prefix) where
 
   -- a change of link l that leaves it cheap keeps a world good
   good_links : (w : World) (l : ℕ) (f : Link → Link) → ((k : Link) → CheapLink k → CheapLink (f k)) → Good w → Good (record w { links = changed_at l f w.links })
-  good_links w l f keeps g = record { cheap = each_changed CheapLink f keeps l w.links g.cheap; heard = g.heard }
+  good_links w l f keeps g = record { cheap = changed_keeps CheapLink l f w.links keeps g.cheap; heard = g.heard }
 
   -- a change of the link at a port that leaves it cheap keeps a world good
   good_link : (w : World) (i q : ℕ) (f : End → Link → Link) → ((e : End) (k : Link) → CheapLink k → CheapLink (f e k)) → Good w → Good (changed_link i q f w)
@@ -134,7 +124,7 @@ module _ (p : Prefix) where
 
   -- a change of a router that adds no row of an unheard prefix keeps a world good
   good_router : (w : World) (i : ℕ) (f : Router → Router) → ((r : Router) → HeardRows p r → HeardRows p (f r)) → Good w → Good (changed_router i f w)
-  good_router w i f keeps g = record { cheap = g.cheap; heard = each_changed (HeardRows p) f keeps i w.routers g.heard }
+  good_router w i f keeps g = record { cheap = g.cheap; heard = changed_keeps (HeardRows p) i f w.routers keeps g.heard }
 
   -- a lawful step keeps a world good
   good_step : (w : World) (s : Step) → Lawful w s → Good w → Good (next w s)

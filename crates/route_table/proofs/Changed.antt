@@ -6,11 +6,10 @@ use Rattle.std.specs.FinMap.Entries.{below_all, by_order}
 use Rattle.std.specs.List.{filter}
 use Rattle.std.specs.Option.{option_map_or, option_and_then}
 use Rattle.std.specs.Ordering.{is_lt}
-use Rattle.std.proofs.lemmas.Bool.{and_parts, and_from, eq-eqb}
+use Rattle.std.proofs.lemmas.Bool.{and_parts, and_from}
 use Rattle.std.proofs.lemmas.Cmp.{tied_itself}
 use Rattle.ipv4_prefix.specs.Prefix.{Prefix, prefix_cmp}
 use Rattle.network_model.specs.declared.route.Entry.{Entry}
-use Rattle.network_model.specs.declared.route.Entry.TheVariants.{Local, Via, Unreachable}
 use Rattle.network_model.specs.Step.{entry_eq, has_row, changed_rows}
 use Rattle.route_table.specs.declared.row.Row.{Row}
 use Rattle.route_table.specs.Place.{without}
@@ -18,13 +17,6 @@ use Rattle.route_table.specs.Rows.{control_rows, published_rows, table_of, diffe
 use Rattle.ipv4_prefix.proofs.PrefixOrder.{prefix_cmp_total, prefix_cmp-tied}
 use Rattle.route_table.proofs.Places.{below_tied, below_less, find-at, put_here, put_past, put_below, others_here, others_past, others_below}
 use Rattle.route_table.proofs.InForce.{find-published}
-
--- ---- entries
-
-pub entry_eq-refl : (e : Entry) → entry_eq e e ≡ true
-entry_eq-refl Local = refl
-entry_eq-refl (Via p s) = and_from _ _ (eq-eqb p p refl) (eq-eqb s s refl)
-entry_eq-refl Unreachable = refl
 
 -- ---- the definition's changed rows
 

@@ -9,10 +9,11 @@ use Rattle.std.specs.Ordering.{is_eq}
 use Rattle.std.proofs.lemmas.Bool.{and_parts, and_from}
 use Rattle.ipv4_prefix.specs.Prefix.{Prefix, prefix_cmp, prefix_eq}
 use Rattle.network_model.specs.declared.route.Entry.{Entry}
+use Rattle.network_model.proofs.RowLaws.{find_below}
 use Rattle.route_table.specs.declared.row.Row.{Row}
 use Rattle.route_table.specs.Rows.{published_rows}
 use Rattle.ipv4_prefix.proofs.PrefixOrder.{prefix_cmp_total}
-use Rattle.route_table.proofs.Places.{below_tied, below_less, find_below}
+use Rattle.route_table.proofs.Places.{below_tied, below_less}
 
 -- the published row of one prefix before those of others
 abbrev with_row : Prefix → Option Entry → List (Prefix × Entry) → List (Prefix × Entry)
@@ -35,7 +36,7 @@ find-published p (r ∷ rs) s =
     let parts = and_parts _ _ s in
     let rest = find-published p rs parts.1 in
     elim (prefix_eq p r.0) as (λ t. prefix_eq p r.0 ≡ t → find prefix_cmp p (published_rows (r ∷ rs)) ≡ option_and_then (λ r. r.published) (cond t (Some r.1) (find prefix_cmp p rs))) [
-      | true ↦ λ t. find_here p r.0 (r.1).published (published_rows rs) t (rest ∙ ap (option_and_then (λ (r : Row). r.published)) (find_below prefix_cmp_total p rs (below_tied prefix_cmp_total p r.0 rs (tie p r.0 t) parts.0)))
+      | true ↦ λ t. find_here p r.0 (r.1).published (published_rows rs) t (rest ∙ ap (option_and_then (λ (r : Row). r.published)) (find_below prefix_cmp p rs (below_tied prefix_cmp_total p r.0 rs (tie p r.0 t) parts.0)))
       | false ↦ λ t. find_past p r.0 (r.1).published (published_rows rs) t ∙ rest
     ] refl
 
@@ -45,7 +46,7 @@ published-put p row [] s kept = ap (λ o. with_row p o []) kept
 published-put p row (r ∷ rs) s kept =
     let parts = and_parts _ _ s in
     elim (prefix_cmp p r.0) as (λ o. prefix_cmp p r.0 ≡ o → row.published ≡ option_and_then (λ r. r.published) (cond (is_eq o) (Some r.1) (find prefix_cmp p rs)) → published_rows (by_order o ((p, row) ∷ r ∷ rs) ((r.0, row) ∷ rs) (r ∷ put prefix_cmp p row rs)) ≡ published_rows (r ∷ rs)) [
-      | Less ↦ λ c k. ap (λ o. with_row p o (published_rows (r ∷ rs))) (k ∙ ap (option_and_then (λ (r : Row). r.published)) (find_below prefix_cmp_total p rs (below_less prefix_cmp_total p r.0 rs c parts.0)))
+      | Less ↦ λ c k. ap (λ o. with_row p o (published_rows (r ∷ rs))) (k ∙ ap (option_and_then (λ (r : Row). r.published)) (find_below prefix_cmp p rs (below_less prefix_cmp_total p r.0 rs c parts.0)))
       | Equal ↦ λ c k. ap (λ o. with_row r.0 o (published_rows rs)) k
       | Greater ↦ λ c k. ap (with_row r.0 (r.1).published) (published-put p row rs parts.1 k)
     ] refl kept

@@ -1,4 +1,3 @@
-pub mod MapPut
 pub mod Places
 pub mod PrefixPlaces
 pub mod InForce

@@ -11,11 +11,7 @@ use Rattle.std.specs.Ordering.{is_lt, is_eq, eq_by_cmp, ordering_index, ordering
 use Rattle.std.proofs.lemmas.Bool.{and_parts, and_from, cases_lt}
 use Rattle.std.proofs.lemmas.Cmp.{tied_back}
 use Rattle.std.proofs.lemmas.List.Sorted.{searchable_from_sorted}
-
-less : (r : Ordering) → is_lt r ≡ true → r ≡ Less
-less Less e = refl
-less Equal e = absurd (cc)
-less Greater e = absurd (cc)
+use Rattle.ipv4_prefix.proofs.PrefixOrder.{less_from_test}
 
 module _ {K : Type 0} {R : K → K → Ordering} (o : IsTotalOrder R) where
   turned : (x y : K) (r : Ordering) → R x y ≡ r → R y x ≡ ordering_reverse r
@@ -40,14 +36,14 @@ module _ {K X : Type 0} (R : K → K → Ordering) (q : K) where
 
 module _ {K : Type 0} {R : K → K → Ordering} (o : IsTotalOrder R) where
   pub above_from_below : (x y : K) → is_lt (R x y) ≡ true → R y x ≡ Greater
-  above_from_below x y l = turned o x y Less (less _ l)
+  above_from_below x y l = turned o x y Less (less_from_test _ l)
 
 module _ {K X : Type 0} {R : K → K → Ordering} (o : IsTotalOrder R) where
   -- ---- what the order of the rows says of two places
 
   pub below_at : (k : K) (es : List (K × X)) (i : ℕ) (d : K × X) → below_all R k es ≡ true → i < length es → R k (get_or es i d).0 ≡ Less
   below_at k [] i d b h = absurd (omega arith)
-  below_at k (e ∷ es) zero d b h = less _ (and_parts _ _ b).0
+  below_at k (e ∷ es) zero d b h = less_from_test _ (and_parts _ _ b).0
   below_at k (e ∷ es) (suc i) d b h = below_at k es i d (and_parts _ _ b).1 (omega arith)
 
   sorted_at : (es : List (K × X)) (i : ℕ) (d : K × X) → is_sorted R es ≡ true → suc i < length es → R (get_or es i d).0 (get_or es (suc i) d).0 ≡ Less
@@ -95,7 +91,7 @@ module _ {K X : Type 0} {R : K → K → Ordering} (o : IsTotalOrder R) where
   below_less x y [] l b = refl
   below_less x y (e ∷ es) l b =
       let parts = and_parts _ _ b in
-      and_from _ _ (ap is_lt (o.trans x y e.0 l (less _ parts.0))) (below_less x y es l parts.1)
+      and_from _ _ (ap is_lt (o.trans x y e.0 l (less_from_test _ parts.0))) (below_less x y es l parts.1)
 
   pub below_tied : (x y : K) (es : List (K × X)) → R x y ≡ Equal → below_all R y es ≡ true → below_all R x es ≡ true
   below_tied x y [] t b = refl
@@ -103,12 +99,9 @@ module _ {K X : Type 0} {R : K → K → Ordering} (o : IsTotalOrder R) where
       let parts = and_parts _ _ b in
       and_from _ _ (ap is_lt (o.congr x y e.0 t) ∙ parts.0) (below_tied x y es t parts.1)
 
-  pub find_below : (q : K) (es : List (K × X)) → below_all R q es ≡ true → find R q es ≡ None
-  find_below q es b = find_none es q (none_of_less es q (λ k d h. below_at q es k d b h))
-
   pub put_below : (q : K) (v : X) (es : List (K × X)) → below_all R q es ≡ true → put R q v es ≡ (q, v) ∷ es
   put_below q v [] b = refl
-  put_below q v (e ∷ es) b = put_before R q v e es (less _ (and_parts _ _ b).0)
+  put_below q v (e ∷ es) b = put_before R q v e es (less_from_test _ (and_parts _ _ b).0)
 
   pub others_below : (q : K) (es : List (K × X)) → below_all R q es ≡ true → filter (λ e. not (eq_by_cmp R q e.0)) es ≡ es
   others_below q es b = others_all es q (none_of_less es q (λ k d h. below_at q es k d b h))

@@ -1,33 +1,22 @@
 -- What the place of a prefix says of a look-up and of a change.
-use Rattle.std.proofs.Common.{◌≡◌, ℕ, ◌+◌, ◌<◌, ◌≤◌, Bool, true, false, not, List, Result, Ok, Err, length, get_or, set, if◌then◌else◌, Some, None, refl, sym, ap, ◌∙◌, arith}
-use lib.Dec.{T}
+use Rattle.std.proofs.Common.{◌≡◌, ℕ, ◌+◌, ◌<◌, ◌≤◌, Bool, true, false, not, List, Result, Ok, Err, length, get_or, set, if◌then◌else◌, Some, None, sym, ap, ◌∙◌, arith}
 use Rattle.std.specs.declared.cmp.Ordering.TheVariants.{Equal}
 use Rattle.std.specs.FinMap.{find, put, is_sorted}
-use Rattle.std.specs.FinMap.Entries.{is_sorted-put, is_sorted-where_key}
+use Rattle.std.specs.FinMap.Entries.{is_sorted-where_key}
 use Rattle.std.specs.List.{insert, remove}
 use Rattle.std.specs.List.Sorted.{IsBinarySearchResult, IsSearchInRange}
 use Rattle.std.proofs.lemmas.Cmp.{tied_itself}
 use Rattle.std.proofs.lemmas.List.Edits.{length-insert}
 use Rattle.ipv4_prefix.specs.Prefix.{Prefix, prefix_cmp, prefix_eq}
+use Rattle.network_model.proofs.RowLaws.{to_T, from_T, sorted-put}
 use Rattle.route_table.specs.Place.{IsPlace, without}
 use Rattle.ipv4_prefix.proofs.PrefixOrder.{prefix_cmp_total, prefix_cmp-tied}
 use Rattle.route_table.proofs.Places.{searchable, put-set, put-insert, find-at, find-between, others-remove, others-between}
-
-pub to_T : (b : Bool) → b ≡ true → T b
-to_T true e = tt
-to_T false e = absurd (cc)
-
-from_T : (b : Bool) → T b → b ≡ true
-from_T true h = refl
-from_T false h = absurd h
 
 module _ {X : Type 0} where
   pub place_from_search : (rows : List (Prefix × X)) (p : Prefix) (r : Result ℕ ℕ) → is_sorted prefix_cmp rows ≡ true → IsSearchInRange r (length rows) → IsBinarySearchResult (λ y. prefix_cmp y.0 p) rows r → IsPlace p rows r
   place_from_search rows p (Ok i) s range found = (range, λ d. prefix_cmp-tied _ p (found d))
   place_from_search rows p (Err i) s range found = let parts = found (searchable prefix_cmp_total rows p s) in (range, parts.0, parts.1)
-
-  pub sorted-put : (rows : List (Prefix × X)) (p : Prefix) (v : X) → is_sorted prefix_cmp rows ≡ true → is_sorted prefix_cmp (put prefix_cmp p v rows) ≡ true
-  sorted-put rows p v s = from_T _ (is_sorted-put prefix_cmp prefix_cmp_total p v rows (to_T _ s))
 
   pub sorted-without : (rows : List (Prefix × X)) (p : Prefix) → is_sorted prefix_cmp rows ≡ true → is_sorted prefix_cmp (without p rows) ≡ true
   sorted-without rows p s = from_T _ (is_sorted-where_key prefix_cmp (λ q. not (prefix_eq p q)) rows (to_T _ s))

@@ -5,33 +5,22 @@ use Rattle.std.specs.FinMap.{put, is_sorted}
 use Rattle.std.specs.FinMap.Entries.{below_all, by_order}
 use Rattle.std.specs.List.{filter}
 use Rattle.std.specs.Option.{option_map_or}
-use Rattle.std.proofs.lemmas.Bool.{and_parts, eqb-true}
+use Rattle.std.proofs.lemmas.Bool.{and_parts}
 use Rattle.std.proofs.lemmas.Cmp.{tied_itself}
 use Rattle.std.proofs.lemmas.List.{drop_more}
 use Rattle.ipv4_prefix.specs.Prefix.{Prefix, prefix_cmp}
 use Rattle.network_model.specs.declared.route.Entry.{Entry}
-use Rattle.network_model.specs.declared.route.Entry.TheVariants.{Local, Via, Unreachable}
 use Rattle.network_model.specs.Step.{entry_eq}
+use Rattle.network_model.proofs.EntryLaws.{entry_eq-refl, entry_from_eq}
 use Rattle.route_table.specs.declared.row.Row.{Row}
 use Rattle.route_table.specs.Rows.{control_rows, published_rows, table_of, differs, differing_rows, row_in_force, with_in_force}
 use Rattle.ipv4_prefix.proofs.PrefixOrder.{prefix_cmp_total}
 use Rattle.route_table.proofs.Places.{put_here, put_past, above_from_below}
-use Rattle.route_table.proofs.Changed.{below-differing, entry_eq-refl}
+use Rattle.route_table.proofs.Changed.{below-differing}
 
 -- the rows with each control entry in force
 abbrev pub marked : List (Prefix × Row) → List (Prefix × Row)
 marked rows = map (λ r. (r.0, row_in_force (r.1).control)) rows
-
-entry_from_eq : (e f : Entry) → entry_eq e f ≡ true → e ≡ f
-entry_from_eq Local Local h = refl
-entry_from_eq (Via p s) (Via q t) h = let parts = and_parts _ _ h in λ i. Via (eqb-true p q parts.0 i) (eqb-true s t parts.1 i)
-entry_from_eq Unreachable Unreachable h = refl
-entry_from_eq Local (Via q t) h = absurd (cc)
-entry_from_eq Local Unreachable h = absurd (cc)
-entry_from_eq (Via p s) Local h = absurd (cc)
-entry_from_eq (Via p s) Unreachable h = absurd (cc)
-entry_from_eq Unreachable Local h = absurd (cc)
-entry_from_eq Unreachable (Via q t) h = absurd (cc)
 
 -- a row that does not differ is published already
 same_in_force : (c : Entry) (p : Option Entry) → not (option_map_or (λ e. entry_eq e c) p false) ≡ false → p ≡ Some c

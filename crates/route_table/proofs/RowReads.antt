@@ -7,7 +7,7 @@ use Rattle.network_model.specs.declared.route.Entry.{Entry}
 use Rattle.network_model.specs.Step.{changed_rows}
 use Rattle.route_table.specs.declared.row.Row.{Row}
 use Rattle.route_table.specs.Rows.{TableAndRoom, control_rows, table_of, differing_rows}
-use Rattle.route_table.proofs.MapPut.{find-map}
+use Rattle.network_model.proofs.RowLaws.{find-map}
 use Rattle.route_table.proofs.InForce.{find-published}
 use Rattle.route_table.proofs.Changed.{changed_rows-table_of}
 

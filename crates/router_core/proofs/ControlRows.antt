@@ -2,8 +2,7 @@
 use Rattle.std.specs.Prelude.{◌≡◌, true, List, [], ◌∷◌, map}
 use Rattle.std.specs.FinMap.{put, is_sorted}
 use Rattle.std.specs.FinMap.Entries.{below_all}
-use Rattle.std.specs.declared.cmp.Ordering.{Ordering}
-use Rattle.std.specs.declared.cmp.Ordering.TheVariants.{Less, Equal, Greater}
+use Rattle.std.specs.declared.cmp.Ordering.TheVariants.{Greater}
 use Rattle.std.specs.Ordering.{is_lt, ordering_reverse}
 use Rattle.std.proofs.Common.{refl, ap, ◌∙◌}
 use Rattle.std.proofs.lemmas.Bool.{and_parts, and_from}
@@ -11,16 +10,11 @@ use Rattle.std.proofs.lemmas.Cmp.{tied_itself}
 use Rattle.ipv4_prefix.specs.Prefix.{Prefix, prefix_cmp}
 use Rattle.network_model.specs.declared.route.Entry.{Entry}
 use Rattle.network_model.specs.Publication.{with_rows}
-use Rattle.ipv4_prefix.proofs.PrefixOrder.{prefix_cmp_total}
+use Rattle.ipv4_prefix.proofs.PrefixOrder.{prefix_cmp_total, less_from_test}
 use Rattle.route_table.proofs.Places.{put_here, put_past}
 
-is_less : (o : Ordering) → is_lt o ≡ true → o ≡ Less
-is_less Less e = refl
-is_less Equal e = absurd (cc)
-is_less Greater e = absurd (cc)
-
 above : (p q : Prefix) → is_lt (prefix_cmp p q) ≡ true → prefix_cmp q p ≡ Greater
-above p q e = prefix_cmp_total.antisymm q p ∙ ap ordering_reverse (is_less (prefix_cmp p q) e)
+above p q e = prefix_cmp_total.antisymm q p ∙ ap ordering_reverse (less_from_test (prefix_cmp p q) e)
 
 -- rows of longer or later prefixes leave the first row
 with_rows-past : (r : Prefix × Entry) (rs table : List (Prefix × Entry)) → below_all prefix_cmp r.0 rs ≡ true → with_rows rs (r ∷ table) ≡ r ∷ with_rows rs table

@@ -15,8 +15,7 @@ use Rattle.network_model.specs.Machine.{Machine, reaction, opening_machine}
 use Rattle.network_model.specs.World.{Router, machine_of, neighbours, rows_of, opening_router}
 use Rattle.network_model.specs.Step.{chosen_rows, entry_of, reactions, router_noticing, router_told, router_publishing, router_releasing}
 use Rattle.network_model.specs.Publication.{with_rows}
-use Rattle.route_table.proofs.MapPut.{map-put, sorted-map}
-use Rattle.route_table.proofs.PrefixPlaces.{sorted-put}
+use Rattle.network_model.proofs.RowLaws.{map-put, sorted-map, sorted-put, sorted-rows_of, map-rows_of}
 use Rattle.router_core.specs.Parts.{HasPorts, IsKept, ups, port_ups, ups_after}
 use Rattle.router_core.proofs.Ports.{ups-reaction, ups-neighbours}
 use Rattle.router_core.proofs.ControlRows.{with_rows-rows_by}
@@ -100,14 +99,6 @@ control-told q m r kept =
 
 -- ---- the opening
 
-pub chosen-rows_of : (ports : List Port) (x : Machine) (ps : List Prefix) → chosen_rows ports (rows_of x ps) ≡ rows_of (entry_of ports x) ps
-chosen-rows_of ports x [] = refl
-chosen-rows_of ports x (p ∷ ps) = map-put prefix_cmp (entry_of ports) p x (rows_of x ps) ∙ ap (put prefix_cmp p (entry_of ports x)) (chosen-rows_of ports x ps)
-
-pub sorted-rows_of : {X : Type 0} (x : X) (ps : List Prefix) → is_sorted prefix_cmp (rows_of x ps) ≡ true
-sorted-rows_of x [] = refl
-sorted-rows_of x (p ∷ ps) = sorted-put (rows_of x ps) p x (sorted-rows_of x ps)
-
 all-rows_of : {X : Type 0} (P : Prefix × X → Type 0) (x : X) (ps : List Prefix) → ((q : Prefix) → P (q, x)) → AllByRecursion P (rows_of x ps)
 all-rows_of P x [] each = tt
 all-rows_of P x (p ∷ ps) each = all-put P p x (rows_of x ps) each (all-rows_of P x ps each)
@@ -117,7 +108,7 @@ kept-opening ports own few = record {
   few = few;
   sorted = sorted-rows_of (opening_machine true (neighbours ports)) own;
   same_ports = all-rows_of (HasPorts ports) (opening_machine true (neighbours ports)) own (λ q. ups-neighbours ports);
-  rows = sym (chosen-rows_of ports (opening_machine true (neighbours ports)) own);
+  rows = sym (map-rows_of (entry_of ports) (opening_machine true (neighbours ports)) own);
 }
 
 -- ---- a publication, and a release

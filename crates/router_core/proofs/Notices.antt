@@ -14,16 +14,16 @@ use Rattle.network_model.specs.Machine.{Machine, reaction, changed_at}
 use Rattle.network_model.specs.World.{Table, Gate, Router, machine_of}
 use Rattle.network_model.specs.Step.{chosen_rows, entry_of, held_of, router_noticing, router_told}
 use Rattle.network_model.specs.Publication.{with_rows}
-use Rattle.network_model.proofs.ListLaws.{changed_at_written, map-changed_at}
+use Rattle.network_model.proofs.ListLaws.{changed_at_written, map-changed_at, changed_at-map}
 use Rattle.dual_machine.specs.State.{State}
 use Rattle.dual_machine.specs.Event.{IsTimely}
 use Rattle.dual_machine.specs.Outbox.{most_sent}
-use Rattle.route_table.proofs.MapPut.{sorted-map, find-map}
+use Rattle.network_model.proofs.RowLaws.{sorted-map, find-map}
 use Rattle.route_table.proofs.Places.{find-at}
 use Rattle.ipv4_prefix.proofs.PrefixOrder.{prefix_cmp_total}
 use Rattle.router_core.specs.Parts.{machines_of, router_of, HasPorts, IsKept, ups, port_ups}
 use Rattle.router_core.specs.Router.{IsTimelyAt}
-use Rattle.router_core.proofs.Ports.{length-ups, up_at-ups, map-changed}
+use Rattle.router_core.proofs.Ports.{length-ups, up_at-ups}
 use Rattle.router_core.proofs.Meetings.{reacted, sent, chosen}
 use Rattle.router_core.proofs.Kept.{control-noticing, control-told}
 
@@ -100,7 +100,7 @@ told_parts q m r machines state table gate kept state_is machines_are control pu
 -- ---- the port of a notice, as Rust writes it
 
 pub ups_written : (f : Port → Port) (b : Bool) (q : ℕ) (ports : List Port) (was : Port) → was ≡ get_or ports q was → ((p : Port) → (f p).up ≡ b) → port_ups (set ports q (f was)) ≡ changed_at q (λ _. b) (port_ups ports)
-ups_written f b q ports was read same = ap port_ups (sym (changed_at_written f q ports was read)) ∙ map-changed (λ (p : Port). p.up) f (λ _. b) q ports same
+ups_written f b q ports was read same = ap port_ups (sym (changed_at_written f q ports was read)) ∙ sym (changed_at-map (λ (p : Port). p.up) f (λ _. b) same q ports)
 
 pub ups_kept : (f : Port → Port) (q : ℕ) (ports : List Port) (was : Port) → was ≡ get_or ports q was → ((p : Port) → (f p).up ≡ p.up) → port_ups (set ports q (f was)) ≡ port_ups ports
 ups_kept f q ports was read same = ap port_ups (sym (changed_at_written f q ports was read)) ∙ map-changed_at f (λ p. p.up) q ports (λ p _. same p)

@@ -1,6 +1,5 @@
 -- A router that opens, one of its own prefixes after another, from the last to the first.
 use Rattle.std.specs.Prelude.{◌≡◌, ℕ, suc, ◌-◌, ◌<◌, ◌≤◌, true, List, [], ◌∷◌, map, drop, length, get_or}
-use Rattle.std.specs.Prelude.{Result, Ok, Err, IfOk}
 use Rattle.std.specs.FinMap.{put, is_sorted}
 use Rattle.std.proofs.Common.{refl, sym, ap, ◌∙◌, arith}
 use Rattle.std.proofs.Math.Seq.{drop-cons}
@@ -10,7 +9,7 @@ use Rattle.network_model.specs.declared.network.Port.{Port}
 use Rattle.network_model.specs.Machine.{Machine}
 use Rattle.network_model.specs.World.{neighbours, rows_of}
 use Rattle.dual_machine.specs.State.{State, opening_neighbours}
-use Rattle.route_table.proofs.MapPut.{map-put, sorted-map}
+use Rattle.network_model.proofs.RowLaws.{map-put, sorted-map}
 use Rattle.router_core.specs.Parts.{machines_of}
 
 -- the ports as machines meet them first
@@ -30,8 +29,3 @@ sorted-machines ms rows same sorted = sym (sorted-map prefix_cmp (λ s. s.machin
 
 pub machines_of-put : (p : Prefix) (s : State) (ms : List (Prefix × State)) → machines_of (put prefix_cmp p s ms) ≡ put prefix_cmp p s.machine (machines_of ms)
 machines_of-put p s ms = map-put prefix_cmp (λ x. x.machine) p s ms
-
--- what follows for the value, where there is one
-pub IfOk-then : {T E : Type 0} (r : Result T E) (P Q : T → Type 0) → ((x : T) → P x → Q x) → IfOk r P → IfOk r Q
-IfOk-then (Ok x) P Q onward p = onward x p
-IfOk-then (Err e) P Q onward p = tt

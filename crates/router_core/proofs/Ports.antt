@@ -1,7 +1,8 @@
 -- The machines of a router have its ports, up and down as the notices said.
-use Rattle.std.specs.Prelude.{◌≡◌, ℕ, zero, suc, Bool, true, false, List, [], ◌∷◌, map, length, Option, Some, None, slice_get, option_map}
+use Rattle.std.specs.Prelude.{◌≡◌, ℕ, Bool, true, false, List, [], ◌∷◌, length, Option, Some, None, slice_get, option_map}
 use Rattle.std.specs.Option.{option_map_or}
 use Rattle.std.proofs.Common.{refl, sym, ap, ◌∙◌}
+use Rattle.std.proofs.lemmas.List.{length-map}
 use Rattle.std.proofs.lemmas.Option.{slice_get-map}
 use Rattle.network_model.specs.declared.machine.Event.{Event}
 use Rattle.network_model.specs.declared.machine.Event.TheVariants.{Message, Up, Down, Cost}
@@ -10,19 +11,13 @@ use Rattle.network_model.specs.declared.network.Port.{Port}
 use Rattle.network_model.specs.Machine.{Machine, changed_at, records_after, reaction}
 use Rattle.network_model.specs.World.{neighbours}
 use Rattle.router_core.specs.Parts.{ups, port_ups, ups_after}
-use Rattle.network_model.proofs.ListLaws.{map-changed_at}
+use Rattle.network_model.proofs.ListLaws.{map-changed_at, changed_at-map}
 use Rattle.network_model.proofs.RecordsLaws.{reaction-keeps}
-
--- a change at one place, seen through a function
-pub map-changed : {A B : Type 0} (f : A → B) (g : A → A) (h : B → B) (k : ℕ) (xs : List A) → ((x : A) → f (g x) ≡ h (f x)) → map f (changed_at k g xs) ≡ changed_at k h (map f xs)
-map-changed f g h k [] same = refl
-map-changed f g h zero (x ∷ xs) same = ap (λ y. y ∷ map f xs) (same x)
-map-changed f g h (suc k) (x ∷ xs) same = ap (λ ys. f x ∷ ys) (map-changed f g h k xs same)
 
 pub ups-records_after : (e : Event) (ns : List Neighbour) → ups (records_after e ns) ≡ ups_after e (ups ns)
 ups-records_after (Message q kind value) ns = map-changed_at _ (λ n. n.up) q ns (λ n _. refl)
-ups-records_after (Up q cost) ns = map-changed (λ (n : Neighbour). n.up) (λ n. record { up = true; cost = cost; reported = 4294967295 }) (λ _. true) q ns (λ n. refl)
-ups-records_after (Down q) ns = map-changed (λ (n : Neighbour). n.up) (λ n. record { up = false; cost = n.cost; reported = n.reported }) (λ _. false) q ns (λ n. refl)
+ups-records_after (Up q cost) ns = sym (changed_at-map (λ (n : Neighbour). n.up) (λ n. record { up = true; cost = cost; reported = 4294967295 }) (λ _. true) (λ n. refl) q ns)
+ups-records_after (Down q) ns = sym (changed_at-map (λ (n : Neighbour). n.up) (λ n. record { up = false; cost = n.cost; reported = n.reported }) (λ _. false) (λ n. refl) q ns)
 ups-records_after (Cost q cost) ns = map-changed_at _ (λ n. n.up) q ns (λ n _. refl)
 
 pub ups-reaction : (m : Machine) (e : Event) → ups (reaction m e).machine.ports ≡ ups_after e (ups m.ports)
@@ -30,10 +25,10 @@ ups-reaction m e = ap ups (reaction-keeps m e).ports ∙ ups-records_after e m.p
 
 -- what a router's ports become with an event
 pub ups-come_up : (q session cost : ℕ) (ports : List Port) → port_ups (changed_at q (λ p. record { up = true; session = session; cost = cost }) ports) ≡ changed_at q (λ _. true) (port_ups ports)
-ups-come_up q session cost ports = map-changed (λ (p : Port). p.up) (λ p. record { up = true; session = session; cost = cost }) (λ _. true) q ports (λ p. refl)
+ups-come_up q session cost ports = sym (changed_at-map (λ (p : Port). p.up) (λ p. record { up = true; session = session; cost = cost }) (λ _. true) (λ p. refl) q ports)
 
 pub ups-go_down : (q session : ℕ) (ports : List Port) → port_ups (changed_at q (λ p. record p { up = false; session = session }) ports) ≡ changed_at q (λ _. false) (port_ups ports)
-ups-go_down q session ports = map-changed (λ (p : Port). p.up) (λ p. record p { up = false; session = session }) (λ _. false) q ports (λ p. refl)
+ups-go_down q session ports = sym (changed_at-map (λ (p : Port). p.up) (λ p. record p { up = false; session = session }) (λ _. false) (λ p. refl) q ports)
 
 pub ups-cost : (q session cost : ℕ) (ports : List Port) → port_ups (changed_at q (λ p. record p { session = session; cost = cost }) ports) ≡ port_ups ports
 ups-cost q session cost ports = map-changed_at _ (λ p. p.up) q ports (λ p _. refl)
@@ -45,12 +40,8 @@ ups-neighbours (p ∷ ps) = ap (λ bs. p.up ∷ bs) (ups-neighbours ps)
 
 -- ---- what the machine with the router's ports says of one of them
 
-length-map : {A B : Type 0} (f : A → B) (xs : List A) → length (map f xs) ≡ length xs
-length-map f [] = refl
-length-map f (x ∷ xs) = ap suc (length-map f xs)
-
 pub length-ups : (ns : List Neighbour) (ports : List Port) → ups ns ≡ port_ups ports → length ns ≡ length ports
-length-ups ns ports same = sym (length-map (λ (n : Neighbour). n.up) ns) ∙ ap length same ∙ length-map (λ (p : Port). p.up) ports
+length-ups ns ports same = sym (length-map ns (λ (n : Neighbour). n.up)) ∙ ap length same ∙ length-map ports (λ (p : Port). p.up)
 
 option_map_or-map : {A : Type 0} (f : A → Bool) (o : Option A) → option_map_or f o false ≡ option_map_or (λ b. b) (option_map f o) false
 option_map_or-map f None = refl

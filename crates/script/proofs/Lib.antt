@@ -1,5 +1,4 @@
 pub mod Splits
-pub mod Numbers
 pub mod NameTexts
 pub mod NameNumbers
 pub mod ReadLines

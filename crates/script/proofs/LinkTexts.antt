@@ -1,6 +1,7 @@
 -- The words of a link's line.
 use Rattle.std.proofs.Common.{◌≡◌, ◌≢◌, ℕ, [], ◌∷◌, decimal, ap, ◌∙◌}
-use Rattle.script.specs.Words.{Text, words_of, Spells}
+use Rattle.decimal_text.specs.Number.{Spells}
+use Rattle.script.specs.Words.{Text, words_of}
 use Rattle.script.specs.Links.{LinkLine}
 
 -- a line of two words and two numbers

@@ -1,21 +1,15 @@
 -- One more line read.
 use Rattle.std.proofs.Common.{◌≡◌, ℕ, ◌+◌, ◌<◌, ◌≤◌, min, inl, inr, List, [], ◌∷◌, ◌++◌, length, get_or, take, Some, String, string_bytes, refl, sym, ap, ◌∙◌, arith, slice_get, None}
-use Rattle.std.specs.List.{AllZip}
 use Rattle.std.proofs.lemmas.Bool.{cases_lt}
 use Rattle.std.proofs.lemmas.List.{take_more, length_push, length-map, take_all}
 use Rattle.std.proofs.lemmas.Option.{slice_get-map, slice_get_read, slice_get_within, get_or_from_slice_get}
+use Rattle.std.proofs.lemmas.Slice.Zip.{all_zipped_more}
 use Rattle.script.specs.Words.{Text}
 use Rattle.script.specs.declared.fault.Fault.{Fault}
 use Rattle.script.specs.declared.place.Key.{Key}
 use Rattle.script.specs.declared.place.Located.{Located}
 use Rattle.script.specs.Reading.{ReadsFirst, StopsHere, IsWhole}
 use Rattle.script.specs.Seen.{texts}
-
-all_zip_push : {A B : Type 0} (R : A → B → Type 0) (xs : List A) (ys : List B) (x : A) (y : B) → AllZip R xs ys → R x y → AllZip R (xs ++ x ∷ []) (ys ++ y ∷ [])
-all_zip_push R [] [] x y all last = (last, tt)
-all_zip_push R [] (b ∷ ys) x y all last = absurd all
-all_zip_push R (a ∷ xs) [] x y all last = absurd all
-all_zip_push R (a ∷ xs) (b ∷ ys) x y all last = (all.0, all_zip_push R xs ys x y all.1 last)
 
 pub reads_none : {X : Type 0} (Says : Text → X → Type 0) (lines : List Text) (items : List X) → items ≡ [] → ReadsFirst Says lines items
 reads_none Says lines items none = rw none tt
@@ -27,7 +21,7 @@ take_line lines i line is =
 pub reads_more : {X : Type 0} (Says : Text → X → Type 0) (lines : List Text) (items : List X) (line : Text) (item : X)
     → ReadsFirst Says lines items → slice_get lines (length items) ≡ Some line → Says line item → ReadsFirst Says lines (items ++ item ∷ [])
 reads_more Says lines items line item reads is says =
-    rw (length_push items item, take_line lines (length items) line is) (all_zip_push Says (take (length items) lines) items line item reads says)
+    rw (length_push items item, take_line lines (length items) line is) (all_zipped_more Says (take (length items) lines) items line item reads says)
 
 -- the line at a place, as its text
 pub text_at : {Z : Type 0} (lines : List (String Z)) (i : ℕ) (line : String Z) → i < length lines → line ≡ get_or lines i line → slice_get (texts lines) i ≡ Some (string_bytes line)

@@ -8,15 +8,9 @@ use metric::BadCost;
 use std::alloc::{AllocError, AllocFailed};
 use thiserror::Error;
 
-/// Why a scenario cannot be read. Its text is its number and name.
+/// Why the lines of a scenario cannot be read. Its text is its number and name.
 #[derive(Clone, Copy, Debug, PartialEq, Eq, Drop, Error)]
 pub enum Fault {
-    /// The text is no TOML document.
-    #[error("40 BadToml")]
-    BadToml,
-    /// A key of the document is missing, unknown, or not an array of strings.
-    #[error("41 BadKey")]
-    BadKey,
     /// A router's name is no name, or was given before.
     #[error("42 BadName")]
     BadName,
@@ -33,7 +27,7 @@ pub enum Fault {
     /// A line of the script is no command, or names a router or a link that is not there.
     #[error("45 BadCommand")]
     BadCommand,
-    /// The file is larger than 4,194,304 bytes, or the script has more than 10,000 commands.
+    /// The script has more than 10,000 commands.
     #[error("46 TooLarge")]
     TooLarge,
     /// A growth was refused.

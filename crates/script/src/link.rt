@@ -8,7 +8,8 @@ ghost use Rattle.script.specs.Seen.{texts};
 use crate::fault::Fault;
 use crate::names::Names;
 use crate::place::{Key, Located};
-use crate::words::{four_words, read_number};
+use crate::words::four_words;
+use decimal_text::read_number;
 use metric::Cost;
 use network_model::LinkSpec;
 

@@ -1,7 +1,7 @@
-//! The words of a line, and the numbers that words spell.
+//! The words of a line.
 
-ghost use Rattle.std.specs.Prelude.{◌≡◌, ◌≢◌, ◌+◌, ℕ, [], ◌∷◌, length, slice_index, IfSome, IfNone, IsTrue, ◌↔◌, Some};
-ghost use Rattle.script.specs.Words.{Text, words_of, Spells};
+ghost use Rattle.std.specs.Prelude.{◌≡◌, ◌≢◌, [], ◌∷◌, IfSome, IfNone};
+ghost use Rattle.script.specs.Words.{Text, words_of};
 
 /// The first word of a line and what follows its space; nothing where the line is one word.
 pub(crate) fn first_word(line: &str) -> Option<(&str, &str)>
@@ -32,24 +32,4 @@ pub(crate) fn four_words(line: &str) -> Option<(&str, &str, &str, &str)>
     let (second, rest) = first_word(rest)?;
     let (third, fourth) = two_words(rest)?;
     Some((first, second, third, fourth))
-}
-
-/// The number that a word spells in decimal digits, without a sign or a leading zero, where it is
-/// at most 4294967295.
-pub(crate) fn read_number(word: &str) -> Option<u32>
-    ensures read { IfSome result (Spells word.now) }
-    ensures every { (n : ℕ) → Spells word.now n → result ≡ Some n }
-{
-    if !has_canonical_start(word) {
-        return None;
-    }
-    word.parse().ok()
-}
-
-// Whether the word has neither a sign nor a leading zero, which `parse` would take.
-fn has_canonical_start(word: &str) -> bool
-    ensures { IsTrue result
-        ↔ ((slice_index word.now 0 ≢ 43) × (slice_index word.now 0 ≡ 48 → length word.now ≡ 1)) }
-{
-    !word.starts_with('+') && (word.len() == 1 || !word.starts_with('0'))
 }

@@ -4,5 +4,6 @@
 mod status;
 mod words;
 
+pub use clap::error::ErrorKind;
 pub use status::exit_status;
 pub use words::{Words, read_words};

@@ -2,6 +2,8 @@
 use Rattle.std.specs.Prelude.{◌≡◌, ℕ, suc, ◌+◌, ◌<◌, ◌≤◌, Bool, true, false, cond, not, ◌&&◌, ◌||◌, ◌==◌, nat_lt, nat_le, if◌then◌else◌, List, [], ◌∷◌, ◌++◌, length, filter, None}
 use Rattle.std.proofs.Common.{refl, sym, ap, subst, ◌∙◌, arith, length-append, append_assoc}
 use Rattle.std.proofs.lemmas.Bool.{eqb-true, true≢false, ltb-true}
+use Rattle.std.proofs.lemmas.List.{append-nil}
+use Rattle.std.proofs.lemmas.List.Elements.{filter-append}
 use Rattle.std.proofs.lemmas.List.Sums.{length-filter}
 use Rattle.network_model.specs.declared.network.End.TheVariants.{A, B}
 use Rattle.network_model.specs.declared.network.LinkSpec.{LinkSpec}
@@ -9,8 +11,7 @@ use Rattle.network_model.specs.declared.network.NetworkFault.{NetworkFault}
 use Rattle.network_model.specs.declared.network.NetworkFault.TheVariants.{BadRouters, BadLink, TooManyLinks}
 use Rattle.network_model.specs.World.{Network, places_from}
 use Rattle.network_model.specs.Network.{first_cause, link_causes, owner_causes, most_routers, is_bad_link, is_link_too_many, touches, degree, most_ports, most_links, network_fault}
-use Rattle.network_model.proofs.ListLaws.{filter-append}
-use Rattle.world.proofs.Faults.{first_cause-part}
+use Rattle.network_model.proofs.Causes.{first_none, none_in_both}
 
 -- ---- a router has a port for each link that touches it
 
@@ -71,16 +72,8 @@ within_one i before s few within = by_ends (s.a == i) refl (s.b == i) refl
 
 -- ---- all links
 
-first_none : {X : Type 0} (b : Bool) (x : X) (cs : List (Bool × X)) → first_cause ((b, x) ∷ cs) ≡ None → (b ≡ false) × (first_cause cs ≡ None)
-first_none true x cs e = absurd (cc)
-first_none false x cs e = (refl, e)
-
 within_all : (routers i : ℕ) (before ss : List LinkSpec) → first_cause (link_causes routers before ss) ≡ None → degree i before ≤ most_ports → degree i (before ++ ss) ≤ most_ports
 within_all routers i before [] none within = subst (λ xs. degree i xs ≤ most_ports) (sym (append-nil before)) within
-  where
-    append-nil : (xs : List LinkSpec) → xs ++ [] ≡ xs
-    append-nil [] = refl
-    append-nil (x ∷ xs) = ap (λ ys. x ∷ ys) (append-nil xs)
 within_all routers i before (s ∷ ss) none within =
     let onward : List (Bool × NetworkFault) = link_causes routers (before ++ s ∷ []) ss in
     let fine : (is_bad_link routers before s ≡ false) × (first_cause ((is_link_too_many before s, TooManyLinks (length before)) ∷ onward) ≡ None)
@@ -95,7 +88,7 @@ pub few_ports : (n : Network) (i : ℕ) → network_fault n ≡ None → length 
 few_ports n i none =
     let parts : (not (nat_lt 0 n.routers && nat_le n.routers most_routers) ≡ false) × (first_cause (link_causes n.routers [] n.links ++ owner_causes n.routers [] n.owners) ≡ None)
     = first_none (not (nat_lt 0 n.routers && nat_le n.routers most_routers)) BadRouters (link_causes n.routers [] n.links ++ owner_causes n.routers [] n.owners) none in
-    let links : first_cause (link_causes n.routers [] n.links) ≡ None = first_cause-part (link_causes n.routers [] n.links) (owner_causes n.routers [] n.owners) parts.1 in
+    let links : first_cause (link_causes n.routers [] n.links) ≡ None = (none_in_both (link_causes n.routers [] n.links) (owner_causes n.routers [] n.owners) parts.1).0 in
     let degrees : degree i ([] ++ n.links) ≤ most_ports = within_all n.routers i [] n.links links (omega arith) in
     let ports : length (places_from 0 i n.links) ≡ degree i n.links = ports-degree i n.links in
     omega (arith, degrees, ports)
@@ -122,5 +115,5 @@ pub few_links : (n : Network) → network_fault n ≡ None → length n.links �
 few_links n none =
     let parts : (not (nat_lt 0 n.routers && nat_le n.routers most_routers) ≡ false) × (first_cause (link_causes n.routers [] n.links ++ owner_causes n.routers [] n.owners) ≡ None)
     = first_none (not (nat_lt 0 n.routers && nat_le n.routers most_routers)) BadRouters (link_causes n.routers [] n.links ++ owner_causes n.routers [] n.owners) none in
-    let within : 0 + length n.links ≤ most_links = length_within n.routers [] n.links (first_cause-part (link_causes n.routers [] n.links) (owner_causes n.routers [] n.owners) parts.1) (omega arith) in
+    let within : 0 + length n.links ≤ most_links = length_within n.routers [] n.links (none_in_both (link_causes n.routers [] n.links) (owner_causes n.routers [] n.owners) parts.1).0 (omega arith) in
     omega (arith, within)

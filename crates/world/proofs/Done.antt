@@ -1,8 +1,9 @@
 -- What the answer of a call on a link, a port or a router says of the step that it is done for.
-use Rattle.std.specs.Prelude.{◌≡◌, ℕ, zero, suc, ◌<◌, Bool, true, false, not, nat_lt, List, [], ◌∷◌, length, Option, Some, None, Result, Ok, Err, slice_get, is_none, is_ok, option_and_then, option_map, MatchOption, IfOk, IfErr, OnOk, OnSome}
+use Rattle.std.specs.Prelude.{◌≡◌, ℕ, ◌<◌, Bool, true, false, not, nat_lt, List, [], ◌∷◌, length, Option, Some, None, Result, Ok, Err, slice_get, is_none, is_ok, option_and_then, option_map, MatchOption, IfOk, IfErr, OnOk, OnSome}
 use Rattle.std.specs.Option.{option_map_or, ok_or}
-use Rattle.std.proofs.Common.{refl, sym, ap, subst, ◌∙◌, arith}
+use Rattle.std.proofs.Common.{refl, sym, ap, subst, ◌∙◌}
 use Rattle.std.proofs.lemmas.Bool.{true≢false}
+use Rattle.std.proofs.lemmas.Option.{slice_get_within}
 use Rattle.metric.specs.Distance.{IsCost}
 use Rattle.network_model.specs.declared.item.Item.{Item}
 use Rattle.network_model.specs.declared.item.Held.{Held}
@@ -16,7 +17,7 @@ use Rattle.network_model.specs.Machine.{changed_at}
 use Rattle.network_model.specs.World.{Side, Link, Router, World, place_at, link_at, side}
 use Rattle.network_model.specs.Network.{first_cause}
 use Rattle.network_model.specs.Step.{CanBeAsked, next, refusal, is_up, last_session, front_at, release_at, link_come_up, link_gone_down, with_cost, with_message, with_front_taken, with_delivered, with_released, changed_router, router_accepting, router_releasing}
-use Rattle.network_model.proofs.ListLaws.{None_not_Some, Some_injective}
+use Rattle.network_model.proofs.ListLaws.{None_not_Some, Some_injective, element_there}
 use Rattle.network_model.proofs.Lawful.{refusal_to_Lawful}
 use Rattle.link_fifo.specs.declared.refusal.LinkRefusal.{LinkRefusal}
 use Rattle.link_fifo.specs.Refusals.{refusal_to_come_up, refusal_to_change, front_of, sent_in}
@@ -97,26 +98,11 @@ set_cost-keeps w i q p cost links costs port none is =
 
 -- ---- a port that is asked for
 
--- what stands at a place of a list
-standing : {A : Type 0} (xs : List A) (i : ℕ) → i < length xs → (x : A) × (slice_get xs i ≡ Some x)
-standing [] i below = absurd (omega arith)
-standing (x ∷ xs) zero below = (x, refl)
-standing (x ∷ xs) (suc i) below = standing xs i (omega arith)
-
--- a place at which something stands
-pub below : {A : Type 0} (xs : List A) (i : ℕ) {x : A} → slice_get xs i ≡ Some x → i < length xs
-below [] i is = absurd (None_not_Some is)
-below (x ∷ xs) zero is = omega arith
-below (x ∷ xs) (suc i) is = by_rest (below xs i is)
-  where
-    by_rest : i < length xs → suc i < length (x ∷ xs)
-    by_rest less = omega arith
-
 -- a port whose place is known
 port_there : (w : World) (i q : ℕ) (p : Place) → IsKept w → i < length w.routers → place_at w i q ≡ Some p → IsPort w i q p
 port_there w i q p h below at =
-    let r : _ = standing w.routers i below in
-    let k : _ = standing w.links p.link (h.links_known i q p at) in
+    let r : _ = element_there w.routers i below in
+    let k : _ = element_there w.links p.link (h.links_known i q p at) in
     record { router = r.0; is_router = r.1; link = k.0; is_link = k.1; is_place = at }
 
 pub port_answer : (w : World) (i q : ℕ) (r : Result Place Refusal) → IsKept w → i < length w.routers → r ≡ ok_or (place_at w i q) Refusal.UnknownLink → IfOk r (λ p. IsPort w i q p)
@@ -130,7 +116,7 @@ pub port_cause : (w : World) (i q : ℕ) (r : Result Place Refusal) → i < leng
 port_cause w i q r below is = subst (λ a. IfErr a (λ e. port_refusal w i q ≡ Some e)) (sym is) (by_place (place_at w i q) refl)
   where
     router_there : is_none (slice_get w.routers i) ≡ false
-    router_there = ap is_none (standing w.routers i below).1
+    router_there = ap is_none (element_there w.routers i below).1
 
     by_place : (o : Option Place) → place_at w i q ≡ o → IfErr (ok_or o Refusal.UnknownLink) (λ e. port_refusal w i q ≡ Some e)
     by_place None at = ap (λ b. first_cause ((b, Refusal.UnknownRouter) ∷ (is_none (link_at w i q), Refusal.UnknownLink) ∷ [])) router_there
@@ -163,11 +149,11 @@ port_known w i q p r h is_router at = by_places (slice_get w.places i) refl at
   where
     by_places : (o : Option (List Place)) → slice_get w.places i ≡ o → option_and_then (λ (ps : List Place). slice_get ps q) o ≡ Some p → q < length r.ports
     by_places None is none = absurd (None_not_Some none)
-    by_places (Some ps) is some = subst (λ n. q < n) (sym (h.ports_placed i r ps is_router is)) (below ps q some)
+    by_places (Some ps) is some = subst (λ n. q < n) (sym (h.ports_placed i r ps is_router is)) (slice_get_within ps q p some)
 
 pub can_take : (w : World) (i q : ℕ) (p : Place) (r : Router) (item : Item) → IsKept w → IsPort w i q p → slice_get w.routers i ≡ Some r → front_of p.end (slice_get w.links p.link) ≡ Ok item → CanTake r.ports q item
 can_take w i q p r item h port is_router answer =
-    let x : _ = standing r.ports q (port_known w i q p r h is_router port.is_place) in
+    let x : _ = element_there r.ports q (port_known w i q p r h is_router port.is_place) in
     takes r.ports q x.0 _ _ item x.1 (front_is p.end (slice_get w.links p.link) port.link item port.is_link answer) (h.inboxes i q r x.0 p port.link is_router x.1 port.is_place port.is_link)
 
 -- the item that the port takes next

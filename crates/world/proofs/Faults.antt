@@ -1,32 +1,18 @@
 -- The faults of a network, one link or prefix after another.
-use Rattle.std.specs.Prelude.{◌≡◌, ℕ, zero, suc, ◌+◌, ◌<◌, ◌≤◌, Bool, true, false, not, ◌&&◌, ◌==◌, nat_le, List, [], ◌∷◌, ◌++◌, take, drop, length, get_or, Some, None, if◌then◌else◌}
+use Rattle.std.specs.Prelude.{◌≡◌, ℕ, suc, ◌+◌, ◌<◌, ◌≤◌, Bool, true, false, not, ◌&&◌, ◌==◌, nat_le, List, [], ◌∷◌, ◌++◌, take, drop, length, get_or, Some, None, if◌then◌else◌}
 use Rattle.std.proofs.Common.{refl, sym, ap, subst, ◌∙◌, arith, add-one}
 use Rattle.std.proofs.lemmas.Bool.{eqb-true, eq-eqb, true≢false, lt-ltb, le-leb}
 use Rattle.std.proofs.Math.Seq.{take-suc, drop-cons}
-use Rattle.std.proofs.lemmas.List.{length-take-le}
+use Rattle.std.proofs.lemmas.List.{length-take-le, drop_all, get_or_default}
 use Rattle.ipv4_prefix.specs.Prefix.{Prefix}
 use Rattle.network_model.specs.declared.network.LinkSpec.{LinkSpec}
 use Rattle.network_model.specs.declared.network.NetworkFault.{NetworkFault}
 use Rattle.network_model.specs.declared.network.NetworkFault.TheVariants.{BadRouters, BadLink, TooManyLinks, BadOwner}
 use Rattle.network_model.specs.Network.{first_cause, link_causes, owner_causes, is_bad_link, is_link_too_many, is_bad_owner, network_fault, most_routers}
+use Rattle.network_model.proofs.Causes.{first_cause-some, first_cause-none}
 use Rattle.world.specs.Parts.{network_of}
 
 -- ---- causes before others
-
-pub first_cause-some : {X : Type 0} (cs ds : List (Bool × X)) (x : X) → first_cause cs ≡ Some x → first_cause (cs ++ ds) ≡ Some x
-first_cause-some [] ds x e = absurd (cc)
-first_cause-some ((true, y) ∷ cs) ds x e = e
-first_cause-some ((false, y) ∷ cs) ds x e = first_cause-some cs ds x e
-
-pub first_cause-none : {X : Type 0} (cs ds : List (Bool × X)) → first_cause cs ≡ None → first_cause (cs ++ ds) ≡ first_cause ds
-first_cause-none [] ds e = refl
-first_cause-none ((true, y) ∷ cs) ds e = absurd (cc)
-first_cause-none ((false, y) ∷ cs) ds e = first_cause-none cs ds e
-
-pub first_cause-part : {X : Type 0} (cs ds : List (Bool × X)) → first_cause (cs ++ ds) ≡ None → first_cause cs ≡ None
-first_cause-part [] ds e = refl
-first_cause-part ((true, y) ∷ cs) ds e = absurd (cc)
-first_cause-part ((false, y) ∷ cs) ds e = first_cause-part cs ds e
 
 -- two tests before the others
 two_tests : {X : Type 0} (a b : Bool) (x y : X) (cs : List (Bool × X)) → a ≡ true → first_cause ((a, x) ∷ (b, y) ∷ cs) ≡ Some x
@@ -67,20 +53,9 @@ module _ (routers : ℕ) (links : List LinkSpec) (i : ℕ) (link : LinkSpec) (be
       ∙ ap (λ n. first_cause (link_causes_from routers links n)) (sym (add-one i))
 
 pub link_causes_from-end : (routers : ℕ) (links : List LinkSpec) (i : ℕ) → length links ≤ i → first_cause (link_causes_from routers links i) ≡ None
-link_causes_from-end routers links i past = ap (λ xs. first_cause (link_causes routers (take i links) xs)) (drop_all links i past)
-  where
-    drop_all : (xs : List LinkSpec) (k : ℕ) → length xs ≤ k → drop k xs ≡ []
-    drop_all [] zero h = refl
-    drop_all [] (suc k) h = refl
-    drop_all (x ∷ xs) zero h = absurd (omega arith)
-    drop_all (x ∷ xs) (suc k) h = drop_all xs k (omega arith)
+link_causes_from-end routers links i past = ap (λ xs. first_cause (link_causes routers (take i links) xs)) (drop_all i links past)
 
 -- what holds of each element before one, and of that one, holds of each before the next
-get_or_any : {A : Type 0} (xs : List A) (k : ℕ) (d e : A) → k < length xs → get_or xs k d ≡ get_or xs k e
-get_or_any [] k d e h = absurd (omega arith)
-get_or_any (x ∷ xs) zero d e h = refl
-get_or_any (x ∷ xs) (suc k) d e h = get_or_any xs k d e (omega arith)
-
 pub all_more : {A : Type 0} (P : A → Type 0) (xs : List A) (i : ℕ) (x : A) → i < length xs → x ≡ get_or xs i x → P x
     → ((k : ℕ) (d : A) → k < i → P (get_or xs k d)) → (k : ℕ) (d : A) → k < i + 1 → P (get_or xs k d)
 all_more {A} P xs i x below at here before k d h = by_test (k == i) refl
@@ -88,7 +63,7 @@ all_more {A} P xs i x below at here before k d h = by_test (k == i) refl
     by_test : (b : Bool) → (k == i) ≡ b → P (get_or xs k d)
     by_test true same =
         let is : k ≡ i = eqb-true k i same in
-        subst P (at ∙ get_or_any xs i x d below ∙ ap (λ n. get_or xs n d) (sym is)) here
+        subst P (at ∙ get_or_default xs i x d below ∙ ap (λ n. get_or xs n d) (sym is)) here
     by_test false differ =
         let apart : k ≡ i → ⊥ = λ e. true≢false (sym (eq-eqb k i e) ∙ differ) in
         before k d (omega (arith, apart))
@@ -114,13 +89,7 @@ module _ (routers : ℕ) (owners : List (Prefix × ℕ)) (i : ℕ) (owner : Pref
       ∙ ap (λ n. first_cause (owner_causes_from routers owners n)) (sym (add-one i))
 
 pub owner_causes_from-end : (routers : ℕ) (owners : List (Prefix × ℕ)) (i : ℕ) → length owners ≤ i → first_cause (owner_causes_from routers owners i) ≡ None
-owner_causes_from-end routers owners i past = ap (λ xs. first_cause (owner_causes routers (take i owners) xs)) (drop_all owners i past)
-  where
-    drop_all : (xs : List (Prefix × ℕ)) (k : ℕ) → length xs ≤ k → drop k xs ≡ []
-    drop_all [] zero h = refl
-    drop_all [] (suc k) h = refl
-    drop_all (x ∷ xs) zero h = absurd (omega arith)
-    drop_all (x ∷ xs) (suc k) h = drop_all xs k (omega arith)
+owner_causes_from-end routers owners i past = ap (λ xs. first_cause (owner_causes routers (take i owners) xs)) (drop_all i owners past)
 
 -- ---- the whole network
 

@@ -1,6 +1,7 @@
 -- What stands on a link towards a port leads to the link, whatever is done to the link.
-use Rattle.std.specs.Prelude.{◌≡◌, ℕ, ◌+◌, Bool, true, false, cond, ◌&&◌, ◌==◌, List, [], ◌∷◌, ◌++◌, filter}
+use Rattle.std.specs.Prelude.{◌≡◌, ℕ, ◌+◌, Bool, true, false, cond, ◌==◌, List, [], ◌∷◌, ◌++◌, filter}
 use Rattle.std.proofs.Common.{refl, sym, subst}
+use Rattle.std.proofs.lemmas.Bool.{and_parts}
 use Rattle.network_model.specs.declared.item.Item.{Item}
 use Rattle.network_model.specs.declared.item.Held.{Held}
 use Rattle.network_model.specs.declared.item.Message.{Message}
@@ -69,14 +70,10 @@ put-keeps m End.A k up End.B port h = subst (λ b. LeadsTo port b ((k.b).inbox +
 put-keeps m End.B k up End.A port h = subst (λ b. LeadsTo port b ((k.a).inbox ++ Item.Message m ∷ [])) (sym up) (leads_message port m (k.a).inbox (leads_along port k.up (k.a).inbox up h))
 put-keeps m End.B k up End.B port h = h
 
-both_true : (a b : Bool) → (a && b) ≡ true → a ≡ true
-both_true true b e = refl
-both_true false b e = e
-
 -- or is discarded
 pub with_message-keeps : (h : Held) (e : End) (k : Link) → KeepsLeading (with_message h e) k
 with_message-keeps h e k = by_test (is_up_in h.session k) refl
   where
     by_test : (b : Bool) → is_up_in h.session k ≡ b → KeepsLeading (λ l. cond b (changed_side (other e) (with_item (Item.Message h.message)) l) l) k
-    by_test true live = put-keeps h.message e k (both_true k.up (k.session == h.session) live)
+    by_test true live = put-keeps h.message e k (and_parts k.up (k.session == h.session) live).0
     by_test false dead = λ d port leads. leads

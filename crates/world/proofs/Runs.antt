@@ -7,16 +7,17 @@ use Rattle.network_model.specs.declared.network.End.{End}
 use Rattle.network_model.specs.declared.step.Step.{Step}
 use Rattle.network_model.specs.declared.step.Step.TheVariants.{LinkUp, LinkDown, SetCost, Deliver, Publish, Release}
 use Rattle.network_model.specs.Machine.{changed_at}
-use Rattle.network_model.specs.World.{Link, Router, Network, World, place_at, opening, opening_router_of}
+use Rattle.network_model.specs.World.{Link, Router, Network, World, opening, opening_router_of}
 use Rattle.network_model.specs.Step.{Lawful, next, changed_router, changed_link, with_cost, with_front_taken, with_message, with_delivered, with_released, front_at, release_at, router_accepting, router_publishing, router_releasing}
 use Rattle.network_model.specs.Run.{Runs}
 use Rattle.network_model.proofs.ListLaws.{option_map_or-ind}
+use Rattle.network_model.proofs.WorldLaws.{routers-changed_link}
 use Rattle.world.specs.Steps.{HasRoomForSteps}
 
 -- a run with one lawful step more
-pub one_more : (w : World) (ss : List Step) (v : World) (s : Step) → Runs w ss v → Lawful v s → Runs w (ss ++ s ∷ []) (next v s)
-one_more w [] v s runs lawful = (subst (λ x. Lawful x s) (sym runs) lawful, ap (λ x. next x s) runs)
-one_more w (t ∷ ts) v s runs lawful = (runs.0, one_more (next w t) ts v s runs.1 lawful)
+pub with_last_step : (w : World) (ss : List Step) (v : World) (s : Step) → Runs w ss v → Lawful v s → Runs w (ss ++ s ∷ []) (next v s)
+with_last_step w [] v s runs lawful = (subst (λ x. Lawful x s) (sym runs) lawful, ap (λ x. next x s) runs)
+with_last_step w (t ∷ ts) v s runs lawful = (runs.0, with_last_step (next w t) ts v s runs.1 lawful)
 
 -- ---- room
 
@@ -43,7 +44,7 @@ room-changed_router n i f w same room =
     all-changed_at (λ r. r.generation + n < 2 ^ 64) (λ r. r.generation + n < 2 ^ 64) f i w.routers (λ r h. h) (λ r h. subst (λ g. g + n < 2 ^ 64) (sym (same r)) h) room
 
 room-changed_link : (n i q : ℕ) (f : End → Link → Link) (w : World) → HasRoomForSteps n w → HasRoomForSteps n (changed_link i q f w)
-room-changed_link n i q f w room = option_map_or-ind (HasRoomForSteps n) (λ p. record w { links = changed_at p.link (f p.end) w.links }) (place_at w i q) w room (λ p _. room)
+room-changed_link n i q f w room = subst (All (λ (r : Router). r.generation + n < 2 ^ 64)) (sym (routers-changed_link i q f w)) room
 
 generation-accepting : (q : ℕ) (item : Item) (r : Router) → (router_accepting q item r).generation ≡ r.generation
 generation-accepting q (Item.Up session cost) r = refl

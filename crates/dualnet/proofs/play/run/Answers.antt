@@ -1,7 +1,8 @@
 use Rattle.std.proofs.Common.{string_bytes, refl, IfSome}
 use Rattle.dualnet.specs.Faults.{unplaced}
 use Rattle.dualnet.specs.Scenarios.{StopsFor}
-use Rattle.dualnet.proofs.Stops.{at_err, stops_run, stops_unread, stops_at_command, ends, IsOpen}
+use Rattle.script.proofs.Exits.{at_err}
+use Rattle.dualnet.proofs.Stops.{stops_run, stops_unread, stops_at_command, ends, IsOpen}
 use Rattle.dualnet.proofs.play.run.Goals as goal
 
 pub returns-in_err-text-clause-fault : goal.returns-in_err-text-clause-fault

@@ -16,4 +16,4 @@ returns-clause-fault g c =
     rw (← c.take-reader.ensures.inner) (read_other (g.R.Read.remaining c.take-reader.result.inner) c.take-reader.result.limit c.new-bytes.result.items c.read_to_end.new.buf.items (λ xs. ¬ (IsUtf8 xs)) c.new-bytes.ensures.items c.in_default.ensures.bytes lt bad)
 
 pub returns-in-Err-clause-fault : goal.returns-in-Err-clause-fault
-returns-in-Err-clause-fault g c = read_any (g.R.Read.remaining c.args.reader) (λ bytes. IsUnread bytes c.read_failure.result) c.read_failure.ensures
+returns-in-Err-clause-fault g c = read_any (g.R.Read.remaining c.args.reader) (λ bytes. IsUnread bytes c.read_failure.result) c.read_failure.ensures.unread

@@ -1,11 +1,12 @@
 use Rattle.std.proofs.Common.{◌≡◌, ℕ, List, ◌<◌, ◌≤◌, length, get_or, map, sym, ap, subst, ◌∙◌}
 use Rattle.std.specs.Prelude.{filter, ◌==◌, IfOk}
+use Rattle.std.proofs.lemmas.List.{length-map}
 use Rattle.network_model.specs.declared.network.LinkSpec.{LinkSpec}
 use Rattle.network_model.specs.declared.network.Place.{Place}
 use Rattle.network_model.specs.declared.network.Port.{Port}
 use Rattle.network_model.specs.World.{Network, places_from, opening_port, opening_link, opening_router, owned}
 use Rattle.world.proofs.Degrees.{few_ports}
-use Rattle.world.proofs.Openings.{length-over, place_known}
+use Rattle.world.proofs.Openings.{place_known}
 use Rattle.world.proofs.opening.opening_router.Goals as goal
 
 -- the places are those of the definition
@@ -24,7 +25,7 @@ ports_are n i links places ports by_places by_links by_network =
 pub new-requires : goal.new-requires
 new-requires c =
     subst (λ ps. length ps ≤ 32) (sym (ports_are c.args.network.now c.args.router c.links-links.result.now c.deref.result.now (c.in_ok-ports.ports).items c.in_ok-ports.ensures (c.deref.ensures.value ∙ c.in_ok-places.ensures) c.links-links.ensures.links))
-    (subst (λ n. n ≤ 32) (sym (length-over (opening_port (map opening_link (c.args.network.now).links)) (places_from 0 c.args.router (c.args.network.now).links)))
+    (subst (λ n. n ≤ 32) (sym (length-map (places_from 0 c.args.router (c.args.network.now).links) (opening_port (map opening_link (c.args.network.now).links))))
     (few_ports c.args.network.now c.args.router c.links-links.ensures.valid.no_fault))
 
 pub returns : goal.returns

@@ -5,7 +5,7 @@ use Rattle.network_model.specs.declared.step.Step.{Step}
 use Rattle.network_model.specs.Step.{Lawful}
 use Rattle.network_model.specs.Run.{Runs}
 use Rattle.fabric.specs.Fabric.{Fabric, after_step}
-use Rattle.world.proofs.Runs.{one_more}
+use Rattle.world.proofs.Runs.{with_last_step}
 use Rattle.fabric.proofs.fabric.Fabric.run.Goals as goal
 
 pub loop-done-preserved : goal.loop-done-preserved
@@ -17,7 +17,7 @@ loop-done-preserved c =
     record {
       runs = subst (λ ss. Runs c.args.self.now.world ss c.step.new.self.world) (sym steps)
           (subst (Runs c.args.self.now.world (take c.loop-done.done c.args.steps.now ++ s ∷ [])) (sym (ap (λ (f : Fabric). f.world) done.1))
-          (one_more c.args.self.now.world (take c.loop-done.done c.args.steps.now) c.loop-done.self.world s c.loop-done.invariant.runs done.0));
+          (with_last_step c.args.self.now.world (take c.loop-done.done c.args.steps.now) c.loop-done.self.world s c.loop-done.invariant.runs done.0));
       journal = ap (λ (f : Fabric). f.journal) done.1 ∙ ap (λ ss. ss ++ s ∷ []) c.loop-done.invariant.journal ∙ append_assoc c.args.self.now.journal (take c.loop-done.done c.args.steps.now) (s ∷ []) ∙ ap (λ ss. c.args.self.now.journal ++ ss) (sym steps);
       network = ap (λ (f : Fabric). f.network) done.1 ∙ c.loop-done.invariant.network;
     }

@@ -4,7 +4,7 @@ use Rattle.std.specs.FinMap.{find as row_of, is_sorted}
 use Rattle.ipv4_prefix.specs.Prefix.{prefix_cmp}
 use Rattle.dual_machine.specs.State.{State}
 use Rattle.route_table.specs.Place.{IsPlace}
-use Rattle.route_table.proofs.MapPut.{sorted-map, find-map}
+use Rattle.network_model.proofs.RowLaws.{sorted-map, find-map}
 use Rattle.route_table.proofs.PrefixPlaces.{found_row, missed_row}
 use Rattle.router_core.proofs.router.Router.machine.Goals as goal
 

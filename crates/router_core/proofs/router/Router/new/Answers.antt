@@ -9,7 +9,8 @@ use Rattle.network_model.specs.Machine.{opening_machine}
 use Rattle.network_model.specs.World.{neighbours, rows_of, opening_router}
 use Rattle.dual_machine.specs.State.{opening_neighbours}
 use Rattle.router_core.specs.Parts.{machines_of, HasPorts, IsKept}
-use Rattle.router_core.proofs.Kept.{kept-opening, sorted-rows_of}
+use Rattle.network_model.proofs.RowLaws.{sorted-rows_of}
+use Rattle.router_core.proofs.Kept.{kept-opening}
 use Rattle.router_core.proofs.Opening.{neighbours-infos, rows_of-earlier, sorted-machines, machines_of-put}
 use Rattle.router_core.proofs.router.Router.new.Goals as goal
 

@@ -1,9 +1,10 @@
 use Rattle.std.proofs.Common.{◌≡◌, false, None, map, ap, ◌∙◌}
+use Rattle.std.proofs.lemmas.Result.{IfOk-weaker}
 use Rattle.network_model.specs.declared.network.Port.{Port}
 use Rattle.network_model.specs.Machine.{opening_machine}
 use Rattle.network_model.specs.World.{Router, neighbours}
 use Rattle.dual_machine.specs.State.{State, opening_neighbours}
-use Rattle.router_core.proofs.Opening.{neighbours-infos, IfOk-then}
+use Rattle.router_core.proofs.Opening.{neighbours-infos}
 use Rattle.router_core.proofs.router.Router.opened.Goals as goal
 
 pub returns : goal.returns
@@ -11,5 +12,5 @@ returns c =
     let infos : opening_neighbours c.deref-2.result.now ≡ neighbours c.args.self.now.ports
     = ap opening_neighbours (c.deref-2.ensures.value ∙ c.in_ok-infos.ensures ∙ ap (map (λ (p : Port). record { up = p.up; cost = p.cost })) c.deref.ensures.value)
     ∙ neighbours-infos c.self.inside.ports.items ∙ ap (λ (r : Router). neighbours r.ports) c.self.view_is in
-    IfOk-then c.new.result (λ (m : State). m ≡ record { machine = opening_machine false (opening_neighbours c.deref-2.result.now); origin = None }) (λ m. m.machine ≡ opening_machine false (neighbours c.args.self.now.ports))
+    IfOk-weaker c.new.result (λ (m : State). m ≡ record { machine = opening_machine false (opening_neighbours c.deref-2.result.now); origin = None }) (λ m. m.machine ≡ opening_machine false (neighbours c.args.self.now.ports))
     (λ m is. ap (λ (x : State). x.machine) is ∙ ap (opening_machine false) infos) c.new.ensures.ok

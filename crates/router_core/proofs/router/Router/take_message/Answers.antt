@@ -11,7 +11,7 @@ use Rattle.network_model.specs.Step.{router_told, entry_of, held_of}
 use Rattle.dual_machine.specs.State.{State}
 use Rattle.dual_machine.specs.Outbox.{most_sent}
 use Rattle.route_table.specs.Place.{IsPlace}
-use Rattle.route_table.proofs.MapPut.{sorted-map}
+use Rattle.network_model.proofs.RowLaws.{sorted-map}
 use Rattle.route_table.proofs.PrefixPlaces.{found_row, written_row, missed_row, new_row}
 use Rattle.router_core.specs.Parts.{machines_of, router_of, ups, port_ups, IsKept}
 use Rattle.router_core.specs.Router.{is_port_up}

@@ -1,4 +1,5 @@
 use Rattle.std.proofs.Common.{◌≡◌, refl, sym, ap, subst, ◌∙◌, set}
+use Rattle.std.proofs.lemmas.Option.{slice_get_within}
 use Rattle.network_model.specs.declared.network.Place.{Place}
 use Rattle.network_model.specs.declared.step.Step.TheVariants.{Deliver}
 use Rattle.network_model.specs.World.{World}
@@ -6,7 +7,7 @@ use Rattle.network_model.specs.Step as steps
 use Rattle.link_fifo.proofs.Changes.{written, slice_get-read}
 use Rattle.world.specs.Parts.{world_of}
 use Rattle.world.specs.Steps.{IsPort}
-use Rattle.world.proofs.Done.{below, on_ok, can_take, delivered, delivered-keeps}
+use Rattle.world.proofs.Done.{on_ok, can_take, delivered, delivered-keeps}
 use Rattle.world.proofs.world.World.deliver.Goals as goal
 
 pub accept-requires-clause-timely : goal.accept-requires-clause-timely
@@ -14,7 +15,7 @@ accept-requires-clause-timely c =
     let w : World = world_of c.self.inside.places.items c.self.inside.links c.self.inside.routers.items in
     let port : IsPort w c.args.router c.args.port c.in_ok-place.place = subst (λ v. IsPort v c.args.router c.args.port c.in_ok-place.place) (sym c.self.view_is) c.in_ok-place.ensures.ok in
     can_take w c.args.router c.args.port c.in_ok-place.place c.index_mut-taker.result.now c.in_ok-item.item c.self.invariant port
-    (slice_get-read c.from.ensures c.index_mut-taker.ensures.value refl (below w.routers c.args.router port.is_router)) (sym c.in_ok-item.ensures)
+    (slice_get-read c.from.ensures c.index_mut-taker.ensures.value refl (slice_get_within w.routers c.args.router _ port.is_router)) (sym c.in_ok-item.ensures)
 
 -- the world then is the next one
 is_next : (c : goal.After-take-taken) → world_of c.self.inside.places.items c.take-taken.new.self (set c.self.inside.routers.items c.from.result c.accept.new.self)

@@ -2,12 +2,13 @@ use Rattle.std.proofs.Common.{◌≡◌, Some, slice_get, get_or, refl, sym, ap,
 use Rattle.network_model.specs.declared.step.Step.TheVariants.{Release}
 use Rattle.std.specs.Prelude.{option_and_then}
 use Rattle.std.specs.Global.{Vec}
+use Rattle.std.proofs.lemmas.Option.{slice_get_within}
 use Rattle.network_model.specs.Machine.{changed_at}
 use Rattle.network_model.specs.World.{Router, World, place_at}
 use Rattle.network_model.specs.Step as steps
 use Rattle.link_fifo.proofs.Changes.{written, slice_get-read}
 use Rattle.world.specs.Parts.{world_of}
-use Rattle.world.proofs.Done.{below, on_some, put_on_link, put_nowhere, released-keeps}
+use Rattle.world.proofs.Done.{on_some, put_on_link, put_nowhere, released-keeps}
 use Rattle.world.proofs.world.World.release.Goals as goal
 use Rattle.world.proofs.world.World.release.Goals.{in-Some-port+in_ok-put, in_default-port}
 
@@ -34,7 +35,7 @@ routers_are c same =
     let read : c.index_mut.result.now ≡ get_or c.self.inside.routers.items c.from-2.result c.index_mut.result.now
     = c.index_mut.ensures.value ∙ ap (λ (v : Vec Router). get_or v.items c.from-2.result c.index_mut.result.now) same in
     let here : slice_get c.self.inside.routers.items c.args.router ≡ Some c.index_mut.result.now
-    = slice_get-read c.from-2.ensures read refl (below c.self.inside.routers.items c.args.router (router_is c)) in
+    = slice_get-read c.from-2.ensures read refl (slice_get_within c.self.inside.routers.items c.args.router _ (router_is c)) in
     let front : steps.ripe_front c.index_mut.result.now ≡ Some c.in-Some.held
     = ap (option_and_then steps.ripe_front) (sym here) ∙ is_front c in
     written steps.router_releasing c.from-2.ensures read (on_some c.release-released.result (c.release-released.ensures.released ∙ front) c.release-released.ensures.some) refl

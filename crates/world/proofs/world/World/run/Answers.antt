@@ -4,7 +4,7 @@ use Rattle.network_model.specs.declared.step.Step.{Step}
 use Rattle.network_model.specs.Step.{Lawful, next}
 use Rattle.network_model.specs.Run.{Runs}
 use Rattle.world.specs.Steps.{HasRoomForSteps}
-use Rattle.world.proofs.Runs.{one_more, next-room, less_room}
+use Rattle.world.proofs.Runs.{with_last_step, next-room, less_room}
 use Rattle.world.proofs.world.World.run.Goals as goal
 
 pub loop-done-preserved : goal.loop-done-preserved
@@ -16,7 +16,7 @@ loop-done-preserved c =
     record {
       runs = subst (λ ss. Runs c.args.self.now ss c.step.new.self) (sym steps)
           (subst (Runs c.args.self.now (take c.loop-done.done c.args.steps.now ++ s ∷ [])) (sym done.1)
-          (one_more c.args.self.now (take c.loop-done.done c.args.steps.now) c.loop-done.self s c.loop-done.invariant.runs done.0));
+          (with_last_step c.args.self.now (take c.loop-done.done c.args.steps.now) c.loop-done.self s c.loop-done.invariant.runs done.0));
       room = subst (HasRoomForSteps (length c.args.steps.now - (c.loop-done.done + 1))) (sym done.1)
           (next-room (length c.args.steps.now - (c.loop-done.done + 1)) c.loop-done.self s
           (less_room (suc (length c.args.steps.now - (c.loop-done.done + 1))) (length c.args.steps.now - c.loop-done.done) c.loop-done.self (omega arith) c.loop-done.invariant.room));

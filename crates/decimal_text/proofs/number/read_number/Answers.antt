@@ -1,8 +1,8 @@
 use Rattle.std.proofs.Common.{◌∙◌}
-use Rattle.script.proofs.Numbers.{HasCanonicalStart-spelled, some_spelled, spelled_some}
-use Rattle.script.proofs.words.read_number.Goals as goal
+use Rattle.decimal_text.proofs.Numbers.{HasCanonicalStart-spelled, some_spelled, spelled_some}
+use Rattle.decimal_text.proofs.number.read_number.Goals as goal
 
--- the word does not start as a number does
+-- the text does not start as a number does
 pub returns-then-not-has_canonical_start-clause-every : goal.returns-then-not-has_canonical_start-clause-every
 returns-then-not-has_canonical_start-clause-every c n spells =
     let starts = c.has_canonical_start.ensures.1 (HasCanonicalStart-spelled _ n spells) in

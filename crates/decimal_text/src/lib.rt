@@ -1,0 +1,9 @@
+//! Numbers and their canonical decimal texts.
+#![tactic(auto)]
+
+mod number;
+
+pub use number::read_number;
+
+#[cfg(test)]
+mod tests;

@@ -1,0 +1,25 @@
+-- The test that tells whether two entries are equal.
+use Rattle.std.specs.Prelude.{◌≡◌, true}
+use Rattle.std.proofs.Common.{refl}
+use Rattle.std.proofs.lemmas.Bool.{and_parts, and_from, eqb-true, eq-eqb}
+use Rattle.network_model.specs.declared.route.Entry.{Entry}
+use Rattle.network_model.specs.declared.route.Entry.TheVariants.{Local, Via, Unreachable}
+use Rattle.network_model.specs.Step.{entry_eq}
+
+-- an entry is equal to itself by the test
+pub entry_eq-refl : (e : Entry) → entry_eq e e ≡ true
+entry_eq-refl Local = refl
+entry_eq-refl (Via p s) = and_from _ _ (eq-eqb p p refl) (eq-eqb s s refl)
+entry_eq-refl Unreachable = refl
+
+-- entries that are equal by the test are one entry
+pub entry_from_eq : (e f : Entry) → entry_eq e f ≡ true → e ≡ f
+entry_from_eq Local Local h = refl
+entry_from_eq (Via p s) (Via q t) h = let parts = and_parts _ _ h in λ i. Via (eqb-true p q parts.0 i) (eqb-true s t parts.1 i)
+entry_from_eq Unreachable Unreachable h = refl
+entry_from_eq Local (Via q t) h = absurd (cc)
+entry_from_eq Local Unreachable h = absurd (cc)
+entry_from_eq (Via p s) Local h = absurd (cc)
+entry_from_eq (Via p s) Unreachable h = absurd (cc)
+entry_from_eq Unreachable Local h = absurd (cc)
+entry_from_eq Unreachable (Via q t) h = absurd (cc)
