@@ -1,1 +1,11 @@
 pub mod DistinctRows
+pub mod Ranks
+pub mod Paths
+pub mod NewChild
+pub mod FirstBits
+pub mod Covering
+pub mod OnePath
+pub mod NewResult
+pub mod Calls
+pub mod LongestRow
+pub mod EmptyTree

@@ -1,1 +1,4 @@
 pub mod Match
+pub mod Bits
+pub mod Best
+pub mod Tree

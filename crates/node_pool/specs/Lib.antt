@@ -1,0 +1,4 @@
+pub mod Cell
+pub mod FreeLists
+pub mod Pool
+pub mod Blocks

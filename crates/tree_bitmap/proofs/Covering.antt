@@ -1,0 +1,189 @@
+-- The longest prefix of an address that ends in a node.
+use Rattle.std.proofs.Common.{ℕ, zero, suc, ◌≡◌, ◌⊎◌, inl, inr, ◌↔◌, ◌+◌, ◌-◌, ◌*◌, ◌/◌, ◌%◌, ◌^◌, ◌<◌, ◌≤◌, min, max, bit_and, bit_or, Some, None, arith, refl, sym, ap, subst, ◌∙◌}
+use Rattle.std.specs.Int.{bit_at}
+use Rattle.std.specs.Int.Count.{count_leading_zeros}
+use Rattle.std.proofs.lemmas.Bool.{cases_eq}
+use Rattle.std.proofs.lemmas.Nat.{leading_top, pow-add, shr_high}
+use Rattle.std.proofs.lemmas.Nat.Bits.{bit_at-zero, bit_at-lt, bit_at_and, bit_at_or, bit_at_above, bit_at-pow_same, bit_at-pow_other}
+use Rattle.tree_bitmap.specs.Best.{BestBelow}
+use Rattle.tree_bitmap.specs.Bits.{rank, internal_bit, IsHighest, width}
+use Rattle.tree_bitmap.specs.Tree.{result_place}
+use Rattle.tree_bitmap.specs.declared.node.Node.{Node}
+use Rattle.tree_bitmap.proofs.FirstBits.{internal_bit_small}
+use Rattle.tree_bitmap.proofs.Paths.{place-set, place-clear}
+
+-- ---- the greatest bit
+
+-- a number from 2 ^ j up to 2 ^ (j + 1) has bit j
+top_bit : (a j : ℕ) → 2 ^ j ≤ a → a < 2 ^ suc j → bit_at a j ≡ 1
+top_bit a j low high =
+    let next : suc j ≡ 1 + j = omega arith in
+    let two : 2 ^ suc j ≡ 2 ^ 1 * 2 ^ j = ap (λ m. 2 ^ m) next ∙ pow-add 2 1 j in
+    let rest : a - 2 ^ j < 2 ^ j = omega (arith, high, two) in
+    let whole : 1 * 2 ^ j + (a - 2 ^ j) ≡ a = omega (arith, low) in
+    ap (λ m. m % 2) (ap (λ m. m / 2 ^ j) (sym whole) ∙ shr_high 1 j (a - 2 ^ j) rest)
+
+-- the greatest bit of a number of 16 bits, by its leading zeros
+pub highest_bit : (a : ℕ) → 0 < a → a < 2 ^ 16 → IsHighest a (Some (15 - count_leading_zeros 16 a))
+highest_bit a some small =
+    let top = leading_top 16 a some small in
+    let j = top.0 in
+    let at : j ≡ 15 - count_leading_zeros 16 a = omega (arith, top.1) in
+    subst (λ bit. IsHighest a (Some bit)) at (omega (arith, top.1), top_bit a j top.2 top.3, λ k l. bit_at_above a (suc j) k top.3 (omega (arith, l)))
+
+-- ---- bits of covering prefixes
+
+-- a power of two has one bit
+one_bit : (i k : ℕ) → ((k ≡ i) × (bit_at (2 ^ i) k ≡ 1)) ⊎ ((k ≡ i → ⊥) × (bit_at (2 ^ i) k ≡ 0))
+one_bit i k = elim (cases_eq k i) [
+  | inl same ↦ inl (same, ap (bit_at (2 ^ i)) same ∙ bit_at-pow_same i)
+  | inr apart ↦ inr (apart, bit_at-pow_other i k apart)
+]
+
+-- bit k of the bitmap with the bits 0, a, b and c
+abbrev four_bits : ℕ → ℕ → ℕ → ℕ
+four_bits a b c = bit_or (bit_or (bit_or 1 (2 ^ a)) (2 ^ b)) (2 ^ c)
+
+-- a bit of it is one of the four
+four_bits_at : (a b c k : ℕ) → bit_at (four_bits a b c) k ≡ max (max (max (bit_at (2 ^ 0) k) (bit_at (2 ^ a) k)) (bit_at (2 ^ b) k)) (bit_at (2 ^ c) k)
+four_bits_at a b c k =
+    bit_at_or (bit_or (bit_or 1 (2 ^ a)) (2 ^ b)) (2 ^ c) k
+    ∙ ap (λ m. max m (bit_at (2 ^ c) k)) (bit_at_or (bit_or 1 (2 ^ a)) (2 ^ b) k)
+    ∙ ap (λ m. max (max m (bit_at (2 ^ b) k)) (bit_at (2 ^ c) k)) (bit_at_or 1 (2 ^ a) k)
+
+-- it is set where k is one of them
+pub four_bits_set : (a b c k : ℕ) → bit_at (four_bits a b c) k ≡ 1 → (k ≡ 0) ⊎ ((k ≡ a) ⊎ ((k ≡ b) ⊎ (k ≡ c)))
+four_bits_set a b c k h = by_first (one_bit 0 k)
+  where
+    by_last : bit_at (2 ^ 0) k ≡ 0 → bit_at (2 ^ a) k ≡ 0 → bit_at (2 ^ b) k ≡ 0 → ((k ≡ c) × (bit_at (2 ^ c) k ≡ 1)) ⊎ ((k ≡ c → ⊥) × (bit_at (2 ^ c) k ≡ 0)) → (k ≡ 0) ⊎ ((k ≡ a) ⊎ ((k ≡ b) ⊎ (k ≡ c)))
+    by_last x y z (inl w) = inr (inr (inr w.0))
+    by_last x y z (inr w) = absurd (omega (arith, x, y, z, w.1, h, four_bits_at a b c k))
+
+    by_third : bit_at (2 ^ 0) k ≡ 0 → bit_at (2 ^ a) k ≡ 0 → ((k ≡ b) × (bit_at (2 ^ b) k ≡ 1)) ⊎ ((k ≡ b → ⊥) × (bit_at (2 ^ b) k ≡ 0)) → (k ≡ 0) ⊎ ((k ≡ a) ⊎ ((k ≡ b) ⊎ (k ≡ c)))
+    by_third x y (inl z) = inr (inr (inl z.0))
+    by_third x y (inr z) = by_last x y z.1 (one_bit c k)
+
+    by_second : bit_at (2 ^ 0) k ≡ 0 → ((k ≡ a) × (bit_at (2 ^ a) k ≡ 1)) ⊎ ((k ≡ a → ⊥) × (bit_at (2 ^ a) k ≡ 0)) → (k ≡ 0) ⊎ ((k ≡ a) ⊎ ((k ≡ b) ⊎ (k ≡ c)))
+    by_second x (inl y) = inr (inl y.0)
+    by_second x (inr y) = by_third x y.1 (one_bit b k)
+
+    by_first : ((k ≡ 0) × (bit_at (2 ^ 0) k ≡ 1)) ⊎ ((k ≡ 0 → ⊥) × (bit_at (2 ^ 0) k ≡ 0)) → (k ≡ 0) ⊎ ((k ≡ a) ⊎ ((k ≡ b) ⊎ (k ≡ c)))
+    by_first (inl x) = inl x.0
+    by_first (inr x) = by_second x.1 (one_bit a k)
+
+-- it is set at each of them
+pub four_bits_has : (a b c k : ℕ) → (k ≡ 0) ⊎ ((k ≡ a) ⊎ ((k ≡ b) ⊎ (k ≡ c))) → bit_at (four_bits a b c) k ≡ 1
+four_bits_has a b c k is = by_case is
+  where
+    least : 1 ≤ bit_at (four_bits a b c) k → bit_at (four_bits a b c) k ≡ 1
+    least h = let l : bit_at (four_bits a b c) k < 2 = bit_at-lt (four_bits a b c) k in omega (arith, h, l)
+
+    by_case : (k ≡ 0) ⊎ ((k ≡ a) ⊎ ((k ≡ b) ⊎ (k ≡ c))) → bit_at (four_bits a b c) k ≡ 1
+    by_case (inl e) = least (let h : bit_at (2 ^ 0) k ≡ 1 = ap (bit_at (2 ^ 0)) e ∙ bit_at-pow_same 0 in omega (arith, h, four_bits_at a b c k))
+    by_case (inr (inl e)) = least (let h : bit_at (2 ^ a) k ≡ 1 = ap (bit_at (2 ^ a)) e ∙ bit_at-pow_same a in omega (arith, h, four_bits_at a b c k))
+    by_case (inr (inr (inl e))) = least (let h : bit_at (2 ^ b) k ≡ 1 = ap (bit_at (2 ^ b)) e ∙ bit_at-pow_same b in omega (arith, h, four_bits_at a b c k))
+    by_case (inr (inr (inr e))) = least (let h : bit_at (2 ^ c) k ≡ 1 = ap (bit_at (2 ^ c)) e ∙ bit_at-pow_same c in omega (arith, h, four_bits_at a b c k))
+
+-- the internal bits that four bits of an address begin with are these four
+pub covers_four : (four depth k : ℕ) → four < 16 → depth < 8
+    → bit_at (four_bits (1 + four / 2 ^ 3) (3 + four / 2 ^ 2) (7 + four / 2 ^ 1)) k ≡ 1 ↔ ((len : ℕ) × (len < width depth) × (k ≡ internal_bit four len))
+covers_four four depth k small deep = (λ h. to (four_bits_set (1 + four / 2 ^ 3) (3 + four / 2 ^ 2) (7 + four / 2 ^ 1) k h), λ h. four_bits_has (1 + four / 2 ^ 3) (3 + four / 2 ^ 2) (7 + four / 2 ^ 1) k (from h.0 h.1 h.2))
+  where
+    to : (k ≡ 0) ⊎ ((k ≡ 1 + four / 2 ^ 3) ⊎ ((k ≡ 3 + four / 2 ^ 2) ⊎ (k ≡ 7 + four / 2 ^ 1))) → (len : ℕ) × (len < width depth) × (k ≡ internal_bit four len)
+    to (inl e) = (0, omega arith, omega arith)
+    to (inr (inl e)) = (1, omega arith, omega arith)
+    to (inr (inr (inl e))) = (2, omega arith, omega arith)
+    to (inr (inr (inr e))) = (3, omega arith, omega arith)
+
+    from : (len : ℕ) → len < width depth → k ≡ internal_bit four len → (k ≡ 0) ⊎ ((k ≡ 1 + four / 2 ^ 3) ⊎ ((k ≡ 3 + four / 2 ^ 2) ⊎ (k ≡ 7 + four / 2 ^ 1)))
+    from zero l e = inl (omega arith)
+    from (suc zero) l e = inr (inl (omega arith))
+    from (suc (suc zero)) l e = inr (inr (inl (omega arith)))
+    from (suc (suc (suc zero))) l e = inr (inr (inr (omega arith)))
+    from (suc (suc (suc (suc n)))) l e = absurd (omega arith)
+
+-- at depth 8 it is the first alone
+pub covers_one : (four k : ℕ) → four < 16 → bit_at 1 k ≡ 1 ↔ ((len : ℕ) × (len < width 8) × (k ≡ internal_bit four len))
+covers_one four k small = (to (one_bit 0 k), λ h. from h.0 h.1 h.2)
+  where
+    to : ((k ≡ 0) × (bit_at (2 ^ 0) k ≡ 1)) ⊎ ((k ≡ 0 → ⊥) × (bit_at (2 ^ 0) k ≡ 0)) → bit_at 1 k ≡ 1 → (len : ℕ) × (len < width 8) × (k ≡ internal_bit four len)
+    to (inl x) h = (0, omega arith, omega (arith, x.0))
+    to (inr x) h = absurd (let z : bit_at 1 k ≡ 0 = x.1 in omega (arith, z, h))
+
+    from : (len : ℕ) → len < width 8 → k ≡ internal_bit four len → bit_at 1 k ≡ 1
+    from zero l e = let z : k ≡ 0 = omega arith in ap (bit_at 1) z ∙ bit_at-pow_same 0
+    from (suc n) l e = absurd (omega arith)
+
+-- ---- lengths
+
+-- the length to which an internal bit belongs, by bounds
+pub length_of_bit : (bit four len : ℕ) → four < 16 → len < 4 → bit ≡ internal_bit four len
+    → (bit < 1 → 0 ≡ len) × (1 ≤ bit → bit < 3 → 1 ≡ len) × (3 ≤ bit → bit < 7 → 2 ≡ len) × (7 ≤ bit → 3 ≡ len)
+length_of_bit bit four zero h l e = (λ a. refl, λ a b. absurd (omega arith), λ a b. absurd (omega arith), λ a. absurd (omega arith))
+length_of_bit bit four (suc zero) h l e = (λ a. absurd (omega arith), λ a b. refl, λ a b. absurd (omega arith), λ a. absurd (omega arith))
+length_of_bit bit four (suc (suc zero)) h l e = (λ a. absurd (omega arith), λ a b. absurd (omega arith), λ a b. refl, λ a. absurd (omega arith))
+length_of_bit bit four (suc (suc (suc zero))) h l e = (λ a. absurd (omega arith), λ a b. absurd (omega arith), λ a b. absurd (omega arith), λ a. refl)
+length_of_bit bit four (suc (suc (suc (suc n)))) h l e = absurd (omega arith)
+
+-- a longer prefix has a greater bit
+longer_is_greater : (four l m : ℕ) → four < 16 → l < m → m < 4 → internal_bit four l < internal_bit four m
+longer_is_greater four zero zero h a b = absurd (omega arith)
+longer_is_greater four zero (suc zero) h a b = omega arith
+longer_is_greater four zero (suc (suc zero)) h a b = omega arith
+longer_is_greater four zero (suc (suc (suc zero))) h a b = omega arith
+longer_is_greater four (suc zero) (suc (suc zero)) h a b = omega arith
+longer_is_greater four (suc zero) (suc (suc (suc zero))) h a b = omega arith
+longer_is_greater four (suc (suc zero)) (suc (suc (suc zero))) h a b = omega arith
+longer_is_greater four (suc l) zero h a b = absurd (omega arith)
+longer_is_greater four (suc l) (suc zero) h a b = absurd (omega arith)
+longer_is_greater four (suc (suc l)) (suc (suc zero)) h a b = absurd (omega arith)
+longer_is_greater four (suc (suc (suc l))) (suc (suc (suc zero))) h a b = absurd (omega arith)
+longer_is_greater four l (suc (suc (suc (suc n)))) h a b = absurd (omega arith)
+
+-- ---- the longest prefix in a node
+
+-- a bit of both bitmaps is one of either
+pub both_bits : (m n k : ℕ) → bit_at (bit_and m n) k ≡ 1 → (bit_at m k ≡ 1) × (bit_at n k ≡ 1)
+both_bits m n k h =
+    let both : bit_at (bit_and m n) k ≡ min (bit_at m k) (bit_at n k) = bit_at_and m n k in
+    let a : bit_at m k < 2 = bit_at-lt m k in
+    let b : bit_at n k < 2 = bit_at-lt n k in
+    (omega (arith, both, h, a), omega (arith, both, h, b))
+
+module _ (a : Node) (four depth cover : ℕ) (small : four < 16)
+    (covered : (k : ℕ) → k < 16 → bit_at cover k ≡ 1 ↔ ((len : ℕ) × (len < width depth) × (k ≡ internal_bit four len))) where
+  -- at most four lengths end in a node
+  few : width depth ≤ 4
+  few = omega arith
+
+  -- a covering prefix has its result where its bit is one of those masked
+  masked : (len : ℕ) → len < width depth → bit_at a.internal (internal_bit four len) ≡ 1 → bit_at (bit_and a.internal cover) (internal_bit four len) ≡ 1
+  masked len l h =
+      let k = internal_bit four len in
+      let bound : k < 15 = internal_bit_small four len small (omega (arith, l, few)) in
+      let c : bit_at cover k ≡ 1 = (covered k (omega (arith, bound))).1 (len, l, refl) in
+      omega (arith, bit_at_and a.internal cover k, h, c)
+
+  -- where no masked bit is set, no prefix of the address ends in the node
+  pub none_in : IsHighest (bit_and a.internal cover) None → BestBelow (λ len. result_place (internal_bit four len) (Some a)) (width depth) None
+  none_in z len l = place-clear (internal_bit four len) a (λ h.
+      let one : bit_at (bit_and a.internal cover) (internal_bit four len) ≡ 1 = masked len l h in
+      let none : bit_at (bit_and a.internal cover) (internal_bit four len) ≡ 0 = ap (λ m. bit_at m (internal_bit four len)) z ∙ bit_at-zero (internal_bit four len) in
+      omega (arith, one, none))
+
+  -- else the greatest is that of the longest
+  pub longest_in : (bit length : ℕ) → IsHighest (bit_and a.internal cover) (Some bit) → ((f len : ℕ) → f < 16 → len < 4 → bit ≡ internal_bit f len → length ≡ len)
+      → BestBelow (λ len. result_place (internal_bit four len) (Some a)) (width depth) (Some (length, a.result_base + rank a.internal bit))
+  longest_in bit length top is =
+      let both = both_bits a.internal cover bit top.1 in
+      let at = (covered bit top.0).0 both.1 in
+      let same : length ≡ at.0 = is four at.0 small (omega (arith, at.1, few)) at.2 in
+      let here : bit ≡ internal_bit four length = at.2 ∙ ap (internal_bit four) (sym same) in (
+        omega (arith, same, at.1),
+        ap (λ k. result_place k (Some a)) (sym here) ∙ place-set bit a both.0,
+        λ len l h. place-clear (internal_bit four len) a (λ x.
+            let one : bit_at (bit_and a.internal cover) (internal_bit four len) ≡ 1 = masked len h x in
+            let above : internal_bit four length < internal_bit four len = longer_is_greater four length len small l (omega (arith, h, few)) in
+            let none : bit_at (bit_and a.internal cover) (internal_bit four len) ≡ 0 = top.2 (internal_bit four len) (omega (arith, above, here)) in
+            omega (arith, one, none)),
+      )
