@@ -28,6 +28,7 @@ filled_out f g base size v w k out =
 abbrev none : FreeList
 none = record { first = 0; count = 0 }
 
+-- each of them, and each past the end, has no blocks
 none-at : (n i : ℕ) → get_or (replicate n none) i none ≡ none
 none-at n i = ⊎_elim (λ l. get_or-replicate n i none none l)
     (λ l. get_or_past (replicate n none) i none (let e = length-replicate n none in omega (arith, e))) (cases_lt i n)
@@ -38,9 +39,11 @@ longer_or_same true k m n e = omega (arith, e)
 longer_or_same false k m n e = omega (arith, e)
 
 module _ {T : Type 0} where
+  -- a free cell has no value
   none≢is_some : (o : Option T) → o ≡ None → is_some o ≡ true → ⊥
   none≢is_some o n s = let e : is_some o ≡ false = ap is_some n in false≢true (sym e ∙ s)
 
+  -- a cell with no value is free
   none_from : (o : Option T) → is_some o ≡ false → o ≡ None
   none_from None h = refl
   none_from (Some x) h = absurd (false≢true (sym h))
@@ -63,6 +66,7 @@ module _ {T : Type 0} where
     above = λ k l. ap value_of (w.above k l);
   }
 
+  -- cells that were copied with a gap take their values along
   pub shifted_values : (f g : ℕ → Cell T) (from size gap : ℕ) (value : T) (to : ℕ) → IsShifted f g from size gap (Used value) to
       → IsShifted (λ k. value_of (f k)) (λ k. value_of (g k)) from size gap (Some value) to
   shifted_values f g from size gap value to w = record {
@@ -85,6 +89,7 @@ module _ {T : Type 0} where
       (λ h. inr h) (cases_lt base (to + (size + 1))))
       (λ l. inl l) (cases_lt to (base + size))
 
+  -- a block that was taken is in use
   pub taken_used : (f g : ℕ → Option T) (base size : ℕ) (value : T) → IsTaken f g base size value → IsUsedBlock g base size
   taken_used f g base size value w k l h = ap is_some (w.filled.inside k l h)
 
@@ -109,12 +114,14 @@ module _ {T : Type 0} where
   pub written_back : {Z : Type 0} (P : List (Cell T) → Type 0) (v : Vec (Cell T) Z) (xs ws : List (Cell T)) → length ws ≡ length xs → length xs ≡ v.len → P ws → P (with_items v ws).items
   written_back P v xs ws l m h = subst P (sym (with_items_is v ws (l ∙ m))) h
 
+  -- a block of a pool's cells was filled
   pub filled_put : {Z : Type 0} (v : Vec (Cell T) Z) (xs ws : List (Cell T)) (base size : ℕ) (c : Cell T) → xs ≡ v.items → length ws ≡ length xs → length xs ≡ v.len
       → IsFilled (entry xs) (entry ws) base size c → IsFilled (at v.items) (at (with_items v ws).items) base size (value_of c)
   filled_put v xs ws base size c e l m h =
       written_back (λ y. IsFilled (at v.items) (at y) base size (value_of c)) v xs ws l m
       (subst (λ y. IsFilled (at y) (at ws) base size (value_of c)) e (filled_values (entry xs) (entry ws) base size c h))
 
+  -- a block of a pool's cells was copied with a gap
   pub shifted_put : {Z : Type 0} (v : Vec (Cell T) Z) (xs ws : List (Cell T)) (from size gap : ℕ) (value : T) (to : ℕ) → xs ≡ v.items → length ws ≡ length xs → length xs ≡ v.len
       → IsShifted (entry xs) (entry ws) from size gap (Used value) to → IsShifted (at v.items) (at (with_items v ws).items) from size gap (Some value) to
   shifted_put v xs ws from size gap value to e l m h =
@@ -146,22 +153,25 @@ module _ {T : Type 0} where
       → ∥ IsLinked xs lists ∥₁ → ∥ IsLinked ys lists ∥₁
   more_linked xs ys lists len same h = ∥∥₁_map h (λ w. linked_stays xs ys lists len (λ k l free. same k (Free 0) l) w)
 
-  -- a list has fewer blocks than there are cells
+  -- a list has no more blocks than there are cells
   pub few_spare : (xs : List (Cell T)) (lists : List FreeList) (i : ℕ) → ∥ IsLinked xs lists ∥₁ → count_at lists i ≤ length xs
   few_spare xs lists i h = ∥∥₁_elim h le_prop (λ w. few_blocks xs lists i w)
 
+  -- the first block of a list lies within the cells
   pub head_within : (xs : List (Cell T)) (lists : List FreeList) (size : ℕ) → 0 < size → 0 < count_at lists (size - 1) → ∥ IsLinked xs lists ∥₁ → (list_at lists (size - 1)).first + size ≤ length xs
   head_within xs lists size s p h = ∥∥₁_elim h le_prop (λ w. let l = first_within xs lists (size - 1) p w in omega (arith, l))
 
+  -- every cell of it is free
   pub head_free : (xs : List (Cell T)) (lists : List FreeList) (size k : ℕ) → 0 < size → 0 < count_at lists (size - 1) → (list_at lists (size - 1)).first ≤ k → k < (list_at lists (size - 1)).first + size
       → ∥ IsLinked xs lists ∥₁ → is_some (at xs k) ≡ false
   head_free xs lists size k s p l u h = ∥∥₁_elim h (Bool-set _ _) (λ w. first_free xs lists (size - 1) k p (l, omega arith) w)
 
+  -- so it has no value
   pub head_fresh : (xs : List (Cell T)) (lists : List FreeList) (size k : ℕ) → 0 < size → 0 < count_at lists (size - 1) → (list_at lists (size - 1)).first ≤ k → k < (list_at lists (size - 1)).first + size
       → ∥ IsLinked xs lists ∥₁ → at xs k ≡ None
   head_fresh xs lists size k s p l u h = none_from (at xs k) (head_free xs lists size k s p l u h)
 
-  -- the first cell of the first block is free, and is the one that was read
+  -- the cell that was read at its place is the one that is there
   pub head_read : (xs : List (Cell T)) (lists : List FreeList) (size : ℕ) (x : Cell T) → 0 < size → 0 < count_at lists (size - 1) → x ≡ get_or xs (list_at lists (size - 1)).first x
       → ∥ IsLinked xs lists ∥₁ → x ≡ entry xs (list_at lists (size - 1)).first
   head_read xs lists size x s p e h = let l = head_within xs lists size s p h in

@@ -12,6 +12,7 @@ use Rattle.node_pool.specs.declared.cells.Cell.TheVariants.{Free}
 lowered : (ℕ → ℕ) → ℕ → ℕ → ℕ → ℕ
 lowered f m last i = cond (eqb (f i) m) last (f i)
 
+-- a number is `m` and replaced, or stays
 lowered-cases : (f : ℕ → ℕ) (m last i : ℕ) → ((f i ≡ m) × (lowered f m last i ≡ last)) ⊎ ((f i ≢ m) × (lowered f m last i ≡ f i))
 unfolding lowered
 lowered-cases f m last i = ⊎_elim
@@ -70,23 +71,27 @@ module _ {T : Type 0} where
       few_below (count_at lists i) (length xs) (w.base_of i) (λ h l. let e = w.within i h l in omega (arith, e))
       (λ g h l m e. (w.apart i i g h (w.base_of i g) l m (omega arith, omega arith) (omega (arith, e), omega (arith, e))).1)
 
-  -- where the list counts a block, the first is free, and within the cells
+  -- where the list counts a block, the first lies within the cells
   pub first_within : (xs : List (Cell T)) (lists : List FreeList) (i : ℕ) → 0 < count_at lists i → IsLinked xs lists → (list_at lists i).first + (i + 1) ≤ length xs
   first_within xs lists i p w = let e = w.first i p in let l = w.within i (count_at lists i - 1) (omega arith) in omega (arith, e, l)
 
+  -- where the list counts a block, every cell of the first is free
   pub first_free : (xs : List (Cell T)) (lists : List FreeList) (i k : ℕ) → 0 < count_at lists i → InBlock (list_at lists i).first i k → IsLinked xs lists → is_some (at xs k) ≡ false
   first_free xs lists i k p b w = let e = w.first i p in w.free i (count_at lists i - 1) k (omega arith) (omega (arith, e, b.0), omega (arith, e, b.1))
 
 module _ {T : Type 0} (xs ys : List (Cell T)) (lists : List FreeList) (i : ℕ) (within : i < length lists) where
+  -- the list that was set
   same_list : (l : FreeList) → list_at (set lists i l) i ≡ l
   same_list l = get_or-set_same lists i l (record { first = 0; count = 0 }) within
 
+  -- the others stay
   other_list : (l : FreeList) (j : ℕ) → j ≢ i → list_at (set lists i l) j ≡ list_at lists j
   other_list l j n = get_or-set_other lists i j l (record { first = 0; count = 0 }) n
 
   -- the first block of a list is taken off, and used
   module _ (l : FreeList) (p : 0 < count_at lists i) (first : l.first ≡ link_of (entry xs (list_at lists i).first)) (count : l.count ≡ count_at lists i - 1) (len : length ys ≡ length xs)
       (same : (k : ℕ) → (InBlock (list_at lists i).first i k → ⊥) → entry ys k ≡ entry xs k) (w : IsLinked xs lists) where
+    -- every block that is left was there before
     fewer : (j h : ℕ) → h < count_at (set lists i l) j → h < count_at lists j
     fewer j h b = ⊎_elim
         (λ e. let b' : h < count_at (set lists i l) i = subst (λ x. h < count_at (set lists i l) x) e b in
@@ -101,11 +106,13 @@ module _ {T : Type 0} (xs ys : List (Cell T)) (lists : List FreeList) (i : ℕ) 
         let c : count_at (set lists i l) i ≡ l.count = ap (λ x. x.count) (same_list l) in
         omega (arith, b', c, count, f)
 
+    -- every block that is left keeps its cells
     keeps : (j h k : ℕ) → h < count_at (set lists i l) j → InBlock (w.base_of j h) j k → entry ys k ≡ entry xs k
     keeps j h k b in' = same k (λ out. let e = w.first i p in
         let a = w.apart j i h (count_at lists i - 1) k (fewer j h b) (omega arith) in' (omega (arith, e, out.0), omega (arith, e, out.1)) in
         rest j h b a.0 a.1)
 
+    -- the other blocks stay linked
     pub linked_pop : IsLinked ys (set lists i l)
     linked_pop = record {
       base_of = w.base_of;
@@ -142,6 +149,7 @@ module _ {T : Type 0} (xs ys : List (Cell T)) (lists : List FreeList) (i : ℕ) 
     abbrev Kind : ℕ → ℕ → Type 0
     Kind j h = ((j ≡ i) × (h ≡ count_at lists i) × (bases j h ≡ base)) ⊎ ((h < count_at lists j) × (bases j h ≡ w.base_of j h))
 
+    -- which of the two a block is
     kind : (j h : ℕ) → h < count_at (set lists i l) j → Kind j h
     unfolding bases
     kind j h b = ⊎_elim
@@ -174,6 +182,7 @@ module _ {T : Type 0} (xs ys : List (Cell T)) (lists : List FreeList) (i : ℕ) 
         (λ p. ⊎_elim (λ q. absurd (false≢true (sym (w.free j h k b in') ∙ used k (p, q)))) (λ q. filled.above k q) (cases_lt k (base + (i + 1))))
         (cases_lt k base)
 
+    -- all blocks are linked, the new one first
     pub linked_push : IsLinked ys (set lists i l)
     linked_push = record {
       base_of = bases;

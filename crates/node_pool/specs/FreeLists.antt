@@ -8,6 +8,7 @@ use Rattle.node_pool.specs.Cell.{entry, at, link_of}
 abbrev pub list_at : List FreeList → ℕ → FreeList
 list_at lists i = slice_index_or lists i (record { first = 0; count = 0 })
 
+-- how many blocks of `i + 1` cells the list has
 abbrev pub count_at : List FreeList → ℕ → ℕ
 count_at lists i = (list_at lists i).count
 

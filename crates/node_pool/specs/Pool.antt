@@ -13,7 +13,7 @@ module _ {T : Type 0} where
   abbrev pub cell_count : Pool T → ℕ
   cell_count pool = vec_len pool.cells
 
-  -- how many cells more there can be without memory: a pool has at most 2^32
+  -- how many cells can be added without memory, where a pool has at most 2^32
   abbrev pub room : Pool T → ℕ
   room pool = min (vec_capacity pool.cells) (2 ^ 32) - vec_len pool.cells
 

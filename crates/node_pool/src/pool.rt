@@ -99,8 +99,8 @@ impl<T: Copy> Pool<T> {
         Ok(())
     }
 
-    /// Takes a block of `size` cells, 1 to 16, and writes the value to each. The answer is the place
-    /// of the first. Where a block of that size was given back, it is taken again.
+    /// Takes a block of `size` cells, 1 to 16, and writes the value to each. The answer is the
+    /// place of the first. Where a block of that size was given back, it is taken again.
     pub fn take(&mut self, size: usize, value: T) -> Result<u32, NoMemory>
         requires some { 0 < size }
         requires few { size ≤ 16 }

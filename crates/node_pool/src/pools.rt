@@ -55,8 +55,8 @@ impl<N: Copy, R: Copy> NodePool<N, R> {
         self.results.reserve(results)
     }
 
-    /// Takes a block of `size` nodes, 1 to 16, and writes the value to each. The answer is the place
-    /// of the first.
+    /// Takes a block of `size` nodes, 1 to 16, and writes the value to each. The answer is the
+    /// place of the first.
     pub fn take_nodes(&mut self, size: usize, node: N) -> Result<u32, NoMemory>
         requires some { 0 < size }
         requires few { size ≤ MOST_NODES }
