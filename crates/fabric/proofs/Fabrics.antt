@@ -1,14 +1,15 @@
 -- What a step leaves of what every fabric keeps.
-use Rattle.std.specs.Prelude.{◌≡◌, ℕ, zero, suc, ◌+◌, ◌<◌, ◌≤◌, cond, List, [], ◌∷◌, ◌++◌, map, length, set, Some, None, slice_get, option_and_then}
+use Rattle.std.specs.Prelude.{◌≡◌, ℕ, zero, suc, ◌+◌, ◌<◌, ◌≤◌, cond, List, [], ◌∷◌, ◌++◌, map, length, set, Some, None, slice_get, option_map, option_and_then}
+use Rattle.std.specs.List.{range_with_len}
 use Rattle.std.proofs.Common.{refl, sym, ap, subst, ◌∙◌, arith, length-append}
 use Rattle.std.proofs.lemmas.List.{length-map}
-use Rattle.std.proofs.lemmas.Option.{slice_get_within}
+use Rattle.std.proofs.lemmas.Option.{slice_get_within, slice_get-map}
 use Rattle.network_model.specs.declared.item.Item.{Item}
 use Rattle.network_model.specs.declared.network.End.{End}
 use Rattle.network_model.specs.declared.step.Step.{Step}
 use Rattle.network_model.specs.declared.step.Step.TheVariants.{LinkUp, LinkDown, SetCost, Deliver, Publish, Release}
 use Rattle.network_model.specs.Machine.{changed_at}
-use Rattle.network_model.specs.World.{Link, Router, World, opening}
+use Rattle.network_model.specs.World.{Link, Router, World, Network, opening, opening_router_of}
 use Rattle.network_model.specs.Step.{Lawful, next, is_due, changed_router, changed_link, with_cost, with_front_taken, with_message, with_delivered, with_released, front_at, release_at, router_accepting, router_publishing, router_releasing}
 use Rattle.network_model.specs.Run.{Runs}
 use Rattle.network_model.specs.Journal.{most_steps}
@@ -17,8 +18,8 @@ use Rattle.network_model.proofs.ListLaws.{map-changed_at, option_map_or-ind, Non
 use Rattle.network_model.proofs.WorldLaws.{routers-changed_link}
 use Rattle.world.specs.Steps.{HasRoomForSteps}
 use Rattle.world.proofs.Runs.{with_last_step, run-room, opening-room}
-use Rattle.fabric.specs.Images.{image_in_force, due_at}
-use Rattle.fabric.specs.Fabric.{Fabric, after_step, IsKept}
+use Rattle.fabric.specs.Images.{image_in_force, chosen_image, due_at}
+use Rattle.fabric.specs.Fabric.{Fabric, fabric_of, after_step, IsKept}
 
 -- the journal is too short for a generation to pass 64 bits
 pub room_left : (f : Fabric) (images : List Image) (capacity : ℕ) → IsKept f images capacity → HasRoomForSteps 1 f.world
@@ -72,11 +73,31 @@ due_of w i lawful =
           ∙ ap (λ b. cond b (Some (image_in_force (router_publishing r))) None) lawful.2,
     )
 
--- a router that publishes has an image
-pub image_at : (f : Fabric) (images : List Image) (capacity : ℕ) → IsKept f images capacity → (i : ℕ) → Lawful f.world (Publish i) → i < length images
-image_at f images capacity kept i lawful =
+-- a router that is there has an image
+pub image_at : (f : Fabric) (images : List Image) (capacity : ℕ) → IsKept f images capacity → (i : ℕ) (r : Router) → slice_get f.world.routers i ≡ Some r → i < length images
+image_at f images capacity kept i r at =
     subst (λ xs. i < length xs) (sym kept.in_force)
-    (subst (λ n. i < n) (sym (length-map f.world.routers image_in_force)) (slice_get_within f.world.routers i lawful.0 lawful.1))
+    (subst (λ n. i < n) (sym (length-map f.world.routers image_in_force)) (slice_get_within f.world.routers i r at))
+
+-- it is of what the router published
+pub image_is : (f : Fabric) (images : List Image) (capacity : ℕ) → IsKept f images capacity → (i : ℕ) (r : Router) → slice_get f.world.routers i ≡ Some r → slice_get images i ≡ Some (image_in_force r)
+image_is f images capacity kept i r at =
+    ap (λ xs. slice_get xs i) kept.in_force ∙ slice_get-map image_in_force f.world.routers i ∙ ap (option_map image_in_force) at
+
+-- at the opening each router has published what it chose
+chosen-published : (n : Network) (is : List ℕ) → map chosen_image (map (opening_router_of n) is) ≡ map image_in_force (map (opening_router_of n) is)
+chosen-published n [] = refl
+chosen-published n (i ∷ is) = ap (λ xs. image_in_force (opening_router_of n i) ∷ xs) (chosen-published n is)
+
+-- a network at its opening, with the images of what its routers chose
+pub kept_at_opening : (n : Network) (journal : List Step) (w : World) (images : List Image) (capacity : ℕ) → journal ≡ [] → w ≡ opening n → images ≡ map chosen_image w.routers → most_steps ≤ capacity
+    → IsKept (fabric_of n journal w) images capacity
+kept_at_opening n journal w images capacity none opened chosen room = record {
+  runs = subst (λ ss. Runs (opening n) ss w) (sym none) (sym opened);
+  short = (let empty : length journal ≡ 0 = ap length none in omega (arith, empty));
+  room = room;
+  in_force = chosen ∙ ap (λ (v : World). map chosen_image v.routers) opened ∙ chosen-published n (range_with_len 0 n.routers) ∙ sym (ap (λ (v : World). map image_in_force v.routers) opened);
+}
 
 -- ---- one step more
 

@@ -9,6 +9,10 @@ use Rattle.network_model.specs.Publication.{Image, image_answer}
 abbrev pub image_in_force : Router → Image
 image_in_force r = record { generation = r.generation; rows = (r.table).published }
 
+-- the image of the rows that a router has chosen, as it is made when a network opens
+abbrev pub chosen_image : Router → Image
+chosen_image r = record { generation = 0; rows = (r.table).control }
+
 -- what an image answers for an address
 abbrev pub answer_of : ℕ → Image → Answer
 answer_of addr image = record { generation = image.generation; matched = image_answer image addr }

@@ -1,2 +1,3 @@
 pub mod Fabric
 pub mod Images
+pub mod Patches

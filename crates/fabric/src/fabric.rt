@@ -10,7 +10,8 @@ ghost use Rattle.world.specs.Steps.{IsDoneOr, StopsAt};
 ghost use Rattle.fabric.specs.Fabric.{opening_fabric, after_step, fabric_refusal};
 ghost use Rattle.fabric.specs.Images.{answer_at};
 
-use crate::images::{image_due, opening_images};
+use crate::images::{opening_images, patch_due};
+use image_patch::Apply;
 use network_model::{Answer, Refusal, Step};
 use route_table::RouteTable;
 use std::alloc::Global;
@@ -130,10 +131,12 @@ impl Fabric {
         match step {
             Step::Publish { router } => {
                 let alloc = *self.images.allocator();
-                let image = image_due(alloc, &self.world, router)?;
-                self.world.step(step)?;
-                if let Some(image) = image {
-                    self.images[usize::from(router)] = image;
+                match patch_due(alloc, &self.world, router)? {
+                    Some(patch) => {
+                        self.images[usize::from(router)].apply(&patch)?;
+                        self.world.step(step).unwrap();
+                    }
+                    None => self.world.step(step)?,
                 }
             }
             _ => self.world.step(step)?,

@@ -22,13 +22,16 @@ covering_same addr p q valid_p valid_q covers_p covers_q same =
     let addrs = same_by_parts p.addr q.addr (2 ^ (32 - p.len)) (bits_p ∙ sym bits_q) (valid_p.no_host_bits ∙ sym none_q) in
     λ i. record { addr = addrs i; len = same i }
 
-Contains-first : {X : Type 0} (x : X) (xs : List X) → Contains (x ∷ xs) x
+-- the first row is a row
+pub Contains-first : {X : Type 0} (x : X) (xs : List X) → Contains (x ∷ xs) x
 Contains-first x xs = (0, omega arith, refl)
 
-Contains-later : {X : Type 0} (y : X) (xs : List X) (x : X) → Contains xs x → Contains (y ∷ xs) x
+-- a later row is a row
+pub Contains-later : {X : Type 0} (y : X) (xs : List X) (x : X) → Contains xs x → Contains (y ∷ xs) x
 Contains-later y xs x h = (suc h.0, omega (arith, h.1), h.2)
 
-Contains-cases : {X : Type 0} (y : X) (xs : List X) (x : X) → Contains (y ∷ xs) x → (y ≡ x) ⊎ Contains xs x
+-- a row is the first or a later one
+pub Contains-cases : {X : Type 0} (y : X) (xs : List X) (x : X) → Contains (y ∷ xs) x → (y ≡ x) ⊎ Contains xs x
 Contains-cases y xs x h = by_place h.0 h.1 h.2
   where
     by_place : (k : ℕ) → k < suc (length xs) → slice_index_or (y ∷ xs) k x ≡ x → (y ≡ x) ⊎ Contains xs x
@@ -100,7 +103,7 @@ module _ {X : Type 0} (addr : ℕ) where
       by_match (Some found) some = (found, some)
 
 -- a prefix has one row
-same_row : {X : Type 0} (rows : List (Prefix × X)) (r s : Prefix × X) → HasDistinctPrefixes rows → Contains rows r → Contains rows s → r.0 ≡ s.0 → r ≡ s
+pub same_row : {X : Type 0} (rows : List (Prefix × X)) (r s : Prefix × X) → HasDistinctPrefixes rows → Contains rows r → Contains rows s → r.0 ≡ s.0 → r ≡ s
 same_row rows r s distinct is_row is_other same =
     let (i, i_within, at_i) = at_from_Contains rows r is_row in
     let (j, j_within, at_j) = at_from_Contains rows s is_other in

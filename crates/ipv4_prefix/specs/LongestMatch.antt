@@ -1,5 +1,5 @@
 -- The longest match of an address in a list of rows (RFC 1812, section 5.2.4.3; RFC 4632, section 5.1).
-use Rattle.std.specs.Prelude.{◌≡◌, ◌≢◌, ℕ, ◌≤◌, true, nat_lt, if◌then◌else◌, List, [], ◌∷◌, Option, Some, None, Contains, All, AllPairs}
+use Rattle.std.specs.Prelude.{◌≡◌, ◌≢◌, ℕ, ◌<◌, ◌≤◌, true, nat_lt, if◌then◌else◌, List, [], ◌∷◌, Option, Some, None, Contains, All, AllPairs}
 use Rattle.ipv4_prefix.specs.Prefix.{Prefix, IsPrefix, covers}
 
 -- a row, or the other one where that has a longer prefix
@@ -25,3 +25,10 @@ HasDistinctPrefixes rows = AllPairs (λ r s. r.0 ≢ s.0) rows
 -- each row has a prefix that can be written
 abbrev pub HasWritablePrefixes : {X : Type 0} → List (Prefix × X) → Type 0
 HasWritablePrefixes rows = All (λ r. IsPrefix r.0) rows
+
+-- a longest match in a table that is given by the entry of each prefix: it has an entry, it covers the address, and no prefix that covers the address and has an entry is longer; none only where none that covers it has an entry
+abbrev pub IsLongestIn : {X : Type 0} → (Prefix → Option X) → ℕ → Option (Prefix × X) → Type 0
+IsLongestIn entry addr None = (p : Prefix) → IsPrefix p → covers p addr ≡ true → entry p ≡ None
+IsLongestIn entry addr (Some found) =
+    IsPrefix found.0 × (covers found.0 addr ≡ true) × (entry found.0 ≡ Some found.1)
+    × ((p : Prefix) → IsPrefix p → covers p addr ≡ true → (found.0).len < p.len → entry p ≡ None)

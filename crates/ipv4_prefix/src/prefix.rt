@@ -53,6 +53,21 @@ impl Prefix {
         Ok(Prefix { addr, len })
     }
 
+    /// The prefix of `len` bits, 0 to 32, that covers the address.
+    pub fn covering(addr: u32, len: u8) -> Prefix
+        requires { len ≤ 32 }
+        ensures len { result.len ≡ len }
+        ensures covers { IsTrue (is_in_block result addr) }
+        ensures valid { IsPrefix result }
+    {
+        let host_len = 32 - len;
+        let first = u64::from(addr) >> host_len << host_len;
+        Prefix {
+            addr: first as u32,
+            len,
+        }
+    }
+
     /// The prefix that the text spells: an address, a slash and a length 0..=32, all numbers in
     /// decimal without a leading zero. The faults are tested in the order of `PrefixFault`.
     pub fn parse(text: &str) -> Result<Prefix, PrefixFault>

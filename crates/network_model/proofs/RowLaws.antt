@@ -1,16 +1,19 @@
 -- Rows in the order of their keys: a key before all of them, values that are changed, and a row that is put.
-use Rattle.std.specs.Prelude.{T}
-use Rattle.std.proofs.Common.{◌≡◌, Bool, true, false, cond, ◌&&◌, List, [], ◌∷◌, map, Some, None, refl, ap, ◌∙◌}
+use Rattle.std.proofs.Common.{◌++◌, sym, append_assoc, ◌≡◌, true, false, cond, ◌&&◌, List, [], ◌∷◌, map, Some, None, refl, ap, ◌∙◌}
 use Rattle.std.specs.declared.cmp.Ordering.{Ordering}
 use Rattle.std.specs.declared.cmp.Ordering.TheVariants.{Less, Equal, Greater}
 use Rattle.std.specs.FinMap.{find, put, is_sorted}
 use Rattle.std.specs.FinMap.Entries.{below_all, by_order, is_sorted-put}
 use Rattle.std.specs.Option.{option_map}
-use Rattle.std.specs.Ordering.{is_eq, is_lt, eq_by_cmp}
+use Rattle.std.specs.Ordering.{is_eq, is_lt, eq_by_cmp, ordering_reverse}
 use Rattle.std.proofs.lemmas.Bool.{and_parts}
+use Rattle.std.proofs.lemmas.List.{append-nil}
 use Rattle.ipv4_prefix.specs.Prefix.{Prefix, prefix_cmp}
+use Rattle.ipv4_prefix.proofs.SortedRows.{to_T, from_T}
 use Rattle.ipv4_prefix.proofs.PrefixOrder.{prefix_cmp_total, less_from_test}
+use Rattle.network_model.specs.declared.route.Entry.{Entry}
 use Rattle.network_model.specs.World.{rows_of}
+use Rattle.network_model.specs.Publication.{with_rows}
 
 -- ---- in any order
 
@@ -51,16 +54,6 @@ module _ {K X Y : Type 0} (R : K → K → Ordering) (f : X → Y) where
 
 -- ---- in the order of prefixes
 
--- a test that passes, as a type
-pub to_T : (b : Bool) → b ≡ true → T b
-to_T true e = tt
-to_T false e = absurd (cc)
-
--- and back
-pub from_T : (b : Bool) → T b → b ≡ true
-from_T true h = refl
-from_T false h = absurd h
-
 -- rows stay sorted where a row is put
 pub sorted-put : {X : Type 0} (rows : List (Prefix × X)) (p : Prefix) (v : X) → is_sorted prefix_cmp rows ≡ true → is_sorted prefix_cmp (put prefix_cmp p v rows) ≡ true
 sorted-put rows p v s = from_T _ (is_sorted-put prefix_cmp prefix_cmp_total p v rows (to_T _ s))
@@ -74,3 +67,46 @@ sorted-rows_of x (p ∷ ps) = sorted-put (rows_of x ps) p x (sorted-rows_of x ps
 pub map-rows_of : {X Y : Type 0} (f : X → Y) (x : X) (ps : List Prefix) → map (λ e. (e.0, f e.1)) (rows_of x ps) ≡ rows_of (f x) ps
 map-rows_of f x [] = refl
 map-rows_of f x (p ∷ ps) = map-put prefix_cmp f p x (rows_of x ps) ∙ ap (put prefix_cmp p (f x)) (map-rows_of f x ps)
+
+-- ---- rows set in order
+
+-- a key before all rows is before a later one
+below_later : {X : Type 0} (p : Prefix) (xs rows : List (Prefix × X)) (r : Prefix × X) → below_all prefix_cmp p (xs ++ r ∷ rows) ≡ true → prefix_cmp p r.0 ≡ Less
+below_later p [] rows r below = less_from_test _ (and_parts _ _ below).0
+below_later p (x ∷ xs) rows r below = below_later p xs rows r (and_parts _ _ below).1
+
+-- a row behind all others is put last
+put_last : {X : Type 0} (xs rows : List (Prefix × X)) (r : Prefix × X) → is_sorted prefix_cmp (xs ++ r ∷ rows) ≡ true → put prefix_cmp r.0 r.1 xs ≡ xs ++ r ∷ []
+put_last [] rows r sorted = refl
+put_last (x ∷ xs) rows r sorted =
+    let parts = and_parts (below_all prefix_cmp x.0 (xs ++ r ∷ rows)) (is_sorted prefix_cmp (xs ++ r ∷ rows)) sorted in
+    let behind : prefix_cmp r.0 x.0 ≡ Greater = prefix_cmp_total.antisymm r.0 x.0 ∙ ap ordering_reverse (below_later x.0 xs rows r parts.0) in
+    ap (λ o. by_order o ((r.0, r.1) ∷ x ∷ xs) ((x.0, r.1) ∷ xs) (x ∷ put prefix_cmp r.0 r.1 xs)) behind
+    ∙ ap (λ ys. x ∷ ys) (put_last xs rows r parts.1)
+
+-- rows behind all others are set behind them
+with_rows-behind : (xs rows : List (Prefix × Entry)) → is_sorted prefix_cmp (xs ++ rows) ≡ true → with_rows rows xs ≡ xs ++ rows
+with_rows-behind xs [] sorted = sym (append-nil xs)
+with_rows-behind xs (r ∷ rows) sorted =
+    let joined : (xs ++ r ∷ []) ++ rows ≡ xs ++ r ∷ rows = append_assoc xs (r ∷ []) rows in
+    ap (with_rows rows) (put_last xs rows r sorted)
+    ∙ with_rows-behind (xs ++ r ∷ []) rows (ap (is_sorted prefix_cmp) joined ∙ sorted)
+    ∙ joined
+
+-- rows in order, set where there were none, are these rows
+pub with_rows-sorted : (rows : List (Prefix × Entry)) → is_sorted prefix_cmp rows ≡ true → with_rows rows [] ≡ rows
+with_rows-sorted rows sorted = with_rows-behind [] rows sorted
+
+-- the last of the rows is put last
+pub with_rows-push : (xs : List (Prefix × Entry)) (r : Prefix × Entry) (table : List (Prefix × Entry)) → with_rows (xs ++ r ∷ []) table ≡ put prefix_cmp r.0 r.1 (with_rows xs table)
+with_rows-push [] r table = refl
+with_rows-push (x ∷ xs) r table = with_rows-push xs r (put prefix_cmp x.0 x.1 table)
+
+-- rows behind the first leave it
+pub with_rows-past : (r : Prefix × Entry) (rows table : List (Prefix × Entry)) → below_all prefix_cmp r.0 rows ≡ true → with_rows rows (r ∷ table) ≡ r ∷ with_rows rows table
+with_rows-past r [] table below = refl
+with_rows-past r (s ∷ rows) table below =
+    let parts = and_parts _ _ below in
+    let behind : prefix_cmp s.0 r.0 ≡ Greater = prefix_cmp_total.antisymm s.0 r.0 ∙ ap ordering_reverse (less_from_test _ parts.0) in
+    ap (λ o. with_rows rows (by_order o ((s.0, s.1) ∷ r ∷ table) ((r.0, s.1) ∷ table) (r ∷ put prefix_cmp s.0 s.1 table))) behind
+    ∙ with_rows-past r rows (put prefix_cmp s.0 s.1 table) parts.1

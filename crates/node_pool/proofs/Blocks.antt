@@ -39,8 +39,8 @@ longer_or_same true k m n e = omega (arith, e)
 longer_or_same false k m n e = omega (arith, e)
 
 module _ {T : Type 0} where
-  -- a free cell has no value
-  none≢is_some : (o : Option T) → o ≡ None → is_some o ≡ true → ⊥
+  -- nothing is not some
+  pub none≢is_some : (o : Option T) → o ≡ None → is_some o ≡ true → ⊥
   none≢is_some o n s = let e : is_some o ≡ false = ap is_some n in false≢true (sym e ∙ s)
 
   -- a cell with no value is free

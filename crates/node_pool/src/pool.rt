@@ -11,9 +11,10 @@ use std::alloc::Global;
 const MOST_CELLS: usize = 1 << 32;
 
 /// Cells of one kind, in blocks of 1 to 16. A block that was given back is taken again before the
-/// pool grows, and `give` needs no memory, since the free blocks of each size are linked in their
-/// own cells. Places count from 0, and there are at most 2^32. `NoMemory` is answered only where a
-/// growth is refused: by the allocator, or since the pool would have more cells than places.
+/// pool grows for one of its size, and `give` needs no memory, since the free blocks of each size
+/// are linked in their own cells. Places count from 0, and there are at most 2^32: a pool that would
+/// have more cells refuses to grow, as the allocator may. `NoMemory` is answered only where there
+/// was less room than was asked for.
 #[derive(Debug, Drop)]
 pub struct Pool<T> {
     cells: Vec<Cell<T>>,

@@ -12,7 +12,8 @@ pub const MOST_NODES: usize = 16;
 /// The most results in a block: at most 15 prefixes end in a node.
 pub const MOST_RESULTS: usize = 15;
 
-/// A block that was taken: the place of its first cell, and how many cells it has.
+/// Cells in use, side by side: the place of the first, and how many there are. Which cells were
+/// taken as one block, the caller knows.
 #[derive(Clone, Copy, Debug, PartialEq, Eq)]
 pub enum Block {
     Nodes { base: u32, size: usize },

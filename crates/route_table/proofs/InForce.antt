@@ -53,7 +53,7 @@ published-put p row (r ∷ rs) s kept =
 
 -- ---- the order of the published rows
 
-below-published : (p : Prefix) (rows : List (Prefix × Row)) → below_all prefix_cmp p rows ≡ true → below_all prefix_cmp p (published_rows rows) ≡ true
+pub below-published : (p : Prefix) (rows : List (Prefix × Row)) → below_all prefix_cmp p rows ≡ true → below_all prefix_cmp p (published_rows rows) ≡ true
 below-published p [] b = refl
 below-published p (r ∷ rs) b =
     let parts = and_parts _ _ b in

@@ -11,7 +11,8 @@ use Rattle.network_model.specs.declared.route.Entry.{Entry}
 use Rattle.route_table.specs.declared.row.Row.{Row}
 use Rattle.route_table.specs.Place.{without}
 use Rattle.route_table.specs.Rows.{control_rows, differs, differing_rows, with_change, with_in_force, IsKept}
-use Rattle.network_model.proofs.RowLaws.{find-map, to_T}
+use Rattle.ipv4_prefix.proofs.SortedRows.{to_T}
+use Rattle.network_model.proofs.RowLaws.{find-map}
 use Rattle.ipv4_prefix.proofs.PrefixOrder.{prefix_cmp_total}
 use Rattle.route_table.proofs.Changed.{differing-put_new, differing-put_same}
 use Rattle.route_table.proofs.Publication.{marked, with_in_force-differing, differing-marked}

@@ -5,4 +5,4 @@ pub mod Changed
 pub mod Publication
 pub mod Kept
 pub mod RowReads
-pub mod DistinctRows
+pub mod Patched

@@ -11,6 +11,7 @@ use Rattle.std.specs.Ordering.{is_lt, is_eq, eq_by_cmp, ordering_index, ordering
 use Rattle.std.proofs.lemmas.Bool.{and_parts, and_from, cases_lt}
 use Rattle.std.proofs.lemmas.Cmp.{tied_back}
 use Rattle.std.proofs.lemmas.List.Sorted.{searchable_from_sorted}
+use Rattle.ipv4_prefix.proofs.SortedRows.{below_at}
 use Rattle.ipv4_prefix.proofs.PrefixOrder.{less_from_test}
 
 module _ {K : Type 0} {R : K → K → Ordering} (o : IsTotalOrder R) where
@@ -41,14 +42,9 @@ module _ {K : Type 0} {R : K → K → Ordering} (o : IsTotalOrder R) where
 module _ {K X : Type 0} {R : K → K → Ordering} (o : IsTotalOrder R) where
   -- ---- what the order of the rows says of two places
 
-  pub below_at : (k : K) (es : List (K × X)) (i : ℕ) (d : K × X) → below_all R k es ≡ true → i < length es → R k (get_or es i d).0 ≡ Less
-  below_at k [] i d b h = absurd (omega arith)
-  below_at k (e ∷ es) zero d b h = less_from_test _ (and_parts _ _ b).0
-  below_at k (e ∷ es) (suc i) d b h = below_at k es i d (and_parts _ _ b).1 (omega arith)
-
   sorted_at : (es : List (K × X)) (i : ℕ) (d : K × X) → is_sorted R es ≡ true → suc i < length es → R (get_or es i d).0 (get_or es (suc i) d).0 ≡ Less
   sorted_at [] i d s h = absurd (omega arith)
-  sorted_at (e ∷ es) zero d s h = below_at e.0 es 0 d (and_parts _ _ s).0 (omega arith)
+  sorted_at (e ∷ es) zero d s h = below_at R e.0 es 0 d (and_parts _ _ s).0 (omega arith)
   sorted_at (e ∷ es) (suc i) d s h = sorted_at es i d (and_parts _ _ s).1 (omega arith)
 
   -- what a binary search by key asks of the rows
@@ -104,12 +100,12 @@ module _ {K X : Type 0} {R : K → K → Ordering} (o : IsTotalOrder R) where
   put_below q v (e ∷ es) b = put_before R q v e es (less_from_test _ (and_parts _ _ b).0)
 
   pub others_below : (q : K) (es : List (K × X)) → below_all R q es ≡ true → filter (λ e. not (eq_by_cmp R q e.0)) es ≡ es
-  others_below q es b = others_all es q (none_of_less es q (λ k d h. below_at q es k d b h))
+  others_below q es b = others_all es q (none_of_less es q (λ k d h. below_at R q es k d b h))
 
   -- ---- a place with the key
 
   before : (e : K × X) (es : List (K × X)) (i : ℕ) (q : K) (d : K × X) → below_all R e.0 es ≡ true → i < length es → R (get_or es i d).0 q ≡ Equal → R q e.0 ≡ Greater
-  before e es i q d b h t = sym (o.congr _ q e.0 t) ∙ turned o _ _ Less (below_at e.0 es i d b h)
+  before e es i q d b h t = sym (o.congr _ q e.0 t) ∙ turned o _ _ Less (below_at R e.0 es i d b h)
 
   pub put-set : (es : List (K × X)) (i : ℕ) (q : K) (v : X) (d : K × X) → is_sorted R es ≡ true → i < length es → R (get_or es i d).0 q ≡ Equal → put R q v es ≡ set es i ((get_or es i d).0, v)
   put-set [] i q v d s h t = absurd (omega arith)
@@ -129,7 +125,7 @@ module _ {K X : Type 0} {R : K → K → Ordering} (o : IsTotalOrder R) where
   others-remove [] i q d s h t = absurd (omega arith)
   others-remove (e ∷ es) zero q d s h t =
       others_here R q e es (tied_back o e.0 q t)
-      ∙ others_all es q (none_of_less es q (λ k d h. sym (o.congr e.0 q _ t) ∙ below_at e.0 es k d (and_parts _ _ s).0 h))
+      ∙ others_all es q (none_of_less es q (λ k d h. sym (o.congr e.0 q _ t) ∙ below_at R e.0 es k d (and_parts _ _ s).0 h))
   others-remove (e ∷ es) (suc i) q d s h t =
       others_past R q e es (before e es i q d (and_parts _ _ s).0 (omega arith) t)
       ∙ ap (λ xs. e ∷ xs) (others-remove es i q d (and_parts _ _ s).1 (omega arith) t)

@@ -8,7 +8,8 @@ use Rattle.std.specs.List.Sorted.{IsBinarySearchResult, IsSearchInRange}
 use Rattle.std.proofs.lemmas.Cmp.{tied_itself}
 use Rattle.std.proofs.lemmas.List.Edits.{length-insert}
 use Rattle.ipv4_prefix.specs.Prefix.{Prefix, prefix_cmp, prefix_eq}
-use Rattle.network_model.proofs.RowLaws.{to_T, from_T, sorted-put}
+use Rattle.ipv4_prefix.proofs.SortedRows.{to_T, from_T}
+use Rattle.network_model.proofs.RowLaws.{sorted-put}
 use Rattle.route_table.specs.Place.{IsPlace, without}
 use Rattle.ipv4_prefix.proofs.PrefixOrder.{prefix_cmp_total, prefix_cmp-tied}
 use Rattle.route_table.proofs.Places.{searchable, put-set, put-insert, find-at, find-between, others-remove, others-between}

@@ -4,6 +4,7 @@ ghost use Rattle.std.specs.Prelude.{◌≡◌, ◌+◌, ◌<◌, ◌≤◌, ◌�
 ghost use Rattle.std.specs.FinMap.{find as row_of, put, is_sorted};
 ghost use Rattle.ipv4_prefix.specs.Prefix.{prefix_cmp};
 ghost use Rattle.network_model.specs.Step.{changed_rows};
+ghost use Rattle.network_model.specs.Publication.{with_rows};
 ghost use Rattle.route_table.specs.PrefixMap.{map_rows, map_capacity};
 ghost use Rattle.route_table.specs.Rows.{with_change, with_in_force};
 
@@ -95,6 +96,7 @@ impl RouteTable {
     pub fn changed(&self) -> ChangedRows<'_>
         ensures all { result ≡ changed_rows (self.now).table }
         ensures sorted { IsTrue (is_sorted prefix_cmp result) }
+        ensures patch { with_rows result (self.now).table.published ≡ (self.now).table.control }
     {
         ChangedRows::new(self.changed.as_slice())
     }

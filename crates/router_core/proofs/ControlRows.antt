@@ -1,27 +1,16 @@
 -- The control rows that a notice makes: each machine's row set in turn is all of them set at once.
 use Rattle.std.specs.Prelude.{◌≡◌, true, List, [], ◌∷◌, map}
-use Rattle.std.specs.FinMap.{put, is_sorted}
+use Rattle.std.specs.FinMap.{is_sorted}
 use Rattle.std.specs.FinMap.Entries.{below_all}
-use Rattle.std.specs.declared.cmp.Ordering.TheVariants.{Greater}
-use Rattle.std.specs.Ordering.{is_lt, ordering_reverse}
 use Rattle.std.proofs.Common.{refl, ap, ◌∙◌}
 use Rattle.std.proofs.lemmas.Bool.{and_parts, and_from}
 use Rattle.std.proofs.lemmas.Cmp.{tied_itself}
 use Rattle.ipv4_prefix.specs.Prefix.{Prefix, prefix_cmp}
 use Rattle.network_model.specs.declared.route.Entry.{Entry}
 use Rattle.network_model.specs.Publication.{with_rows}
-use Rattle.ipv4_prefix.proofs.PrefixOrder.{prefix_cmp_total, less_from_test}
-use Rattle.route_table.proofs.Places.{put_here, put_past}
-
-above : (p q : Prefix) → is_lt (prefix_cmp p q) ≡ true → prefix_cmp q p ≡ Greater
-above p q e = prefix_cmp_total.antisymm q p ∙ ap ordering_reverse (less_from_test (prefix_cmp p q) e)
-
--- rows of longer or later prefixes leave the first row
-with_rows-past : (r : Prefix × Entry) (rs table : List (Prefix × Entry)) → below_all prefix_cmp r.0 rs ≡ true → with_rows rs (r ∷ table) ≡ r ∷ with_rows rs table
-with_rows-past r [] table below = refl
-with_rows-past r (s ∷ rs) table below =
-    let parts : _ = and_parts _ _ below in
-    ap (with_rows rs) (put_past prefix_cmp s.0 s.1 r table (above r.0 s.0 parts.0)) ∙ with_rows-past r rs (put prefix_cmp s.0 s.1 table) parts.1
+use Rattle.ipv4_prefix.proofs.PrefixOrder.{prefix_cmp_total}
+use Rattle.network_model.proofs.RowLaws.{with_rows-past}
+use Rattle.route_table.proofs.Places.{put_here}
 
 -- a row for each element, in the order of its prefix
 module _ {A : Type 0} (f g : Prefix × A → Entry) where

@@ -6,6 +6,7 @@ ghost use Rattle.std.specs.FinMap.{find as row_of, put, is_sorted};
 ghost use Rattle.std.specs.Option.{option_copied};
 ghost use Rattle.ipv4_prefix.specs.Prefix.{prefix_cmp};
 ghost use Rattle.network_model.specs.Machine.{opening_machine};
+ghost use Rattle.network_model.specs.Publication.{with_rows};
 ghost use Rattle.network_model.specs.World as world;
 ghost use Rattle.network_model.specs.Step as step;
 ghost use Rattle.dual_machine.specs.Event.{port_of};
@@ -166,9 +167,11 @@ impl Router {
         self.effects.table.is_changed() || self.effects.gate.ripe() < self.effects.gate.held()
     }
 
-    /// The rows that a publication would put in force, in the order of the prefixes.
+    /// The rows that a publication would put in force, in the order of the prefixes: set over the
+    /// published rows, they make them the chosen ones.
     pub fn patch_rows(&self, alloc: Global) -> Result<Vec<(Prefix, Entry)>, NoMemory>
-        ensures { IfOk result (λ rows. rows.items ≡ step.changed_rows (self.now).table) }
+        ensures rows { IfOk result (λ rows. rows.items ≡ step.changed_rows (self.now).table) }
+        ensures patch { IfOk result (λ rows. with_rows rows.items (self.now).table.published ≡ (self.now).table.control) }
     {
         let rows = self.effects.table.changed().collect(alloc)?;
         Ok(rows)

@@ -7,7 +7,7 @@ use Rattle.std.proofs.lemmas.Nat.Bits.{bit_at-lt}
 use Rattle.std.proofs.lemmas.Bool.{cases_order}
 use mathlib.Core.Path.{fun_ext}
 use Rattle.node_pool.specs.Pool.{IsGrown, IsWritten}
-use Rattle.tree_bitmap.specs.Bits.{rank, nibble, first_bits, internal_bit}
+use Rattle.tree_bitmap.specs.Bits.{rank, nibble, path_start, internal_bit}
 use Rattle.tree_bitmap.specs.Tree.{blank, node_at, row_at, IsSound, SetsRow, with_child, with_result, IsChild, IsResult}
 use Rattle.tree_bitmap.specs.declared.node.Node.{Node}
 use Rattle.network_model.specs.declared.route.Entry.{Entry}
@@ -37,7 +37,7 @@ few_results n k l b h = omega (arith, ones-le 15 (n + 2 ^ k) (add_lt n k 15 l b 
 -- the same rows before the change
 pub sets_from : (f g h : ℕ → ℕ → Option Entry) (path len len' : ℕ) (entry : Entry) → ((q m : ℕ) → g q m ≡ f q m) → len' ≡ len → SetsRow g h path len' entry → SetsRow f h path len entry
 sets_from f g h path len len' entry same e w = record {
-  hit = λ q p. subst (λ m. first_bits q m ≡ first_bits path m → h q m ≡ Some entry) e (w.hit q) p;
+  hit = λ q p. subst (λ m. path_start q m ≡ path_start path m → h q m ≡ Some entry) e (w.hit q) p;
   miss = λ q m l b out. w.miss q m l b (λ x. out (x ∙ e)) ∙ same q m;
 }
 

@@ -1,12 +1,13 @@
 -- The longest prefix of an address that ends in a node.
-use Rattle.std.proofs.Common.{ℕ, zero, suc, ◌≡◌, ◌⊎◌, inl, inr, ◌↔◌, ◌+◌, ◌-◌, ◌*◌, ◌/◌, ◌%◌, ◌^◌, ◌<◌, ◌≤◌, min, max, bit_and, bit_or, Some, None, arith, refl, sym, ap, subst, ◌∙◌}
+use Rattle.std.proofs.Common.{ℕ, zero, suc, ◌≡◌, ◌⊎◌, inl, inr, ⊎_elim, ◌↔◌, ◌+◌, ◌-◌, ◌*◌, ◌/◌, ◌%◌, ◌^◌, ◌<◌, ◌≤◌, min, max, bit_and, bit_or, [], ◌∷◌, slice_index_or, Bool, true, ◌==◌, ◌&&◌, Option, Some, None, arith, refl, sym, ap, subst, ◌∙◌}
 use Rattle.std.specs.Int.{bit_at}
 use Rattle.std.specs.Int.Count.{count_leading_zeros}
-use Rattle.std.proofs.lemmas.Bool.{cases_eq}
+use Rattle.std.proofs.lemmas.Bool.{cases_eq, lt-ltb, le-ltb, and_parts, eqb-true}
 use Rattle.std.proofs.lemmas.Nat.{leading_top, pow-add, shr_high}
 use Rattle.std.proofs.lemmas.Nat.Bits.{bit_at-zero, bit_at-lt, bit_at_and, bit_at_or, bit_at_above, bit_at-pow_same, bit_at-pow_other}
-use Rattle.tree_bitmap.specs.Best.{BestBelow}
-use Rattle.tree_bitmap.specs.Bits.{rank, internal_bit, IsHighest, width}
+use Rattle.tree_bitmap.specs.Greatest.{GreatestBelow}
+use Rattle.tree_bitmap.specs.Bits.{internal_bit, length_of, IsHighest, width}
+use Rattle.tree_bitmap.specs.Hit.{bit_place}
 use Rattle.tree_bitmap.specs.Tree.{result_place}
 use Rattle.tree_bitmap.specs.declared.node.Node.{Node}
 use Rattle.tree_bitmap.proofs.FirstBits.{internal_bit_small}
@@ -102,6 +103,26 @@ covers_four four depth k small deep = (λ h. to (four_bits_set (1 + four / 2 ^ 3
     from (suc (suc (suc zero))) l e = inr (inr (inr (omega arith)))
     from (suc (suc (suc (suc n)))) l e = absurd (omega arith)
 
+-- the table has them: each entry is computed
+abbrev table : ℕ → ℕ
+table four = slice_index_or (139 ∷ 139 ∷ 267 ∷ 267 ∷ 531 ∷ 531 ∷ 1043 ∷ 1043 ∷ 2085 ∷ 2085 ∷ 4133 ∷ 4133 ∷ 8261 ∷ 8261 ∷ 16453 ∷ 16453 ∷ []) four 0
+
+abbrev computed : ℕ → ℕ
+computed four = four_bits (1 + four / 2 ^ 3) (3 + four / 2 ^ 2) (7 + four / 2 ^ 1)
+
+abbrev agree_below : ℕ → Bool
+agree_below zero = true
+agree_below (suc n) = (table n == computed n) && agree_below n
+
+agree_at : (n : ℕ) → agree_below n ≡ true → (k : ℕ) → k < n → table k ≡ computed k
+agree_at zero e k h = absurd (omega (arith, h))
+agree_at (suc n) e k h =
+    let parts = and_parts (table n == computed n) (agree_below n) e in
+    ⊎_elim (λ same. ap table same ∙ eqb-true (table n) (computed n) parts.0 ∙ ap computed (sym same)) (λ apart. agree_at n parts.1 k (omega (arith, h, apart))) (cases_eq k n)
+
+pub table_entry : (four : ℕ) → four < 16 → table four ≡ computed four
+table_entry = agree_at 16 refl
+
 -- at depth 8 it is the first alone
 pub covers_one : (four k : ℕ) → four < 16 → bit_at 1 k ≡ 1 ↔ ((len : ℕ) × (len < width 8) × (k ≡ internal_bit four len))
 covers_one four k small = (to (one_bit 0 k), λ h. from h.0 h.1 h.2)
@@ -116,14 +137,13 @@ covers_one four k small = (to (one_bit 0 k), λ h. from h.0 h.1 h.2)
 
 -- ---- lengths
 
--- the length to which an internal bit belongs, by bounds
-pub length_of_bit : (bit four len : ℕ) → four < 16 → len < 4 → bit ≡ internal_bit four len
-    → (bit < 1 → 0 ≡ len) × (1 ≤ bit → bit < 3 → 1 ≡ len) × (3 ≤ bit → bit < 7 → 2 ≡ len) × (7 ≤ bit → 3 ≡ len)
-length_of_bit bit four zero h l e = (λ a. refl, λ a b. absurd (omega arith), λ a b. absurd (omega arith), λ a. absurd (omega arith))
-length_of_bit bit four (suc zero) h l e = (λ a. absurd (omega arith), λ a b. refl, λ a b. absurd (omega arith), λ a. absurd (omega arith))
-length_of_bit bit four (suc (suc zero)) h l e = (λ a. absurd (omega arith), λ a b. absurd (omega arith), λ a b. refl, λ a. absurd (omega arith))
-length_of_bit bit four (suc (suc (suc zero))) h l e = (λ a. absurd (omega arith), λ a b. absurd (omega arith), λ a b. absurd (omega arith), λ a. refl)
-length_of_bit bit four (suc (suc (suc (suc n)))) h l e = absurd (omega arith)
+-- a prefix's internal bit tells its length
+pub length_of-internal : (bit four len : ℕ) → four < 16 → len < 4 → bit ≡ internal_bit four len → length_of bit ≡ len
+length_of-internal bit four zero h l e = rw (lt-ltb bit 1 (omega arith)) refl
+length_of-internal bit four (suc zero) h l e = rw (le-ltb bit 1 (omega arith), lt-ltb bit 3 (omega arith)) refl
+length_of-internal bit four (suc (suc zero)) h l e = rw (le-ltb bit 1 (omega arith), le-ltb bit 3 (omega arith), lt-ltb bit 7 (omega arith)) refl
+length_of-internal bit four (suc (suc (suc zero))) h l e = rw (le-ltb bit 1 (omega arith), le-ltb bit 3 (omega arith), le-ltb bit 7 (omega arith)) refl
+length_of-internal bit four (suc (suc (suc (suc n)))) h l e = absurd (omega arith)
 
 -- a longer prefix has a greater bit
 longer_is_greater : (four l m : ℕ) → four < 16 → l < m → m < 4 → internal_bit four l < internal_bit four m
@@ -165,25 +185,30 @@ module _ (a : Node) (four depth cover : ℕ) (small : four < 16)
       omega (arith, bit_at_and a.internal cover k, h, c)
 
   -- where no masked bit is set, no prefix of the address ends in the node
-  pub none_in : IsHighest (bit_and a.internal cover) None → BestBelow (λ len. result_place (internal_bit four len) (Some a)) (width depth) None
+  none_in : IsHighest (bit_and a.internal cover) None → GreatestBelow (λ len. result_place (internal_bit four len) (Some a)) (width depth) None
   none_in z len l = place-clear (internal_bit four len) a (λ h.
       let one : bit_at (bit_and a.internal cover) (internal_bit four len) ≡ 1 = masked len l h in
       let none : bit_at (bit_and a.internal cover) (internal_bit four len) ≡ 0 = ap (λ m. bit_at m (internal_bit four len)) z ∙ bit_at-zero (internal_bit four len) in
       omega (arith, one, none))
 
   -- else the greatest is that of the longest
-  pub longest_in : (bit length : ℕ) → IsHighest (bit_and a.internal cover) (Some bit) → ((f len : ℕ) → f < 16 → len < 4 → bit ≡ internal_bit f len → length ≡ len)
-      → BestBelow (λ len. result_place (internal_bit four len) (Some a)) (width depth) (Some (length, a.result_base + rank a.internal bit))
-  longest_in bit length top is =
+  some_in : (bit : ℕ) → IsHighest (bit_and a.internal cover) (Some bit)
+      → GreatestBelow (λ len. result_place (internal_bit four len) (Some a)) (width depth) (bit_place a (Some bit))
+  some_in bit top =
       let both = both_bits a.internal cover bit top.1 in
       let at = (covered bit top.0).0 both.1 in
-      let same : length ≡ at.0 = is four at.0 small (omega (arith, at.1, few)) at.2 in
-      let here : bit ≡ internal_bit four length = at.2 ∙ ap (internal_bit four) (sym same) in (
+      let same : length_of bit ≡ at.0 = length_of-internal bit four at.0 small (omega (arith, at.1, few)) at.2 in
+      let here : bit ≡ internal_bit four (length_of bit) = at.2 ∙ ap (internal_bit four) (sym same) in (
         omega (arith, same, at.1),
         ap (λ k. result_place k (Some a)) (sym here) ∙ place-set bit a both.0,
         λ len l h. place-clear (internal_bit four len) a (λ x.
             let one : bit_at (bit_and a.internal cover) (internal_bit four len) ≡ 1 = masked len h x in
-            let above : internal_bit four length < internal_bit four len = longer_is_greater four length len small l (omega (arith, h, few)) in
+            let above : internal_bit four (length_of bit) < internal_bit four len = longer_is_greater four (length_of bit) len small l (omega (arith, h, few)) in
             let none : bit_at (bit_and a.internal cover) (internal_bit four len) ≡ 0 = top.2 (internal_bit four len) (omega (arith, above, here)) in
             omega (arith, one, none)),
       )
+
+  -- so it is the longest, if there is one
+  pub longest_in : (bit : Option ℕ) → IsHighest (bit_and a.internal cover) bit → GreatestBelow (λ len. result_place (internal_bit four len) (Some a)) (width depth) (bit_place a bit)
+  longest_in None top = none_in top
+  longest_in (Some bit) top = some_in bit top

@@ -1,4 +1,3 @@
-pub mod DistinctRows
 pub mod Ranks
 pub mod Paths
 pub mod NewChild
@@ -9,3 +8,4 @@ pub mod NewResult
 pub mod Calls
 pub mod LongestRow
 pub mod EmptyTree
+pub mod PrefixRows

@@ -2,8 +2,8 @@
 use Rattle.std.proofs.Common.{ℕ, zero, suc, ◌≡◌, ◌≢◌, ◌⊎◌, inl, inr, ⊎_elim, ◌+◌, ◌-◌, ◌*◌, ◌/◌, ◌%◌, ◌^◌, ◌<◌, ◌≤◌, min, Option, Some, None, is_some, true, option_and_then, arith, sym, ap, subst, ◌∙◌}
 use Rattle.std.specs.Int.{bit_at}
 use Rattle.std.proofs.lemmas.Bool.{cases_lt, cases_eq}
-use Rattle.tree_bitmap.specs.Bits.{rank, nibble, first_bits, internal_bit, width}
-use Rattle.tree_bitmap.specs.Best.{BestBelow, longer}
+use Rattle.tree_bitmap.specs.Bits.{rank, nibble, path_start, internal_bit, width}
+use Rattle.tree_bitmap.specs.Greatest.{GreatestBelow, longer}
 use Rattle.tree_bitmap.specs.Tree.{node_at, entry_at_bit, result_place, place_at, row_at, node_cell, IsSound}
 use Rattle.tree_bitmap.specs.declared.node.Node.{Node}
 use Rattle.network_model.specs.declared.route.Entry.{Entry}
@@ -19,13 +19,13 @@ longer-none f g n w s o k l h =
     ap f (sym e) ∙ s (k - n) (omega arith) ∙ o (k - n) (omega arith)
 
 -- what is found within the next w bits, where there is any, is the longest so far
-pub BestBelow-longer : {X : Type 0} (f g : ℕ → Option X) (n w : ℕ) (own above : Option (ℕ × X)) → ((k : ℕ) → k < w → f (n + k) ≡ g k)
-    → BestBelow g w own → BestBelow f n above → BestBelow f (n + w) (longer own n above)
-BestBelow-longer f g n w None None s o a = λ k h.
+pub GreatestBelow-longer : {X : Type 0} (f g : ℕ → Option X) (n w : ℕ) (own above : Option (ℕ × X)) → ((k : ℕ) → k < w → f (n + k) ≡ g k)
+    → GreatestBelow g w own → GreatestBelow f n above → GreatestBelow f (n + w) (longer own n above)
+GreatestBelow-longer f g n w None None s o a = λ k h.
     ⊎_elim (λ l. a k l) (λ l. longer-none f g n w s o k l h) (cases_lt k n)
-BestBelow-longer f g n w None (Some r) s o a =
+GreatestBelow-longer f g n w None (Some r) s o a =
     (omega (arith, a.0), a.1, λ k l h. ⊎_elim (λ below. a.2 k l below) (λ past. longer-none f g n w s o k past h) (cases_lt k n))
-BestBelow-longer f g n w (Some own) above s o a = (
+GreatestBelow-longer f g n w (Some own) above s o a = (
   omega (arith, o.0),
   s own.0 o.0 ∙ o.1,
   λ k l h. let e : n + (k - n) ≡ k = omega arith in
@@ -33,9 +33,9 @@ BestBelow-longer f g n w (Some own) above s o a = (
 )
 
 -- the greatest find stays the greatest where nothing comes after
-pub BestBelow-end : {X : Type 0} (f : ℕ → Option X) (n m : ℕ) (best : Option (ℕ × X)) → n ≤ m → ((k : ℕ) → n ≤ k → k < m → f k ≡ None) → BestBelow f n best → BestBelow f m best
-BestBelow-end f n m None h e b = λ k l. ⊎_elim (λ q. b k q) (λ q. e k q l) (cases_lt k n)
-BestBelow-end f n m (Some r) h e b = (omega (arith, b.0), b.1, λ k l q. ⊎_elim (λ below. b.2 k l below) (λ past. e k past q) (cases_lt k n))
+pub GreatestBelow-end : {X : Type 0} (f : ℕ → Option X) (n m : ℕ) (best : Option (ℕ × X)) → n ≤ m → ((k : ℕ) → n ≤ k → k < m → f k ≡ None) → GreatestBelow f n best → GreatestBelow f m best
+GreatestBelow-end f n m None h e b = λ k l. ⊎_elim (λ q. b k q) (λ q. e k q l) (cases_lt k n)
+GreatestBelow-end f n m (Some r) h e b = (omega (arith, b.0), b.1, λ k l q. ⊎_elim (λ below. b.2 k l below) (λ past. e k past q) (cases_lt k n))
 
 -- where the walk has ended it stays ended
 pub gone : (nodes : ℕ → Option Node) (path depth more : ℕ) → node_at nodes path depth ≡ None → node_at nodes path (more + depth) ≡ None
@@ -66,46 +66,46 @@ module _ (nodes : ℕ → Option Node) (path : ℕ) where
   -- one node more is read
   pub best_after : (depth four j : ℕ) (a : Node) (own above best : Option (ℕ × ℕ)) → depth ≤ 8
       → node_at nodes path depth ≡ Some j → nodes j ≡ Some a → four ≡ nibble path depth
-      → BestBelow (λ len. result_place (internal_bit four len) (Some a)) (width depth) own
-      → BestBelow (place_at nodes path) (min (4 * depth) 33) above
+      → GreatestBelow (λ len. result_place (internal_bit four len) (Some a)) (width depth) own
+      → GreatestBelow (place_at nodes path) (min (4 * depth) 33) above
       → best ≡ longer own (4 * depth) above
-      → BestBelow (place_at nodes path) (min (4 * (depth + 1)) 33) best
+      → GreatestBelow (place_at nodes path) (min (4 * (depth + 1)) 33) best
   best_after depth four j a own above best h e c f o b is =
       let n : min (4 * depth) 33 ≡ 4 * depth = omega arith in
       let m : 4 * depth + width depth ≡ min (4 * (depth + 1)) 33 = omega arith in
       let few : width depth ≤ 4 = omega arith in
-      subst (λ x. BestBelow (place_at nodes path) x best) m
-      (subst (λ x. BestBelow (place_at nodes path) (4 * depth + width depth) x) (sym is)
-      (BestBelow-longer (place_at nodes path) (λ len. result_place (internal_bit (nibble path depth) len) (Some a)) (4 * depth) (width depth) own above
+      subst (λ x. GreatestBelow (place_at nodes path) x best) m
+      (subst (λ x. GreatestBelow (place_at nodes path) (4 * depth + width depth) x) (sym is)
+      (GreatestBelow-longer (place_at nodes path) (λ len. result_place (internal_bit (nibble path depth) len) (Some a)) (4 * depth) (width depth) own above
       (λ k l. place_in depth k j a (omega (arith, l, few)) e c)
-      (subst (λ x. BestBelow (λ len. result_place (internal_bit x len) (Some a)) (width depth) own) f o)
-      (subst (λ x. BestBelow (place_at nodes path) x above) n b)))
+      (subst (λ x. GreatestBelow (λ len. result_place (internal_bit x len) (Some a)) (width depth) own) f o)
+      (subst (λ x. GreatestBelow (place_at nodes path) x above) n b)))
 
   -- the last node is read
   pub best_last : (depth four j : ℕ) (a : Node) (best : Option (ℕ × ℕ)) → depth ≤ 8 → node_at nodes path depth ≡ Some j → nodes j ≡ Some a → four ≡ nibble path depth
-      → bit_at a.external four ≢ 1 → BestBelow (place_at nodes path) (min (4 * (depth + 1)) 33) best → BestBelow (place_at nodes path) 33 best
+      → bit_at a.external four ≢ 1 → GreatestBelow (place_at nodes path) (min (4 * (depth + 1)) 33) best → GreatestBelow (place_at nodes path) 33 best
   best_last depth four j a best h e c f unset b =
-      BestBelow-end (place_at nodes path) (min (4 * (depth + 1)) 33) 33 best (omega arith)
+      GreatestBelow-end (place_at nodes path) (min (4 * (depth + 1)) 33) 33 best (omega arith)
       (λ k l m. none_after depth j a e c (λ x. unset (ap (bit_at a.external) f ∙ x)) k (omega arith)) b
 
 -- a row goes by the first bits alone
-pub row_covers : (nodes : ℕ → Option Node) (results : ℕ → Option Entry) (p q len : ℕ) → len < 36 → first_bits p len ≡ first_bits q len
+pub row_covers : (nodes : ℕ → Option Node) (results : ℕ → Option Entry) (p q len : ℕ) → len < 36 → path_start p len ≡ path_start q len
     → row_at nodes results p len ≡ row_at nodes results q len
 unfolding row_at place_at
 row_covers nodes results p q len h e =
     let d : 4 * (len / 4) + len % 4 ≡ len = omega arith in
-    let parts = parts_from_first p q (len / 4) (len % 4) (omega arith) (omega arith) (subst (λ k. first_bits p k ≡ first_bits q k) (sym d) e) in
+    let parts = parts_from_first p q (len / 4) (len % 4) (omega arith) (omega arith) (subst (λ k. path_start p k ≡ path_start q k) (sym d) e) in
     ap (λ x. entry_at_bit results (2 ^ (len % 4) - 1 + x) (node_cell nodes (node_at nodes p (len / 4)))) parts.1
     ∙ ap (λ o. entry_at_bit results (internal_bit (nibble q (len / 4)) (len % 4)) (node_cell nodes o)) (node_at-same nodes p q (len / 4) parts.0)
 
 -- what is found at its place is what is found
 pub best_row : (nodes : ℕ → Option Node) (results : ℕ → Option Entry) (path len place : ℕ) (entry : Entry)
-    → BestBelow (place_at nodes path) 33 (Some (len, place)) → results place ≡ Some entry → BestBelow (row_at nodes results path) 33 (Some (len, entry))
+    → GreatestBelow (place_at nodes path) 33 (Some (len, place)) → results place ≡ Some entry → GreatestBelow (row_at nodes results path) 33 (Some (len, entry))
 unfolding row_at
 best_row nodes results path len place entry b e = (b.0, ap (option_and_then results) b.1 ∙ e, λ k l h. ap (option_and_then results) (b.2 k l h))
 
 -- where no place is found, there is no row
-pub no_row : (nodes : ℕ → Option Node) (results : ℕ → Option Entry) (path : ℕ) → BestBelow (place_at nodes path) 33 None → BestBelow (row_at nodes results path) 33 None
+pub no_row : (nodes : ℕ → Option Node) (results : ℕ → Option Entry) (path : ℕ) → GreatestBelow (place_at nodes path) 33 None → GreatestBelow (row_at nodes results path) 33 None
 unfolding row_at
 no_row nodes results path b = λ k h. ap (option_and_then results) (b k h)
 

@@ -8,7 +8,8 @@ use Rattle.tree_bitmap.specs.Tree.{blank, nibble, internal_bit, child, HasChild,
 use Rattle.tree_bitmap.specs.declared.node.Node.{Node}
 use Rattle.network_model.specs.declared.route.Entry.{Entry}
 use Rattle.tree_bitmap.proofs.Ranks.{rank_lt, rank_le, rank_mono, rank_mono_lt, bit_at-add_same, bit_at-add_other, ones-add, rank-add_below, rank-add_above}
-use Rattle.tree_bitmap.proofs.Paths.{cases_option, is_some-from, some-from, none≢some, none≢is_some, Some_same, child_in_block, step_none, step_yes, step_no, root_at, IsStep, node_used, step_of, blank_ends, entry-blank, entry-with_child, row-some, row-none, blank_has_no_child, blank_has_no_result}
+use Rattle.node_pool.proofs.Blocks.{none≢is_some}
+use Rattle.tree_bitmap.proofs.Paths.{cases_option, is_some-from, some-from, none≢some, Some_same, child_in_block, step_none, step_yes, step_no, root_at, IsStep, node_used, step_of, blank_ends, entry-blank, entry-with_child, row-some, row-none, blank_has_no_child, blank_has_no_result}
 
 -- where a cell's content is afterwards
 abbrev pub Moves : Node → ℕ → ℕ → ℕ → ℕ → Type 0
@@ -179,10 +180,8 @@ module _ (N M N' : ℕ → Option Node) (G : ℕ → Option Entry) (index four b
   pub row_same : (path len : ℕ) → row_at N' G path len ≡ row_at N G path len
   row_same path len = row_from path len (cases_option (node_at N path (len / 4)))
 
-module _ (N M N' : ℕ → Option Node) (G : ℕ → Option Entry) (index four base : ℕ) (a : Node)
-    (sound : IsSound N G) (here : N index ≡ Some a) (clear : bit_at a.external four ≡ 0)
-    (grown : IsGrown N M a.child_base (count_ones a.external) (rank a.external four) blank base)
-    (written : IsWritten M N' index (with_child a four base)) where
+  -- ---- what stands where afterwards
+
   -- a cell of the new block holds the new child or a child that has moved
   back_new : (j' : ℕ) (b : Node) → M j' ≡ Some b → base ≤ j' → j' < base + (count_ones a.external + 1)
       → (j' - base ≡ rank a.external four) ⊎ ((j' - base < rank a.external four) ⊎ (rank a.external four < j' - base)) → Back N index four base a j' b
@@ -238,14 +237,10 @@ module _ (N M N' : ℕ → Option Node) (G : ℕ → Option Entry) (index four b
   back : (j' : ℕ) (b : Node) → N' j' ≡ Some b → Back N index four base a j' b
   back j' b e = back_at j' b e (cases_eq j' index)
 
-  -- a used cell is not of the new block
-  not_fresh : (k : ℕ) → is_some (N k) ≡ true → base ≤ k → k < base + (count_ones a.external + 1) → ⊥
-  not_fresh k u l h = none≢is_some (N k) (grown.fresh k l h) u
-
   -- a cell that held no child of the node stays in use
   still_at : (k : ℕ) → is_some (N k) ≡ true → (IsChild a k → ⊥) → (k ≡ index) ⊎ (k ≡ index → ⊥) → is_some (N' k) ≡ true
   still_at k u q (inl e) = is_some-from (N' k) _ (ap N' e ∙ written.here)
-  still_at k u q (inr e) = ap is_some (written.other k e ∙ grown.other k (λ l h. q (l, h)) (not_fresh k u)) ∙ u
+  still_at k u q (inr e) = ap is_some (written.other k e ∙ grown.other k (λ l h. q (l, h)) (not_new k u)) ∙ u
 
   -- so it is for each such cell
   still : (k : ℕ) → is_some (N k) ≡ true → (IsChild a k → ⊥) → is_some (N' k) ≡ true
@@ -256,7 +251,7 @@ module _ (N M N' : ℕ → Option Node) (G : ℕ → Option Entry) (index four b
   new_used k l h = ap is_some (written.other k off) ∙ in_new (cases_order (k - base) (rank a.external four))
     where
       off : k ≢ index
-      off e = not_fresh k (is_some-from (N k) a (ap N e ∙ here)) l h
+      off e = not_new k (is_some-from (N k) a (ap N e ∙ here)) l h
 
       kept : (t : ℕ) → t < count_ones a.external → is_some (N (a.child_base + t)) ≡ true
       kept t q = sound.children_used index a here (a.child_base + t) (omega arith, omega arith)
@@ -305,9 +300,9 @@ module _ (N M N' : ℕ → Option Node) (G : ℕ → Option Entry) (index four b
   children_apart_of i' j' b d (inr x) (inl (p, e)) ne k q r = blank_has_no_child k (subst (λ x. IsChild x k) e r)
   children_apart_of i' j' b d (inr (inl (p, e))) (inr (inl (u, f))) ne k q r = ne (p ∙ sym u)
   children_apart_of i' j' b d (inr (inl (p, e))) (inr (inr (j, c, n, m))) ne k q r =
-      let w : IsChild (with_child a four base) k = subst (λ x. IsChild x k) e q in not_fresh k (sound.children_used j d c k r) w.0 (new_children k w)
+      let w : IsChild (with_child a four base) k = subst (λ x. IsChild x k) e q in not_new k (sound.children_used j d c k r) w.0 (new_children k w)
   children_apart_of i' j' b d (inr (inr (i, c, n, m))) (inr (inl (u, f))) ne k q r =
-      let w : IsChild (with_child a four base) k = subst (λ x. IsChild x k) f r in not_fresh k (sound.children_used i b c k q) w.0 (new_children k w)
+      let w : IsChild (with_child a four base) k = subst (λ x. IsChild x k) f r in not_new k (sound.children_used i b c k q) w.0 (new_children k w)
   children_apart_of i' j' b d (inr (inr (i, c, n, m))) (inr (inr (j, f, o, v))) ne k q r =
       sound.children_apart i j b d c f (apart_of i i' j j' m v ne) k q r
 
@@ -327,21 +322,21 @@ module _ (N M N' : ℕ → Option Node) (G : ℕ → Option Entry) (index four b
   root_apart_of : (j' : ℕ) (b : Node) → Back N index four base a j' b → IsChild b 0 → ⊥
   root_apart_of j' b (inl (p, e)) q = blank_has_no_child 0 (subst (λ x. IsChild x 0) e q)
   root_apart_of j' b (inr (inl (p, e))) q =
-      let w : IsChild (with_child a four base) 0 = subst (λ x. IsChild x 0) e q in not_fresh 0 sound.root w.0 (new_children 0 w)
+      let w : IsChild (with_child a four base) 0 = subst (λ x. IsChild x 0) e q in not_new 0 sound.root w.0 (new_children 0 w)
   root_apart_of j' b (inr (inr (j, c, n, m))) q = sound.root_apart j b c q
 
   -- an old node that has moved is not its own child
   not_own_child_moved : (j j' : ℕ) (b : Node) → N j ≡ Some b → Moves a four base j j' → IsChild b j' → ⊥
   not_own_child_moved j j' b c (inl m) q = sound.not_its_own_child j b c (subst (IsChild b) m.1 q)
-  not_own_child_moved j j' b c (inr (inl (t, l, p, e))) q = not_fresh j' (sound.children_used j b c j' q) (omega arith) (omega (arith, rank_le a.external four))
-  not_own_child_moved j j' b c (inr (inr (t, l, h, p, e))) q = not_fresh j' (sound.children_used j b c j' q) (omega arith) (omega arith)
+  not_own_child_moved j j' b c (inr (inl (t, l, p, e))) q = not_new j' (sound.children_used j b c j' q) (omega arith) (omega (arith, rank_le a.external four))
+  not_own_child_moved j j' b c (inr (inr (t, l, h, p, e))) q = not_new j' (sound.children_used j b c j' q) (omega arith) (omega arith)
 
   -- no node is its own child
   not_own_child_of : (j' : ℕ) (b : Node) → Back N index four base a j' b → IsChild b j' → ⊥
   not_own_child_of j' b (inl (p, e)) q = blank_has_no_child j' (subst (λ x. IsChild x j') e q)
   not_own_child_of j' b (inr (inl (p, e))) q =
       let w : IsChild (with_child a four base) index = subst (λ x. IsChild x index) e (subst (IsChild b) p q) in
-      not_fresh index (is_some-from (N index) a here) w.0 (new_children index w)
+      not_new index (is_some-from (N index) a here) w.0 (new_children index w)
   not_own_child_of j' b (inr (inr (j, c, n, m))) q = not_own_child_moved j j' b c m q
 
   -- each node has 15 internal bits

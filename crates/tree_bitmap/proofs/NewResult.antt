@@ -4,11 +4,12 @@ use Rattle.std.specs.Int.{bit_at}
 use Rattle.std.proofs.lemmas.Bool.{cases_eq, cases_order}
 use Rattle.node_pool.specs.Pool.{IsGrown, IsWritten}
 use Rattle.tree_bitmap.specs.Bits.{rank}
-use Rattle.tree_bitmap.specs.Tree.{nibble, first_bits, internal_bit, IsChild, IsResult, child_by, child_under, node_at, entry_at_bit, row_at, IsSound, with_result}
+use Rattle.tree_bitmap.specs.Tree.{nibble, path_start, internal_bit, IsChild, IsResult, child_by, child_under, node_at, entry_at_bit, row_at, IsSound, with_result}
 use Rattle.tree_bitmap.specs.declared.node.Node.{Node}
 use Rattle.network_model.specs.declared.route.Entry.{Entry}
 use Rattle.tree_bitmap.proofs.Ranks.{rank_lt, rank_le, rank_mono, rank_mono_lt, bit_at-add_same, bit_at-add_other, ones-add, add_lt, rank-add_below, rank-add_above}
-use Rattle.tree_bitmap.proofs.Paths.{cases_option, is_some-from, some-from, none≢is_some, Some_same, node_used, row-some, row-none, entry-set, entry-clear, result_in_block}
+use Rattle.node_pool.proofs.Blocks.{none≢is_some}
+use Rattle.tree_bitmap.proofs.Paths.{cases_option, is_some-from, some-from, Some_same, node_used, row-some, row-none, entry-set, entry-clear, result_in_block}
 use Rattle.tree_bitmap.proofs.FirstBits.{parts_from_first, first_from_parts, internal_bit_same}
 use Rattle.tree_bitmap.proofs.OnePath.{node_at-same, IsSameWalk, walk_unique}
 
@@ -26,9 +27,9 @@ module _ (N N' : ℕ → Option Node) (G G' : ℕ → Option Entry) (index : ℕ
     (sound : IsSound N G) (deep : depth ≤ 8) (short : len < 4) (at : node_at N path depth ≡ Some index)
     (sets : SetsBit N N' G G' index (internal_bit (nibble path depth) len) entry a a') where
   -- the row that was set has the entry
-  pub row_hit : (q m : ℕ) → m ≡ 4 * depth + len → first_bits q m ≡ first_bits path m → row_at N' G' q m ≡ Some entry
+  pub row_hit : (q m : ℕ) → m ≡ 4 * depth + len → path_start q m ≡ path_start path m → row_at N' G' q m ≡ Some entry
   row_hit q m e same =
-      let parts = parts_from_first q path depth len deep short (subst (λ k. first_bits q k ≡ first_bits path k) e same) in
+      let parts = parts_from_first q path depth len deep short (subst (λ k. path_start q k ≡ path_start path k) e same) in
       let d : depth ≡ m / 4 = omega arith in
       let r : len ≡ m % 4 = omega arith in
       let there : node_at N' q (m / 4) ≡ Some index =
@@ -40,7 +41,7 @@ module _ (N N' : ℕ → Option Node) (G G' : ℕ → Option Entry) (index : ℕ
       ∙ ap (λ b. entry_at_bit G' b (Some a')) bits ∙ sets.hit
 
   -- a row of the same node and another prefix stays
-  miss_here : (q m : ℕ) → m < 36 → (m ≡ 4 * depth + len → first_bits q m ≡ first_bits path m → ⊥) → path < 2 ^ 36 → q < 2 ^ 36
+  miss_here : (q m : ℕ) → m < 36 → (m ≡ 4 * depth + len → path_start q m ≡ path_start path m → ⊥) → path < 2 ^ 36 → q < 2 ^ 36
       → node_at N q (m / 4) ≡ Some index → internal_bit (nibble q (m / 4)) (m % 4) ≢ internal_bit (nibble path depth) len
   miss_here q m h off p l there e =
       let w : IsSameWalk q path (m / 4) depth = walk_unique N G sound q path (m / 4) depth index there at in
@@ -48,11 +49,11 @@ module _ (N N' : ℕ → Option Node) (G G' : ℕ → Option Entry) (index : ℕ
       let full : m ≡ 4 * depth + len = omega (arith, w.depth, b.0) in
       let nib : nibble q depth / 2 ^ (4 - len) ≡ nibble path depth / 2 ^ (4 - len) =
       ap (λ k. nibble q k / 2 ^ (4 - len)) (sym w.depth) ∙ ap (λ k. nibble q (m / 4) / 2 ^ (4 - k)) (sym b.0) ∙ b.1 in
-      off full (subst (λ k. first_bits q k ≡ first_bits path k) (sym full)
+      off full (subst (λ k. path_start q k ≡ path_start path k) (sym full)
       (first_from_parts q path depth len l p deep short (λ k x. w.nibbles k (omega (arith, w.depth))) nib))
 
   -- a row of another node stays
-  miss_at : (q m j : ℕ) (b : Node) → m < 36 → (m ≡ 4 * depth + len → first_bits q m ≡ first_bits path m → ⊥) → path < 2 ^ 36 → q < 2 ^ 36
+  miss_at : (q m j : ℕ) (b : Node) → m < 36 → (m ≡ 4 * depth + len → path_start q m ≡ path_start path m → ⊥) → path < 2 ^ 36 → q < 2 ^ 36
       → node_at N q (m / 4) ≡ Some j → N j ≡ Some b → (j ≡ index) ⊎ (j ≡ index → ⊥) → row_at N' G' q m ≡ row_at N G q m
   miss_at q m j b h off p l f c (inl e) =
       let there : node_at N q (m / 4) ≡ Some index = f ∙ ap Some e in
@@ -64,7 +65,7 @@ module _ (N N' : ℕ → Option Node) (G G' : ℕ → Option Entry) (index : ℕ
       ∙ sets.others j b c n _ ∙ sym (row-some N G q m j b f c)
 
   -- a row of any node stays
-  miss_from : (q m : ℕ) → m < 36 → (m ≡ 4 * depth + len → first_bits q m ≡ first_bits path m → ⊥) → path < 2 ^ 36 → q < 2 ^ 36
+  miss_from : (q m : ℕ) → m < 36 → (m ≡ 4 * depth + len → path_start q m ≡ path_start path m → ⊥) → path < 2 ^ 36 → q < 2 ^ 36
       → (node_at N q (m / 4) ≡ None) ⊎ ((j : ℕ) × (node_at N q (m / 4) ≡ Some j)) → row_at N' G' q m ≡ row_at N G q m
   miss_from q m h off p l (inl n) = row-none N' G' q m (sets.walks q (m / 4) ∙ n) ∙ sym (row-none N G q m n)
   miss_from q m h off p l (inr (j, f)) =
@@ -72,7 +73,7 @@ module _ (N N' : ℕ → Option Node) (G G' : ℕ → Option Entry) (index : ℕ
       miss_at q m j c.0 h off p l f c.1 (cases_eq j index)
 
   -- every other row stays
-  pub row_miss : (q m : ℕ) → m < 36 → path < 2 ^ 36 → q < 2 ^ 36 → (m ≡ 4 * depth + len → first_bits q m ≡ first_bits path m → ⊥) → row_at N' G' q m ≡ row_at N G q m
+  pub row_miss : (q m : ℕ) → m < 36 → path < 2 ^ 36 → q < 2 ^ 36 → (m ≡ 4 * depth + len → path_start q m ≡ path_start path m → ⊥) → row_at N' G' q m ≡ row_at N G q m
   row_miss q m h p l off = miss_from q m h off p l (cases_option (node_at N q (m / 4)))
 
 -- ---- the bit is set: its result is written over

@@ -1,5 +1,5 @@
 -- Walks from the root.
-use Rattle.std.proofs.Common.{ℕ, zero, suc, ◌≡◌, ◌≢◌, ◌⊎◌, inl, inr, ◌+◌, ◌/◌, ◌%◌, Option, Some, None, true, false, cond, eqb, is_some, option_and_then, arith, refl, sym, ap, subst, ◌∙◌}
+use Rattle.std.proofs.Common.{ℕ, zero, suc, ◌≡◌, ◌≢◌, ◌⊎◌, inl, inr, ◌+◌, ◌/◌, ◌%◌, Option, Some, None, true, cond, eqb, is_some, option_and_then, arith, refl, ap, subst, ◌∙◌}
 use Rattle.std.specs.Int.{bit_at}
 use Rattle.std.specs.Int.RustNames.{count_ones}
 use Rattle.std.proofs.lemmas.Bool.{cond-true, cond-false, eq-eqb, ne_eqb, cases_eq, false≢true}
@@ -27,10 +27,6 @@ some-from (Some x) h = (x, refl)
 -- nothing is not something
 pub none≢some : {A : Type 0} (o : Option A) (x : A) → o ≡ None → o ≡ Some x → ⊥
 none≢some o x n s = cc
-
--- nothing is not some
-pub none≢is_some : {A : Type 0} (o : Option A) → o ≡ None → is_some o ≡ true → ⊥
-none≢is_some o n s = let e : is_some o ≡ false = ap is_some n in false≢true (sym e ∙ s)
 
 -- one option holds one thing
 pub Some_same : {A : Type 0} (o : Option A) (x y : A) → o ≡ Some x → o ≡ Some y → x ≡ y

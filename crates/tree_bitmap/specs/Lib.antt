@@ -1,4 +1,4 @@
-pub mod Match
 pub mod Bits
-pub mod Best
+pub mod Greatest
+pub mod Hit
 pub mod Tree

@@ -1,11 +1,13 @@
 -- What the cells of a tree mean. The cells are functions: `nodes j` is the node at j, or none where the cell is free.
-use Rattle.std.specs.Prelude.{ℕ, zero, suc, ◌≡◌, ◌≢◌, ◌⊎◌, ◌+◌, ◌/◌, ◌%◌, ◌^◌, ◌<◌, ◌≤◌, Option, Some, None, true, cond, eqb, is_some, option_and_then, count_ones}
+use Rattle.std.specs.Prelude.{◌*◌, List, ℕ, zero, suc, ◌≡◌, ◌≢◌, ◌⊎◌, ◌+◌, ◌/◌, ◌%◌, ◌^◌, ◌<◌, ◌≤◌, Option, Some, None, true, cond, eqb, is_some, option_and_then, count_ones}
 use Rattle.std.specs.Int.{bit_at}
-pub use Rattle.tree_bitmap.specs.Bits.{rank, nibble, first_bits, internal_bit}
+pub use Rattle.tree_bitmap.specs.Bits.{rank, nibble, path_start, internal_bit}
 use Rattle.node_pool.specs.Pool.{cell, room}
 use Rattle.tree_bitmap.specs.declared.tree.Tree.{Tree}
 use Rattle.tree_bitmap.specs.declared.node.Node.{Node}
 use Rattle.network_model.specs.declared.route.Entry.{Entry}
+use Rattle.ipv4_prefix.specs.Prefix.{Prefix}
+use Rattle.ipv4_prefix.specs.Tables.{table_rows}
 
 -- a node with nothing in it
 abbrev pub blank : Node
@@ -85,24 +87,32 @@ with_result a bit base = record a { internal = a.internal + 2 ^ bit; result_base
 
 -- what a tree's rows are: from the path of an address and a length to an entry
 abbrev pub rows : Tree → ℕ → ℕ → Option Entry
-rows tree = row_at (cell tree.nodes) (cell tree.results)
+rows tree = row_at (cell tree.pool.nodes) (cell tree.pool.results)
 
 -- the cells of a tree are sound
 abbrev pub IsSoundTree : Tree → Type 0
-IsSoundTree tree = IsSound (cell tree.nodes) (cell tree.results)
+IsSoundTree tree = IsSound (cell tree.pool.nodes) (cell tree.pool.results)
 
 -- where a tree's node for a path stands
 abbrev pub node_place : Tree → ℕ → ℕ → Option ℕ
-node_place tree = node_at (cell tree.nodes)
+node_place tree = node_at (cell tree.pool.nodes)
 
 -- the row of a path's first `len` bits is set, and all others stay
 pub record SetsRow (old new : ℕ → ℕ → Option Entry) (path len : ℕ) (entry : Entry) : Type 0 where
-  pub hit : (q : ℕ) → first_bits q len ≡ first_bits path len → new q len ≡ Some entry
-  pub miss : (q m : ℕ) → q < 2 ^ 36 → m < 36 → (m ≡ len → first_bits q m ≡ first_bits path m → ⊥) → new q m ≡ old q m
+  pub hit : (q : ℕ) → path_start q len ≡ path_start path len → new q len ≡ Some entry
+  pub miss : (q m : ℕ) → q < 2 ^ 36 → m < 36 → (m ≡ len → path_start q m ≡ path_start path m → ⊥) → new q m ≡ old q m
 
 -- what a call for a child takes: nothing where it was there (so its parent isn't blank); else a block of at most 16 cells, of one cell
 -- where the parent was blank, and the child is blank
 abbrev pub IsChildCost : Tree → Tree → ℕ → ℕ → Type 0
 IsChildCost old new index kid =
-    ((cell old.nodes index ≡ Some blank → ⊥) × (room old.nodes ≤ room new.nodes))
-    ⊎ ((cell new.nodes kid ≡ Some blank) × (room old.nodes ≤ room new.nodes + 16) × (cell old.nodes index ≡ Some blank → room old.nodes ≤ room new.nodes + 1))
+    ((cell old.pool.nodes index ≡ Some blank → ⊥) × (room old.pool.nodes ≤ room new.pool.nodes))
+    ⊎ ((cell new.pool.nodes kid ≡ Some blank) × (room old.pool.nodes ≤ room new.pool.nodes + 16) × (cell old.pool.nodes index ≡ Some blank → room old.pool.nodes ≤ room new.pool.nodes + 1))
+
+-- the entry of a prefix's row, if it has one
+abbrev pub entry_in : Tree → Prefix → Option Entry
+entry_in tree p = rows tree (p.addr * 16) p.len
+
+-- the rows of a tree, in the order of their prefixes
+abbrev pub rows_in : Tree → List (Prefix × Entry)
+rows_in tree = table_rows (entry_in tree)

@@ -1,43 +1,37 @@
 //! The rows of one publication, in the form in which a router forwards by them.
 
-ghost use Rattle.std.specs.Prelude.{◌≡◌, Some};
-ghost use Rattle.ipv4_prefix.specs.LongestMatch.{HasDistinctPrefixes};
+ghost use Rattle.std.specs.Prelude.{◌≡◌, ◌+◌, ◌<◌, ◌≤◌, ◌^◌, IfSome, All, None, false};
+ghost use Rattle.ipv4_prefix.specs.LongestMatch.{IsLongestMatch};
+ghost use Rattle.ipv4_prefix.specs.Prefix.{covers};
 ghost use Rattle.network_model.specs.Publication.{image_answer};
-ghost use Rattle.tree_bitmap.specs.Match.{longer_match};
 
+use crate::tree::{Tree, Visits, path_of};
 use network_model::{Entry, Prefix};
 use std::marker::Model;
 
-/// The rows that a router published, for looking up addresses. An image never changes.
+/// The rows that a router published, for looking up addresses: a tree bitmap with a stride of four
+/// bits (Eatherton, Varghese and Dittia, 2004).
 #[derive(Drop)]
 pub struct Image {
-    generation: u64,
-    rows: Vec<(Prefix, Entry)>,
+    pub(crate) tree: Tree,
+    pub(crate) generation: u64,
 }
 
 impl Model for Image {
-    ghost use Rattle.ipv4_prefix.specs.LongestMatch.{HasDistinctPrefixes};
     ghost use Rattle.network_model.specs.Publication.{Image as ImageRows};
+    ghost use Rattle.tree_bitmap.specs.Tree.{IsSoundTree, rows_in};
 
     ghost Value = { ImageRows };
 
-    ghost view = { λ i. record { generation = i.generation; rows = i.rows.items } };
+    ghost view = { λ i. record { generation = i.generation; rows = rows_in i.tree } };
 
-    ghost invariant = { λ i. HasDistinctPrefixes i.rows.items };
+    ghost invariant = { λ i. IsSoundTree i.tree };
 }
 
 impl Image {
-    /// The image of these rows. `generation` counts the publications of the router.
-    pub fn from_rows(rows: Vec<(Prefix, Entry)>, generation: u64) -> Image
-        requires { HasDistinctPrefixes rows.items }
-        ensures { result ≡ record { generation = generation; rows = rows.items } }
-    {
-        Image { generation, rows }
-    }
-
-    /// Which publication of its router the image is.
+    /// Which publication of its router the image is; 0 before the first.
     pub fn generation(&self) -> u64
-        ensures { result ≡ self.now.generation }
+        ensures { result ≡ (self.now).generation }
     {
         self.generation
     }
@@ -45,24 +39,21 @@ impl Image {
     /// Of the rows whose prefix covers the address, the one with the longest prefix; None where no
     /// row covers it (RFC 1812, section 5.2.4.3). It needs no memory.
     pub fn lookup(&self, addr: u32) -> Option<(Prefix, Entry)>
-        ensures { result ≡ image_answer self.now addr }
+        ensures answer { result ≡ image_answer self.now addr }
+        ensures longest { IfSome result (IsLongestMatch addr (self.now).rows) }
+        ensures none { result ≡ None → All (λ row. covers row.0 addr ≡ false) (self.now).rows }
     {
-        let mut best = None;
-        for &row in &self.rows {
-            if row.0.covers(addr) {
-                best = Some(longer(best, row));
-            }
-        }
-        best
+        self.lookup_counted(addr, &mut Visits { count: 0 })
     }
-}
 
-// The row with the longer prefix: the later one only where its prefix is longer.
-fn longer(best: Option<(Prefix, Entry)>, later: (Prefix, Entry)) -> (Prefix, Entry)
-    ensures { Some result ≡ longer_match best (Some later) }
-{
-    match best {
-        Some(found) if found.0.len() >= later.0.len() => found,
-        _ => later,
+    /// As `lookup`, and counts the nodes that it reads: one to nine.
+    pub fn lookup_counted(&self, addr: u32, visits: &mut Visits) -> Option<(Prefix, Entry)>
+        requires { visits.old.count + 9 < 2 ^ 64 }
+        ensures answer { result ≡ image_answer self.now addr }
+        ensures some { visits.old.count < visits.new.count }
+        ensures few { visits.new.count ≤ visits.old.count + 9 }
+    {
+        let (len, entry) = self.tree.longest(path_of(addr), visits)?;
+        Some((Prefix::covering(addr, len), entry))
     }
 }

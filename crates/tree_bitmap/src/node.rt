@@ -2,7 +2,7 @@
 
 ghost use Rattle.std.specs.Prelude.{◌≡◌, ℕ, ◌+◌, ◌*◌, ◌^◌, ◌<◌, ◌≤◌, ◌↔◌, IsTrue, Option, Some, None, IfSome, IfNone, count_ones, min};
 ghost use Rattle.std.specs.Int.{bit_at};
-ghost use Rattle.tree_bitmap.specs.Bits.{rank, nibble, internal_bit, IsHighest, width};
+ghost use Rattle.tree_bitmap.specs.Bits.{rank, nibble, internal_bit, length_of, IsHighest, width};
 
 /// A node of the tree: which prefixes end in it, which children it has, and where both stand.
 #[derive(Clone, Copy, Debug, PartialEq, Eq)]
@@ -18,6 +18,14 @@ pub struct Node {
     pub result_base: u32,
 }
 
+/// Where a row was found: at a bit of a node, which stands at a depth.
+#[derive(Clone, Copy, Debug)]
+pub(crate) struct Hit {
+    pub(crate) depth: u32,
+    pub(crate) bit: u32,
+    pub(crate) node: Node,
+}
+
 /// A node in which no prefix ends, and with no child.
 pub(crate) const BLANK: Node = Node {
     internal: 0,
@@ -25,6 +33,26 @@ pub(crate) const BLANK: Node = Node {
     child_base: 0,
     result_base: 0,
 };
+
+/// By four bits of an address, the internal bits of the prefixes of 3, 2, 1 and 0 bits that cover it.
+const COVERS: [u16; 16] = [
+    0b00000001_0001_01_1,
+    0b00000001_0001_01_1,
+    0b00000010_0001_01_1,
+    0b00000010_0001_01_1,
+    0b00000100_0010_01_1,
+    0b00000100_0010_01_1,
+    0b00001000_0010_01_1,
+    0b00001000_0010_01_1,
+    0b00010000_0100_10_1,
+    0b00010000_0100_10_1,
+    0b00100000_0100_10_1,
+    0b00100000_0100_10_1,
+    0b01000000_1000_10_1,
+    0b01000000_1000_10_1,
+    0b10000000_1000_10_1,
+    0b10000000_1000_10_1,
+];
 
 /// Whether a bit is set.
 pub(crate) fn is_set(bits: u16, k: u32) -> bool
@@ -89,7 +117,7 @@ pub(crate) fn covers(four: u32, depth: u32) -> u16
     if depth == 8 {
         return 1;
     }
-    1 | 1 << (1 + (four >> 3)) | 1 << (3 + (four >> 2)) | 1 << (7 + (four >> 1))
+    COVERS[four as usize]
 }
 
 /// The greatest bit that is set.
@@ -104,7 +132,7 @@ pub(crate) fn highest(bits: u16) -> Option<u32>
 
 /// The length to which an internal bit belongs.
 pub(crate) fn length_of(bit: u32) -> u8
-    ensures value { (four : ℕ) → (len : ℕ) → four < 16 → len < 4 → bit ≡ internal_bit four len → result ≡ len }
+    ensures value { result ≡ length_of bit }
     ensures bound { result < 4 }
 {
     if bit < 1 {

@@ -1,22 +1,23 @@
-//! The tree of nodes, in two pools.
+//! The tree of nodes, in a pool.
 
-ghost use Rattle.std.specs.Prelude.{◌≡◌, ℕ, ◌+◌, ◌-◌, ◌*◌, ◌/◌, ◌%◌, ◌^◌, ◌<◌, ◌≤◌, length, Option, Some, None, IfOk, IfSome, OnOk, OnErr, IsOk, is_some, true};
-ghost use Rattle.tree_bitmap.specs.Best.{BestBelow, longer};
+ghost use Rattle.std.specs.Prelude.{◌≡◌, ℕ, ◌+◌, ◌-◌, ◌*◌, ◌/◌, ◌%◌, ◌^◌, ◌<◌, ◌≤◌, ◌⊎◌, length, Option, Some, None, IfOk, IfSome, OnOk, OnErr, IsOk, is_some, true};
+ghost use Rattle.tree_bitmap.specs.Greatest.{GreatestBelow, longer};
 ghost use Rattle.tree_bitmap.specs.Bits.{width};
+ghost use Rattle.tree_bitmap.specs.Hit.{bit_place, hit_place};
 ghost use Rattle.node_pool.specs.Pool.{cell, room};
 
 use crate::node::{
-    BLANK, Node, count, covers, highest, internal_bit, is_set, length_of, nibble, rank, with_bit,
+    BLANK, Hit, Node, count, covers, highest, internal_bit, is_set, length_of, nibble, rank,
+    with_bit,
 };
-use network_model::{Entry, NoMemory};
-use node_pool::Pool;
+use network_model::{Entry, NoMemory, Prefix};
+use node_pool::NodePool;
 use std::alloc::Global;
 
 /// Rows by path and length. A path is an address and four zeros after it: 36 bits.
 #[derive(Debug, Drop)]
 pub struct Tree {
-    pub nodes: Pool<Node>,
-    pub results: Pool<Entry>,
+    pub pool: NodePool<Node, Entry>,
 }
 
 /// How many nodes were read.
@@ -26,19 +27,20 @@ pub struct Visits {
 }
 
 impl Tree {
-    ghost use Rattle.tree_bitmap.specs.Tree.{nibble, internal_bit, rows, node_place, place_at, IsSoundTree, SetsRow, IsResult, result_place, IsChildCost, blank};
+    ghost use Rattle.tree_bitmap.specs.Tree.{nibble, internal_bit, rows, node_place, place_at, IsSoundTree, SetsRow, result_place, IsChildCost, blank};
+    ghost use Rattle.tree_bitmap.specs.Tree.{rows_in};
+    ghost use Rattle.std.specs.FinMap.{put};
+    ghost use Rattle.ipv4_prefix.specs.Prefix.{prefix_cmp};
+    ghost use Rattle.network_model.specs.Publication.{with_rows};
 
     /// A tree with no rows.
     pub fn new(alloc: Global) -> Result<Self, NoMemory>
         ensures sound { IfOk result (λ t. IsSoundTree t) }
         ensures empty { IfOk result (λ t. (q : ℕ) → (m : ℕ) → rows t q m ≡ None) }
     {
-        let mut nodes = Pool::new(alloc);
-        let _root = nodes.take(1, BLANK)?;
-        Ok(Tree {
-            nodes,
-            results: Pool::new(alloc),
-        })
+        let mut pool = NodePool::new(alloc);
+        let _root = pool.take_nodes(1, BLANK)?;
+        Ok(Tree { pool })
     }
 
     /// The place of the child on a path, which is made where there is none.
@@ -49,20 +51,25 @@ impl Tree {
         ensures sound { IsSoundTree self.new }
         ensures rows { (q : ℕ) → (m : ℕ) → rows self.new q m ≡ rows self.old q m }
         ensures ok { IfOk result (λ child. node_place self.new path (depth + 1) ≡ Some child) }
-        ensures results { room self.new.results ≡ room self.old.results }
+        ensures results { room self.new.pool.results ≡ room self.old.pool.results }
         ensures cost { IfOk result (λ child. IsChildCost self.old self.new index child) }
-        ensures full { OnErr result (room self.old.nodes < 16) }
-        ensures full_blank { OnErr result (cell self.old.nodes index ≡ Some blank → room self.old.nodes < 1) }
+        ensures full { OnErr result (room self.old.pool.nodes < 16) }
+        ensures full_blank { OnErr result (cell self.old.pool.nodes index ≡ Some blank → room self.old.pool.nodes < 1) }
     {
-        let node = self.nodes.get(index);
+        let node = self.pool.nodes.get(index);
         let four = nibble(path, depth);
         let below = rank(node.external, four);
         if is_set(node.external, four) {
-            return Ok(self.nodes.place(node.child_base, below));
+            return Ok(self.pool.nodes.place(node.child_base, below));
         }
         let external = with_bit(node.external, four);
-        let base = self.nodes.grow(node.child_base, count(node.external), below as usize, BLANK)?;
-        self.nodes.set(
+        let base = self.pool.nodes.grow(
+            node.child_base,
+            count(node.external),
+            below as usize,
+            BLANK,
+        )?;
+        self.pool.nodes.set(
             index,
             Node {
                 internal: node.internal,
@@ -71,7 +78,7 @@ impl Tree {
                 result_base: node.result_base,
             },
         );
-        Ok(self.nodes.place(base, below))
+        Ok(self.pool.nodes.place(base, below))
     }
 
     /// Sets the entry at a bit of a node.
@@ -94,25 +101,25 @@ impl Tree {
         ensures sound { IsSoundTree self.new }
         ensures ok { OnOk result (SetsRow (rows self.old) (rows self.new) path (4 * depth + len) entry) }
         ensures err { OnErr result ((q : ℕ) → (m : ℕ) → rows self.new q m ≡ rows self.old q m) }
-        ensures nodes { room self.new.nodes ≡ room self.old.nodes }
-        ensures cost { room self.old.results ≤ room self.new.results + 15 }
-        ensures full { OnErr result (room self.old.results < 15) }
+        ensures nodes { room self.new.pool.nodes ≡ room self.old.pool.nodes }
+        ensures cost { room self.old.pool.results ≤ room self.new.pool.results + 15 }
+        ensures full { OnErr result (room self.old.pool.results < 15) }
     {
-        let node = self.nodes.get(index);
+        let node = self.pool.nodes.get(index);
         let below = rank(node.internal, bit);
         if is_set(node.internal, bit) {
-            let place = self.results.place(node.result_base, below);
-            self.results.set(place, entry);
+            let place = self.pool.results.place(node.result_base, below);
+            self.pool.results.set(place, entry);
             return Ok(());
         }
         let internal = with_bit(node.internal, bit);
-        let base = self.results.grow(
+        let base = self.pool.results.grow(
             node.result_base,
             count(node.internal),
             below as usize,
             entry,
         )?;
-        self.nodes.set(
+        self.pool.nodes.set(
             index,
             Node {
                 internal,
@@ -126,29 +133,30 @@ impl Tree {
 
     /// Makes room for setting `count` rows.
     pub fn reserve(&mut self, count: usize) -> Result<(), NoMemory>
-        requires few { count < 2 ^ 32 }
         requires sound { IsSoundTree self.old }
         ensures sound { IsSoundTree self.new }
-        ensures same { (q : ℕ) → (m : ℕ) → rows self.new q m ≡ rows self.old q m }
-        ensures nodes { OnOk result (23 * count ≤ room self.new.nodes) }
-        ensures results { OnOk result (15 * count ≤ room self.new.results) }
+        ensures rows { rows_in self.new ≡ rows_in self.old }
+        ensures nodes { OnOk result (23 * count ≤ room self.new.pool.nodes) }
+        ensures results { OnOk result (15 * count ≤ room self.new.pool.results) }
+        ensures full { OnErr result
+            ((room self.old.pool.nodes < 23 * count) ⊎ (room self.old.pool.results < 15 * count)) }
     {
-        self.nodes.reserve(23 * count)?;
-        self.results.reserve(15 * count)
+        self.pool
+            .reserve(count.saturating_mul(23), count.saturating_mul(15))
     }
 
     /// Sets the row of a path's first `len` bits. It needs no memory where there is room for 23 nodes
     /// and 15 results.
-    pub fn set(&mut self, path: u64, len: u8, entry: Entry) -> Result<(), NoMemory>
+    fn set(&mut self, path: u64, len: u8, entry: Entry) -> Result<(), NoMemory>
         requires sound { IsSoundTree self.old }
         requires fits { path < 2 ^ 36 }
         requires short { len ≤ 32 }
         ensures sound { IsSoundTree self.new }
         ensures ok { OnOk result (SetsRow (rows self.old) (rows self.new) path len entry) }
         ensures err { OnErr result ((q : ℕ) → (m : ℕ) → rows self.new q m ≡ rows self.old q m) }
-        ensures nodes_cost { OnOk result (room self.old.nodes ≤ room self.new.nodes + 23) }
-        ensures results_cost { OnOk result (room self.old.results ≤ room self.new.results + 15) }
-        ensures full { 23 ≤ room self.old.nodes → 15 ≤ room self.old.results → IsOk result }
+        ensures nodes_cost { OnOk result (room self.old.pool.nodes ≤ room self.new.pool.nodes + 23) }
+        ensures results_cost { OnOk result (room self.old.pool.results ≤ room self.new.pool.results + 15) }
+        ensures full { 23 ≤ room self.old.pool.nodes → 15 ≤ room self.old.pool.results → IsOk result }
     {
         let depth = (len / 4) as u32;
         let mut index = 0;
@@ -160,49 +168,76 @@ impl Tree {
         self.set_at(index, bit, entry, path, depth, rest)
     }
 
-    /// The longest prefix of a path that ends in a node: its length in the node, and the place of its
-    /// result.
-    fn longest_in(&self, node: Node, four: u32, depth: u32) -> Option<(u8, u32)>
+    /// Sets the row of a prefix. It needs no memory where there is room for 23 nodes and 15 results.
+    pub fn set_row(&mut self, prefix: Prefix, entry: Entry) -> Result<(), NoMemory>
+        requires { IsSoundTree self.old }
+        ensures sound { IsSoundTree self.new }
+        ensures ok { OnOk result (rows_in self.new ≡ put prefix_cmp prefix entry (rows_in self.old)) }
+        ensures err { OnErr result (rows_in self.new ≡ rows_in self.old) }
+        ensures nodes_cost { OnOk result (room self.old.pool.nodes ≤ room self.new.pool.nodes + 23) }
+        ensures results_cost { OnOk result (room self.old.pool.results ≤ room self.new.pool.results + 15) }
+        ensures full { 23 ≤ room self.old.pool.nodes → 15 ≤ room self.old.pool.results → IsOk result }
+    {
+        self.set(path_of(prefix.addr()), prefix.len(), entry)
+    }
+
+    /// Sets rows in order. It needs no memory where there is room for 23 nodes and 15 results a row.
+    pub fn set_rows(&mut self, rows: &[(Prefix, Entry)]) -> Result<(), NoMemory>
+        requires { IsSoundTree self.old }
+        ensures sound { IsSoundTree self.new }
+        ensures ok { OnOk result (rows_in self.new ≡ with_rows rows.now (rows_in self.old)) }
+        ensures full { 23 * length rows.now ≤ room self.old.pool.nodes
+            → 15 * length rows.now ≤ room self.old.pool.results → IsOk result }
+    {
+        for &(prefix, entry) in rows {
+            self.set_row(prefix, entry)?;
+        }
+        Ok(())
+    }
+
+    /// The internal bit of the longest prefix of an address that ends in a node, by the four bits
+    /// there.
+    fn longest_bit(node: Node, four: u32, depth: u32) -> Option<u32>
         requires small { four < 16 }
         requires deep { depth ≤ 8 }
-        requires used { (k : ℕ) → IsResult node k → is_some (cell self.now.results k) ≡ true }
-        ensures best { BestBelow (λ len. result_place (internal_bit four len) (Some node)) (width depth) result }
+        ensures best { GreatestBelow (λ len. result_place (internal_bit four len) (Some node)) (width depth) (bit_place node result) }
+        ensures bound { IfSome result (λ bit. bit < 16) }
     {
-        let bit = highest(node.internal & covers(four, depth))?;
-        let below = rank(node.internal, bit);
-        Some((length_of(bit), self.results.place(node.result_base, below)))
+        highest(node.internal & covers(four, depth))
     }
 
     /// Reads a node, and counts it: no look-up reads one in another way.
     fn read(&self, index: u32, visits: &mut Visits) -> Node
-        requires used { is_some (cell self.now.nodes index) ≡ true }
+        requires used { is_some (cell self.now.pool.nodes index) ≡ true }
         requires fits { visits.old.count + 1 < 2 ^ 64 }
-        ensures node { cell self.now.nodes index ≡ Some result }
+        ensures node { cell self.now.pool.nodes index ≡ Some result }
         ensures count { visits.new.count ≡ visits.old.count + 1 }
     {
         visits.count += 1;
-        self.nodes.get(index)
+        self.pool.nodes.get(index)
     }
 
-    /// The length of the longest row on a path, and the place of its result.
-    fn longest_place(&self, path: u64, visits: &mut Visits) -> Option<(u8, u32)>
+    /// Where the longest row on a path was found.
+    fn longest_hit(&self, path: u64, visits: &mut Visits) -> Option<Hit>
         requires sound { IsSoundTree self.now }
         requires fits { visits.old.count + 9 < 2 ^ 64 }
-        ensures best { BestBelow (place_at (cell self.now.nodes) path) 33 result }
-        ensures count { visits.new.count ≤ visits.old.count + 9 }
+        ensures best { GreatestBelow (place_at (cell self.now.pool.nodes) path) 33 (hit_place result) }
+        ensures bound { IfSome result (λ hit. hit.bit < 16) }
+        ensures some { visits.old.count < visits.new.count }
+        ensures few { visits.new.count ≤ visits.old.count + 9 }
     {
         let mut best = None;
         let mut index = 0;
         for depth in 0..9 {
             let node = self.read(index, visits);
             let four = nibble(path, depth);
-            let own = self.longest_in(node, four, depth);
-            best = longer(own, (4 * depth) as u8, best);
+            let bit = Tree::longest_bit(node, four, depth);
+            best = longer(bit, node, depth, best);
             if !is_set(node.external, four) {
                 return best;
             }
             let below = rank(node.external, four);
-            index = self.nodes.place(node.child_base, below);
+            index = self.pool.nodes.place(node.child_base, below);
         }
         best
     }
@@ -211,26 +246,32 @@ impl Tree {
     pub fn longest(&self, path: u64, visits: &mut Visits) -> Option<(u8, Entry)>
         requires sound { IsSoundTree self.now }
         requires fits { visits.old.count + 9 < 2 ^ 64 }
-        ensures best { BestBelow (rows self.now path) 33 result }
-        ensures count { visits.new.count ≤ visits.old.count + 9 }
+        ensures best { GreatestBelow (rows self.now path) 33 result }
+        ensures some { visits.old.count < visits.new.count }
+        ensures few { visits.new.count ≤ visits.old.count + 9 }
     {
-        match self.longest_place(path, visits) {
-            None => None,
-            Some((len, place)) => Some((len, self.results.get(place))),
-        }
+        let hit = self.longest_hit(path, visits)?;
+        let below = rank(hit.node.internal, hit.bit);
+        let place = self.pool.results.place(hit.node.result_base, below);
+        let len = (4 * hit.depth) as u8 + length_of(hit.bit);
+        Some((len, self.pool.results.get(place)))
     }
 }
 
 /// What was found in a node at a depth, if anything, else what was found above.
-fn longer(own: Option<(u8, u32)>, depth: u8, above: Option<(u8, u32)>) -> Option<(u8, u32)>
-    requires { IfSome own (λ found. depth + found.0 < 256) }
-    ensures { result ≡ longer own depth above }
+fn longer(bit: Option<u32>, node: Node, depth: u32, above: Option<Hit>) -> Option<Hit>
+    ensures place { hit_place result ≡ longer (bit_place node bit) (4 * depth) (hit_place above) }
+    ensures bound { IfSome bit (λ b. b < 16) → IfSome above (λ hit. hit.bit < 16) → IfSome result (λ hit. hit.bit < 16) }
 {
-    match own {
+    match bit {
         None => above,
-        Some((len, place)) => Some((depth + len, place)),
+        Some(bit) => Some(Hit { depth, bit, node }),
     }
 }
 
-#[cfg(test)]
-mod tests;
+/// The path of an address.
+pub fn path_of(addr: u32) -> u64
+    ensures { result ≡ addr * 16 }
+{
+    u64::from(addr) * 16
+}

@@ -7,7 +7,7 @@ use Rattle.node_pool.specs.Pool.{cell}
 use Rattle.tree_bitmap.proofs.tree.Tree.set.Goals as goal
 
 pub loop-d-init : goal.loop-d-init
-loop-d-init c = record { sound = c.requires.sound; at = root_at (cell c.args.self.now.nodes) c.args.path; results = refl; cost = inl (omega arith); same = λ q m. refl }
+loop-d-init c = record { sound = c.requires.sound; at = root_at (cell c.args.self.now.pool.nodes) c.args.path; results = refl; cost = inl (omega arith); same = λ q m. refl }
 
 pub returns-in_err-index-clause-err : goal.returns-in_err-index-clause-err
 returns-in_err-index-clause-err c = on_err_from c.from_residual.result (λ q m. c.child.ensures.rows q m ∙ c.loop-d.invariant.same q m)

@@ -7,8 +7,8 @@ abbrev pub invariant-loop-d : goal.invariant-loop-d
 invariant-loop-d l = record {
   sound : IsSoundTree l.self;
   at : node_place l.self l.path l.d ≡ Some l.index;
-  results : room l.self.results ≡ room l.fn.self.results;
-  cost : (room l.fn.self.nodes ≤ room l.self.nodes)
-      ⊎ ((cell l.self.nodes l.index ≡ Some blank) × (room l.fn.self.nodes ≤ room l.self.nodes + 15 + l.d) × (1 ≤ l.d));
+  results : room l.self.pool.results ≡ room l.fn.self.pool.results;
+  cost : (room l.fn.self.pool.nodes ≤ room l.self.pool.nodes)
+      ⊎ ((cell l.self.pool.nodes l.index ≡ Some blank) × (room l.fn.self.pool.nodes ≤ room l.self.pool.nodes + 15 + l.d) × (1 ≤ l.d));
   same : (q : ℕ) → (m : ℕ) → rows l.self q m ≡ rows l.fn.self q m;
 }

@@ -9,23 +9,23 @@ use Rattle.tree_bitmap.proofs.tree.Tree.set_at.Goals as goal
 
 pub get-node-requires : goal.get-node-requires
 get-node-requires c =
-    node_used (cell c.args.self.now.nodes) (cell c.args.self.now.results) c.requires.sound c.args.path c.args.depth c.args.index c.requires.at
+    node_used (cell c.args.self.now.pool.nodes) (cell c.args.self.now.pool.results) c.requires.sound c.args.path c.args.depth c.args.index c.requires.at
 
 pub place-place-requires : goal.place-place-requires
 place-place-requires c =
-    result_used (cell c.args.self.now.nodes) (cell c.args.self.now.results) (cell c.args.self.now.results) c.args.index c.args.bit c.args.entry c.get-node.result c.rank-below.result
+    result_used (cell c.args.self.now.pool.nodes) (cell c.args.self.now.pool.results) (cell c.args.self.now.pool.results) c.args.index c.args.bit c.args.entry c.get-node.result c.rank-below.result
     c.requires.sound c.get-node.ensures c.rank-below.ensures.value (c.is_set.ensures.0 c.if-is_set.true)
 
 pub set-requires : goal.set-requires
 set-requires c =
     rw c.place-place.ensures
-    (result_used (cell c.args.self.now.nodes) (cell c.args.self.now.results) (cell c.args.self.now.results) c.args.index c.args.bit c.args.entry c.get-node.result c.rank-below.result
+    (result_used (cell c.args.self.now.pool.nodes) (cell c.args.self.now.pool.results) (cell c.args.self.now.pool.results) c.args.index c.args.bit c.args.entry c.get-node.result c.rank-below.result
     c.requires.sound c.get-node.ensures c.rank-below.ensures.value (c.is_set.ensures.0 c.if-is_set.true))
 
 pub returns-then-is_set-clause-ok : goal.returns-then-is_set-clause-ok
 returns-then-is_set-clause-ok c =
-    let N = cell c.args.self.now.nodes in
-    let G = cell c.args.self.now.results in
+    let N = cell c.args.self.now.pool.nodes in
+    let G = cell c.args.self.now.pool.results in
     let G' = cell c.set.new.self in
     sets_row N N G G' c.args.index c.args.bit c.args.entry c.get-node.result c.get-node.result c.args.path c.args.depth c.args.len
     c.requires.sound c.requires.deep c.requires.short c.requires.fits c.requires.at c.requires.bit
@@ -44,16 +44,16 @@ grow-requires-clause-few c =
 
 pub returns-clause-sound : goal.returns-clause-sound
 returns-clause-sound c =
-    put_sound (cell c.args.self.now.nodes) (cell c.set-2.new.self) (cell c.args.self.now.results) (cell c.grow.new.self)
+    put_sound (cell c.args.self.now.pool.nodes) (cell c.set-2.new.self) (cell c.args.self.now.pool.results) (cell c.grow.new.self)
     c.args.index c.args.bit c.args.entry c.get-node.result c.rank-below.result c.count.result c.with_bit-internal.result c.in_ok-base.base
     c.requires.sound c.get-node.ensures c.rank-below.ensures.value c.count.ensures.value c.with_bit-internal.ensures
     (λ h. both_ways c.is_set.result c.if-is_set.false (c.is_set.ensures.1 h)) c.in_ok-base.ensures.ok c.set-2.ensures.written c.requires.small
 
 pub returns-clause-ok : goal.returns-clause-ok
 returns-clause-ok c =
-    let N = cell c.args.self.now.nodes in
+    let N = cell c.args.self.now.pool.nodes in
     let N' = cell c.set-2.new.self in
-    let G = cell c.args.self.now.results in
+    let G = cell c.args.self.now.pool.results in
     let G' = cell c.grow.new.self in
     sets_row N N' G G' c.args.index c.args.bit c.args.entry c.get-node.result (with_result c.get-node.result c.args.bit c.in_ok-base.base) c.args.path c.args.depth c.args.len
     c.requires.sound c.requires.deep c.requires.short c.requires.fits c.requires.at c.requires.bit
@@ -64,9 +64,9 @@ returns-clause-ok c =
 
 pub returns-then-is_set-clause-sound : goal.returns-then-is_set-clause-sound
 returns-then-is_set-clause-sound c =
-    let G = cell c.args.self.now.results in
+    let G = cell c.args.self.now.pool.results in
     let G' = cell c.set.new.self in
-    over_sound (cell c.args.self.now.nodes) G G' c.args.index c.args.bit c.args.entry c.get-node.result c.rank-below.result
+    over_sound (cell c.args.self.now.pool.nodes) G G' c.args.index c.args.bit c.args.entry c.get-node.result c.rank-below.result
     c.requires.sound c.get-node.ensures c.rank-below.ensures.value (c.is_set.ensures.0 c.if-is_set.true)
     (subst (λ k. IsWritten G G' k c.args.entry) c.place-place.ensures c.set.ensures.written)
 

@@ -1,0 +1,40 @@
+//! Patches of images, in place.
+#![tactic(auto)]
+
+ghost use Rattle.std.specs.Prelude.{◌≡◌, OnOk, OnErr};
+ghost use Rattle.network_model.specs.Publication.{with_rows};
+
+use network_model::{Entry, NoMemory, Prefix};
+use tree_bitmap::Image;
+use tree_bitmap::parts::{set_generation, set_rows};
+
+/// Rows to set, one after another, and the generation that they make.
+#[derive(Drop)]
+pub struct Patch {
+    pub generation: u64,
+    pub rows: Vec<(Prefix, Entry)>,
+}
+
+/// What can be patched.
+pub trait Apply {
+    /// Sets the rows of a patch, and its generation. It takes time by the nodes on the way to its
+    /// prefixes, and not by the rows of the image, but for the rare times that the pool moves to
+    /// larger memory. It asks for room for 23 nodes and 15 results a row, whether the row is new or
+    /// not, before it sets the first. Refused, it changes nothing.
+    fn apply(&mut self, patch: &Patch) -> Result<(), NoMemory>
+        ensures err { OnErr result (self.new ≡ self.old) };
+}
+
+impl Apply for Image {
+    fn apply(&mut self, patch: &Patch) -> Result<(), NoMemory>
+        ensures ok { OnOk result (self.new ≡ record { generation = patch.now.generation; rows = with_rows patch.now.rows.items self.old.rows }) }
+        ensures err { OnErr result (self.new ≡ self.old) }
+    {
+        set_rows(self, &patch.rows)?;
+        set_generation(self, patch.generation);
+        Ok(())
+    }
+}
+
+#[cfg(test)]
+mod tests;

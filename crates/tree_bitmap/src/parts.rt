@@ -1,0 +1,45 @@
+//! What those need who make images, or change them.
+
+ghost use Rattle.std.specs.Prelude.{◌≡◌, [], IfOk, OnOk, OnErr};
+ghost use Rattle.std.specs.FinMap.{put};
+ghost use Rattle.ipv4_prefix.specs.Prefix.{prefix_cmp};
+ghost use Rattle.network_model.specs.Publication.{with_rows};
+
+use crate::image::Image;
+use crate::tree::Tree;
+use network_model::{Entry, NoMemory, Prefix};
+use std::alloc::Global;
+
+/// An image with no rows, of generation 0.
+pub fn empty(alloc: Global) -> Result<Image, NoMemory>
+    ensures { IfOk result (λ image. image ≡ record { generation = 0; rows = [] }) }
+{
+    Ok(Image {
+        tree: Tree::new(alloc)?,
+        generation: 0,
+    })
+}
+
+/// Sets the row of a prefix.
+pub fn set_row(image: &mut Image, prefix: Prefix, entry: Entry) -> Result<(), NoMemory>
+    ensures ok { OnOk result (image.new ≡ record image.old { rows = put prefix_cmp prefix entry image.old.rows }) }
+    ensures err { OnErr result (image.new ≡ image.old) }
+{
+    image.tree.set_row(prefix, entry)
+}
+
+/// Sets rows in order. All room is made before the first is set, so a refused call changes nothing.
+pub fn set_rows(image: &mut Image, rows: &[(Prefix, Entry)]) -> Result<(), NoMemory>
+    ensures ok { OnOk result (image.new ≡ record image.old { rows = with_rows rows.now image.old.rows }) }
+    ensures err { OnErr result (image.new ≡ image.old) }
+{
+    image.tree.reserve(rows.len())?;
+    image.tree.set_rows(rows)
+}
+
+/// Says which publication the image is.
+pub fn set_generation(image: &mut Image, generation: u64)
+    ensures { image.new ≡ record image.old { generation = generation } }
+{
+    image.generation = generation;
+}
