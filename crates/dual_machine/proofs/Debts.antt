@@ -6,9 +6,9 @@ use Rattle.metric.specs.declared.kind.Kind.TheVariants.{Update, Query, Reply}
 use Rattle.network_model.specs.declared.machine.Event.{Event}
 use Rattle.network_model.specs.declared.machine.Event.TheVariants.{Message, Up, Down, Cost}
 use Rattle.network_model.specs.Machine.{is_port, successor_after, debt_after}
-use Rattle.dual_machine.specs.declared.origin.Origin.{Origin}
-use Rattle.dual_machine.specs.declared.origin.Origin.TheVariants.{OwnDisturbed, Own, OwingDisturbed, Owing}
-use Rattle.dual_machine.specs.Origin.{rose, needs_test}
+use Rattle.diffusing_replies.specs.declared.origin.Origin.{Origin}
+use Rattle.diffusing_replies.specs.declared.origin.Origin.TheVariants.{OwnDisturbed, Own, OwingDisturbed, Owing}
+use Rattle.diffusing_replies.specs.Origin.{rose, needs_test}
 use Rattle.dual_machine.specs.State.{moved, is_loss_of, is_query_from}
 use Rattle.dual_machine.specs.Parts.{IsDebtOf}
 

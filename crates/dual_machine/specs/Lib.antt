@@ -1,5 +1,5 @@
+pub mod Awaited
 pub mod Event
-pub mod Origin
 pub mod Outbox
 pub mod Parts
 pub mod State

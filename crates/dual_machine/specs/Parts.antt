@@ -4,8 +4,9 @@ use Rattle.std.specs.List.{list_any}
 use Rattle.metric.specs.Distance.{IsCost}
 use Rattle.network_model.specs.declared.machine.Neighbour.{Neighbour}
 use Rattle.network_model.specs.Machine.{Computation}
-use Rattle.dual_machine.specs.declared.origin.Origin.{Origin}
-use Rattle.dual_machine.specs.declared.origin.Origin.TheVariants.{OwnDisturbed, Own, OwingDisturbed, Owing}
+use Rattle.diffusing_replies.specs.declared.origin.Origin.{Origin}
+use Rattle.diffusing_replies.specs.declared.origin.Origin.TheVariants.{OwnDisturbed, Own, OwingDisturbed, Owing}
+use Rattle.dual_machine.specs.Awaited.{awaited_of, AwaitsBelow}
 use Rattle.dual_machine.specs.declared.mode.Active.{Active}
 
 -- a debt is there exactly where the origin state says so, and then it is to the successor
@@ -15,23 +16,23 @@ IsDebtOf Own successor debt = debt ≡ None
 IsDebtOf OwingDisturbed successor debt = (debt ≡ successor) × (is_some successor ≡ true)
 IsDebtOf Owing successor debt = (debt ≡ successor) × (is_some successor ≡ true)
 
--- a computation under way is not the owner's, awaits someone, and owes what its origin state says
-pub record IsUnderWay (local : Bool) (successor : Option ℕ) (awaited : List Bool) (a : Active) : Type 0 where
+-- a computation under way is not the owner's, awaits some of its ports, and owes what its origin state says
+pub record IsUnderWay (local : Bool) (count : ℕ) (successor : Option ℕ) (a : Active) : Type 0 where
   pub remote : local ≡ false
-  pub asking : list_any (λ b. b) awaited ≡ true
+  pub asking : list_any (λ b. b) (awaited_of count a.replies) ≡ true
+  pub known : AwaitsBelow count a.replies
   pub debt : IsDebtOf a.origin successor a.debt
 
 -- the parts of a machine fit together
-pub record IsSound (local : Bool) (ports : List Neighbour) (awaited : List Bool) (successor : Option ℕ) (active : Option Active) : Type 0 where
+pub record IsSound (local : Bool) (ports : List Neighbour) (successor : Option ℕ) (active : Option Active) : Type 0 where
   pub few : length ports ≤ 32
-  pub as_many : length awaited ≡ length ports
   pub costs : All (λ n. IsCost n.cost) ports
-  pub under_way : IfSome active (IsUnderWay local successor awaited)
+  pub under_way : IfSome active (IsUnderWay local (length ports) successor)
 
--- the computation that awaits these ports, if one is under way
-abbrev pub computation_of : List Bool → Option Active → Option Computation
-computation_of awaited None = None
-computation_of awaited (Some a) = Some (record { awaited = awaited; debt = a.debt })
+-- the computation over so many ports, if one is under way
+abbrev pub computation_of : ℕ → Option Active → Option Computation
+computation_of count None = None
+computation_of count (Some a) = Some (record { awaited = awaited_of count a.replies; debt = a.debt })
 
 -- its origin state
 abbrev pub origin_of : Option Active → Option Origin

@@ -1,6 +1,8 @@
 -- What callers see of a machine, and what an event does to its origin state.
 use Rattle.std.specs.Prelude.{◌≡◌, ℕ, Bool, true, false, nat_lt, if◌then◌else◌, List, map, Option, Some, None, slice_get, is_some, unwrap_or}
 use Rattle.std.specs.List.{list_any}
+use Rattle.std.specs.Option.{option_map}
+use Rattle.std.specs.FinSet.{contains}
 use Rattle.metric.specs.Distance.{infinity}
 use Rattle.metric.specs.declared.kind.Kind.TheVariants.{Query}
 use Rattle.network_model.specs.declared.machine.Event.{Event}
@@ -8,11 +10,11 @@ use Rattle.network_model.specs.declared.machine.Event.TheVariants.{Message, Up, 
 use Rattle.network_model.specs.declared.machine.Neighbour.{Neighbour}
 use Rattle.network_model.specs.declared.machine.PortInfo.{PortInfo}
 use Rattle.network_model.specs.Machine.{Machine, Computation, opening_machine, ways, is_port, asker, via_successor, condition_holds, with_records, awaited_after}
-use Rattle.dual_machine.specs.declared.origin.Origin.{Origin}
-use Rattle.dual_machine.specs.declared.origin.Origin.TheVariants.{Own, Owing}
+use Rattle.diffusing_replies.specs.declared.origin.Origin.{Origin}
+use Rattle.diffusing_replies.specs.declared.origin.Origin.TheVariants.{Own, Owing}
 use Rattle.dual_machine.specs.declared.mode.Mode.{Mode}
 use Rattle.dual_machine.specs.declared.mode.Mode.TheVariants as mode
-use Rattle.dual_machine.specs.Origin.{rose, queried, lost, restart, owes}
+use Rattle.diffusing_replies.specs.Origin.{rose, queried, lost, restart, owes}
 
 -- a machine, with the origin state of the computation under way
 pub record State : Type 0 where
@@ -94,20 +96,22 @@ origin_after s (Cost q cost) = decided_origin s (Cost q cost)
 
 -- ---- what a machine shows
 
--- what a machine is at
-abbrev pub mode_of : State → Mode
-mode_of s = by_computation (s.machine).computation s.origin
-  where
-    by_computation : Option Computation → Option Origin → Mode
-    by_computation (Some c) (Some o) = mode.Active o c.debt
-    by_computation _ _ = mode.Passive
-
--- a debt is shown exactly in the origin states that owe a reply
-abbrev pub OwesByOrigin : Mode → Type 0
-OwesByOrigin mode.Passive = Unit {0}
-OwesByOrigin (mode.Active origin debt) = is_some debt ≡ owes origin
-
 -- whether a reply from this port is awaited
 abbrev pub awaits_at : Option Computation → ℕ → Bool
 awaits_at None q = false
 awaits_at (Some c) q = unwrap_or (slice_get c.awaited q) false
+
+-- what a machine is at: the origin state of the computation under way, and the port to which it owes a reply
+abbrev pub IsModeOf : State → Mode → Type 0
+IsModeOf s mode.Passive = (s.machine).computation ≡ None
+IsModeOf s (mode.Active origin awaited debt) = (s.origin ≡ Some origin) × (option_map (λ c. c.debt) (s.machine).computation ≡ Some debt)
+
+-- the ports shown as awaited are those that are
+abbrev pub ShowsAwaited : Option Computation → Mode → Type 0
+ShowsAwaited c mode.Passive = Unit {0}
+ShowsAwaited c (mode.Active origin awaited debt) = (q : ℕ) → contains awaited q ≡ awaits_at c q
+
+-- a debt is shown exactly in the origin states that owe a reply
+abbrev pub OwesByOrigin : Mode → Type 0
+OwesByOrigin mode.Passive = Unit {0}
+OwesByOrigin (mode.Active origin awaited debt) = is_some debt ≡ owes origin

@@ -1,14 +1,15 @@
 //! What an event says, and what it does to the parts of a machine.
 
-ghost use Rattle.std.specs.Prelude.{◌≡◌, ℕ, ◌<◌, ◌≤◌, nat_lt, false, map, length};
-ghost use Rattle.std.specs.List.{list_any};
+ghost use Rattle.std.specs.Prelude.{◌≡◌, ℕ, ◌<◌, ◌≤◌, nat_lt, length};
+ghost use Rattle.std.specs.FinSet as set;
 ghost use Rattle.metric.specs.Distance.{infinity};
 ghost use Rattle.network_model.specs.Machine as dual;
+ghost use Rattle.dual_machine.specs.Awaited.{awaited_of, AwaitsBelow};
 ghost use Rattle.dual_machine.specs.Event as events;
 ghost use Rattle.dual_machine.specs.State as state;
 
 use crate::distances::via_successor;
-use crate::origin::Origin;
+use diffusing_replies::{Debt, Origin, PortSet, Replies};
 use network_model::{Distance, Event, Kind, Neighbour};
 
 // Whether this is the port, if there is one.
@@ -58,7 +59,7 @@ pub(crate) fn successor_after(event: &Event, successor: Option<u8>) -> Option<u8
 }
 
 // The port to which a reply is owed after the event.
-pub(crate) fn debt_after(event: &Event, successor: Option<u8>, debt: Option<u8>) -> Option<u8>
+pub(crate) fn debt_after(event: &Event, successor: Option<u8>, debt: Debt) -> Debt
     ensures { result ≡ dual.debt_after successor event.now debt }
 {
     match *event {
@@ -122,45 +123,35 @@ pub(crate) fn change_record(ports: &mut [Neighbour], event: &Event)
     }
 }
 
-// Awaits this port no more.
-fn await_no_more(awaited: &mut [bool], port: u8)
-    requires { port < length awaited.old }
-    ensures { awaited.new ≡ dual.changed_at port (λ _. false) awaited.old }
-{
-    awaited[port as usize] = false;
-}
-
 // A reply ends the wait for its port, and so does the loss of the link.
-pub(crate) fn end_wait(awaited: &mut [bool], event: &Event)
-    requires { events.port_of event.now < length awaited.old }
-    ensures { awaited.new ≡ dual.awaited_after event.now awaited.old }
+pub(crate) fn end_wait(replies: &mut Replies, event: &Event)
+    requires { events.port_of event.now < 32 }
+    ensures awaited { (n : ℕ) → awaited_of n replies.new ≡ dual.awaited_after event.now (awaited_of n replies.old) }
+    ensures no_more { (n : ℕ) → AwaitsBelow n replies.old → AwaitsBelow n replies.new }
 {
     match *event {
         Event::Message {
             port,
             kind: Kind::Reply,
             ..
-        } => await_no_more(awaited, port),
-        Event::Down { port } => await_no_more(awaited, port),
+        } => replies.came(port),
+        Event::Down { port } => replies.lost(port),
         _ => {}
     }
 }
 
-// Awaits each neighbour that is up.
-pub(crate) fn await_all(awaited: &mut [bool], ports: &[Neighbour])
-    requires { length awaited.old ≡ length ports.now }
-    ensures { awaited.new ≡ map (λ n. n.up) ports.now }
+// The ports of the neighbours that are up.
+pub(crate) fn up_ports(ports: &[Neighbour]) -> PortSet
+    requires { length ports.now ≤ 32 }
+    ensures { (q : ℕ) → set.contains result q ≡ events.is_up_at ports.now q }
 {
-    for i in 0..ports.len() {
-        awaited[i] = ports[i].up;
+    let mut up = PortSet::empty();
+    for (port, neighbour) in ports.iter().enumerate() {
+        if neighbour.up {
+            up = up.with(port as u8);
+        }
     }
-}
-
-// Whether anyone is awaited.
-pub(crate) fn is_awaiting(awaited: &[bool]) -> bool
-    ensures { result ≡ list_any (λ b. b) awaited.now }
-{
-    awaited.iter().any(|b| *b)
+    up
 }
 
 // Whether the distance by way of the successor is above the one with which the computation began.

@@ -5,13 +5,12 @@ mod distances;
 mod events;
 mod machine;
 mod mode;
-mod origin;
 mod sends;
 #[cfg(test)]
 mod tests;
 
+pub use diffusing_replies::{Debt, Origin, PortSet};
 pub use machine::Machine;
 pub use mode::Mode;
 pub use network_model::{Cost, Distance, Event, Kind, NoMemory, Outgoing, PortInfo};
-pub use origin::Origin;
 pub use sends::Sends;

@@ -2,9 +2,9 @@
 
 ghost use Rattle.std.specs.Prelude.{◌≡◌, ℕ, ◌+◌, ◌<◌, ◌≤◌, ◌++◌, ◌↔◌, IsTrue, true, false, length, None, IsOk, OnOk, OnErr, IfOk, All, is_none};
 ghost use Rattle.metric.specs.Distance.{IsCost, infinity};
+ghost use Rattle.diffusing_replies.specs.Origin as table;
 ghost use Rattle.network_model.specs.Machine as dual;
 ghost use Rattle.dual_machine.specs.Event.{port_of, IsTimely};
-ghost use Rattle.dual_machine.specs.Origin as table;
 ghost use Rattle.dual_machine.specs.Outbox.{HasRoom, most_sent};
 ghost use Rattle.dual_machine.specs.Parts.{IsDebtOf};
 ghost use Rattle.dual_machine.specs.State as state;
@@ -13,12 +13,12 @@ use crate::distances::{
     chosen_successor, condition_holds, is_any_up, is_up_at, least, nearer, up_count, via_successor,
 };
 use crate::events::{
-    asker, await_all, change_record, debt_after, end_wait, has_risen, is_awaiting, is_port, moved,
-    other_asker, successor_after,
+    asker, change_record, debt_after, end_wait, has_risen, is_port, moved, other_asker,
+    successor_after, up_ports,
 };
 use crate::mode::{Active, Mode};
-use crate::origin::Origin;
 use crate::sends::Sends;
+use diffusing_replies::{Debt, Origin, Replies};
 use network_model::{Distance, Event, Kind, Neighbour, NoMemory, PortInfo};
 use std::alloc::{AllocError, Global};
 use std::marker::Model;
@@ -28,8 +28,6 @@ use std::marker::Model;
 pub struct Machine {
     local: bool,
     ports: Vec<Neighbour>,
-    // While a computation is under way: by port, whether the reply is awaited.
-    awaited: Vec<bool>,
     rd: Distance,
     fd: Distance,
     successor: Option<u8>,
@@ -37,6 +35,7 @@ pub struct Machine {
 }
 
 impl Model for Machine {
+    ghost use Rattle.std.specs.Prelude.{length};
     ghost use Rattle.dual_machine.specs.State.{State};
     ghost use Rattle.dual_machine.specs.Parts.{IsSound, computation_of, origin_of};
 
@@ -49,12 +48,12 @@ impl Model for Machine {
         rd = m.rd;
         fd = m.fd;
         successor = m.successor;
-        computation = computation_of m.awaited.items m.active;
+        computation = computation_of (length m.ports.items) m.active;
       };
       origin = origin_of m.active;
     } };
 
-    ghost invariant = { λ m. IsSound m.local m.ports.items m.awaited.items m.successor m.active };
+    ghost invariant = { λ m. IsSound m.local m.ports.items m.successor m.active };
 }
 
 // A neighbour that has reported nothing.
@@ -92,13 +91,10 @@ impl Machine {
         ensures full { OnErr result (0 < length ports.now) }
     {
         let neighbours = opening_neighbours(alloc, ports)?;
-        let mut awaited = Vec::new(alloc);
-        awaited.resize(ports.len(), false)?;
         let distance = if local { Distance::ZERO } else { Distance::INF };
         Ok(Machine {
             local,
             ports: neighbours,
-            awaited,
             rd: distance,
             fd: distance,
             successor: None,
@@ -143,14 +139,21 @@ impl Machine {
 
     /// Whether a computation is under way, and which.
     pub fn mode(&self) -> Mode
-        ensures mode { result ≡ state.mode_of self.now }
+        ensures mode { state.IsModeOf self.now result }
+
+        // A port is shown exactly where its reply is awaited.
+        ensures awaited { state.ShowsAwaited (self.now).machine.computation result }
 
         // A debt is there exactly in the states 2 and 3.
         ensures debt { state.OwesByOrigin result }
     {
         match self.active {
             None => Mode::Passive,
-            Some(Active { origin, debt }) => Mode::Active { origin, debt },
+            Some(active) => Mode::Active {
+                origin: active.origin,
+                awaited: active.replies.awaited(),
+                debt: active.debt,
+            },
         }
     }
 
@@ -158,7 +161,10 @@ impl Machine {
     pub fn awaits(&self, port: u8) -> bool
         ensures { result ≡ state.awaits_at (self.now).machine.computation port }
     {
-        self.active.is_some() && self.awaited.get(port as usize) == Some(&true)
+        match self.active {
+            None => false,
+            Some(active) => active.replies.awaited().has(port),
+        }
     }
 
     /// Whether the machine may be told of the event: its port is known, `Up` names one that is
@@ -247,12 +253,17 @@ impl Machine {
         let origin = moved(active.origin, event, before, risen);
         let debt = debt_after(event, self.successor, active.debt);
         sends.push_to(other_asker(event, self.successor), Kind::Reply, self.rd);
-        end_wait(&mut self.awaited, event);
-        if is_awaiting(&self.awaited) {
-            self.active = Some(Active { origin, debt });
-        } else {
+        let mut replies = active.replies;
+        end_wait(&mut replies, event);
+        if replies.is_done() {
             self.active = None;
             self.complete(origin, debt, sends);
+        } else {
+            self.active = Some(Active {
+                origin,
+                replies,
+                debt,
+            });
         }
     }
 
@@ -301,7 +312,7 @@ impl Machine {
 
     // A computation whose last reply is there. Where its origin state needs no test, the condition
     // holds.
-    fn complete(&mut self, origin: Origin, debt: Option<u8>, sends: &mut Sends)
+    fn complete(&mut self, origin: Origin, debt: Debt, sends: &mut Sends)
         requires remote { (self.old).machine.local ≡ false }
         requires debt { IsDebtOf origin (self.old).machine.successor debt }
         requires tested { table.needs_test origin ≡ false
@@ -343,7 +354,7 @@ impl Machine {
 
     // A computation that begins: everyone who is up is asked, and awaited. With no one up it is over
     // at once.
-    fn begin(&mut self, fd: Distance, origin: Origin, debt: Option<u8>, sends: &mut Sends)
+    fn begin(&mut self, fd: Distance, origin: Origin, debt: Debt, sends: &mut Sends)
         requires remote { (self.old).machine.local ≡ false }
         requires debt { IsDebtOf origin (self.old).machine.successor debt }
         requires room { HasRoom sends.old (length (dual.new_computation (self.old).machine fd debt).sends) }
@@ -356,10 +367,14 @@ impl Machine {
         if is_any_up(&self.ports) {
             let v = via_successor(&self.ports, self.successor);
             sends.push_to_all(None, Kind::Query, v, &self.ports);
-            await_all(&mut self.awaited, &self.ports);
+            let replies = Replies::begin(up_ports(&self.ports));
             self.rd = v;
             self.fd = fd;
-            self.active = Some(Active { origin, debt });
+            self.active = Some(Active {
+                origin,
+                replies,
+                debt,
+            });
         } else {
             self.rd = Distance::INF;
             self.fd = Distance::INF;

@@ -1,13 +1,13 @@
 //! What a machine is at.
 
-use crate::origin::Origin;
+use diffusing_replies::{Debt, Origin, PortSet, Replies};
 
-// What is kept of a computation under way, but for the ports that it awaits.
+// What is kept of a computation under way.
 #[derive(Clone, Copy, Debug)]
 pub(crate) struct Active {
     pub(crate) origin: Origin,
-    // The port to which a reply is owed.
-    pub(crate) debt: Option<u8>,
+    pub(crate) replies: Replies,
+    pub(crate) debt: Debt,
 }
 
 /// Whether a computation is under way, and which.
@@ -15,6 +15,11 @@ pub(crate) struct Active {
 pub enum Mode {
     /// None is.
     Passive,
-    /// One is, with its origin state, and the port to which a reply is owed, if one is.
-    Active { origin: Origin, debt: Option<u8> },
+    /// One is, with its origin state, the ports whose reply it awaits, and the port to which a reply
+    /// is owed, if one is.
+    Active {
+        origin: Origin,
+        awaited: PortSet,
+        debt: Debt,
+    },
 }

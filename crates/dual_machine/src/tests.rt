@@ -1,6 +1,6 @@
 //! Rows of a machine that does not own its prefix, with ports 0 and 1 up at cost 1.
 
-use crate::{Cost, Distance, Event, Kind, Machine, Mode, Outgoing, PortInfo, Sends};
+use crate::{Cost, Debt, Distance, Event, Kind, Machine, Mode, Outgoing, PortInfo, PortSet, Sends};
 use std::alloc::Global;
 use std::process::Abort;
 use std::test::Fail;
@@ -41,24 +41,31 @@ impl Bench {
         self.event(rt, &Event::Cost { port, cost })
     }
 
-    // The distances, the successor, and of a computation the number of its origin state, whether
-    // each reply is awaited, and the debt.
+    // The distances, the successor, and of a computation the number of its origin state, the ports
+    // that it awaits, and the debt.
     fn shows(
         &self,
         rt: &impl Abort,
         distances: (u32, u32),
         successor: u8,
-        active: Option<(u8, [bool; 2], Option<u8>)>,
+        active: Option<(u8, PortSet, Debt)>,
     ) {
         let machine = &self.machine;
         assert_eq!(rt; (machine.rd().value(), machine.fd().value()), distances);
         assert_eq!(rt; machine.successor(), Some(successor));
-        let awaited = [machine.awaits(0), machine.awaits(1)];
         let shown = match machine.mode() {
             Mode::Passive => None,
-            Mode::Active { origin, debt } => Some((origin.number(), awaited, debt)),
+            Mode::Active {
+                origin,
+                awaited,
+                debt,
+            } => Some((origin.number(), awaited, debt)),
         };
         assert_eq!(rt; shown, active);
+        let awaited = active.map_or(PortSet::empty(), |(_, awaited, _)| awaited);
+        for port in 0..32 {
+            assert_eq!(rt; machine.awaits(port), awaited.has(port));
+        }
     }
 
     fn sent(&self, rt: &impl Abort, sends: &[Outgoing]) {
@@ -72,6 +79,14 @@ fn out(kind: Kind, value: u32, port: u8) -> Outgoing {
         kind,
         value: Distance::new(value),
     }
+}
+
+fn both() -> PortSet {
+    only_1().with(0)
+}
+
+fn only_1() -> PortSet {
+    PortSet::empty().with(1)
 }
 
 // The same message to both ports.
@@ -89,19 +104,19 @@ fn a_cost_rises_again(rt: HostRuntime) -> Result<(), Fail> {
     bench.shows(&rt, (1, 1), 0, None);
     bench.sent(&rt, &[]);
     bench.cost(&rt, 0, 10)?;
-    bench.shows(&rt, (10, 1), 0, Some((1, [true, true], None)));
+    bench.shows(&rt, (10, 1), 0, Some((1, both(), None)));
     bench.sent(&rt, &to_both(Kind::Query, 10));
     bench.message(&rt, Kind::Reply, 0, 0)?;
-    bench.shows(&rt, (10, 1), 0, Some((1, [false, true], None)));
+    bench.shows(&rt, (10, 1), 0, Some((1, only_1(), None)));
     bench.sent(&rt, &[]);
     bench.cost(&rt, 0, 20)?;
-    bench.shows(&rt, (10, 1), 0, Some((0, [false, true], None)));
+    bench.shows(&rt, (10, 1), 0, Some((0, only_1(), None)));
     bench.sent(&rt, &[]);
     bench.message(&rt, Kind::Reply, 11, 1)?;
-    bench.shows(&rt, (20, 10), 0, Some((1, [true, true], None)));
+    bench.shows(&rt, (20, 10), 0, Some((1, both(), None)));
     bench.sent(&rt, &to_both(Kind::Query, 20));
     bench.message(&rt, Kind::Reply, 0, 0)?;
-    bench.shows(&rt, (20, 10), 0, Some((1, [false, true], None)));
+    bench.shows(&rt, (20, 10), 0, Some((1, only_1(), None)));
     bench.sent(&rt, &[]);
     bench.message(&rt, Kind::Reply, 12, 1)?;
     bench.shows(&rt, (13, 13), 1, None);
@@ -116,16 +131,16 @@ fn asked_twice(alloc: Global, rt: &impl Abort) -> Result<Bench, Fail> {
     bench.shows(rt, (1, 1), 0, None);
     bench.sent(rt, &to_both(Kind::Update, 1));
     bench.message(rt, Kind::Query, 5, 0)?;
-    bench.shows(rt, (6, 1), 0, Some((3, [true, true], Some(0))));
+    bench.shows(rt, (6, 1), 0, Some((3, both(), Some(0))));
     bench.sent(rt, &to_both(Kind::Query, 6));
     bench.message(rt, Kind::Query, 7, 0)?;
-    bench.shows(rt, (6, 1), 0, Some((2, [true, true], Some(0))));
+    bench.shows(rt, (6, 1), 0, Some((2, both(), Some(0))));
     bench.sent(rt, &[]);
     bench.message(rt, Kind::Reply, 7, 0)?;
-    bench.shows(rt, (6, 1), 0, Some((2, [false, true], Some(0))));
+    bench.shows(rt, (6, 1), 0, Some((2, only_1(), Some(0))));
     bench.sent(rt, &[]);
     bench.message(rt, Kind::Query, 3, 1)?;
-    bench.shows(rt, (6, 1), 0, Some((2, [false, true], Some(0))));
+    bench.shows(rt, (6, 1), 0, Some((2, only_1(), Some(0))));
     bench.sent(rt, &[out(Kind::Reply, 6, 1)]);
     Ok(bench)
 }
@@ -143,7 +158,7 @@ fn the_debt_is_paid(rt: HostRuntime) -> Result<(), Fail> {
 fn the_debt_is_kept(rt: HostRuntime) -> Result<(), Fail> {
     let mut bench = asked_twice(rt.alloc(), &rt)?;
     bench.message(&rt, Kind::Reply, 20, 1)?;
-    bench.shows(&rt, (8, 6), 0, Some((3, [true, true], Some(0))));
+    bench.shows(&rt, (8, 6), 0, Some((3, both(), Some(0))));
     bench.sent(&rt, &to_both(Kind::Query, 8));
     Ok(())
 }

@@ -13,28 +13,24 @@ use Rattle.network_model.specs.World.{Link, Router, World, Network, opening, ope
 use Rattle.network_model.specs.Step.{Lawful, next, is_due, changed_router, changed_link, with_cost, with_front_taken, with_message, with_delivered, with_released, front_at, release_at, router_accepting, router_publishing, router_releasing}
 use Rattle.network_model.specs.Run.{Runs}
 use Rattle.network_model.specs.Journal.{most_steps}
-use Rattle.network_model.specs.Publication.{Image}
+use Rattle.network_model.specs.Publication.{Image, image_answer}
 use Rattle.network_model.proofs.ListLaws.{map-changed_at, option_map_or-ind, None_not_Some, Some_injective}
 use Rattle.network_model.proofs.WorldLaws.{routers-changed_link}
 use Rattle.world.specs.Steps.{HasRoomForSteps}
 use Rattle.world.proofs.Runs.{with_last_step, run-room, opening-room}
-use Rattle.fabric.specs.Images.{image_in_force, chosen_image, due_at}
-use Rattle.fabric.specs.Fabric.{Fabric, fabric_of, after_step, IsKept}
+use Rattle.fabric.specs.Images.{image_in_force, images_in_force, chosen_image, due_at}
+use Rattle.fabric.specs.Fabric.{Fabric, fabric_of, after_step, ForwardsAsPublished, IsKept}
 
 -- the journal is too short for a generation to pass 64 bits
-pub room_left : (f : Fabric) (images : List Image) (capacity : ℕ) → IsKept f images capacity → HasRoomForSteps 1 f.world
-room_left f images capacity kept = run-room f.journal 1 (opening f.network) f.world kept.runs (opening-room (length f.journal + 1) f.network (omega (arith, kept.short)))
+pub room_left : (f : Fabric) (capacity : ℕ) → IsKept f capacity → HasRoomForSteps 1 f.world
+room_left f capacity kept = run-room f.journal 1 (opening f.network) f.world kept.runs (opening-room (length f.journal + 1) f.network (omega (arith, kept.short)))
 
 -- ---- the images in force
 
--- the images at the routers of a world
-abbrev images_of : World → List Image
-images_of w = map image_in_force w.routers
-
-images-changed_link : (i q : ℕ) (f : End → Link → Link) (w : World) → images_of (changed_link i q f w) ≡ images_of w
+images-changed_link : (i q : ℕ) (f : End → Link → Link) (w : World) → images_in_force (changed_link i q f w) ≡ images_in_force w
 images-changed_link i q f w = ap (map image_in_force) (routers-changed_link i q f w)
 
-images-changed_router : (i : ℕ) (f : Router → Router) (w : World) → ((r : Router) → image_in_force (f r) ≡ image_in_force r) → images_of (changed_router i f w) ≡ images_of w
+images-changed_router : (i : ℕ) (f : Router → Router) (w : World) → ((r : Router) → image_in_force (f r) ≡ image_in_force r) → images_in_force (changed_router i f w) ≡ images_in_force w
 images-changed_router i f w same = map-changed_at f image_in_force i w.routers (λ r _. same r)
 
 image-accepting : (q : ℕ) (item : Item) (r : Router) → image_in_force (router_accepting q item r) ≡ image_in_force r
@@ -47,14 +43,14 @@ image-accepting q (Item.Message m) r = refl
 pub images-next : (w : World) (s : Step) → ((i : ℕ) → s ≡ Publish i → ⊥) → map image_in_force (next w s).routers ≡ map image_in_force w.routers
 images-next w s other = by_step s other
   where
-    by_step : (s : Step) → ((i : ℕ) → s ≡ Publish i → ⊥) → images_of (next w s) ≡ images_of w
+    by_step : (s : Step) → ((i : ℕ) → s ≡ Publish i → ⊥) → images_in_force (next w s) ≡ images_in_force w
     by_step (LinkUp l) _ = refl
     by_step (LinkDown l) _ = refl
     by_step (SetCost i q cost) _ = images-changed_link i q (with_cost cost) w
-    by_step (Deliver i q) _ = option_map_or-ind (λ v. images_of v ≡ images_of w) (with_delivered i q w) (front_at w i q) w refl
+    by_step (Deliver i q) _ = option_map_or-ind (λ v. images_in_force v ≡ images_in_force w) (with_delivered i q w) (front_at w i q) w refl
         (λ item _. images-changed_router i (router_accepting q item) (changed_link i q with_front_taken w) (image-accepting q item) ∙ images-changed_link i q with_front_taken w)
     by_step (Publish i) other = absurd (other i refl)
-    by_step (Release i) _ = option_map_or-ind (λ v. images_of v ≡ images_of w) (with_released i w) (release_at w i) w refl
+    by_step (Release i) _ = option_map_or-ind (λ v. images_in_force v ≡ images_in_force w) (with_released i w) (release_at w i) w refl
         (λ h _. images-changed_router i router_releasing (changed_link i h.port (with_message h) w) (λ _. refl) ∙ images-changed_link i h.port (with_message h) w)
 
 -- it puts its router's in force
@@ -74,15 +70,26 @@ due_of w i lawful =
     )
 
 -- a router that is there has an image
-pub image_at : (f : Fabric) (images : List Image) (capacity : ℕ) → IsKept f images capacity → (i : ℕ) (r : Router) → slice_get f.world.routers i ≡ Some r → i < length images
-image_at f images capacity kept i r at =
+pub image_at : (f : Fabric) (capacity : ℕ) → IsKept f capacity → (i : ℕ) (r : Router) → slice_get f.world.routers i ≡ Some r → i < length f.images
+image_at f capacity kept i r at =
     subst (λ xs. i < length xs) (sym kept.in_force)
     (subst (λ n. i < n) (sym (length-map f.world.routers image_in_force)) (slice_get_within f.world.routers i r at))
 
 -- it is of what the router published
-pub image_is : (f : Fabric) (images : List Image) (capacity : ℕ) → IsKept f images capacity → (i : ℕ) (r : Router) → slice_get f.world.routers i ≡ Some r → slice_get images i ≡ Some (image_in_force r)
-image_is f images capacity kept i r at =
+pub image_is : (f : Fabric) (capacity : ℕ) → IsKept f capacity → (i : ℕ) (r : Router) → slice_get f.world.routers i ≡ Some r → slice_get f.images i ≡ Some (image_in_force r)
+image_is f capacity kept i r at =
     ap (λ xs. slice_get xs i) kept.in_force ∙ slice_get-map image_in_force f.world.routers i ∙ ap (option_map image_in_force) at
+
+-- so it answers as the router published
+pub forwards : (f : Fabric) (capacity : ℕ) → IsKept f capacity → ForwardsAsPublished f
+forwards f capacity kept = record {
+  every_router = ap length kept.in_force ∙ length-map f.world.routers image_in_force;
+  longest = λ i r image at here addr. ap (λ x. image_answer x addr) (same i r image at here);
+  generation = λ i r image at here. ap (λ (x : Image). x.generation) (same i r image at here);
+}
+  where
+    same : (i : ℕ) (r : Router) (image : Image) → slice_get f.world.routers i ≡ Some r → slice_get f.images i ≡ Some image → image ≡ image_in_force r
+    same i r image at here = Some_injective (sym here ∙ image_is f capacity kept i r at)
 
 -- at the opening each router has published what it chose
 chosen-published : (n : Network) (is : List ℕ) → map chosen_image (map (opening_router_of n) is) ≡ map image_in_force (map (opening_router_of n) is)
@@ -91,7 +98,7 @@ chosen-published n (i ∷ is) = ap (λ xs. image_in_force (opening_router_of n i
 
 -- a network at its opening, with the images of what its routers chose
 pub kept_at_opening : (n : Network) (journal : List Step) (w : World) (images : List Image) (capacity : ℕ) → journal ≡ [] → w ≡ opening n → images ≡ map chosen_image w.routers → most_steps ≤ capacity
-    → IsKept (fabric_of n journal w) images capacity
+    → IsKept (fabric_of n journal w images) capacity
 kept_at_opening n journal w images capacity none opened chosen room = record {
   runs = subst (λ ss. Runs (opening n) ss w) (sym none) (sym opened);
   short = (let empty : length journal ≡ 0 = ap length none in omega (arith, empty));
@@ -101,37 +108,31 @@ kept_at_opening n journal w images capacity none opened chosen room = record {
 
 -- ---- one step more
 
--- a step, with the images that are then in force
-kept_with : (f : Fabric) (s : Step) (images : List Image) (capacity : ℕ) → Runs (opening f.network) f.journal f.world → Lawful f.world s → length f.journal < most_steps → most_steps ≤ capacity
-    → images ≡ map image_in_force (next f.world s).routers → IsKept (after_step f s) images capacity
-kept_with f s images capacity runs lawful short room in_force = record {
-  runs = with_last_step (opening f.network) f.journal f.world s runs lawful;
+-- a step leaves it
+kept_after : (f : Fabric) (s : Step) (capacity : ℕ) → IsKept f capacity → Lawful f.world s → length f.journal < most_steps → IsKept (after_step f s) capacity
+kept_after f s capacity kept lawful short = record {
+  runs = with_last_step (opening f.network) f.journal f.world s kept.runs lawful;
   short = (let longer : length (f.journal ++ s ∷ []) ≡ length f.journal + 1 = length-append f.journal (s ∷ []) in omega (arith, longer, short));
-  room = room;
-  in_force = in_force;
+  room = kept.room;
+  in_force = refl;
 }
 
-pub kept_by_other : (f : Fabric) (s : Step) (images : List Image) (capacity : ℕ) → IsKept f images capacity → Lawful f.world s → length f.journal < most_steps
-    → ((i : ℕ) → s ≡ Publish i → ⊥) → IsKept (after_step f s) images capacity
-kept_by_other f s images capacity kept lawful short other =
-    kept_with f s images capacity kept.runs lawful short kept.room (kept.in_force ∙ sym (images-next f.world s other))
+-- the images stay at a step that is no publication
+pub images_stay : (f : Fabric) (s : Step) (capacity : ℕ) → IsKept f capacity → ((i : ℕ) → s ≡ Publish i → ⊥) → images_in_force (next f.world s) ≡ f.images
+images_stay f s capacity kept other = images-next f.world s other ∙ sym kept.in_force
 
-pub kept_by_publication : (f : Fabric) (i : ℕ) (images : List Image) (capacity : ℕ) (image : Image) → IsKept f images capacity → Lawful f.world (Publish i) → length f.journal < most_steps
-    → due_at f.world i ≡ Some image → IsKept (after_step f (Publish i)) (set images i image) capacity
-kept_by_publication f i images capacity image kept lawful short due =
-    kept_with f (Publish i) (set images i image) capacity kept.runs lawful short kept.room (by_router (due_of f.world i lawful))
+-- a publication puts the image that was due in force
+pub images_due : (f : Fabric) (i : ℕ) (capacity : ℕ) (image : Image) → IsKept f capacity → Lawful f.world (Publish i) → due_at f.world i ≡ Some image → images_in_force (next f.world (Publish i)) ≡ set f.images i image
+images_due f i capacity image kept lawful due = by_router (due_of f.world i lawful)
   where
-    by_router : (r : Router) × (slice_get f.world.routers i ≡ Some r) × (due_at f.world i ≡ Some (image_in_force (router_publishing r))) → set images i image ≡ map image_in_force (next f.world (Publish i)).routers
-    by_router r =
+    by_router : (r : Router) × (slice_get f.world.routers i ≡ Some r) × (due_at f.world i ≡ Some (image_in_force (router_publishing r))) → images_in_force (next f.world (Publish i)) ≡ set f.images i image
+    by_router r = sym (
         ap (λ xs. set xs i image) kept.in_force
         ∙ ap (λ y. set (map image_in_force f.world.routers) i y) (Some_injective (sym due ∙ r.2))
-        ∙ images-published i f.world.routers r.0 r.1
+        ∙ images-published i f.world.routers r.0 r.1)
 
--- the same of what is the same, with at least as much room
-pub kept_as : {f g : Fabric} {images others : List Image} {capacity more : ℕ} → IsKept f images capacity → f ≡ g → images ≡ others → capacity ≤ more → IsKept g others more
-kept_as {f = f} {g = g} {images = images} {others = others} {capacity = capacity} {more = more} kept same alike room = record {
-  runs = subst (λ (x : Fabric). Runs (opening x.network) x.journal x.world) same kept.runs;
-  short = subst (λ (x : Fabric). length x.journal ≤ most_steps) same kept.short;
-  room = (let enough : most_steps ≤ capacity = kept.room in omega (arith, enough, room));
-  in_force = sym alike ∙ kept.in_force ∙ ap (λ (x : Fabric). map image_in_force x.world.routers) same;
-}
+-- so what is made of the parts after the step is the fabric after it, and keeps what every fabric keeps
+pub kept_as : (f g : Fabric) (s : Step) (capacity more : ℕ) → IsKept f capacity → Lawful f.world s → length f.journal < most_steps → after_step f s ≡ g → capacity ≤ more → IsKept g more
+kept_as f g s capacity more kept lawful short same room =
+    let after = kept_after f s capacity kept lawful short in
+    subst (λ (x : Fabric). IsKept x more) same (record { runs = after.runs; short = after.short; room = (let enough : most_steps ≤ capacity = kept.room in omega (arith, enough, room)); in_force = refl })

@@ -1,5 +1,5 @@
 -- The images in force, and what they answer.
-use Rattle.std.specs.Prelude.{ℕ, if◌then◌else◌, Option, Some, None, option_map, option_and_then, slice_get}
+use Rattle.std.specs.Prelude.{ℕ, if◌then◌else◌, List, map, Option, Some, None, option_map, option_and_then, slice_get}
 use Rattle.network_model.specs.declared.route.Answer.{Answer}
 use Rattle.network_model.specs.World.{Router, World}
 use Rattle.network_model.specs.Step.{is_due, router_publishing}
@@ -8,6 +8,10 @@ use Rattle.network_model.specs.Publication.{Image, image_answer}
 -- the image in force at a router: the rows that it published, and which publication that was
 abbrev pub image_in_force : Router → Image
 image_in_force r = record { generation = r.generation; rows = (r.table).published }
+
+-- those of all routers, in order
+abbrev pub images_in_force : World → List Image
+images_in_force w = map image_in_force w.routers
 
 -- the image of the rows that a router has chosen, as it is made when a network opens
 abbrev pub chosen_image : Router → Image

@@ -7,7 +7,7 @@ ghost use Rattle.network_model.specs.Step as steps;
 ghost use Rattle.network_model.specs.Run.{Runs};
 ghost use Rattle.network_model.specs.Journal.{most_steps};
 ghost use Rattle.world.specs.Steps.{IsDoneOr, StopsAt};
-ghost use Rattle.fabric.specs.Fabric.{opening_fabric, after_step, fabric_refusal};
+ghost use Rattle.fabric.specs.Fabric.{opening_fabric, after_step, fabric_refusal, ForwardsAsPublished};
 ghost use Rattle.fabric.specs.Images.{answer_at};
 
 use crate::images::{opening_images, patch_due};
@@ -39,9 +39,9 @@ impl Model for Fabric {
 
     ghost Value = { FabricState };
 
-    ghost view = { λ f. fabric_of f.network f.journal.items f.world };
+    ghost view = { λ f. fabric_of f.network f.journal.items f.world f.images.items };
 
-    ghost invariant = { λ f. IsKept (fabric_of f.network f.journal.items f.world) f.images.items (vec_capacity f.journal) };
+    ghost invariant = { λ f. IsKept (fabric_of f.network f.journal.items f.world f.images.items) (vec_capacity f.journal) };
 }
 
 impl Fabric {
@@ -127,7 +127,7 @@ impl Fabric {
         if self.journal.len() >= MOST_STEPS {
             return Err(Refusal::JournalFull);
         }
-        let done = step;
+        let again = step;
         match step {
             Step::Publish { router } => {
                 let alloc = *self.images.allocator();
@@ -141,7 +141,7 @@ impl Fabric {
             }
             _ => self.world.step(step)?,
         }
-        self.journal.push(done).unwrap();
+        self.journal.push(again).unwrap();
         Ok(())
     }
 
@@ -151,19 +151,29 @@ impl Fabric {
         ensures runs { Runs (self.old).world (take result.done steps.now) (self.new).world }
         ensures journal { (self.new).journal ≡ (self.old).journal ++ take result.done steps.now }
         ensures network { (self.new).network ≡ (self.old).network }
+        ensures forwards { ForwardsAsPublished self.new }
         ensures stop { MatchOption result.refusal (result.done ≡ length steps.now) (StopsAt (fabric_refusal self.new) steps.now result.done) }
     {
         for (done, &step) in steps.iter().enumerate() {
             if let Err(refusal) = self.step(step) {
+                self.forward_as_published();
                 return Ran {
                     done,
                     refusal: Some(refusal),
                 };
             }
         }
+        self.forward_as_published();
         Ran {
             done: steps.len(),
             refusal: None,
         }
+    }
+
+    // What every fabric keeps of its images, for the clauses of its callers.
+    fn forward_as_published(&self)
+        ensures { ForwardsAsPublished self.now }
+    {
+        let _images = &self.images;
     }
 }

@@ -4,7 +4,8 @@ ghost use Rattle.std.specs.Prelude.{◌≡◌, ◌+◌, ◌^◌, ◌<◌, map, I
 ghost use Rattle.network_model.specs.Step as step;
 ghost use Rattle.world.specs.Steps.{HasRoomForSteps};
 ghost use Rattle.fabric.specs.Images.{image_in_force, chosen_image, due_at};
-ghost use Rattle.fabric.specs.Patches.{patched, IsPatchDue};
+ghost use Rattle.fabric.specs.Patches.{IsPatchDue};
+ghost use Rattle.image_patch.specs.Patches.{patched};
 
 use image_compiler::compile;
 use image_patch::Patch;
@@ -17,7 +18,7 @@ use world::World;
 // What a publication of the router would set in its image, did it publish now.
 fn next_patch(alloc: Global, router: &Router) -> Result<Patch, NoMemory>
     requires { router.now.generation + 1 < 2 ^ 64 }
-    ensures { IfOk result (λ patch. patched patch (image_in_force router.now) ≡ image_in_force (step.router_publishing router.now)) }
+    ensures { IfOk result (λ patch. patched patch.generation patch.rows.items (image_in_force router.now) ≡ image_in_force (step.router_publishing router.now)) }
 {
     Ok(Patch {
         generation: router.generation() + 1,

@@ -2,7 +2,7 @@
 #![tactic(auto)]
 
 ghost use Rattle.std.specs.Prelude.{◌≡◌, OnOk, OnErr};
-ghost use Rattle.network_model.specs.Publication.{with_rows};
+ghost use Rattle.image_patch.specs.Patches.{patched};
 
 use network_model::{Entry, NoMemory, Prefix};
 use tree_bitmap::Image;
@@ -27,7 +27,7 @@ pub trait Apply {
 
 impl Apply for Image {
     fn apply(&mut self, patch: &Patch) -> Result<(), NoMemory>
-        ensures ok { OnOk result (self.new ≡ record { generation = patch.now.generation; rows = with_rows patch.now.rows.items self.old.rows }) }
+        ensures ok { OnOk result (self.new ≡ patched patch.now.generation patch.now.rows.items self.old) }
         ensures err { OnErr result (self.new ≡ self.old) }
     {
         set_rows(self, &patch.rows)?;

@@ -7,7 +7,7 @@ module _ {X : Type 0} where
   GreatestBelow f n None = (k : ℕ) → k < n → f k ≡ None
   GreatestBelow f n (Some best) = (best.0 < n) × (f best.0 ≡ Some best.1) × ((k : ℕ) → best.0 < k → k < n → f k ≡ None)
 
-  -- what was found `depth` bits further down, if anything, else what was found above
+  -- what was found `bits` further down, if anything, else what was found above
   abbrev pub longer : Option (ℕ × X) → ℕ → Option (ℕ × X) → Option (ℕ × X)
-  longer None depth above = above
-  longer (Some own) depth above = Some (depth + own.0, own.1)
+  longer None bits above = above
+  longer (Some own) bits above = Some (bits + own.0, own.1)

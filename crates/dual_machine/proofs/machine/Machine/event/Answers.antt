@@ -11,7 +11,7 @@ use Rattle.dual_machine.proofs.machine.Machine.event.Goals as goal
 pub invariant_of-self : goal.invariant_of-self
 invariant_of-self c =
     let i = c.self.inside in
-    IsSound_after (Event.Up c.in-Up.port c.in-Up.cost) i.local (i.ports).items c.deref_mut.result.now c.change_record.new.ports _ (i.awaited).items i.successor i.active (i.ports).len
+    IsSound_after (Event.Up c.in-Up.port c.in-Up.cost) i.local (i.ports).items c.deref_mut.result.now c.change_record.new.ports _ i.successor i.active (i.ports).len
     (omega arith) (omega arith) (omega arith) c.deref_mut.ensures.value c.change_record.ensures.records c.change_record.ensures.cost c.self.invariant.costs
     c.self.invariant.under_way
 

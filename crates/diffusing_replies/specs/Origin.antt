@@ -1,7 +1,7 @@
 -- The origin state of a computation: how it began, and what has happened since.
 use Rattle.std.specs.Prelude.{ℕ, Bool, true, false}
-use Rattle.dual_machine.specs.declared.origin.Origin.{Origin}
-use Rattle.dual_machine.specs.declared.origin.Origin.TheVariants.{OwnDisturbed, Own, OwingDisturbed, Owing}
+use Rattle.diffusing_replies.specs.declared.origin.Origin.{Origin}
+use Rattle.diffusing_replies.specs.declared.origin.Origin.TheVariants.{OwnDisturbed, Own, OwingDisturbed, Owing}
 
 -- the number of a state
 abbrev pub number_of : Origin → ℕ

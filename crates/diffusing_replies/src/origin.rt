@@ -1,7 +1,7 @@
 //! How a computation began and what has happened since, which decides what its end needs.
 
 ghost use Rattle.std.specs.Prelude.{◌≡◌, ℕ, Bool};
-ghost use Rattle.dual_machine.specs.Origin as table;
+ghost use Rattle.diffusing_replies.specs.Origin as table;
 
 /// The origin state of a computation. It says whether a reply is owed to the successor, and whether
 /// the source node condition has to be tested when the last reply is there: in a disturbed state it
@@ -27,8 +27,8 @@ impl Origin {
         self as u8
     }
 
-    // The distance by way of the successor is above the one with which the computation began.
-    pub(crate) fn rose(self) -> Origin
+    /// The distance by way of the successor is above the one with which the computation began.
+    pub fn rose(self) -> Origin
         ensures { result ≡ table.rose self }
     {
         match self {
@@ -37,22 +37,22 @@ impl Origin {
         }
     }
 
-    // A query came from the successor.
-    pub(crate) fn queried(self) -> Origin
+    /// A query came from the successor.
+    pub fn queried(self) -> Origin
         ensures { result ≡ table.queried self }
     {
         Origin::OwingDisturbed
     }
 
-    // The successor's link is lost.
-    pub(crate) fn lost(self) -> Origin
+    /// The successor's link is lost.
+    pub fn lost(self) -> Origin
         ensures { result ≡ table.lost self }
     {
         Origin::OwnDisturbed
     }
 
-    // The next computation, where the condition failed at the end of this one.
-    pub(crate) fn restart(self) -> Origin
+    /// The state of the next computation, where the condition failed at the end of this one.
+    pub fn restart(self) -> Origin
         ensures { result ≡ table.restart self }
     {
         match self {
@@ -61,8 +61,8 @@ impl Origin {
         }
     }
 
-    // Whether the condition may fail at the end.
-    pub(crate) fn needs_test(self) -> bool
+    /// Whether the source node condition may fail at the end, and has to be tested.
+    pub fn needs_test(self) -> bool
         ensures { result ≡ table.needs_test self }
     {
         match self {

@@ -1,0 +1,18 @@
+use Rattle.std.proofs.Common.{sym, ap, subst, IfSome, Option, length, ◌∙◌}
+use Rattle.std.specs.FinSet.{contains}
+use Rattle.diffusing_replies.specs.Ports.{Ports}
+use Rattle.dual_machine.specs.declared.mode.Active.{Active}
+use Rattle.dual_machine.specs.Parts.{IsUnderWay, computation_of}
+use Rattle.dual_machine.specs.State.{State, awaits_at}
+use Rattle.dual_machine.proofs.Awaiting.{awaited_of-at}
+use Rattle.dual_machine.proofs.machine.Machine.mode.Goals as goal
+
+pub returns-in-Some-clause-awaited : goal.returns-in-Some-clause-awaited
+returns-in-Some-clause-awaited c = λ q.
+    let i = c.self.inside in
+    let n = length (i.ports).items in
+    let under_way = subst (λ (a : Option Active). IfSome a (IsUnderWay i.local n i.successor)) c.in-Some.is c.self.invariant.under_way in
+    ap (λ (s : Ports). contains s q) c.awaited.ensures
+    ∙ sym (awaited_of-at c.in-Some.active.replies n q under_way.known)
+    ∙ ap (λ (a : Option Active). awaits_at (computation_of n a) q) (sym c.in-Some.is)
+    ∙ ap (λ (s : State). awaits_at (s.machine).computation q) c.self.view_is

@@ -1,0 +1,9 @@
+-- What a patch makes of an image.
+use Rattle.std.specs.Prelude.{ℕ, List}
+use Rattle.ipv4_prefix.specs.Prefix.{Prefix}
+use Rattle.network_model.specs.Publication.{Image, with_rows}
+use Rattle.network_model.specs.declared.route.Entry.{Entry}
+
+-- an image with rows set over its own, in order, and another generation
+abbrev pub patched : ℕ → List (Prefix × Entry) → Image → Image
+patched generation rows image = record { generation = generation; rows = with_rows rows image.rows }

@@ -1,0 +1,13 @@
+-- What a handle holds.
+use Rattle.std.specs.Prelude.{Bool, true, false, Option, None, Some}
+use Rattle.network_model.specs.Publication.{Image}
+use Rattle.lookup_ffi.specs.declared.handle.ImageHandle.{ImageHandle}
+
+-- this image, or none
+abbrev pub held : Bool → Image → Option Image
+held true image = Some image
+held false image = None
+
+-- the image that a handle holds, if any
+abbrev pub image_of : ImageHandle → Option Image
+image_of h = held h.holds h.value

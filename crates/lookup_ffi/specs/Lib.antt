@@ -1,0 +1,5 @@
+pub mod Held
+pub mod Handles
+pub mod Faults
+pub mod Rows
+pub mod Images

@@ -1,0 +1,31 @@
+//! Boxed images, for handles.
+
+ghost use Rattle.std.specs.Prelude.{◌≡◌, None, IfOk, IsOkUnless, map};
+ghost use Rattle.lookup_ffi.specs.Images.{new_image};
+ghost use Rattle.lookup_ffi.specs.Rows.{row_entry, first_fault};
+
+use crate::fault::Fault;
+use crate::row::Row;
+use crate::rows::read_rows;
+use crate::shared::Shared;
+use std::alloc::Global;
+use tree_bitmap::parts::{empty, set_rows};
+
+/// An image of generation 0 of these rows, set in order.
+pub fn image_of_rows(alloc: Global, rows: &[Row]) -> Result<Box<Shared>, Fault>
+    requires { first_fault rows.now ≡ None }
+    ensures ok { IfOk result (λ image. image.value ≡ new_image (map row_entry rows.now)) }
+    ensures err { IsOkUnless result Fault.NoMemory }
+{
+    let mut image = empty(alloc)?;
+    set_rows(&mut image, &read_rows(alloc, rows)?)?;
+    Ok(Box::new(alloc, Shared::new(alloc, image)?)?)
+}
+
+/// One more holder of an image.
+pub fn share_image(alloc: Global, image: &Shared) -> Result<Box<Shared>, Fault>
+    ensures ok { IfOk result (λ other. other.value ≡ image.now) }
+    ensures err { IsOkUnless result Fault.NoMemory }
+{
+    Ok(Box::new(alloc, image.again()?)?)
+}

@@ -1,0 +1,215 @@
+//! Forwarding images for C programs.
+//!
+//! C sees `include/tuhvondi.h`. Each call answers 0, or the number of the fault for which it is
+//! refused. A refused call leaves the image of its handle as it is.
+#![tactic(auto)]
+
+ghost use Rattle.std.specs.Prelude.{◌≡◌, ◌≢◌, ◌<◌, None, Some, OnOk, OnErr, IfErr, IfSome, IfNone, length, map};
+ghost use Rattle.std.specs.Option.{option_map};
+ghost use Rattle.lookup_ffi.specs.Handles.{image_of};
+ghost use Rattle.image_patch.specs.Patches.{patched};
+ghost use Rattle.lookup_ffi.specs.Images.{new_image};
+ghost use Rattle.lookup_ffi.specs.Faults.{fault_number, IsMakeStatus, IsApplyStatus};
+ghost use Rattle.lookup_ffi.specs.Faults.{IsShareStatus, IsLookupStatus};
+ghost use Rattle.lookup_ffi.specs.Rows.{row_entry, answer_rows, first_fault};
+
+use std::alloc::Global;
+
+mod fault;
+mod handle;
+mod images;
+mod row;
+mod rows;
+mod shared;
+
+use fault::Fault;
+use handle::ImageHandle;
+use images::{image_of_rows, share_image};
+use row::Row;
+use rows::{answer_all, check_rows};
+
+// What C is told of an outcome.
+fn status(outcome: Result<(), Fault>) -> u32
+    ensures ok { OnOk outcome (result ≡ 0) }
+    ensures err { IfErr outcome (λ f. (result ≡ fault_number f) × (0 < result)) }
+{
+    match outcome {
+        Ok(()) => 0,
+        Err(fault) => fault.number(),
+    }
+}
+
+// Makes an image of rows and puts it into a handle.
+fn make(alloc: Global, rows: &[Row], image: &mut ImageHandle) -> Result<(), Fault>
+    ensures ok { OnOk result (first_fault rows.now ≡ None) }
+    ensures made { OnOk result (image_of image.new ≡ Some (new_image (map row_entry rows.now))) }
+    ensures unchanged { OnErr result (image_of image.new ≡ image_of image.old) }
+    ensures err { IfErr result (λ f. IsMakeStatus (first_fault rows.now) (fault_number f)) }
+{
+    check_rows(rows)?;
+    image.put(image_of_rows(alloc, rows)?);
+    Ok(())
+}
+
+/// Makes an image of generation 0 of the rows, set in order, and puts it into the handle; the image
+/// that the handle held is freed. 3, 4 or 6: the first row that has a fault has this one. 20: memory
+/// was refused.
+#[unsafe(no_mangle)]
+pub extern "C" fn tuhvondi_image_new(alloc: Global, rows: &[Row], image: &mut ImageHandle) -> u32
+    ensures status { IsMakeStatus (first_fault rows.now) result }
+    ensures done { result ≡ 0 → image_of image.new ≡ Some (new_image (map row_entry rows.now)) }
+    ensures refused { result ≢ 0 → image_of image.new ≡ image_of image.old }
+{
+    status(make(alloc, rows, image))
+}
+
+// Sets rows over those of a handle's image, and its generation.
+fn apply(alloc: Global, image: &mut ImageHandle, generation: u64, rows: &[Row]) -> Result<(), Fault>
+    ensures ok { OnOk result (IsApplyStatus (first_fault rows.now) (image_of image.old) 0) }
+    ensures patched { OnOk result (image_of image.new
+        ≡ option_map (patched generation (map row_entry rows.now)) (image_of image.old)) }
+    ensures unchanged { OnErr result (image_of image.new ≡ image_of image.old) }
+    ensures err { IfErr result (λ f.
+        IsApplyStatus (first_fault rows.now) (image_of image.old) (fault_number f)) }
+{
+    check_rows(rows)?;
+    let Some(mut held) = image.take(alloc) else {
+        return Err(Fault::NoImage);
+    };
+    let outcome = held.apply(alloc, generation, rows);
+    image.put(held);
+    outcome
+}
+
+/// Sets rows over those of the image, in order, and its generation. 3, 4 or 6: the first row that has
+/// a fault has this one. 7: the handle holds no image. 9: other handles hold it too. 20: memory was
+/// refused.
+#[unsafe(no_mangle)]
+pub extern "C" fn tuhvondi_image_apply(
+    alloc: Global,
+    image: &mut ImageHandle,
+    generation: u64,
+    rows: &[Row],
+) -> u32
+    ensures status { IsApplyStatus (first_fault rows.now) (image_of image.old) result }
+    ensures done { result ≡ 0 → image_of image.new
+        ≡ option_map (patched generation (map row_entry rows.now)) (image_of image.old) }
+    ensures refused { result ≢ 0 → image_of image.new ≡ image_of image.old }
+{
+    status(apply(alloc, image, generation, rows))
+}
+
+// Has another handle hold an image too.
+fn share(alloc: Global, image: &mut ImageHandle, other: &mut ImageHandle) -> Result<(), Fault>
+    ensures image { image_of image.new ≡ image_of image.old }
+    ensures ok { OnOk result (IsShareStatus (image_of image.old) 0) }
+    ensures shared { OnOk result (image_of other.new ≡ image_of image.old) }
+    ensures unchanged { OnErr result (image_of other.new ≡ image_of other.old) }
+    ensures err { IfErr result (λ f. IsShareStatus (image_of image.old) (fault_number f)) }
+{
+    let Some(held) = image.take(alloc) else {
+        return Err(Fault::NoImage);
+    };
+    let one_more = share_image(alloc, &held);
+    image.put(held);
+    other.put(one_more?);
+    Ok(())
+}
+
+/// Has another handle hold the image too; the one that it held is freed. The two may look up at once,
+/// each in a thread of its own. 7: the handle holds no image. 20: memory was refused.
+#[unsafe(no_mangle)]
+pub extern "C" fn tuhvondi_image_share(
+    alloc: Global,
+    image: &mut ImageHandle,
+    other: &mut ImageHandle,
+) -> u32
+    ensures status { IsShareStatus (image_of image.old) result }
+    ensures done { result ≡ 0 → image_of other.new ≡ image_of image.old }
+    ensures refused { result ≢ 0 → image_of other.new ≡ image_of other.old }
+    ensures image { image_of image.new ≡ image_of image.old }
+{
+    status(share(alloc, image, other))
+}
+
+// Answers addresses by a handle's image.
+fn look_up(
+    alloc: Global,
+    image: &mut ImageHandle,
+    addrs: &[u32],
+    answers: &mut [Row],
+) -> Result<(), Fault>
+    ensures image { image_of image.new ≡ image_of image.old }
+    ensures ok { OnOk result
+        (IsLookupStatus (image_of image.old) (length addrs.now) (length answers.old) 0) }
+    ensures answers { OnOk result
+        (IfSome (image_of image.old) (λ i. answers.new ≡ answer_rows i addrs.now)) }
+    ensures unchanged { OnErr result (answers.new ≡ answers.old) }
+    ensures err { IfErr result (λ f. IsLookupStatus
+        (image_of image.old) (length addrs.now) (length answers.old) (fault_number f)) }
+{
+    let Some(held) = image.take(alloc) else {
+        return Err(Fault::NoImage);
+    };
+    let outcome = if addrs.len() == answers.len() {
+        answer_all(held.get(), addrs, answers);
+        Ok(())
+    } else {
+        Err(Fault::BadCount)
+    };
+    image.put(held);
+    outcome
+}
+
+/// Writes, for each address, the row of the image with the longest prefix that covers it, or kind 3
+/// where none does. It takes no memory. 7: the handle holds no image. 8: there are not as many answers
+/// as addresses. Refused, it writes nothing.
+#[unsafe(no_mangle)]
+pub extern "C" fn tuhvondi_image_lookup(
+    alloc: Global,
+    image: &mut ImageHandle,
+    addrs: &[u32],
+    answers: &mut [Row],
+) -> u32
+    ensures status { IsLookupStatus
+        (image_of image.old) (length addrs.now) (length answers.old) result }
+    ensures done { result ≡ 0 →
+        IfSome (image_of image.old) (λ i. answers.new ≡ answer_rows i addrs.now) }
+    ensures refused { result ≢ 0 → answers.new ≡ answers.old }
+    ensures image { image_of image.new ≡ image_of image.old }
+{
+    status(look_up(alloc, image, addrs, answers))
+}
+
+/// Writes which publication of its router the image is; 0 for a new one. 7: the handle holds no image,
+/// and nothing is written.
+#[unsafe(no_mangle)]
+pub extern "C" fn tuhvondi_image_generation(
+    alloc: Global,
+    image: &mut ImageHandle,
+    generation: &mut u64,
+) -> u32
+    ensures some { IfSome (image_of image.old) (λ i.
+        (result ≡ 0) × (generation.new ≡ i.generation)) }
+    ensures none { IfNone (image_of image.old)
+        ((result ≡ fault_number Fault.NoImage) × (generation.new ≡ generation.old)) }
+    ensures image { image_of image.new ≡ image_of image.old }
+{
+    let Some(held) = image.take(alloc) else {
+        return Fault::NoImage.number();
+    };
+    *generation = held.get().generation();
+    image.put(held);
+    0
+}
+
+/// Frees the image, if there is one. The handle then holds none.
+#[unsafe(no_mangle)]
+pub extern "C" fn tuhvondi_image_free(alloc: Global, image: &mut ImageHandle)
+    ensures { image_of image.new ≡ None }
+{
+    *image = ImageHandle::none(alloc);
+}
+
+#[cfg(test)]
+mod tests;

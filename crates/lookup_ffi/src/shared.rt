@@ -1,0 +1,73 @@
+//! Images that several handles hold.
+
+ghost use Rattle.std.specs.Prelude.{◌≡◌, None, IfOk, IfErr, OnOk, OnErr, map};
+
+use crate::fault::Fault;
+use crate::row::Row;
+use crate::rows::read_rows;
+use image_patch::{Apply, Patch};
+use std::alloc::{AllocError, Global};
+use std::marker::Model;
+use std::sync::Arc;
+use tree_bitmap::Image;
+
+/// An image that others may hold too: while they do, it does not change.
+#[derive(Drop)]
+pub struct Shared {
+    image: Arc<Image>,
+}
+
+impl Model for Shared {
+    ghost use Rattle.std.specs.Arc.{arc_value};
+    ghost use Rattle.network_model.specs.Publication.{Image as Rows};
+
+    ghost Value = { Rows };
+
+    ghost view = { λ s. arc_value s.image };
+}
+
+impl Shared {
+    ghost use Rattle.lookup_ffi.specs.Faults.{IsPatchFault};
+    ghost use Rattle.image_patch.specs.Patches.{patched};
+    ghost use Rattle.lookup_ffi.specs.Rows.{row_entry, first_fault};
+
+    /// The only holder of an image.
+    pub fn new(alloc: Global, image: Image) -> Result<Shared, AllocError>
+        ensures { IfOk result (λ s. s ≡ image) }
+    {
+        Ok(Shared {
+            image: Arc::new(alloc, image)?,
+        })
+    }
+
+    /// One more holder of the image.
+    pub fn again(&self) -> Result<Shared, AllocError>
+        ensures { IfOk result (λ s. s ≡ self.now) }
+    {
+        Ok(Shared {
+            image: Arc::try_clone(&self.image)?,
+        })
+    }
+
+    /// The image.
+    pub fn get(&self) -> &Image
+        ensures { result.now ≡ self.now }
+    {
+        &self.image
+    }
+
+    /// Sets rows over those of the image, in order, and its generation, where nobody else holds it.
+    pub fn apply(&mut self, alloc: Global, generation: u64, rows: &[Row]) -> Result<(), Fault>
+        requires { first_fault rows.now ≡ None }
+        ensures ok { OnOk result (self.new ≡ patched generation (map row_entry rows.now) self.old) }
+        ensures unchanged { OnErr result (self.new ≡ self.old) }
+        ensures err { IfErr result IsPatchFault }
+    {
+        let Some(image) = Arc::get_mut(&mut self.image) else {
+            return Err(Fault::Shared);
+        };
+        let rows = read_rows(alloc, rows)?;
+        image.apply(&Patch { generation, rows })?;
+        Ok(())
+    }
+}

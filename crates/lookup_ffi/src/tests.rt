@@ -1,0 +1,221 @@
+//! The calls, as C makes them.
+
+ghost use Rattle.std.specs.Prelude.{◌-◌, ◌^◌, ◌<◌};
+
+use crate::fault::Fault;
+use crate::handle::ImageHandle;
+use crate::row::Row;
+use crate::{
+    tuhvondi_image_apply, tuhvondi_image_free, tuhvondi_image_generation, tuhvondi_image_lookup,
+    tuhvondi_image_new, tuhvondi_image_share,
+};
+use std::alloc::Global;
+use std::test::Fail;
+
+const NOTHING: Row = Row {
+    addr: 0,
+    len: 0,
+    kind: 3,
+    port: 0,
+    session: 0,
+};
+
+fn via(addr: u32, len: u8, port: u8) -> Row {
+    Row {
+        addr,
+        len,
+        kind: 1,
+        port,
+        session: 1,
+    }
+}
+
+fn of_kind(addr: u32, len: u8, kind: u8) -> Row {
+    Row {
+        addr,
+        len,
+        kind,
+        port: 0,
+        session: 0,
+    }
+}
+
+// What the image answers for one address, or the number of a fault.
+fn answer(alloc: Global, image: &mut ImageHandle, addr: u32) -> Result<Row, u32> {
+    let mut answers = [NOTHING];
+    match tuhvondi_image_lookup(alloc, image, &[addr], &mut answers) {
+        0 => Ok(answers[0]),
+        fault => Err(fault),
+    }
+}
+
+#[test]
+fn an_image_is_made_patched_and_freed(rt: HostRuntime) {
+    let alloc = rt.alloc();
+    let mut image = ImageHandle::none(alloc);
+    // 10.0.0.0/8, 10.1.0.0/16 and 192.0.2.0/24; the last row replaces the first.
+    let rows = [
+        via(0x0a00_0000, 8, 1),
+        of_kind(0x0a01_0000, 16, 0),
+        of_kind(0xc000_0200, 24, 2),
+        via(0x0a00_0000, 8, 2),
+    ];
+    assert_eq!(rt; tuhvondi_image_new(alloc, &rows, &mut image), 0);
+    let addrs = [0x0a02_0304, 0x0a01_0203, 0xc000_0201, 0x0808_0808];
+    let mut answers = [NOTHING; 4];
+    assert_eq!(rt;
+        tuhvondi_image_lookup(alloc, &mut image, &addrs, &mut answers),
+        0
+    );
+    assert_eq!(rt; answers[0], via(0x0a00_0000, 8, 2));
+    assert_eq!(rt; answers[1], of_kind(0x0a01_0000, 16, 0));
+    assert_eq!(rt; answers[2], of_kind(0xc000_0200, 24, 2));
+    assert_eq!(rt; answers[3], NOTHING);
+    let mut generation = 9;
+    assert_eq!(rt;
+        tuhvondi_image_generation(alloc, &mut image, &mut generation),
+        0
+    );
+    assert_eq!(rt; generation, 0);
+    // A default route, and another way to 10.1.0.0/16.
+    let patch = [via(0, 0, 5), via(0x0a01_0000, 16, 3)];
+    assert_eq!(rt; tuhvondi_image_apply(alloc, &mut image, 7, &patch), 0);
+    assert_eq!(rt;
+        tuhvondi_image_generation(alloc, &mut image, &mut generation),
+        0
+    );
+    assert_eq!(rt; generation, 7);
+    assert_eq!(rt; answer(alloc, &mut image, 0x0808_0808), Ok(via(0, 0, 5)));
+    assert_eq!(rt;
+        answer(alloc, &mut image, 0x0a01_0203),
+        Ok(via(0x0a01_0000, 16, 3))
+    );
+    assert_eq!(rt;
+        answer(alloc, &mut image, 0x0a02_0304),
+        Ok(via(0x0a00_0000, 8, 2))
+    );
+    // Another image in its place.
+    assert_eq!(rt; tuhvondi_image_new(alloc, &[via(0, 1, 4)], &mut image), 0);
+    assert_eq!(rt; answer(alloc, &mut image, 0x0808_0808), Ok(via(0, 1, 4)));
+    assert_eq!(rt; answer(alloc, &mut image, 0xc000_0201), Ok(NOTHING));
+    assert_eq!(rt;
+        tuhvondi_image_generation(alloc, &mut image, &mut generation),
+        0
+    );
+    assert_eq!(rt; generation, 0);
+    tuhvondi_image_free(alloc, &mut image);
+    assert_eq!(rt; answer(alloc, &mut image, 0x0808_0808), Err(7));
+}
+
+#[test]
+fn two_handles_hold_an_image(rt: HostRuntime) {
+    let alloc = rt.alloc();
+    let mut image = ImageHandle::none(alloc);
+    let mut other = ImageHandle::none(alloc);
+    assert_eq!(rt;
+        tuhvondi_image_new(alloc, &[via(0x0a00_0000, 8, 1)], &mut image),
+        0
+    );
+    assert_eq!(rt; tuhvondi_image_share(alloc, &mut image, &mut other), 0);
+    assert_eq!(rt;
+        answer(alloc, &mut other, 0x0a00_0001),
+        Ok(via(0x0a00_0000, 8, 1))
+    );
+    assert_eq!(rt;
+        answer(alloc, &mut image, 0x0a00_0001),
+        Ok(via(0x0a00_0000, 8, 1))
+    );
+    // While both hold it, it does not change.
+    let patch = [via(0x0a00_0000, 8, 2)];
+    assert_eq!(rt; tuhvondi_image_apply(alloc, &mut image, 1, &patch), 9);
+    assert_eq!(rt; tuhvondi_image_apply(alloc, &mut other, 1, &patch), 9);
+    tuhvondi_image_free(alloc, &mut image);
+    assert_eq!(rt;
+        answer(alloc, &mut other, 0x0a00_0001),
+        Ok(via(0x0a00_0000, 8, 1))
+    );
+    assert_eq!(rt; tuhvondi_image_apply(alloc, &mut other, 1, &patch), 0);
+    assert_eq!(rt;
+        answer(alloc, &mut other, 0x0a00_0001),
+        Ok(via(0x0a00_0000, 8, 2))
+    );
+}
+
+// 10.0.0.0 with 16 times this in place of its second number.
+fn block(v: u8) -> u32
+    ensures { result < 2 ^ 32 - 1 }
+{
+    0x0a00_0000 + u32::from(v) * 0x0010_0000
+}
+
+// Sixteen patches of one row each.
+#[test]
+fn sixteen_patches_fill_a_node(rt: HostRuntime) {
+    let alloc = rt.alloc();
+    let mut image = ImageHandle::none(alloc);
+    assert_eq!(rt; tuhvondi_image_new(alloc, &[], &mut image), 0);
+    for v in [15, 14, 13, 12, 11, 10, 9, 8, 7, 6, 5, 4, 3, 2, 1, 0] {
+        let rows = [via(block(v), 12, v)];
+        let generation = u64::from(v) + 1;
+        assert_eq!(rt;
+            tuhvondi_image_apply(alloc, &mut image, generation, &rows),
+            0
+        );
+    }
+    assert_eq!(rt;
+        answer(alloc, &mut image, 0x0a60_0001),
+        Ok(via(0x0a60_0000, 12, 6))
+    );
+    for v in [0, 1, 2, 3, 4, 5, 6, 7, 8, 9, 10, 11, 12, 13, 14, 15] {
+        assert_eq!(rt;
+            answer(alloc, &mut image, block(v) + 1),
+            Ok(via(block(v), 12, v))
+        );
+    }
+    let mut generation = 0;
+    assert_eq!(rt;
+        tuhvondi_image_generation(alloc, &mut image, &mut generation),
+        0
+    );
+    assert_eq!(rt; generation, 1);
+}
+
+#[test]
+fn each_fault_has_its_number(rt: HostRuntime) {
+    let alloc = rt.alloc();
+    let mut image = ImageHandle::none(alloc);
+    let mut other = ImageHandle::none(alloc);
+    let mut answers = [NOTHING; 2];
+    let mut generation = 9;
+    assert_eq!(rt; tuhvondi_image_apply(alloc, &mut image, 1, &[]), 7);
+    assert_eq!(rt;
+        tuhvondi_image_lookup(alloc, &mut image, &[1], &mut answers),
+        7
+    );
+    assert_eq!(rt;
+        tuhvondi_image_generation(alloc, &mut image, &mut generation),
+        7
+    );
+    assert_eq!(rt; tuhvondi_image_share(alloc, &mut image, &mut other), 7);
+    assert_eq!(rt; generation, 9);
+    assert_eq!(rt; tuhvondi_image_new(alloc, &[via(0, 0, 1)], &mut image), 0);
+    for (row, fault) in [
+        (via(1, 33, 1), 3),
+        (via(0x0a00_0001, 8, 1), 4),
+        (of_kind(0x0a00_0001, 8, 3), 4),
+        (of_kind(0x0a00_0000, 8, 3), 6),
+    ] {
+        let rows = [via(0x0a00_0000, 8, 2), row, via(1, 33, 1)];
+        assert_eq!(rt; tuhvondi_image_new(alloc, &rows, &mut image), fault);
+        assert_eq!(rt; tuhvondi_image_apply(alloc, &mut image, 1, &rows), fault);
+        assert_eq!(rt; tuhvondi_image_apply(alloc, &mut other, 1, &rows), fault);
+        assert_eq!(rt; answer(alloc, &mut image, 0x0a00_0001), Ok(via(0, 0, 1)));
+    }
+    assert_eq!(rt;
+        tuhvondi_image_lookup(alloc, &mut image, &[1], &mut answers),
+        8
+    );
+    assert_eq!(rt; answers[0], NOTHING);
+    assert_eq!(rt; tuhvondi_image_lookup(alloc, &mut image, &[], &mut []), 0);
+    assert_eq!(rt; Fault::NoMemory.number(), 20);
+}

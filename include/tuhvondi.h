@@ -1,0 +1,131 @@
+/* Forwarding images for C and C++ programs: rows of prefixes, and for an address the row with the
+ * longest prefix that covers it (RFC 1812, section 5.2.4.3; RFC 4632).
+ *
+ * The functions are those of the static library `lookup_ffi`. It is proved what each answers, and what
+ * it leaves in its handles and lists, for every call that keeps to these rules:
+ *
+ *   - A handle begins as TUHVONDI_NO_IMAGE, and goes to these functions alone: its fields are never
+ *     read or written, and it is never copied. It may be moved to another place where the old one is
+ *     not used again.
+ *   - A handle is given to one call at a time, and no two arguments of a call overlap. Threads that
+ *     look up at once have a handle each: tuhvondi_image_share has one more handle hold an image, and
+ *     all read the same one. A handle's way from one thread to another is ordered by a lock, a
+ *     thread's start or join, or a sequentially consistent atomic.
+ *   - A handle that holds an image holds memory until tuhvondi_image_free. The image itself is freed
+ *     with the last handle that holds it.
+ *   - `malloc`, `realloc` and `free` are those of one allocator, and align a block to each power of
+ *     two up to 16 that divides its size. No call is made from a signal handler, nor from the forked
+ *     child of a process with threads.
+ *   - A list is a pointer, which is not null and is aligned also where the list is empty, and then
+ *     the number of its elements.
+ */
+#ifndef TUHVONDI_H
+#define TUHVONDI_H
+
+#include <stdbool.h>
+#include <stddef.h>
+#include <stdint.h>
+
+#ifdef __cplusplus
+#define TUHVONDI_ASSERT(test, text) static_assert(test, text)
+extern "C" {
+#else
+#define TUHVONDI_ASSERT(test, text) _Static_assert(test, text)
+#endif
+
+/* What a call answers: done, or why it is refused. A refused call leaves the image of its handle as
+ * it is. Faults are tested in the order of their numbers, and those of rows at the first row that
+ * has one. */
+enum tuhvondi_status {
+    TUHVONDI_DONE = 0,
+    /* A row's length is above 32. */
+    TUHVONDI_BAD_LENGTH = 3,
+    /* A row's address has bits set after the first `len`. */
+    TUHVONDI_HOST_BITS = 4,
+    /* A row's kind is above 2. */
+    TUHVONDI_BAD_KIND = 6,
+    /* The handle holds no image. */
+    TUHVONDI_NO_IMAGE_HELD = 7,
+    /* There are not as many answers as addresses. */
+    TUHVONDI_BAD_COUNT = 8,
+    /* Other handles hold the image too. */
+    TUHVONDI_SHARED = 9,
+    /* Memory was refused. */
+    TUHVONDI_NO_MEMORY = 20
+};
+
+/* Where packets go that a row's prefix matches. */
+enum tuhvondi_kind {
+    /* To this router itself. */
+    TUHVONDI_LOCAL = 0,
+    /* To the neighbour at `port`, while its link is up in `session`. */
+    TUHVONDI_VIA = 1,
+    /* Nowhere. */
+    TUHVONDI_UNREACHABLE = 2,
+    /* In answers only: no row covers the address. */
+    TUHVONDI_NO_ROW = 3
+};
+
+/* A row: the prefix of the first `len` bits, 0 to 32, of `addr`, which is in the machine's own byte
+ * order (10.0.0.0 is 0x0a000000), and where packets go. `port` and `session` are those of a row of
+ * kind TUHVONDI_VIA. In rows of other kinds they are not read, and in answers they are 0. In an
+ * answer of kind TUHVONDI_NO_ROW all other fields are 0. */
+struct tuhvondi_row {
+    uint32_t addr;
+    uint8_t len;
+    uint8_t kind;
+    uint8_t port;
+    uint16_t session;
+};
+
+TUHVONDI_ASSERT(sizeof(struct tuhvondi_row) == 12, "a row takes 12 bytes");
+TUHVONDI_ASSERT(offsetof(struct tuhvondi_row, session) == 8, "a row's session stands at byte 8");
+
+/* A handle, which holds an image or none. */
+struct tuhvondi_image {
+    void *image_;
+    bool holds_;
+};
+
+TUHVONDI_ASSERT(sizeof(struct tuhvondi_image) == 16, "a handle takes 16 bytes");
+TUHVONDI_ASSERT(offsetof(struct tuhvondi_image, holds_) == 8, "a handle's flag stands at byte 8");
+
+/* The handle that holds no image, to begin with. */
+#define TUHVONDI_NO_IMAGE {NULL, false}
+
+/* Makes an image of generation 0 of the rows, set in order: of rows with one prefix the last stays.
+ * Puts it into the handle, and lets go of the image that the handle held.
+ * Refused: TUHVONDI_BAD_LENGTH, TUHVONDI_HOST_BITS, TUHVONDI_BAD_KIND, TUHVONDI_NO_MEMORY. */
+uint32_t tuhvondi_image_new(const struct tuhvondi_row *rows, size_t row_count,
+                            struct tuhvondi_image *image);
+
+/* Sets rows in place over those of the image, in order, and its generation. It takes time by the
+ * number of rows that are given, and not by those that are there.
+ * Refused: as tuhvondi_image_new, TUHVONDI_NO_IMAGE_HELD, and TUHVONDI_SHARED while other handles hold
+ * the image. */
+uint32_t tuhvondi_image_apply(struct tuhvondi_image *image, uint64_t generation,
+                              const struct tuhvondi_row *rows, size_t row_count);
+
+/* Has `other` hold the image of `image` too, and lets go of the image that `other` held.
+ * Refused: TUHVONDI_NO_IMAGE_HELD, TUHVONDI_NO_MEMORY. */
+uint32_t tuhvondi_image_share(struct tuhvondi_image *image, struct tuhvondi_image *other);
+
+/* Writes into answers[i] the row with the longest prefix that covers addrs[i], or TUHVONDI_NO_ROW.
+ * It takes no memory, and reads at most nine nodes of the image for each address.
+ * Refused, and then nothing is written: TUHVONDI_NO_IMAGE_HELD, TUHVONDI_BAD_COUNT. */
+uint32_t tuhvondi_image_lookup(struct tuhvondi_image *image,
+                               const uint32_t *addrs, size_t addr_count,
+                               struct tuhvondi_row *answers, size_t answer_count);
+
+/* Writes the generation of the image.
+ * Refused, and then nothing is written: TUHVONDI_NO_IMAGE_HELD. */
+uint32_t tuhvondi_image_generation(struct tuhvondi_image *image, uint64_t *generation);
+
+/* Lets go of the image, if there is one. The handle then holds none. */
+void tuhvondi_image_free(struct tuhvondi_image *image);
+
+#ifdef __cplusplus
+}
+#endif
+
+#endif
