@@ -1,3 +1,4 @@
+mod Settling
 mod Whole
 mod Printed
 mod Doing

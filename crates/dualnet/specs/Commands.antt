@@ -1,62 +1,71 @@
 -- What the commands of a script do, and print.
-use Rattle.std.specs.Prelude.{◌≡◌, ℕ, List, [], ◌∷◌, ◌++◌, Option, Some, None, nat_lt, if◌then◌else◌, length, take, slice_get}
+use Rattle.std.specs.Prelude.{◌≡◌, ℕ, ◌⊎◌, List, [], ◌∷◌, ◌++◌, Option, Some, None, nat_lt, if◌then◌else◌, length, take, slice_get}
 use Rattle.ipv4_prefix.specs.Prefix.{Prefix}
 use Rattle.network_model.specs.declared.route.Entry.{Entry}
 use Rattle.network_model.specs.declared.step.Step.{Step as NetworkStep}
 use Rattle.network_model.specs.declared.step.Refusal.{Refusal}
 use Rattle.network_model.specs.declared.step.Refusal.TheVariants.{UnknownRouter}
 use Rattle.network_model.specs.Step.{Lawful}
-use Rattle.network_model.specs.Run.{Runs}
 use Rattle.world.specs.Steps.{CanBeRefused}
 use Rattle.fabric.specs.Fabric.{Fabric, after_step, fabric_refusal}
 use Rattle.script.specs.Words.{Text}
 use Rattle.script.specs.Directories.{Directory, row_text}
 use Rattle.script.specs.declared.command.Command.{Command}
-use Rattle.script.specs.declared.command.Command.TheVariants.{Step, Table, Lookup}
+use Rattle.script.specs.declared.command.Command.TheVariants.{Step, Try, Settle, State, Table, Lookup, Report}
 use Rattle.script.specs.declared.place.Key.TheVariants.{Script}
 use Rattle.dualnet.specs.declared.fault.Cause.TheVariants.{Refused}
 use Rattle.dualnet.specs.declared.fault.Fault.{Fault}
 use Rattle.dualnet.specs.Faults.{at_line}
+use Rattle.dualnet.specs.Settling.{Settles, StopsSettling}
 
--- ---- steps
+-- ---- commands
 
--- the steps among the commands, in order
-abbrev pub steps_of : List Command → List NetworkStep
-steps_of [] = []
-steps_of (Step s ∷ cs) = s ∷ steps_of cs
-steps_of (Table router ∷ cs) = steps_of cs
-steps_of (Lookup router addr ∷ cs) = steps_of cs
+-- the step was done
+abbrev pub IsStepDone : NetworkStep → Fabric → Fabric → Type 0
+IsStepDone s f g = Lawful f.world s × (g ≡ after_step f s)
 
--- a command that was done: a step was lawful, and all else leaves the fabric as it was
+-- the step was refused, for its cause or for want of memory, and changed nothing
+abbrev pub IsStepRefused : NetworkStep → Fabric → Fabric → Type 0
+IsStepRefused s f g = (e : Refusal) × CanBeRefused (fabric_refusal f s) e × (g ≡ f)
+
+-- a command that was done: a step was lawful, a step that is tried was lawful or refused, a network was let settle, and all else leaves the fabric as it was
 abbrev pub IsDone : Command → Fabric → Fabric → Type 0
-IsDone (Step s) f g = Lawful f.world s × (g ≡ after_step f s)
+IsDone (Step s) f g = IsStepDone s f g
+IsDone (Try s) f g = IsStepDone s f g ⊎ IsStepRefused s f g
+IsDone Settle f g = Settles f g
+IsDone (State router prefix) f g = g ≡ f
 IsDone (Table router) f g = g ≡ f
 IsDone (Lookup router addr) f g = g ≡ f
+IsDone Report f g = g ≡ f
 
 -- why a command on a router is refused
 abbrev pub unknown_router : Fabric → ℕ → Option Refusal
 unknown_router f router = if nat_lt router (length f.world.routers) then None else Some UnknownRouter
 
--- why a command is refused
-abbrev pub command_refusal : Fabric → Command → Option Refusal
-command_refusal f (Step s) = fabric_refusal f s
-command_refusal f (Table router) = unknown_router f router
-command_refusal f (Lookup router addr) = unknown_router f router
+-- a command that is refused: a step for its cause, in a network that settles the step that comes next, and a command on a router where there is no such router
+abbrev pub IsRefused : Command → Fabric → Fabric → Refusal → Type 0
+IsRefused (Step s) f g e = CanBeRefused (fabric_refusal f s) e × (g ≡ f)
+IsRefused (Try s) f g e = ⊥
+IsRefused Settle f g e = StopsSettling f g e
+IsRefused (State router prefix) f g e = CanBeRefused (unknown_router f router) e × (g ≡ f)
+IsRefused (Table router) f g e = CanBeRefused (unknown_router f router) e × (g ≡ f)
+IsRefused (Lookup router addr) f g e = CanBeRefused (unknown_router f router) e × (g ≡ f)
+IsRefused Report f g e = ⊥
 
--- the steps of the commands, each lawful where it is done, lead from one fabric to the other
-pub record AreDone (commands : List Command) (f g : Fabric) : Type 0 where
-  pub runs : Runs f.world (steps_of commands) g.world
-  pub journal : g.journal ≡ f.journal ++ steps_of commands
-  pub network : g.network ≡ f.network
+-- the commands, done one after another, lead from one fabric to the other
+abbrev pub AreDone : List Command → Fabric → Fabric → Type 0
+AreDone [] f g = g ≡ f
+AreDone (c ∷ cs) f g = (h : Fabric) × IsDone c f h × AreDone cs h g
 
 -- of the commands those before a place were done, and the one there is refused
 pub record StopsAtCommand (commands : List Command) (f g : Fabric) (fault : Fault) : Type 0 where
   pub position : ℕ
   pub command : Command
+  pub before : Fabric
   pub refusal : Refusal
   pub is_command : slice_get commands position ≡ Some command
-  pub done : AreDone (take position commands) f g
-  pub refused : CanBeRefused (command_refusal g command) refusal
+  pub done : AreDone (take position commands) f before
+  pub refused : IsRefused command before g refusal
   pub named : fault ≡ at_line (Refused refusal) Script position
 
 -- ---- texts

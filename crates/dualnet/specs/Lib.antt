@@ -1,3 +1,5 @@
 pub mod Faults
+pub mod Settling
 pub mod Commands
 pub mod Scenarios
+pub mod Report

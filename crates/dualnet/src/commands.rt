@@ -1,12 +1,13 @@
 //! Does the commands of a script.
 
-ghost use Rattle.std.specs.Prelude.{◌≡◌, IfErr, OnOk, OnErr};
+ghost use Rattle.std.specs.Prelude.{◌⊎◌, IfErr, OnOk};
 ghost use Rattle.std.specs.Io.KnownBytes.{Appends};
-ghost use Rattle.world.specs.Steps.{IsDoneOr};
-ghost use Rattle.dualnet.specs.Commands.{IsDone, AreDone, StopsAtCommand, command_refusal, rows_text};
+ghost use Rattle.dualnet.specs.Commands.{IsDone, IsRefused, IsStepDone, IsStepRefused, AreDone, StopsAtCommand, rows_text};
 
 use crate::fault::{Cause, Fault};
-use fabric::{Fabric, Refusal};
+use crate::report::{print_report, print_state};
+use crate::settle::settle;
+use fabric::{Fabric, Refusal, Step};
 use route_table::RouteTable;
 use script::{Command, Directory, Key, Place};
 use std::io;
@@ -35,7 +36,7 @@ pub fn do_commands<W: Write>(
     Ok(())
 }
 
-// Does one command. Refused, it leaves the fabric as it was. What it prints may be lost.
+// Does one command. What it prints may be lost.
 fn do_command<W: Write>(
     fabric: &mut Fabric,
     directory: &Directory,
@@ -43,11 +44,16 @@ fn do_command<W: Write>(
     out: &mut W,
 ) -> Result<(), Refusal>
     ensures ok { OnOk result (IsDone command fabric.old fabric.new) }
-    ensures err { OnErr result (fabric.new ≡ fabric.old) }
-    ensures cause { IsDoneOr (command_refusal fabric.old command) result }
+    ensures err { IfErr result (IsRefused command fabric.old fabric.new) }
 {
     match command {
         Command::Step(step) => fabric.step(step),
+        Command::Try(step) => {
+            try_step(fabric, step, out);
+            Ok(())
+        }
+        Command::Settle => settle(fabric),
+        Command::State { router, prefix } => print_state(fabric, directory, router, prefix, out),
         Command::Table { router } => {
             let table = fabric.table(router)?;
             let _ = print_table(directory, router, table, out);
@@ -58,7 +64,21 @@ fn do_command<W: Write>(
             let _ = writeln!(out, "{}", directory.lookup(router, addr, answer.matched));
             Ok(())
         }
+        Command::Report => {
+            let _ = print_report(fabric, directory, out);
+            Ok(())
+        }
     }
+}
+
+// Does a step, and says whether it was refused. What it prints may be lost.
+fn try_step<W: Write>(fabric: &mut Fabric, step: Step, out: &mut W)
+    ensures { IsStepDone step fabric.old fabric.new ⊎ IsStepRefused step fabric.old fabric.new }
+{
+    let _ = match fabric.step(step) {
+        Ok(()) => writeln!(out, "done"),
+        Err(refusal) => writeln!(out, "refused {refusal}"),
+    };
 }
 
 // Prints the rows that a router published, a line each, up to the first write that fails.

@@ -7,6 +7,8 @@ mod files;
 mod open;
 mod play;
 mod read;
+mod report;
+mod settle;
 #[cfg(test)]
 mod tests;
 

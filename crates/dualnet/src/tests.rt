@@ -1,5 +1,7 @@
 //! Runs of whole scenarios.
 
+mod settling;
+
 use crate::files::Source;
 use crate::play::play;
 use std::alloc::{AllocError, Global};

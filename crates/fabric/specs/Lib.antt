@@ -1,3 +1,6 @@
 pub mod Fabric
 pub mod Images
 pub mod Patches
+pub mod Rest
+pub mod Touched
+pub mod Headline

@@ -1,6 +1,6 @@
 //! The fabric: a world, the images in force, and the journal.
 
-ghost use Rattle.std.specs.Prelude.{◌≡◌, ◌≤◌, ◌++◌, ◌<◌, ◌↔◌, [], ◌∷◌, take, length, slice_get, IfOk, IfErr, IfSome, IsOk, OnOk, OnErr, MatchOption};
+ghost use Rattle.std.specs.Prelude.{ℕ, None, IsTrue, ◌≡◌, ◌≤◌, ◌++◌, ◌<◌, ◌↔◌, [], ◌∷◌, take, length, slice_get, IfOk, IfErr, IfSome, IsOk, OnOk, OnErr, MatchOption};
 ghost use Rattle.std.specs.Option.{ok_or};
 ghost use Rattle.network_model.specs.World as model;
 ghost use Rattle.network_model.specs.Step as steps;
@@ -9,8 +9,11 @@ ghost use Rattle.network_model.specs.Journal.{most_steps};
 ghost use Rattle.world.specs.Steps.{IsDoneOr, StopsAt};
 ghost use Rattle.fabric.specs.Fabric.{opening_fabric, after_step, fabric_refusal, ForwardsAsPublished};
 ghost use Rattle.fabric.specs.Images.{answer_at};
+ghost use Rattle.fabric.specs.Headline.{NeverMeetsTwice, LeadsAtLeastCost};
+ghost use Rattle.network_model.specs.Turns as turns;
 
 use crate::images::{opening_images, patch_due};
+use crate::watched::WatchedWorld;
 use image_patch::Apply;
 use network_model::{Answer, Refusal, Step};
 use route_table::RouteTable;
@@ -27,7 +30,7 @@ pub const MOST_STEPS: usize = 1_000_000;
 #[derive(Drop)]
 pub struct Fabric {
     network: Network,
-    world: World,
+    world: WatchedWorld,
     images: Vec<Image>,
     // Its room was made at the opening.
     journal: Vec<Step>,
@@ -51,8 +54,8 @@ impl Fabric {
         ensures ok { IfOk result (λ f. f ≡ opening_fabric network) }
         ensures err { IfErr result (λ e. e ≡ Refusal.NoMemory) }
     {
-        let world = World::open(alloc, &network)?;
-        let images = opening_images(alloc, &world)?;
+        let world = WatchedWorld::open(alloc, &network)?;
+        let images = opening_images(alloc, world.world())?;
         let journal = Vec::with_capacity(alloc, MOST_STEPS)?;
         Ok(Fabric {
             network,
@@ -64,7 +67,8 @@ impl Fabric {
 
     /// The network that was opened.
     pub fn network(&self) -> &Network
-        ensures { result.now ≡ (self.now).network }
+        ensures network { result.now ≡ (self.now).network }
+        ensures count { length (self.now).world.routers ≡ (self.now).network.routers }
     {
         &self.network
     }
@@ -83,7 +87,26 @@ impl Fabric {
     pub fn world(&self) -> &World
         ensures { result.now ≡ (self.now).world }
     {
-        &self.world
+        self.world.world()
+    }
+
+    /// What a router has to do next: the first of a release, a publication, and a delivery by ascending
+    /// port that is lawful; none where nothing is, or where there is no such router.
+    pub fn next_step(&self, router: u16) -> Option<Step>
+        ensures { result ≡ turns.next_step (self.now).world router }
+    {
+        self.world().next_step(router)
+    }
+
+    /// Whether nothing is left to do: no item is queued on any link, nothing is due, and nothing is
+    /// ripe. Where it is not so, some router has something to do. It is known without going through
+    /// the network.
+    pub fn is_settled(&self) -> bool
+        ensures settled { result ≡ turns.is_settled (self.now).world }
+        ensures idle { ((i : ℕ) → i < (self.now).network.routers → turns.next_step (self.now).world i ≡ None) → IsTrue result }
+    {
+        let _routers = self.network.routers();
+        self.world.is_settled()
     }
 
     /// What the image in force at a router answers for an address: its generation, and the row with
@@ -109,7 +132,7 @@ impl Fabric {
         ensures err { IfErr result (λ e. e ≡ Refusal.UnknownRouter) }
     {
         let found = self
-            .world
+            .world()
             .routers()
             .get(usize::from(router))
             .ok_or(Refusal::UnknownRouter)?;
@@ -123,6 +146,19 @@ impl Fabric {
         ensures ok { OnOk result (steps.Lawful (self.old).world step × (self.new ≡ after_step self.old step)) }
         ensures err { OnErr result (self.new ≡ self.old) }
         ensures cause { IsDoneOr (fabric_refusal self.old step) result }
+        ensures forwards { ForwardsAsPublished self.new }
+        ensures no_loop { NeverMeetsTwice self.new }
+        ensures least_cost { LeadsAtLeastCost self.new }
+    {
+        let done = self.do_step(step);
+        self.holds();
+        done
+    }
+
+    fn do_step(&mut self, step: Step) -> Result<(), Refusal>
+        ensures ok { OnOk result (steps.Lawful (self.old).world step × (self.new ≡ after_step self.old step)) }
+        ensures err { OnErr result (self.new ≡ self.old) }
+        ensures cause { IsDoneOr (fabric_refusal self.old step) result }
     {
         if self.journal.len() >= MOST_STEPS {
             return Err(Refusal::JournalFull);
@@ -131,7 +167,7 @@ impl Fabric {
         match step {
             Step::Publish { router } => {
                 let alloc = *self.images.allocator();
-                match patch_due(alloc, &self.world, router)? {
+                match patch_due(alloc, self.world.world(), router)? {
                     Some(patch) => {
                         self.images[usize::from(router)].apply(&patch)?;
                         self.world.step(step).unwrap();
@@ -152,28 +188,33 @@ impl Fabric {
         ensures journal { (self.new).journal ≡ (self.old).journal ++ take result.done steps.now }
         ensures network { (self.new).network ≡ (self.old).network }
         ensures forwards { ForwardsAsPublished self.new }
+        ensures no_loop { NeverMeetsTwice self.new }
+        ensures least_cost { LeadsAtLeastCost self.new }
         ensures stop { MatchOption result.refusal (result.done ≡ length steps.now) (StopsAt (fabric_refusal self.new) steps.now result.done) }
     {
         for (done, &step) in steps.iter().enumerate() {
             if let Err(refusal) = self.step(step) {
-                self.forward_as_published();
+                self.holds();
                 return Ran {
                     done,
                     refusal: Some(refusal),
                 };
             }
         }
-        self.forward_as_published();
+        self.holds();
         Ran {
             done: steps.len(),
             refusal: None,
         }
     }
 
-    // What every fabric keeps of its images, for the clauses of its callers.
-    fn forward_as_published(&self)
-        ensures { ForwardsAsPublished self.now }
+    // What holds of every fabric, for the clauses of its callers.
+    fn holds(&self)
+        ensures forwards { ForwardsAsPublished self.now }
+        ensures no_loop { NeverMeetsTwice self.now }
+        ensures least_cost { LeadsAtLeastCost self.now }
     {
         let _images = &self.images;
+        let _routers = self.network.routers();
     }
 }

@@ -3,6 +3,7 @@
 
 mod fabric;
 mod images;
+mod watched;
 
 pub use fabric::{Fabric, MOST_STEPS};
 pub use network_model::{Answer, Entry, Prefix, Refusal, Step};

@@ -1,13 +1,15 @@
 -- Worked examples: each definition computes what it is to say.
-use Rattle.std.proofs.Common.{◌≡◌, List, [], ◌∷◌, Some, None, codes, refl, arith}
+use Rattle.std.proofs.Common.{◌≡◌, ℕ, inr, List, [], ◌∷◌, Some, None, codes, refl, arith}
 use Rattle.std.specs.Fmt.{digits}
+use Rattle.ipv4_prefix.specs.Prefix.{Prefix}
 use Rattle.network_model.specs.declared.network.LinkSpec.{LinkSpec}
-use Rattle.network_model.specs.declared.step.Step.TheVariants.{LinkUp, Deliver}
+use Rattle.network_model.specs.declared.step.Step.TheVariants.{LinkUp, SetCost, Deliver, Publish}
 use Rattle.script.specs.declared.command.Command.{Command}
+use Rattle.script.specs.declared.fault.Fault.TheVariants.{BadCost}
 use Rattle.script.specs.Words.{Text, words_of}
 use Rattle.script.specs.Routers.{number_of}
 use Rattle.script.specs.Links.{end_of, IsLink}
-use Rattle.script.specs.Commands.{link_between, IsPortOn, IsCommand}
+use Rattle.script.specs.Commands.{link_between, IsPortOn, IsCommand, IsCommandFault}
 use Rattle.script.specs.Directories.{neighbours_of}
 
 four_words : words_of (codes "a b 1 20") ≡ codes "a" ∷ codes "b" ∷ codes "1" ∷ codes "20" ∷ []
@@ -43,16 +45,55 @@ second_port = refl
 across : neighbours_of links 0 ≡ 1 ∷ 2 ∷ []
 across = refl
 
+-- c owns 10.0.0.0/8
+abbrev owners : List (Prefix × ℕ)
+owners = (record { addr = 167772160; len = 8 }, 2) ∷ []
+
 -- ---- lines
 
-asks_up : IsCommand names links (codes "up c b") (Command.Step (LinkUp 1))
-asks_up = (2, record { name = codes "c"; neighbour = codes "b"; far = 1; spelled = refl; known = refl; far_known = refl; joined = refl })
+asks_up : IsCommand names links owners (codes "up c b") (Command.Step (LinkUp 1))
+asks_up = (2, record { name = codes "c"; neighbour = codes "b"; spelled = refl; way = record { far = 1; known = refl; far_known = refl; joined = refl } })
 
 -- c takes from its port to a, which is its second
-asks_deliver : IsCommand names links (codes "deliver c a") (Command.Step (Deliver 2 1))
-asks_deliver = (2, record { name = codes "c"; neighbour = codes "a"; far = 0; spelled = refl; known = refl; far_known = refl; joined = refl }, refl, omega arith)
+asks_deliver : IsCommand names links owners (codes "deliver c a") (Command.Step (Deliver 2 1))
+asks_deliver = (2, record { name = codes "c"; neighbour = codes "a"; spelled = refl; way = record { far = 0; known = refl; far_known = refl; joined = refl } }, refl, omega arith)
 
-asks_lookup : IsCommand names links (codes "lookup b 10.0.0.1") (Command.Lookup 1 167772161)
+-- b sets the cost at its port to a, which is its first
+asks_cost : IsCommand names links owners (codes "cost b a 7") (Command.Step (SetCost 1 0 7))
+unfolding digits
+asks_cost = (
+  (0, record { name = codes "b"; neighbour = codes "a"; spelled = refl; way = record { far = 0; known = refl; far_known = refl; joined = refl }; small = omega arith }, refl, omega arith),
+  record { positive = omega arith; small = omega arith },
+)
+
+-- a link that is there, and a number that is no cost
+no_cost : IsCommandFault names links owners (codes "try cost b a 0") BadCost
+unfolding digits
+no_cost = inr (
+  words_of (codes "cost b a 0"),
+  refl,
+  (
+    1,
+    0,
+    0,
+    (0, record { name = codes "b"; neighbour = codes "a"; spelled = refl; way = record { far = 0; known = refl; far_known = refl; joined = refl }; small = omega arith }, refl, omega arith),
+    λ is. omega (arith, is.positive),
+  ),
+)
+
+asks_try : IsCommand names links owners (codes "try publish b") (Command.Try (Publish 1))
+asks_try = (words_of (codes "publish b"), refl, record { name = codes "b"; spelled = refl; known = refl })
+
+asks_state : IsCommand names links owners (codes "state a 10.0.0.0/8") (Command.State 0 (record { addr = 167772160; len = 8 }))
+unfolding digits
+asks_state = (
+  codes "10.0.0.0/8",
+  record { name = codes "a"; spelled = refl; has_text = λ e. cc; known = refl },
+  (record { short = omega arith; fits = omega arith; no_host_bits = refl }, refl),
+  (2, (0, omega arith, refl)),
+)
+
+asks_lookup : IsCommand names links owners (codes "lookup b 10.0.0.1") (Command.Lookup 1 167772161)
 unfolding digits
 asks_lookup = (
   codes "10.0.0.1",

@@ -48,7 +48,7 @@ pub record AreParts (lists : Lists) (parts : Parts) : Type 0 where
   pub valid : AreNames parts.names
   pub links : ReadsFirst (IsLink parts.names) lists.links parts.links
   pub owners : ReadsFirst (IsOwner parts.names) lists.prefixes parts.owners
-  pub commands : ReadsFirst (IsCommand parts.names parts.links) lists.script parts.commands
+  pub commands : ReadsFirst (IsCommand parts.names parts.links parts.owners) lists.script parts.commands
 
 -- a line for each item
 abbrev pub IsWhole : {X : Type 0} → List Text → List X → Type 0
@@ -87,7 +87,7 @@ StopsIn lists parts Prefixes position fault =
 StopsIn lists parts Script position fault =
     IsWhole lists.routers parts.names × IsWhole lists.links parts.links × IsWhole lists.prefixes parts.owners
     × (length lists.script ≤ most_commands)
-    × IsStopped (IsCommandFault parts.names parts.links) lists.script parts.commands position fault
+    × IsStopped (IsCommandFault parts.names parts.links parts.owners) lists.script parts.commands position fault
 
 -- reading stopped at the place, or, without one, before the script, which is too long
 abbrev pub StopsAt : Lists → Parts → Fault → Option Place → Type 0

@@ -79,8 +79,19 @@ impl Directory {
         }
     }
 
+    // The text of an entry of a router.
+    pub(crate) fn entry(&self, router: u16, entry: Entry) -> EntryText<'_>
+        ensures { result ≡ entry_text self.now router entry }
+    {
+        EntryText {
+            directory: self,
+            router,
+            entry,
+        }
+    }
+
     // The name of a router, or `?` where there is no such router.
-    fn name(&self, router: Option<u16>) -> &str
+    pub(crate) fn name(&self, router: Option<u16>) -> &str
         ensures { result.now ≡ name_text self.now router }
     {
         match router {
@@ -114,15 +125,24 @@ fn far_end(link: &LinkSpec, router: u16) -> Option<u16>
 }
 
 // The text of an entry of a router.
-#[derive(Clone, Copy)]
-struct EntryText<'a> {
+#[derive(Drop)]
+pub(crate) struct EntryText<'a> {
     directory: &'a Directory,
     router: u16,
     entry: Entry,
 }
 
+impl<'a> Model for EntryText<'a> {
+    ghost use Rattle.script.specs.Words.{Text};
+    ghost use Rattle.script.specs.Directories.{entry_text};
+
+    ghost Value = { Text };
+
+    ghost view = { λ t. entry_text t.directory.now t.router t.entry };
+}
+
 impl fmt::Display for EntryText<'_> {
-    ghost output = { λ t. Some (entry_text t.directory.now t.router t.entry) };
+    ghost output = { λ t. Some t };
 
     fn fmt<W: fmt::Write>(&self, f: &mut fmt::Formatter<W>) -> fmt::Result {
         match self.entry {
@@ -161,11 +181,7 @@ impl fmt::Display for RowText<'_> {
     fn fmt<W: fmt::Write>(&self, f: &mut fmt::Formatter<W>) -> fmt::Result {
         let name = self.directory.name(Some(self.router));
         let prefix = self.prefix;
-        let entry = EntryText {
-            directory: self.directory,
-            router: self.router,
-            entry: self.entry,
-        };
+        let entry = self.directory.entry(self.router, self.entry);
         write!(f, "{name} {prefix} {entry}")
     }
 }
@@ -197,11 +213,7 @@ impl fmt::Display for LookupText<'_> {
         match self.found {
             None => write!(f, "lookup {name} {addr}: none"),
             Some((prefix, entry)) => {
-                let entry = EntryText {
-                    directory: self.directory,
-                    router: self.router,
-                    entry,
-                };
+                let entry = self.directory.entry(self.router, entry);
                 write!(f, "lookup {name} {addr}: {prefix} {entry}")
             }
         }

@@ -24,7 +24,7 @@ pub enum Fault {
     /// The text of a prefix or of an address is not one.
     #[error(transparent)]
     Prefix(PrefixFault),
-    /// A line of the script is no command, or names a router or a link that is not there.
+    /// A line of the script is no command, or names a router, a link or a prefix that is not there.
     #[error("45 BadCommand")]
     BadCommand,
     /// The script has more than 10,000 commands.

@@ -4,11 +4,13 @@
 mod command;
 mod directory;
 mod fault;
+mod lines;
 mod link;
 mod names;
 mod owner;
 mod place;
 mod reading;
+mod step;
 #[cfg(test)]
 mod tests;
 mod words;
@@ -16,6 +18,7 @@ mod words;
 pub use command::Command;
 pub use directory::{Directory, LookupText, RowText};
 pub use fault::Fault;
+pub use lines::{Line, LinkLine, MachineLine, RouterLine};
 pub use names::Names;
 pub use place::{Key, Located, Place};
 pub use reading::{Reading, Script, read_script};

@@ -107,6 +107,12 @@ impl Script {
                 place: None,
             });
         }
-        read_commands(&self.names, &self.links, &mut self.commands, script)
+        read_commands(
+            &self.names,
+            &self.links,
+            &self.owners,
+            &mut self.commands,
+            script,
+        )
     }
 }

@@ -1,6 +1,7 @@
 //! Readings of whole scenarios, and the texts of faults and rows.
 
 use crate::{Command, Directory, Fault, Reading, read_script};
+use metric::Cost;
 use network_model::{Entry, Step};
 use std::alloc::{AllocError, Global};
 use std::test::Fail;
@@ -119,10 +120,11 @@ fn commands(rt: HostRuntime) -> Result<(), Fail> {
         ("up a", "45 BadCommand at script 0"),
         ("up a b c", "45 BadCommand at script 0"),
         ("up  a b", "45 BadCommand at script 0"),
+        ("up a  b", "45 BadCommand at script 0"),
         ("up a z", "45 BadCommand at script 0"),
         ("up a c", "45 BadCommand at script 0"),
         ("up a a", "45 BadCommand at script 0"),
-        ("up a b|down a b", "45 BadCommand at script 1"),
+        ("up a b|down a c", "45 BadCommand at script 1"),
         ("publish", "45 BadCommand at script 0"),
         ("publish z", "45 BadCommand at script 0"),
         ("release a b", "45 BadCommand at script 0"),
@@ -134,9 +136,68 @@ fn commands(rt: HostRuntime) -> Result<(), Fail> {
         ("lookup z 1.2.3", "45 BadCommand at script 0"),
         ("lookup a 1.2.3", "2 BadAddress at script 0"),
         ("lookup a 10.0.0.256", "2 BadAddress at script 0"),
-        ("up b a|up a b|table c", "none"),
+        ("settle a", "45 BadCommand at script 0"),
+        ("settle ", "45 BadCommand at script 0"),
+        ("report a", "45 BadCommand at script 0"),
+        ("try", "45 BadCommand at script 0"),
+        ("try settle", "45 BadCommand at script 0"),
+        ("try report", "45 BadCommand at script 0"),
+        ("try table a", "45 BadCommand at script 0"),
+        ("try state a 10.0.0.0/8", "45 BadCommand at script 0"),
+        ("try try up a b", "45 BadCommand at script 0"),
+        ("try  up a b", "45 BadCommand at script 0"),
+        ("try up a c", "45 BadCommand at script 0"),
+        ("up b a|down b a|try up a b|settle|report|table c", "none"),
+    ] {
+        let reading = read(rt.alloc(), "a|b|c", "a b 1 1", "10.0.0.0/8 b", script)?;
+        let got = fault(rt.alloc(), &reading)?;
+        assert_eq!(rt; got.as_str(), want, "at {script}");
+    }
+    Ok(())
+}
+
+#[test]
+fn costs(rt: HostRuntime) -> Result<(), Fail> {
+    for (script, want) in [
+        ("cost a b", "45 BadCommand at script 0"),
+        ("cost a b 1 1", "45 BadCommand at script 0"),
+        ("cost a b ", "45 BadCommand at script 0"),
+        ("cost a b 05", "45 BadCommand at script 0"),
+        ("cost a b 4294967296", "45 BadCommand at script 0"),
+        ("cost a b +1", "45 BadCommand at script 0"),
+        ("cost a c 0", "45 BadCommand at script 0"),
+        ("cost a c 1", "45 BadCommand at script 0"),
+        ("cost a z 0", "45 BadCommand at script 0"),
+        ("cost a b 0", "5 BadCost at script 0"),
+        ("cost a b 65536", "5 BadCost at script 0"),
+        ("cost a b 4294967295", "5 BadCost at script 0"),
+        ("try cost a b 0", "5 BadCost at script 0"),
+        ("try cost a c 0", "45 BadCommand at script 0"),
+        ("cost a b 1|cost b a 65535|try cost a b 2", "none"),
     ] {
         let reading = read(rt.alloc(), "a|b|c", "a b 1 1", "", script)?;
+        let got = fault(rt.alloc(), &reading)?;
+        assert_eq!(rt; got.as_str(), want, "at {script}");
+    }
+    Ok(())
+}
+
+#[test]
+fn states(rt: HostRuntime) -> Result<(), Fail> {
+    for (script, want) in [
+        ("state a", "45 BadCommand at script 0"),
+        ("state a ", "45 BadCommand at script 0"),
+        ("state a 10.0.0.0/8 b", "45 BadCommand at script 0"),
+        ("state z 10.0.0.1/8", "45 BadCommand at script 0"),
+        ("state a 10.0.0.0", "1 NoSlash at script 0"),
+        ("state a 10.0.0/8", "2 BadAddress at script 0"),
+        ("state a 10.0.0.0/33", "3 BadLength at script 0"),
+        ("state a 10.0.0.1/8", "4 HostBits at script 0"),
+        ("state a 11.0.0.0/8", "45 BadCommand at script 0"),
+        ("state a 10.0.0.0/9", "45 BadCommand at script 0"),
+        ("state a 10.0.0.0/8|state b 0.0.0.0/0", "none"),
+    ] {
+        let reading = read(rt.alloc(), "a|b", "", "0.0.0.0/0 a|10.0.0.0/8 b", script)?;
         let got = fault(rt.alloc(), &reading)?;
         assert_eq!(rt; got.as_str(), want, "at {script}");
     }
@@ -210,6 +271,40 @@ fn parts(rt: HostRuntime) -> Result<(), Fail> {
             router: 1,
             addr: 0x0a00_0001,
         },
+    ];
+    assert_eq!(rt; script.commands.as_slice(), commands.as_slice());
+    Ok(())
+}
+
+#[test]
+fn further_commands(rt: HostRuntime) -> Result<(), Fail> {
+    let script =
+        "down a b|down b a|cost c b 7|cost b c 7|try deliver b c|settle|state c 10.0.0.0/8|report";
+    let links = "a b 1 2|b c 3 4";
+    let reading = read(rt.alloc(), "a|b|c", links, "10.0.0.0/8 a", script)?;
+    assert!(rt; reading.fault.is_none());
+    let script = reading.script;
+    assert_eq!(rt; script.owners.len(), 1);
+    let (prefix, _) = script.owners[0];
+    let cost = Cost::new(7)?;
+    let again = Cost::new(7)?;
+    let commands = [
+        Command::Step(Step::LinkDown { link: 0 }),
+        Command::Step(Step::LinkDown { link: 0 }),
+        Command::Step(Step::SetCost {
+            router: 2,
+            port: 0,
+            cost,
+        }),
+        Command::Step(Step::SetCost {
+            router: 1,
+            port: 1,
+            cost: again,
+        }),
+        Command::Try(Step::Deliver { router: 1, port: 1 }),
+        Command::Settle,
+        Command::State { router: 2, prefix },
+        Command::Report,
     ];
     assert_eq!(rt; script.commands.as_slice(), commands.as_slice());
     Ok(())

@@ -23,13 +23,22 @@ pub(crate) fn two_words(line: &str) -> Option<(&str, &str)>
     }
 }
 
+/// The words of a line of three.
+pub(crate) fn three_words(line: &str) -> Option<(&str, &str, &str)>
+    ensures some { IfSome result (λ w. words_of line.now ≡ w.0.now ∷ w.1.now ∷ w.2.now ∷ []) }
+    ensures none { IfNone result ((a b c : Text) → words_of line.now ≢ a ∷ b ∷ c ∷ []) }
+{
+    let (first, rest) = first_word(line)?;
+    let (second, third) = two_words(rest)?;
+    Some((first, second, third))
+}
+
 /// The words of a line of four.
 pub(crate) fn four_words(line: &str) -> Option<(&str, &str, &str, &str)>
     ensures some { IfSome result (λ w. words_of line.now ≡ w.0.now ∷ w.1.now ∷ w.2.now ∷ w.3.now ∷ []) }
     ensures none { IfNone result ((a b c d : Text) → words_of line.now ≢ a ∷ b ∷ c ∷ d ∷ []) }
 {
     let (first, rest) = first_word(line)?;
-    let (second, rest) = first_word(rest)?;
-    let (third, fourth) = two_words(rest)?;
+    let (second, third, fourth) = three_words(rest)?;
     Some((first, second, third, fourth))
 }

@@ -6,3 +6,4 @@ pub mod Degrees
 pub mod Done
 pub mod Ranges
 pub mod Runs
+pub mod Waiting

@@ -1,3 +1,4 @@
 pub mod Kept
 pub mod Parts
 pub mod Steps
+pub mod Waiting

@@ -1,12 +1,15 @@
 //! The world: routers and links, and the steps that change them.
 
 ghost use Rattle.std.specs.Prelude.{ℕ, ◌≡◌, ◌+◌, ◌^◌, ◌<◌, ◌≤◌, ◌↔◌, true, length, map, take, slice_get, is_none, None, Some, Err, IfOk, IfErr, IfSome, IsOk, OnOk, OnErr, MatchOption, IsOkUnless, IsTrue, All};
+ghost use Rattle.std.specs.List.{position_from};
 ghost use Rattle.std.specs.Option.{option_copied};
 ghost use Rattle.network_model.specs.World as model;
 ghost use Rattle.network_model.specs.Step as steps;
 ghost use Rattle.network_model.specs.Step.{refusal};
 ghost use Rattle.network_model.specs.Run.{Runs};
+ghost use Rattle.network_model.specs.Turns as turns;
 ghost use Rattle.world.specs.Steps.{IsDoneOr, HasRoomForSteps, IsPort, port_refusal, StopsAt};
+ghost use Rattle.world.specs.Waiting.{is_waiting, waiting_port};
 
 use crate::network::Network;
 use crate::opening::{opening_places, opening_routers};
@@ -89,6 +92,43 @@ impl World {
     {
         let places = self.places.get(usize::from(router))?;
         places.get(usize::from(port)).copied()
+    }
+
+    /// What a router has to do next: the first of a release, a publication, and a delivery by ascending
+    /// port that is lawful; none where nothing is, or where there is no such router.
+    pub fn next_step(&self, router: u16) -> Option<Step>
+        ensures { result ≡ turns.next_step self.now router }
+    {
+        let found = self.routers.get(usize::from(router))?;
+        if found.front().is_some() {
+            return Some(Step::Release { router });
+        }
+        if found.due() {
+            return Some(Step::Publish { router });
+        }
+        let port = self.waiting_port(router)?;
+        Some(Step::Deliver { router, port })
+    }
+
+    // The lowest port of a router that has an item to take.
+    fn waiting_port(&self, router: u16) -> Option<u8>
+        requires known { router < length (self.now).routers }
+        ensures { result ≡ waiting_port self.now router }
+    {
+        // A router has at most 32 ports.
+        let _few = self.router(router).port_count();
+        let port = self.place_waiting(&self.places[usize::from(router)])?;
+        Some(port as u8)
+    }
+
+    // The first of these places at which an item waits to be taken.
+    fn place_waiting(&self, places: &[Place]) -> Option<usize>
+        ensures first { result ≡ position_from (is_waiting (self.now).links) 0 places.now }
+        ensures within { IfSome result (λ port. port < length places.now) }
+    {
+        places
+            .iter()
+            .position(|place| self.links.front(place.link, place.end).is_ok())
     }
 
     /// Whether each router can publish as often as this: a generation is a number of 64 bits.

@@ -1,0 +1,85 @@
+#!/usr/bin/env python3
+"""Runs the networks of a folder by the program and by the model, and prints how fast each was.
+
+    python3 bench/measure.py PROGRAM FOLDER RUNS
+
+Seconds are those of a whole process on the clock, the least of all runs; memory is the most of a
+process that was resident at a time (not shown without GNU time). It ends with status 1 where the
+two do not print the same.
+"""
+
+import subprocess
+import sys
+import time
+from pathlib import Path
+from tempfile import NamedTemporaryFile
+from typing import NamedTuple
+
+NETWORKS = ["grid", "line", "flap"]
+GNU_TIME = "/usr/bin/time"
+MODEL = [sys.executable, str(Path(__file__).with_name("model.py"))]
+
+
+class Run(NamedTuple):
+    """What a process printed, how long it took, and its memory."""
+
+    output: str
+    seconds: float
+    kibibytes: int | None
+
+    def steps(self) -> int:
+        return int(self.output.splitlines()[-1].split()[1])
+
+
+def run(command: list[str], scenario: Path) -> Run:
+    command = [*command, str(scenario)]
+    with NamedTemporaryFile("r") as memory:
+        has_memory = Path(GNU_TIME).exists()
+        if has_memory:
+            command = [GNU_TIME, "-f", "%M", "-o", memory.name, *command]
+        start = time.perf_counter()
+        process = subprocess.run(command, stdout=subprocess.PIPE, text=True)
+        seconds = time.perf_counter() - start
+        if process.returncode != 0:
+            sys.exit(f"{' '.join(command)}: status {process.returncode}")
+        return Run(process.stdout, seconds, int(memory.read()) if has_memory else None)
+
+
+def fastest(command: list[str], scenario: Path, runs: int) -> Run:
+    return min((run(command, scenario) for _ in range(runs)), key=lambda one: one.seconds)
+
+
+def compare(scenario: Path, one: Run, other: Run) -> None:
+    """Ends with a message at the first line that differs."""
+    lines = zip(one.output.splitlines(), other.output.splitlines())
+    for number, (line, expected) in enumerate(lines, 1):
+        if line != expected:
+            sys.exit(f"{scenario.name}: line {number} is {line!r}, by the model {expected!r}")
+    if one.output != other.output:
+        sys.exit(f"{scenario.name}: one output is longer")
+
+
+def cells(one: Run) -> str:
+    memory = "-" if one.kibibytes is None else f"{one.kibibytes / 1024:.1f}"
+    return f"{one.seconds:9.3f} {one.steps() / one.seconds:10,.0f} {memory:>7}"
+
+
+def main(words: list[str]) -> None:
+    program, folder, runs = [words[0], "run"], Path(words[1]), int(words[2])
+    sides = f"{'seconds':>9} {'steps/s':>10} {'MiB':>7}"
+    print(f"{'':7} {'':9} {'program':>28} {'model':>28}")
+    print(f"{'network':7} {'steps':>9} {sides} {sides} {'ratio':>6}")
+    for name in NETWORKS:
+        scenario = folder / f"{name}.toml"
+        one, other = fastest(program, scenario, runs), fastest(MODEL, scenario, runs)
+        compare(scenario, one, other)
+        ratio = other.seconds / one.seconds
+        print(f"{name:7} {one.steps():9,} {cells(one)} {cells(other)} {ratio:6.1f}", flush=True)
+    for name in NETWORKS:
+        scenario = folder / f"{name}-report.toml"
+        compare(scenario, run(program, scenario), run(MODEL, scenario))
+    print("Both print the same, reports too.")
+
+
+if __name__ == "__main__":
+    main(sys.argv[1:])

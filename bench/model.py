@@ -1,0 +1,135 @@
+#!/usr/bin/env python3
+"""A plain model of a network of routers that route by DUAL.
+
+    python3 bench/model.py [--time] SCENARIO.toml
+
+does the script of a scenario and prints what `dualnet run` prints for it. It shares no code with
+the program, and is there to be compared with it: in what it prints, and in how long it takes. It
+presumes a scenario without faults, and has no `inject` and `drain`. With `--time` it says on
+standard error how many steps it did, in how many seconds.
+"""
+
+import sys
+import time
+import tomllib
+from collections.abc import Iterator
+
+from model_network import Network, Prefix, Refused, Router, Step, Via, read_addr
+
+
+def step_of(network: Network, words: list[str]) -> Step:
+    """The step that a command says."""
+    match words:
+        case ["up", a, b]:
+            return network.link_up, network.port(a, b).link
+        case ["down", a, b]:
+            return network.link_down, network.port(a, b).link
+        case ["cost", a, b, cost]:
+            return network.set_cost, network.port(a, b), int(cost)
+        case ["deliver", a, b]:
+            return network.deliver, network.routers[a], network.numbers[a, b]
+        case ["publish", a]:
+            return network.publish, network.routers[a]
+        case ["release", a]:
+            return network.release, network.routers[a]
+    raise ValueError(f"no command: {' '.join(words)}")
+
+
+def trace(router: Router, addr: int) -> tuple[list[str], str]:
+    """The routers that a packet meets, and how it ends."""
+    path: list[str] = []
+    first: Prefix | None = None
+    while True:
+        path.append(router.name)
+        row = router.lookup(addr)
+        if row is None:
+            return path, "no route"
+        prefix, entry = row
+        if first is not None and prefix != first:
+            return path, "crossed"
+        if entry == "local":
+            return path, "delivered"
+        if not isinstance(entry, Via):
+            return path, "unreachable"
+        if not entry.port.link.is_up_in(entry.session):
+            return path, "dead link"
+        first, router = prefix, entry.port.other.router
+
+
+def machine_line(router: Router, prefix: Prefix) -> str:
+    machine = router.machines.get(prefix)
+    if machine is None:
+        return f"{router.name} {prefix} unheard"
+    return f"{router.name} {prefix} {machine} {router.control[prefix]}"
+
+
+def report(network: Network) -> Iterator[str]:
+    for link in network.links:
+        a, b = link.ports
+        state = f"{'up' if link.up else 'down'} {link.session}"
+        costs, queued = f"{a.link_cost} {b.link_cost}", f"{len(a.inbox)} {len(b.inbox)}"
+        yield f"link {a.router.name} {b.router.name} {state} {costs} queued {queued}"
+    for router in network.routers.values():
+        held = f"held {len(router.gate)} ripe {router.ripe}"
+        yield f"{router.name} gen {router.generation} {held}"
+        for prefix in sorted(router.machines):
+            yield machine_line(router, prefix)
+
+
+def answers(network: Network, words: list[str]) -> Iterator[str]:
+    """Does a command, and gives the lines that it prints."""
+    match words:
+        case ["settle"]:
+            network.settle()
+        case ["report"]:
+            yield from report(network)
+        case ["try", *step]:
+            try:
+                network.do(step_of(network, step))
+                yield "done"
+            except Refused as refusal:
+                yield f"refused {refusal}"
+        case ["state", name, prefix]:
+            yield machine_line(network.routers[name], Prefix.read(prefix))
+        case ["table", name]:
+            for prefix, entry in sorted(network.routers[name].published.items()):
+                yield f"{name} {prefix} {entry}"
+        case ["lookup", name, addr]:
+            row = network.routers[name].lookup(read_addr(addr))
+            yield f"lookup {name} {addr}: " + ("none" if row is None else f"{row[0]} {row[1]}")
+        case ["trace", name, addr]:
+            path, end = trace(network.routers[name], read_addr(addr))
+            yield f"trace {name} {addr}: {' '.join(path)} {end}"
+        case _:
+            network.do(step_of(network, words))
+
+
+def play(network: Network, script: list[str]) -> int:
+    """Does a script, and gives the program's status."""
+    for position, line in enumerate(script):
+        try:
+            for answer in answers(network, line.split()):
+                print(answer)
+        except Refused as refusal:
+            print(f"dualnet: {refusal} at script {position}", file=sys.stderr)
+            return 2
+    print(f"done: {network.steps} steps")
+    return 0
+
+
+def main(words: list[str]) -> int:
+    is_timed = words[:1] == ["--time"]
+    with open(words[-1], "rb") as file:
+        scenario = tomllib.load(file)
+    network = Network(scenario["routers"], scenario["links"], scenario["prefixes"])
+    start = time.perf_counter()
+    status = play(network, scenario["script"])
+    seconds = time.perf_counter() - start
+    if is_timed:
+        rate = network.steps / seconds
+        print(f"{network.steps} steps, {seconds:.2f} s, {rate:.0f} steps/s", file=sys.stderr)
+    return status
+
+
+if __name__ == "__main__":
+    sys.exit(main(sys.argv[1:]))

@@ -1,0 +1,281 @@
+"""Routers, links, and the steps that they do, as the model has them."""
+
+from collections import deque
+from collections.abc import Callable
+from itertools import cycle
+from typing import Any, NamedTuple
+
+from model_machine import COST, DOWN, INF, UP, Machine
+
+MAX_SESSION = 65535
+MAX_STEPS = 1_000_000
+
+LOCAL, UNREACHABLE = "local", "unreachable"
+
+
+class Refused(Exception):
+    """A step that is not lawful. Its text is the refusal's number and name."""
+
+
+def read_addr(text: str) -> int:
+    return int.from_bytes(bytes(map(int, text.split("."))))
+
+
+class Prefix(NamedTuple):
+    """Prefixes are ordered by address, then by length."""
+
+    addr: int
+    length: int
+
+    @classmethod
+    def read(cls, text: str) -> "Prefix":
+        addr, length = text.split("/")
+        return cls(read_addr(addr), int(length))
+
+    def __str__(self) -> str:
+        return f"{'.'.join(str(byte) for byte in self.addr.to_bytes(4))}/{self.length}"
+
+
+class Notice(NamedTuple):
+    """What a link tells its ends of itself: UP, DOWN or COST."""
+
+    kind: str
+    session: int
+    cost: int
+
+
+class Message(NamedTuple):
+    """What a router tells a neighbour: UPDATE, QUERY or REPLY."""
+
+    kind: str
+    prefix: Prefix
+    value: int
+
+
+class Held(NamedTuple):
+    """A message in a router's gate, with its port's session at the time it was sent."""
+
+    port: "Port"
+    session: int
+    message: Message
+
+
+class Via(NamedTuple):
+    """A table's entry that leads over a port, in one session of its link."""
+
+    port: "Port"
+    session: int
+
+    def __str__(self) -> str:
+        return f"via {self.port.other.router.name} {self.session}"
+
+
+Entry = str | Via
+
+
+class Port:
+    """A router's end of a link: as the link has it, and as the router knows it by its notices."""
+
+    def __init__(self, link: "Link", router: "Router", link_cost: int) -> None:
+        self.link = link
+        self.router = router
+        self.link_cost = link_cost
+        self.other: Port
+        self.inbox: deque[Notice | Message] = deque()
+        self.up = False
+        self.session = 0
+        self.cost = 0
+
+    def put(self, item: Notice | Message) -> None:
+        """Puts an item where the router will take it."""
+        self.inbox.append(item)
+        self.router.is_idle = False
+
+
+class Link:
+    """A link between two routers."""
+
+    def __init__(self, a: "Router", b: "Router", from_a: int, from_b: int) -> None:
+        self.ports = Port(self, a, from_a), Port(self, b, from_b)
+        self.up = False
+        self.session = 0
+        for port, other in zip(self.ports, reversed(self.ports)):
+            port.other = other
+            port.router.ports.append(port)
+
+    def is_up_in(self, session: int) -> bool:
+        return self.up and self.session == session
+
+
+class Router:
+    """A router: its machines, the tables of its rows, and the gate that holds what it sends."""
+
+    def __init__(self, name: str) -> None:
+        self.name = name
+        self.ports: list[Port] = []
+        self.machines: dict[Prefix, Machine] = {}
+        self.control: dict[Prefix, Entry] = {}
+        self.published: dict[Prefix, Entry] = {}
+        self.changed: set[Prefix] = set()
+        self.gate: deque[Held] = deque()
+        self.ripe = 0
+        self.generation = 0
+        self.is_idle = False
+
+    def own(self, prefix: Prefix) -> None:
+        self.machines[prefix] = Machine(self.ports, True)
+        self.control[prefix] = self.published[prefix] = LOCAL
+
+    def is_due(self) -> bool:
+        return bool(self.changed) or self.ripe < len(self.gate)
+
+    def accept(self, number: int, item: Notice | Message) -> None:
+        """Takes an item from a port."""
+        if isinstance(item, Message):
+            if item.prefix not in self.machines:
+                self.machines[item.prefix] = Machine(self.ports, False)
+            self._meet(item.prefix, item.kind, number, item.value)
+            return
+        port = self.ports[number]
+        if item.kind == DOWN:
+            port.up = False
+        else:
+            port.up, port.session, port.cost = True, item.session, item.cost
+        for prefix in sorted(self.machines):
+            self._meet(prefix, item.kind, number, INF)
+
+    def _meet(self, prefix: Prefix, kind: str, number: int, value: int) -> None:
+        machine = self.machines[prefix]
+        for to, what, distance in machine.meet(kind, number, value):
+            port = self.ports[to]
+            self.gate.append(Held(port, port.session, Message(what, prefix, distance)))
+        entry = self._entry(machine)
+        self.control[prefix] = entry
+        if entry == self.published.get(prefix):
+            self.changed.discard(prefix)
+        else:
+            self.changed.add(prefix)
+
+    def _entry(self, machine: Machine) -> Entry:
+        if machine.local:
+            return LOCAL
+        if machine.successor is None:
+            return UNREACHABLE
+        port = self.ports[machine.successor]
+        return Via(port, port.session)
+
+    def publish(self) -> None:
+        for prefix in self.changed:
+            self.published[prefix] = self.control[prefix]
+        self.changed.clear()
+        self.ripe = len(self.gate)
+        self.generation += 1
+
+    def lookup(self, addr: int) -> tuple[Prefix, Entry] | None:
+        """The longest match over the published rows."""
+        for length in range(32, -1, -1):
+            prefix = Prefix(addr >> (32 - length) << (32 - length), length)
+            if prefix in self.published:
+                return prefix, self.published[prefix]
+        return None
+
+
+Step = tuple[Callable[..., None], *tuple[Any, ...]]
+
+
+class Network:
+    """Routers and links, and the steps that they do."""
+
+    def __init__(self, routers: list[str], links: list[str], prefixes: list[str]) -> None:
+        self.steps = 0
+        self.routers = {name: Router(name) for name in routers}
+        self.links: list[Link] = []
+        # The number of a router's port, by the names of the router and of the other end.
+        self.numbers: dict[tuple[str, str], int] = {}
+        for line in links:
+            a, b, from_a, from_b = line.split()
+            ends = self.routers[a], self.routers[b]
+            self.numbers[a, b], self.numbers[b, a] = (len(end.ports) for end in ends)
+            self.links.append(Link(*ends, int(from_a), int(from_b)))
+        for line in prefixes:
+            prefix, owner = line.split()
+            self.routers[owner].own(Prefix.read(prefix))
+
+    def port(self, name: str, peer: str) -> Port:
+        return self.routers[name].ports[self.numbers[name, peer]]
+
+    def link_up(self, link: Link) -> None:
+        if link.up:
+            raise Refused("13 AlreadyUp")
+        if link.session == MAX_SESSION:
+            raise Refused("15 SessionsSpent")
+        link.up = True
+        link.session += 1
+        for port in link.ports:
+            port.put(Notice(UP, link.session, port.link_cost))
+
+    def link_down(self, link: Link) -> None:
+        if not link.up:
+            raise Refused("14 IsDown")
+        link.up = False
+        for port in link.ports:
+            port.inbox = deque(item for item in port.inbox if isinstance(item, Notice))
+            port.put(Notice(DOWN, link.session, 0))
+
+    def set_cost(self, port: Port, cost: int) -> None:
+        if not port.link.up:
+            raise Refused("14 IsDown")
+        port.link_cost = cost
+        port.put(Notice(COST, port.link.session, cost))
+
+    def deliver(self, router: Router, number: int) -> None:
+        inbox = router.ports[number].inbox
+        if not inbox:
+            raise Refused("16 NothingToDeliver")
+        router.accept(number, inbox.popleft())
+
+    def publish(self, router: Router) -> None:
+        if not router.is_due():
+            raise Refused("17 NothingDue")
+        router.publish()
+
+    def release(self, router: Router) -> None:
+        if not router.ripe:
+            raise Refused("18 NothingRipe")
+        held = router.gate.popleft()
+        router.ripe -= 1
+        if held.port.link.is_up_in(held.session):
+            held.port.other.put(held.message)
+
+    def do(self, step: Step) -> None:
+        if self.steps == MAX_STEPS:
+            raise Refused("19 JournalFull")
+        call, *args = step
+        call(*args)
+        self.steps += 1
+
+    def next_step(self, router: Router) -> Step | None:
+        """What a router does in its turn."""
+        if router.ripe:
+            return self.release, router
+        if router.is_due():
+            return self.publish, router
+        for number, port in enumerate(router.ports):
+            if port.inbox:
+                return self.deliver, router, number
+        return None
+
+    def settle(self) -> None:
+        """Turns of all routers, until none has anything to do. One without work is idle until an
+        item comes."""
+        idle = 0
+        for router in cycle(self.routers.values()):
+            step = None if router.is_idle else self.next_step(router)
+            if step is not None:
+                self.do(step)
+                idle = 0
+                continue
+            router.is_idle = True
+            idle += 1
+            if idle == len(self.routers):
+                return

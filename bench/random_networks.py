@@ -1,0 +1,139 @@
+#!/usr/bin/env python3
+"""Writes a random scenario: a small network and a script of 200 commands.
+
+    python3 bench/random_networks.py [--traces] SEED > SCENARIO.toml
+
+The same seed gives the same scenario. Each step is tried, so that none of them ends the run. With
+`--traces` the script has the command `trace` too.
+"""
+
+import sys
+from ipaddress import IPv4Network
+from random import Random
+
+from model import answers
+from model_network import Network
+from networks import Scenario, ups
+
+COMMANDS = 200
+
+
+def random_links(random: Random, routers: list[str]) -> list[str]:
+    """A tree that joins all routers, and some links more. Small costs make equal sums likely."""
+    pairs = [(random.choice(routers[:k]), routers[k]) for k in range(1, len(routers))]
+    for a in routers:
+        for b in routers:
+            if a < b and (a, b) not in pairs and (b, a) not in pairs and random.random() < 0.3:
+                pairs.append((a, b))
+    random.shuffle(pairs)
+    most = random.choice([1, 3, 10, 65535])
+    return [f"{a} {b} {random.randint(1, most)} {random.randint(1, most)}" for a, b in pairs]
+
+
+def random_prefixes(random: Random, routers: list[str]) -> list[IPv4Network]:
+    """Distinct prefixes, many of them inside another."""
+    prefixes = [IPv4Network("10.0.0.0/8")]
+    for _ in range(random.randint(0, 5)):
+        outer = random.choice(prefixes)
+        length = min(32, outer.prefixlen + random.randint(0, 12))
+        inside = int(outer.network_address) + random.getrandbits(32 - outer.prefixlen)
+        prefix = IPv4Network((inside, length), strict=False)
+        if prefix not in prefixes:
+            prefixes.append(prefix)
+    if random.random() < 0.3:
+        prefixes.append(IPv4Network("0.0.0.0/0"))
+    random.shuffle(prefixes)
+    return prefixes
+
+
+class Script:
+    """Random commands. The model does each of them, so that most of the steps tried are lawful."""
+
+    def __init__(self, random: Random, network: Network, prefixes: list[IPv4Network]) -> None:
+        self.random = random
+        self.network = network
+        self.prefixes = prefixes
+        self.commands: list[str] = []
+
+    def add(self, command: str) -> None:
+        self.commands.append(command)
+        for _ in answers(self.network, command.split()):
+            pass
+
+    def router(self) -> str:
+        return self.random.choice(list(self.network.routers))
+
+    def ends(self) -> str:
+        """The two ends of a link, in either order."""
+        ports = self.random.choice(self.network.links).ports
+        names = [port.router.name for port in ports]
+        return " ".join(self.random.sample(names, 2))
+
+    def addr(self) -> str:
+        """An address, most often one of a prefix."""
+        prefix = self.random.choice([*self.prefixes, IPv4Network("0.0.0.0/0")])
+        return str(prefix[self.random.getrandbits(32 - prefix.prefixlen)])
+
+    def lawful_steps(self) -> list[str]:
+        """What routers can do now."""
+        steps = []
+        for name, router in self.network.routers.items():
+            steps += [f"release {name}"] * (router.ripe > 0)
+            steps += [f"publish {name}"] * router.is_due()
+            for port in router.ports:
+                steps += [f"deliver {name} {port.other.router.name}"] * (len(port.inbox) > 0)
+        return steps
+
+    def step(self) -> str:
+        lawful = self.lawful_steps()
+        if lawful and self.random.random() < 0.75:
+            return self.random.choice(lawful)
+        kind = self.random.choice(["up", "down", "cost", "deliver", "publish", "release"])
+        match kind:
+            case "publish" | "release":
+                return f"{kind} {self.router()}"
+            case "cost":
+                return f"cost {self.ends()} {self.random.choice([1, 2, 5, 20, 65535])}"
+            case _:
+                return f"{kind} {self.ends()}"
+
+    def command(self, has_traces: bool) -> str:
+        kinds = ["try", "settle", "state", "table", "lookup", "report", "trace"]
+        weights = [80, 2, 6, 3, 6, 1, 6 * has_traces]
+        kind = self.random.choices(kinds, weights)[0]
+        match kind:
+            case "try":
+                return f"try {self.step()}"
+            case "state":
+                return f"state {self.router()} {self.random.choice(self.prefixes)}"
+            case "table":
+                return f"table {self.router()}"
+            case "lookup" | "trace":
+                return f"{kind} {self.router()} {self.addr()}"
+            case _:
+                return kind
+
+
+def random_scenario(seed: int, has_traces: bool) -> Scenario:
+    random = Random(seed)
+    routers = [f"r{k}" for k in range(random.randint(3, 8))]
+    links = random_links(random, routers)
+    prefixes = random_prefixes(random, routers)
+    owned = [f"{prefix} {random.choice(routers)}" for prefix in prefixes]
+    script = Script(random, Network(routers, links, owned), prefixes)
+    for up in ups(links):
+        if random.random() < 0.8:
+            script.add(up)
+    if random.random() < 0.7:
+        script.add("settle")
+    while len(script.commands) < COMMANDS - 2:
+        script.add(script.command(has_traces))
+    return Scenario(routers, links, owned, [*script.commands, "settle", "report"])
+
+
+def main(words: list[str]) -> None:
+    print(random_scenario(int(words[-1]), "--traces" in words[:-1]).toml(), end="")
+
+
+if __name__ == "__main__":
+    main(sys.argv[1:])

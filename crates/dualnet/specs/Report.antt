@@ -1,0 +1,64 @@
+-- What is told of links, routers and machines.
+use Rattle.std.specs.Prelude.{◌≡◌, ℕ, [], ◌∷◌, ◌++◌, ◌⊎◌, Option, Some, None, IsSome, option_map, length, is_some}
+use Rattle.std.specs.FinMap.{find as row_of}
+use Rattle.std.specs.Io.KnownBytes.{Appends}
+use Rattle.ipv4_prefix.specs.Prefix.{Prefix, prefix_cmp}
+use Rattle.diffusing_replies.specs.Origin.{number_of}
+use Rattle.network_model.specs.Machine.{Machine}
+use Rattle.network_model.specs.World.{Link, Router}
+use Rattle.dual_machine.specs.State.{State}
+use Rattle.script.specs.Words.{Text}
+use Rattle.script.specs.Directories.{Directory}
+use Rattle.script.specs.Lines.{machine_text, unheard_text}
+use Rattle.script.specs.declared.lines.LinkLine.{LinkLine}
+use Rattle.script.specs.declared.lines.RouterLine.{RouterLine}
+use Rattle.script.specs.declared.lines.MachineLine.{MachineLine}
+
+-- what is told of a link
+abbrev pub link_line : Link → LinkLine
+link_line k = record {
+  a = k.a.router;
+  b = k.b.router;
+  up = k.up;
+  session = k.session;
+  from_a = k.a.cost;
+  from_b = k.b.cost;
+  queued_a = length k.a.inbox;
+  queued_b = length k.b.inbox;
+}
+
+-- what is told of a router
+abbrev pub router_line : ℕ → Router → RouterLine
+router_line number r = record { router = number; generation = r.generation; held = length (r.gate).held; ripe = (r.gate).ripe }
+
+-- the number of the origin state of the computation under way, if one is
+abbrev pub IsOriginNumber : State → Option ℕ → Type 0
+IsOriginNumber s None = (s.machine).computation ≡ None
+IsOriginNumber s (Some number) = IsSome (s.machine).computation × (option_map number_of s.origin ≡ Some number)
+
+-- a line that tells of a router's machine for a prefix: an origin state is named exactly while a computation is under way
+pub record TellsOfMachine (number : ℕ) (r : Router) (p : Prefix) (line : MachineLine) : Type 0 where
+  pub machine : Machine
+  pub is_machine : row_of prefix_cmp p r.machines ≡ Some machine
+  pub router : line.router ≡ number
+  pub prefix : line.prefix ≡ p
+  pub origin : is_some line.origin ≡ is_some machine.computation
+  pub rd : line.rd ≡ machine.rd
+  pub fd : line.fd ≡ machine.fd
+  pub entry : row_of prefix_cmp p (r.table).control ≡ Some line.entry
+
+-- what is told of a router's machine for a prefix; none where the router has no machine or no row for it
+abbrev pub IsMachineLine : ℕ → Router → Prefix → Option MachineLine → Type 0
+IsMachineLine number r p None = (row_of prefix_cmp p r.machines ≡ None) ⊎ (row_of prefix_cmp p (r.table).control ≡ None)
+IsMachineLine number r p (Some line) = TellsOfMachine number r p line
+
+-- ---- texts
+
+-- what is told of a router's machine for a prefix, or that the router has not heard of the prefix
+abbrev pub state_text : Directory → ℕ → Prefix → Option MachineLine → Text
+state_text d number p None = unheard_text d number p
+state_text d number p (Some line) = machine_text d line
+
+-- a line on a router's machine for a prefix was printed
+abbrev pub PrintsMachine : Directory → ℕ → Router → Prefix → Option Text → Option Text → Type 0
+PrintsMachine d number r p old new = (line : Option MachineLine) × IsMachineLine number r p line × Appends old new (state_text d number p line ++ 10 ∷ [])

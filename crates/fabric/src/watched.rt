@@ -1,0 +1,173 @@
+//! A world that knows whether it has come to rest.
+
+ghost use Rattle.std.specs.Prelude.{ℕ, ◌≡◌, ◌≤◌, ◌+◌, false, slice_get, option_and_then, IfOk, IsOk, OnOk, OnErr, MatchOption, Err};
+ghost use Rattle.std.specs.Option.{option_map_or};
+ghost use Rattle.network_model.specs.World as model;
+ghost use Rattle.network_model.specs.Step as steps;
+ghost use Rattle.network_model.specs.Turns as turns;
+ghost use Rattle.world.specs.Steps.{IsDoneOr, HasRoomForSteps};
+ghost use Rattle.fabric.specs.Rest.{is_busy, is_restless, link_number};
+
+use link_fifo::Links;
+use network_model::{End, NoMemory, Refusal, Step};
+use router_core::Router;
+use std::alloc::Global;
+use std::marker::Model;
+use world::{Network, World};
+
+/// A world, and how many of its links and routers are not at rest: links with something on them, and
+/// routers with something to publish or to release. So it is known whether anything is left to do
+/// without going through the network.
+#[derive(Drop)]
+pub struct WatchedWorld {
+    world: World,
+    unrest: usize,
+}
+
+impl Model for WatchedWorld {
+    ghost use Rattle.network_model.specs.World.{World as NetworkWorld};
+    ghost use Rattle.fabric.specs.Rest.{IsWatched};
+
+    ghost Value = { NetworkWorld };
+
+    ghost view = { λ w. w.world };
+
+    ghost invariant = { λ w. IsWatched w.world w.unrest };
+}
+
+impl WatchedWorld {
+    /// The world of a network that opens.
+    pub fn open(alloc: Global, network: &Network) -> Result<WatchedWorld, NoMemory>
+        ensures { IfOk result (λ w. w ≡ model.opening network.now) }
+    {
+        let world = World::open(alloc, network)?;
+        // At its opening a network is at rest.
+        let _links = network.links();
+        Ok(WatchedWorld { world, unrest: 0 })
+    }
+
+    /// The world.
+    pub fn world(&self) -> &World
+        ensures { result.now ≡ self.now }
+    {
+        &self.world
+    }
+
+    /// Whether no item is queued on any link, nothing is due, and nothing is ripe.
+    pub fn is_settled(&self) -> bool
+        ensures { result ≡ turns.is_settled self.now }
+    {
+        self.unrest == 0
+    }
+
+    /// Does one step, as the world does it.
+    pub fn step(&mut self, step: Step) -> Result<(), Refusal>
+        requires { HasRoomForSteps 1 self.old }
+        ensures ok { OnOk result (steps.Lawful self.old step × (self.new ≡ steps.next self.old step)) }
+        ensures err { OnErr result (self.new ≡ self.old) }
+        ensures cause { IsDoneOr (steps.refusal self.old step) result }
+        ensures publication { (i : ℕ) → step ≡ Step.Publish i → MatchOption (steps.refusal self.old step) (IsOk result) (λ e. result ≡ Err e) }
+    {
+        let touched = Touched::by(&step, &self.world);
+        let before = touched.unrest(&self.world);
+        self.world.step(step)?;
+        let after = touched.unrest(&self.world);
+        self.unrest = self.unrest - before + after;
+        Ok(())
+    }
+}
+
+// What a step can change: at most one link and one router.
+#[derive(Clone, Copy)]
+struct Touched {
+    link: Option<u16>,
+    router: Option<u16>,
+}
+
+impl Touched {
+    ghost use Rattle.fabric.specs.Touched.{touched_by, unrest_at};
+
+    fn by(step: &Step, world: &World) -> Touched
+        ensures { result ≡ touched_by step.now world.now }
+    {
+        match *step {
+            Step::LinkUp { link } | Step::LinkDown { link } => Touched {
+                link: Some(link),
+                router: None,
+            },
+            Step::SetCost {
+                router,
+                port,
+                cost: _,
+            } => Touched {
+                link: link_at(world, router, port),
+                router: None,
+            },
+            Step::Deliver { router, port } => Touched {
+                link: link_at(world, router, port),
+                router: Some(router),
+            },
+            Step::Publish { router } => Touched {
+                link: None,
+                router: Some(router),
+            },
+            Step::Release { router } => Touched {
+                link: released_to(world, router),
+                router: Some(router),
+            },
+        }
+    }
+
+    // How much of these is not at rest.
+    fn unrest(self, world: &World) -> usize
+        ensures unrest { result ≡ unrest_at self world.now }
+        ensures few { result ≤ 2 }
+    {
+        let busy = match self.link {
+            Some(link) => is_busy(world.links(), link),
+            None => false,
+        };
+        let restless = match self.router {
+            Some(router) => is_restless_at(world.routers(), router),
+            None => false,
+        };
+        usize::from(busy) + usize::from(restless)
+    }
+}
+
+// The number of the link at a router's port.
+fn link_at(world: &World, router: u16, port: u8) -> Option<u16>
+    ensures { result ≡ link_number world.now router port }
+{
+    Some(world.port(router, port)?.link)
+}
+
+// The number of the link for which a router releases its next message.
+fn released_to(world: &World, router: u16) -> Option<u16>
+    ensures { result ≡ option_and_then (λ h. link_number world.now router h.port) (steps.release_at world.now router) }
+{
+    let held = world.routers().get(usize::from(router))?.front()?;
+    link_at(world, router, held.port)
+}
+
+// Whether something stands on the link, in either direction.
+fn is_busy(links: &Links, link: u16) -> bool
+    ensures { result ≡ option_map_or is_busy (slice_get links.now link) false }
+{
+    links.front(link, End::A).is_ok() || links.front(link, End::B).is_ok()
+}
+
+fn is_restless(router: &Router) -> bool
+    ensures { result ≡ is_restless router.now }
+{
+    router.due() || router.ripe() > 0
+}
+
+fn is_restless_at(routers: &[Router], router: u16) -> bool
+    ensures { result ≡ option_map_or is_restless (slice_get routers.now router) false }
+{
+    match routers.get(usize::from(router)) {
+        Some(found) => is_restless(found),
+        None => false,
+    }
+}

@@ -1,0 +1,133 @@
+-- What a router does next, by the tests of the code.
+use Rattle.std.specs.Prelude.{◌≡◌, ℕ, ◌+◌, suc, Bool, true, false, cond, not, List, [], ◌∷◌, map, length, Option, Some, None, is_some, is_ok, is_none, option_map, option_and_then, slice_get, find}
+use Rattle.std.specs.List.{range_with_len, position_from}
+use Rattle.std.specs.Option.{option_map_or, ok_or}
+use Rattle.std.proofs.Common.{refl, ap, ◌∙◌, arith}
+use Rattle.network_model.specs.declared.item.Held.{Held}
+use Rattle.network_model.specs.declared.item.Item.{Item}
+use Rattle.network_model.specs.declared.network.Place.{Place}
+use Rattle.network_model.specs.declared.step.Step.{Step}
+use Rattle.network_model.specs.declared.step.Step.TheVariants.{Deliver, Publish, Release}
+use Rattle.network_model.specs.declared.step.Refusal.{Refusal}
+use Rattle.network_model.specs.declared.step.Refusal.TheVariants.{UnknownRouter, UnknownLink, NothingToDeliver, NothingDue, NothingRipe}
+use Rattle.network_model.specs.World.{Link, Router, World, link_at, side}
+use Rattle.network_model.specs.Network.{first_cause}
+use Rattle.network_model.specs.Step.{is_due, ripe_front, front_at}
+use Rattle.network_model.specs.Turns.{is_lawful, next_step}
+use Rattle.link_fifo.specs.declared.refusal.LinkRefusal.{LinkRefusal}
+use Rattle.link_fifo.specs.Refusals.{front_of}
+use Rattle.world.specs.Waiting.{is_waiting, waiting_port}
+
+-- ---- which of a router's steps are lawful
+
+-- a release is where its gate has a ripe front
+release-lawful : (w : World) (i : ℕ) (r : Router) → slice_get w.routers i ≡ Some r → is_lawful w (Release i) ≡ is_some (ripe_front r)
+release-lawful w i r there =
+    ap (λ (o : Option Router). is_none (first_cause ((is_none o, UnknownRouter) ∷ (is_none (option_and_then ripe_front o), NothingRipe) ∷ []))) there
+    ∙ by_front (ripe_front r)
+  where
+    by_front : (o : Option Held) → is_none (first_cause ((is_none o, NothingRipe) ∷ [])) ≡ is_some o
+    by_front None = refl
+    by_front (Some h) = refl
+
+-- a publication is where it is due
+publish-lawful : (w : World) (i : ℕ) (r : Router) → slice_get w.routers i ≡ Some r → is_lawful w (Publish i) ≡ is_due r
+publish-lawful w i r there =
+    ap (λ (o : Option Router). is_none (first_cause ((is_none o, UnknownRouter) ∷ (not (option_map_or is_due o false), NothingDue) ∷ []))) there
+    ∙ by_due (is_due r)
+  where
+    by_due : (b : Bool) → is_none (first_cause ((not b, NothingDue) ∷ [])) ≡ b
+    by_due true = refl
+    by_due false = refl
+
+-- a delivery is where an item waits at the place of the port
+deliver-lawful : (w : World) (i q : ℕ) (r : Router) (ps : List Place) (p : Place) → slice_get w.routers i ≡ Some r → slice_get w.places i ≡ Some ps → slice_get ps q ≡ Some p
+    → is_lawful w (Deliver i q) ≡ is_waiting w.links p
+deliver-lawful w i q r ps p there placed port =
+    ap (λ (o : Option Router). is_none (first_cause ((is_none o, UnknownRouter) ∷ at_place (option_and_then (λ xs. slice_get xs q) (slice_get w.places i))))) there
+    ∙ ap (λ (o : Option (List Place)). is_none (first_cause (at_place (option_and_then (λ xs. slice_get xs q) o)))) placed
+    ∙ ap (λ (o : Option Place). is_none (first_cause (at_place o))) port
+    ∙ by_link (slice_get w.links p.link)
+  where
+    at_place : Option Place → List (Bool × Refusal)
+    at_place o =
+        (is_none (option_and_then (λ x. slice_get w.links x.link) o), UnknownLink)
+        ∷ (is_none (option_and_then (λ s. slice_get s.inbox 0) (option_and_then (λ x. option_map (side x.end) (slice_get w.links x.link)) o)), NothingToDeliver) ∷ []
+
+    by_front : (o : Option Item) → is_none (first_cause ((is_none o, NothingToDeliver) ∷ [])) ≡ is_ok (ok_or o LinkRefusal.NothingToDeliver)
+    by_front None = refl
+    by_front (Some x) = refl
+
+    by_link : (o : Option Link)
+        → is_none (first_cause ((is_none o, UnknownLink) ∷ (is_none (option_and_then (λ s. slice_get s.inbox 0) (option_map (side p.end) o)), NothingToDeliver) ∷ []))
+        ≡ is_ok (front_of p.end o)
+    by_link None = refl
+    by_link (Some k) = by_front (slice_get (side p.end k).inbox 0)
+
+-- ---- the first that is lawful
+
+-- where no element passes, none is found
+find-none : {A B : Type 0} (test : B → Bool) (f : A → B) (xs : List A) → ((x : A) → test (f x) ≡ false) → find test (map f xs) ≡ None
+find-none test f [] fails = refl
+find-none test f (x ∷ xs) fails = ap (λ b. cond b (Some (f x)) (find test (map f xs))) (fails x) ∙ find-none test f xs fails
+
+-- of the deliveries at ports from a on, the first that is lawful is that at the first place that passes
+first_delivery : (lawful : Step → Bool) (test : Place → Bool) (i a : ℕ) (ps : List Place) → ((q : ℕ) (p : Place) → slice_get ps q ≡ Some p → lawful (Deliver i (a + q)) ≡ test p)
+    → find lawful (map (λ q. Deliver i q) (range_with_len a (length ps))) ≡ option_map (λ q. Deliver i q) (position_from test a ps)
+first_delivery lawful test i a [] each = refl
+first_delivery lawful test i a (p ∷ ps) each =
+    let here : a ≡ a + 0 = omega arith in
+    ap (λ b. cond b (Some (Deliver i a)) later) (ap (λ (k : ℕ). lawful (Deliver i k)) here ∙ each 0 p refl)
+    ∙ by_test (test p) (first_delivery lawful test i (a + 1) ps (λ q x at. ap (λ (k : ℕ). lawful (Deliver i k)) (next_port q) ∙ each (suc q) x at))
+  where
+    later : Option Step
+    later = find lawful (map (λ q. Deliver i q) (range_with_len (a + 1) (length ps)))
+
+    next_port : (q : ℕ) → (a + 1) + q ≡ a + suc q
+    next_port q = omega arith
+
+    by_test : (b : Bool) → later ≡ option_map (λ q. Deliver i q) (position_from test (a + 1) ps)
+        → cond b (Some (Deliver i a)) later ≡ option_map (λ q. Deliver i q) (cond b (Some a) (position_from test (a + 1) ps))
+    by_test true rest = refl
+    by_test false rest = rest
+
+-- a router that is not there does nothing
+pub next_step-unknown : (w : World) (i : ℕ) → slice_get w.routers i ≡ None → next_step w i ≡ None
+next_step-unknown w i none =
+    ap (λ b. cond b (Some (Release i)) (cond (is_lawful w (Publish i)) (Some (Publish i)) (find (is_lawful w) ports))) (refused_with (is_none (option_and_then ripe_front (slice_get w.routers i)), NothingRipe) [])
+    ∙ ap (λ b. cond b (Some (Publish i)) (find (is_lawful w) ports)) (refused_with (not (option_map_or is_due (slice_get w.routers i) false), NothingDue) [])
+    ∙ find-none (is_lawful w) (λ q. Deliver i q) _ (λ q. refused_with (is_none (link_at w i q), UnknownLink) ((is_none (front_at w i q), NothingToDeliver) ∷ []))
+  where
+    ports : List Step
+    ports = map (λ q. Deliver i q) (range_with_len 0 (option_map_or (λ ps. length ps) (slice_get w.places i) 0))
+
+    refused_with : (c : Bool × Refusal) (cs : List (Bool × Refusal)) → is_none (first_cause ((is_none (slice_get w.routers i), UnknownRouter) ∷ c ∷ cs)) ≡ false
+    refused_with c cs = ap (λ (o : Option Router). is_none (first_cause ((is_none o, UnknownRouter) ∷ c ∷ cs))) none
+
+-- a router that is there releases where it can, else publishes where that is due, else takes an item from its lowest port that has one
+pub next_step-known : (w : World) (i : ℕ) (r : Router) → slice_get w.routers i ≡ Some r
+    → next_step w i ≡ cond (is_some (ripe_front r)) (Some (Release i)) (cond (is_due r) (Some (Publish i)) (option_map (λ q. Deliver i q) (waiting_port w i)))
+next_step-known w i r there =
+    ap (λ b. cond b (Some (Release i)) (cond (is_lawful w (Publish i)) (Some (Publish i)) (find (is_lawful w) (deliveries (slice_get w.places i))))) (release-lawful w i r there)
+    ∙ ap (λ b. cond (is_some (ripe_front r)) (Some (Release i)) (cond b (Some (Publish i)) (find (is_lawful w) (deliveries (slice_get w.places i))))) (publish-lawful w i r there)
+    ∙ ap (λ o. cond (is_some (ripe_front r)) (Some (Release i)) (cond (is_due r) (Some (Publish i)) o)) (by_places (slice_get w.places i) refl)
+  where
+    deliveries : Option (List Place) → List Step
+    deliveries o = map (λ q. Deliver i q) (range_with_len 0 (option_map_or (λ ps. length ps) o 0))
+
+    plain : (q : ℕ) → 0 + q ≡ q
+    plain q = omega arith
+
+    by_places : (o : Option (List Place)) → slice_get w.places i ≡ o
+        → find (is_lawful w) (deliveries o) ≡ option_map (λ q. Deliver i q) (option_and_then (position_from (is_waiting w.links) 0) o)
+    by_places None at = refl
+    by_places (Some ps) at =
+        first_delivery (is_lawful w) (is_waiting w.links) i 0 ps (λ q p port. ap (λ (k : ℕ). is_lawful w (Deliver i k)) (plain q) ∙ deliver-lawful w i q r ps p there at port)
+
+-- one that can neither release nor publish
+pub next_step-port : (w : World) (i : ℕ) (r : Router) → slice_get w.routers i ≡ Some r → is_some (ripe_front r) ≡ false → is_due r ≡ false
+    → next_step w i ≡ option_map (λ q. Deliver i q) (waiting_port w i)
+next_step-port w i r there front due =
+    next_step-known w i r there
+    ∙ ap (λ b. cond b (Some (Release i)) (cond (is_due r) (Some (Publish i)) (option_map (λ q. Deliver i q) (waiting_port w i)))) front
+    ∙ ap (λ b. cond b (Some (Publish i)) (option_map (λ q. Deliver i q) (waiting_port w i))) due
