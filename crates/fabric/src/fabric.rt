@@ -53,16 +53,21 @@ impl Fabric {
     pub fn open(alloc: Global, network: Network) -> Result<Fabric, Refusal>
         ensures ok { IfOk result (λ f. f ≡ opening_fabric network) }
         ensures err { IfErr result (λ e. e ≡ Refusal.NoMemory) }
+        ensures forwards { IfOk result ForwardsAsPublished }
+        ensures no_loop { IfOk result NeverMeetsTwice }
+        ensures least_cost { IfOk result LeadsAtLeastCost }
     {
         let world = WatchedWorld::open(alloc, &network)?;
         let images = opening_images(alloc, world.world())?;
         let journal = Vec::with_capacity(alloc, MOST_STEPS)?;
-        Ok(Fabric {
+        let fabric = Fabric {
             network,
             world,
             images,
             journal,
-        })
+        };
+        fabric.holds();
+        Ok(fabric)
     }
 
     /// The network that was opened.
