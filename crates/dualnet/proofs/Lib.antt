@@ -3,3 +3,4 @@ mod Whole
 mod Printed
 mod Doing
 mod Stops
+mod Running

@@ -1,5 +1,9 @@
 -- A text that a limit does not cut.
-use Rattle.std.proofs.Common.{◌≡◌, ℕ, ◌<◌, List, [], ◌∷◌, ◌++◌, length, take, zero, suc, Option, Some, None, IfSome, option_map, refl, ap, subst, ◌∙◌, arith}
+use Rattle.std.proofs.lemmas.List.{length-take}
+use Rattle.dualnet.specs.declared.fault.Cause.{Cause}
+use Rattle.dualnet.specs.declared.fault.Cause.TheVariants.{Memory, Unreadable, TooLarge, Document, Lines, Network, Refused, Journal, Unwritable}
+use Rattle.dualnet.specs.Faults.{Gives, CannotRead, IsUnread}
+use Rattle.std.proofs.Common.{◌≡◌, ℕ, ◌<◌, List, [], ◌∷◌, ◌++◌, length, take, zero, suc, Option, Some, None, IfSome, option_map, refl, ap, ◌∙◌, arith}
 
 -- what a limit does not reach is whole
 take_short : (n : ℕ) (xs : List ℕ) → length (take n xs) < n → take n xs ≡ xs
@@ -14,15 +18,28 @@ read_whole (Some xs) n old bs text nothing h lt e =
     let is : bs ≡ take n xs = h ∙ ap (λ t. t ++ take n xs) nothing in
     e ∙ is ∙ take_short n xs (rw (← is) lt)
 
--- what holds of every text holds of the whole
-pub read_any : (rem : Option (List ℕ)) (P : List ℕ → Type 0) → ((xs : List ℕ) → P xs) → IfSome rem P
-read_any None P holds = tt
-read_any (Some xs) P holds = holds xs
+-- what holds of all bytes holds of those that a reader gives
+pub any_bytes : (known : Option (List ℕ)) (P : List ℕ → Type 0) → ((xs : List ℕ) → P xs) → (bytes : List ℕ) × Gives known bytes × P bytes
+any_bytes None P holds = ([], tt, holds [])
+any_bytes (Some xs) P holds = (xs, refl, holds xs)
 
-pub read_other : (rem : Option (List ℕ)) (n : ℕ) (old bs : List ℕ) (P : List ℕ → Type 0) → old ≡ [] → IfSome (option_map (take n) rem) (λ xs. bs ≡ old ++ xs) → length bs < n
-    → P bs → IfSome rem P
-read_other None n old bs P nothing h lt e = tt
-read_other (Some xs) n old bs P nothing h lt e =
+-- a reader that gives more than was wanted
+pub read_longer : (rem : Option (List ℕ)) (n most : ℕ) (old bs : List ℕ) → old ≡ [] → IfSome (option_map (take n) rem) (λ xs. bs ≡ old ++ xs) → most < length bs
+    → (bytes : List ℕ) × Gives rem bytes × (most < length bytes)
+read_longer None n most old bs nothing h longer = (bs, tt, longer)
+read_longer (Some xs) n most old bs nothing h longer =
     let is : bs ≡ take n xs = h ∙ ap (λ t. t ++ take n xs) nothing in
-    let whole : bs ≡ xs = is ∙ take_short n xs (rw (← is) lt) in
-    subst P whole e
+    let same : length bs ≡ length (take n xs) = ap length is in
+    (xs, refl, omega (arith, longer, same, length-take n xs))
+
+-- a reader that fails gives no bytes that matter
+pub cannot_read : (cause : Cause) → CannotRead cause → (bytes : List ℕ) → IsUnread bytes cause
+cannot_read (Memory m) why bytes = tt
+cannot_read Unreadable why bytes = tt
+cannot_read TooLarge why bytes = absurd why
+cannot_read (Document fault) why bytes = absurd why
+cannot_read (Lines fault) why bytes = absurd why
+cannot_read (Network fault) why bytes = absurd why
+cannot_read (Refused refusal) why bytes = absurd why
+cannot_read (Journal fault) why bytes = absurd why
+cannot_read Unwritable why bytes = absurd why

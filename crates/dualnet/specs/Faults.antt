@@ -1,5 +1,5 @@
 -- The program's faults.
-use Rattle.std.specs.Prelude.{◌≡◌, ℕ, ◌<◌, ⊤, Bool, true, false, ◌||◌, if◌then◌else◌, IsTrue, IsUtf8, None, Some, length}
+use Rattle.std.specs.Prelude.{◌≡◌, ℕ, ◌<◌, ◌≤◌, ⊤, Bool, true, false, ◌||◌, if◌then◌else◌, IsTrue, IsUtf8, Option, None, Some, IfSome, length}
 use Rattle.scenario.specs.declared.fault.Fault.TheVariants.{BadToml as IsNoToml, NoMemory as NoMemoryForLists}
 use Rattle.script.specs.declared.fault.Fault.TheVariants.{NoMemory as NoMemoryForLines}
 use Rattle.script.specs.Words.{Text}
@@ -9,8 +9,9 @@ use Rattle.script.specs.declared.place.Located.{Located}
 use Rattle.network_model.specs.declared.network.NetworkFault.{NetworkFault}
 use Rattle.network_model.specs.declared.network.NetworkFault.TheVariants.{BadRouters, BadLink, TooManyLinks, BadOwner, NoMemory as NoMemoryForNetwork}
 use Rattle.network_model.specs.declared.step.Refusal.TheVariants.{NoMemory as NoMemoryForStep}
+use Rattle.journal.specs.declared.fault.JournalFault.TheVariants.{NoMemory as NoMemoryForJournal}
 use Rattle.dualnet.specs.declared.fault.Cause.{Cause}
-use Rattle.dualnet.specs.declared.fault.Cause.TheVariants.{Memory, Unreadable, TooLarge, Document, Lines, Network, Refused}
+use Rattle.dualnet.specs.declared.fault.Cause.TheVariants.{Memory, Unreadable, TooLarge, Document, Lines, Network, Refused, Journal, Unwritable}
 use Rattle.dualnet.specs.declared.fault.Fault.{Fault}
 
 -- ---- statuses
@@ -28,15 +29,19 @@ is_memory (Network NoMemoryForNetwork) = true
 is_memory (Network _) = false
 is_memory (Refused NoMemoryForStep) = true
 is_memory (Refused _) = false
+is_memory (Journal NoMemoryForJournal) = true
+is_memory (Journal _) = false
+is_memory Unwritable = false
 
--- whether the cause is that of a command that was refused
-abbrev pub is_refusal : Cause → Bool
-is_refusal (Refused _) = true
-is_refusal _ = false
+-- whether the cause came up after all input was read: a command was refused, or the journal could not be written
+abbrev pub comes_late : Cause → Bool
+comes_late (Refused _) = true
+comes_late Unwritable = true
+comes_late _ = false
 
--- the exit status of a program that stops for a cause: 2 where a command was refused or memory ran out, else 1
+-- the exit status of a program that stops for a cause: 2 where it came up after all input was read, or memory ran out, else 1
 abbrev pub status_of : Cause → ℕ
-status_of cause = if is_refusal cause || is_memory cause then 2 else 1
+status_of cause = if comes_late cause || is_memory cause then 2 else 1
 
 -- ---- places
 
@@ -71,10 +76,18 @@ pub record IsWantOfMemory (fault : Fault) : Type 0 where
 abbrev pub most_bytes : ℕ
 most_bytes = 4194304
 
--- why the bytes of a file are not read as a text; that a reader fails, or that memory runs out, can come anywhere
+-- the bytes are those that a reader has to give, where it is known which
+abbrev pub Gives : Option Text → Text → Type 0
+Gives known bytes = IfSome known (λ k. bytes ≡ k)
+
+-- why a file is not read, whatever it holds: its reader fails, or memory runs out
+abbrev pub CannotRead : Cause → Type 0
+CannotRead (Memory _) = ⊤
+CannotRead Unreadable = ⊤
+CannotRead _ = ⊥
+
+-- why the bytes of a file are not read as a text
 abbrev pub IsUnread : Text → Cause → Type 0
-IsUnread bytes (Memory _) = ⊤
-IsUnread bytes Unreadable = ⊤
 IsUnread bytes TooLarge = most_bytes < length bytes
-IsUnread bytes (Document IsNoToml) = ¬ (IsUtf8 bytes)
-IsUnread bytes _ = ⊥
+IsUnread bytes (Document IsNoToml) = (length bytes ≤ most_bytes) × ¬ (IsUtf8 bytes)
+IsUnread bytes cause = CannotRead cause

@@ -3,3 +3,4 @@ pub mod Settling
 pub mod Commands
 pub mod Scenarios
 pub mod Report
+pub mod Ends

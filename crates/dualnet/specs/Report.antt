@@ -62,3 +62,7 @@ state_text d number p (Some line) = machine_text d line
 -- a line on a router's machine for a prefix was printed
 abbrev pub PrintsMachine : Directory → ℕ → Router → Prefix → Option Text → Option Text → Type 0
 PrintsMachine d number r p old new = (line : Option MachineLine) × IsMachineLine number r p line × Appends old new (state_text d number p line ++ 10 ∷ [])
+
+-- something was printed, and what was there before stays
+abbrev pub Prints : Option Text → Option Text → Type 0
+Prints old new = (text : Text) × Appends old new text

@@ -17,7 +17,7 @@ use Rattle.network_model.specs.Network.{network_fault}
 use Rattle.world.specs.Parts.{network_of}
 use Rattle.fabric.specs.Fabric.{Fabric, opening_fabric}
 use Rattle.dualnet.specs.declared.fault.Fault.{Fault}
-use Rattle.dualnet.specs.declared.open.Opened.{Opened}
+use Rattle.dualnet.specs.declared.plan.Plan.{Plan}
 use Rattle.dualnet.specs.declared.fault.Cause.TheVariants.{Document as OfDocument}
 use Rattle.dualnet.specs.Faults.{unplaced, line_fault, opening_fault, most_bytes, IsUnread, IsWantOfMemory}
 use Rattle.dualnet.specs.Commands.{AreDone, StopsAtCommand}
@@ -60,9 +60,9 @@ IsFaultOf text fault =
 
 -- ---- runs
 
--- the network of what was read, open, with its names and its commands
-pub record IsOpeningOf (parts : Parts) (o : Opened) : Type 0 where
-  pub fabric : o.fabric ≡ opening_fabric (network_read parts)
+-- the network of what was read, with its names and its commands
+pub record IsPlanOf (parts : Parts) (o : Plan) : Type 0 where
+  pub network : o.network ≡ network_read parts
   pub directory : o.directory ≡ directory_of parts.names parts.links
   pub commands : o.commands.items ≡ parts.commands
 
@@ -80,15 +80,19 @@ pub record IsEndOf (bytes : Text) (f : Fabric) : Type 0 where
 
 -- the commands before one that is refused were done
 pub record StopsIn (bytes : Text) (fault : Fault) : Type 0 where
+  pub short : length bytes ≤ most_bytes
   pub parts : Parts
   pub scenario : IsScenario bytes parts
   pub fabric : Fabric
   pub stops : StopsAtCommand parts.commands (opening_fabric (network_read parts)) fabric fault
 
--- why a run of a file of these bytes stops: the file is not read, no network can be opened of its text, or a command is refused
-abbrev pub StopsFor : Text → Fault → Type 0
-StopsFor bytes fault =
+-- why no network can be opened of a file of these bytes: the file is not read, memory runs out, or its text is at fault
+abbrev pub StopsReading : Text → Fault → Type 0
+StopsReading bytes fault =
     ((fault.place ≡ None) × IsUnread bytes fault.cause)
     ⊎ IsWantOfMemory fault
     ⊎ ((length bytes ≤ most_bytes) × IsFaultOf bytes fault)
-    ⊎ StopsIn bytes fault
+
+-- why a run of a file of these bytes stops: no network can be opened of it, or a command is refused
+abbrev pub StopsFor : Text → Fault → Type 0
+StopsFor bytes fault = StopsReading bytes fault ⊎ StopsIn bytes fault

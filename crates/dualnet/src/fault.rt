@@ -1,9 +1,10 @@
 //! Why the program stops, and the status that it ends with.
 
 ghost use Rattle.std.specs.Prelude.{◌≡◌};
-ghost use Rattle.dualnet.specs.declared.fault.Cause.TheVariants.{Memory as OfMemory, Document as OfDocument, Refused as OfRefusal};
+ghost use Rattle.dualnet.specs.declared.fault.Cause.TheVariants.{Memory as OfMemory, Document as OfDocument, Refused as OfRefusal, Journal as OfJournal};
 ghost use Rattle.dualnet.specs.Faults.{status_of, unplaced, line_fault, opening_fault};
 
+use journal::JournalFault;
 use network_model::{NetworkFault, NoMemory, Refusal};
 use script::{Key, Located, Place};
 use std::fmt;
@@ -33,6 +34,12 @@ pub enum Cause {
     /// The network refused a command.
     #[error(transparent)]
     Refused(Refusal),
+    /// The text is no journal.
+    #[error(transparent)]
+    Journal(JournalFault),
+    /// The file of the journal could not be written.
+    #[error("49 Unwritable")]
+    Unwritable,
 }
 
 /// What is wrong, and where: it is displayed as `25 BadLink at links 0`, or without a place as
@@ -53,7 +60,9 @@ impl Fault {
             | Cause::Document(scenario::Fault::NoMemory)
             | Cause::Lines(script::Fault::NoMemory)
             | Cause::Network(NetworkFault::NoMemory)
-            | Cause::Refused(_) => 2,
+            | Cause::Journal(JournalFault::NoMemory)
+            | Cause::Refused(_)
+            | Cause::Unwritable => 2,
             _ => 1,
         }
     }
@@ -125,6 +134,14 @@ impl From<Refusal> for Fault {
 
     fn from(refusal: Refusal) -> Fault {
         Fault::from(Cause::Refused(refusal))
+    }
+}
+
+impl From<JournalFault> for Fault {
+    ghost from_gives = { λ fault e. e ≡ unplaced (OfJournal fault) };
+
+    fn from(fault: JournalFault) -> Fault {
+        Fault::from(Cause::Journal(fault))
     }
 }
 

@@ -1,56 +1,127 @@
-//! What the program does, over any reader and writers.
+//! What the program does, over any readers and writers.
 
-ghost use Rattle.std.specs.Prelude.{◌≡◌, ◌≢◌, ◌⊎◌, IfOk, IfErr, IfSome};
+ghost use Rattle.std.specs.Prelude.{◌≡◌, ◌⊎◌, IfOk, IfErr};
 ghost use Rattle.dualnet.specs.Faults.{status_of};
-ghost use Rattle.dualnet.specs.Scenarios.{IsEndOf, StopsFor};
+ghost use Rattle.dualnet.specs.Scenarios.{StopsFor, StopsReading};
+ghost use Rattle.dualnet.specs.Ends.{status_at, Ends, Stops, OfBytes, IsChecked, IsRunToEnd};
 
 use crate::commands::do_commands;
 use crate::fault::Fault;
-use crate::open::{Opened, open};
+use crate::keep::keep;
+use crate::plan::{Plan, read_plan};
 use crate::read::read_text;
+use crate::replay::replay;
 use fabric::Fabric;
 use std::alloc::Global;
 use std::io::{Read, Write};
 use words::Words;
 
-/// Does what the words ask for, and answers the exit status. A fault is a line on `err`. A write that
-/// fails is lost, and changes nothing else.
-pub fn play<R: Read + Drop, W: Write, E: Write>(
+/// How a command ends that has met no fault.
+#[derive(Clone, Copy, Debug, PartialEq, Eq)]
+pub enum End {
+    /// It did what it was asked for.
+    Done,
+    /// A step of a journal was refused.
+    Refused,
+    /// The report of a journal is not that of the network.
+    Differs,
+}
+
+impl End {
+    /// The exit status of the program.
+    fn status(self) -> u8
+        ensures { result ≡ status_at self }
+    {
+        match self {
+            End::Done => 0,
+            End::Refused => 2,
+            End::Differs => 3,
+        }
+    }
+}
+
+/// Does what the words ask for, and answers the exit status. Only a replay reads `journal`. A fault is
+/// a line on `err`. A write to `out` or `err` that fails is lost, and changes nothing else. Where a run
+/// ends with status 0, its journal's text is added to `kept`.
+pub fn play<R: Read + Drop, J: Read + Drop, W: Write, E: Write>(
     alloc: Global,
     words: &Words<'_>,
     scenario: R,
+    journal: J,
     out: &mut W,
     err: &mut E,
+    kept: &mut Vec<u8>,
 ) -> u8
-    ensures statuses { (result ≡ 0) ⊎ (result ≡ 1) ⊎ (result ≡ 2) }
-    ensures done { result ≡ 0 → IfSome (R.remaining scenario) (λ bytes. (f : _) × IsEndOf bytes f) }
-    ensures stopped { result ≢ 0 → (fault : Fault) × (result ≡ status_of fault.cause)
-        × IfSome (R.remaining scenario) (λ bytes. StopsFor bytes fault) }
+    ensures { ((end : End) × (result ≡ status_at end)
+        × Ends words.now (R.remaining scenario) (J.remaining journal) kept.old.items kept.new.items end)
+        ⊎ ((fault : Fault) × (result ≡ status_of fault.cause)
+        × Stops words.now (R.remaining scenario) (J.remaining journal) fault) }
 {
-    let done = match *words {
-        Words::Run { file: _ } => run(alloc, scenario, out),
+    let end = match *words {
+        Words::Check { file: _ } => check(alloc, scenario, out),
+        Words::Run {
+            file: _,
+            threads: _,
+            workers: _,
+            journal: _,
+        } => run(alloc, scenario, out, kept),
+        Words::Replay {
+            file: _,
+            journal: _,
+        } => replay(alloc, scenario, journal, out),
     };
-    match done {
-        Ok(_) => 0,
+    match end {
+        Ok(end) => end.status(),
         Err(fault) => refuse(fault, err),
     }
 }
 
-// Opens the network of a scenario, does its commands, and says how many steps were done. It answers
-// the network as they left it.
-fn run<R: Read + Drop, W: Write>(alloc: Global, scenario: R, out: &mut W) -> Result<Fabric, Fault>
-    ensures ran { IfOk result (λ f. IfSome (R.remaining scenario) (λ bytes. IsEndOf bytes f)) }
-    ensures fault { IfErr result (λ e. IfSome (R.remaining scenario) (λ bytes. StopsFor bytes e)) }
+// Reads a scenario, and says what it holds.
+fn check<R: Read + Drop, W: Write>(alloc: Global, scenario: R, out: &mut W) -> Result<End, Fault>
+    ensures ok { IfOk result (λ end. (end ≡ End.Done)
+        × OfBytes (R.remaining scenario) IsChecked) }
+    ensures fault { IfErr result (λ e. OfBytes (R.remaining scenario) (λ bytes. StopsReading bytes e)) }
 {
     let text = read_text(alloc, scenario)?;
-    let Opened {
-        mut fabric,
+    let Plan {
+        network,
+        directory: _,
+        commands,
+    } = read_plan(alloc, text.as_str())?;
+    let routers = network.routers();
+    let links = network.links().len();
+    let prefixes = network.owners().len();
+    let commands = commands.len();
+    let _ = writeln!(
+        out,
+        "ok: {routers} routers, {links} links, {prefixes} prefixes, {commands} commands"
+    );
+    Ok(End::Done)
+}
+
+// Opens the network of a scenario, does its commands, says how many steps were done, and keeps their
+// journal.
+fn run<R: Read + Drop, W: Write>(
+    alloc: Global,
+    scenario: R,
+    out: &mut W,
+    kept: &mut Vec<u8>,
+) -> Result<End, Fault>
+    ensures ok { IfOk result (λ end. (end ≡ End.Done)
+        × OfBytes (R.remaining scenario) (λ bytes. IsRunToEnd bytes kept.old.items kept.new.items)) }
+    ensures fault { IfErr result (λ e. OfBytes (R.remaining scenario) (λ bytes. StopsFor bytes e)) }
+{
+    let text = read_text(alloc, scenario)?;
+    let Plan {
+        network,
         directory,
         commands,
-    } = open(alloc, text.as_str())?;
+    } = read_plan(alloc, text.as_str())?;
+    let mut fabric = Fabric::open(alloc, network)?;
     do_commands(&mut fabric, &directory, &commands, out)?;
     let _ = writeln!(out, "done: {} steps", fabric.journal().len());
-    Ok(fabric)
+    keep(&fabric, &directory, kept)?;
+    Ok(End::Done)
 }
 
 /// Says on `err` why the program stops, and answers its exit status.

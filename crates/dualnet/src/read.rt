@@ -1,9 +1,9 @@
-//! Reads the file of a scenario.
+//! Reads the files of a scenario and of a journal.
 
-ghost use Rattle.std.specs.Prelude.{◌≡◌, ◌≤◌, ◌↔◌, IsTrue, IfOk, IfErr, IfSome, length, string_bytes};
+ghost use Rattle.std.specs.Prelude.{◌≡◌, ◌≤◌, ◌↔◌, IsTrue, IfOk, IfErr, length, string_bytes};
 ghost use Rattle.std.specs.IoError.{error_kind};
 ghost use Rattle.script.specs.Words.{Text};
-ghost use Rattle.dualnet.specs.Faults.{IsUnread, is_memory};
+ghost use Rattle.dualnet.specs.Faults.{Gives, IsUnread, CannotRead, is_memory};
 
 use crate::fault::Cause;
 use network_model::NoMemory;
@@ -17,9 +17,9 @@ const MOST_BYTES: usize = 4_194_304;
 
 /// The whole text that the reader gives. It reads one byte more than a text may have, at most.
 pub fn read_text<R: Read + Drop>(alloc: Global, reader: R) -> Result<String, Cause>
-    ensures whole { IfOk result (λ text. IfSome (R.remaining reader) (λ bytes. string_bytes text ≡ bytes)) }
+    ensures whole { IfOk result (λ text. Gives (R.remaining reader) (string_bytes text)) }
     ensures short { IfOk result (λ text. length (string_bytes text) ≤ MOST_BYTES) }
-    ensures fault { IfErr result (λ cause. IfSome (R.remaining reader) (λ bytes. IsUnread bytes cause)) }
+    ensures fault { IfErr result (λ cause. (bytes : Text) × Gives (R.remaining reader) bytes × IsUnread bytes cause) }
 {
     let mut bytes = Vec::new(alloc);
     let mut reader = reader.take(MOST_BYTES as u64 + 1);
@@ -35,9 +35,22 @@ pub fn read_text<R: Read + Drop>(alloc: Global, reader: R) -> Result<String, Cau
     }
 }
 
+/// All bytes that the reader gives.
+pub fn read_bytes<R: Read + Drop>(alloc: Global, reader: R) -> Result<Vec<u8>, Cause>
+    ensures whole { IfOk result (λ v. Gives (R.remaining reader) v.items) }
+    ensures fault { IfErr result CannotRead }
+{
+    let mut bytes = Vec::new(alloc);
+    let mut reader = reader;
+    match reader.read_to_end(&mut bytes) {
+        Ok(_) => Ok(bytes),
+        Err(error) => Err(read_failure(&error)),
+    }
+}
+
 // Why a reader failed.
 fn read_failure(error: &io::Error) -> Cause
-    ensures unread { (bytes : Text) → IsUnread bytes result }
+    ensures unread { CannotRead result }
     ensures memory { IsTrue (is_memory result) ↔ (error_kind error.now ≡ ErrorKind.OutOfMemory) }
 {
     match error.kind() {

@@ -2,7 +2,7 @@
 
 ghost use Rattle.std.specs.Prelude.{◌≡◌, ◌<◌, Err, IsOk, IfSome, OnOk, OnErr, MatchOption, length, slice_get};
 ghost use Rattle.dualnet.specs.Commands.{unknown_router};
-ghost use Rattle.dualnet.specs.Report.{link_line as line_of_link, router_line as line_of_router, IsMachineLine, IsOriginNumber, PrintsMachine};
+ghost use Rattle.dualnet.specs.Report.{link_line as line_of_link, router_line as line_of_router, IsMachineLine, IsOriginNumber, Prints, PrintsMachine};
 
 use dual_machine::{Machine, Mode};
 use fabric::{Fabric, Refusal};
@@ -36,18 +36,18 @@ pub fn print_state<W: Write>(
 
 /// Prints each link, and each router with its machines in the order of their prefixes, a line each, up
 /// to the first write that fails.
-pub fn print_report<W: Write>(
-    fabric: &Fabric,
-    directory: &Directory,
-    out: &mut W,
-) -> io::Result<()> {
+pub fn print_report<W: Write>(fabric: &Fabric, directory: &Directory, out: &mut W) -> io::Result<()>
+    ensures { OnOk result (Prints (W.contents out.old) (W.contents out.new)) }
+{
     let world = fabric.world();
     print_links(directory, world.links(), out)?;
     print_routers(directory, world.routers(), out)
 }
 
 // Prints each link. A network has fewer than 65535.
-fn print_links<W: Write>(directory: &Directory, links: &Links, out: &mut W) -> io::Result<()> {
+fn print_links<W: Write>(directory: &Directory, links: &Links, out: &mut W) -> io::Result<()>
+    ensures { OnOk result (Prints (W.contents out.old) (W.contents out.new)) }
+{
     let count = u16::try_from(links.len()).unwrap_or(u16::MAX);
     for link in 0..count {
         writeln!(out, "{}", directory.link(link_line(links, link)))?;
@@ -56,11 +56,9 @@ fn print_links<W: Write>(directory: &Directory, links: &Links, out: &mut W) -> i
 }
 
 // Prints each router, with its machines. A network has fewer than 65535 routers.
-fn print_routers<W: Write>(
-    directory: &Directory,
-    routers: &[Router],
-    out: &mut W,
-) -> io::Result<()> {
+fn print_routers<W: Write>(directory: &Directory, routers: &[Router], out: &mut W) -> io::Result<()>
+    ensures { OnOk result (Prints (W.contents out.old) (W.contents out.new)) }
+{
     let count = u16::try_from(routers.len()).unwrap_or(u16::MAX);
     for number in 0..count {
         print_router(directory, number, &routers[usize::from(number)], out)?;
@@ -74,7 +72,9 @@ fn print_router<W: Write>(
     number: u16,
     router: &Router,
     out: &mut W,
-) -> io::Result<()> {
+) -> io::Result<()>
+    ensures { OnOk result (Prints (W.contents out.old) (W.contents out.new)) }
+{
     writeln!(out, "{}", directory.router(router_line(number, router)))?;
     for (prefix, _) in router.table().rows() {
         print_machine(directory, number, router, prefix, out)?;

@@ -1,5 +1,6 @@
 //! Runs of whole scenarios.
 
+mod journals;
 mod settling;
 
 use crate::files::Source;
@@ -10,13 +11,25 @@ use std::io::{Read, Write};
 use std::test::Fail;
 use words::Words;
 
-// What a run gave.
+// What the program gave.
 #[derive(Drop)]
 struct Outcome {
     status: u8,
     out: String,
     err: String,
+    kept: String,
 }
+
+const CHECK: Words<'static> = Words::Check {
+    file: "scenario.toml",
+};
+
+const RUN: Words<'static> = Words::Run {
+    file: "scenario.toml",
+    threads: 1,
+    workers: 1,
+    journal: None,
+};
 
 fn text(bytes: Vec<u8>) -> Result<String, Fail> {
     match String::from_utf8(bytes) {
@@ -25,26 +38,41 @@ fn text(bytes: Vec<u8>) -> Result<String, Fail> {
     }
 }
 
-fn played<R: Read + Drop>(alloc: Global, scenario: R) -> Result<Outcome, Fail> {
-    let words = Words::Run {
-        file: "scenario.toml",
-    };
+fn played<R: Read + Drop, J: Read + Drop>(
+    alloc: Global,
+    words: &Words<'_>,
+    scenario: R,
+    journal: J,
+) -> Result<Outcome, Fail> {
     let mut out = Vec::new(alloc);
     let mut err = Vec::new(alloc);
-    let status = play(alloc, &words, scenario, &mut out, &mut err);
+    let mut kept = Vec::new(alloc);
+    let status = play(
+        alloc, words, scenario, journal, &mut out, &mut err, &mut kept,
+    );
     let out = text(out)?;
     let err = text(err)?;
-    Ok(Outcome { status, out, err })
+    let kept = text(kept)?;
+    Ok(Outcome {
+        status,
+        out,
+        err,
+        kept,
+    })
 }
 
-// Writes one list of a scenario; its lines stand between bars, and an empty text has none.
+// Runs a scenario, or checks it.
+fn asked<R: Read + Drop>(alloc: Global, words: &Words<'_>, scenario: R) -> Result<Outcome, Fail> {
+    let missing: Source<io::Empty> = Source::Missing;
+    played(alloc, words, scenario, missing)
+}
+
+// Writes one list of a scenario; a bar ends each line, and the last may end without one.
 fn list(into: &mut String, key: &str, lines: &str) -> Result<(), AllocError> {
     into.push_str(key)?;
     into.push_str(" = [")?;
-    if !lines.is_empty() {
-        for line in lines.split('|') {
-            write!(into, "\"{line}\", ")?;
-        }
+    for line in lines.split_terminator('|') {
+        write!(into, "\"{line}\", ")?;
     }
     into.push_str("]\n")
 }
@@ -72,7 +100,7 @@ fn run(
     script: &str,
 ) -> Result<Outcome, Fail> {
     let text = scenario(alloc, routers, links, prefixes, script)?;
-    played(alloc, text.as_bytes())
+    asked(alloc, &RUN, text.as_bytes())
 }
 
 // The output and the status of scripts that come to their end.
@@ -176,10 +204,12 @@ fn refuses_texts(rt: HostRuntime) -> Result<(), Fail> {
             "dualnet: 41 BadKey\n",
         ),
     ] {
-        let got = played(rt.alloc(), text)?;
-        assert_eq!(rt; got.err.as_str(), want);
-        assert_eq!(rt; got.out.as_str(), "");
-        assert_eq!(rt; got.status, 1);
+        for words in [&CHECK, &RUN] {
+            let got = asked(rt.alloc(), words, text)?;
+            assert_eq!(rt; got.err.as_str(), want);
+            assert_eq!(rt; got.out.as_str(), "");
+            assert_eq!(rt; got.status, 1);
+        }
     }
     Ok(())
 }
@@ -217,7 +247,14 @@ a|b;;10.0.0.0/8 a|10.0.0.0/8 b;;27 BadOwner at prefixes 1
 a;;;fly a;45 BadCommand at script 0
 a;;;table a|table z;45 BadCommand at script 1
 a|b|c;a b 1 1;;up a c;45 BadCommand at script 0
-a;;;lookup a 10.0.0.256;2 BadAddress at script 0";
+a;;;lookup a 10.0.0.256;2 BadAddress at script 0
+a|b;a b 5 5;10.0.0.0/8 a;up a  b;45 BadCommand at script 0
+a|b;a b 5 5;10.0.0.0/8 a;try settle;45 BadCommand at script 0
+a|b;a b 5 5;10.0.0.0/8 a;cost a b 0;5 BadCost at script 0
+a|b;a b 5 5;10.0.0.0/8 a;cost a b 05;45 BadCommand at script 0
+a|b;a b 5 5;10.0.0.0/8 a;state b 10.0.0.0/9;45 BadCommand at script 0
+a|b;a b 5 5;10.0.0.0/8 a;state b 10.0.0.1/8;4 HostBits at script 0
+a|b;a b 5 5;10.0.0.0/8 a;trace a 10.0.0.1;45 BadCommand at script 0";
 
 // Scenarios with several faults, of which the first is named: of a list's first line, of a list before
 // the next, and in a line the text's before the network's.
@@ -247,13 +284,100 @@ fn refuses_scenarios(rt: HostRuntime) -> Result<(), Fail> {
     for rows in [FAULTS, FIRST_FAULTS] {
         for row in rows.split('\n') {
             let (routers, links, prefixes, script, fault) = parts(row).ok_or("no row")?;
-            let got = run(rt.alloc(), routers, links, prefixes, script)?;
             let line = format!(in rt.alloc(); "dualnet: {fault}\n")?;
-            assert_eq!(rt; got.err.as_str(), line.as_str());
-            assert_eq!(rt; got.out.as_str(), "");
-            assert_eq!(rt; got.status, 1, "at {row}");
+            let text = scenario(rt.alloc(), routers, links, prefixes, script)?;
+            for words in [&CHECK, &RUN] {
+                let got = asked(rt.alloc(), words, text.as_bytes())?;
+                assert_eq!(rt; got.err.as_str(), line.as_str());
+                assert_eq!(rt; got.out.as_str(), "");
+                assert_eq!(rt; got.kept.as_str(), "");
+                assert_eq!(rt; got.status, 1, "at {row}");
+            }
         }
     }
+    Ok(())
+}
+
+// What a scenario holds.
+#[test]
+fn checks(rt: HostRuntime) -> Result<(), Fail> {
+    for (links, prefixes, script, want) in [
+        (
+            "a b 65535 1",
+            "",
+            "",
+            "ok: 2 routers, 1 links, 0 prefixes, 0 commands\n",
+        ),
+        (
+            "",
+            "10.0.0.0/8 a|0.0.0.0/0 b",
+            "publish a|up a b|report",
+            "dualnet: 45 BadCommand at script 1\n",
+        ),
+        (
+            "a b 5 5",
+            "10.0.0.0/8 a|0.0.0.0/0 b",
+            "publish a|up a b|report",
+            "ok: 2 routers, 1 links, 2 prefixes, 3 commands\n",
+        ),
+    ] {
+        let text = scenario(rt.alloc(), "a|b", links, prefixes, script)?;
+        let got = asked(rt.alloc(), &CHECK, text.as_bytes())?;
+        let (line, other) = match got.status {
+            0 => (got.out.as_str(), got.err.as_str()),
+            _ => (got.err.as_str(), got.out.as_str()),
+        };
+        assert_eq!(rt; line, want);
+        assert_eq!(rt; other, "");
+        assert_eq!(rt; got.kept.as_str(), "");
+    }
+    Ok(())
+}
+
+// As many routers, links and prefixes as a network can have: all links come up, each router takes the
+// notices of its links, publishes, and releases a message.
+#[test]
+fn runs_the_largest_network(rt: HostRuntime) -> Result<(), Fail> {
+    let alloc = rt.alloc();
+    let mut routers = String::new(alloc);
+    let mut links = String::new(alloc);
+    let mut prefixes = String::new(alloc);
+    let mut script = String::new(alloc);
+    for i in 0..256u32 {
+        write!(routers, "r{i}|")?;
+        for k in 1..5u32 {
+            let j = (i + k) % 256;
+            write!(links, "r{i} r{j} 1 1|")?;
+            write!(script, "up r{i} r{j}|deliver r{i} r{j}|deliver r{j} r{i}|")?;
+        }
+        for k in 0..16u32 {
+            write!(prefixes, "10.{i}.{k}.0/24 r{i}|")?;
+        }
+    }
+    for i in 0..256u32 {
+        write!(script, "publish r{i}|release r{i}|")?;
+    }
+    let got = run(
+        alloc,
+        routers.as_str(),
+        links.as_str(),
+        prefixes.as_str(),
+        script.as_str(),
+    )?;
+    assert_eq!(rt; got.err.as_str(), "");
+    assert_eq!(rt; got.out.as_str(), "done: 3584 steps\n");
+    let text = scenario(
+        alloc,
+        routers.as_str(),
+        links.as_str(),
+        prefixes.as_str(),
+        "",
+    )?;
+    let got = asked(alloc, &CHECK, text.as_bytes())?;
+    assert_eq!(rt;
+        got.out.as_str(),
+        "ok: 256 routers, 1024 links, 4096 prefixes, 0 commands\n"
+    );
     Ok(())
 }
 
@@ -310,20 +434,25 @@ impl Read for Broken {
 fn reads_files(rt: HostRuntime) -> Result<(), Fail> {
     let alloc = rt.alloc();
     let missing: Source<io::Empty> = Source::Missing;
-    let got = played(alloc, missing)?;
+    let got = asked(alloc, &CHECK, missing)?;
     assert_eq!(rt; got.err.as_str(), "dualnet: 47 Unreadable\n");
     assert_eq!(rt; got.status, 1);
-    let got = played(alloc, Broken { given: false })?;
+    let got = asked(alloc, &RUN, Broken { given: false })?;
     assert_eq!(rt; got.err.as_str(), "dualnet: 47 Unreadable\n");
     assert_eq!(rt; got.status, 1);
     let text = scenario(alloc, "a", "", "", "lookup a 0.0.0.0")?;
     let spaces = 4_194_304u64.saturating_sub(text.len() as u64);
-    let got = played(alloc, text.as_bytes().chain(io::repeat(b'\n').take(spaces)))?;
+    let got = asked(
+        alloc,
+        &RUN,
+        text.as_bytes().chain(io::repeat(b'\n').take(spaces)),
+    )?;
     assert_eq!(rt; got.out.as_str(), "lookup a 0.0.0.0: none\ndone: 0 steps\n");
     assert_eq!(rt; got.err.as_str(), "");
     assert_eq!(rt; got.status, 0);
-    let got = played(
+    let got = asked(
         alloc,
+        &CHECK,
         text.as_bytes().chain(io::repeat(b'\n').take(spaces + 1)),
     )?;
     assert_eq!(rt; got.err.as_str(), "dualnet: 46 TooLarge\n");
@@ -349,16 +478,23 @@ impl Write for Closed {
 #[test]
 fn loses_failed_writes(rt: HostRuntime) -> Result<(), Fail> {
     let alloc = rt.alloc();
-    let words = Words::Run {
-        file: "scenario.toml",
-    };
     for (script, status) in [
         ("table a|lookup a 0.0.0.0", 0),
         ("table a|publish a", 2),
         ("x", 1),
     ] {
         let text = scenario(alloc, "a", "", "0.0.0.0/0 a", script)?;
-        let got = play(alloc, &words, text.as_bytes(), &mut Closed, &mut Closed);
+        let missing: Source<io::Empty> = Source::Missing;
+        let mut kept = Vec::new(alloc);
+        let got = play(
+            alloc,
+            &RUN,
+            text.as_bytes(),
+            missing,
+            &mut Closed,
+            &mut Closed,
+            &mut kept,
+        );
         assert_eq!(rt; got, status, "at {script}");
     }
     Ok(())

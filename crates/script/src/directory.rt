@@ -90,8 +90,8 @@ impl Directory {
         }
     }
 
-    // The name of a router, or `?` where there is no such router.
-    pub(crate) fn name(&self, router: Option<u16>) -> &str
+    /// The name of a router, or `?` where there is no such router.
+    pub fn name(&self, router: Option<u16>) -> &str
         ensures { result.now ≡ name_text self.now router }
     {
         match router {

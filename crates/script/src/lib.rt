@@ -22,3 +22,4 @@ pub use lines::{Line, LinkLine, MachineLine, RouterLine};
 pub use names::Names;
 pub use place::{Key, Located, Place};
 pub use reading::{Reading, Script, read_script};
+pub use step::parse_step;

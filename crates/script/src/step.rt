@@ -7,7 +7,7 @@ ghost use Rattle.script.specs.Commands.{joins as joins_both, link_between as fir
 
 use crate::fault::Fault;
 use crate::names::Names;
-use crate::words::{three_words, two_words};
+use crate::words::{first_word, three_words, two_words};
 use decimal_text::read_number;
 use metric::Cost;
 use network_model::{LinkSpec, Step};
@@ -22,8 +22,17 @@ struct Way {
     link: u16,
 }
 
-/// The step that a verb and its operands ask for: `up A B`, `down A B`, `cost A B C`, `deliver A B`,
-/// `publish A` or `release A`. A `BadCommand` comes before a `BadCost`.
+/// The step that a line of a script or of a journal says: `up A B`, `down A B`, `cost A B C`,
+/// `deliver A B`, `publish A` or `release A`. A `BadCommand` comes before a `BadCost`.
+pub fn parse_step(names: &Names, links: &[LinkSpec], line: &str) -> Result<Step, Fault>
+    ensures ok { IfOk result (AsksStep names.now links.now (words_of line.now)) }
+    ensures err { IfErr result (AsksNoStep names.now links.now (words_of line.now)) }
+{
+    let (verb, operands) = first_word(line).ok_or(Fault::BadCommand)?;
+    read_step(names, links, verb, operands)
+}
+
+/// The step that a verb and its operands ask for.
 pub(crate) fn read_step(
     names: &Names,
     links: &[LinkSpec],

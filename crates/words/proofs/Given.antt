@@ -1,14 +1,87 @@
--- From the matches to what they ask for.
-use Rattle.std.proofs.Common.{◌≡◌, Option, Some, None, IfNone, option_map, Bor, sym, ap, ◌∙◌}
-use Rattle.clap.specs.Words.{Text, first_of, first_value, rows_of}
+-- From the matches of one command to what they ask for.
+use Rattle.std.proofs.Common.{◌≡◌, ◌≤◌, ◌⊎◌, ℕ, List, Option, Some, None, Result, Ok, Err, IfNone, option_map, Bor, inl, inr, refl, sym, ap, subst, ◌∙◌, codes, arith}
+use Rattle.std.specs.Str.Parse.{ParsesUnsigned}
+use Rattle.clap.specs.Words.{Row, Text, first_of, first_value, one_text, rows_of}
+use Rattle.clap.specs.Matches.{ReadsOne}
 use Rattle.clap.specs.declared.parser.matches.Found.{Found}
-use Rattle.clap.proofs.WalkLemmas.{first_value-rows}
+use Rattle.clap.proofs.WalkLemmas.{first_value-rows, one_text-rows}
+use Rattle.words.specs.Asked.{HasNumber, IsCheck, IsReplay, IsRun}
+use Rattle.words.specs.declared.words.Words.{Words}
+use Rattle.words.specs.declared.words.Words.TheVariants.{Check, Run, Replay}
 
--- the text that a look-up gave is the first of its rows
+-- a look-up gives the first text of its rows
+pub text_given : (r : Option (Bor Text)) (f : Found) (id : Text) → option_map (λ s. s.now) r ≡ first_value f id → first_of id (rows_of f) ≡ option_map (λ s. s.now) r
+text_given r f id e = sym (first_value-rows f id) ∙ sym e
+
 pub some_given : (r : Option (Bor Text)) (f : Found) (id : Text) (s : Bor Text) → option_map (λ s. s.now) r ≡ first_value f id → r ≡ Some s → first_of id (rows_of f) ≡ Some s.now
-some_given r f id s e is = sym (first_value-rows f id) ∙ sym e ∙ ap (option_map (λ t. t.now)) is
+some_given r f id s e is = text_given r f id e ∙ ap (option_map (λ t. t.now)) is
 
--- where it gave none, there is none
-pub none_given : {A : Type 0} (o : Option A) (r : Option (Bor Text)) (f : Found) (id : Text) → o ≡ None → option_map (λ s. s.now) r ≡ first_value f id → r ≡ None → IfNone o (first_of id (rows_of f) ≡ None)
-none_given None r f id is e none = sym (first_value-rows f id) ∙ sym e ∙ ap (option_map (λ t. t.now)) none
-none_given (Some x) r f id is e none = tt
+pub none_given : (r : Option (Bor Text)) (f : Found) (id : Text) → option_map (λ s. s.now) r ≡ first_value f id → r ≡ None → first_of id (rows_of f) ≡ None
+none_given r f id e is = text_given r f id e ∙ ap (option_map (λ t. t.now)) is
+
+pub if_none : {A : Type 0} (o : Option A) (P : Type 0) → P → IfNone o P
+if_none None P p = p
+if_none (Some x) P p = tt
+
+-- ---- numbers
+
+module _ {E : Type 0} (gives : Text → Result ℕ E → Type 0) (parses : (t : Text) (x : Result ℕ E) → gives t x → ParsesUnsigned 8 10 t x) (f : Found) (id : Text) where
+  -- the text that was read, and that the number is its value
+  pub number_read : (r : Option ℕ) (n : ℕ) → (one_text f id ≡ None → r ≡ None) → ((t : Text) → one_text f id ≡ Some t → ReadsOne gives t r)
+      → r ≡ Some n → 1 ≤ n → n ≤ 16 → HasNumber (rows_of f) id n
+  number_read r n none value is low high = go (one_text f id) refl
+    where
+      go : (o : Option Text) → one_text f id ≡ o → HasNumber (rows_of f) id n
+      go None e =
+          let bad : Some n ≡ None = sym is ∙ none e in
+          cc
+      go (Some t) e =
+          let got : gives t (Ok n) = subst (λ (o : Option ℕ). ReadsOne gives t o) is (value t e) in
+          let parsed = parses t (Ok n) got in
+          (t, sym (one_text-rows f id) ∙ e, (parsed.0.0, parsed.1), low, high)
+
+  -- where none was read, there is none
+  pub no_number : (r : Option ℕ) → ((t : Text) → one_text f id ≡ Some t → ReadsOne gives t r) → r ≡ None → (n : ℕ) → HasNumber (rows_of f) id n → ⊥
+  no_number r value is n h =
+      let failed : ReadsOne gives h.0 None = subst (λ (o : Option ℕ). ReadsOne gives h.0 o) is (value h.0 (one_text-rows f id ∙ h.1)) in
+      parses h.0 (Err failed.0) failed.1 (h.2.0, omega (arith, h.2.1, h.4))
+
+  -- there is no other than the one that was read
+  pub same_number : (r : Option ℕ) (m : ℕ) → ((t : Text) → one_text f id ≡ Some t → ReadsOne gives t r) → r ≡ Some m → (n : ℕ) → HasNumber (rows_of f) id n → m ≡ n
+  same_number r m value is n h =
+      let got : gives h.0 (Ok m) = subst (λ (o : Option ℕ). ReadsOne gives h.0 o) is (value h.0 (one_text-rows f id ∙ h.1)) in
+      (parses h.0 (Ok m) got).1 ∙ sym h.2.1
+
+-- ---- matches that ask for nothing
+
+pub no_check : (rows : List Row) → first_of (codes "file") rows ≡ None → (w : Words) → IsCheck rows w → ⊥
+no_check rows none (Check f) h = cc
+no_check rows none (Run f t k j) h = h
+no_check rows none (Replay f j) h = h
+
+pub no_run : (rows : List Row) → first_of (codes "file") rows ≡ None → (w : Words) → IsRun rows w → ⊥
+no_run rows none (Check f) h = h
+no_run rows none (Run f t k j) h =
+    let there = h.0 in
+    cc
+no_run rows none (Replay f j) h = h
+
+pub no_threads : (rows : List Row) → ((n : ℕ) → HasNumber rows (codes "threads") n → ⊥) → (w : Words) → IsRun rows w → ⊥
+no_threads rows none (Check f) h = h
+no_threads rows none (Run f t k j) h = none t h.1
+no_threads rows none (Replay f j) h = h
+
+pub no_workers : (rows : List Row) → ((n : ℕ) → HasNumber rows (codes "workers") n → ⊥) → (w : Words) → IsRun rows w → ⊥
+no_workers rows none (Check f) h = h
+no_workers rows none (Run f t k j) h = none k h.2
+no_workers rows none (Replay f j) h = h
+
+pub no_replay : (rows : List Row) → (first_of (codes "file") rows ≡ None) ⊎ (first_of (codes "journal") rows ≡ None) → (w : Words) → IsReplay rows w → ⊥
+no_replay rows none (Check f) h = h
+no_replay rows none (Run f t k j) h = h
+no_replay rows (inl none) (Replay f j) h =
+    let there = h.0 in
+    cc
+no_replay rows (inr none) (Replay f j) h =
+    let there = h.1 in
+    cc

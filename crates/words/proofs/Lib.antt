@@ -1,3 +1,6 @@
+pub mod Building
 pub mod Given
-pub mod RunLines
+pub mod Lines
+pub mod Plain
 pub mod Rows
+pub mod Subcommands

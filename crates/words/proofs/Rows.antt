@@ -1,20 +1,47 @@
 -- Worked examples: what clap's definition of the command line makes of some words.
-use Rattle.std.proofs.Common.{◌≡◌, List, [], ◌∷◌, codes, refl}
-use Rattle.clap.specs.Words.{Kinds, Text, fault_of}
-use Rattle.clap.specs.declared.error.kind.ErrorKind.TheVariants.{DisplayHelp, InvalidSubcommand, MissingRequiredArgument, MissingSubcommand, UnknownArgument}
+use Rattle.std.proofs.Common.{◌≡◌, List, [], ◌∷◌, Option, Some, None, codes, refl}
+use Rattle.clap.specs.Words.{Kinds, Text, fault_of, subcommand_of}
+use Rattle.clap.specs.declared.error.kind.ErrorKind.TheVariants.{ArgumentConflict, DisplayHelp, InvalidSubcommand, InvalidValue, MissingRequiredArgument, MissingSubcommand, UnknownArgument, ValueValidation}
 use Rattle.clap.proofs.OnLiterals.{clap_on_literals}
 use Rattle.words.specs.Commands.{program}
+use Rattle.words.proofs.Lines.{Seen, seen}
 
 abbrev asks : List Text → Kinds
 asks words = fault_of program (codes "dualnet" ∷ words)
 
-runs_a_file : asks (codes "run" ∷ codes "a.toml" ∷ []) ≡ []
-unfolding clap_on_literals
-runs_a_file = refl
+abbrev finds : List Text → Option Seen
+finds words = seen (subcommand_of program (codes "dualnet" ∷ words))
+
+-- ---- what is taken
 
 after_hyphens : asks (codes "run" ∷ codes "--" ∷ codes "-a.toml" ∷ []) ≡ []
 unfolding clap_on_literals
 after_hyphens = refl
+
+file_after_hyphens : finds (codes "run" ∷ codes "--" ∷ codes "-a.toml" ∷ [])
+    ≡ Some (record { name = codes "run"; file = Some (codes "-a.toml"); threads = Some (codes "1"); workers = Some (codes "1"); journal = None })
+unfolding clap_on_literals
+file_after_hyphens = refl
+
+options_after : asks (codes "run" ∷ codes "a" ∷ codes "--threads" ∷ codes "4" ∷ codes "--workers" ∷ codes "16" ∷ codes "--journal" ∷ codes "b" ∷ []) ≡ []
+unfolding clap_on_literals
+options_after = refl
+
+found_after : finds (codes "run" ∷ codes "a" ∷ codes "--threads" ∷ codes "4" ∷ codes "--workers" ∷ codes "16" ∷ codes "--journal" ∷ codes "b" ∷ [])
+    ≡ Some (record { name = codes "run"; file = Some (codes "a"); threads = Some (codes "4"); workers = Some (codes "16"); journal = Some (codes "b") })
+unfolding clap_on_literals
+found_after = refl
+
+options_before : asks (codes "run" ∷ codes "--workers=16" ∷ codes "--threads=4" ∷ codes "a" ∷ []) ≡ []
+unfolding clap_on_literals
+options_before = refl
+
+found_before : finds (codes "run" ∷ codes "--workers=16" ∷ codes "--threads=4" ∷ codes "a" ∷ [])
+    ≡ Some (record { name = codes "run"; file = Some (codes "a"); threads = Some (codes "4"); workers = Some (codes "16"); journal = None })
+unfolding clap_on_literals
+found_before = refl
+
+-- ---- what is refused
 
 help : asks (codes "--help" ∷ []) ≡ DisplayHelp ∷ []
 unfolding clap_on_literals
@@ -39,3 +66,31 @@ no_file = refl
 two_files : asks (codes "run" ∷ codes "a.toml" ∷ codes "b.toml" ∷ []) ≡ UnknownArgument ∷ []
 unfolding clap_on_literals
 two_files = refl
+
+no_threads : asks (codes "run" ∷ codes "a" ∷ codes "--threads" ∷ codes "0" ∷ []) ≡ ValueValidation ∷ []
+unfolding clap_on_literals
+no_threads = refl
+
+many_threads : asks (codes "run" ∷ codes "a" ∷ codes "--threads" ∷ codes "17" ∷ []) ≡ ValueValidation ∷ []
+unfolding clap_on_literals
+many_threads = refl
+
+threads_twice : asks (codes "run" ∷ codes "a" ∷ codes "--threads=2" ∷ codes "--threads=2" ∷ []) ≡ ArgumentConflict ∷ []
+unfolding clap_on_literals
+threads_twice = refl
+
+no_number : asks (codes "run" ∷ codes "a" ∷ codes "--workers" ∷ codes "x" ∷ []) ≡ ValueValidation ∷ []
+unfolding clap_on_literals
+no_number = refl
+
+missing_number : asks (codes "run" ∷ codes "a" ∷ codes "--threads" ∷ []) ≡ InvalidValue ∷ []
+unfolding clap_on_literals
+missing_number = refl
+
+option_of_run : asks (codes "check" ∷ codes "a" ∷ codes "--threads" ∷ codes "2" ∷ []) ≡ UnknownArgument ∷ []
+unfolding clap_on_literals
+option_of_run = refl
+
+no_journal : asks (codes "replay" ∷ codes "a" ∷ []) ≡ MissingRequiredArgument ∷ []
+unfolding clap_on_literals
+no_journal = refl

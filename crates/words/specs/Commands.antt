@@ -1,23 +1,50 @@
 -- The program's command line, as clap's definition reads it.
-use Rattle.std.specs.Prelude.{◌≡◌, List, [], ◌∷◌, codes, true, false}
+use Rattle.std.specs.Prelude.{◌≡◌, List, [], ◌∷◌, Some, codes, pos, true, false}
 use Rattle.clap.specs.Words.{App, Rule, Text, Kinds, app_of, fault_of, new_app, new_rule, with_rule, with_subcommand}
 use Rattle.clap.specs.Kinds.{or_else}
 use Rattle.clap.specs.declared.error.kind.ErrorKind.TheVariants.{MissingRequiredArgument}
 use Rattle.clap.specs.Simple.{on_top}
 use Rattle.clap.specs.declared.builder.command.Command.{Command}
 use Rattle.clap.specs.declared.builder.command.Command.TheViews.{out-Command}
+use Rattle.clap.specs.declared.builder.value_parser.ValueParser.TheVariants.{Signed}
 
 -- a word that has to be there
 abbrev pub file_rule : Text → Rule
 file_rule id = record (new_rule id) { value_names = 1; required = true }
 
--- `run FILE`
+-- an option with a number of 1 to 16, which is 1 where it is left out
+abbrev pub number_rule : Text → Rule
+number_rule id = record (new_rule id) {
+  long = Some id;
+  value_names = 1;
+  parser = Some (Signed (pos 1) (pos 16));
+  defaults = codes "1" ∷ [];
+}
+
+-- an option with a path, which may be left out
+abbrev pub path_rule : Text → Rule
+path_rule id = record (new_rule id) { long = Some id; value_names = 1 }
+
+-- `check FILE`
+abbrev pub check_app : App
+check_app = with_rule (new_app (codes "check")) (file_rule (codes "file"))
+
+-- `run FILE [--threads N] [--workers N] [--journal PATH]`
 abbrev pub run_app : App
-run_app = with_rule (new_app (codes "run")) (file_rule (codes "file"))
+run_app = with_rule (with_rule (with_rule (with_rule (new_app (codes "run"))
+    (file_rule (codes "file"))) (number_rule (codes "threads"))) (number_rule (codes "workers")))
+    (path_rule (codes "journal"))
+
+-- `replay FILE JOURNAL`
+abbrev pub replay_app : App
+replay_app = with_rule (with_rule (new_app (codes "replay")) (file_rule (codes "file")))
+    (file_rule (codes "journal"))
 
 -- the program, which has to be given one of its commands
 abbrev pub program : App
-program = with_subcommand (on_top (λ s. record s { subcommand_required = true }) (new_app (codes "dualnet"))) run_app.top
+program = with_subcommand (with_subcommand (with_subcommand
+    (on_top (λ s. record s { subcommand_required = true }) (new_app (codes "dualnet")))
+    check_app.top) run_app.top) replay_app.top
 
 -- a command that reads as this, with no global argument
 abbrev pub IsCommand : App → Command → Type 0

@@ -1,7 +1,10 @@
 //! Reads the program's command line.
 #![tactic(auto)]
 
+mod commands;
 mod status;
+#[cfg(test)]
+mod tests;
 mod words;
 
 pub use clap::error::ErrorKind;

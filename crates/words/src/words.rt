@@ -1,19 +1,35 @@
 //! What the command line asks for.
 
-ghost use Rattle.std.specs.Prelude.{◌≡◌, IfOk, IfErr, IfSome, IfNone, MatchResult, List, [], None, Some, codes, false};
-ghost use Rattle.clap.specs.Words.{HasKind, Row, Text, app_of, fault_of, first_of, kind_of, rule_of, rows_of, found_of, subcommand_of, subcommand_rows_of};
-ghost use Rattle.words.specs.Commands.{IsCommand, file_rule, run_app, program, kinds_of};
-ghost use Rattle.words.specs.Asked.{IsAsked, IsRun, IsRunLine, RunsFile, texts};
+ghost use Rattle.std.specs.Prelude.{◌≡◌, IfOk, IfErr, IfSome, IfNone, MatchResult, List, ℕ, [], ⊤, codes};
+ghost use Rattle.clap.specs.Words.{HasKind, Text, fault_of, first_of, kind_of, rows_of, found_of, subcommand_of, subcommand_rows_of};
+ghost use Rattle.words.specs.Commands.{program, kinds_of};
+ghost use Rattle.words.specs.Asked.{ChecksFile, HasNumber, IsAsked, IsCheck, IsFileLine, IsReplay, IsReplayLine, IsRun, ReplaysFiles, RunsFile, texts};
 
+use crate::commands::program_command;
 use clap::error::ErrorKind;
-use clap::{Arg, ArgMatches, Command, Error};
-use std::alloc::{AllocError, Global};
+use clap::{ArgMatches, Error};
+use std::alloc::Global;
 
 /// What the command line asks for.
 #[derive(Clone, Copy, Debug, PartialEq, Eq)]
 pub enum Words<'a> {
-    /// Run the script of the scenario in the file.
-    Run { file: &'a str },
+    /// Read the scenario in the file and say what it holds.
+    Check {
+        file: &'a str,
+    },
+    /// Run the script of the scenario in the file, by so many control threads and forwarding
+    /// workers, 1 to 16 of each, and then write the journal to the path, where one is given.
+    Run {
+        file: &'a str,
+        threads: u8,
+        workers: u8,
+        journal: Option<&'a str>,
+    },
+    /// Do the steps of the journal over the network of the scenario in the file.
+    Replay {
+        file: &'a str,
+        journal: &'a str,
+    },
 }
 
 /// What the words ask for, of which the first is the program's name. Help that is asked for comes as
@@ -23,8 +39,15 @@ pub fn read_words<'a>(alloc: Global, words: &'a [&'a str]) -> Result<Words<'a>, 
     ensures asked { IfOk result (IsAsked (subcommand_of program (texts words.entry.now))) }
     ensures taken { IfOk result (λ _. fault_of program (texts words.entry.now) ≡ []) }
     ensures kinds { IfErr result (HasKind (kinds_of (texts words.entry.now))) }
-    ensures run { (file : Text) → IsRunLine (texts words.entry.now) file
+    ensures every { (asked : Words) → fault_of program (texts words.entry.now) ≡ []
+        → IsAsked (subcommand_of program (texts words.entry.now)) asked
+        → MatchResult result (λ _. ⊤) (λ e. kind_of e ≡ ErrorKind.OutOfMemory) }
+    ensures check { (file : Text) → IsFileLine (codes "check") file (texts words.entry.now)
+        → MatchResult result (ChecksFile file) (λ e. kind_of e ≡ ErrorKind.OutOfMemory) }
+    ensures run { (file : Text) → IsFileLine (codes "run") file (texts words.entry.now)
         → MatchResult result (RunsFile file) (λ e. kind_of e ≡ ErrorKind.OutOfMemory) }
+    ensures replay { (file journal : Text) → IsReplayLine file journal (texts words.entry.now)
+        → MatchResult result (ReplaysFiles file journal) (λ e. kind_of e ≡ ErrorKind.OutOfMemory) }
 {
     let mut command = program_command(alloc)?;
     let matches = command.try_get_matches_from_mut(words)?;
@@ -34,101 +57,63 @@ pub fn read_words<'a>(alloc: Global, words: &'a [&'a str]) -> Result<Words<'a>, 
     }
 }
 
-fn program_command<'a>(alloc: Global) -> Result<Command<'a>, AllocError>
-    ensures { IfOk result (λ c. app_of c ≡ program) }
-{
-    Command::new(alloc, "dualnet")
-        .about("A network of IPv4 routers that route by DUAL and forward by longest match")
-        .subcommand_required(true)
-        .subcommand(run_command(alloc)?)
-}
-
-fn run_command<'a>(alloc: Global) -> Result<Command<'a>, AllocError>
-    ensures { IfOk result (IsCommand run_app) }
-{
-    Command::new(alloc, "run")
-        .about("Opens the network of a scenario and does the commands of its script")
-        .arg(file_arg(alloc, "file", "FILE"))
-}
-
-// A word that has to be there.
-fn file_arg<'a>(alloc: Global, id: &'a str, value: &'a str) -> Arg<'a>
-    ensures rule { rule_of result ≡ file_rule id.entry.now }
-    ensures local { result.global ≡ false }
-{
-    Arg::new(alloc, id).value_name(value).required(true)
-}
-
+// None where the matches ask for nothing.
 fn asked<'a>(matches: &ArgMatches<'a>) -> Option<Words<'a>>
     ensures some { IfSome result (IsAsked (subcommand_rows_of matches.now)) }
-    ensures none { IfNone result ((rows : List Row)
-        → subcommand_rows_of matches.now ≡ Some (codes "run", rows) → first_of (codes "file") rows ≡ None) }
+    ensures none { IfNone result ((w : Words) → IsAsked (subcommand_rows_of matches.now) w → ⊥) }
 {
-    if let Some(inner) = matches.subcommand_matches("run") {
+    if let Some(inner) = matches.subcommand_matches("check") {
+        check_words(inner)
+    } else if let Some(inner) = matches.subcommand_matches("run") {
         run_words(inner)
+    } else if let Some(inner) = matches.subcommand_matches("replay") {
+        replay_words(inner)
     } else {
         None
     }
 }
 
-fn run_words<'a>(matches: &ArgMatches<'a>) -> Option<Words<'a>>
-    ensures some { IfSome result (IsRun (rows_of (found_of matches.now))) }
-    ensures none { IfNone result (first_of (codes "file") (rows_of (found_of matches.now)) ≡ None) }
+fn check_words<'a>(matches: &ArgMatches<'a>) -> Option<Words<'a>>
+    ensures some { IfSome result (IsCheck (rows_of (found_of matches.now))) }
+    ensures none { IfNone result ((w : Words) → IsCheck (rows_of (found_of matches.now)) w → ⊥) }
 {
     let file = matches.get_str("file")?;
-    Some(Words::Run { file })
+    Some(Words::Check { file })
 }
 
-#[cfg(test)]
-mod tests {
-    use super::*;
-    use crate::exit_status;
-    use std::test::Fail;
+fn run_words<'a>(matches: &ArgMatches<'a>) -> Option<Words<'a>>
+    ensures some { IfSome result (IsRun (rows_of (found_of matches.now))) }
+    ensures none { IfNone result ((w : Words) → IsRun (rows_of (found_of matches.now)) w → ⊥) }
+{
+    let file = matches.get_str("file")?;
+    let threads = number(matches, "threads")?;
+    let workers = number(matches, "workers")?;
+    let journal = matches.get_str("journal");
+    Some(Words::Run {
+        file,
+        threads,
+        workers,
+        journal,
+    })
+}
 
-    #[test]
-    fn asks_to_run(rt: HostRuntime) {
-        let words = ["dualnet", "run", "a.toml"];
-        let got = read_words(rt.alloc(), words.as_slice());
-        assert!(rt; got.is_ok_and(|words| matches!(words, Words::Run { file: "a.toml" })));
-    }
+fn replay_words<'a>(matches: &ArgMatches<'a>) -> Option<Words<'a>>
+    ensures some { IfSome result (IsReplay (rows_of (found_of matches.now))) }
+    ensures none { IfNone result ((w : Words) → IsReplay (rows_of (found_of matches.now)) w → ⊥) }
+{
+    let file = matches.get_str("file")?;
+    let journal = matches.get_str("journal")?;
+    Some(Words::Replay { file, journal })
+}
 
-    #[test]
-    fn asks_for_help(rt: HostRuntime) -> Result<(), Fail> {
-        let program = ["dualnet", "--help"];
-        let run = ["dualnet", "run", "--help"];
-        for (words, want) in [
-            (program.as_slice(), "A network of IPv4 routers"),
-            (run.as_slice(), "Opens the network of a scenario"),
-        ] {
-            let Err(error) = read_words(rt.alloc(), words) else {
-                return Err("help was read as a command".into());
-            };
-            assert!(rt; !error.use_stderr());
-            assert_eq!(rt; exit_status(&error), 0);
-            let text = error.to_string(rt.alloc())?;
-            assert!(rt; text.starts_with(want), "{text}");
-        }
-        Ok(())
+// The number at the name, where it is 1 to 16.
+fn number(matches: &ArgMatches<'_>, id: &str) -> Option<u8>
+    ensures some { IfSome result (HasNumber (rows_of (found_of matches.now)) id.now) }
+    ensures none { IfNone result ((n : ℕ) → HasNumber (rows_of (found_of matches.now)) id.now n → ⊥) }
+{
+    let number = matches.get_one::<u8>(id)?;
+    if number < 1 || number > 16 {
+        return None;
     }
-
-    #[test]
-    fn asks_for_nothing(rt: HostRuntime) -> Result<(), Fail> {
-        let none = ["dualnet"];
-        let no_file = ["dualnet", "run"];
-        let unknown = ["dualnet", "fly", "a.toml"];
-        let two_files = ["dualnet", "run", "a.toml", "b.toml"];
-        for words in [
-            none.as_slice(),
-            no_file.as_slice(),
-            unknown.as_slice(),
-            two_files.as_slice(),
-        ] {
-            let Err(error) = read_words(rt.alloc(), words) else {
-                return Err("a mistake was read as a command".into());
-            };
-            assert!(rt; error.use_stderr());
-            assert_eq!(rt; exit_status(&error), 1);
-        }
-        Ok(())
-    }
+    Some(number)
 }

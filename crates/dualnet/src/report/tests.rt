@@ -1,7 +1,7 @@
 //! Reports on networks, and the states of their machines.
 
 use super::*;
-use crate::open::{Opened, open};
+use crate::plan::{Plan, read_plan};
 use network_model::Step;
 use std::alloc::Global;
 use std::test::Fail;
@@ -14,8 +14,21 @@ const TWO: &str = "routers = [\"a\", \"b\"]\nlinks = [\"a b 5 5\"]\n\
 const LINE: &str = "routers = [\"a\", \"b\", \"c\"]\nlinks = [\"a b 1 1\", \"b c 1 1\"]\n\
     prefixes = [\"10.0.0.0/8 a\"]\nscript = []\n";
 
-fn opened(alloc: Global, text: &str) -> Result<Opened, Fail> {
-    Ok(open(alloc, text).ok().ok_or("no network")?)
+// A network that is open, and the names of its routers.
+#[derive(Drop)]
+struct Opened {
+    fabric: Fabric,
+    directory: Directory,
+}
+
+fn open_network(alloc: Global, text: &str) -> Result<Opened, Fail> {
+    let Plan {
+        network,
+        directory,
+        commands: _,
+    } = read_plan(alloc, text).ok().ok_or("no network")?;
+    let fabric = Fabric::open(alloc, network)?;
+    Ok(Opened { fabric, directory })
 }
 
 fn deliver(router: u16, port: u8) -> Step {
@@ -61,7 +74,7 @@ fn state(alloc: Global, network: &Opened, router: u16) -> Result<String, Fail> {
 // A link that comes up again while a message of its first session is held.
 #[test]
 fn reports_a_second_session(rt: HostRuntime) -> Result<(), Fail> {
-    let mut network = opened(rt.alloc(), TWO)?;
+    let mut network = open_network(rt.alloc(), TWO)?;
     let steps = [
         Step::LinkUp { link: 0 },
         deliver(0, 0),
@@ -85,7 +98,7 @@ fn reports_a_second_session(rt: HostRuntime) -> Result<(), Fail> {
 // A prefix on its way to a second router; before it a link that was never up.
 #[test]
 fn reports_a_route(rt: HostRuntime) -> Result<(), Fail> {
-    let mut network = opened(rt.alloc(), TWO)?;
+    let mut network = open_network(rt.alloc(), TWO)?;
     let got = report(rt.alloc(), &network)?;
     let want = "link a b down 0 5 5 queued 0 0\na gen 0 held 0 ripe 0\n\
         a 10.0.0.0/8 passive RD 0 FD 0 local\nb gen 0 held 0 ripe 0\n";
@@ -114,7 +127,7 @@ fn reports_a_route(rt: HostRuntime) -> Result<(), Fail> {
 // and owes it the reply.
 #[test]
 fn states_of_active_machines(rt: HostRuntime) -> Result<(), Fail> {
-    let mut network = opened(rt.alloc(), LINE)?;
+    let mut network = open_network(rt.alloc(), LINE)?;
     let steps = [
         Step::LinkUp { link: 0 },
         Step::LinkUp { link: 1 },
@@ -168,7 +181,7 @@ impl Write for Closed {
 // A router that is not there is refused, and nothing is printed. Of writes that fail a report tells.
 #[test]
 fn refusals(rt: HostRuntime) -> Result<(), Fail> {
-    let network = opened(rt.alloc(), TWO)?;
+    let network = open_network(rt.alloc(), TWO)?;
     let mut out = Vec::new(rt.alloc());
     let prefix = Prefix::new(0x0a00_0000, 8)?;
     let again = prefix;

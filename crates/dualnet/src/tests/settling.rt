@@ -229,3 +229,42 @@ fn adds_up_the_costs_of_a_line(rt: HostRuntime) -> Result<(), Fail> {
     assert!(rt; is_before_done(got.as_str(), want), "{}", got.as_str());
     Ok(())
 }
+
+// Four routers in a line, of which the first and the last own a prefix, while a computation runs in
+// three of them: one that began it, one that was asked by its successor, and one whose way to the
+// successor has become longer since.
+#[test]
+fn reports_routers_at_work(rt: HostRuntime) -> Result<(), Fail> {
+    let got = printed(
+        rt.alloc(),
+        "a|b|c|d",
+        "a b 1 1|b c 1 1|c d 1 1",
+        "10.0.0.0/8 a|0.0.0.0/0 d",
+        "up a b|up b c|up c d|settle|cost b a 10|deliver b a|publish b|release b|release b|\
+        deliver c b|publish c|release c|release c|deliver d c|state d 10.0.0.0/8|\
+        cost d c 5|deliver d c|state d 10.0.0.0/8|report",
+    )?;
+    assert!(rt;
+        is_before_done(
+            got.as_str(),
+            "d 10.0.0.0/8 active 3 RD 12 FD 3 via c 1\n\
+        d 10.0.0.0/8 active 2 RD 12 FD 3 via c 1\n\
+        link a b up 1 1 10 queued 1 0\n\
+        link b c up 1 1 1 queued 1 0\n\
+        link c d up 1 1 5 queued 0 0\n\
+        a gen 2 held 0 ripe 0\n\
+        a 0.0.0.0/0 passive RD 3 FD 3 via b 1\n\
+        a 10.0.0.0/8 passive RD 0 FD 0 local\n\
+        b gen 3 held 0 ripe 0\n\
+        b 0.0.0.0/0 passive RD 2 FD 2 via c 1\n\
+        b 10.0.0.0/8 active 1 RD 10 FD 1 via a 1\n\
+        c gen 3 held 0 ripe 0\n\
+        c 0.0.0.0/0 passive RD 1 FD 1 via d 1\n\
+        c 10.0.0.0/8 active 3 RD 11 FD 2 via b 1\n\
+        d gen 2 held 1 ripe 0\n\
+        d 0.0.0.0/0 passive RD 0 FD 0 local\n\
+        d 10.0.0.0/8 active 2 RD 12 FD 3 via c 1\n"
+        )
+    );
+    Ok(())
+}

@@ -5,7 +5,8 @@ use Rattle.ipv4_prefix.specs.Prefix.{Prefix}
 use Rattle.network_model.specs.declared.route.Entry.{Entry}
 use Rattle.script.specs.Words.{Text}
 use Rattle.dualnet.specs.Commands.{rows_text}
-use Rattle.dualnet.proofs.Printed.{Appends-append, rows_text-append}
+use Rattle.journal.proofs.Printed.{Appends-append}
+use Rattle.dualnet.proofs.Printed.{rows_text-append}
 use Rattle.dualnet.proofs.commands.print_table.Goals as goal
 
 pub loop-prefix-preserved : goal.loop-prefix-preserved

@@ -1,0 +1,30 @@
+//! What is wrong with the text of a journal.
+
+ghost use Rattle.std.specs.Prelude.{◌≡◌};
+ghost use Rattle.journal.specs.declared.fault.JournalFault.TheVariants.{NoMemory as OutOfMemory};
+
+use std::alloc::AllocFailed;
+use thiserror::Error;
+
+/// Why the text of a journal cannot be read. Its text is its number and name, and the line if it has
+/// one.
+#[derive(Clone, Copy, Debug, PartialEq, Eq, Drop, Error)]
+pub enum JournalFault {
+    /// The text is not UTF-8.
+    #[error("48 BadJournal")]
+    BadText,
+    /// The line, counted from 1, is missing or is not what stands there in a journal.
+    #[error("48 BadJournal at line {line}")]
+    BadLine { line: usize },
+    /// A growth was refused.
+    #[error("20 NoMemory")]
+    NoMemory,
+}
+
+impl<T: Drop> From<AllocFailed<T>> for JournalFault {
+    ghost from_gives = { λ _ e. e ≡ OutOfMemory };
+
+    fn from(_error: AllocFailed<T>) -> JournalFault {
+        JournalFault::NoMemory
+    }
+}

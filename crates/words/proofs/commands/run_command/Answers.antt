@@ -1,0 +1,19 @@
+use Rattle.std.proofs.Common.{◌∙◌, ap, codes}
+use Rattle.std.proofs.lemmas.Result.{IfOk-weaker}
+use Rattle.clap.specs.Words.{new_app}
+use Rattle.clap.specs.Simple.{app_of_fields}
+use Rattle.words.specs.Commands.{IsCommand}
+use Rattle.words.proofs.Building.{one_more}
+use Rattle.words.proofs.commands.run_command.Goals as goal
+
+pub returns : goal.returns
+returns c =
+    let none : IsCommand (new_app (codes "run")) c.after_help.result = (
+      ap app_of_fields c.after_help.ensures ∙ ap app_of_fields c.about.ensures ∙ c.new.ensures.app,
+      ap (λ f. f.has_globals) c.after_help.ensures ∙ ap (λ f. f.has_globals) c.about.ensures ∙ c.new.ensures.local,
+    ) in
+    let one = one_more c.after_help.result c.in_ok-arg.field-0 c.scenario_arg.result _ _ none c.in_ok-arg.ensures c.scenario_arg.ensures.rule c.scenario_arg.ensures.local in
+    let two = one_more c.in_ok-arg.field-0 c.in_ok-arg-2.field-0 c.number_arg-threads.result _ _ one c.in_ok-arg-2.ensures c.number_arg-threads.ensures.rule c.number_arg-threads.ensures.local in
+    let three = one_more c.in_ok-arg-2.field-0 c.in_ok-arg-3.field-0 c.number_arg-workers.result _ _ two c.in_ok-arg-3.ensures c.number_arg-workers.ensures.rule c.number_arg-workers.ensures.local in
+    IfOk-weaker c.arg-4.result _ _
+    (λ m added. one_more c.in_ok-arg-3.field-0 m c.path_arg-journal.result _ _ three added c.path_arg-journal.ensures.rule c.path_arg-journal.ensures.local) c.arg-4.ensures

@@ -1,0 +1,25 @@
+use Rattle.std.proofs.Common.{codes, refl}
+use Rattle.clap.specs.Words.{found_of, rows_of, subcommand_rows_of}
+use Rattle.clap.specs.declared.parser.matches.ArgMatches.TheViews.{out-ArgMatches}
+use Rattle.words.proofs.Subcommands.{met_rows, no_check_asked, no_run_asked, no_replay_asked, passed_on}
+use Rattle.words.proofs.words.asked.Goals as goal
+
+pub returns-in-Some-clause-none : goal.returns-in-Some-clause-none
+returns-in-Some-clause-none c =
+    let rows = rows_of (found_of c.in-Some.inner.now) in
+    let met = met_rows (out-ArgMatches c.args.matches.now).subcommand (codes "check") rows (c.in-Some.ensures.found.0 refl) c.in-Some.ensures.rows in
+    passed_on c.check_words.result _ _ (no_check_asked (subcommand_rows_of c.args.matches.now) rows met) c.check_words.ensures.none
+
+pub returns-in-Some-subcommand_matches-clause-none : goal.returns-in-Some-subcommand_matches-clause-none
+returns-in-Some-subcommand_matches-clause-none c =
+    let rows = rows_of (found_of c.in-Some-subcommand_matches.inner.now) in
+    let met = met_rows (out-ArgMatches c.args.matches.now).subcommand (codes "run") rows
+    (c.in-Some-subcommand_matches.ensures.found.0 refl) c.in-Some-subcommand_matches.ensures.rows in
+    passed_on c.run_words.result _ _ (no_run_asked (subcommand_rows_of c.args.matches.now) rows met) c.run_words.ensures.none
+
+pub returns-in-Some-subcommand_matches-2-clause-none : goal.returns-in-Some-subcommand_matches-2-clause-none
+returns-in-Some-subcommand_matches-2-clause-none c =
+    let rows = rows_of (found_of c.in-Some-subcommand_matches-2.inner.now) in
+    let met = met_rows (out-ArgMatches c.args.matches.now).subcommand (codes "replay") rows
+    (c.in-Some-subcommand_matches-2.ensures.found.0 refl) c.in-Some-subcommand_matches-2.ensures.rows in
+    passed_on c.replay_words.result _ _ (no_replay_asked (subcommand_rows_of c.args.matches.now) rows met) c.replay_words.ensures.none
