@@ -1,5 +1,6 @@
 #!/usr/bin/env python3
-"""Runs the networks of a folder by the program and by the model, and prints how fast each was.
+"""Runs the networks of a folder by the program and by the model, and prints how fast each was; then
+replays the journals that the program writes.
 
     python3 bench/measure.py PROGRAM FOLDER RUNS
 
@@ -31,8 +32,8 @@ class Run(NamedTuple):
         return int(self.output.splitlines()[-1].split()[1])
 
 
-def run(command: list[str], scenario: Path) -> Run:
-    command = [*command, str(scenario)]
+def run(*words: str | Path) -> Run:
+    command = [str(word) for word in words]
     with NamedTemporaryFile("r") as memory:
         has_memory = Path(GNU_TIME).exists()
         if has_memory:
@@ -45,8 +46,8 @@ def run(command: list[str], scenario: Path) -> Run:
         return Run(process.stdout, seconds, int(memory.read()) if has_memory else None)
 
 
-def fastest(command: list[str], scenario: Path, runs: int) -> Run:
-    return min((run(command, scenario) for _ in range(runs)), key=lambda one: one.seconds)
+def fastest(runs: int, *words: str | Path) -> Run:
+    return min((run(*words) for _ in range(runs)), key=lambda one: one.seconds)
 
 
 def compare(scenario: Path, one: Run, other: Run) -> None:
@@ -65,20 +66,30 @@ def cells(one: Run) -> str:
 
 
 def main(words: list[str]) -> None:
-    program, folder, runs = [words[0], "run"], Path(words[1]), int(words[2])
+    program, folder, runs = words[0], Path(words[1]), int(words[2])
     sides = f"{'seconds':>9} {'steps/s':>10} {'MiB':>7}"
     print(f"{'':7} {'':9} {'program':>28} {'model':>28}")
     print(f"{'network':7} {'steps':>9} {sides} {sides} {'ratio':>6}")
     for name in NETWORKS:
         scenario = folder / f"{name}.toml"
-        one, other = fastest(program, scenario, runs), fastest(MODEL, scenario, runs)
+        one, other = fastest(runs, program, "run", scenario), fastest(runs, *MODEL, scenario)
         compare(scenario, one, other)
         ratio = other.seconds / one.seconds
         print(f"{name:7} {one.steps():9,} {cells(one)} {cells(other)} {ratio:6.1f}", flush=True)
     for name in NETWORKS:
         scenario = folder / f"{name}-report.toml"
-        compare(scenario, run(program, scenario), run(MODEL, scenario))
+        compare(scenario, run(program, "run", scenario), run(*MODEL, scenario))
     print("Both print the same, reports too.")
+    print(f"{'journal':7} {'MiB':>7} {'written':>9} {'replayed':>9} {'steps/s':>10}")
+    for name in NETWORKS:
+        scenario, journal = folder / f"{name}.toml", folder / f"{name}.journal"
+        written = fastest(runs, program, "run", scenario, "--journal", journal)
+        replayed = fastest(runs, program, "replay", scenario, journal)
+        if replayed.output != f"replay agrees: {written.steps()} steps\n":
+            sys.exit(f"{journal.name}: {replayed.output}")
+        size = journal.stat().st_size / 2**20
+        rate = written.steps() / replayed.seconds
+        print(f"{name:7} {size:7.1f} {written.seconds:9.3f} {replayed.seconds:9.3f} {rate:10,.0f}")
 
 
 if __name__ == "__main__":

@@ -1,10 +1,9 @@
 #!/usr/bin/env python3
 """Writes a random scenario: a small network and a script of 200 commands.
 
-    python3 bench/random_networks.py [--traces] SEED > SCENARIO.toml
+    python3 bench/random_networks.py SEED > SCENARIO.toml
 
-The same seed gives the same scenario. Each step is tried, so that none of them ends the run. With
-`--traces` the script has the command `trace` too.
+The same seed gives the same scenario. Each step is tried, so that none of them ends the run.
 """
 
 import sys
@@ -97,9 +96,9 @@ class Script:
             case _:
                 return f"{kind} {self.ends()}"
 
-    def command(self, has_traces: bool) -> str:
-        kinds = ["try", "settle", "state", "table", "lookup", "report", "trace"]
-        weights = [80, 2, 6, 3, 6, 1, 6 * has_traces]
+    def command(self) -> str:
+        kinds = ["try", "settle", "state", "table", "lookup", "report"]
+        weights = [80, 2, 6, 3, 6, 1]
         kind = self.random.choices(kinds, weights)[0]
         match kind:
             case "try":
@@ -108,13 +107,13 @@ class Script:
                 return f"state {self.router()} {self.random.choice(self.prefixes)}"
             case "table":
                 return f"table {self.router()}"
-            case "lookup" | "trace":
-                return f"{kind} {self.router()} {self.addr()}"
+            case "lookup":
+                return f"lookup {self.router()} {self.addr()}"
             case _:
                 return kind
 
 
-def random_scenario(seed: int, has_traces: bool) -> Scenario:
+def random_scenario(seed: int) -> Scenario:
     random = Random(seed)
     routers = [f"r{k}" for k in range(random.randint(3, 8))]
     links = random_links(random, routers)
@@ -127,12 +126,12 @@ def random_scenario(seed: int, has_traces: bool) -> Scenario:
     if random.random() < 0.7:
         script.add("settle")
     while len(script.commands) < COMMANDS - 2:
-        script.add(script.command(has_traces))
+        script.add(script.command())
     return Scenario(routers, links, owned, [*script.commands, "settle", "report"])
 
 
 def main(words: list[str]) -> None:
-    print(random_scenario(int(words[-1]), "--traces" in words[:-1]).toml(), end="")
+    print(random_scenario(int(words[0])).toml(), end="")
 
 
 if __name__ == "__main__":

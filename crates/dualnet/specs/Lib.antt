@@ -1,6 +1,1 @@
-pub mod Faults
-pub mod Settling
-pub mod Commands
-pub mod Scenarios
-pub mod Report
-pub mod Ends
+pub mod Files

@@ -1,26 +1,14 @@
 //! The program: a network of IPv4 routers, run by the script of a scenario.
 #![tactic(auto)]
 
-mod commands;
-mod fault;
-mod files;
-mod keep;
-mod plan;
-mod play;
-mod read;
-mod replay;
-mod report;
-mod settle;
-#[cfg(test)]
-mod tests;
+ghost use Rattle.std.specs.Prelude.{◌≡◌};
+ghost use Rattle.dualnet.specs.Files.{scenario_of, read_journal, kept_journal};
 
-use fault::{Cause, Fault};
-use files::Source;
 use network_model::NoMemory;
-use play::{play, refuse};
+use play::{Cause, Fault, Source, play, refuse};
 use std::process::ExitCode;
 use std::{env, fs, io};
-use words::{ErrorKind, Words, exit_status, read_words};
+use words::{Error, ErrorKind, Words, exit_status, not_utf8, read_words};
 
 fn main(rt: HostRuntime) -> ExitCode {
     let status = match status(&rt) {
@@ -33,34 +21,37 @@ fn main(rt: HostRuntime) -> ExitCode {
 // Does what the command line asks for.
 fn status(rt: &HostRuntime) -> io::Result<u8> {
     let alloc = rt.alloc();
-    let given: Vec<String> = env::args(rt)?.collect(alloc)?;
+    let args = match env::args(rt) {
+        Ok(args) => args,
+        Err(error) if error.kind() == io::ErrorKind::InvalidData => {
+            return Ok(tell(rt, &not_utf8(alloc)?));
+        }
+        Err(error) => return Err(error),
+    };
+    let given: Vec<String> = args.collect(alloc)?;
     let words: Vec<&str> = given.iter().map(|word| word.as_str()).collect(alloc)?;
     match read_words(alloc, words.as_slice()) {
         Ok(words) => Ok(done(rt, &words)),
-        Err(error) => match error.kind() {
-            ErrorKind::OutOfMemory => Ok(refuse(Fault::from(NoMemory), &mut rt.stderr())),
-            _ => {
-                let _ = error.print(rt);
-                Ok(exit_status(&error))
-            }
-        },
+        Err(error) => Ok(tell(rt, &error)),
+    }
+}
+
+// Tells of an error of the command line, or gives the help that was asked for, and answers the exit
+// status.
+fn tell(rt: &HostRuntime, error: &Error) -> u8 {
+    match error.kind() {
+        ErrorKind::OutOfMemory => refuse(Fault::from(NoMemory), &mut rt.stderr()),
+        _ => {
+            let _ = error.print(rt);
+            exit_status(error)
+        }
     }
 }
 
 // Does what the words ask for, over the files that they name.
 fn done(rt: &HostRuntime, words: &Words<'_>) -> u8 {
-    let (file, lines) = match *words {
-        Words::Check { file } => (file, None),
-        Words::Run {
-            file,
-            threads: _,
-            workers: _,
-            journal: _,
-        } => (file, None),
-        Words::Replay { file, journal } => (file, Some(journal)),
-    };
-    let scenario = open_file(rt, file);
-    let journal = match lines {
+    let scenario = open_file(rt, scenario_path(words));
+    let journal = match replayed_path(words) {
         Some(path) => open_file(rt, path),
         None => Source::Missing,
     };
@@ -74,14 +65,42 @@ fn done(rt: &HostRuntime, words: &Words<'_>) -> u8 {
         &mut rt.stderr(),
         &mut kept,
     );
-    match kept_at(words) {
+    match kept_path(words) {
         Some(path) if status == 0 => written(rt, path, &kept),
         _ => status,
     }
 }
 
-// The file that the journal is to be written to.
-fn kept_at<'a>(words: &Words<'a>) -> Option<&'a str> {
+// The file of the scenario.
+fn scenario_path<'a>(words: &Words<'a>) -> &'a str
+    ensures { result ≡ scenario_of words.now }
+{
+    match *words {
+        Words::Check { file } => file,
+        Words::Run {
+            file,
+            threads: _,
+            workers: _,
+            journal: _,
+        } => file,
+        Words::Replay { file, journal: _ } => file,
+    }
+}
+
+// The file of the journal that is to be replayed.
+fn replayed_path<'a>(words: &Words<'a>) -> Option<&'a str>
+    ensures { result ≡ read_journal words.now }
+{
+    match *words {
+        Words::Replay { file: _, journal } => Some(journal),
+        _ => None,
+    }
+}
+
+// The file that the journal of a run is to be written to.
+fn kept_path<'a>(words: &Words<'a>) -> Option<&'a str>
+    ensures { result ≡ kept_journal words.now }
+{
     match *words {
         Words::Run {
             file: _,

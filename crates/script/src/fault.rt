@@ -1,6 +1,6 @@
 //! What is wrong with the lines of a scenario.
 
-ghost use Rattle.std.specs.Prelude.{◌≡◌, ◌≢◌};
+ghost use Rattle.std.specs.Prelude.{◌≡◌};
 ghost use Rattle.script.specs.declared.fault.Fault.TheVariants.{Prefix as OfPrefix, BadCost as CostFault, NoMemory as OutOfMemory};
 
 use ipv4_prefix::PrefixFault;
@@ -33,19 +33,6 @@ pub enum Fault {
     /// A growth was refused.
     #[error("20 NoMemory")]
     NoMemory,
-}
-
-impl Fault {
-    /// The exit status of a program that ends by this fault.
-    pub fn status(self) -> u8
-        ensures memory { self ≡ Fault.NoMemory → result ≡ 2 }
-        ensures other { self ≢ Fault.NoMemory → result ≡ 1 }
-    {
-        match self {
-            Fault::NoMemory => 2,
-            _ => 1,
-        }
-    }
 }
 
 impl From<PrefixFault> for Fault {

@@ -1,6 +1,6 @@
 //! Readings of whole scenarios, and the texts of faults and rows.
 
-use crate::{Command, Directory, Fault, Reading, read_script};
+use crate::{Command, Directory, Reading, read_script};
 use metric::Cost;
 use network_model::{Entry, Step};
 use std::alloc::{AllocError, Global};
@@ -40,186 +40,128 @@ fn fault(alloc: Global, reading: &Reading) -> Result<String, AllocError> {
     }
 }
 
-#[test]
-fn names(rt: HostRuntime) -> Result<(), Fail> {
-    for (routers, want) in [
-        ("|a", "42 BadName at routers 0"),
-        ("1a", "42 BadName at routers 0"),
-        ("A", "42 BadName at routers 0"),
-        ("a|abcdefghijklmnopq", "42 BadName at routers 1"),
-        ("a-b", "42 BadName at routers 0"),
-        ("a b", "42 BadName at routers 0"),
-        ("é", "42 BadName at routers 0"),
-        ("a|b|a", "42 BadName at routers 2"),
-        ("abcdefghijklmnop|a0|z9", "none"),
-    ] {
-        let reading = read(rt.alloc(), routers, "", "", "")?;
-        let got = fault(rt.alloc(), &reading)?;
-        assert_eq!(rt; got.as_str(), want, "at {routers}");
-    }
-    Ok(())
+// Scenarios, a row each: routers; links; prefixes; script; the first fault.
+const FAULTS: &str = "\
+|a;;;;42 BadName at routers 0
+1a;;;;42 BadName at routers 0
+A;;;;42 BadName at routers 0
+a|abcdefghijklmnopq;;;;42 BadName at routers 1
+a-b;;;;42 BadName at routers 0
+a b;;;;42 BadName at routers 0
+é;;;;42 BadName at routers 0
+a|b|a;;;;42 BadName at routers 2
+abcdefghijklmnop|a0|z9;;;;none
+a|b;a b 1;;;43 BadLine at links 0
+a|b;a b 1 1 1;;;43 BadLine at links 0
+a|b;a  b 1 1;;;43 BadLine at links 0
+a|b;a b 1 1 ;;;43 BadLine at links 0
+a|b; a b 1 1;;;43 BadLine at links 0
+a|b; b 1 1;;;43 BadLine at links 0
+a|b;a  1 1;;;43 BadLine at links 0
+a|b;a b  1;;;43 BadLine at links 0
+a|b;a b 05 1;;;43 BadLine at links 0
+a|b;a b +1 1;;;43 BadLine at links 0
+a|b;a b 1 4294967296;;;43 BadLine at links 0
+a|b;a b 0 x;;;43 BadLine at links 0
+a|b;a b 1 1|a b 0 1;;;5 BadCost at links 1
+a|b;a b 65536 1;;;5 BadCost at links 0
+a|b;a b 1 0;;;5 BadCost at links 0
+a|b;a b 1 4294967295;;;5 BadCost at links 0
+a|b;a b 65535 65535;;;none
+a|b;a z 1 1;;;none
+a|b;a b 1 1;10.0.0.0/8;;43 BadLine at prefixes 0
+a|b;a b 1 1;10.0.0.0/8 a b;;43 BadLine at prefixes 0
+a|b;a b 1 1;10.0.0.0/8  a;;43 BadLine at prefixes 0
+a|b;a b 1 1; a;;43 BadLine at prefixes 0
+a|b;a b 1 1;10.0.0.0/8 ;;43 BadLine at prefixes 0
+a|b;a b 1 1;10.0.0.1/8 z;;43 BadLine at prefixes 0
+a|b;a b 1 1;0.0.0.0/0 a|10.0.0.0 a;;1 NoSlash at prefixes 1
+a|b;a b 1 1;010.0.0.0/8 a;;2 BadAddress at prefixes 0
+a|b;a b 1 1;10.0.0.0/33 a;;3 BadLength at prefixes 0
+a|b;a b 1 1;10.0.0.1/8 a;;4 HostBits at prefixes 0
+a|b;a b 1 1;10.0.0.0/8 a|0.0.0.0/0 b;;none
+a|b|c;a b 1 1;10.0.0.0/8 b;|;45 BadCommand at script 0
+a|b|c;a b 1 1;10.0.0.0/8 b;fly a;45 BadCommand at script 0
+a|b|c;a b 1 1;10.0.0.0/8 b;up;45 BadCommand at script 0
+a|b|c;a b 1 1;10.0.0.0/8 b;up a;45 BadCommand at script 0
+a|b|c;a b 1 1;10.0.0.0/8 b;up a b c;45 BadCommand at script 0
+a|b|c;a b 1 1;10.0.0.0/8 b;up  a b;45 BadCommand at script 0
+a|b|c;a b 1 1;10.0.0.0/8 b;up a  b;45 BadCommand at script 0
+a|b|c;a b 1 1;10.0.0.0/8 b;up a z;45 BadCommand at script 0
+a|b|c;a b 1 1;10.0.0.0/8 b;up a c;45 BadCommand at script 0
+a|b|c;a b 1 1;10.0.0.0/8 b;up a a;45 BadCommand at script 0
+a|b|c;a b 1 1;10.0.0.0/8 b;up a b|down a c;45 BadCommand at script 1
+a|b|c;a b 1 1;10.0.0.0/8 b;publish;45 BadCommand at script 0
+a|b|c;a b 1 1;10.0.0.0/8 b;publish z;45 BadCommand at script 0
+a|b|c;a b 1 1;10.0.0.0/8 b;release a b;45 BadCommand at script 0
+a|b|c;a b 1 1;10.0.0.0/8 b;table z;45 BadCommand at script 0
+a|b|c;a b 1 1;10.0.0.0/8 b;lookup a;45 BadCommand at script 0
+a|b|c;a b 1 1;10.0.0.0/8 b;lookup a ;45 BadCommand at script 0
+a|b|c;a b 1 1;10.0.0.0/8 b;table ;45 BadCommand at script 0
+a|b|c;a b 1 1;10.0.0.0/8 b; publish a;45 BadCommand at script 0
+a|b|c;a b 1 1;10.0.0.0/8 b;lookup z 1.2.3;45 BadCommand at script 0
+a|b|c;a b 1 1;10.0.0.0/8 b;lookup a 1.2.3;2 BadAddress at script 0
+a|b|c;a b 1 1;10.0.0.0/8 b;lookup a 10.0.0.256;2 BadAddress at script 0
+a|b|c;a b 1 1;10.0.0.0/8 b;settle a;45 BadCommand at script 0
+a|b|c;a b 1 1;10.0.0.0/8 b;settle ;45 BadCommand at script 0
+a|b|c;a b 1 1;10.0.0.0/8 b;report a;45 BadCommand at script 0
+a|b|c;a b 1 1;10.0.0.0/8 b;try;45 BadCommand at script 0
+a|b|c;a b 1 1;10.0.0.0/8 b;try settle;45 BadCommand at script 0
+a|b|c;a b 1 1;10.0.0.0/8 b;try report;45 BadCommand at script 0
+a|b|c;a b 1 1;10.0.0.0/8 b;try table a;45 BadCommand at script 0
+a|b|c;a b 1 1;10.0.0.0/8 b;try state a 10.0.0.0/8;45 BadCommand at script 0
+a|b|c;a b 1 1;10.0.0.0/8 b;try try up a b;45 BadCommand at script 0
+a|b|c;a b 1 1;10.0.0.0/8 b;try  up a b;45 BadCommand at script 0
+a|b|c;a b 1 1;10.0.0.0/8 b;try up a c;45 BadCommand at script 0
+a|b|c;a b 1 1;10.0.0.0/8 b;up b a|down b a|try up a b|settle|report|table c;none
+a|b|c;a b 1 1;;cost a b;45 BadCommand at script 0
+a|b|c;a b 1 1;;cost a b 1 1;45 BadCommand at script 0
+a|b|c;a b 1 1;;cost a b ;45 BadCommand at script 0
+a|b|c;a b 1 1;;cost a b 05;45 BadCommand at script 0
+a|b|c;a b 1 1;;cost a b 4294967296;45 BadCommand at script 0
+a|b|c;a b 1 1;;cost a b +1;45 BadCommand at script 0
+a|b|c;a b 1 1;;cost a c 0;45 BadCommand at script 0
+a|b|c;a b 1 1;;cost a c 1;45 BadCommand at script 0
+a|b|c;a b 1 1;;cost a z 0;45 BadCommand at script 0
+a|b|c;a b 1 1;;cost a b 0;5 BadCost at script 0
+a|b|c;a b 1 1;;cost a b 65536;5 BadCost at script 0
+a|b|c;a b 1 1;;cost a b 4294967295;5 BadCost at script 0
+a|b|c;a b 1 1;;try cost a b 0;5 BadCost at script 0
+a|b|c;a b 1 1;;try cost a c 0;45 BadCommand at script 0
+a|b|c;a b 1 1;;cost a b 1|cost b a 65535|try cost a b 2;none
+a|b;;0.0.0.0/0 a|10.0.0.0/8 b;state a;45 BadCommand at script 0
+a|b;;0.0.0.0/0 a|10.0.0.0/8 b;state a ;45 BadCommand at script 0
+a|b;;0.0.0.0/0 a|10.0.0.0/8 b;state a 10.0.0.0/8 b;45 BadCommand at script 0
+a|b;;0.0.0.0/0 a|10.0.0.0/8 b;state z 10.0.0.1/8;45 BadCommand at script 0
+a|b;;0.0.0.0/0 a|10.0.0.0/8 b;state a 10.0.0.0;1 NoSlash at script 0
+a|b;;0.0.0.0/0 a|10.0.0.0/8 b;state a 10.0.0/8;2 BadAddress at script 0
+a|b;;0.0.0.0/0 a|10.0.0.0/8 b;state a 10.0.0.0/33;3 BadLength at script 0
+a|b;;0.0.0.0/0 a|10.0.0.0/8 b;state a 10.0.0.1/8;4 HostBits at script 0
+a|b;;0.0.0.0/0 a|10.0.0.0/8 b;state a 11.0.0.0/8;45 BadCommand at script 0
+a|b;;0.0.0.0/0 a|10.0.0.0/8 b;state a 10.0.0.0/9;45 BadCommand at script 0
+a|b;;0.0.0.0/0 a|10.0.0.0/8 b;state a 10.0.0.0/8|state b 0.0.0.0/0;none
+A;x;x;x;42 BadName at routers 0
+a;x;x;x;43 BadLine at links 0
+a;;x;x;43 BadLine at prefixes 0
+a;;;x;45 BadCommand at script 0";
+
+// The parts of a row.
+fn row_of(row: &str) -> Option<(&str, &str, &str, &str, &str)> {
+    let (routers, row) = row.split_once(';')?;
+    let (links, row) = row.split_once(';')?;
+    let (prefixes, row) = row.split_once(';')?;
+    let (script, fault) = row.split_once(';')?;
+    Some((routers, links, prefixes, script, fault))
 }
 
 #[test]
-fn links(rt: HostRuntime) -> Result<(), Fail> {
-    for (links, want) in [
-        ("a b 1", "43 BadLine at links 0"),
-        ("a b 1 1 1", "43 BadLine at links 0"),
-        ("a  b 1 1", "43 BadLine at links 0"),
-        ("a b 1 1 ", "43 BadLine at links 0"),
-        (" a b 1 1", "43 BadLine at links 0"),
-        (" b 1 1", "43 BadLine at links 0"),
-        ("a  1 1", "43 BadLine at links 0"),
-        ("a b  1", "43 BadLine at links 0"),
-        ("a b 05 1", "43 BadLine at links 0"),
-        ("a b +1 1", "43 BadLine at links 0"),
-        ("a b 1 4294967296", "43 BadLine at links 0"),
-        ("a b 0 x", "43 BadLine at links 0"),
-        ("a b 1 1|a b 0 1", "5 BadCost at links 1"),
-        ("a b 65536 1", "5 BadCost at links 0"),
-        ("a b 1 0", "5 BadCost at links 0"),
-        ("a b 1 4294967295", "5 BadCost at links 0"),
-        ("a b 65535 65535", "none"),
-        ("a z 1 1", "none"),
-    ] {
-        let reading = read(rt.alloc(), "a|b", links, "", "")?;
+fn faults(rt: HostRuntime) -> Result<(), Fail> {
+    for row in FAULTS.split('\n') {
+        let (routers, links, prefixes, script, want) = row_of(row).ok_or("no row")?;
+        let reading = read(rt.alloc(), routers, links, prefixes, script)?;
         let got = fault(rt.alloc(), &reading)?;
-        assert_eq!(rt; got.as_str(), want, "at {links}");
+        assert_eq!(rt; got.as_str(), want, "at {row}");
     }
-    Ok(())
-}
-
-#[test]
-fn prefixes(rt: HostRuntime) -> Result<(), Fail> {
-    for (prefixes, want) in [
-        ("10.0.0.0/8", "43 BadLine at prefixes 0"),
-        ("10.0.0.0/8 a b", "43 BadLine at prefixes 0"),
-        ("10.0.0.0/8  a", "43 BadLine at prefixes 0"),
-        (" a", "43 BadLine at prefixes 0"),
-        ("10.0.0.0/8 ", "43 BadLine at prefixes 0"),
-        ("10.0.0.1/8 z", "43 BadLine at prefixes 0"),
-        ("0.0.0.0/0 a|10.0.0.0 a", "1 NoSlash at prefixes 1"),
-        ("010.0.0.0/8 a", "2 BadAddress at prefixes 0"),
-        ("10.0.0.0/33 a", "3 BadLength at prefixes 0"),
-        ("10.0.0.1/8 a", "4 HostBits at prefixes 0"),
-        ("10.0.0.0/8 a|0.0.0.0/0 b", "none"),
-    ] {
-        let reading = read(rt.alloc(), "a|b", "a b 1 1", prefixes, "")?;
-        let got = fault(rt.alloc(), &reading)?;
-        assert_eq!(rt; got.as_str(), want, "at {prefixes}");
-    }
-    Ok(())
-}
-
-#[test]
-fn commands(rt: HostRuntime) -> Result<(), Fail> {
-    for (script, want) in [
-        ("|", "45 BadCommand at script 0"),
-        ("fly a", "45 BadCommand at script 0"),
-        ("up", "45 BadCommand at script 0"),
-        ("up a", "45 BadCommand at script 0"),
-        ("up a b c", "45 BadCommand at script 0"),
-        ("up  a b", "45 BadCommand at script 0"),
-        ("up a  b", "45 BadCommand at script 0"),
-        ("up a z", "45 BadCommand at script 0"),
-        ("up a c", "45 BadCommand at script 0"),
-        ("up a a", "45 BadCommand at script 0"),
-        ("up a b|down a c", "45 BadCommand at script 1"),
-        ("publish", "45 BadCommand at script 0"),
-        ("publish z", "45 BadCommand at script 0"),
-        ("release a b", "45 BadCommand at script 0"),
-        ("table z", "45 BadCommand at script 0"),
-        ("lookup a", "45 BadCommand at script 0"),
-        ("lookup a ", "45 BadCommand at script 0"),
-        ("table ", "45 BadCommand at script 0"),
-        (" publish a", "45 BadCommand at script 0"),
-        ("lookup z 1.2.3", "45 BadCommand at script 0"),
-        ("lookup a 1.2.3", "2 BadAddress at script 0"),
-        ("lookup a 10.0.0.256", "2 BadAddress at script 0"),
-        ("settle a", "45 BadCommand at script 0"),
-        ("settle ", "45 BadCommand at script 0"),
-        ("report a", "45 BadCommand at script 0"),
-        ("try", "45 BadCommand at script 0"),
-        ("try settle", "45 BadCommand at script 0"),
-        ("try report", "45 BadCommand at script 0"),
-        ("try table a", "45 BadCommand at script 0"),
-        ("try state a 10.0.0.0/8", "45 BadCommand at script 0"),
-        ("try try up a b", "45 BadCommand at script 0"),
-        ("try  up a b", "45 BadCommand at script 0"),
-        ("try up a c", "45 BadCommand at script 0"),
-        ("up b a|down b a|try up a b|settle|report|table c", "none"),
-    ] {
-        let reading = read(rt.alloc(), "a|b|c", "a b 1 1", "10.0.0.0/8 b", script)?;
-        let got = fault(rt.alloc(), &reading)?;
-        assert_eq!(rt; got.as_str(), want, "at {script}");
-    }
-    Ok(())
-}
-
-#[test]
-fn costs(rt: HostRuntime) -> Result<(), Fail> {
-    for (script, want) in [
-        ("cost a b", "45 BadCommand at script 0"),
-        ("cost a b 1 1", "45 BadCommand at script 0"),
-        ("cost a b ", "45 BadCommand at script 0"),
-        ("cost a b 05", "45 BadCommand at script 0"),
-        ("cost a b 4294967296", "45 BadCommand at script 0"),
-        ("cost a b +1", "45 BadCommand at script 0"),
-        ("cost a c 0", "45 BadCommand at script 0"),
-        ("cost a c 1", "45 BadCommand at script 0"),
-        ("cost a z 0", "45 BadCommand at script 0"),
-        ("cost a b 0", "5 BadCost at script 0"),
-        ("cost a b 65536", "5 BadCost at script 0"),
-        ("cost a b 4294967295", "5 BadCost at script 0"),
-        ("try cost a b 0", "5 BadCost at script 0"),
-        ("try cost a c 0", "45 BadCommand at script 0"),
-        ("cost a b 1|cost b a 65535|try cost a b 2", "none"),
-    ] {
-        let reading = read(rt.alloc(), "a|b|c", "a b 1 1", "", script)?;
-        let got = fault(rt.alloc(), &reading)?;
-        assert_eq!(rt; got.as_str(), want, "at {script}");
-    }
-    Ok(())
-}
-
-#[test]
-fn states(rt: HostRuntime) -> Result<(), Fail> {
-    for (script, want) in [
-        ("state a", "45 BadCommand at script 0"),
-        ("state a ", "45 BadCommand at script 0"),
-        ("state a 10.0.0.0/8 b", "45 BadCommand at script 0"),
-        ("state z 10.0.0.1/8", "45 BadCommand at script 0"),
-        ("state a 10.0.0.0", "1 NoSlash at script 0"),
-        ("state a 10.0.0/8", "2 BadAddress at script 0"),
-        ("state a 10.0.0.0/33", "3 BadLength at script 0"),
-        ("state a 10.0.0.1/8", "4 HostBits at script 0"),
-        ("state a 11.0.0.0/8", "45 BadCommand at script 0"),
-        ("state a 10.0.0.0/9", "45 BadCommand at script 0"),
-        ("state a 10.0.0.0/8|state b 0.0.0.0/0", "none"),
-    ] {
-        let reading = read(rt.alloc(), "a|b", "", "0.0.0.0/0 a|10.0.0.0/8 b", script)?;
-        let got = fault(rt.alloc(), &reading)?;
-        assert_eq!(rt; got.as_str(), want, "at {script}");
-    }
-    Ok(())
-}
-
-#[test]
-fn order_of_lists(rt: HostRuntime) -> Result<(), Fail> {
-    for (routers, links, prefixes, want) in [
-        ("A", "x", "x", "42 BadName at routers 0"),
-        ("a", "x", "x", "43 BadLine at links 0"),
-        ("a", "", "x", "43 BadLine at prefixes 0"),
-        ("a", "", "", "45 BadCommand at script 0"),
-    ] {
-        let reading = read(rt.alloc(), routers, links, prefixes, "x")?;
-        let got = fault(rt.alloc(), &reading)?;
-        assert_eq!(rt; got.as_str(), want);
-        if let Some(located) = reading.fault {
-            assert_eq!(rt; located.fault.status(), 1);
-        }
-    }
-    assert_eq!(rt; Fault::NoMemory.status(), 2);
     Ok(())
 }
 

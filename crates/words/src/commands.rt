@@ -1,11 +1,20 @@
 //! The program's commands, as `clap` is told of them.
 
 ghost use Rattle.std.specs.Prelude.{◌≡◌, IfOk, codes, false};
-ghost use Rattle.clap.specs.Words.{app_of, rule_of};
+ghost use Rattle.clap.specs.Words.{app_of, kind_of, rule_of};
 ghost use Rattle.words.specs.Commands.{IsCommand, check_app, file_rule, number_rule, path_rule, program, replay_app, run_app};
 
-use clap::{Arg, Command, value_parser};
+use clap::error::ErrorKind;
+use clap::{Arg, Command, Error, value_parser};
 use std::alloc::{AllocError, Global};
+
+/// The error of a command line of which a word is not UTF-8.
+pub fn not_utf8(alloc: Global) -> Result<Error, AllocError>
+    ensures { IfOk result (λ e. kind_of e ≡ ErrorKind.InvalidValue) }
+{
+    let mut command = program_command(alloc)?;
+    command.error(ErrorKind::InvalidValue, "a word is not UTF-8")
+}
 
 pub(crate) fn program_command<'a>(alloc: Global) -> Result<Command<'a>, AllocError>
     ensures { IfOk result (λ c. app_of c ≡ program) }

@@ -1,4 +1,4 @@
-use crate::{Words, exit_status, read_words};
+use crate::{Words, exit_status, not_utf8, read_words};
 use std::alloc::Global;
 use std::process::Abort;
 use std::test::Fail;
@@ -211,4 +211,14 @@ fn asks_for_wrong_values(rt: HostRuntime) -> Result<(), Fail> {
         twice.as_slice(),
         "the argument '--threads <N>' cannot be used",
     )
+}
+
+#[test]
+fn is_no_text(rt: HostRuntime) -> Result<(), Fail> {
+    let error = not_utf8(rt.alloc())?;
+    assert!(rt; error.use_stderr());
+    assert_eq!(rt; exit_status(&error), 1);
+    let text = error.to_string(rt.alloc())?;
+    assert!(rt; text.starts_with("error: a word is not UTF-8"), "{text}");
+    Ok(())
 }

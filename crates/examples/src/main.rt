@@ -1,0 +1,120 @@
+//! Runs each scenario of the examples, compares what it prints with the file that stands beside it,
+//! and replays its journal.
+#![tactic(auto)]
+
+ghost use Rattle.std.specs.Prelude.{◌≡◌};
+
+use play::{Source, play};
+use std::alloc::Global;
+use std::io::{Read, Write};
+use std::process::ExitCode;
+use std::{fs, io};
+use words::Words;
+
+// The scenarios, without the ends of their names.
+const EXAMPLES: [&str; 7] = [
+    "two-routers",
+    "ring",
+    "line",
+    "grid",
+    "flapping-link",
+    "nested-prefixes",
+    "crossed-packet",
+];
+
+fn main(rt: HostRuntime) -> ExitCode {
+    let mut out = rt.stdout();
+    let mut status = 0;
+    for name in EXAMPLES {
+        let verdict = match tried(&rt, name) {
+            Ok(verdict) => verdict,
+            Err(_) => Verdict::IsUnread,
+        };
+        if verdict != Verdict::IsAsItShouldBe {
+            status = 1;
+        }
+        let _ = writeln!(&mut out, "{name}: {}", verdict.text());
+    }
+    ExitCode::from(status)
+}
+
+// What is found of an example.
+#[derive(Clone, Copy, Debug, PartialEq, Eq)]
+enum Verdict {
+    IsAsItShouldBe,
+    PrintsSomethingElse,
+    IsNotReplayed,
+    IsUnread,
+}
+
+impl Verdict {
+    fn text(self) -> &'static str {
+        match self {
+            Verdict::IsAsItShouldBe => "as it should be",
+            Verdict::PrintsSomethingElse => "prints something else",
+            Verdict::IsNotReplayed => "is not replayed",
+            Verdict::IsUnread => "cannot be read",
+        }
+    }
+}
+
+// Runs a scenario, and replays its journal.
+fn tried(rt: &HostRuntime, name: &str) -> io::Result<Verdict> {
+    let alloc = rt.alloc();
+    let scenario = format!(in alloc; "{name}.toml")?;
+    let output = format!(in alloc; "{name}.out")?;
+    let wanted = fs::read(rt, output.as_str())?;
+    let run = Words::Run {
+        file: scenario.as_str(),
+        threads: 1,
+        workers: 1,
+        journal: None,
+    };
+    let missing: Source<io::Empty> = Source::Missing;
+    let file = fs::open(rt, scenario.as_str())?;
+    let ran = played(alloc, &run, file, missing);
+    let replay = Words::Replay {
+        file: scenario.as_str(),
+        journal: "",
+    };
+    let file = fs::open(rt, scenario.as_str())?;
+    let replayed = played(alloc, &replay, file, ran.kept.as_slice());
+    Ok(judge(&ran, &wanted, &replayed))
+}
+
+// What to say of a run that should print this, and of its replay.
+fn judge(ran: &Outcome, wanted: &[u8], replayed: &Outcome) -> Verdict
+    ensures right { result ≡ Verdict.IsAsItShouldBe → (ran.now.status ≡ 0)
+        × (ran.now.out.items ≡ wanted.now) × (replayed.now.status ≡ 0) }
+{
+    if ran.status != 0 || ran.out.as_slice() != wanted {
+        return Verdict::PrintsSomethingElse;
+    }
+    if replayed.status != 0 {
+        return Verdict::IsNotReplayed;
+    }
+    Verdict::IsAsItShouldBe
+}
+
+// What the program gave.
+#[derive(Drop)]
+struct Outcome {
+    status: u8,
+    out: Vec<u8>,
+    kept: Vec<u8>,
+}
+
+fn played<R: Read + Drop, J: Read + Drop>(
+    alloc: Global,
+    words: &Words<'_>,
+    scenario: R,
+    journal: J,
+) -> Outcome {
+    let mut out = Vec::new(alloc);
+    let mut err = Vec::new(alloc);
+    let mut kept = Vec::new(alloc);
+    let status = play(
+        alloc, words, scenario, journal, &mut out, &mut err, &mut kept,
+    );
+    Outcome { status, out, kept }
+}

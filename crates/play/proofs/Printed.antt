@@ -1,0 +1,43 @@
+-- Texts that are printed one after another.
+use Rattle.std.proofs.Common.{◌≡◌, ℕ, List, [], ◌∷◌, ◌++◌, Option, Some, None, Result, Ok, Err, OnOk, Bool, false, is_err, refl, sym, ap, ◌∙◌}
+use Rattle.std.proofs.lemmas.Bool.{true≢false}
+use Rattle.std.proofs.lemmas.List.{append_assoc, append-nil}
+use Rattle.script.specs.Words.{Text}
+use Rattle.journal.proofs.Printed.{Appends-append}
+use Rattle.play.specs.Report.{Prints}
+use Rattle.std.specs.Io.KnownBytes.{Appends}
+use Rattle.ipv4_prefix.specs.Prefix.{Prefix}
+use Rattle.network_model.specs.declared.route.Entry.{Entry}
+use Rattle.script.specs.Directories.{Directory, row_text}
+use Rattle.play.specs.Commands.{rows_text}
+
+-- rows before rows
+pub rows_text-append : (d : Directory) (router : ℕ) (xs ys : List (Prefix × Entry)) → rows_text d router (xs ++ ys) ≡ rows_text d router xs ++ rows_text d router ys
+rows_text-append d router [] ys = refl
+rows_text-append d router (row ∷ xs) ys =
+    ap (λ t. (row_text d router row.0 row.1 ++ 10 ∷ []) ++ t) (rows_text-append d router xs ys)
+    ∙ sym (append_assoc (row_text d router row.0 row.1 ++ 10 ∷ []) (rows_text d router xs) (rows_text d router ys))
+
+-- ---- something that is printed
+
+pub prints_none : (old : Option Text) → Prints old old
+prints_none None = ([], tt)
+prints_none (Some xs) = ([], sym (append-nil xs))
+
+pub prints_more : (old mid new : Option Text) (text : Text) → Prints old mid → Appends mid new text → Prints old new
+prints_more old mid new text before more = (before.0 ++ text, Appends-append old mid new before.0 text before.1 more)
+
+pub prints_both : (old mid new : Option Text) → Prints old mid → Prints mid new → Prints old new
+prints_both old mid new before more = prints_more old mid new more.0 before more.1
+
+pub prints_ok : {E : Type 0} (r : Result Unit E) (old mid new : Option Text) → Prints old mid → OnOk r (Prints mid new) → OnOk r (Prints old new)
+prints_ok (Ok u) old mid new before more = prints_both old mid new before more
+prints_ok (Err e) old mid new before more = tt
+
+-- a journal, and then a report
+pub kept_is : {E : Type 0} (r s : Result Unit E) (b c : Bool) (old mid new given text : Text) → b ≡ is_err r → b ≡ false → c ≡ is_err s → c ≡ false
+    → OnOk r (Appends (Some old) (Some mid) given) → OnOk s (Prints (Some mid) (Some new)) → given ≡ text → (report : Text) × (new ≡ old ++ text ++ report)
+kept_is (Err e) s b c old mid new given text is wrong is2 wrong2 first second same = absurd (true≢false (sym is ∙ wrong))
+kept_is (Ok u) (Err e) b c old mid new given text is wrong is2 wrong2 first second same = absurd (true≢false (sym is2 ∙ wrong2))
+kept_is (Ok u) (Ok v) b c old mid new given text is wrong is2 wrong2 first second same =
+    (second.0, second.1 ∙ ap (λ t. t ++ second.0) (first ∙ ap (λ t. old ++ t) same))

@@ -1,0 +1,129 @@
+-- How runs and replays end.
+use Rattle.std.proofs.Common.{◌≡◌, ℕ, ◌≤◌, ◌⊎◌, inl, inr, Option, Some, None, MatchOption, List, length, take, refl, ap, subst, ◌∙◌, arith}
+use Rattle.std.proofs.lemmas.List.{take_all}
+use Rattle.network_model.specs.declared.network.LinkSpec.{LinkSpec}
+use Rattle.network_model.specs.declared.step.Step.{Step}
+use Rattle.network_model.specs.declared.step.Refusal.{Refusal}
+use Rattle.network_model.specs.declared.step.Refusal.TheVariants.{NoMemory as NoMemoryForStep}
+use Rattle.network_model.specs.World.{opening}
+use Rattle.network_model.specs.Run.{Runs}
+use Rattle.world.specs.Steps.{StopsAt}
+use Rattle.fabric.specs.Fabric.{Fabric, opening_fabric, fabric_refusal}
+use Rattle.script.specs.Words.{Text}
+use Rattle.script.specs.Reading.{Parts}
+use Rattle.script.specs.declared.command.Command.{Command}
+use Rattle.journal.specs.declared.fault.JournalFault.{JournalFault}
+use Rattle.journal.specs.declared.fault.JournalFault.TheVariants.{NoMemory as NoMemoryForJournal}
+use Rattle.journal.specs.Journal.{IsJournal, IsFaultOf as IsJournalFault}
+use Rattle.play.specs.declared.fault.Fault.{Fault}
+use Rattle.play.specs.declared.fault.Cause.TheVariants.{Refused as OfRefusal, Journal as OfJournal}
+use Rattle.play.specs.declared.plan.Plan.{Plan}
+use Rattle.play.specs.Faults.{unplaced, IsWantOfMemory, Gives, most_bytes}
+use Rattle.play.specs.Scenarios.{IsScenario, IsPlanOf, StopsFor, network_read}
+use Rattle.play.specs.Commands.{AreDone, StopsAtCommand}
+use Rattle.play.specs.Ends.{KeepsJournal, IsRunToEnd, IsJournalOf, RunsWhole, RunsToRefusal, StopsReplay}
+
+-- a scenario of a text, and its plan
+abbrev pub IsPlanned : Text → Plan → Type 0
+IsPlanned text plan = (parts : Parts) × IsScenario text parts × IsPlanOf parts plan
+
+-- the network that is opened is that of the parts
+opens : (text : Text) (plan : Plan) (planned : IsPlanned text plan) (f : Fabric) → f ≡ opening_fabric plan.network → f ≡ opening_fabric (network_read planned.0)
+opens text plan planned f is = is ∙ ap opening_fabric planned.2.network
+
+-- want of memory for a network
+pub wants_memory : (e : Refusal) (fault : Fault) → e ≡ NoMemoryForStep → fault ≡ unplaced (OfRefusal e) → IsWantOfMemory fault
+wants_memory e fault memory is = rw (is, memory) (record { memory = refl; unplaced = refl })
+
+-- ---- runs
+
+pub run_ends : (text : Text) (plan : Plan) (cs : List Command) (f g : Fabric) (old new : Text) → length text ≤ most_bytes → IsPlanned text plan
+    → f ≡ opening_fabric plan.network → cs ≡ plan.commands.items → AreDone cs f g → KeepsJournal plan.directory g old new → IsRunToEnd text old new
+run_ends text plan cs f g old new short planned is commands done keeps = record {
+  fabric = g;
+  is_end = record {
+    short = short;
+    parts = planned.0;
+    scenario = planned.1;
+    done = subst (λ ds. AreDone ds (opening_fabric (network_read planned.0)) g) (commands ∙ planned.2.commands) (subst (λ h. AreDone cs h g) (opens text plan planned f is) done);
+  };
+  keeps = subst (λ d. KeepsJournal d g old new) planned.2.directory keeps;
+}
+
+pub run_stops : (text : Text) (plan : Plan) (cs : List Command) (f g : Fabric) (fault : Fault) → length text ≤ most_bytes → IsPlanned text plan
+    → f ≡ opening_fabric plan.network → cs ≡ plan.commands.items → StopsAtCommand cs f g fault → StopsFor text fault
+run_stops text plan cs f g fault short planned is commands stops = inr (record {
+  short = short;
+  parts = planned.0;
+  scenario = planned.1;
+  fabric = g;
+  stops = subst (λ ds. StopsAtCommand ds (opening_fabric (network_read planned.0)) g fault) (commands ∙ planned.2.commands) (subst (λ h. StopsAtCommand cs h g fault) (opens text plan planned f is) stops);
+})
+
+-- ---- replays
+
+-- the journal is one of the scenario's network
+pub journal_of : (text lines given : Text) (plan : Plan) (names : List Text) (links : List LinkSpec) (steps : List Step) (report : Text) → length text ≤ most_bytes → (planned : IsPlanned text plan)
+    → names ≡ plan.directory.names → links ≡ plan.network.links → given ≡ lines → IsJournal names links given steps report → IsJournalOf text lines planned.0 steps
+journal_of text lines given plan names links steps report short planned names_are links_are same journal = record {
+  short = short;
+  scenario = planned.1;
+  report = report;
+  journal =
+      subst (λ ls. IsJournal planned.0.names planned.0.links ls steps report) same
+      (subst (λ ks. IsJournal planned.0.names ks given steps report) (links_are ∙ ap (λ n. n.links) planned.2.network)
+      (subst (λ ns. IsJournal ns links given steps report) (names_are ∙ ap (λ d. d.names) planned.2.directory) journal));
+}
+
+pub replay_ends : (text lines : Text) (plan : Plan) (planned : IsPlanned text plan) (steps all : List Step) (f g : Fabric) (done : ℕ) → IsJournalOf text lines planned.0 steps
+    → f ≡ opening_fabric plan.network → all ≡ steps → done ≡ length all → Runs f.world (take done all) g.world → RunsWhole text lines
+replay_ends text lines plan planned steps all f g done journal is same whole runs = record {
+  parts = planned.0;
+  steps = steps;
+  is_journal = journal;
+  world = g.world;
+  runs = subst (λ ss. Runs (opening (network_read planned.0)) ss g.world) (ap (λ n. take n all) whole ∙ take_all (length all) all (omega arith) ∙ same)
+      (subst (λ (h : Fabric). Runs h.world (take done all) g.world) (opens text plan planned f is) runs);
+}
+
+pub replay_stops : (text lines : Text) (plan : Plan) (planned : IsPlanned text plan) (steps all : List Step) (f g : Fabric) (done : ℕ) (e : Refusal) → IsJournalOf text lines planned.0 steps
+    → f ≡ opening_fabric plan.network → all ≡ steps → Runs f.world (take done all) g.world → StopsAt (fabric_refusal g) all done e → RunsToRefusal text lines
+replay_stops text lines plan planned steps all f g done e journal is same runs stops = record {
+  parts = planned.0;
+  steps = steps;
+  is_journal = journal;
+  done = done;
+  fabric = g;
+  runs = subst (λ ss. Runs (opening (network_read planned.0)) (take done ss) g.world) same (subst (λ (h : Fabric). Runs h.world (take done all) g.world) (opens text plan planned f is) runs);
+  refusal = e;
+  stops = subst (λ ss. StopsAt (fabric_refusal g) ss done e) same stops;
+}
+
+-- what is not a journal of the scenario's network
+pub stops_journal : (text lines given : Text) (known : Option Text) (plan : Plan) (names : List Text) (links : List LinkSpec) (e : JournalFault) (fault : Fault) → length text ≤ most_bytes
+    → IsPlanned text plan → Gives known lines → names ≡ plan.directory.names → links ≡ plan.network.links → given ≡ lines → fault ≡ unplaced (OfJournal e)
+    → (e ≡ NoMemoryForJournal) ⊎ IsJournalFault names links given e → StopsReplay text known fault
+stops_journal text lines given known plan names links e fault short planned gives names_are links_are same is (inl memory) =
+    inl (inr (inl (rw (is, memory) (record { memory = refl; unplaced = refl }))))
+stops_journal text lines given known plan names links e fault short planned gives names_are links_are same is (inr why) =
+    inr (
+      short,
+      inr (
+        lines,
+        gives,
+        planned.0,
+        planned.1,
+        e,
+        subst (λ ls. IsJournalFault planned.0.names planned.0.links ls e) same
+            (subst (λ ks. IsJournalFault planned.0.names ks given e) (links_are ∙ ap (λ n. n.links) planned.2.network)
+            (subst (λ ns. IsJournalFault ns links given e) (names_are ∙ ap (λ d. d.names) planned.2.directory) why)),
+        is,
+      ),
+    )
+
+-- what a run of steps answers where one is refused, and where none is
+pub refused_at : (N : Type 0) (P : Refusal → Type 0) (o : Option Refusal) (e : Refusal) → o ≡ Some e → MatchOption o N P → P e
+refused_at N P o e is match = subst (λ q. MatchOption q N P) is match
+
+pub refused_nowhere : (N : Type 0) (P : Refusal → Type 0) (o : Option Refusal) → o ≡ None → MatchOption o N P → N
+refused_nowhere N P o is match = subst (λ q. MatchOption q N P) is match

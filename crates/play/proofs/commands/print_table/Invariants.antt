@@ -1,0 +1,10 @@
+use Rattle.std.proofs.Common.{◌≡◌, ◌++◌}
+use Rattle.std.specs.Io.KnownBytes.{Appends}
+use Rattle.play.specs.Commands.{rows_text}
+use Rattle.play.proofs.commands.print_table.Given as goal
+
+abbrev pub invariant-loop-prefix : goal.invariant-loop-prefix
+invariant-loop-prefix g l = record {
+  printed : Appends (g.W.Write.contents l.initial.out) (g.W.Write.contents l.out) (rows_text l.directory l.router l.yielded);
+  rows : l.yielded ++ l.prefix-iterator ≡ l.table.table.published;
+}

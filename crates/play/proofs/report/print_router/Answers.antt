@@ -1,0 +1,10 @@
+use Rattle.play.proofs.Printed.{prints_none, prints_more}
+use Rattle.play.proofs.report.print_router.Goals as goal
+
+pub loop-prefix-init : goal.loop-prefix-init
+loop-prefix-init g c = record { printed = prints_more (g.W.Write.contents c.args.out.now) (g.W.Write.contents c.args.out.now) (g.W.Write.contents c.writeln.new.self) _ (prints_none (g.W.Write.contents c.args.out.now)) c.in_ok-writeln.ensures.bytes }
+
+pub loop-prefix-preserved : goal.loop-prefix-preserved
+loop-prefix-preserved g c = record {
+  printed = prints_more (g.W.Write.contents c.args.out.now) (g.W.Write.contents c.loop-prefix.out) (g.W.Write.contents c.print_machine.new.out) _ c.loop-prefix.invariant.printed c.in_ok-print_machine.ensures.2;
+}

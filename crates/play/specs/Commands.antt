@@ -1,0 +1,76 @@
+-- What the commands of a script do, and print.
+use Rattle.std.specs.Prelude.{◌≡◌, ℕ, ◌⊎◌, List, [], ◌∷◌, ◌++◌, Option, Some, None, nat_lt, if◌then◌else◌, length, take, slice_get}
+use Rattle.ipv4_prefix.specs.Prefix.{Prefix}
+use Rattle.network_model.specs.declared.route.Entry.{Entry}
+use Rattle.network_model.specs.declared.step.Step.{Step as NetworkStep}
+use Rattle.network_model.specs.declared.step.Refusal.{Refusal}
+use Rattle.network_model.specs.declared.step.Refusal.TheVariants.{UnknownRouter}
+use Rattle.network_model.specs.Step.{Lawful}
+use Rattle.world.specs.Steps.{CanBeRefused}
+use Rattle.fabric.specs.Fabric.{Fabric, after_step, fabric_refusal}
+use Rattle.script.specs.Words.{Text}
+use Rattle.script.specs.Directories.{Directory, row_text}
+use Rattle.script.specs.declared.command.Command.{Command}
+use Rattle.script.specs.declared.command.Command.TheVariants.{Step, Try, Settle, State, Table, Lookup, Report}
+use Rattle.script.specs.declared.place.Key.TheVariants.{Script}
+use Rattle.play.specs.declared.fault.Cause.TheVariants.{Refused}
+use Rattle.play.specs.declared.fault.Fault.{Fault}
+use Rattle.play.specs.Faults.{at_line}
+use Rattle.play.specs.Settling.{Settles, StopsSettling}
+
+-- ---- commands
+
+-- the step was done
+abbrev pub IsStepDone : NetworkStep → Fabric → Fabric → Type 0
+IsStepDone s f g = Lawful f.world s × (g ≡ after_step f s)
+
+-- the step was refused, for its cause or for want of memory, and changed nothing
+abbrev pub IsStepRefused : NetworkStep → Fabric → Fabric → Type 0
+IsStepRefused s f g = (e : Refusal) × CanBeRefused (fabric_refusal f s) e × (g ≡ f)
+
+-- a command that was done: a step was lawful, a step that is tried was lawful or refused, a network was let settle, and all else leaves the fabric as it was
+abbrev pub IsDone : Command → Fabric → Fabric → Type 0
+IsDone (Step s) f g = IsStepDone s f g
+IsDone (Try s) f g = IsStepDone s f g ⊎ IsStepRefused s f g
+IsDone Settle f g = Settles f g
+IsDone (State router prefix) f g = g ≡ f
+IsDone (Table router) f g = g ≡ f
+IsDone (Lookup router addr) f g = g ≡ f
+IsDone Report f g = g ≡ f
+
+-- why a command on a router is refused
+abbrev pub unknown_router : Fabric → ℕ → Option Refusal
+unknown_router f router = if nat_lt router (length f.world.routers) then None else Some UnknownRouter
+
+-- a command that is refused: a step for its cause, in a network that settles the step that comes next, and a command on a router where there is no such router
+abbrev pub IsRefused : Command → Fabric → Fabric → Refusal → Type 0
+IsRefused (Step s) f g e = CanBeRefused (fabric_refusal f s) e × (g ≡ f)
+IsRefused (Try s) f g e = ⊥
+IsRefused Settle f g e = StopsSettling f g e
+IsRefused (State router prefix) f g e = CanBeRefused (unknown_router f router) e × (g ≡ f)
+IsRefused (Table router) f g e = CanBeRefused (unknown_router f router) e × (g ≡ f)
+IsRefused (Lookup router addr) f g e = CanBeRefused (unknown_router f router) e × (g ≡ f)
+IsRefused Report f g e = ⊥
+
+-- the commands, done one after another, lead from one fabric to the other
+abbrev pub AreDone : List Command → Fabric → Fabric → Type 0
+AreDone [] f g = g ≡ f
+AreDone (c ∷ cs) f g = (h : Fabric) × IsDone c f h × AreDone cs h g
+
+-- of the commands those before a place were done, and the one there is refused
+pub record StopsAtCommand (commands : List Command) (f g : Fabric) (fault : Fault) : Type 0 where
+  pub position : ℕ
+  pub command : Command
+  pub before : Fabric
+  pub refusal : Refusal
+  pub is_command : slice_get commands position ≡ Some command
+  pub done : AreDone (take position commands) f before
+  pub refused : IsRefused command before g refusal
+  pub named : fault ≡ at_line (Refused refusal) Script position
+
+-- ---- texts
+
+-- rows of a router, a line each
+abbrev pub rows_text : Directory → ℕ → List (Prefix × Entry) → Text
+rows_text d router [] = []
+rows_text d router (row ∷ rows) = (row_text d router row.0 row.1 ++ 10 ∷ []) ++ rows_text d router rows

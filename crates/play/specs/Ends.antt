@@ -1,0 +1,110 @@
+-- How the program's commands end.
+use Rattle.std.specs.Prelude.{◌≡◌, ℕ, ◌≤◌, ◌++◌, ◌⊎◌, List, Option, None, length, take}
+use Rattle.network_model.specs.declared.step.Step.{Step}
+use Rattle.network_model.specs.declared.step.Refusal.{Refusal}
+use Rattle.network_model.specs.World.{World, opening}
+use Rattle.network_model.specs.Run.{Runs}
+use Rattle.world.specs.Steps.{StopsAt}
+use Rattle.fabric.specs.Fabric.{Fabric, fabric_refusal}
+use Rattle.script.specs.Words.{Text}
+use Rattle.script.specs.Reading.{Parts}
+use Rattle.script.specs.Directories.{Directory, directory_of}
+use Rattle.journal.specs.declared.fault.JournalFault.{JournalFault}
+use Rattle.journal.specs.Journal.{journal_text, IsJournal, IsFaultOf as IsJournalFault}
+use Rattle.words.specs.declared.words.Words.{Words}
+use Rattle.words.specs.declared.words.Words.TheVariants.{Check, Run, Replay}
+use Rattle.play.specs.declared.fault.Fault.{Fault}
+use Rattle.play.specs.declared.fault.Cause.TheVariants.{Journal as OfJournal}
+use Rattle.play.specs.declared.program.End.{End}
+use Rattle.play.specs.declared.program.End.TheVariants.{Done, Refused, Differs}
+use Rattle.play.specs.Faults.{unplaced, most_bytes, Gives, CannotRead}
+use Rattle.play.specs.Scenarios.{IsScenario, IsEndOf, StopsReading, StopsFor, network_read}
+
+-- the exit status
+abbrev pub status_at : End → ℕ
+status_at Done = 0
+status_at Refused = 2
+status_at Differs = 3
+
+-- ---- check
+
+-- the bytes are those of a scenario whose network can be opened
+pub record IsChecked (bytes : Text) : Type 0 where
+  pub short : length bytes ≤ most_bytes
+  pub parts : Parts
+  pub scenario : IsScenario bytes parts
+
+-- ---- run
+
+-- the text of a fabric's journal was added: its steps, and then a report
+abbrev pub KeepsJournal : Directory → Fabric → Text → Text → Type 0
+KeepsJournal d f old new = (report : Text) × (new ≡ old ++ journal_text d f.network.links f.journal ++ report)
+
+-- the commands of a scenario were done to the end, and their journal was kept
+pub record IsRunToEnd (bytes old new : Text) : Type 0 where
+  pub fabric : Fabric
+  pub is_end : IsEndOf bytes fabric
+  pub keeps : KeepsJournal (directory_of is_end.parts.names is_end.parts.links) fabric old new
+
+-- ---- replay
+
+-- the lines are the journal of these steps, of the network of a scenario
+pub record IsJournalOf (bytes lines : Text) (parts : Parts) (steps : List Step) : Type 0 where
+  pub short : length bytes ≤ most_bytes
+  pub scenario : IsScenario bytes parts
+  pub report : Text
+  pub journal : IsJournal parts.names parts.links lines steps report
+
+-- all steps of the journal were done, each of them lawful
+pub record RunsWhole (bytes lines : Text) : Type 0 where
+  pub parts : Parts
+  pub steps : List Step
+  pub is_journal : IsJournalOf bytes lines parts steps
+  pub world : World
+  pub runs : Runs (opening (network_read parts)) steps world
+
+-- the steps of the journal before one that is refused were done
+pub record RunsToRefusal (bytes lines : Text) : Type 0 where
+  pub parts : Parts
+  pub steps : List Step
+  pub is_journal : IsJournalOf bytes lines parts steps
+  pub done : ℕ
+  pub fabric : Fabric
+  pub runs : Runs (opening (network_read parts)) (take done steps) fabric.world
+  pub refusal : Refusal
+  pub stops : StopsAt (fabric_refusal fabric) steps done refusal
+
+-- how a replay ends
+abbrev pub Replays : Text → Text → End → Type 0
+Replays bytes lines Done = RunsWhole bytes lines
+Replays bytes lines Refused = RunsToRefusal bytes lines
+Replays bytes lines Differs = RunsWhole bytes lines
+
+-- why a journal of the network of a scenario is not read: its reader fails, memory runs out, or it is no such journal
+abbrev pub StopsJournal : Text → Option Text → Fault → Type 0
+StopsJournal bytes journal fault =
+    ((fault.place ≡ None) × CannotRead fault.cause)
+    ⊎ ((lines : Text) × Gives journal lines × (parts : Parts) × IsScenario bytes parts
+    × (e : JournalFault) × IsJournalFault parts.names parts.links lines e × (fault ≡ unplaced (OfJournal e)))
+
+-- why a replay is not begun: for its scenario, or else for its journal
+abbrev pub StopsReplay : Text → Option Text → Fault → Type 0
+StopsReplay bytes journal fault = StopsReading bytes fault ⊎ ((length bytes ≤ most_bytes) × StopsJournal bytes journal fault)
+
+-- ---- all commands
+
+-- of the bytes that a reader gives
+abbrev pub OfBytes : Option Text → (Text → Type 0) → Type 0
+OfBytes known P = (bytes : Text) × Gives known bytes × P bytes
+
+-- how a command ends that has met no fault
+abbrev pub Ends : Words → Option Text → Option Text → Text → Text → End → Type 0
+Ends (Check _) scenario journal old new end = (end ≡ Done) × (new ≡ old) × OfBytes scenario IsChecked
+Ends (Run _ _ _ _) scenario journal old new end = (end ≡ Done) × OfBytes scenario (λ bytes. IsRunToEnd bytes old new)
+Ends (Replay _ _) scenario journal old new end = (new ≡ old) × OfBytes scenario (λ bytes. OfBytes journal (λ lines. Replays bytes lines end))
+
+-- why a command stops
+abbrev pub Stops : Words → Option Text → Option Text → Fault → Type 0
+Stops (Check _) scenario journal fault = OfBytes scenario (λ bytes. StopsReading bytes fault)
+Stops (Run _ _ _ _) scenario journal fault = OfBytes scenario (λ bytes. StopsFor bytes fault)
+Stops (Replay _ _) scenario journal fault = OfBytes scenario (λ bytes. StopsReplay bytes journal fault)

@@ -1,0 +1,23 @@
+//! Keeps the journal of a run.
+
+ghost use Rattle.std.specs.Prelude.{OnOk};
+ghost use Rattle.play.specs.Ends.{KeepsJournal};
+
+use crate::report::print_report;
+use fabric::Fabric;
+use journal::write_steps;
+use network_model::NoMemory;
+use script::Directory;
+
+/// Adds the text of the journal to `kept`: the steps done, and the report of what they made.
+pub fn keep(fabric: &Fabric, directory: &Directory, kept: &mut Vec<u8>) -> Result<(), NoMemory>
+    ensures { OnOk result (KeepsJournal directory.now fabric.now kept.old.items kept.new.items) }
+{
+    let links = fabric.network().links();
+    if write_steps(directory, links, fabric.journal(), kept).is_err()
+        || print_report(fabric, directory, kept).is_err()
+    {
+        return Err(NoMemory);
+    }
+    Ok(())
+}

@@ -1,0 +1,20 @@
+//! What the program does, over any readers and writers: it checks and runs scenarios, and replays
+//! journals.
+#![tactic(auto)]
+
+mod commands;
+mod fault;
+mod files;
+mod keep;
+mod plan;
+mod program;
+mod read;
+mod replay;
+mod report;
+mod settle;
+#[cfg(test)]
+mod tests;
+
+pub use fault::{Cause, Fault};
+pub use files::Source;
+pub use program::{End, play, refuse};

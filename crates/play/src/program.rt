@@ -1,0 +1,133 @@
+//! What the program does, over any readers and writers.
+
+ghost use Rattle.std.specs.Prelude.{◌≡◌, ◌⊎◌, IfOk, IfErr};
+ghost use Rattle.play.specs.Faults.{status_of};
+ghost use Rattle.play.specs.Scenarios.{StopsFor, StopsReading};
+ghost use Rattle.play.specs.Ends.{status_at, Ends, Stops, OfBytes, IsChecked, IsRunToEnd};
+
+use crate::commands::do_commands;
+use crate::fault::Fault;
+use crate::keep::keep;
+use crate::plan::{Plan, read_plan};
+use crate::read::read_text;
+use crate::replay::replay;
+use fabric::Fabric;
+use std::alloc::Global;
+use std::io::{Read, Write};
+use words::Words;
+
+/// How a command ends that has met no fault.
+#[derive(Clone, Copy, Debug, PartialEq, Eq)]
+pub enum End {
+    /// It did what it was asked for.
+    Done,
+    /// A step of a journal was refused.
+    Refused,
+    /// The report of a journal is not that of the network.
+    Differs,
+}
+
+impl End {
+    /// The exit status of the program.
+    fn status(self) -> u8
+        ensures { result ≡ status_at self }
+    {
+        match self {
+            End::Done => 0,
+            End::Refused => 2,
+            End::Differs => 3,
+        }
+    }
+}
+
+/// Does what the words ask for, and answers the exit status. Only a replay reads `journal`. A fault is
+/// a line on `err`. A write to `out` or `err` that fails is lost, and changes nothing else. Where a run
+/// ends with status 0, its journal's text is added to `kept`.
+pub fn play<R: Read + Drop, J: Read + Drop, W: Write, E: Write>(
+    alloc: Global,
+    words: &Words<'_>,
+    scenario: R,
+    journal: J,
+    out: &mut W,
+    err: &mut E,
+    kept: &mut Vec<u8>,
+) -> u8
+    ensures { ((end : End) × (result ≡ status_at end)
+        × Ends words.now (R.remaining scenario) (J.remaining journal) kept.old.items kept.new.items end)
+        ⊎ ((fault : Fault) × (result ≡ status_of fault.cause)
+        × Stops words.now (R.remaining scenario) (J.remaining journal) fault) }
+{
+    let end = match *words {
+        Words::Check { file: _ } => check(alloc, scenario, out),
+        Words::Run {
+            file: _,
+            threads: _,
+            workers: _,
+            journal: _,
+        } => run(alloc, scenario, out, kept),
+        Words::Replay {
+            file: _,
+            journal: _,
+        } => replay(alloc, scenario, journal, out),
+    };
+    match end {
+        Ok(end) => end.status(),
+        Err(fault) => refuse(fault, err),
+    }
+}
+
+// Reads a scenario, and says what it holds.
+fn check<R: Read + Drop, W: Write>(alloc: Global, scenario: R, out: &mut W) -> Result<End, Fault>
+    ensures ok { IfOk result (λ end. (end ≡ End.Done)
+        × OfBytes (R.remaining scenario) IsChecked) }
+    ensures fault { IfErr result (λ e. OfBytes (R.remaining scenario) (λ bytes. StopsReading bytes e)) }
+{
+    let text = read_text(alloc, scenario)?;
+    let Plan {
+        network,
+        directory: _,
+        commands,
+    } = read_plan(alloc, text.as_str())?;
+    let routers = network.routers();
+    let links = network.links().len();
+    let prefixes = network.owners().len();
+    let commands = commands.len();
+    let _ = writeln!(
+        out,
+        "ok: {routers} routers, {links} links, {prefixes} prefixes, {commands} commands"
+    );
+    Ok(End::Done)
+}
+
+// Opens the network of a scenario, does its commands, says how many steps were done, and keeps their
+// journal.
+fn run<R: Read + Drop, W: Write>(
+    alloc: Global,
+    scenario: R,
+    out: &mut W,
+    kept: &mut Vec<u8>,
+) -> Result<End, Fault>
+    ensures ok { IfOk result (λ end. (end ≡ End.Done)
+        × OfBytes (R.remaining scenario) (λ bytes. IsRunToEnd bytes kept.old.items kept.new.items)) }
+    ensures fault { IfErr result (λ e. OfBytes (R.remaining scenario) (λ bytes. StopsFor bytes e)) }
+{
+    let text = read_text(alloc, scenario)?;
+    let Plan {
+        network,
+        directory,
+        commands,
+    } = read_plan(alloc, text.as_str())?;
+    let mut fabric = Fabric::open(alloc, network)?;
+    do_commands(&mut fabric, &directory, &commands, out)?;
+    let _ = writeln!(out, "done: {} steps", fabric.journal().len());
+    keep(&fabric, &directory, kept)?;
+    Ok(End::Done)
+}
+
+/// Says on `err` why the program stops, and answers its exit status.
+pub fn refuse<E: Write>(fault: Fault, err: &mut E) -> u8
+    ensures { result ≡ status_of fault.cause }
+{
+    let _ = writeln!(err, "dualnet: {fault}");
+    fault.status()
+}

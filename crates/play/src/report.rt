@@ -1,0 +1,159 @@
+//! Prints what a network is at: its links, its routers and their machines.
+
+ghost use Rattle.std.specs.Prelude.{◌≡◌, ◌<◌, Err, IsOk, IfSome, OnOk, OnErr, MatchOption, length, slice_get};
+ghost use Rattle.play.specs.Commands.{unknown_router};
+ghost use Rattle.play.specs.Report.{link_line as line_of_link, router_line as line_of_router, IsMachineLine, IsOriginNumber, Prints, PrintsMachine};
+
+use dual_machine::{Machine, Mode};
+use fabric::{Fabric, Refusal};
+use ipv4_prefix::Prefix;
+use link_fifo::Links;
+use network_model::End;
+use router_core::Router;
+use script::{Directory, LinkLine, MachineLine, RouterLine};
+use std::io;
+use std::io::Write;
+
+/// Prints what a router's machine for a prefix is at, on a line. Refused with `UnknownRouter`. A write
+/// that fails is lost.
+pub fn print_state<W: Write>(
+    fabric: &Fabric,
+    directory: &Directory,
+    router: u16,
+    prefix: Prefix,
+    out: &mut W,
+) -> Result<(), Refusal>
+    ensures cause { MatchOption (unknown_router fabric.now router) (IsOk result) (λ e. result ≡ Err e) }
+    ensures err { OnErr result (out.new ≡ out.old) }
+{
+    let routers = fabric.world().routers();
+    let found = routers
+        .get(usize::from(router))
+        .ok_or(Refusal::UnknownRouter)?;
+    let _ = print_machine(directory, router, found, prefix, out);
+    Ok(())
+}
+
+/// Prints each link, and each router with its machines in the order of their prefixes, a line each, up
+/// to the first write that fails.
+pub fn print_report<W: Write>(fabric: &Fabric, directory: &Directory, out: &mut W) -> io::Result<()>
+    ensures { OnOk result (Prints (W.contents out.old) (W.contents out.new)) }
+{
+    let world = fabric.world();
+    print_links(directory, world.links(), out)?;
+    print_routers(directory, world.routers(), out)
+}
+
+// Prints each link. A network has fewer than 65535.
+fn print_links<W: Write>(directory: &Directory, links: &Links, out: &mut W) -> io::Result<()>
+    ensures { OnOk result (Prints (W.contents out.old) (W.contents out.new)) }
+{
+    let count = u16::try_from(links.len()).unwrap_or(u16::MAX);
+    for link in 0..count {
+        writeln!(out, "{}", directory.link(link_line(links, link)))?;
+    }
+    Ok(())
+}
+
+// Prints each router, with its machines. A network has fewer than 65535 routers.
+fn print_routers<W: Write>(directory: &Directory, routers: &[Router], out: &mut W) -> io::Result<()>
+    ensures { OnOk result (Prints (W.contents out.old) (W.contents out.new)) }
+{
+    let count = u16::try_from(routers.len()).unwrap_or(u16::MAX);
+    for number in 0..count {
+        print_router(directory, number, &routers[usize::from(number)], out)?;
+    }
+    Ok(())
+}
+
+// Prints a router, and its machine for each prefix that it has heard of.
+fn print_router<W: Write>(
+    directory: &Directory,
+    number: u16,
+    router: &Router,
+    out: &mut W,
+) -> io::Result<()>
+    ensures { OnOk result (Prints (W.contents out.old) (W.contents out.new)) }
+{
+    writeln!(out, "{}", directory.router(router_line(number, router)))?;
+    for (prefix, _) in router.table().rows() {
+        print_machine(directory, number, router, prefix, out)?;
+    }
+    Ok(())
+}
+
+// Prints what a router's machine for a prefix is at.
+fn print_machine<W: Write>(
+    directory: &Directory,
+    number: u16,
+    router: &Router,
+    prefix: Prefix,
+    out: &mut W,
+) -> io::Result<()>
+    ensures { OnOk result (PrintsMachine directory.now number router.now prefix (W.contents out.old) (W.contents out.new)) }
+{
+    let again = prefix;
+    match machine_line(number, router, prefix) {
+        Some(line) => writeln!(out, "{}", directory.machine(line)),
+        None => writeln!(out, "{}", directory.unheard(number, again)),
+    }
+}
+
+// What is told of a link.
+fn link_line(links: &Links, link: u16) -> LinkLine
+    requires { link < length links.now }
+    ensures { IfSome (slice_get links.now link) (λ k. result ≡ line_of_link k) }
+{
+    LinkLine {
+        a: links.router(link, End::A),
+        b: links.router(link, End::B),
+        up: links.is_up(link),
+        session: links.session(link),
+        from_a: links.cost(link, End::A),
+        from_b: links.cost(link, End::B),
+        queued_a: links.queued(link, End::A),
+        queued_b: links.queued(link, End::B),
+    }
+}
+
+// What is told of a router.
+fn router_line(number: u16, router: &Router) -> RouterLine
+    ensures { result ≡ line_of_router number router.now }
+{
+    RouterLine {
+        router: number,
+        generation: router.generation(),
+        held: router.held(),
+        ripe: router.ripe(),
+    }
+}
+
+// What is told of a router's machine for a prefix; none where the router has not heard of it.
+fn machine_line(number: u16, router: &Router, prefix: Prefix) -> Option<MachineLine>
+    ensures { IsMachineLine number router.now prefix result }
+{
+    let (again, told) = (prefix, prefix);
+    let entry = router.table().get(prefix)?;
+    let machine = router.machine(again)?;
+    Some(MachineLine {
+        router: number,
+        prefix: told,
+        origin: origin_number(machine),
+        rd: machine.rd(),
+        fd: machine.fd(),
+        entry,
+    })
+}
+
+// The number of the origin state of the computation under way.
+fn origin_number(machine: &Machine) -> Option<u8>
+    ensures { IsOriginNumber machine.now result }
+{
+    match machine.mode() {
+        Mode::Passive => None,
+        Mode::Active { origin, .. } => Some(origin.number()),
+    }
+}
+
+#[cfg(test)]
+mod tests;
