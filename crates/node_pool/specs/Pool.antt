@@ -34,6 +34,12 @@ module _ {T : Type 0} where
     pub blocks : (size : ℕ) → spare new size ≡ spare old size
     pub no_less : room old ≤ room new
 
+  -- another pool has the same cells and the same free blocks
+  pub record HasSameCells (one other : Pool T) : Type 0 where
+    pub values : (k : ℕ) → cell other k ≡ cell one k
+    pub count : cell_count other ≡ cell_count one
+    pub blocks : (size : ℕ) → spare other size ≡ spare one size
+
   -- no cell was added
   pub record IsNoLarger (old new : Pool T) : Type 0 where
     pub count : cell_count new ≡ cell_count old

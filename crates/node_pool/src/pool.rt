@@ -27,7 +27,7 @@ pub struct Pool<T> {
 impl<T: Copy> Pool<T> {
     ghost use Rattle.node_pool.specs.Pool.{cell, cell_count, room, spare, HasNoCells, KeepsBlocks};
     ghost use Rattle.node_pool.specs.Pool.{IsNoLarger, IsBehind, IsTaken, IsGrown};
-    ghost use Rattle.node_pool.specs.Pool.{IsWritten, IsUsedBlock};
+    ghost use Rattle.node_pool.specs.Pool.{IsWritten, IsUsedBlock, HasSameCells};
     ghost use Rattle.node_pool.specs.Cell.{IsFilled};
 
     /// A pool with no cells.
@@ -38,6 +38,16 @@ impl<T: Copy> Pool<T> {
             cells: Vec::new(alloc),
             free: [FreeList { first: 0, count: 0 }; 16],
         }
+    }
+
+    /// A pool with the same cells and the same free blocks. It takes time and memory by the cells.
+    pub fn copy(&self, alloc: Global) -> Result<Self, NoMemory>
+        ensures { IfOk result (λ pool. HasSameCells self.now pool) }
+    {
+        Ok(Pool {
+            cells: Vec::from_slice(alloc, &self.cells)?,
+            free: self.free,
+        })
     }
 
     /// How many cells there are, in use and free.

@@ -1,6 +1,6 @@
 //! The two pools of a tree: one of nodes, one of results.
 
-ghost use Rattle.std.specs.Prelude.{◌≡◌, ◌<◌, ◌≤◌, ◌⊎◌, OnOk, OnErr};
+ghost use Rattle.std.specs.Prelude.{◌≡◌, ◌<◌, ◌≤◌, ◌⊎◌, IfOk, OnOk, OnErr};
 
 use crate::pool::Pool;
 use network_model::NoMemory;
@@ -28,7 +28,7 @@ pub struct NodePool<N, R> {
 }
 
 impl<N: Copy, R: Copy> NodePool<N, R> {
-    ghost use Rattle.node_pool.specs.Pool.{room, HasNoCells, KeepsBlocks};
+    ghost use Rattle.node_pool.specs.Pool.{room, HasNoCells, KeepsBlocks, HasSameCells};
     ghost use Rattle.node_pool.specs.Blocks.{TakesBlock, IsOut, IsGiven};
 
     /// Pools with no cells.
@@ -40,6 +40,17 @@ impl<N: Copy, R: Copy> NodePool<N, R> {
             nodes: Pool::new(alloc),
             results: Pool::new(alloc),
         }
+    }
+
+    /// Pools with the same cells and the same free blocks.
+    pub fn copy(&self, alloc: Global) -> Result<Self, NoMemory>
+        ensures nodes { IfOk result (λ copy. HasSameCells self.now.nodes copy.nodes) }
+        ensures results { IfOk result (λ copy. HasSameCells self.now.results copy.results) }
+    {
+        Ok(NodePool {
+            nodes: self.nodes.copy(alloc)?,
+            results: self.results.copy(alloc)?,
+        })
     }
 
     /// Makes room: after it, takes that together ask for at most `nodes` node cells and `results`

@@ -20,6 +20,17 @@ pub fn empty(alloc: Global) -> Result<Image, NoMemory>
     })
 }
 
+/// An image with the same rows and generation, in memory of its own. It takes time by the nodes of
+/// the image.
+pub fn copy(image: &Image, alloc: Global) -> Result<Image, NoMemory>
+    ensures { IfOk result (λ other. other ≡ image.now) }
+{
+    Ok(Image {
+        tree: image.tree.copy(alloc)?,
+        generation: image.generation,
+    })
+}
+
 /// Sets the row of a prefix.
 pub fn set_row(image: &mut Image, prefix: Prefix, entry: Entry) -> Result<(), NoMemory>
     ensures ok { OnOk result (image.new ≡ record image.old { rows = put prefix_cmp prefix entry image.old.rows }) }

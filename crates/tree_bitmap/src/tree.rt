@@ -43,6 +43,17 @@ impl Tree {
         Ok(Tree { pool })
     }
 
+    /// A tree with the same rows, in memory of its own.
+    pub fn copy(&self, alloc: Global) -> Result<Self, NoMemory>
+        requires { IsSoundTree self.now }
+        ensures sound { IfOk result (λ tree. IsSoundTree tree) }
+        ensures rows { IfOk result (λ tree. rows_in tree ≡ rows_in self.now) }
+    {
+        Ok(Tree {
+            pool: self.pool.copy(alloc)?,
+        })
+    }
+
     /// The place of the child on a path, which is made where there is none.
     fn child(&mut self, index: u32, path: u64, depth: u32) -> Result<u32, NoMemory>
         requires sound { IsSoundTree self.old }

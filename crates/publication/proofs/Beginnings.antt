@@ -1,0 +1,62 @@
+-- Beginnings of lists.
+use Rattle.std.proofs.Common.{◌≡◌, ◌∙◌, ◌+◌, ◌≤◌, List, [], ◌∷◌, ◌++◌, length, refl, ap, sym, arith, append_assoc, length-append}
+use Rattle.std.proofs.lemmas.List.{append-nil}
+use mathlib.Core.List.{IsPrefix}
+use Rattle.network_model.specs.Publication.{Patch}
+use Rattle.publication.specs.declared.known.Known.{Known}
+use Rattle.publication.specs.Lists.{Begins, with_patches}
+
+module _ {A : Type 0} where
+  -- each list begins with itself
+  pub prefix_self : (xs : List A) → IsPrefix xs xs
+  prefix_self xs = ([], append-nil xs)
+
+  -- a beginning of a beginning is a beginning
+  pub prefix_trans : (xs ys zs : List A) → IsPrefix xs ys → IsPrefix ys zs → IsPrefix xs zs
+  prefix_trans xs ys zs a b = (a.0 ++ b.0, sym (append_assoc xs a.0 b.0) ∙ ap (λ l. l ++ b.0) a.1 ∙ b.1)
+
+  shorter : (xs ys more rest whole : List A) → xs ++ more ≡ whole → ys ++ rest ≡ whole → length xs ≤ length ys → IsPrefix xs ys
+  shorter [] ys more rest whole a b less = (ys, refl)
+  shorter (x ∷ xs) [] more rest whole a b less = absurd (omega arith)
+  shorter (x ∷ xs) (y ∷ ys) more rest [] a b less = absurd cc
+  shorter (x ∷ xs) (y ∷ ys) more rest (z ∷ zs) a b less =
+      let first : x ≡ y = cc in
+      let xs_more : xs ++ more ≡ zs = cc in
+      let ys_rest : ys ++ rest ≡ zs = cc in
+      let tail = shorter xs ys more rest zs xs_more ys_rest (omega arith) in
+      (tail.0, ap (λ k. k ∷ (xs ++ tail.0)) first ∙ ap (λ l. y ∷ l) tail.1)
+
+  -- of two beginnings of one list the shorter begins the longer
+  pub prefix_shorter : (xs ys whole : List A) → IsPrefix xs whole → IsPrefix ys whole → length xs ≤ length ys → IsPrefix xs ys
+  prefix_shorter xs ys whole a b less = shorter xs ys a.0 b.0 whole a.1 b.1 less
+
+  all_there : (xs ys more : List A) → xs ++ more ≡ ys → length xs ≡ length ys → xs ≡ ys
+  all_there xs ys [] is len = sym (append-nil xs) ∙ is
+  all_there xs ys (m ∷ more) is len = absurd (omega (arith, length-append xs (m ∷ more), ap length is, len))
+
+  -- a beginning as long as the whole is the whole
+  pub prefix_whole : (xs ys : List A) → IsPrefix xs ys → length xs ≡ length ys → xs ≡ ys
+  prefix_whole xs ys a len = all_there xs ys a.0 a.1 len
+
+pub begins_self : (k : Known) → Begins k k
+begins_self k = record { router = refl; patches = prefix_self k.patches }
+
+pub begins_trans : (j k l : Known) → Begins j k → Begins k l → Begins j l
+begins_trans j k l a b = record { router = b.router ∙ a.router; patches = prefix_trans j.patches k.patches l.patches a.patches b.patches }
+
+-- a list begins itself with more patches
+pub begins_more : (k : Known) (ps : List Patch) → Begins k (with_patches k ps)
+begins_more k ps = record { router = refl; patches = (ps, refl) }
+
+-- of two beginnings of one list of patches, by one router, the shorter begins the longer
+pub begins_shorter : (j k : Known) (whole : List Patch) → k.router ≡ j.router → IsPrefix j.patches whole → IsPrefix k.patches whole → length j.patches ≤ length k.patches → Begins j k
+begins_shorter j k whole same a b less = record { router = same; patches = prefix_shorter j.patches k.patches whole a b less }
+
+-- a list that one of the two begins, that is one patch longer, and that ends with this patch
+pub one_more : (j k before : Known) (p : Patch) → Begins j k → length k.patches ≡ length j.patches + 1 → k ≡ with_patches before (p ∷ []) → k ≡ with_patches j (p ∷ [])
+one_more j k before p begins len is =
+    let all : k.patches ≡ before.patches ++ p ∷ [] = ap (λ l. l.patches) is in
+    let n : length before.patches ≡ length j.patches = omega (arith, len, ap length all, length-append before.patches (p ∷ [])) in
+    let same : j.patches ≡ before.patches = prefix_whole j.patches before.patches (prefix_shorter j.patches before.patches k.patches begins.patches (p ∷ [], sym all) (omega (arith, n))) (sym n) in
+    let patches : k.patches ≡ j.patches ++ p ∷ [] = all ∙ ap (λ ps. ps ++ p ∷ []) (sym same) in
+    λ i. record { router = begins.router i; patches = patches i }

@@ -1,0 +1,45 @@
+-- The images of lists of patches.
+use Rattle.std.proofs.Common.{◌≡◌, ◌∙◌, ◌||◌, ℕ, true, List, [], ◌∷◌, ◌++◌, map, refl, ap, sym, append_assoc}
+use Rattle.std.specs.List.{list_any}
+use Rattle.std.proofs.lemmas.List.{append-nil}
+use Rattle.std.proofs.lemmas.List.Folds.{list_any-append}
+use Rattle.std.proofs.Math.Bool.{or-true}
+use Rattle.ipv4_prefix.specs.Prefix.{Prefix, prefix_eq}
+use Rattle.network_model.specs.declared.route.Entry.{Entry}
+use Rattle.network_model.specs.Publication.{Patch, with_rows, published_generation, published_table}
+use Rattle.image_patch.specs.Patches.{patched}
+use Rattle.publication.specs.declared.known.Known.{Known}
+use Rattle.publication.specs.Lists.{Covers, image_of, is_named, opening_of, prefixes_of, with_patches}
+use Rattle.publication.proofs.RowsAgain.{has_row, rows_again}
+
+-- the last patch makes the generation
+pub generation-last : (g : ℕ) (ps : List Patch) (p : Patch) → published_generation g (ps ++ p ∷ []) ≡ p.generation
+generation-last g [] p = refl
+generation-last g (q ∷ ps) p = generation-last q.generation ps p
+
+table-append : (table : List (Prefix × Entry)) (ps qs : List Patch) → published_table table (ps ++ qs) ≡ published_table (published_table table ps) qs
+table-append table [] qs = refl
+table-append table (p ∷ ps) qs = table-append (with_rows p.rows table) ps qs
+
+-- the image with a patch more is the patched image
+pub image-more : (openings : List (List (Prefix × Entry))) (list : Known) (p : Patch) → image_of openings (with_patches list (p ∷ [])) ≡ patched p.generation p.rows (image_of openings list)
+image-more openings list p = λ i. record { generation = generation-last 0 list.patches p i; rows = table-append (opening_of openings list.router) list.patches (p ∷ []) i }
+
+-- patches whose prefixes are all set again are lost
+patches_again : (waiting : List Patch) (rows table : List (Prefix × Entry)) → ((q : Prefix) → is_named waiting q ≡ true → has_row rows q ≡ true) → with_rows rows (published_table table waiting) ≡ with_rows rows table
+patches_again [] rows table covered = refl
+patches_again (p ∷ ps) rows table covered =
+    let split : (q : Prefix) → is_named (p ∷ ps) q ≡ (has_row p.rows q || is_named ps q) = λ q. list_any-append (λ k. prefix_eq k q) (map (λ (r : Prefix × Entry). r.0) p.rows) (prefixes_of ps) in
+    patches_again ps rows (with_rows p.rows table) (λ q h. covered q (split q ∙ (ap (λ b. has_row p.rows q || b) h ∙ or-true (has_row p.rows q))))
+    ∙ rows_again p.rows rows table (λ q h. covered q (split q ∙ ap (λ b. b || is_named ps q) h))
+
+-- what waits is set again by a patch that covers it
+pub image-covered : (openings : List (List (Prefix × Entry))) (list : Known) (waiting : List Patch) (p : Patch) → Covers p waiting
+    → image_of openings (with_patches list (waiting ++ p ∷ [])) ≡ patched p.generation p.rows (image_of openings list)
+image-covered openings list waiting p covers =
+    let last : list.patches ++ (waiting ++ p ∷ []) ≡ (list.patches ++ waiting) ++ p ∷ [] = sym (append_assoc list.patches waiting (p ∷ [])) in
+    let table = opening_of openings list.router in
+    let now = published_table table list.patches in
+    let rows : published_table table (list.patches ++ (waiting ++ p ∷ [])) ≡ with_rows p.rows now = table-append table list.patches (waiting ++ p ∷ []) ∙ table-append now waiting (p ∷ [])
+    ∙ patches_again waiting p.rows now (λ q h. ap (list_any (λ k. prefix_eq k q)) (sym (append-nil (map (λ (r : Prefix × Entry). r.0) p.rows))) ∙ covers q h) in
+    λ i. record { generation = (ap (published_generation 0) last ∙ generation-last 0 (list.patches ++ waiting) p) i; rows = rows i }

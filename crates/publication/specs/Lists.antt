@@ -1,0 +1,78 @@
+-- Lists of patches, the images that they stand for, and what waits for the next publication.
+use Rattle.std.specs.Prelude.{◌≡◌, ℕ, Bool, true, List, [], ◌∷◌, ◌++◌, map, Option, Some, None, ◌<◌, length, drop, get_or, slice_index_or}
+use Rattle.std.specs.List.{list_any}
+use mathlib.Core.List.{IsPrefix}
+use Rattle.ipv4_prefix.specs.Prefix.{Prefix, prefix_eq}
+use Rattle.network_model.specs.Publication.{Patch, Image, image_answer, published_generation, published_image}
+use Rattle.network_model.specs.declared.route.Answer.{Answer}
+use Rattle.network_model.specs.declared.route.Entry.{Entry}
+use Rattle.image_patch.specs.declared.Patch.{Patch as PatchFields}
+use Rattle.publication.specs.declared.known.Known.{Known}
+
+-- the rows that a patch sets, and the generation that it makes
+abbrev pub patch_of : PatchFields → Patch
+patch_of p = record { generation = p.generation; rows = p.rows.items }
+
+-- a list with more patches behind
+abbrev pub with_patches : Known → List Patch → Known
+with_patches known ps = record { router = known.router; patches = known.patches ++ ps }
+
+-- a router's list with no patches
+abbrev pub no_patches : ℕ → Known
+no_patches router = record { router = router; patches = [] }
+
+-- two lists are of one router, and the one begins the other
+pub record Begins (earlier later : Known) : Type 0 where
+  pub router : later.router ≡ earlier.router
+  pub patches : IsPrefix earlier.patches later.patches
+
+-- the opening table of a router, by the opening tables of all
+abbrev pub opening_of : List (List (Prefix × Entry)) → ℕ → List (Prefix × Entry)
+opening_of openings router = slice_index_or openings router []
+
+-- the image of a list: its router's opening table with the rows of its patches set in order
+abbrev pub image_of : List (List (Prefix × Entry)) → Known → Image
+image_of openings known = published_image (opening_of openings known.router) known.patches
+
+-- the generation of a list: that of its last patch, 0 where it has none
+abbrev pub generation_of : Known → ℕ
+generation_of known = published_generation 0 known.patches
+
+-- what an image answers for an address, with its generation
+abbrev pub answer_of : Image → ℕ → Answer
+answer_of image addr = record { generation = image.generation; matched = image_answer image addr }
+
+-- the prefixes that patches name
+abbrev pub prefixes_of : List Patch → List Prefix
+prefixes_of [] = []
+prefixes_of (p ∷ ps) = map (λ (r : Prefix × Entry). r.0) p.rows ++ prefixes_of ps
+
+-- whether one of the patches names the prefix
+abbrev pub is_named : List Patch → Prefix → Bool
+is_named ps prefix = list_any (λ p. prefix_eq p prefix) (prefixes_of ps)
+
+-- the patch names each prefix that one of these names
+abbrev pub Covers : Patch → List Patch → Type 0
+Covers p ps = (prefix : Prefix) → is_named ps prefix ≡ true → is_named (p ∷ []) prefix ≡ true
+
+-- what a writer has published, and the patches that wait for its next publication
+pub record Writing : Type 0 where
+  pub published : Known
+  pub waiting : List Patch
+
+-- a writer that has published nothing
+abbrev pub new_writing : ℕ → Writing
+new_writing router = record { published = no_patches router; waiting = [] }
+
+-- the fact holds of each element, with its place
+abbrev pub EachAt : {A : Type 0} → (ℕ → A → Type 0) → List A → Type 0
+EachAt {A} P xs = (k : ℕ) (d : A) → k < length xs → P k (get_or xs k d)
+
+-- the patch that found no place among those that wait, if there is one
+abbrev pub held_of : Option Patch → List Patch
+held_of None = []
+held_of (Some p) = p ∷ []
+
+-- the patches that wait: those of a log that are not shown yet, and the one that found no place there
+abbrev pub pending : ℕ → List Patch → Option Patch → List Patch
+pending shown log held = drop shown log ++ held_of held

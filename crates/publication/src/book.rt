@@ -1,0 +1,293 @@
+//! The list of patches that a writer announced, which exists in the proofs alone, and what knows a
+//! beginning of it.
+
+ghost use Rattle.std.specs.Prelude.{◌≡◌, ◌⊎◌, ◌+◌, ◌∷◌, ◌↔◌, [], ℕ, length, IfSome, IfOk, IsTrue, vec_len};
+ghost use Rattle.std.specs.Bool.{OnTrue};
+ghost use Rattle.publication.specs.Lists.{Begins, generation_of, no_patches, patch_of, with_patches};
+ghost use Rattle.publication.specs.Names.{book_of, head_of};
+
+use crate::known::Change;
+use image_patch::Patch;
+use logbook::{Gain, Offer, Plain, Play, Rule, Seen, Start, Word};
+use network_model::NoMemory;
+use std::alloc::Global;
+use std::marker::{Brand, Model, PhantomData};
+
+/// The rule of a book: its word counts the patches.
+pub struct Law;
+
+impl Rule<Change, u64> for Law {
+    ghost use Rattle.std.specs.Prelude.{[]};
+    ghost use base.Fml.{ftrue};
+    ghost use Rattle.publication.specs.Names.{IsKept};
+
+    ghost holds = { λ cells log. IsKept cells log };
+
+    ghost first = { [] };
+
+    ghost hinted = { λ n log. Unit {0} };
+
+    ghost shows = { λ log. [] };
+
+    ghost keeps = { λ names log. ftrue };
+
+    ghost moves = { λ ask before after answer. Unit {0} };
+}
+
+/// Callers trade nothing.
+pub struct Nothing;
+
+impl Gain<Change, u64> for Nothing {
+    ghost use base.Fml.{ftrue};
+
+    ghost after = { λ names about answer. ftrue };
+}
+
+/// A step that adds a patch.
+pub struct Add;
+
+impl Play<Change, u64> for Add {
+    ghost use Rattle.publication.specs.Names.{Adds};
+
+    ghost then = { Adds };
+}
+
+/// What a step asks for: the patch.
+impl Plain<Patch, Change, u64> for Add {
+    ghost use Rattle.std.specs.Prelude.{None};
+    ghost use Rattle.publication.specs.Lists.{patch_of};
+
+    ghost ask = { λ patch. patch_of patch };
+
+    ghost state = { λ patch. None };
+}
+
+/// Which fabric a writer, a reader or a `Told` is of: the books of its writers and the tables that
+/// they open with, by their routers' numbers. A generic function has it as a type parameter, and its
+/// caller chooses it, once the `Unnamed` parts are made.
+pub trait Naming {
+    ghost use Rattle.std.specs.Prelude.{List};
+    ghost use Rattle.logbook.specs.Pages.{Book};
+    ghost use Rattle.ipv4_prefix.specs.Prefix.{Prefix};
+    ghost use Rattle.network_model.specs.declared.route.Entry.{Entry};
+
+    ghost books: { List Book };
+
+    ghost openings: { List (List (Prefix × Entry)) };
+}
+
+impl Naming for Brand {
+    ghost use Rattle.std.specs.Prelude.{[]};
+
+    ghost books = { [] };
+
+    ghost openings = { [] };
+}
+
+/// What a writer is made of before its fabric has a name. Contracts see it as its book.
+#[derive(Drop)]
+pub struct Unnamed {
+    head: Word<Change, u64, Law>,
+    seen: Seen<Change, u64, Law>,
+}
+
+impl Model for Unnamed {
+    ghost use Rattle.std.specs.Prelude.{◌≡◌, []};
+    ghost use Rattle.logbook.specs.Pages.{Book};
+    ghost use Rattle.publication.specs.Names.{head_of};
+
+    ghost Value = { Book };
+
+    ghost view = { λ u. u.seen.book };
+
+    ghost invariant = { λ u. (u.head ≡ head_of u.seen.book) × (u.seen.log ≡ []) };
+}
+
+impl Unnamed {
+    /// The part of one writer.
+    pub fn new() -> Unnamed {
+        let (seen, mut first, _second) = Seen::open(Start::alone(), 0, 0);
+        Unnamed {
+            head: Word::tracked(0, &mut first),
+            seen,
+        }
+    }
+
+    /// The parts of so many writers.
+    pub fn many(alloc: Global, count: usize) -> Result<Vec<Unnamed>, NoMemory>
+        ensures { IfOk result (λ all. vec_len all ≡ count) }
+    {
+        let mut all = Vec::with_capacity(alloc, count)?;
+        for _ in 0..count {
+            all.push_reserved(Unnamed::new());
+        }
+        Ok(all)
+    }
+
+    /// The book's word under a name, and the list with nothing in it.
+    pub(crate) fn named<B: Naming>(self, router: u16) -> (Ledger<B>, Told<B>)
+        requires { self ≡ book_of B.books router }
+        ensures ledger { result.0.router ≡ router }
+        ensures told { result.1 ≡ no_patches router }
+    {
+        let Unnamed { head, seen } = self;
+        let ledger = Ledger {
+            router,
+            head,
+            of: PhantomData,
+        };
+        let told = Told {
+            router,
+            count: 0,
+            generation: 0,
+            seen,
+            of: PhantomData,
+        };
+        (ledger, told)
+    }
+}
+
+/// The word that counts the patches of a list. The writer has it.
+#[derive(Drop)]
+pub(crate) struct Ledger<B: Naming> {
+    router: u16,
+    head: Word<Change, u64, Law>,
+    of: PhantomData<B>,
+    ghost head_is: { head ≡ head_of (book_of B.books router) },
+}
+
+/// What was told of a writer: a list of patches, which begins all that the writer publishes later.
+/// It takes no memory.
+#[derive(Drop)]
+pub struct Told<B: Naming> {
+    router: u16,
+    count: u64,
+    generation: u64,
+    seen: Seen<Change, u64, Law>,
+    of: PhantomData<B>,
+}
+
+impl<B: Naming> Model for Told<B> {
+    ghost use Rattle.std.specs.Prelude.{◌≡◌, length};
+    ghost use Rattle.network_model.specs.Publication.{published_generation};
+    ghost use Rattle.publication.specs.declared.known.Known.{Known};
+    ghost use Rattle.publication.specs.Names.{book_of};
+
+    ghost Value = { Known };
+
+    ghost view = { λ t. record { router = t.router; patches = t.seen.log } };
+
+    ghost invariant = { λ t. (t.count ≡ length t.seen.log)
+        × (t.generation ≡ published_generation 0 t.seen.log)
+        × (t.seen.book ≡ book_of B.books t.router) };
+}
+
+impl<B: Naming> Told<B> {
+    /// The number of the writer's router.
+    pub fn router(&self) -> u16
+        ensures { result ≡ self.now.router }
+    {
+        self.router
+    }
+
+    /// The generation of the list: that of its last patch, 0 where it has none.
+    pub fn generation(&self) -> u64
+        ensures { result ≡ generation_of self.now }
+    {
+        self.generation
+    }
+
+    /// A copy.
+    pub fn again(&self) -> Told<B>
+        ensures { result ≡ self.now }
+    {
+        Told {
+            router: self.router,
+            count: self.count,
+            generation: self.generation,
+            seen: self.seen.again(),
+            of: PhantomData,
+        }
+    }
+
+    /// The longer of two lists of one writer, which the other begins.
+    pub(crate) fn longer(&self, other: &Told<B>) -> Told<B>
+        requires { other.now.router ≡ self.now.router }
+        ensures one { (result ≡ self.now) ⊎ (result ≡ other.now) }
+        ensures this { Begins self.now result }
+        ensures that { Begins other.now result }
+    {
+        let mut both = self.seen.again();
+        both.learn(&other.seen);
+        if self.count < other.count {
+            other.again()
+        } else {
+            self.again()
+        }
+    }
+
+    /// Whether the other is of the same writer and no shorter. Then this begins it.
+    pub(crate) fn begins(&self, other: &Told<B>) -> bool
+        ensures { OnTrue result (Begins self.now other.now) }
+    {
+        if self.router != other.router || self.count > other.count {
+            return false;
+        }
+        let mut both = self.seen.again();
+        both.learn(&other.seen);
+        true
+    }
+
+    /// Whether both are one list.
+    pub(crate) fn is(&self, other: &Told<B>) -> bool
+        ensures { IsTrue result ↔ (self.now ≡ other.now) }
+    {
+        if self.router != other.router || self.count != other.count {
+            return false;
+        }
+        let mut both = self.seen.again();
+        both.learn(&other.seen);
+        true
+    }
+
+    /// Whether it is of the same writer and one patch longer. Then the other begins it.
+    pub(crate) fn follows(&self, other: &Told<B>) -> bool
+        ensures { OnTrue result
+            (Begins other.now self.now × (length self.now.patches ≡ length other.now.patches + 1)) }
+    {
+        if other.count >= self.count || self.count - other.count != 1 {
+            return false;
+        }
+        other.begins(self)
+    }
+
+    /// The list with one patch more. None where the list is longer than this.
+    pub(crate) fn add(&self, ledger: &Ledger<B>, patch: &Patch) -> Option<Told<B>>
+        requires { ledger.now.router ≡ self.now.router }
+        ensures { IfSome result (λ t. t ≡ with_patches self.now (patch_of patch.now ∷ [])) }
+    {
+        if self.count == u64::MAX {
+            return None;
+        }
+        let mut seen = self.seen.again();
+        let mut offer: Offer<Change, u64, Law, Nothing> = seen.plain::<Nothing, Patch, Add>(patch);
+        let mut pen = seen.no_pen();
+        let found = ledger.head.compare_exchange::<Add, Nothing>(
+            self.count,
+            self.count + 1,
+            &mut seen,
+            &mut offer,
+            &mut pen,
+        );
+        if found != self.count {
+            return None;
+        }
+        Some(Told {
+            router: self.router,
+            count: self.count + 1,
+            generation: patch.generation,
+            seen,
+            of: PhantomData,
+        })
+    }
+}

@@ -1,0 +1,114 @@
+//! A reader.
+
+ghost use Rattle.std.specs.Prelude.{◌≡◌, ◌⊎◌, ◌↔◌, true, false, None, IfOk, IsTrue, OnErr};
+ghost use Rattle.std.specs.Bool.{OnTrue};
+ghost use Rattle.left_right.specs.Sides.{view};
+ghost use Rattle.publication.specs.Lists.{Begins, answer_of, image_of};
+
+use crate::book::{Naming, Told};
+use crate::edition::Edition;
+use crate::known::Known;
+use crate::rule::{Sees, Shown};
+use left_right::reader::Reader;
+use network_model::Answer;
+use std::marker::Model;
+use thiserror::Error;
+
+/// The writer is closed. By its contract `left_right` may give a reader no copy in other cases too,
+/// or an older one than it was told of; it does not.
+#[derive(Clone, Copy, Debug, PartialEq, Eq, Drop, Error)]
+#[error("34 NoImage")]
+pub struct NoImage;
+
+/// Looks addresses up, with no lock and no wait. Contracts see it as its view: a list that its
+/// writer has published.
+#[derive(Drop)]
+pub struct ImageReader<B: Naming> {
+    reader: Option<Reader<Edition<B>, Option<Known>, Shown<B>>>,
+    told: Told<B>,
+    // It has seen no copy since it was told of its list.
+    ahead: bool,
+}
+
+impl<B: Naming> Model for ImageReader<B> {
+    ghost use Rattle.std.specs.Prelude.{◌≡◌, Some, false, IfSome};
+    ghost use Rattle.publication.specs.declared.known.Known.{Known};
+
+    ghost Value = { Known };
+
+    ghost view = { λ r. r.told };
+
+    ghost invariant = { λ r. r.ahead ≡ false → IfSome r.reader (λ x. x.place.me.0.client ≡ Some r.told) };
+}
+
+// Whether what was seen begins a copy's list. By the rule it does, but where it was told of more than
+// it has seen.
+fn goes_on<B: Naming>(seen: &Told<B>, shown: &Told<B>, ahead: bool) -> bool
+    requires { ahead ≡ false → Begins seen.now shown.now }
+    ensures begins { OnTrue result (Begins seen.now shown.now) }
+    ensures sure { ahead ≡ false → result ≡ true }
+{
+    if ahead { seen.begins(shown) } else { true }
+}
+
+impl<B: Naming> ImageReader<B> {
+    pub(crate) fn new(
+        reader: Reader<Edition<B>, Option<Known>, Shown<B>>,
+        told: Told<B>,
+    ) -> ImageReader<B>
+        ensures { result ≡ told }
+    {
+        ImageReader {
+            reader: Some(reader),
+            told,
+            ahead: true,
+        }
+    }
+
+    /// Looks an address up in the image of the view that it then has: the list that its writer has
+    /// published last. It takes no memory. Refused, the view stays.
+    pub fn lookup(&mut self, addr: u32) -> Result<Answer, NoImage>
+        ensures later { Begins self.old self.new }
+        ensures answer { IfOk result (λ a. a ≡ answer_of (image_of B.openings self.new) addr) }
+        ensures refused { OnErr result (self.new ≡ self.old) }
+    {
+        let Some(reader) = self.reader.take() else {
+            return Err(NoImage);
+        };
+        match reader.enter_as::<Sees>() {
+            Ok(reading) => {
+                let (answer, told) = reading.get().answer(addr);
+                self.reader = Some(reading.leave());
+                if !goes_on(&self.told, &told, self.ahead) {
+                    self.ahead = true;
+                    return Err(NoImage);
+                }
+                self.told = told;
+                self.ahead = false;
+                Ok(answer)
+            }
+            Err(reader) => {
+                self.reader = Some(reader);
+                Err(NoImage)
+            }
+        }
+    }
+
+    /// Whether its view is just what was told: its writer has shown it nothing later.
+    pub fn is_at(&self, told: &Told<B>) -> bool
+        ensures { IsTrue result ↔ (self.now ≡ told.now) }
+    {
+        self.told.is(told)
+    }
+
+    /// From now on the view begins with what was told by this reader's writer.
+    pub fn learn(&mut self, told: &Told<B>)
+        requires { told.now.router ≡ self.old.router }
+        ensures later { Begins self.old self.new }
+        ensures told { Begins told.now self.new }
+        ensures either { (self.new ≡ self.old) ⊎ (self.new ≡ told.now) }
+    {
+        self.told = self.told.longer(told);
+        self.ahead = true;
+    }
+}

@@ -1,0 +1,30 @@
+//! The rule of the two copies: what each reader saw begins the list that is shown.
+
+use crate::book::Naming;
+use crate::edition::Edition;
+use crate::known::Known;
+use crossbeam_utils::rule::{Outcome, Protocol};
+use std::marker::PhantomData;
+
+/// A view is the list of a copy that was shown.
+pub struct Shown<B: Naming> {
+    of: PhantomData<B>,
+}
+
+impl<B: Naming> Protocol<Edition<B>, Option<Known>> for Shown<B> {
+    ghost use Rattle.std.specs.Prelude.{None};
+    ghost use Rattle.publication.specs.Views.{Keeps};
+
+    ghost holds = { λ shown views. Keeps shown views };
+
+    ghost first = { None };
+}
+
+/// What was shown before is seen, and what is shown afterwards.
+pub struct Sees;
+
+impl<B: Naming> Outcome<Edition<B>, Option<Known>> for Sees {
+    ghost use Rattle.publication.specs.Views.{Sees};
+
+    ghost then = { λ view before after now. Sees view before after now };
+}

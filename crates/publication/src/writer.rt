@@ -1,0 +1,238 @@
+//! The writer of an image.
+
+ghost use Rattle.std.specs.Prelude.{◌≡◌, ◌⊎◌, ◌+◌, ◌++◌, ◌∷◌, ◌≤◌, [], map, All, IfOk, OnOk, OnErr, vec_len};
+ghost use Rattle.std.specs.Vec.{vec_capacity};
+ghost use Rattle.image_patch.specs.Patches.{patched};
+ghost use Rattle.publication.specs.Lists.{Covers, generation_of, image_of, is_named, new_writing, no_patches, opening_of, patch_of, with_patches};
+ghost use Rattle.publication.specs.Names.{book_of};
+ghost use Rattle.publication.specs.declared.writer.OpenFault.TheVariants.{NoMemory as OutOfMemory};
+
+use crate::book::{Ledger, Naming, Told, Unnamed};
+use crate::edition::{Announced, Edition};
+use crate::known::Known;
+use crate::press::{Copies, Press};
+use crate::reader::ImageReader;
+use crate::rule::Shown;
+use image_patch::Patch;
+use left_right::Absorb;
+use left_right::reader::Factory;
+use left_right::writer::Writer;
+use network_model::{NoMemory, Prefix};
+use std::alloc::Global;
+use std::marker::Model;
+use std::sync::Wait;
+use thiserror::Error;
+use tree_bitmap::Image;
+use tree_bitmap::parts::copy;
+
+/// Why no writer was made. Its text is its number and name.
+#[derive(Clone, Copy, Debug, PartialEq, Eq, Drop, Error)]
+pub enum OpenFault {
+    /// A growth was refused.
+    #[error("20 NoMemory")]
+    NoMemory,
+    /// `left_right` gave no place for a reader.
+    #[error("23 NoReaderPlace")]
+    NoReaderPlace,
+}
+
+impl From<NoMemory> for OpenFault {
+    ghost from_gives = { λ _ e. e ≡ OutOfMemory };
+
+    fn from(_error: NoMemory) -> OpenFault {
+        OpenFault::NoMemory
+    }
+}
+
+/// Publishes patches. It is not `Drop`: end it by `close`. Contracts see the list that it has
+/// published, and the patches that wait since a publication was refused.
+pub struct ImageWriter<B: Naming>
+where
+    Edition<B>: Absorb<Announced<B>, State = Known>,
+{
+    press: Press<B>,
+    ledger: Ledger<B>,
+    // All that was announced: what was published, and what waits.
+    told: Told<B>,
+    // The prefixes that waiting patches name.
+    prefixes: Vec<Prefix>,
+}
+
+impl<B: Naming> Model for ImageWriter<B>
+where
+    Edition<B>: Absorb<Announced<B>, State = Known>,
+{
+    ghost use Rattle.std.specs.Prelude.{◌≡◌};
+    ghost use Rattle.publication.specs.Lists.{Writing, pending, prefixes_of, with_patches};
+
+    ghost Value = { Writing };
+
+    ghost view = { λ w. record {
+      published = w.press.writer.desk.shown.value;
+      waiting = pending w.press.writer.behind w.press.writer.log.items w.press.held;
+    } };
+
+    ghost invariant = { λ w. (w.told ≡ with_patches w.press.writer.desk.shown.value
+        (pending w.press.writer.behind w.press.writer.log.items w.press.held))
+        × (w.prefixes.items
+        ≡ prefixes_of (pending w.press.writer.behind w.press.writer.log.items w.press.held))
+        × (w.ledger.router ≡ w.told.router) };
+}
+
+// The list with the patch behind it. It waits for ever where the list is longer than this, as no
+// writer's own is, or has 2^64 - 1 patches.
+fn announce<B: Naming, R: Wait>(
+    rt: &R,
+    told: &Told<B>,
+    ledger: &Ledger<B>,
+    patch: &Patch,
+) -> Told<B>
+    requires { ledger.now.router ≡ told.now.router }
+    ensures { result ≡ with_patches told.now (patch_of patch.now ∷ []) }
+{
+    if let Some(longer) = told.add(ledger, patch) {
+        return longer;
+    }
+    for _ in rt.forever() {}
+    unreachable!()
+}
+
+// Adds the prefixes that a patch names.
+fn note_prefixes(prefixes: &mut Vec<Prefix>, patch: &Patch)
+    requires { vec_len prefixes.old + vec_len patch.now.rows ≤ vec_capacity prefixes.old }
+    ensures { prefixes.new.items ≡ prefixes.old.items ++ map (λ r. r.0) patch.now.rows.items }
+{
+    for row in patch.rows.as_slice() {
+        prefixes.push_reserved(row.0);
+    }
+}
+
+impl<B: Naming> ImageWriter<B> {
+    /// What was published, for readers to learn.
+    pub fn tell(&self) -> Told<B>
+        ensures { result ≡ self.now.published }
+    {
+        self.press.shown()
+    }
+
+    /// The generation of the image in force: that of the patch that was published last, or 0.
+    pub fn generation(&self) -> u64
+        ensures { result ≡ generation_of self.now.published }
+    {
+        self.press.shown().generation()
+    }
+
+    /// Whether a patch that waits names the prefix.
+    pub fn waits_for(&self, prefix: Prefix) -> bool
+        ensures { result ≡ is_named self.now.waiting prefix }
+    {
+        self.prefixes.as_slice().contains(&prefix)
+    }
+
+    /// Puts a patch in force, and just before it those that wait. The patch has the next generation,
+    /// and names each prefix for which `waits_for` is true. It waits for readers that still look up
+    /// in the copy to be changed. Refused, readers see what they saw, and the patch may wait for the
+    /// next call.
+    pub fn publish<R: Wait>(&mut self, rt: &R, patch: Patch) -> Result<Told<B>, NoMemory>
+        requires number { patch.generation ≡ generation_of self.old.published + 1 }
+        requires covers { Covers (patch_of patch) self.old.waiting }
+        ensures told { IfOk result (λ t. t ≡ self.new.published) }
+        ensures list { OnOk result (self.new.published
+            ≡ with_patches self.old.published (self.old.waiting ++ patch_of patch ∷ [])) }
+        ensures waiting { OnOk result (self.new.waiting ≡ []) }
+        ensures image { OnOk result (image_of B.openings self.new.published
+            ≡ patched patch.generation patch.rows.items (image_of B.openings self.old.published)) }
+        ensures unseen { OnErr result (self.new.published ≡ self.old.published) }
+        ensures refused { OnErr result ((self.new.waiting ≡ self.old.waiting)
+            ⊎ (self.new.waiting ≡ self.old.waiting ++ patch_of patch ∷ [])) }
+    {
+        self.prefixes.reserve(patch.rows.len())?;
+        self.press.settle()?;
+        let told = announce(rt, &self.told, &self.ledger, &patch);
+        note_prefixes(&mut self.prefixes, &patch);
+        self.told = told.again();
+        self.press.add(Announced::new(patch, told))?;
+        self.press.show(rt)?;
+        self.prefixes.clear();
+        Ok(self.press.shown())
+    }
+
+    /// Ends the writer. It waits for readers that are looking up; from then on they find no image.
+    pub fn close<R: Wait>(self, rt: &R) {
+        let ImageWriter {
+            press,
+            ledger: _ledger,
+            told: _told,
+            prefixes: _prefixes,
+        } = self;
+        press.close(rt);
+    }
+}
+
+// So many readers, with nothing published.
+fn make_readers<B: Naming>(
+    alloc: Global,
+    factory: &Factory<Edition<B>, Option<Known>, Shown<B>>,
+    told: &Told<B>,
+    count: u8,
+) -> Result<Vec<ImageReader<B>>, OpenFault>
+    ensures { IfOk result (λ readers. (vec_len readers ≡ count) × All (λ r. r ≡ told.now) readers.items) }
+{
+    let mut readers = Vec::new(alloc);
+    for _ in 0..count {
+        let Ok(reader) = factory.reader() else {
+            return Err(OpenFault::NoReaderPlace);
+        };
+        if readers
+            .push(ImageReader::new(reader, told.again()))
+            .is_err()
+        {
+            return Err(OpenFault::NoMemory);
+        }
+    }
+    Ok(readers)
+}
+
+/// The writer of a router, whose image in force is the one given, and so many readers of it. The image
+/// is the router's opening table, with generation 0.
+pub fn open<B: Naming, R: Wait>(
+    rt: &R,
+    alloc: Global,
+    unnamed: Unnamed,
+    router: u16,
+    image: Image,
+    readers: u8,
+) -> Result<(ImageWriter<B>, Vec<ImageReader<B>>), OpenFault>
+    requires name { unnamed ≡ book_of B.books router }
+    requires generation { image.generation ≡ 0 }
+    requires rows { image.rows ≡ opening_of B.openings router }
+    ensures writer { IfOk result (λ o. o.0 ≡ new_writing router) }
+    ensures count { IfOk result (λ o. vec_len o.1 ≡ readers) }
+    ensures readers { IfOk result (λ o. All (λ r. r ≡ no_patches router) o.1.items) }
+{
+    let second = copy(&image, alloc)?;
+    let (ledger, told) = unnamed.named::<B>(router);
+    let first = Edition::new(image, told.again());
+    let second = Edition::new(second, told.again());
+    let made: Result<Copies<B>, _> = Writer::new(alloc, first, second, usize::from(readers) + 1);
+    let Ok(writer) = made else {
+        return Err(OpenFault::NoMemory);
+    };
+    match make_readers(alloc, writer.factory(), &told, readers) {
+        Ok(list) => {
+            let prefixes = Vec::new(alloc);
+            let press = Press::new(writer);
+            let writer = ImageWriter {
+                press,
+                ledger,
+                told,
+                prefixes,
+            };
+            Ok((writer, list))
+        }
+        Err(fault) => {
+            writer.take(rt);
+            Err(fault)
+        }
+    }
+}
