@@ -7,11 +7,12 @@ ghost use Rattle.dualnet.specs.Files.{scenario_of, read_journal, kept_journal};
 use network_model::NoMemory;
 use play::{Cause, Fault, Source, play, refuse};
 use std::process::ExitCode;
+use std::sync::Wait;
 use std::{env, fs, io};
 use words::{Error, ErrorKind, Words, exit_status, not_utf8, read_words};
 
 fn main(rt: HostRuntime) -> ExitCode {
-    let status = match status(&rt) {
+    let status = match status(&rt, &rt) {
         Ok(status) => status,
         Err(_) => refuse(Fault::from(NoMemory), &mut rt.stderr()),
     };
@@ -19,7 +20,7 @@ fn main(rt: HostRuntime) -> ExitCode {
 }
 
 // Does what the command line asks for.
-fn status(rt: &HostRuntime) -> io::Result<u8> {
+fn status<H: Wait>(rt: &HostRuntime, wait: &H) -> io::Result<u8> {
     let alloc = rt.alloc();
     let args = match env::args(rt) {
         Ok(args) => args,
@@ -31,7 +32,7 @@ fn status(rt: &HostRuntime) -> io::Result<u8> {
     let given: Vec<String> = args.collect(alloc)?;
     let words: Vec<&str> = given.iter().map(|word| word.as_str()).collect(alloc)?;
     match read_words(alloc, words.as_slice()) {
-        Ok(words) => Ok(done(rt, &words)),
+        Ok(words) => Ok(done(rt, wait, &words)),
         Err(error) => Ok(tell(rt, &error)),
     }
 }
@@ -49,7 +50,7 @@ fn tell(rt: &HostRuntime, error: &Error) -> u8 {
 }
 
 // Does what the words ask for, over the files that they name.
-fn done(rt: &HostRuntime, words: &Words<'_>) -> u8 {
+fn done<H: Wait>(rt: &HostRuntime, wait: &H, words: &Words<'_>) -> u8 {
     let scenario = open_file(rt, scenario_path(words));
     let journal = match replayed_path(words) {
         Some(path) => open_file(rt, path),
@@ -57,6 +58,7 @@ fn done(rt: &HostRuntime, words: &Words<'_>) -> u8 {
     };
     let mut kept = Vec::new(rt.alloc());
     let status = play(
+        wait,
         rt.alloc(),
         words,
         scenario,

@@ -8,6 +8,7 @@ use play::{Source, play};
 use std::alloc::Global;
 use std::io::{Read, Write};
 use std::process::ExitCode;
+use std::sync::Wait;
 use std::{fs, io};
 use words::Words;
 
@@ -26,7 +27,7 @@ fn main(rt: HostRuntime) -> ExitCode {
     let mut out = rt.stdout();
     let mut status = 0;
     for name in EXAMPLES {
-        let verdict = match tried(&rt, name) {
+        let verdict = match tried(&rt, &rt, name) {
             Ok(verdict) => verdict,
             Err(_) => Verdict::IsUnread,
         };
@@ -59,7 +60,7 @@ impl Verdict {
 }
 
 // Runs a scenario, and replays its journal.
-fn tried(rt: &HostRuntime, name: &str) -> io::Result<Verdict> {
+fn tried<H: Wait>(rt: &HostRuntime, wait: &H, name: &str) -> io::Result<Verdict> {
     let alloc = rt.alloc();
     let scenario = format!(in alloc; "{name}.toml")?;
     let output = format!(in alloc; "{name}.out")?;
@@ -72,13 +73,13 @@ fn tried(rt: &HostRuntime, name: &str) -> io::Result<Verdict> {
     };
     let missing: Source<io::Empty> = Source::Missing;
     let file = fs::open(rt, scenario.as_str())?;
-    let ran = played(alloc, &run, file, missing);
+    let ran = played(wait, alloc, &run, file, missing);
     let replay = Words::Replay {
         file: scenario.as_str(),
         journal: "",
     };
     let file = fs::open(rt, scenario.as_str())?;
-    let replayed = played(alloc, &replay, file, ran.kept.as_slice());
+    let replayed = played(wait, alloc, &replay, file, ran.kept.as_slice());
     Ok(judge(&ran, &wanted, &replayed))
 }
 
@@ -104,7 +105,8 @@ struct Outcome {
     kept: Vec<u8>,
 }
 
-fn played<R: Read + Drop, J: Read + Drop>(
+fn played<H: Wait, R: Read + Drop, J: Read + Drop>(
+    wait: &H,
     alloc: Global,
     words: &Words<'_>,
     scenario: R,
@@ -114,7 +116,7 @@ fn played<R: Read + Drop, J: Read + Drop>(
     let mut err = Vec::new(alloc);
     let mut kept = Vec::new(alloc);
     let status = play(
-        alloc, words, scenario, journal, &mut out, &mut err, &mut kept,
+        wait, alloc, words, scenario, journal, &mut out, &mut err, &mut kept,
     );
     Outcome { status, out, kept }
 }

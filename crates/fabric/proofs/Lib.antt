@@ -2,3 +2,9 @@ pub mod Fabrics
 pub mod Rest
 pub mod Headline
 pub mod Idle
+pub mod Setting
+pub mod Hearing
+pub mod Dealing
+pub mod Showing
+pub mod Opening
+pub mod Publishing

@@ -1,73 +1,98 @@
 //! The fabric: a world, the images in force, and the journal.
 
-ghost use Rattle.std.specs.Prelude.{ℕ, None, IsTrue, ◌≡◌, ◌≤◌, ◌++◌, ◌<◌, ◌↔◌, [], ◌∷◌, take, length, slice_get, IfOk, IfErr, IfSome, IsOk, OnOk, OnErr, MatchOption};
-ghost use Rattle.std.specs.Option.{ok_or};
+ghost use Rattle.std.specs.Prelude.{ℕ, None, Some, IsTrue, ◌≡◌, ◌≢◌, ◌⊎◌, ◌≤◌, ◌++◌, ◌<◌, ◌↔◌, [], ◌∷◌, take, length, slice_get, vec_len, All, IfOk, IfErr, IfSome, IsOk, OnOk, OnErr, MatchOption};
 ghost use Rattle.network_model.specs.World as model;
 ghost use Rattle.network_model.specs.Step as steps;
 ghost use Rattle.network_model.specs.Run.{Runs};
 ghost use Rattle.network_model.specs.Journal.{most_steps};
 ghost use Rattle.world.specs.Steps.{IsDoneOr, StopsAt};
+ghost use Rattle.publication.specs.Lists.{answer_of as seen_answer, image_of};
 ghost use Rattle.fabric.specs.Fabric.{opening_fabric, after_step, fabric_refusal, ForwardsAsPublished};
 ghost use Rattle.fabric.specs.Images.{answer_at};
 ghost use Rattle.fabric.specs.Headline.{NeverMeetsTwice, LeadsAtLeastCost};
+ghost use Rattle.fabric.specs.Writers.{IsPort, opening_tables, waiting_at};
 ghost use Rattle.network_model.specs.Turns as turns;
 
 use crate::images::{opening_images, patch_due};
+use crate::ports::deal;
 use crate::watched::WatchedWorld;
-use image_patch::Apply;
-use network_model::{Answer, Refusal, Step};
+use network_model::{Answer, Prefix, Refusal, Step};
+use publication::{ImageReader, ImageWriter, Job, Naming, Told, Unnamed, close_all, open_all};
 use route_table::RouteTable;
 use std::alloc::Global;
 use std::marker::Model;
-use tree_bitmap::Image;
+use std::sync::Wait;
 use world::{Network, Ran, World};
 
 /// The greatest number of steps in a journal.
 pub const MOST_STEPS: usize = 1_000_000;
 
 /// A network that runs, with the image in force at each router, and the journal: all steps done since
-/// it was opened, in order.
-#[derive(Drop)]
-pub struct Fabric {
+/// it was opened, in order. It is not `Drop`: end it by `close`.
+pub struct Fabric<B: Naming> {
     network: Network,
     world: WatchedWorld,
-    images: Vec<Image>,
+    // The writer of each router's image.
+    writers: Vec<ImageWriter<B>>,
+    // A reader of each router's image, for `lookup`.
+    readers: Vec<ImageReader<B>>,
     // Its room was made at the opening.
     journal: Vec<Step>,
 }
 
-impl Model for Fabric {
+impl<B: Naming> Model for Fabric<B> {
     ghost use Rattle.std.specs.Prelude.{vec_capacity};
     ghost use Rattle.fabric.specs.Fabric.{Fabric as FabricState, fabric_of, IsKept};
+    ghost use Rattle.fabric.specs.Writers.{AreReaders, AreWriters, shown_images};
 
     ghost Value = { FabricState };
 
-    ghost view = { λ f. fabric_of f.network f.journal.items f.world f.images.items };
+    ghost view = { λ f. fabric_of f.network f.journal.items f.world (shown_images B.openings f.writers.items) };
 
-    ghost invariant = { λ f. IsKept (fabric_of f.network f.journal.items f.world f.images.items) (vec_capacity f.journal) };
+    ghost invariant = { λ f. IsKept (fabric_of f.network f.journal.items f.world (shown_images B.openings f.writers.items)) (vec_capacity f.journal)
+        × AreWriters f.world f.writers.items × AreReaders f.world f.readers.items };
 }
 
-impl Fabric {
+impl<B: Naming> Fabric<B> {
     /// Opens a network: every link is down, each prefix is known at its owner alone, whose image in
-    /// force has it, and the journal is empty. It makes the room for a full journal.
-    pub fn open(alloc: Global, network: Network) -> Result<Fabric, Refusal>
-        ensures ok { IfOk result (λ f. f ≡ opening_fabric network) }
-        ensures err { IfErr result (λ e. e ≡ Refusal.NoMemory) }
-        ensures forwards { IfOk result ForwardsAsPublished }
-        ensures no_loop { IfOk result NeverMeetsTwice }
-        ensures least_cost { IfOk result LeadsAtLeastCost }
+    /// force has it, and the journal is empty. It makes the room for a full journal, and gives a reader
+    /// of each router's image, by the routers' numbers, to each of 1 to 16 workers. Refused with
+    /// `NoMemory`, or with `NoReaderPlace` where an image has no place for a reader.
+    pub fn open<R: Wait>(
+        rt: &R,
+        alloc: Global,
+        network: Network,
+        unnamed: Vec<Unnamed>,
+        workers: u8,
+    ) -> Result<(Fabric<B>, Vec<Vec<ImageReader<B>>>), Refusal>
+        requires books { unnamed.items ≡ B.books }
+        requires each { vec_len unnamed ≡ network.routers }
+        requires openings { opening_tables network ≡ B.openings }
+        requires workers { workers ≤ 16 }
+        ensures ok { IfOk result (λ o. o.0 ≡ opening_fabric network) }
+        ensures ports { IfOk result (λ o. (vec_len o.1 ≡ workers) × All (λ port. IsPort network.routers port.items) o.1.items) }
+        ensures err { IfErr result (λ e. (e ≡ Refusal.NoMemory) ⊎ (e ≡ Refusal.NoReaderPlace)) }
+        ensures forwards { IfOk result (λ o. ForwardsAsPublished o.0) }
+        ensures no_loop { IfOk result (λ o. NeverMeetsTwice o.0) }
+        ensures least_cost { IfOk result (λ o. LeadsAtLeastCost o.0) }
     {
         let world = WatchedWorld::open(alloc, &network)?;
         let images = opening_images(alloc, world.world())?;
         let journal = Vec::with_capacity(alloc, MOST_STEPS)?;
+        let (writers, lists) = open_all::<B, R>(rt, alloc, unnamed, images, workers + 1)?;
+        let Ok((readers, ports)) = deal(alloc, lists, workers) else {
+            close_all(rt, writers);
+            return Err(Refusal::NoMemory);
+        };
         let fabric = Fabric {
             network,
             world,
-            images,
+            writers,
+            readers,
             journal,
         };
         fabric.holds();
-        Ok(fabric)
+        Ok((fabric, ports))
     }
 
     /// The network that was opened.
@@ -115,18 +140,38 @@ impl Fabric {
     }
 
     /// What the image in force at a router answers for an address: its generation, and the row with
-    /// the longest prefix that covers the address, of the rows that the router published. Refused with
-    /// `UnknownRouter`.
-    pub fn lookup(&self, router: u16, addr: u32) -> Result<Answer, Refusal>
-        ensures { result ≡ ok_or (answer_at (self.now).world router addr) Refusal.UnknownRouter }
+    /// the longest prefix that covers the address, of the rows that the router published. It takes no
+    /// memory, and waits for nobody. Refused with `UnknownRouter`; with `Stale` or `NoImage` where the
+    /// reader shows a later image or none, which does not happen.
+    pub fn lookup(&mut self, router: u16, addr: u32) -> Result<Answer, Refusal>
+        ensures ok { IfOk result (λ a. answer_at (self.old).world router addr ≡ Some a) }
+        ensures err { IfErr result (λ e. MatchOption (answer_at (self.old).world router addr) (e ≡ Refusal.UnknownRouter) (λ _. (e ≡ Refusal.Stale) ⊎ (e ≡ Refusal.NoImage))) }
+        ensures same { self.new ≡ self.old }
     {
-        let image = self
-            .images
+        let place = usize::from(router);
+        let Some(writer) = self.writers.get(place) else {
+            return Err(Refusal::UnknownRouter);
+        };
+        let told = writer.tell();
+        ask(&mut self.readers[place], &told, addr)
+    }
+
+    /// An address for a worker to look up at a router, in an image no older than the one in force now.
+    /// Refused with `UnknownRouter`.
+    pub fn job(&self, number: u64, router: u16, addr: u32) -> Result<Job<B>, Refusal>
+        ensures asked { IfOk result (λ j. (j.number ≡ number) × (j.told.router ≡ router) × (j.addr ≡ addr)) }
+        ensures in_force { IfOk result (λ j. slice_get (self.now).images router ≡ Some (image_of B.openings j.told)) }
+        ensures known { IsOk result ↔ (router < length (self.now).world.routers) }
+        ensures err { IfErr result (λ e. e ≡ Refusal.UnknownRouter) }
+    {
+        let writer = self
+            .writers
             .get(usize::from(router))
             .ok_or(Refusal::UnknownRouter)?;
-        Ok(Answer {
-            generation: image.generation(),
-            matched: image.lookup(addr),
+        Ok(Job {
+            number,
+            addr,
+            told: writer.tell(),
         })
     }
 
@@ -147,7 +192,7 @@ impl Fabric {
     /// Does one step, and writes it into the journal. Refused, it leaves all as it was: with
     /// `JournalFull` where the journal is full, then as the world refuses it; want of memory comes
     /// last.
-    pub fn step(&mut self, step: Step) -> Result<(), Refusal>
+    pub fn step<R: Wait>(&mut self, rt: &R, step: Step) -> Result<(), Refusal>
         ensures ok { OnOk result (steps.Lawful (self.old).world step × (self.new ≡ after_step self.old step)) }
         ensures err { OnErr result (self.new ≡ self.old) }
         ensures cause { IsDoneOr (fabric_refusal self.old step) result }
@@ -155,12 +200,12 @@ impl Fabric {
         ensures no_loop { NeverMeetsTwice self.new }
         ensures least_cost { LeadsAtLeastCost self.new }
     {
-        let done = self.do_step(step);
+        let done = self.do_step(rt, step);
         self.holds();
         done
     }
 
-    fn do_step(&mut self, step: Step) -> Result<(), Refusal>
+    fn do_step<R: Wait>(&mut self, rt: &R, step: Step) -> Result<(), Refusal>
         ensures ok { OnOk result (steps.Lawful (self.old).world step × (self.new ≡ after_step self.old step)) }
         ensures err { OnErr result (self.new ≡ self.old) }
         ensures cause { IsDoneOr (fabric_refusal self.old step) result }
@@ -171,10 +216,13 @@ impl Fabric {
         let again = step;
         match step {
             Step::Publish { router } => {
-                let alloc = *self.images.allocator();
-                match patch_due(alloc, self.world.world(), router)? {
+                let alloc = *self.journal.allocator();
+                // The chosen rows of a network's routers are of all that they have heard of.
+                let _routers = self.network.routers();
+                let waiting = waiting_at(&self.writers, router);
+                match patch_due(alloc, self.world.world(), router, waiting)? {
                     Some(patch) => {
-                        self.images[usize::from(router)].apply(&patch)?;
+                        self.writers[usize::from(router)].publish(rt, patch)?;
                         self.world.step(step).unwrap();
                     }
                     None => self.world.step(step)?,
@@ -187,7 +235,7 @@ impl Fabric {
     }
 
     /// Does the steps in order, up to the first that is refused.
-    pub fn run(&mut self, steps: &[Step]) -> Ran
+    pub fn run<R: Wait>(&mut self, rt: &R, steps: &[Step]) -> Ran
         ensures done { result.done ≤ length steps.now }
         ensures runs { Runs (self.old).world (take result.done steps.now) (self.new).world }
         ensures journal { (self.new).journal ≡ (self.old).journal ++ take result.done steps.now }
@@ -198,7 +246,7 @@ impl Fabric {
         ensures stop { MatchOption result.refusal (result.done ≡ length steps.now) (StopsAt (fabric_refusal self.new) steps.now result.done) }
     {
         for (done, &step) in steps.iter().enumerate() {
-            if let Err(refusal) = self.step(step) {
+            if let Err(refusal) = self.step(rt, step) {
                 self.holds();
                 return Ran {
                     done,
@@ -219,7 +267,44 @@ impl Fabric {
         ensures no_loop { NeverMeetsTwice self.now }
         ensures least_cost { LeadsAtLeastCost self.now }
     {
-        let _images = &self.images;
+        let _writers = &self.writers;
         let _routers = self.network.routers();
+    }
+
+    /// Ends the fabric. It waits for readers that are looking up; from then on they find no image.
+    pub fn close<R: Wait>(self, rt: &R) {
+        let Fabric {
+            network: _network,
+            world: _world,
+            writers,
+            readers: _readers,
+            journal: _journal,
+        } = self;
+        close_all(rt, writers);
+    }
+}
+
+// What a reader answers that has learned of this list, where it shows nothing later.
+fn ask<B: Naming>(reader: &mut ImageReader<B>, told: &Told<B>, addr: u32) -> Result<Answer, Refusal>
+    requires { told.now.router ≡ reader.old.router }
+    ensures answer { IfOk result (λ a. a ≡ seen_answer (image_of B.openings told.now) addr) }
+    ensures err { IfErr result (λ e. (e ≡ Refusal.Stale) ⊎ (e ≡ Refusal.NoImage)) }
+    ensures router { reader.new.router ≡ reader.old.router }
+{
+    reader.learn(told);
+    let answer = reader.lookup(addr)?;
+    if !reader.is_at(told) {
+        return Err(Refusal::Stale);
+    }
+    Ok(answer)
+}
+
+// The prefixes that wait with a router's writer; none where there is no such router.
+fn waiting_at<B: Naming>(writers: &[ImageWriter<B>], router: u16) -> &[Prefix]
+    ensures { result.now ≡ waiting_at writers.now router }
+{
+    match writers.get(usize::from(router)) {
+        Some(writer) => writer.waiting(),
+        None => &[],
     }
 }

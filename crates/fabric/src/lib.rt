@@ -3,10 +3,12 @@
 
 mod fabric;
 mod images;
+mod ports;
 mod watched;
 
 pub use fabric::{Fabric, MOST_STEPS};
 pub use network_model::{Answer, Entry, Prefix, Refusal, Step};
+pub use publication::{ImageReader, Job, Naming, Unnamed};
 pub use world::{Network, Ran, World};
 
 #[cfg(test)]

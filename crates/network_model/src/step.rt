@@ -58,6 +58,15 @@ pub enum Refusal {
     /// A growth was refused.
     #[error("20 NoMemory")]
     NoMemory,
+    /// A reader showed a later image than the one in force.
+    #[error("22 Stale")]
+    Stale,
+    /// There is no place for a reader of an image.
+    #[error("23 NoReaderPlace")]
+    NoReaderPlace,
+    /// A reader was given no image.
+    #[error("34 NoImage")]
+    NoImage,
 }
 
 impl From<NoMemory> for Refusal {

@@ -1,14 +1,12 @@
 -- How runs and replays end.
-use Rattle.std.proofs.Common.{◌≡◌, ℕ, ◌≤◌, ◌⊎◌, inl, inr, Option, Some, None, MatchOption, List, length, take, refl, ap, subst, ◌∙◌, arith}
-use Rattle.std.proofs.lemmas.List.{take_all}
+use Rattle.std.proofs.Common.{◌≡◌, ◌≤◌, ◌⊎◌, inl, inr, Option, Some, None, MatchOption, List, length, refl, ap, subst, ◌∙◌}
 use Rattle.network_model.specs.declared.network.LinkSpec.{LinkSpec}
 use Rattle.network_model.specs.declared.step.Step.{Step}
 use Rattle.network_model.specs.declared.step.Refusal.{Refusal}
 use Rattle.network_model.specs.declared.step.Refusal.TheVariants.{NoMemory as NoMemoryForStep}
 use Rattle.network_model.specs.World.{opening}
 use Rattle.network_model.specs.Run.{Runs}
-use Rattle.world.specs.Steps.{StopsAt}
-use Rattle.fabric.specs.Fabric.{Fabric, opening_fabric, fabric_refusal}
+use Rattle.fabric.specs.Fabric.{Fabric, opening_fabric}
 use Rattle.script.specs.Words.{Text}
 use Rattle.script.specs.Reading.{Parts}
 use Rattle.script.specs.declared.command.Command.{Command}
@@ -18,10 +16,12 @@ use Rattle.journal.specs.Journal.{IsJournal, IsFaultOf as IsJournalFault}
 use Rattle.play.specs.declared.fault.Fault.{Fault}
 use Rattle.play.specs.declared.fault.Cause.TheVariants.{Refused as OfRefusal, Journal as OfJournal}
 use Rattle.play.specs.declared.plan.Plan.{Plan}
-use Rattle.play.specs.Faults.{unplaced, IsWantOfMemory, Gives, most_bytes}
-use Rattle.play.specs.Scenarios.{IsScenario, IsPlanOf, StopsFor, network_read}
+use Rattle.play.specs.declared.program.End.{End}
+use Rattle.play.specs.declared.program.End.TheVariants.{Done, Refused, Differs}
+use Rattle.play.specs.Faults.{unplaced, IsWantOfMemory, IsWithoutReaders, Gives, most_bytes}
+use Rattle.play.specs.Scenarios.{IsScenario, IsPlanOf, StopsFor, StopsPlan, network_read}
 use Rattle.play.specs.Commands.{AreDone, StopsAtCommand}
-use Rattle.play.specs.Ends.{KeepsJournal, IsRunToEnd, IsJournalOf, RunsWhole, RunsToRefusal, StopsReplay}
+use Rattle.play.specs.Ends.{KeepsJournal, IsRunToEnd, RunsPlan, IsJournalOf, Replays, RunsWhole, StepsReplay, StopsReplay}
 
 -- a scenario of a text, and its plan
 abbrev pub IsPlanned : Text → Plan → Type 0
@@ -52,13 +52,22 @@ run_ends text plan cs f g old new short planned is commands done keeps = record 
 
 pub run_stops : (text : Text) (plan : Plan) (cs : List Command) (f g : Fabric) (fault : Fault) → length text ≤ most_bytes → IsPlanned text plan
     → f ≡ opening_fabric plan.network → cs ≡ plan.commands.items → StopsAtCommand cs f g fault → StopsFor text fault
-run_stops text plan cs f g fault short planned is commands stops = inr (record {
+run_stops text plan cs f g fault short planned is commands stops = inr (inr (record {
   short = short;
   parts = planned.0;
   scenario = planned.1;
   fabric = g;
   stops = subst (λ ds. StopsAtCommand ds (opening_fabric (network_read planned.0)) g fault) (commands ∙ planned.2.commands) (subst (λ h. StopsAtCommand cs h g fault) (opens text plan planned f is) stops);
-})
+}))
+
+-- a run of the plan of a text is one of the text
+pub plan_ends : (text : Text) (plan : Plan) (old new : Text) → length text ≤ most_bytes → IsPlanned text plan → RunsPlan plan old new → IsRunToEnd text old new
+plan_ends text plan old new short planned runs = run_ends text plan plan.commands.items (opening_fabric plan.network) runs.0 old new short planned refl refl runs.1 runs.2
+
+pub plan_stops : (text : Text) (plan : Plan) (fault : Fault) → length text ≤ most_bytes → IsPlanned text plan → StopsPlan plan fault → StopsFor text fault
+plan_stops text plan fault short planned (inl memory) = inl (inr (inl memory))
+plan_stops text plan fault short planned (inr (inl readers)) = inr (inl readers)
+plan_stops text plan fault short planned (inr (inr stops)) = run_stops text plan plan.commands.items (opening_fabric plan.network) stops.0 fault short planned refl refl stops.1
 
 -- ---- replays
 
@@ -75,29 +84,23 @@ journal_of text lines given plan names links steps report short planned names_ar
       (subst (λ ns. IsJournal ns links given steps report) (names_are ∙ ap (λ d. d.names) planned.2.directory) journal));
 }
 
-pub replay_ends : (text lines : Text) (plan : Plan) (planned : IsPlanned text plan) (steps all : List Step) (f g : Fabric) (done : ℕ) → IsJournalOf text lines planned.0 steps
-    → f ≡ opening_fabric plan.network → all ≡ steps → done ≡ length all → Runs f.world (take done all) g.world → RunsWhole text lines
-replay_ends text lines plan planned steps all f g done journal is same whole runs = record {
-  parts = planned.0;
-  steps = steps;
-  is_journal = journal;
-  world = g.world;
-  runs = subst (λ ss. Runs (opening (network_read planned.0)) ss g.world) (ap (λ n. take n all) whole ∙ take_all (length all) all (omega arith) ∙ same)
-      (subst (λ (h : Fabric). Runs h.world (take done all) g.world) (opens text plan planned f is) runs);
-}
+-- a replay of its steps is one of the journal
+pub replay_ends : (text lines : Text) (plan : Plan) (planned : IsPlanned text plan) (steps all : List Step) (g : Fabric) (end : End) → IsJournalOf text lines planned.0 steps
+    → all ≡ steps → StepsReplay all (opening_fabric plan.network) g end → Replays text lines end
+replay_ends text lines plan planned steps all g end journal same replays = by_end end (subst (λ ss. StepsReplay ss (opening_fabric (network_read planned.0)) g end) same (subst (λ (h : Fabric). StepsReplay all h g end) (ap opening_fabric planned.2.network) replays))
+  where
+    whole : Runs (opening (network_read planned.0)) steps g.world → RunsWhole text lines
+    whole runs = record { parts = planned.0; steps = steps; is_journal = journal; world = g.world; runs = runs }
 
-pub replay_stops : (text lines : Text) (plan : Plan) (planned : IsPlanned text plan) (steps all : List Step) (f g : Fabric) (done : ℕ) (e : Refusal) → IsJournalOf text lines planned.0 steps
-    → f ≡ opening_fabric plan.network → all ≡ steps → Runs f.world (take done all) g.world → StopsAt (fabric_refusal g) all done e → RunsToRefusal text lines
-replay_stops text lines plan planned steps all f g done e journal is same runs stops = record {
-  parts = planned.0;
-  steps = steps;
-  is_journal = journal;
-  done = done;
-  fabric = g;
-  runs = subst (λ ss. Runs (opening (network_read planned.0)) (take done ss) g.world) same (subst (λ (h : Fabric). Runs h.world (take done all) g.world) (opens text plan planned f is) runs);
-  refusal = e;
-  stops = subst (λ ss. StopsAt (fabric_refusal g) ss done e) same stops;
-}
+    by_end : (end : End) → StepsReplay steps (opening_fabric (network_read planned.0)) g end → Replays text lines end
+    by_end Done runs = whole runs
+    by_end Refused stops = record { parts = planned.0; steps = steps; is_journal = journal; done = stops.0; fabric = g; runs = stops.2; refusal = stops.1; stops = stops.3 }
+    by_end Differs runs = whole runs
+
+-- a replay whose network is not opened
+pub stops_opening : (text : Text) (known : Option Text) (fault : Fault) → IsWantOfMemory fault ⊎ IsWithoutReaders fault → StopsReplay text known fault
+stops_opening text known fault (inl memory) = inl (inr (inl memory))
+stops_opening text known fault (inr readers) = inr (inl readers)
 
 -- what is not a journal of the scenario's network
 pub stops_journal : (text lines given : Text) (known : Option Text) (plan : Plan) (names : List Text) (links : List LinkSpec) (e : JournalFault) (fault : Fault) → length text ≤ most_bytes
@@ -106,7 +109,7 @@ pub stops_journal : (text lines given : Text) (known : Option Text) (plan : Plan
 stops_journal text lines given known plan names links e fault short planned gives names_are links_are same is (inl memory) =
     inl (inr (inl (rw (is, memory) (record { memory = refl; unplaced = refl }))))
 stops_journal text lines given known plan names links e fault short planned gives names_are links_are same is (inr why) =
-    inr (
+    inr (inr (
       short,
       inr (
         lines,
@@ -119,7 +122,7 @@ stops_journal text lines given known plan names links e fault short planned give
             (subst (λ ns. IsJournalFault ns links given e) (names_are ∙ ap (λ d. d.names) planned.2.directory) why)),
         is,
       ),
-    )
+    ))
 
 -- what a run of steps answers where one is refused, and where none is
 pub refused_at : (N : Type 0) (P : Refusal → Type 0) (o : Option Refusal) (e : Refusal) → o ≡ Some e → MatchOption o N P → P e

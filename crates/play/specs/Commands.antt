@@ -1,13 +1,14 @@
 -- What the commands of a script do, and print.
-use Rattle.std.specs.Prelude.{◌≡◌, ℕ, ◌⊎◌, List, [], ◌∷◌, ◌++◌, Option, Some, None, nat_lt, if◌then◌else◌, length, take, slice_get}
+use Rattle.std.specs.Prelude.{◌≡◌, ℕ, ◌⊎◌, List, [], ◌∷◌, ◌++◌, Option, Some, None, nat_lt, if◌then◌else◌, length, take, slice_get, MatchOption}
 use Rattle.ipv4_prefix.specs.Prefix.{Prefix}
 use Rattle.network_model.specs.declared.route.Entry.{Entry}
 use Rattle.network_model.specs.declared.step.Step.{Step as NetworkStep}
 use Rattle.network_model.specs.declared.step.Refusal.{Refusal}
-use Rattle.network_model.specs.declared.step.Refusal.TheVariants.{UnknownRouter}
+use Rattle.network_model.specs.declared.step.Refusal.TheVariants.{UnknownRouter, Stale, NoImage}
 use Rattle.network_model.specs.Step.{Lawful}
 use Rattle.world.specs.Steps.{CanBeRefused}
 use Rattle.fabric.specs.Fabric.{Fabric, after_step, fabric_refusal}
+use Rattle.fabric.specs.Images.{answer_at}
 use Rattle.script.specs.Words.{Text}
 use Rattle.script.specs.Directories.{Directory, row_text}
 use Rattle.script.specs.declared.command.Command.{Command}
@@ -42,14 +43,14 @@ IsDone Report f g = g ≡ f
 abbrev pub unknown_router : Fabric → ℕ → Option Refusal
 unknown_router f router = if nat_lt router (length f.world.routers) then None else Some UnknownRouter
 
--- a command that is refused: a step for its cause, in a network that settles the step that comes next, and a command on a router where there is no such router
+-- a command that is refused: a step for its cause, in a network that settles the step that comes next, and a command on a router where there is no such router; a look-up also where the reader shows a later image, or none
 abbrev pub IsRefused : Command → Fabric → Fabric → Refusal → Type 0
 IsRefused (Step s) f g e = CanBeRefused (fabric_refusal f s) e × (g ≡ f)
 IsRefused (Try s) f g e = ⊥
 IsRefused Settle f g e = StopsSettling f g e
 IsRefused (State router prefix) f g e = CanBeRefused (unknown_router f router) e × (g ≡ f)
 IsRefused (Table router) f g e = CanBeRefused (unknown_router f router) e × (g ≡ f)
-IsRefused (Lookup router addr) f g e = CanBeRefused (unknown_router f router) e × (g ≡ f)
+IsRefused (Lookup router addr) f g e = MatchOption (answer_at f.world router addr) (e ≡ UnknownRouter) (λ _. (e ≡ Stale) ⊎ (e ≡ NoImage)) × (g ≡ f)
 IsRefused Report f g e = ⊥
 
 -- the commands, done one after another, lead from one fabric to the other

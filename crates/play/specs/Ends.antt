@@ -5,7 +5,9 @@ use Rattle.network_model.specs.declared.step.Refusal.{Refusal}
 use Rattle.network_model.specs.World.{World, opening}
 use Rattle.network_model.specs.Run.{Runs}
 use Rattle.world.specs.Steps.{StopsAt}
-use Rattle.fabric.specs.Fabric.{Fabric, fabric_refusal}
+use Rattle.fabric.specs.Fabric.{Fabric, fabric_refusal, opening_fabric}
+use Rattle.play.specs.declared.plan.Plan.{Plan}
+use Rattle.play.specs.Commands.{AreDone}
 use Rattle.script.specs.Words.{Text}
 use Rattle.script.specs.Reading.{Parts}
 use Rattle.script.specs.Directories.{Directory, directory_of}
@@ -17,7 +19,7 @@ use Rattle.play.specs.declared.fault.Fault.{Fault}
 use Rattle.play.specs.declared.fault.Cause.TheVariants.{Journal as OfJournal}
 use Rattle.play.specs.declared.program.End.{End}
 use Rattle.play.specs.declared.program.End.TheVariants.{Done, Refused, Differs}
-use Rattle.play.specs.Faults.{unplaced, most_bytes, Gives, CannotRead}
+use Rattle.play.specs.Faults.{unplaced, most_bytes, Gives, CannotRead, IsWithoutReaders}
 use Rattle.play.specs.Scenarios.{IsScenario, IsEndOf, StopsReading, StopsFor, network_read}
 
 -- the exit status
@@ -39,6 +41,10 @@ pub record IsChecked (bytes : Text) : Type 0 where
 -- the text of a fabric's journal was added: its steps, and then a report
 abbrev pub KeepsJournal : Directory → Fabric → Text → Text → Type 0
 KeepsJournal d f old new = (report : Text) × (new ≡ old ++ journal_text d f.network.links f.journal ++ report)
+
+-- the commands of a plan were done to the end, and their journal was kept
+abbrev pub RunsPlan : Plan → Text → Text → Type 0
+RunsPlan plan old new = (fabric : Fabric) × AreDone plan.commands.items (opening_fabric plan.network) fabric × KeepsJournal plan.directory fabric old new
 
 -- the commands of a scenario were done to the end, and their journal was kept
 pub record IsRunToEnd (bytes old new : Text) : Type 0 where
@@ -74,6 +80,12 @@ pub record RunsToRefusal (bytes lines : Text) : Type 0 where
   pub refusal : Refusal
   pub stops : StopsAt (fabric_refusal fabric) steps done refusal
 
+-- how a replay of these steps ends
+abbrev pub StepsReplay : List Step → Fabric → Fabric → End → Type 0
+StepsReplay steps f g Done = Runs f.world steps g.world
+StepsReplay steps f g Refused = (done : ℕ) × (e : Refusal) × Runs f.world (take done steps) g.world × StopsAt (fabric_refusal g) steps done e
+StepsReplay steps f g Differs = Runs f.world steps g.world
+
 -- how a replay ends
 abbrev pub Replays : Text → Text → End → Type 0
 Replays bytes lines Done = RunsWhole bytes lines
@@ -87,9 +99,9 @@ StopsJournal bytes journal fault =
     ⊎ ((lines : Text) × Gives journal lines × (parts : Parts) × IsScenario bytes parts
     × (e : JournalFault) × IsJournalFault parts.names parts.links lines e × (fault ≡ unplaced (OfJournal e)))
 
--- why a replay is not begun: for its scenario, or else for its journal
+-- why a replay is not begun: for its scenario, an image without a place for readers, or else for its journal
 abbrev pub StopsReplay : Text → Option Text → Fault → Type 0
-StopsReplay bytes journal fault = StopsReading bytes fault ⊎ ((length bytes ≤ most_bytes) × StopsJournal bytes journal fault)
+StopsReplay bytes journal fault = StopsReading bytes fault ⊎ IsWithoutReaders fault ⊎ ((length bytes ≤ most_bytes) × StopsJournal bytes journal fault)
 
 -- ---- all commands
 

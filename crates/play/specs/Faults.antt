@@ -8,7 +8,7 @@ use Rattle.script.specs.declared.place.Key.TheVariants.{Links, Prefixes}
 use Rattle.script.specs.declared.place.Located.{Located}
 use Rattle.network_model.specs.declared.network.NetworkFault.{NetworkFault}
 use Rattle.network_model.specs.declared.network.NetworkFault.TheVariants.{BadRouters, BadLink, TooManyLinks, BadOwner, NoMemory as NoMemoryForNetwork}
-use Rattle.network_model.specs.declared.step.Refusal.TheVariants.{NoMemory as NoMemoryForStep}
+use Rattle.network_model.specs.declared.step.Refusal.TheVariants.{NoMemory as NoMemoryForStep, NoReaderPlace}
 use Rattle.journal.specs.declared.fault.JournalFault.TheVariants.{NoMemory as NoMemoryForJournal}
 use Rattle.play.specs.declared.fault.Cause.{Cause}
 use Rattle.play.specs.declared.fault.Cause.TheVariants.{Memory, Unreadable, TooLarge, Document, Lines, Network, Refused, Journal, Unwritable}
@@ -64,6 +64,10 @@ opening_fault (BadLink link) = at_line (Network (BadLink link)) Links link
 opening_fault (TooManyLinks link) = at_line (Network (TooManyLinks link)) Links link
 opening_fault (BadOwner prefix) = at_line (Network (BadOwner prefix)) Prefixes prefix
 opening_fault NoMemoryForNetwork = unplaced (Network NoMemoryForNetwork)
+
+-- the image of a router has no place for a reader
+abbrev pub IsWithoutReaders : Fault → Type 0
+IsWithoutReaders fault = fault ≡ unplaced (Refused NoReaderPlace)
 
 -- want of memory, which can come anywhere
 pub record IsWantOfMemory (fault : Fault) : Type 0 where

@@ -7,16 +7,18 @@ ghost use Rattle.play.specs.Commands.{IsDone, IsRefused, IsStepDone, IsStepRefus
 use crate::fault::{Cause, Fault};
 use crate::report::{print_report, print_state};
 use crate::settle::settle;
-use fabric::{Fabric, Refusal, Step};
+use fabric::{Fabric, Naming, Refusal, Step};
 use route_table::RouteTable;
 use script::{Command, Directory, Key, Place};
 use std::io;
 use std::io::Write;
+use std::sync::Wait;
 
 /// Does the commands in order, up to the first that is refused. Their steps make a run of lawful
 /// steps.
-pub fn do_commands<W: Write>(
-    fabric: &mut Fabric,
+pub fn do_commands<B: Naming, H: Wait, W: Write>(
+    rt: &H,
+    fabric: &mut Fabric<B>,
     directory: &Directory,
     commands: &[Command],
     out: &mut W,
@@ -25,7 +27,7 @@ pub fn do_commands<W: Write>(
     ensures stop { IfErr result (StopsAtCommand commands.now fabric.old fabric.new) }
 {
     for (position, &command) in commands.iter().enumerate() {
-        if let Err(refusal) = do_command(fabric, directory, command, out) {
+        if let Err(refusal) = do_command(rt, fabric, directory, command, out) {
             let key = Key::Script;
             return Err(Fault {
                 cause: Cause::Refused(refusal),
@@ -37,8 +39,9 @@ pub fn do_commands<W: Write>(
 }
 
 // Does one command. What it prints may be lost.
-fn do_command<W: Write>(
-    fabric: &mut Fabric,
+fn do_command<B: Naming, H: Wait, W: Write>(
+    rt: &H,
+    fabric: &mut Fabric<B>,
     directory: &Directory,
     command: Command,
     out: &mut W,
@@ -47,12 +50,12 @@ fn do_command<W: Write>(
     ensures err { IfErr result (IsRefused command fabric.old fabric.new) }
 {
     match command {
-        Command::Step(step) => fabric.step(step),
+        Command::Step(step) => fabric.step(rt, step),
         Command::Try(step) => {
-            try_step(fabric, step, out);
+            try_step(rt, fabric, step, out);
             Ok(())
         }
-        Command::Settle => settle(fabric),
+        Command::Settle => settle(rt, fabric),
         Command::State { router, prefix } => print_state(fabric, directory, router, prefix, out),
         Command::Table { router } => {
             let table = fabric.table(router)?;
@@ -72,10 +75,10 @@ fn do_command<W: Write>(
 }
 
 // Does a step, and says whether it was refused. What it prints may be lost.
-fn try_step<W: Write>(fabric: &mut Fabric, step: Step, out: &mut W)
+fn try_step<B: Naming, H: Wait, W: Write>(rt: &H, fabric: &mut Fabric<B>, step: Step, out: &mut W)
     ensures { IsStepDone step fabric.old fabric.new ⊎ IsStepRefused step fabric.old fabric.new }
 {
-    let _ = match fabric.step(step) {
+    let _ = match fabric.step(rt, step) {
         Ok(()) => writeln!(out, "done"),
         Err(refusal) => writeln!(out, "refused {refusal}"),
     };

@@ -4,13 +4,17 @@ ghost use Rattle.std.specs.Prelude.{OnOk};
 ghost use Rattle.play.specs.Ends.{KeepsJournal};
 
 use crate::report::print_report;
-use fabric::Fabric;
+use fabric::{Fabric, Naming};
 use journal::write_steps;
 use network_model::NoMemory;
 use script::Directory;
 
 /// Adds the text of the journal to `kept`: the steps done, and the report of what they made.
-pub fn keep(fabric: &Fabric, directory: &Directory, kept: &mut Vec<u8>) -> Result<(), NoMemory>
+pub fn keep<B: Naming>(
+    fabric: &Fabric<B>,
+    directory: &Directory,
+    kept: &mut Vec<u8>,
+) -> Result<(), NoMemory>
     ensures { OnOk result (KeepsJournal directory.now fabric.now kept.old.items kept.new.items) }
 {
     let links = fabric.network().links();

@@ -1,9 +1,11 @@
 //! What the program does, over any readers and writers.
 
-ghost use Rattle.std.specs.Prelude.{◌≡◌, ◌⊎◌, IfOk, IfErr};
-ghost use Rattle.play.specs.Faults.{status_of};
-ghost use Rattle.play.specs.Scenarios.{StopsFor, StopsReading};
-ghost use Rattle.play.specs.Ends.{status_at, Ends, Stops, OfBytes, IsChecked, IsRunToEnd};
+ghost use Rattle.std.specs.Prelude.{◌≡◌, ◌⊎◌, IfOk, IfErr, OnOk, vec_len};
+ghost use Rattle.fabric.specs.Writers.{opening_tables};
+ghost use Rattle.play.specs.Commands.{AreDone, StopsAtCommand};
+ghost use Rattle.play.specs.Faults.{status_of, IsWantOfMemory};
+ghost use Rattle.play.specs.Scenarios.{StopsFor, StopsPlan, StopsReading};
+ghost use Rattle.play.specs.Ends.{status_at, Ends, Stops, OfBytes, IsChecked, IsRunToEnd, KeepsJournal, RunsPlan};
 
 use crate::commands::do_commands;
 use crate::fault::Fault;
@@ -11,9 +13,12 @@ use crate::keep::keep;
 use crate::plan::{Plan, read_plan};
 use crate::read::read_text;
 use crate::replay::replay;
-use fabric::Fabric;
+use fabric::{Fabric, Naming, Unnamed};
+use script::{Command, Directory};
 use std::alloc::Global;
 use std::io::{Read, Write};
+use std::marker::Brand;
+use std::sync::Wait;
 use words::Words;
 
 /// How a command ends that has met no fault.
@@ -43,7 +48,8 @@ impl End {
 /// Does what the words ask for, and answers the exit status. Only a replay reads `journal`. A fault is
 /// a line on `err`. A write to `out` or `err` that fails is lost, and changes nothing else. Where a run
 /// ends with status 0, its journal's text is added to `kept`.
-pub fn play<R: Read + Drop, J: Read + Drop, W: Write, E: Write>(
+pub fn play<H: Wait, R: Read + Drop, J: Read + Drop, W: Write, E: Write>(
+    rt: &H,
     alloc: Global,
     words: &Words<'_>,
     scenario: R,
@@ -64,11 +70,11 @@ pub fn play<R: Read + Drop, J: Read + Drop, W: Write, E: Write>(
             threads: _,
             workers: _,
             journal: _,
-        } => run(alloc, scenario, out, kept),
+        } => run(rt, alloc, scenario, out, kept),
         Words::Replay {
             file: _,
             journal: _,
-        } => replay(alloc, scenario, journal, out),
+        } => replay(rt, alloc, scenario, journal, out),
     };
     match end {
         Ok(end) => end.status(),
@@ -101,7 +107,8 @@ fn check<R: Read + Drop, W: Write>(alloc: Global, scenario: R, out: &mut W) -> R
 
 // Opens the network of a scenario, does its commands, says how many steps were done, and keeps their
 // journal.
-fn run<R: Read + Drop, W: Write>(
+fn run<H: Wait, R: Read + Drop, W: Write>(
+    rt: &H,
     alloc: Global,
     scenario: R,
     out: &mut W,
@@ -112,16 +119,55 @@ fn run<R: Read + Drop, W: Write>(
     ensures fault { IfErr result (λ e. OfBytes (R.remaining scenario) (λ bytes. StopsFor bytes e)) }
 {
     let text = read_text(alloc, scenario)?;
+    let plan = read_plan(alloc, text.as_str())?;
+    let unnamed = Unnamed::many(alloc, usize::from(plan.network.routers()))?;
+    run_plan::<Brand, H, W>(rt, alloc, plan, unnamed, out, kept)?;
+    Ok(End::Done)
+}
+
+// Opens the network of a plan under a name, does its commands, and keeps their journal.
+fn run_plan<B: Naming, H: Wait, W: Write>(
+    rt: &H,
+    alloc: Global,
+    plan: Plan,
+    unnamed: Vec<Unnamed>,
+    out: &mut W,
+    kept: &mut Vec<u8>,
+) -> Result<(), Fault>
+    requires books { unnamed.items ≡ B.books }
+    requires each { vec_len unnamed ≡ plan.network.routers }
+    requires openings { opening_tables plan.network ≡ B.openings }
+    ensures ok { OnOk result (RunsPlan plan kept.old.items kept.new.items) }
+    ensures fault { IfErr result (StopsPlan plan) }
+{
     let Plan {
         network,
         directory,
         commands,
-    } = read_plan(alloc, text.as_str())?;
-    let mut fabric = Fabric::open(alloc, network)?;
-    do_commands(&mut fabric, &directory, &commands, out)?;
+    } = plan;
+    let (mut fabric, _ports) = Fabric::<B>::open(rt, alloc, network, unnamed, 0)?;
+    let ended = run_commands(rt, &mut fabric, &directory, &commands, out, kept);
+    fabric.close(rt);
+    ended
+}
+
+// Does the commands, says how many steps were done, and keeps their journal.
+fn run_commands<B: Naming, H: Wait, W: Write>(
+    rt: &H,
+    fabric: &mut Fabric<B>,
+    directory: &Directory,
+    commands: &[Command],
+    out: &mut W,
+    kept: &mut Vec<u8>,
+) -> Result<(), Fault>
+    ensures ok { OnOk result (AreDone commands.now fabric.old fabric.new
+        × KeepsJournal directory.now fabric.new kept.old.items kept.new.items) }
+    ensures fault { IfErr result (λ e. StopsAtCommand commands.now fabric.old fabric.new e ⊎ IsWantOfMemory e) }
+{
+    do_commands(rt, fabric, directory, commands, out)?;
     let _ = writeln!(out, "done: {} steps", fabric.journal().len());
-    keep(&fabric, &directory, kept)?;
-    Ok(End::Done)
+    keep(fabric, directory, kept)?;
+    Ok(())
 }
 
 /// Says on `err` why the program stops, and answers its exit status.

@@ -1,22 +1,29 @@
 //! Replays a journal over the network of its scenario.
 
-ghost use Rattle.std.specs.Prelude.{IfOk, IfErr};
-ghost use Rattle.play.specs.Ends.{OfBytes, Replays, StopsReplay};
+ghost use Rattle.std.specs.Prelude.{◌≡◌, ◌⊎◌, IfOk, IfErr, vec_len};
+ghost use Rattle.fabric.specs.Fabric.{opening_fabric};
+ghost use Rattle.fabric.specs.Writers.{opening_tables};
+ghost use Rattle.play.specs.Faults.{IsWantOfMemory, IsWithoutReaders};
+ghost use Rattle.play.specs.Ends.{OfBytes, Replays, StepsReplay, StopsReplay};
 
 use crate::fault::Fault;
 use crate::plan::{Plan, read_plan};
 use crate::program::End;
 use crate::read::{read_bytes, read_text};
 use crate::report::print_report;
-use fabric::Fabric;
+use fabric::{Fabric, Naming, Network, Step, Unnamed};
 use journal::{Journal, first_difference, read_journal};
 use network_model::NoMemory;
+use script::Directory;
 use std::alloc::Global;
 use std::io::{Read, Write};
+use std::marker::Brand;
+use std::sync::Wait;
 
 /// Does the steps of a journal from the opening of its scenario's network, and compares the report of
 /// what they made with the journal's. Both files are read whole before the first step is done.
-pub fn replay<R: Read + Drop, J: Read + Drop, W: Write>(
+pub fn replay<H: Wait, R: Read + Drop, J: Read + Drop, W: Write>(
+    rt: &H,
     alloc: Global,
     scenario: R,
     journal: J,
@@ -40,14 +47,56 @@ pub fn replay<R: Read + Drop, J: Read + Drop, W: Write>(
         network.links(),
         &lines,
     )?;
-    let mut fabric = Fabric::open(alloc, network)?;
-    let ran = fabric.run(&steps);
+    let unnamed = Unnamed::many(alloc, usize::from(network.routers()))?;
+    let end = replay_named::<Brand, H, W>(
+        rt, alloc, network, unnamed, &directory, &steps, report, out,
+    )?;
+    Ok(end)
+}
+
+// Opens a network under a name, does the steps, and compares the reports.
+fn replay_named<B: Naming, H: Wait, W: Write>(
+    rt: &H,
+    alloc: Global,
+    network: Network,
+    unnamed: Vec<Unnamed>,
+    directory: &Directory,
+    steps: &[Step],
+    report: &[u8],
+    out: &mut W,
+) -> Result<End, Fault>
+    requires books { unnamed.items ≡ B.books }
+    requires each { vec_len unnamed ≡ network.routers }
+    requires openings { opening_tables network ≡ B.openings }
+    ensures ok { IfOk result (λ end. (g : _) × StepsReplay steps.now (opening_fabric network) g end) }
+    ensures fault { IfErr result (λ e. IsWantOfMemory e ⊎ IsWithoutReaders e) }
+{
+    let (mut fabric, _ports) = Fabric::<B>::open(rt, alloc, network, unnamed, 0)?;
+    let ended = replay_steps(rt, alloc, &mut fabric, directory, steps, report, out);
+    fabric.close(rt);
+    ended
+}
+
+// Does the steps, and compares the report of what they made with this one.
+fn replay_steps<B: Naming, H: Wait, W: Write>(
+    rt: &H,
+    alloc: Global,
+    fabric: &mut Fabric<B>,
+    directory: &Directory,
+    steps: &[Step],
+    report: &[u8],
+    out: &mut W,
+) -> Result<End, Fault>
+    ensures ok { IfOk result (StepsReplay steps.now fabric.old fabric.new) }
+    ensures fault { IfErr result IsWantOfMemory }
+{
+    let ran = fabric.run(rt, steps);
     if let Some(refusal) = ran.refusal {
         let _ = writeln!(out, "step {} refused: {refusal}", ran.done + 1);
         return Ok(End::Refused);
     }
     let mut printed = Vec::new(alloc);
-    if print_report(&fabric, &directory, &mut printed).is_err() {
+    if print_report(fabric, directory, &mut printed).is_err() {
         return Err(Fault::from(NoMemory));
     }
     match first_difference(&printed, report) {

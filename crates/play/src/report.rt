@@ -5,7 +5,7 @@ ghost use Rattle.play.specs.Commands.{unknown_router};
 ghost use Rattle.play.specs.Report.{link_line as line_of_link, router_line as line_of_router, IsMachineLine, IsOriginNumber, Prints, PrintsMachine};
 
 use dual_machine::{Machine, Mode};
-use fabric::{Fabric, Refusal};
+use fabric::{Fabric, Naming, Refusal};
 use ipv4_prefix::Prefix;
 use link_fifo::Links;
 use network_model::End;
@@ -16,8 +16,8 @@ use std::io::Write;
 
 /// Prints what a router's machine for a prefix is at, on a line. Refused with `UnknownRouter`. A write
 /// that fails is lost.
-pub fn print_state<W: Write>(
-    fabric: &Fabric,
+pub fn print_state<B: Naming, W: Write>(
+    fabric: &Fabric<B>,
     directory: &Directory,
     router: u16,
     prefix: Prefix,
@@ -36,7 +36,11 @@ pub fn print_state<W: Write>(
 
 /// Prints each link, and each router with its machines in the order of their prefixes, a line each, up
 /// to the first write that fails.
-pub fn print_report<W: Write>(fabric: &Fabric, directory: &Directory, out: &mut W) -> io::Result<()>
+pub fn print_report<B: Naming, W: Write>(
+    fabric: &Fabric<B>,
+    directory: &Directory,
+    out: &mut W,
+) -> io::Result<()>
     ensures { OnOk result (Prints (W.contents out.old) (W.contents out.new)) }
 {
     let world = fabric.world();
@@ -154,6 +158,3 @@ fn origin_number(machine: &Machine) -> Option<u8>
         Mode::Active { origin, .. } => Some(origin.number()),
     }
 }
-
-#[cfg(test)]
-mod tests;

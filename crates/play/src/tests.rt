@@ -1,6 +1,7 @@
 //! Runs of whole scenarios.
 
 mod journals;
+mod reports;
 mod settling;
 
 use crate::files::Source;
@@ -8,6 +9,7 @@ use crate::program::play;
 use std::alloc::{AllocError, Global};
 use std::io;
 use std::io::{Read, Write};
+use std::sync::Wait;
 use std::test::Fail;
 use words::Words;
 
@@ -38,7 +40,8 @@ fn text(bytes: Vec<u8>) -> Result<String, Fail> {
     }
 }
 
-fn played<R: Read + Drop, J: Read + Drop>(
+fn played<H: Wait, R: Read + Drop, J: Read + Drop>(
+    rt: &H,
     alloc: Global,
     words: &Words<'_>,
     scenario: R,
@@ -48,7 +51,7 @@ fn played<R: Read + Drop, J: Read + Drop>(
     let mut err = Vec::new(alloc);
     let mut kept = Vec::new(alloc);
     let status = play(
-        alloc, words, scenario, journal, &mut out, &mut err, &mut kept,
+        rt, alloc, words, scenario, journal, &mut out, &mut err, &mut kept,
     );
     let out = text(out)?;
     let err = text(err)?;
@@ -62,9 +65,14 @@ fn played<R: Read + Drop, J: Read + Drop>(
 }
 
 // Runs a scenario, or checks it.
-fn asked<R: Read + Drop>(alloc: Global, words: &Words<'_>, scenario: R) -> Result<Outcome, Fail> {
+fn asked<H: Wait, R: Read + Drop>(
+    rt: &H,
+    alloc: Global,
+    words: &Words<'_>,
+    scenario: R,
+) -> Result<Outcome, Fail> {
     let missing: Source<io::Empty> = Source::Missing;
-    played(alloc, words, scenario, missing)
+    played(rt, alloc, words, scenario, missing)
 }
 
 // Writes one list of a scenario; a bar ends each line, and the last may end without one.
@@ -92,7 +100,8 @@ fn scenario(
     Ok(text)
 }
 
-fn run(
+fn run<H: Wait>(
+    rt: &H,
     alloc: Global,
     routers: &str,
     links: &str,
@@ -100,7 +109,7 @@ fn run(
     script: &str,
 ) -> Result<Outcome, Fail> {
     let text = scenario(alloc, routers, links, prefixes, script)?;
-    asked(alloc, &RUN, text.as_bytes())
+    asked(rt, alloc, &RUN, text.as_bytes())
 }
 
 // The output and the status of scripts that come to their end.
@@ -147,7 +156,7 @@ fn prints(rt: HostRuntime) -> Result<(), Fail> {
         ),
         ("a", "", "", "", "done: 0 steps\n"),
     ] {
-        let got = run(rt.alloc(), routers, links, prefixes, script)?;
+        let got = run(&rt, rt.alloc(), routers, links, prefixes, script)?;
         assert_eq!(rt; got.out.as_str(), want, "at {script}");
         assert_eq!(rt; got.err.as_str(), "");
         assert_eq!(rt; got.status, 0);
@@ -172,7 +181,7 @@ fn stops_at_a_refused_step(rt: HostRuntime) -> Result<(), Fail> {
             "dualnet: 18 NothingRipe at script 1\n",
         ),
     ] {
-        let got = run(rt.alloc(), "a|b", "a b 5 5", "10.0.0.0/8 a", script)?;
+        let got = run(&rt, rt.alloc(), "a|b", "a b 5 5", "10.0.0.0/8 a", script)?;
         assert_eq!(rt; got.out.as_str(), out, "at {script}");
         assert_eq!(rt; got.err.as_str(), err);
         assert_eq!(rt; got.status, 2);
@@ -205,7 +214,7 @@ fn refuses_texts(rt: HostRuntime) -> Result<(), Fail> {
         ),
     ] {
         for words in [&CHECK, &RUN] {
-            let got = asked(rt.alloc(), words, text)?;
+            let got = asked(&rt, rt.alloc(), words, text)?;
             assert_eq!(rt; got.err.as_str(), want);
             assert_eq!(rt; got.out.as_str(), "");
             assert_eq!(rt; got.status, 1);
@@ -287,7 +296,7 @@ fn refuses_scenarios(rt: HostRuntime) -> Result<(), Fail> {
             let line = format!(in rt.alloc(); "dualnet: {fault}\n")?;
             let text = scenario(rt.alloc(), routers, links, prefixes, script)?;
             for words in [&CHECK, &RUN] {
-                let got = asked(rt.alloc(), words, text.as_bytes())?;
+                let got = asked(&rt, rt.alloc(), words, text.as_bytes())?;
                 assert_eq!(rt; got.err.as_str(), line.as_str());
                 assert_eq!(rt; got.out.as_str(), "");
                 assert_eq!(rt; got.kept.as_str(), "");
@@ -322,7 +331,7 @@ fn checks(rt: HostRuntime) -> Result<(), Fail> {
         ),
     ] {
         let text = scenario(rt.alloc(), "a|b", links, prefixes, script)?;
-        let got = asked(rt.alloc(), &CHECK, text.as_bytes())?;
+        let got = asked(&rt, rt.alloc(), &CHECK, text.as_bytes())?;
         let (line, other) = match got.status {
             0 => (got.out.as_str(), got.err.as_str()),
             _ => (got.err.as_str(), got.out.as_str()),
@@ -358,6 +367,7 @@ fn runs_the_largest_network(rt: HostRuntime) -> Result<(), Fail> {
         write!(script, "publish r{i}|release r{i}|")?;
     }
     let got = run(
+        &rt,
         alloc,
         routers.as_str(),
         links.as_str(),
@@ -373,7 +383,7 @@ fn runs_the_largest_network(rt: HostRuntime) -> Result<(), Fail> {
         prefixes.as_str(),
         "",
     )?;
-    let got = asked(alloc, &CHECK, text.as_bytes())?;
+    let got = asked(&rt, alloc, &CHECK, text.as_bytes())?;
     assert_eq!(rt;
         got.out.as_str(),
         "ok: 256 routers, 1024 links, 4096 prefixes, 0 commands\n"
@@ -393,7 +403,7 @@ fn refuses_what_is_too_many(rt: HostRuntime) -> Result<(), Fail> {
             write!(links, "|a r{router} 1 1")?;
         }
     }
-    let got = run(alloc, routers.as_str(), links.as_str(), "", "")?;
+    let got = run(&rt, alloc, routers.as_str(), links.as_str(), "", "")?;
     assert_eq!(rt; got.err.as_str(), "dualnet: 26 TooManyLinks at links 32\n");
     assert_eq!(rt; got.status, 1);
     for (more, status, out, err) in [
@@ -404,7 +414,7 @@ fn refuses_what_is_too_many(rt: HostRuntime) -> Result<(), Fail> {
         for _ in 0..more {
             script.push_str("|table a")?;
         }
-        let got = run(alloc, "a", "", "", script.as_str())?;
+        let got = run(&rt, alloc, "a", "", "", script.as_str())?;
         assert_eq!(rt; got.out.as_str(), out);
         assert_eq!(rt; got.err.as_str(), err);
         assert_eq!(rt; got.status, status);
@@ -434,15 +444,16 @@ impl Read for Broken {
 fn reads_files(rt: HostRuntime) -> Result<(), Fail> {
     let alloc = rt.alloc();
     let missing: Source<io::Empty> = Source::Missing;
-    let got = asked(alloc, &CHECK, missing)?;
+    let got = asked(&rt, alloc, &CHECK, missing)?;
     assert_eq!(rt; got.err.as_str(), "dualnet: 47 Unreadable\n");
     assert_eq!(rt; got.status, 1);
-    let got = asked(alloc, &RUN, Broken { given: false })?;
+    let got = asked(&rt, alloc, &RUN, Broken { given: false })?;
     assert_eq!(rt; got.err.as_str(), "dualnet: 47 Unreadable\n");
     assert_eq!(rt; got.status, 1);
     let text = scenario(alloc, "a", "", "", "lookup a 0.0.0.0")?;
     let spaces = 4_194_304u64.saturating_sub(text.len() as u64);
     let got = asked(
+        &rt,
         alloc,
         &RUN,
         text.as_bytes().chain(io::repeat(b'\n').take(spaces)),
@@ -451,6 +462,7 @@ fn reads_files(rt: HostRuntime) -> Result<(), Fail> {
     assert_eq!(rt; got.err.as_str(), "");
     assert_eq!(rt; got.status, 0);
     let got = asked(
+        &rt,
         alloc,
         &CHECK,
         text.as_bytes().chain(io::repeat(b'\n').take(spaces + 1)),
@@ -479,7 +491,7 @@ impl Write for Closed {
 fn loses_failed_writes(rt: HostRuntime) -> Result<(), Fail> {
     let alloc = rt.alloc();
     for (script, status) in [
-        ("table a|lookup a 0.0.0.0", 0),
+        ("table a|lookup a 0.0.0.0|state a 0.0.0.0/0|report", 0),
         ("table a|publish a", 2),
         ("x", 1),
     ] {
@@ -487,6 +499,7 @@ fn loses_failed_writes(rt: HostRuntime) -> Result<(), Fail> {
         let missing: Source<io::Empty> = Source::Missing;
         let mut kept = Vec::new(alloc);
         let got = play(
+            &rt,
             alloc,
             &RUN,
             text.as_bytes(),

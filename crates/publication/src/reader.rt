@@ -10,7 +10,7 @@ use crate::edition::Edition;
 use crate::known::Known;
 use crate::rule::{Sees, Shown};
 use left_right::reader::Reader;
-use network_model::Answer;
+use network_model::{Answer, Refusal};
 use std::marker::Model;
 use thiserror::Error;
 
@@ -19,6 +19,16 @@ use thiserror::Error;
 #[derive(Clone, Copy, Debug, PartialEq, Eq, Drop, Error)]
 #[error("34 NoImage")]
 pub struct NoImage;
+
+impl From<NoImage> for Refusal {
+    ghost use Rattle.network_model.specs.declared.step.Refusal.TheVariants.{NoImage as WithoutImage};
+
+    ghost from_gives = { λ _ e. e ≡ WithoutImage };
+
+    fn from(_fault: NoImage) -> Refusal {
+        Refusal::NoImage
+    }
+}
 
 /// Looks addresses up, with no lock and no wait. Contracts see it as its view: a list that its
 /// writer has published.

@@ -3,9 +3,9 @@
 ghost use Rattle.std.specs.Prelude.{◌≡◌, ◌⊎◌, ◌+◌, ◌++◌, ◌∷◌, ◌≤◌, [], map, All, IfOk, OnOk, OnErr, vec_len};
 ghost use Rattle.std.specs.Vec.{vec_capacity};
 ghost use Rattle.image_patch.specs.Patches.{patched};
-ghost use Rattle.publication.specs.Lists.{Covers, generation_of, image_of, is_named, new_writing, no_patches, opening_of, patch_of, with_patches};
+ghost use Rattle.publication.specs.Lists.{Covers, generation_of, image_of, is_named, new_writing, no_patches, opening_of, patch_of, prefixes_of, with_patches};
 ghost use Rattle.publication.specs.Names.{book_of};
-ghost use Rattle.publication.specs.declared.writer.OpenFault.TheVariants.{NoMemory as OutOfMemory};
+ghost use Rattle.publication.specs.declared.writer.OpenFault.TheVariants.{NoMemory as OutOfMemory, NoReaderPlace as NoPlace};
 
 use crate::book::{Ledger, Naming, Told, Unnamed};
 use crate::edition::{Announced, Edition};
@@ -17,7 +17,7 @@ use image_patch::Patch;
 use left_right::Absorb;
 use left_right::reader::Factory;
 use left_right::writer::Writer;
-use network_model::{NoMemory, Prefix};
+use network_model::{NoMemory, Prefix, Refusal};
 use std::alloc::Global;
 use std::marker::Model;
 use std::sync::Wait;
@@ -41,6 +41,19 @@ impl From<NoMemory> for OpenFault {
 
     fn from(_error: NoMemory) -> OpenFault {
         OpenFault::NoMemory
+    }
+}
+
+impl From<OpenFault> for Refusal {
+    ghost use Rattle.network_model.specs.declared.step.Refusal.TheVariants.{NoMemory as NoRoom, NoReaderPlace as NoSeat};
+
+    ghost from_gives = { λ fault e. ((fault ≡ OutOfMemory) × (e ≡ NoRoom)) ⊎ ((fault ≡ NoPlace) × (e ≡ NoSeat)) };
+
+    fn from(fault: OpenFault) -> Refusal {
+        match fault {
+            OpenFault::NoMemory => Refusal::NoMemory,
+            OpenFault::NoReaderPlace => Refusal::NoReaderPlace,
+        }
     }
 }
 
@@ -127,6 +140,13 @@ impl<B: Naming> ImageWriter<B> {
         ensures { result ≡ is_named self.now.waiting prefix }
     {
         self.prefixes.as_slice().contains(&prefix)
+    }
+
+    /// The prefixes that waiting patches name.
+    pub fn waiting(&self) -> &[Prefix]
+        ensures { result.now ≡ prefixes_of self.now.waiting }
+    {
+        &self.prefixes
     }
 
     /// Puts a patch in force, and just before it those that wait. The patch has the next generation,

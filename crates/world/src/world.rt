@@ -165,6 +165,7 @@ impl World {
         ensures done { result.done ≤ length steps.now }
         ensures runs { Runs self.old (take result.done steps.now) self.new }
         ensures stop { MatchOption result.refusal (result.done ≡ length steps.now) (StopsAt (refusal self.new) steps.now result.done) }
+        ensures publication { IfSome result.refusal (λ e. (i : ℕ) → slice_get steps.now result.done ≡ Some (Step.Publish i) → refusal self.new (Step.Publish i) ≡ Some e) }
     {
         for (done, &step) in steps.iter().enumerate() {
             if let Err(refusal) = self.step(step) {

@@ -4,6 +4,7 @@ use crate::files::Source;
 use crate::tests::{Outcome, played, run, scenario};
 use std::alloc::Global;
 use std::io;
+use std::sync::Wait;
 use std::test::Fail;
 use words::Words;
 
@@ -38,9 +39,9 @@ fn two(alloc: Global, script: &str) -> Result<String, Fail> {
 }
 
 // Replays a journal of that network.
-fn replayed(alloc: Global, journal: &[u8]) -> Result<Outcome, Fail> {
+fn replayed<H: Wait>(rt: &H, alloc: Global, journal: &[u8]) -> Result<Outcome, Fail> {
     let text = two(alloc, "")?;
-    played(alloc, &REPLAY, text.as_bytes(), journal)
+    played(rt, alloc, &REPLAY, text.as_bytes(), journal)
 }
 
 // The text of a journal of which one part is another.
@@ -54,7 +55,7 @@ fn changed(alloc: Global, old: &str, new: &str) -> Result<String, Fail> {
 fn keeps(rt: HostRuntime) -> Result<(), Fail> {
     let alloc = rt.alloc();
     let steps = "up a b|deliver a b|deliver b a|publish a|release a|deliver b a|publish b";
-    let got = run(alloc, "a|b", "a b 5 5", "10.0.0.0/8 a", steps)?;
+    let got = run(&rt, alloc, "a|b", "a b 5 5", "10.0.0.0/8 a", steps)?;
     assert_eq!(rt; got.status, 0);
     assert_eq!(rt;
         got.kept.as_str(),
@@ -73,9 +74,17 @@ fn keeps(rt: HostRuntime) -> Result<(), Fail> {
         b gen 1 held 1 ripe 1\n\
         b 10.0.0.0/8 passive RD 5 FD 5 via a 1\n"
     );
-    let got = run(alloc, "a|b", "a b 5 5", "10.0.0.0/8 a", "up b a|settle")?;
+    let got = run(
+        &rt,
+        alloc,
+        "a|b",
+        "a b 5 5",
+        "10.0.0.0/8 a",
+        "up b a|settle",
+    )?;
     assert_eq!(rt; got.kept.as_str(), SETTLED);
     let got = run(
+        &rt,
         alloc,
         "a|b",
         "a b 5 5",
@@ -94,15 +103,15 @@ fn keeps(rt: HostRuntime) -> Result<(), Fail> {
         a 10.0.0.0/8 passive RD 0 FD 0 local\n\
         b gen 0 held 0 ripe 0\n"
     );
-    let got = run(alloc, "a|b", "a b 5 5", "", "up a b|up a b")?;
+    let got = run(&rt, alloc, "a|b", "a b 5 5", "", "up a b|up a b")?;
     assert_eq!(rt; got.kept.as_str(), "");
     assert_eq!(rt; got.status, 2);
     Ok(())
 }
 
 // Whether the replay of a journal of that network agrees after its nine steps.
-fn is_agreed(alloc: Global, journal: &str) -> Result<bool, Fail> {
-    let got = replayed(alloc, journal.as_bytes())?;
+fn is_agreed<H: Wait>(rt: &H, alloc: Global, journal: &str) -> Result<bool, Fail> {
+    let got = replayed(rt, alloc, journal.as_bytes())?;
     let agrees = got.out.as_str() == "replay agrees: 9 steps\n";
     Ok(agrees && got.err.is_empty() && got.kept.is_empty() && got.status == 0)
 }
@@ -110,11 +119,11 @@ fn is_agreed(alloc: Global, journal: &str) -> Result<bool, Fail> {
 #[test]
 fn agrees(rt: HostRuntime) -> Result<(), Fail> {
     let alloc = rt.alloc();
-    assert!(rt; is_agreed(alloc, SETTLED)?);
+    assert!(rt; is_agreed(&rt, alloc, SETTLED)?);
     let other = changed(alloc, "up a b", "up b a")?;
-    assert!(rt; is_agreed(alloc, other.as_str())?);
+    assert!(rt; is_agreed(&rt, alloc, other.as_str())?);
     let unended = SETTLED.strip_suffix('\n').ok_or("no line feed")?;
-    assert!(rt; is_agreed(alloc, unended)?);
+    assert!(rt; is_agreed(&rt, alloc, unended)?);
     Ok(())
 }
 
@@ -127,8 +136,8 @@ fn replays(rt: HostRuntime) -> Result<(), Fail> {
         "up a b|settle|down a b|settle|up a b|cost a b 9|deliver a b|publish a",
     ] {
         let text = two(alloc, script)?;
-        let ran = run(alloc, "a|b", "a b 5 5", "10.0.0.0/8 a", script)?;
-        let got = played(alloc, &REPLAY, text.as_bytes(), ran.kept.as_bytes())?;
+        let ran = run(&rt, alloc, "a|b", "a b 5 5", "10.0.0.0/8 a", script)?;
+        let got = played(&rt, alloc, &REPLAY, text.as_bytes(), ran.kept.as_bytes())?;
         assert_eq!(rt; got.status, 0, "at {script}");
     }
     Ok(())
@@ -182,7 +191,7 @@ fn disagrees(rt: HostRuntime) -> Result<(), Fail> {
         ),
     ] {
         let journal = changed(rt.alloc(), old, new)?;
-        let got = replayed(rt.alloc(), journal.as_bytes())?;
+        let got = replayed(&rt, rt.alloc(), journal.as_bytes())?;
         assert_eq!(rt; got.out.as_str(), want);
         assert_eq!(rt; got.err.as_str(), "");
         assert_eq!(rt; got.status, status);
@@ -195,19 +204,19 @@ fn disagrees(rt: HostRuntime) -> Result<(), Fail> {
 fn differs_from_the_first_line(rt: HostRuntime) -> Result<(), Fail> {
     let alloc = rt.alloc();
     let steps = "up a b|deliver a b|publish a|release a|deliver b a";
-    let got = run(alloc, "a|b", "a b 5 5", "10.0.0.0/8 a", steps)?;
+    let got = run(&rt, alloc, "a|b", "a b 5 5", "10.0.0.0/8 a", steps)?;
     assert_eq!(rt; got.out.as_str(), "done: 5 steps\n");
     let (before, after) = got.kept.split_once("deliver b a\n").ok_or("no delivery")?;
     let twice = format!(in alloc; "{before}deliver b a\ndeliver b a\n{after}")?;
-    let got = replayed(alloc, twice.as_bytes())?;
+    let got = replayed(&rt, alloc, twice.as_bytes())?;
     assert_eq!(rt; got.out.as_str(), "replay differs: report line 1\n");
     assert_eq!(rt; got.status, 3);
     Ok(())
 }
 
 // The fault of a journal that is none.
-fn refused(alloc: Global, journal: &[u8], fault: &str) -> Result<bool, Fail> {
-    let got = replayed(alloc, journal)?;
+fn refused<H: Wait>(rt: &H, alloc: Global, journal: &[u8], fault: &str) -> Result<bool, Fail> {
+    let got = replayed(rt, alloc, journal)?;
     let line = format!(in alloc; "dualnet: {fault}\n")?;
     Ok(got.err == line && got.out.is_empty() && got.status == 1)
 }
@@ -249,17 +258,24 @@ fn refuses_texts(rt: HostRuntime) -> Result<(), Fail> {
         let journal = with_line(alloc, old, new)?;
         let fault = format!(in alloc; "48 BadJournal at line {line}")?;
         assert!(rt;
-            refused(alloc, journal.as_bytes(), fault.as_str())?,
+            refused(&rt, alloc, journal.as_bytes(), fault.as_str())?,
             "at {row}"
         );
     }
-    assert!(rt; refused(alloc, b"", "48 BadJournal at line 1")?);
+    assert!(rt; refused(&rt, alloc, b"", "48 BadJournal at line 1")?);
     let (steps, _report) = SETTLED.split_once("end\n").ok_or("no end")?;
-    assert!(rt; refused(alloc, steps.as_bytes(), "48 BadJournal at line 11")?);
-    assert!(rt; refused(alloc, b"dualnet journal 1\nend\n\xff\n", "48 BadJournal")?);
+    assert!(rt; refused(&rt, alloc, steps.as_bytes(), "48 BadJournal at line 11")?);
+    assert!(rt;
+        refused(
+            &rt,
+            alloc,
+            b"dualnet journal 1\nend\n\xff\n",
+            "48 BadJournal"
+        )?
+    );
     let text = two(alloc, "")?;
     let missing: Source<io::Empty> = Source::Missing;
-    let got = played(alloc, &REPLAY, text.as_bytes(), missing)?;
+    let got = played(&rt, alloc, &REPLAY, text.as_bytes(), missing)?;
     assert_eq!(rt; got.err.as_str(), "dualnet: 47 Unreadable\n");
     assert_eq!(rt; got.status, 1);
     Ok(())
@@ -269,7 +285,7 @@ fn refuses_texts(rt: HostRuntime) -> Result<(), Fail> {
 #[test]
 fn reads_the_scenario_first(rt: HostRuntime) -> Result<(), Fail> {
     let text = two(rt.alloc(), "fly a")?;
-    let got = played(rt.alloc(), &REPLAY, text.as_bytes(), b"".as_slice())?;
+    let got = played(&rt, rt.alloc(), &REPLAY, text.as_bytes(), b"".as_slice())?;
     assert_eq!(rt; got.err.as_str(), "dualnet: 45 BadCommand at script 0\n");
     assert_eq!(rt; got.status, 1);
     Ok(())

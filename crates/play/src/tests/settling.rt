@@ -2,32 +2,41 @@
 
 use crate::tests::run;
 use std::alloc::{AllocError, Global};
+use std::sync::Wait;
 use std::test::Fail;
 
 // Routers a and b, with one link at cost 5 each way; a owns 10.0.0.0/8.
-fn two(alloc: Global, script: &str) -> Result<String, Fail> {
-    printed(alloc, "a|b", "a b 5 5", "10.0.0.0/8 a", script)
+fn two<H: Wait>(rt: &H, alloc: Global, script: &str) -> Result<String, Fail> {
+    printed(rt, alloc, "a|b", "a b 5 5", "10.0.0.0/8 a", script)
 }
 
 // Routers a, b and c, of which a owns 10.0.0.0/8, settled, with the link of a and c at a cost of 12
 // each way and the others at 1, or with it at 5.
-fn three(alloc: Global, far: u8, script: &str) -> Result<String, Fail> {
+fn three<H: Wait>(rt: &H, alloc: Global, far: u8, script: &str) -> Result<String, Fail> {
     let mut links = String::new(alloc);
     write!(&mut links, "a b 1 1|b c 1 1|a c {far} {far}")?;
     let mut all = String::new(alloc);
     write!(&mut all, "up a b|up b c|up a c|settle|{script}")?;
-    printed(alloc, "a|b|c", links.as_str(), "10.0.0.0/8 a", all.as_str())
+    printed(
+        rt,
+        alloc,
+        "a|b|c",
+        links.as_str(),
+        "10.0.0.0/8 a",
+        all.as_str(),
+    )
 }
 
 // What a script prints that comes to its end.
-fn printed(
+fn printed<H: Wait>(
+    rt: &H,
     alloc: Global,
     routers: &str,
     links: &str,
     prefixes: &str,
     script: &str,
 ) -> Result<String, Fail> {
-    let got = run(alloc, routers, links, prefixes, script)?;
+    let got = run(rt, alloc, routers, links, prefixes, script)?;
     if got.status != 0 {
         return Err("the run did not come to its end".into());
     }
@@ -44,7 +53,7 @@ fn is_before_done(out: &str, lines: &str) -> bool {
 
 #[test]
 fn settles(rt: HostRuntime) -> Result<(), Fail> {
-    let got = two(rt.alloc(), "up a b|settle|report")?;
+    let got = two(&rt, rt.alloc(), "up a b|settle|report")?;
     assert_eq!(rt;
         got.as_str(),
         "link a b up 1 5 5 queued 0 0\n\
@@ -55,6 +64,7 @@ fn settles(rt: HostRuntime) -> Result<(), Fail> {
         done: 9 steps\n"
     );
     let steps = two(
+        &rt,
         rt.alloc(),
         "up a b|deliver a b|deliver b a|publish a|release a|deliver b a|publish b|release b|\
         deliver a b|report",
@@ -66,6 +76,7 @@ fn settles(rt: HostRuntime) -> Result<(), Fail> {
 #[test]
 fn tries_steps(rt: HostRuntime) -> Result<(), Fail> {
     let got = two(
+        &rt,
         rt.alloc(),
         "up a b|try deliver a b|try deliver a b|try release a|try publish a|try publish a|\
         try release a|try release a|try up a b|try down a b|try down a b",
@@ -84,7 +95,7 @@ fn tries_steps(rt: HostRuntime) -> Result<(), Fail> {
         refused 14 IsDown\n\
         done: 5 steps\n"
     );
-    let down = two(rt.alloc(), "try cost a b 9")?;
+    let down = two(&rt, rt.alloc(), "try cost a b 9")?;
     assert_eq!(rt; down.as_str(), "refused 14 IsDown\ndone: 0 steps\n");
     Ok(())
 }
@@ -97,12 +108,12 @@ fn discards_a_message_of_an_ended_session(rt: HostRuntime) -> Result<(), Fail> {
         a 10.0.0.0/8 passive RD 0 FD 0 local\n\
         b gen 0 held 0 ripe 0\n";
     let steps = "up a b|deliver a b|publish a|down a b|up a b|release a|report";
-    let got = two(rt.alloc(), steps)?;
+    let got = two(&rt, rt.alloc(), steps)?;
     assert_eq!(rt; got.as_str().strip_prefix(report), Some("done: 6 steps\n"));
     let alloc = rt.alloc();
     let mut more = String::new(alloc);
     write!(&mut more, "{steps}|settle|table b")?;
-    let settled = two(alloc, more.as_str())?;
+    let settled = two(&rt, alloc, more.as_str())?;
     let last = "b 10.0.0.0/8 via a 2\ndone: 17 steps\n";
     assert_eq!(rt; settled.as_str().strip_prefix(report), Some(last));
     Ok(())
@@ -113,7 +124,7 @@ fn discards_a_message_of_an_ended_session(rt: HostRuntime) -> Result<(), Fail> {
 fn asks_again_where_the_condition_fails(rt: HostRuntime) -> Result<(), Fail> {
     let script = "cost b a 10|deliver b a|state b 10.0.0.0/8|cost b a 20|deliver b a|\
         state b 10.0.0.0/8|settle|state b 10.0.0.0/8|state c 10.0.0.0/8";
-    let got = three(rt.alloc(), 12, script)?;
+    let got = three(&rt, rt.alloc(), 12, script)?;
     let want = "b 10.0.0.0/8 active 1 RD 10 FD 1 via a 1\n\
         b 10.0.0.0/8 active 0 RD 10 FD 1 via a 1\n\
         b 10.0.0.0/8 passive RD 13 FD 13 via c 1\n\
@@ -126,7 +137,7 @@ fn asks_again_where_the_condition_fails(rt: HostRuntime) -> Result<(), Fail> {
 fn settles_after_flaps(rt: HostRuntime) -> Result<(), Fail> {
     let script = "down a b|up a b|down a b|up a b|down a b|up a b|settle|\
         state b 10.0.0.0/8|state c 10.0.0.0/8";
-    let got = three(rt.alloc(), 5, script)?;
+    let got = three(&rt, rt.alloc(), 5, script)?;
     let want = "b 10.0.0.0/8 passive RD 1 FD 1 via a 4\n\
         c 10.0.0.0/8 passive RD 2 FD 2 via b 1\n";
     assert!(rt; is_before_done(got.as_str(), want), "{}", got.as_str());
@@ -139,6 +150,7 @@ fn loses_routes(rt: HostRuntime) -> Result<(), Fail> {
     let script = "up a b|up b c|up c d|settle|down a b|deliver b a|publish b|release b|deliver c b|\
         state c 10.0.0.0/8|down b c|deliver c b|state c 10.0.0.0/8|settle|state d 10.0.0.0/8";
     let got = printed(
+        &rt,
         rt.alloc(),
         "a|b|c|d",
         "a b 1 1|b c 1 1|c d 1 1",
@@ -153,6 +165,7 @@ fn loses_routes(rt: HostRuntime) -> Result<(), Fail> {
         state c 10.0.0.0/8|settle|lookup b 10.0.0.1|lookup b 11.0.0.1|state c 10.0.0.0/8|\
         state a 0.0.0.0/0";
     let got = printed(
+        &rt,
         rt.alloc(),
         "a|b|c",
         "a b 1 1|b c 1 1",
@@ -173,6 +186,7 @@ fn settles_at_least_costs(rt: HostRuntime) -> Result<(), Fail> {
     let script = "up a b|up b c|up a c|settle|state b 10.0.0.0/8|state c 10.0.0.0/8|cost c a 20|\
         settle|state b 10.0.0.0/8|state c 10.0.0.0/8";
     let got = printed(
+        &rt,
         rt.alloc(),
         "a|b|c",
         "a b 1 10|b c 2 1|a c 9 3",
@@ -219,6 +233,7 @@ fn long_line(alloc: Global) -> Result<Line, AllocError> {
 fn adds_up_the_costs_of_a_line(rt: HostRuntime) -> Result<(), Fail> {
     let line = long_line(rt.alloc())?;
     let got = printed(
+        &rt,
         rt.alloc(),
         line.routers.as_str(),
         line.links.as_str(),
@@ -236,6 +251,7 @@ fn adds_up_the_costs_of_a_line(rt: HostRuntime) -> Result<(), Fail> {
 #[test]
 fn reports_routers_at_work(rt: HostRuntime) -> Result<(), Fail> {
     let got = printed(
+        &rt,
         rt.alloc(),
         "a|b|c|d",
         "a b 1 1|b c 1 1|c d 1 1",

@@ -4,7 +4,7 @@ use Rattle.play.proofs.Printed.{kept_is}
 use Rattle.play.proofs.keep.keep.Goals as goal
 
 pub returns : goal.returns
-returns c =
+returns g c =
     kept_is c.write_steps.result c.print_report.result c.is_err.result c.is_err-else-is_err.result c.args.kept.now.items c.write_steps.new.out.items c.print_report.new.out.items
     (journal_text c.args.directory.now c.links-links.result.now c.journal.result.now) (journal_text c.args.directory.now c.args.fabric.now.network.links c.args.fabric.now.journal)
     c.is_err.ensures.value c.if-is_err.false c.is_err-else-is_err.ensures.value c.if-is_err-2.false c.write_steps.ensures c.print_report.ensures

@@ -4,9 +4,9 @@ use Rattle.play.specs.Settling.{TakesTurns}
 use Rattle.play.proofs.settle.settle.Given as goal
 
 abbrev pub invariant-loop-fabric : goal.invariant-loop-fabric
-invariant-loop-fabric l = record {
+invariant-loop-fabric g l = record {
   taken : TakesTurns 0 l.initial.fabric 0 l.fabric;
 }
 
 abbrev pub decreases-loop-fabric : goal.decreases-loop-fabric
-decreases-loop-fabric l = most_steps - length l.fabric.journal
+decreases-loop-fabric g l = most_steps - length l.fabric.journal

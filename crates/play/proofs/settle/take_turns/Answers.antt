@@ -7,7 +7,7 @@ use Rattle.play.proofs.Settling.{no_turns, not_moved, round_start, place_in_roun
 use Rattle.play.proofs.settle.take_turns.Goals as goal
 
 pub loop-router-init : goal.loop-router-init
-loop-router-init c =
+loop-router-init g c =
     let f : Fabric = c.args.fabric.now in
     record {
       taken = subst (λ k. TakesTurns 0 f k f) (sym (round_start c.routers-router-end.result)) (no_turns f);
@@ -16,11 +16,11 @@ loop-router-init c =
     }
 
 pub returns-then-is_settled-clause-taken : goal.returns-then-is_settled-clause-taken
-returns-then-is_settled-clause-taken c =
+returns-then-is_settled-clause-taken g c =
     any_next c.args.fabric.now c.loop-router.fabric (place_in_round c.loop-router.router c.routers-router-end.result) 0 c.loop-router.invariant.taken (sym c.is_settled.ensures.settled ∙ c.if-is_settled.true)
 
 pub returns-in_err-take_turn-clause-stop : goal.returns-in_err-take_turn-clause-stop
-returns-in_err-take_turn-clause-stop c =
+returns-in_err-take_turn-clause-stop g c =
     let f : Fabric = c.args.fabric.now in
     let g : Fabric = c.loop-router.fabric in
     let i : ℕ = c.loop-router.router in
@@ -33,7 +33,7 @@ returns-in_err-take_turn-clause-stop c =
     (stops_at_turn f g i e refused.0 taken (sym c.is_settled.ensures.settled ∙ c.if-is_settled.false) refused.1 refused.2))
 
 pub loop-router-preserved : goal.loop-router-preserved
-loop-router-preserved c =
+loop-router-preserved g c =
     let f : Fabric = c.args.fabric.now in
     let g : Fabric = c.loop-router.fabric in
     let h : Fabric = c.take_turn.new.fabric in

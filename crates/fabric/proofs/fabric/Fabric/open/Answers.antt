@@ -1,20 +1,70 @@
-use Rattle.std.proofs.Common.{[], map, ap, ◌∙◌, arith}
+use Rattle.std.proofs.Common.{rules, ◌≡◌, ◌∙◌, ◌≤◌, ◌+◌, [], All, map, length, vec_len, refl, ap, subst, sym, arith}
 use Rattle.std.specs.Prelude.{vec_capacity}
-use Rattle.fabric.specs.Fabric.{fabric_of, IsKept}
-use Rattle.fabric.specs.Images.{images_in_force, chosen_image}
-use Rattle.fabric.proofs.Fabrics.{kept_at_opening}
+use Rattle.std.proofs.lemmas.List.{length-map}
+use Rattle.network_model.specs.World.{World, opening}
+use Rattle.network_model.specs.Publication.{Image}
+use Rattle.publication.specs.Lists.{no_patches}
+use Rattle.fabric.specs.Images.{chosen_image}
+use Rattle.fabric.specs.Writers.{IsPort}
+use Rattle.fabric.proofs.Idle.{router_count}
+use Rattle.fabric.proofs.Opening.{chosen_rows_are, chosen_zero, each_map, is_opening, kept_open, new_readers, new_writers}
+use Rattle.fabric.proofs.fabric.Fabric.open.Given as given
 use Rattle.fabric.proofs.fabric.Fabric.open.Goals as goal
 
-pub invariant_of-fabric : goal.invariant_of-fabric
-invariant_of-fabric c = kept_at_opening c.args.network c.in_ok-journal.journal.items c.in_ok-world.world c.in_ok-images.images.items (vec_capacity c.in_ok-journal.journal)
-    c.in_ok-journal.ensures.items c.in_ok-world.ensures (c.in_ok-images.ensures ∙ ap (λ v. map chosen_image v.routers) c.world-2.ensures) (omega (arith, c.in_ok-journal.ensures.capacity))
+-- ---- the images of what the routers chose
 
-pub returns-clause-ok : goal.returns-clause-ok
-returns-clause-ok c =
+images : (g : given.Over) (c : goal.In_ok-journal g) → c.in_ok-images.images.items ≡ map chosen_image (opening c.args.network).routers
+images g c = c.in_ok-images.ensures ∙ ap (λ (w : World). map chosen_image w.routers) (c.world-2.ensures ∙ c.in_ok-world.ensures)
+
+pub open_all-requires-clause-rows : goal.open_all-requires-clause-rows
+open_all-requires-clause-rows g c = ap (map (λ (i : Image). i.rows)) (images g c) ∙ chosen_rows_are (opening c.args.network).routers ∙ c.requires.openings
+
+pub open_all-requires-clause-generation : goal.open_all-requires-clause-generation
+open_all-requires-clause-generation g c = subst (All (λ (i : Image). i.generation ≡ 0)) (sym (images g c)) (chosen_zero (opening c.args.network).routers)
+
+-- as many as routers
+count : (g : given.Over) (c : goal.In_ok-journal g) → vec_len c.in_ok-images.images ≡ c.args.network.routers
+count g c =
+    let long : length c.in_ok-images.images.items ≡ c.args.network.routers =
+    ap length (images g c) ∙ length-map (opening c.args.network).routers chosen_image ∙ router_count c.args.network [] (opening c.args.network) refl in
+    search rules
+
+pub open_all-requires-clause-each : goal.open_all-requires-clause-each
+open_all-requires-clause-each g c = c.requires.each ∙ sym (count g c)
+
+pub deal-requires-clause-stock : goal.deal-requires-clause-stock
+deal-requires-clause-stock g c =
+    each_map (λ rs. rs.items) (λ i rs. (vec_len rs ≡ c.args.workers + 1) × All (λ r. r ≡ no_patches i) rs.items) (λ i rs. (c.args.workers + 1 ≤ length rs) × All (λ r. r ≡ no_patches i) rs)
+    (λ i rs all. (let long : length rs.items ≡ vec_len rs = search rules in omega (arith, long, all.0), all.1)) c.in_ok-writers.lists.items c.in_ok-writers.ensures.readers
+
+pub invariant_of-fabric : goal.invariant_of-fabric
+invariant_of-fabric g c =
     let n = c.args.network in
     let w = c.in_ok-world.world in
-    let images = c.in_ok-images.images.items in
-    let kept : IsKept (fabric_of n c.in_ok-journal.journal.items w images) (vec_capacity c.in_ok-journal.journal) =
-    kept_at_opening n c.in_ok-journal.journal.items w images (vec_capacity c.in_ok-journal.journal) c.in_ok-journal.ensures.items c.in_ok-world.ensures (c.in_ok-images.ensures ∙ ap (λ v. map chosen_image v.routers) c.world-2.ensures)
-    (omega (arith, c.in_ok-journal.ensures.capacity)) in
-    ap (λ journal. fabric_of n journal w images) c.in_ok-journal.ensures.items ∙ ap (fabric_of n [] w) kept.in_force ∙ ap (λ v. fabric_of n [] v (images_in_force v)) c.in_ok-world.ensures
+    let opened : w ≡ opening n = c.in_ok-world.ensures in
+    let images = c.in_ok-images.ensures ∙ ap (λ (v : World). map chosen_image v.routers) (c.world-2.ensures ∙ opened) in
+    let whole : (length c.in_ok-images.images.items ≡ vec_len c.in_ok-images.images) × (length c.in_ok-writers.writers.items ≡ vec_len c.in_ok-writers.writers) = search rules in
+    let each = c.in_ok-writers.ensures.count in
+    let routers : length c.in_ok-images.images.items ≡ length w.routers = ap length images ∙ length-map (opening n).routers chosen_image ∙ ap (λ (v : World). length v.routers) (sym opened) in (
+      kept_open n g.B.Naming.openings c.requires.openings w opened c.in_ok-images.images.items images c.in_ok-writers.writers.items c.in_ok-writers.ensures.writers (omega (arith, whole.0, whole.1, each.0))
+          c.in_ok-journal.journal.items (vec_capacity c.in_ok-journal.journal) c.in_ok-journal.ensures.items (omega (arith, c.in_ok-journal.ensures.capacity)),
+      new_writers n g.B.Naming.openings c.requires.openings c.in_ok-writers.writers.items c.in_ok-writers.ensures.writers w,
+      new_readers w c.in-Ok.readers.items (subst (λ m. IsPort m c.in-Ok.readers.items) (let lists : vec_len c.in_ok-writers.lists ≡ length w.routers = omega (arith, routers, whole.0, each.1) in lists) c.in-Ok.ensures.own),
+    )
+
+pub returns-clause-ok : goal.returns-clause-ok
+returns-clause-ok g c =
+    let opened = c.in_ok-world.ensures in
+    let images = c.in_ok-images.ensures ∙ ap (λ (v : World). map chosen_image v.routers) (c.world-2.ensures ∙ opened) in
+    let whole : (length c.in_ok-images.images.items ≡ vec_len c.in_ok-images.images) × (length c.in_ok-writers.writers.items ≡ vec_len c.in_ok-writers.writers) = search rules in
+    is_opening c.args.network g.B.Naming.openings c.requires.openings c.in_ok-world.world opened c.in_ok-images.images.items images c.in_ok-writers.writers.items c.in_ok-writers.ensures.writers
+    (omega (arith, whole.0, whole.1, c.in_ok-writers.ensures.count.0)) c.in_ok-journal.journal.items c.in_ok-journal.ensures.items
+
+pub returns-clause-ports : goal.returns-clause-ports
+returns-clause-ports g c =
+    let n = c.args.network in
+    let images = c.in_ok-images.ensures ∙ ap (λ (v : World). map chosen_image v.routers) (c.world-2.ensures ∙ c.in_ok-world.ensures) in
+    let whole : length c.in_ok-images.images.items ≡ vec_len c.in_ok-images.images = search rules in
+    let routers : length c.in_ok-images.images.items ≡ n.routers = ap length images ∙ length-map (opening n).routers chosen_image ∙ router_count n [] (opening n) refl in
+    let lists : vec_len c.in_ok-writers.lists ≡ n.routers = omega (arith, routers, whole, c.in_ok-writers.ensures.count.1) in
+    (c.in-Ok.ensures.count, subst (λ m. All (λ port. IsPort m port.items) c.in-Ok.ports.items) lists c.in-Ok.ensures.ports)

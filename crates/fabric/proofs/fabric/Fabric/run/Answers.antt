@@ -9,7 +9,7 @@ use Rattle.world.proofs.Runs.{with_last_step}
 use Rattle.fabric.proofs.fabric.Fabric.run.Goals as goal
 
 pub loop-done-preserved : goal.loop-done-preserved
-loop-done-preserved c =
+loop-done-preserved g c =
     let s : Step = c.index-steps-done.result in
     let done : Lawful c.loop-done.self.world s × (c.step.new.self ≡ after_step c.loop-done.self s) = c.in_default.ensures.ok in
     let steps : take (c.loop-done.done + 1) c.args.steps.now ≡ take c.loop-done.done c.args.steps.now ++ s ∷ []

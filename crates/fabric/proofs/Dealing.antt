@@ -1,0 +1,75 @@
+-- Readers that are taken from the lists of their routers.
+use Rattle.std.specs.Prelude.{◌≡◌, ◌⊎◌, ◌≤◌, ◌<◌, ◌+◌, ℕ, zero, suc, List, [], ◌∷◌, ◌++◌, length, set, Some, All, get_or, slice_get}
+use Rattle.std.proofs.Common.{inl, inr, refl, sym, ap, subst, arith, length-append}
+use Rattle.std.proofs.lemmas.Option.{get_or_from_slice_get, slice_get-get_or, slice_get_within}
+use Rattle.network_model.proofs.ListLaws.{Some_injective}
+use Rattle.publication.specs.declared.known.Known.{Known}
+use Rattle.publication.specs.Lists.{EachAt, no_patches}
+use Rattle.fabric.specs.Writers.{HaveReaders}
+
+module _ {A : Type 0} (P : ℕ → A → Type 0) (xs : List A) where
+  -- what holds of each element holds of the one at a place
+  pub each_there : EachAt P xs → (k : ℕ) (x : A) → slice_get xs k ≡ Some x → P k x
+  each_there each k x at = subst (P k) (get_or_from_slice_get xs k x x at) (each k x (slice_get_within xs k x at))
+
+  pub there_each : ((k : ℕ) (x : A) → slice_get xs k ≡ Some x → P k x) → EachAt P xs
+  there_each there k d less = there k (get_or xs k d) (slice_get-get_or xs k d less)
+
+module _ {A : Type 0} where
+  -- an element of a list of which one was set is that one, or was there
+  pub at_set : (xs : List A) (i k : ℕ) (y x : A) → slice_get (set xs i y) k ≡ Some x → ((k ≡ i) × (x ≡ y)) ⊎ (slice_get xs k ≡ Some x)
+  at_set [] i k y x at = inr at
+  at_set (z ∷ zs) zero zero y x at = inl (refl, sym (Some_injective at))
+  at_set (z ∷ zs) zero (suc k) y x at = inr at
+  at_set (z ∷ zs) (suc i) zero y x at = inr at
+  at_set (z ∷ zs) (suc i) (suc k) y x at = behind (at_set zs i k y x at)
+    where
+      behind : ((k ≡ i) × (x ≡ y)) ⊎ (slice_get zs k ≡ Some x) → ((suc k ≡ suc i) × (x ≡ y)) ⊎ (slice_get zs k ≡ Some x)
+      behind (inl here) = inl (ap suc here.0, here.1)
+      behind (inr there) = inr there
+
+  -- what holds of all of a list holds of all but its last, and of its last
+  all_front : (P : A → Type 0) (xs : List A) (y : A) → All P (xs ++ y ∷ []) → All P xs
+  all_front P [] y all k d less = absurd (omega (arith, less))
+  all_front P (x ∷ xs) y all zero d less = all 0 d (omega arith)
+  all_front P (x ∷ xs) y all (suc k) d less = all_front P xs y (λ j e within. all (suc j) e (omega (arith, within))) k d (omega (arith, less))
+
+  all_last : (P : A → Type 0) (xs : List A) (y : A) → All P (xs ++ y ∷ []) → P y
+  all_last P [] y all = all 0 y (omega arith)
+  all_last P (x ∷ xs) y all = all_last P xs y (λ j e within. all (suc j) e (omega (arith, within)))
+
+module _ (lists : List (List Known)) (i : ℕ) (rest : List Known) (reader : Known) (there : slice_get lists i ≡ Some (rest ++ reader ∷ [])) where
+  -- the reader that is taken has seen nothing published
+  pub taken_is : HaveReaders 0 lists → reader ≡ no_patches i
+  taken_is stock = all_last (λ r. r ≡ no_patches i) rest reader (each_there (λ j rs. (0 ≤ length rs) × All (λ r. r ≡ no_patches j) rs) lists stock i (rest ++ reader ∷ []) there).1
+
+  -- what is left
+  pub left_after : (many k : ℕ) → k < many → many ≤ length (rest ++ reader ∷ []) → HaveReaders k lists → HaveReaders k (set lists i rest)
+  left_after many k fewer enough stock = there_each (λ j rs. (k ≤ length rs) × All (λ r. r ≡ no_patches j) rs) (set lists i rest) (λ j rs at. by_place j rs (at_set lists i j rest rs at))
+    where
+      were : (j : ℕ) (rs : List Known) → slice_get lists j ≡ Some rs → (k ≤ length rs) × All (λ r. r ≡ no_patches j) rs
+      were = each_there (λ j rs. (k ≤ length rs) × All (λ r. r ≡ no_patches j) rs) lists stock
+
+      by_place : (j : ℕ) (rs : List Known) → ((j ≡ i) × (rs ≡ rest)) ⊎ (slice_get lists j ≡ Some rs) → (k ≤ length rs) × All (λ r. r ≡ no_patches j) rs
+      by_place j rs (inl here) =
+          let one_more : length (rest ++ reader ∷ []) ≡ length rest + 1 = length-append rest (reader ∷ []) in
+          let long : k ≤ length rest = omega (arith, fewer, enough, one_more) in
+          let all : All (λ r. r ≡ no_patches i) rest = all_front (λ r. r ≡ no_patches i) rest reader (were i (rest ++ reader ∷ []) there).1 in (
+            subst (λ xs. k ≤ length xs) (sym here.1) long,
+            subst (λ xs. All (λ r. r ≡ no_patches j) xs) (sym here.1) (subst (λ m. All (λ r. r ≡ no_patches m) rest) (sym here.0) all),
+          )
+      by_place j rs (inr other) = were j rs other
+
+  -- the others stay
+  pub others_after : (many : ℕ) → ((j : ℕ) → i ≤ j → (rs : List Known) → slice_get lists j ≡ Some rs → many ≤ length rs)
+      → (j : ℕ) → i + 1 ≤ j → (rs : List Known) → slice_get (set lists i rest) j ≡ Some rs → many ≤ length rs
+  others_after many enough j later rs at = by_place (at_set lists i j rest rs at)
+    where
+      by_place : ((j ≡ i) × (rs ≡ rest)) ⊎ (slice_get lists j ≡ Some rs) → many ≤ length rs
+      by_place (inl here) = absurd (let same : j ≡ i = here.0 in omega (arith, later, same))
+      by_place (inr other) = enough j (omega (arith, later)) rs other
+
+-- what holds of an element holds of all of the list of it alone
+pub all_one : {A : Type 0} (P : A → Type 0) (x : A) → P x → All P (x ∷ [])
+all_one P x here zero d less = here
+all_one P x here (suc k) d less = absurd (omega (arith, less))

@@ -1,0 +1,25 @@
+-- The images that writers show are those in force.
+use Rattle.std.specs.Prelude.{◌≡◌, ℕ, List, Option, Some, None, slice_get, option_map}
+use Rattle.std.proofs.Common.{refl, sym, ap, ◌∙◌}
+use Rattle.std.proofs.lemmas.Option.{slice_get-map}
+use Rattle.ipv4_prefix.specs.Prefix.{Prefix}
+use Rattle.network_model.specs.declared.route.Entry.{Entry}
+use Rattle.network_model.specs.World.{Router, World}
+use Rattle.network_model.proofs.ListLaws.{None_not_Some, Some_injective}
+use Rattle.publication.specs.Lists.{Writing, image_of}
+use Rattle.fabric.specs.Images.{answer_at, answer_of, image_in_force, images_in_force}
+use Rattle.fabric.specs.Writers.{shown_images}
+
+module _ (openings : List (List (Prefix × Entry))) (w : World) (writers : List Writing) (shown : shown_images openings writers ≡ images_in_force w) (i : ℕ) (x : Writing) (there : slice_get writers i ≡ Some x) where
+  -- a writer's router is there, and has the writer's image in force
+  pub router_of : (r : Router) × (slice_get w.routers i ≡ Some r) × (image_of openings x.published ≡ image_in_force r)
+  router_of = by_router (slice_get w.routers i) refl
+      (sym (ap (option_map (λ (y : Writing). image_of openings y.published)) there) ∙ sym (slice_get-map (λ (y : Writing). image_of openings y.published) writers i) ∙ ap (λ images. slice_get images i) shown ∙ slice_get-map image_in_force w.routers i)
+    where
+      by_router : (o : Option Router) → slice_get w.routers i ≡ o → Some (image_of openings x.published) ≡ option_map image_in_force o → (r : Router) × (slice_get w.routers i ≡ Some r) × (image_of openings x.published ≡ image_in_force r)
+      by_router None at same = absurd (None_not_Some (sym same))
+      by_router (Some r) at same = (r, at, Some_injective same)
+
+  -- so it answers as its router
+  pub answer_is : (addr : ℕ) → answer_at w i addr ≡ Some (answer_of addr (image_of openings x.published))
+  answer_is addr = ap (option_map (λ r. answer_of addr (image_in_force r))) router_of.1 ∙ ap (λ image. Some (answer_of addr image)) (sym router_of.2)

@@ -1,0 +1,10 @@
+use Rattle.std.proofs.Common.{◌≡◌, ◌++◌, ◌||◌, not, filter}
+use Rattle.std.specs.List.{list_any}
+use Rattle.ipv4_prefix.specs.Prefix.{prefix_eq}
+use Rattle.network_model.specs.Step.{has_row}
+use Rattle.fabric.specs.Patches.{rows_to_set}
+use Rattle.fabric.proofs.images.rows_named.Given as goal
+
+abbrev pub invariant-loop-prefix : goal.invariant-loop-prefix
+invariant-loop-prefix l =
+    l.rows.items ++ filter (λ r. not (has_row (l.fn.table).table.published r) || list_any (λ p. prefix_eq p r.0) l.fn.waiting) l.prefix-iterator ≡ rows_to_set (l.fn.table).table l.fn.waiting

@@ -1,0 +1,48 @@
+-- The writers that publish the images of a fabric's routers, and the readers by which the fabric looks up in them.
+use Rattle.std.specs.Prelude.{◌≡◌, ◌≤◌, ℕ, true, List, [], map, length, All, IsSome, slice_get, option_and_then}
+use Rattle.std.specs.FinMap.{find as row_of}
+use Rattle.std.specs.Option.{option_map_or}
+use Rattle.ipv4_prefix.specs.Prefix.{Prefix, prefix_cmp}
+use Rattle.network_model.specs.declared.route.Entry.{Entry}
+use Rattle.network_model.specs.World.{Network, World, opening}
+use Rattle.network_model.specs.Publication.{Image, Patch}
+use Rattle.publication.specs.declared.known.Known.{Known}
+use Rattle.publication.specs.Lists.{EachAt, Writing, image_of, is_named, no_patches, prefixes_of}
+
+-- the rows that each router of a network has chosen when it opens, by the routers' numbers
+abbrev pub opening_tables : Network → List (List (Prefix × Entry))
+opening_tables n = map (λ r. (r.table).control) (opening n).routers
+
+-- the images that writers have in force
+abbrev pub shown_images : List (List (Prefix × Entry)) → List Writing → List Image
+shown_images openings writers = map (λ w. image_of openings w.published) writers
+
+-- the prefixes that wait with the writer of router i
+abbrev pub waiting_at : List Writing → ℕ → List Prefix
+waiting_at writers i = option_map_or (λ w. prefixes_of w.waiting) (slice_get writers i) []
+
+-- router i has heard of the prefix
+abbrev pub IsHeard : World → ℕ → Prefix → Type 0
+IsHeard w i p = IsSome (option_and_then (λ r. row_of prefix_cmp p r.machines) (slice_get w.routers i))
+
+-- router i has heard of each prefix that these patches name
+abbrev pub AreHeard : World → ℕ → List Patch → Type 0
+AreHeard w i waiting = (p : Prefix) → is_named waiting p ≡ true → IsHeard w i p
+
+-- each writer is of its router, which has heard of all that waits with it
+pub record AreWriters (w : World) (writers : List Writing) : Type 0 where
+  pub numbered : EachAt (λ i x. (x.published).router ≡ i) writers
+  pub heard : EachAt (λ i x. AreHeard w i x.waiting) writers
+
+-- each router has a reader, and each reader is of its router
+pub record AreReaders (w : World) (views : List Known) : Type 0 where
+  pub every_router : length views ≡ length w.routers
+  pub numbered : EachAt (λ i v. v.router ≡ i) views
+
+-- readers of all routers, by their numbers, that have seen nothing published
+abbrev pub IsPort : ℕ → List Known → Type 0
+IsPort routers port = (length port ≡ routers) × EachAt (λ i r. r ≡ no_patches i) port
+
+-- each router has at least so many readers, which have seen nothing published
+abbrev pub HaveReaders : ℕ → List (List Known) → Type 0
+HaveReaders many lists = EachAt (λ i rs. (many ≤ length rs) × All (λ r. r ≡ no_patches i) rs) lists

@@ -1,0 +1,51 @@
+//! Readers of all routers' images, dealt out to those who look up in them.
+
+ghost use Rattle.std.specs.Prelude.{ℕ, ◌≡◌, ◌+◌, ◌≤◌, ◌<◌, map, All, IfOk, OnOk, vec_len};
+ghost use Rattle.fabric.specs.Writers.{HaveReaders, IsPort};
+
+use network_model::NoMemory;
+use publication::{ImageReader, Naming};
+use std::alloc::Global;
+
+// One reader of each router, of so many that each has.
+fn take_port<B: Naming>(
+    alloc: Global,
+    lists: &mut Vec<Vec<ImageReader<B>>>,
+    many: u8,
+) -> Result<Vec<ImageReader<B>>, NoMemory>
+    requires some { 0 < many }
+    requires stock { HaveReaders many (map (λ rs. rs.items) lists.old.items) }
+    ensures port { IfOk result (λ port. IsPort (vec_len lists.old) port.items) }
+    ensures routers { vec_len lists.new ≡ vec_len lists.old }
+    ensures stock { OnOk result ((k : ℕ) → k < many → HaveReaders k (map (λ rs. rs.items) lists.new.items)) }
+{
+    let mut port = Vec::with_capacity(alloc, lists.len())?;
+    for router in 0..lists.len() {
+        let Some(reader) = lists[router].pop() else {
+            unreachable!()
+        };
+        port.push_reserved(reader);
+    }
+    Ok(port)
+}
+
+// Deals out the readers of each router: one to the fabric, and one to each of so many workers.
+pub fn deal<B: Naming>(
+    alloc: Global,
+    lists: Vec<Vec<ImageReader<B>>>,
+    workers: u8,
+) -> Result<(Vec<ImageReader<B>>, Vec<Vec<ImageReader<B>>>), NoMemory>
+    requires few { workers ≤ 16 }
+    requires stock { HaveReaders (workers + 1) (map (λ rs. rs.items) lists.items) }
+    ensures own { IfOk result (λ o. IsPort (vec_len lists) o.0.items) }
+    ensures count { IfOk result (λ o. vec_len o.1 ≡ workers) }
+    ensures ports { IfOk result (λ o. All (λ port. IsPort (vec_len lists) port.items) o.1.items) }
+{
+    let mut lists = lists;
+    let own = take_port(alloc, &mut lists, workers + 1)?;
+    let mut ports = Vec::with_capacity(alloc, usize::from(workers))?;
+    for done in 0..workers {
+        ports.push_reserved(take_port(alloc, &mut lists, workers - done)?);
+    }
+    Ok((own, ports))
+}
