@@ -1,33 +1,12 @@
 -- Readers that are taken from the lists of their routers.
-use Rattle.std.specs.Prelude.{◌≡◌, ◌⊎◌, ◌≤◌, ◌<◌, ◌+◌, ℕ, zero, suc, List, [], ◌∷◌, ◌++◌, length, set, Some, All, get_or, slice_get}
-use Rattle.std.proofs.Common.{inl, inr, refl, sym, ap, subst, arith, length-append}
-use Rattle.std.proofs.lemmas.Option.{get_or_from_slice_get, slice_get-get_or, slice_get_within}
-use Rattle.network_model.proofs.ListLaws.{Some_injective}
+use Rattle.std.specs.Prelude.{◌≡◌, ◌⊎◌, ◌≤◌, ◌<◌, ◌+◌, ℕ, zero, suc, List, [], ◌∷◌, ◌++◌, length, set, Some, All, slice_get}
+use Rattle.std.proofs.Common.{inl, inr, sym, subst, arith, length-append}
 use Rattle.publication.specs.declared.known.Known.{Known}
-use Rattle.publication.specs.Lists.{EachAt, no_patches}
+use Rattle.publication.specs.Lists.{no_patches}
+use Rattle.publication.proofs.Places.{at_set, each_there, there_each}
 use Rattle.fabric.specs.Writers.{HaveReaders}
 
-module _ {A : Type 0} (P : ℕ → A → Type 0) (xs : List A) where
-  -- what holds of each element holds of the one at a place
-  pub each_there : EachAt P xs → (k : ℕ) (x : A) → slice_get xs k ≡ Some x → P k x
-  each_there each k x at = subst (P k) (get_or_from_slice_get xs k x x at) (each k x (slice_get_within xs k x at))
-
-  pub there_each : ((k : ℕ) (x : A) → slice_get xs k ≡ Some x → P k x) → EachAt P xs
-  there_each there k d less = there k (get_or xs k d) (slice_get-get_or xs k d less)
-
 module _ {A : Type 0} where
-  -- an element of a list of which one was set is that one, or was there
-  pub at_set : (xs : List A) (i k : ℕ) (y x : A) → slice_get (set xs i y) k ≡ Some x → ((k ≡ i) × (x ≡ y)) ⊎ (slice_get xs k ≡ Some x)
-  at_set [] i k y x at = inr at
-  at_set (z ∷ zs) zero zero y x at = inl (refl, sym (Some_injective at))
-  at_set (z ∷ zs) zero (suc k) y x at = inr at
-  at_set (z ∷ zs) (suc i) zero y x at = inr at
-  at_set (z ∷ zs) (suc i) (suc k) y x at = behind (at_set zs i k y x at)
-    where
-      behind : ((k ≡ i) × (x ≡ y)) ⊎ (slice_get zs k ≡ Some x) → ((suc k ≡ suc i) × (x ≡ y)) ⊎ (slice_get zs k ≡ Some x)
-      behind (inl here) = inl (ap suc here.0, here.1)
-      behind (inr there) = inr there
-
   -- what holds of all of a list holds of all but its last, and of its last
   all_front : (P : A → Type 0) (xs : List A) (y : A) → All P (xs ++ y ∷ []) → All P xs
   all_front P [] y all k d less = absurd (omega (arith, less))

@@ -15,7 +15,7 @@ use Rattle.fabric.specs.Fabric.{fabric_of, opening_fabric, IsKept}
 use Rattle.fabric.specs.Images.{chosen_image, images_in_force}
 use Rattle.fabric.specs.Writers.{AreReaders, AreWriters, IsPort, opening_tables, shown_images}
 use Rattle.fabric.proofs.Fabrics.{kept_at_opening}
-use Rattle.fabric.proofs.Dealing.{each_there}
+use Rattle.publication.proofs.Places.{each_there}
 
 -- ---- lists
 

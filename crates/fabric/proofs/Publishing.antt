@@ -23,14 +23,14 @@ use Rattle.packet_loops.proofs.Runs.{reached}
 use Rattle.image_patch.specs.declared.Patch.{Patch as PatchFields}
 use Rattle.image_patch.specs.Patches.{patched}
 use Rattle.publication.specs.declared.known.Known.{Known}
-use Rattle.publication.specs.Lists.{Covers, EachAt, Writing, generation_of, image_of, is_named, patch_of, prefixes_of}
+use Rattle.publication.specs.Lists.{Covers, Writing, generation_of, image_of, is_named, patch_of, prefixes_of}
 use Rattle.publication.proofs.RowsAgain.{has_row}
 use Rattle.fabric.specs.Fabric.{fabric_of, IsKept}
 use Rattle.fabric.specs.Images.{due_at, image_in_force, images_in_force}
 use Rattle.fabric.specs.Patches.{IsPatchDue, rows_to_set}
 use Rattle.fabric.specs.Writers.{AreHeard, AreReaders, AreWriters, IsHeard, shown_images, waiting_at}
 use Rattle.fabric.proofs.Fabrics.{image_at}
-use Rattle.fabric.proofs.Dealing.{at_set, each_there, there_each}
+use Rattle.publication.proofs.Places.{each_set, each_there}
 use Rattle.fabric.proofs.Hearing.{chosen_heard, heard_chosen, heard_next}
 use Rattle.fabric.proofs.Setting.{named_chosen, waiting_named}
 use Rattle.fabric.proofs.Showing.{router_of}
@@ -50,16 +50,9 @@ none_heard w i waiting none p named = absurd (let no : false ≡ true = subst (�
 -- a writer is changed
 pub writers_set : (w : World) (writers : List Writing) (i : ℕ) (x : Writing) → AreWriters w writers → (x.published).router ≡ i → AreHeard w i x.waiting → AreWriters w (set writers i x)
 writers_set w writers i x are number heard = record {
-  numbered = each_set (λ m (z : Writing). (z.published).router ≡ m) number are.numbered;
-  heard = each_set (λ m (z : Writing). AreHeard w m z.waiting) heard are.heard;
+  numbered = each_set (λ m (z : Writing). (z.published).router ≡ m) writers i x are.numbered number;
+  heard = each_set (λ m (z : Writing). AreHeard w m z.waiting) writers i x are.heard heard;
 }
-  where
-    by_place : (P : ℕ → Writing → Type 0) (k : ℕ) (y : Writing) → P i x → EachAt P writers → ((k ≡ i) × (y ≡ x)) ⊎ (slice_get writers k ≡ Some y) → P k y
-    by_place P k y here each (inl same) = subst (λ m. P m y) (sym same.0) (subst (P i) (sym same.1) here)
-    by_place P k y here each (inr other) = each_there P writers each k y other
-
-    each_set : (P : ℕ → Writing → Type 0) → P i x → EachAt P writers → EachAt P (set writers i x)
-    each_set P here each = there_each P (set writers i x) (λ k y at. by_place P k y here each (at_set writers i k x y at))
 
 -- ---- the chosen rows of a run
 

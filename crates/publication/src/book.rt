@@ -1,7 +1,7 @@
 //! The list of patches that a writer announced, which exists in the proofs alone, and what knows a
 //! beginning of it.
 
-ghost use Rattle.std.specs.Prelude.{◌≡◌, ◌⊎◌, ◌+◌, ◌∷◌, ◌↔◌, [], ℕ, length, IfSome, IfOk, IsTrue, vec_len};
+ghost use Rattle.std.specs.Prelude.{◌≡◌, ◌⊎◌, ◌+◌, ◌<◌, ◌∷◌, ◌↔◌, [], ℕ, length, IfSome, IfOk, IsTrue, vec_len};
 ghost use Rattle.std.specs.Bool.{OnTrue};
 ghost use Rattle.publication.specs.Lists.{Begins, generation_of, no_patches, patch_of, with_patches};
 ghost use Rattle.publication.specs.Names.{book_of, head_of};
@@ -126,7 +126,8 @@ impl Unnamed {
 
     /// The book's word under a name, and the list with nothing in it.
     pub(crate) fn named<B: Naming>(self, router: u16) -> (Ledger<B>, Told<B>)
-        requires { self ≡ book_of B.books router }
+        requires book { self ≡ book_of B.books router }
+        requires known { router < length B.books }
         ensures ledger { result.0.router ≡ router }
         ensures told { result.1 ≡ no_patches router }
     {
@@ -168,7 +169,7 @@ pub struct Told<B: Naming> {
 }
 
 impl<B: Naming> Model for Told<B> {
-    ghost use Rattle.std.specs.Prelude.{◌≡◌, length};
+    ghost use Rattle.std.specs.Prelude.{◌≡◌, ◌<◌, length};
     ghost use Rattle.network_model.specs.Publication.{published_generation};
     ghost use Rattle.publication.specs.declared.known.Known.{Known};
     ghost use Rattle.publication.specs.Names.{book_of};
@@ -179,13 +180,15 @@ impl<B: Naming> Model for Told<B> {
 
     ghost invariant = { λ t. (t.count ≡ length t.seen.log)
         × (t.generation ≡ published_generation 0 t.seen.log)
-        × (t.seen.book ≡ book_of B.books t.router) };
+        × (t.seen.book ≡ book_of B.books t.router)
+        × (t.router < length B.books) };
 }
 
 impl<B: Naming> Told<B> {
-    /// The number of the writer's router.
+    /// The number of the writer's router, which is one of the fabric's.
     pub fn router(&self) -> u16
-        ensures { result ≡ self.now.router }
+        ensures router { result ≡ self.now.router }
+        ensures known { result < length B.books }
     {
         self.router
     }

@@ -1,6 +1,6 @@
 //! An address to look up.
 
-ghost use Rattle.std.specs.Prelude.{◌≡◌};
+ghost use Rattle.std.specs.Prelude.{◌≡◌, ◌<◌, length};
 ghost use Rattle.publication.specs.Lists.{generation_of};
 
 use crate::book::{Naming, Told};
@@ -14,9 +14,21 @@ pub struct Job<B: Naming> {
 }
 
 impl<B: Naming> Job<B> {
-    /// The number of the router at which the address is looked up.
+    /// A copy.
+    pub fn again(&self) -> Job<B>
+        ensures { result ≡ self.now }
+    {
+        Job {
+            number: self.number,
+            addr: self.addr,
+            told: self.told.again(),
+        }
+    }
+
+    /// The number of the router at which the address is looked up, which is one of the fabric's.
     pub fn router(&self) -> u16
-        ensures { result ≡ self.now.told.router }
+        ensures router { result ≡ self.now.told.router }
+        ensures known { result < length B.books }
     {
         self.told.router()
     }

@@ -15,7 +15,7 @@ pub use book::{Naming, Told, Unnamed};
 pub use image_patch::Patch;
 pub use job::Job;
 pub use network_model::{Answer, Entry, NoMemory, Prefix};
-pub use reader::{ImageReader, NoImage};
+pub use reader::{ImageReader, NoImage, ReadGate};
 pub use writer::{ImageWriter, OpenFault, open};
 pub use writers::{close_all, open_all};
 

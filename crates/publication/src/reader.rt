@@ -30,6 +30,19 @@ impl From<NoImage> for Refusal {
     }
 }
 
+/// What a reader meets while it holds an image.
+pub trait ReadGate {
+    /// Called while the image is held: its writer cannot change it meanwhile.
+    fn inside(&self);
+}
+
+// A gate that is always open.
+struct NoGate;
+
+impl ReadGate for NoGate {
+    fn inside(&self) {}
+}
+
 /// Looks addresses up, with no lock and no wait. Contracts see it as its view: a list that its
 /// writer has published.
 #[derive(Drop)]
@@ -82,11 +95,21 @@ impl<B: Naming> ImageReader<B> {
         ensures answer { IfOk result (λ a. a ≡ answer_of (image_of B.openings self.new) addr) }
         ensures refused { OnErr result (self.new ≡ self.old) }
     {
+        self.lookup_held(addr, &NoGate)
+    }
+
+    /// Looks an address up like `lookup`, and calls the gate while it holds the image.
+    pub fn lookup_held<G: ReadGate>(&mut self, addr: u32, gate: &G) -> Result<Answer, NoImage>
+        ensures later { Begins self.old self.new }
+        ensures answer { IfOk result (λ a. a ≡ answer_of (image_of B.openings self.new) addr) }
+        ensures refused { OnErr result (self.new ≡ self.old) }
+    {
         let Some(reader) = self.reader.take() else {
             return Err(NoImage);
         };
         match reader.enter_as::<Sees>() {
             Ok(reading) => {
+                gate.inside();
                 let (answer, told) = reading.get().answer(addr);
                 self.reader = Some(reading.leave());
                 if !goes_on(&self.told, &told, self.ahead) {
@@ -102,6 +125,13 @@ impl<B: Naming> ImageReader<B> {
                 Err(NoImage)
             }
         }
+    }
+
+    /// Its view, as the writer would have told of it.
+    pub fn view(&self) -> Told<B>
+        ensures { result ≡ self.now }
+    {
+        self.told.again()
     }
 
     /// Whether its view is just what was told: its writer has shown it nothing later.

@@ -1,20 +1,23 @@
 //! Patches that are published, and addresses that are looked up meanwhile.
 
 ghost use Rattle.std.specs.Prelude.{◌≡◌, ◌⊎◌, ◌∷◌, [], All, map, IfOk, OnOk, OnErr, vec_len};
+ghost use Rattle.std.specs.Thread.{IsSend, IsSync};
 ghost use Rattle.publication.specs.Lists.{opening_of, prefixes_of};
-ghost use Rattle.publication.specs.Names.{book_of};
 
 use crate::{
-    Answer, Entry, ImageReader, ImageWriter, Job, Naming, NoImage, NoMemory, Patch, Prefix, Told,
-    Unnamed, close_all, open, open_all,
+    Answer, Entry, ImageReader, ImageWriter, Job, Naming, NoImage, NoMemory, Patch, Prefix,
+    ReadGate, Told, Unnamed, close_all, open, open_all,
 };
 use ipv4_prefix::parse_addr;
 use std::alloc::Global;
 use std::marker::Brand;
 use std::process::Abort;
 use std::sync::Wait;
+use std::sync::atomic::{AtomicBool, AtomicU64, Ordering};
 use std::test::*;
+use std::thread;
 use std::thread::{Threads, join};
+use std::time::{Clock, Duration};
 use tree_bitmap::Image;
 use tree_bitmap::parts::empty;
 
@@ -242,7 +245,7 @@ fn race<B: Naming + Send + Sync, R: Threads + Wait + Abort + Sync>(
     unnamed: Unnamed,
     image: Image,
 ) -> Result<(), Fail>
-    requires name { unnamed ≡ book_of B.books 0 }
+    requires books { B.books ≡ unnamed ∷ [] }
     requires generation { image.generation ≡ 0 }
     requires rows { image.rows ≡ opening_of B.openings 0 }
 {
@@ -275,4 +278,178 @@ fn race<B: Naming + Send + Sync, R: Threads + Wait + Abort + Sync>(
 fn generations_never_fall(rt: HostRuntime) -> Result<(), Fail> {
     let image = empty(rt.alloc())?;
     race::<Brand, _>(&rt, rt.alloc(), Unnamed::new(), image)
+}
+
+// Holds a reader inside until another has looked up 1000 times since the writer began to publish.
+struct Hold<'a, R> {
+    rt: &'a R,
+    held: AtomicBool,
+    publishes: AtomicBool,
+    looked: AtomicU64,
+    late: AtomicBool,
+}
+
+impl<R> Drop for Hold<'_, R> {
+    fn drop(self) {
+        let Self {
+            rt: _,
+            held: _,
+            publishes: _,
+            looked: _,
+            late: _,
+        } = self;
+    }
+}
+
+impl<R: Clock> Hold<'_, R> {
+    // Waits until it is so: 1000 polls at most.
+    fn wait_for(&self, flag: &AtomicBool) {
+        for _ in 0..1_000u32 {
+            if flag.load(Ordering::SeqCst) {
+                return;
+            }
+            thread::sleep(self.rt, Duration::from_millis(1));
+        }
+        self.late.store(true, Ordering::SeqCst);
+    }
+}
+
+impl<R: Clock> ReadGate for Hold<'_, R> {
+    fn inside(&self) {
+        self.held.store(true, Ordering::SeqCst);
+        for _ in 0..1_000u32 {
+            if self.looked.load(Ordering::SeqCst) >= 1_000 {
+                return;
+            }
+            thread::sleep(self.rt, Duration::from_millis(1));
+        }
+        self.late.store(true, Ordering::SeqCst);
+    }
+}
+
+// Publishes a row once the reader is held.
+fn set_while_held<B: Naming, R: Wait + Clock>(
+    rt: &R,
+    alloc: Global,
+    writer: &mut ImageWriter<B>,
+    wide: Prefix,
+    gate: &Hold<'_, R>,
+) -> Option<Told<B>>
+    requires { writer.old.waiting ≡ [] }
+{
+    gate.wait_for(&gate.held);
+    gate.publishes.store(true, Ordering::SeqCst);
+    set(rt, alloc, writer, &[(wide, via(0))]).ok()
+}
+
+// What a reader answers once it has learned what was told at its router.
+fn learned<B: Naming>(
+    mut reader: ImageReader<B>,
+    told: &Told<B>,
+    addr: u32,
+) -> Option<Result<Answer, NoImage>> {
+    if reader.view().router() != told.router() {
+        return None;
+    }
+    reader.learn(told);
+    Some(reader.lookup(addr))
+}
+
+// Looks up 1000 times once the writer publishes, and counts the answers that were refused or whose
+// generation fell.
+fn look_while_held<B: Naming, R: Clock>(
+    mut reader: ImageReader<B>,
+    addr: u32,
+    gate: &Hold<'_, R>,
+) -> (ImageReader<B>, u32) {
+    let (mut last, mut wrong) = (0, 0u32);
+    gate.wait_for(&gate.publishes);
+    for _ in 0..1_000u32 {
+        match reader.lookup(addr) {
+            Ok(answer) => {
+                wrong = wrong.wrapping_add((answer.generation < last) as u32);
+                last = answer.generation;
+            }
+            Err(_) => wrong = wrong.wrapping_add(1),
+        }
+        gate.looked.fetch_add(1, Ordering::SeqCst);
+    }
+    (reader, wrong)
+}
+
+// Publishes, while a reader that looks up is held.
+fn publish_and_look<B: Naming + Send + Sync, R: Threads + Wait + Clock + Sync>(
+    rt: &R,
+    alloc: Global,
+    writer: &mut ImageWriter<B>,
+    reader: &mut ImageReader<B>,
+    wide: Prefix,
+    addr: u32,
+    gate: &Hold<'_, R>,
+) -> (Option<Told<B>>, Result<Answer, NoImage>)
+    requires { writer.old.waiting ≡ [] }
+{
+    join(
+        rt,
+        || set_while_held(rt, alloc, writer, wide, gate),
+        || reader.lookup_held(addr, gate),
+    )
+}
+
+fn publish_while_held<B: Naming + Send + Sync, R: Threads + Wait + Clock + Abort + Sync>(
+    rt: &R,
+    alloc: Global,
+    unnamed: Unnamed,
+    image: Image,
+) -> Result<(), Fail>
+    requires books { B.books ≡ unnamed ∷ [] }
+    requires generation { image.generation ≡ 0 }
+    requires rows { image.rows ≡ opening_of B.openings 0 }
+{
+    let wide = Prefix::parse("10.0.0.0/8")?;
+    let addr = parse_addr("10.0.0.1")?;
+    let Ok((mut writer, mut readers)) = open::<B, R>(rt, alloc, unnamed, 0, image, 2) else {
+        return Err("open".into());
+    };
+    let (Some(mut first), Some(second)) = (readers.pop(), readers.pop()) else {
+        writer.close(rt);
+        return Err("readers".into());
+    };
+    let gate = Hold {
+        rt,
+        held: AtomicBool::new(false),
+        publishes: AtomicBool::new(false),
+        looked: AtomicU64::new(0),
+        late: AtomicBool::new(false),
+    };
+    let ((told, answer), (second, wrong)) = join(
+        rt,
+        ||
+            requires shared { IsSync R.row }
+            requires named { IsSend B.row × IsSync B.row }
+            requires empty { writer.waiting ≡ [] }
+        { publish_and_look(rt, alloc, &mut writer, &mut first, wide, addr, &gate) },
+        || look_while_held(second, addr, &gate),
+    );
+    let after = match told {
+        Some(told) => (learned(first, &told, addr), learned(second, &told, addr)),
+        None => (None, None),
+    };
+    writer.close(rt);
+    assert!(rt; !gate.late.load(Ordering::SeqCst));
+    let none = Answer {
+        generation: 0,
+        matched: None,
+    };
+    assert_eq!(rt; answer, Ok(none));
+    assert_eq!(rt; wrong, 0);
+    assert_eq!(rt; after.0, Some(found(1, wide, via(0))));
+    assert_eq!(rt; after.1, Some(found(1, wide, via(0))));
+    Ok(())
+}
+
+#[test]
+fn a_held_reader_keeps_its_image(rt: HostRuntime) -> Result<(), Fail> {
+    let image = empty(rt.alloc())?;
+    publish_while_held::<Brand, _>(&rt, rt.alloc(), Unnamed::new(), image)
 }

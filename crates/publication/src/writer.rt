@@ -1,6 +1,6 @@
 //! The writer of an image.
 
-ghost use Rattle.std.specs.Prelude.{◌≡◌, ◌⊎◌, ◌+◌, ◌++◌, ◌∷◌, ◌≤◌, [], map, All, IfOk, OnOk, OnErr, vec_len};
+ghost use Rattle.std.specs.Prelude.{◌≡◌, ◌⊎◌, ◌+◌, ◌++◌, ◌∷◌, ◌≤◌, ◌<◌, [], length, map, All, IfOk, OnOk, OnErr, vec_len};
 ghost use Rattle.std.specs.Vec.{vec_capacity};
 ghost use Rattle.image_patch.specs.Patches.{patched};
 ghost use Rattle.publication.specs.Lists.{Covers, generation_of, image_of, is_named, new_writing, no_patches, opening_of, patch_of, prefixes_of, with_patches};
@@ -224,6 +224,7 @@ pub fn open<B: Naming, R: Wait>(
     readers: u8,
 ) -> Result<(ImageWriter<B>, Vec<ImageReader<B>>), OpenFault>
     requires name { unnamed ≡ book_of B.books router }
+    requires known { router < length B.books }
     requires generation { image.generation ≡ 0 }
     requires rows { image.rows ≡ opening_of B.openings router }
     ensures writer { IfOk result (λ o. o.0 ≡ new_writing router) }

@@ -28,6 +28,7 @@ invariant_of-result g c =
       rw log (omega (arith, length-append c.self.inside.seen.log (patch_of c.args.patch.now ∷ []), c.self.invariant.0)),
       rw log (sym (generation-last 0 c.self.inside.seen.log (patch_of c.args.patch.now))),
       e.0 ∙ (ap (λ s. s.book) c.again-seen.ensures ∙ c.self.invariant.2),
+      c.self.invariant.3,
     )
 
 pub returns : goal.returns

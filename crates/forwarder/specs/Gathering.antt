@@ -1,0 +1,36 @@
+-- Which reply is to which job, and what is wrong with a list of replies.
+use Rattle.std.specs.Prelude.{Bool, ℕ, ◌==◌, ◌&&◌, List, [], ◌∷◌, ◌++◌, Option, Some, None, if◌then◌else◌}
+use Rattle.std.specs.List.{list_any, list_all}
+use Rattle.publication.specs.declared.job.Job.{Job}
+use Rattle.forwarder.specs.Replies.{Replied}
+use Rattle.forwarder.specs.declared.gathering.GatherFault.{GatherFault}
+use Rattle.forwarder.specs.declared.gathering.GatherFault.TheVariants.{Stranger, Doubled, Missing}
+
+-- the first of two faults
+abbrev pub first_of : Option GatherFault → Option GatherFault → Option GatherFault
+first_of (Some e) later = Some e
+first_of None later = later
+
+module _ {X : Type 0} where
+  -- a reply is to the job whose number, router and address it keeps
+  abbrev pub is_reply_to : Job X → Replied X → Bool
+  is_reply_to j r = ((r.job).number == j.number) && (((r.job).told).router == (j.told).router) && ((r.job).addr == j.addr)
+
+  -- the number of the job that a reply keeps
+  abbrev pub number_of : Replied X → ℕ
+  number_of r = (r.job).number
+
+  -- what is wrong with a reply that comes after these
+  abbrev pub fault_at : List (Job X) → List (Replied X) → Replied X → Option GatherFault
+  fault_at jobs earlier r =
+      if list_any (λ j. is_reply_to j r) jobs then (if list_any (λ s. number_of s == number_of r) earlier then Some Doubled else None)
+      else Some Stranger
+
+  -- the first fault of replies that come after these
+  abbrev pub fault_in : List (Job X) → List (Replied X) → List (Replied X) → Option GatherFault
+  fault_in jobs earlier [] = None
+  fault_in jobs earlier (r ∷ rs) = first_of (fault_at jobs earlier r) (fault_in jobs (earlier ++ r ∷ []) rs)
+
+  -- what is wrong with replies to jobs: each in turn may be a stranger's or a second one; a job without a reply comes last
+  abbrev pub fault_of : List (Job X) → List (Replied X) → Option GatherFault
+  fault_of jobs replies = first_of (fault_in jobs [] replies) (if list_all (λ j. list_any (is_reply_to j) replies) jobs then None else Some Missing)

@@ -1,0 +1,3 @@
+pub mod Replies
+pub mod Ports
+pub mod Gathering
