@@ -1,8 +1,9 @@
 -- What a step leaves of what every fabric keeps.
-use Rattle.std.specs.Prelude.{◌≡◌, ℕ, zero, suc, ◌+◌, ◌<◌, ◌≤◌, cond, List, [], ◌∷◌, ◌++◌, map, length, set, Some, None, slice_get, option_map, option_and_then}
+use Rattle.std.specs.Prelude.{◌≡◌, ℕ, zero, suc, ◌+◌, ◌*◌, ◌^◌, ◌<◌, ◌≤◌, cond, List, [], ◌∷◌, ◌++◌, map, length, set, Some, None, slice_get, option_map, option_and_then}
 use Rattle.std.specs.List.{range_with_len}
 use Rattle.std.proofs.Common.{refl, sym, ap, subst, ◌∙◌, arith, length-append}
 use Rattle.std.proofs.lemmas.List.{length-map}
+use Rattle.std.proofs.lemmas.List.Sums.{sum_by_push}
 use Rattle.std.proofs.lemmas.Option.{slice_get_within, slice_get-map}
 use Rattle.network_model.specs.declared.item.Item.{Item}
 use Rattle.network_model.specs.declared.network.End.{End}
@@ -12,14 +13,14 @@ use Rattle.network_model.specs.Machine.{changed_at}
 use Rattle.network_model.specs.World.{Link, Router, World, Network, opening, opening_router_of}
 use Rattle.network_model.specs.Step.{Lawful, next, is_due, changed_router, changed_link, with_cost, with_front_taken, with_message, with_delivered, with_released, front_at, release_at, router_accepting, router_publishing, router_releasing}
 use Rattle.network_model.specs.Run.{Runs}
-use Rattle.network_model.specs.Journal.{most_steps}
+use Rattle.network_model.specs.Journal.{most_steps, step_number, journal_sum}
 use Rattle.network_model.specs.Publication.{Image, image_answer}
 use Rattle.network_model.proofs.ListLaws.{map-changed_at, option_map_or-ind, None_not_Some, Some_injective}
 use Rattle.network_model.proofs.WorldLaws.{routers-changed_link}
 use Rattle.world.specs.Steps.{HasRoomForSteps}
 use Rattle.world.proofs.Runs.{with_last_step, run-room, opening-room}
 use Rattle.fabric.specs.Images.{image_in_force, images_in_force, chosen_image, due_at}
-use Rattle.fabric.specs.Fabric.{Fabric, fabric_of, after_step, ForwardsAsPublished, IsKept}
+use Rattle.fabric.specs.Fabric.{Fabric, fabric_of, after_step, ForwardsAsPublished, IsKept, IsSumOf}
 
 -- the journal is too short for a generation to pass 64 bits
 pub room_left : (f : Fabric) (capacity : ℕ) → IsKept f capacity → HasRoomForSteps 1 f.world
@@ -136,3 +137,24 @@ pub kept_as : (f g : Fabric) (s : Step) (capacity more : ℕ) → IsKept f capac
 kept_as f g s capacity more kept lawful short same room =
     let after = kept_after f s capacity kept lawful short in
     subst (λ (x : Fabric). IsKept x more) same (record { runs = after.runs; short = after.short; room = (let enough : most_steps ≤ capacity = kept.room in omega (arith, enough, room)); in_force = refl })
+
+-- ---- the sum of the journal
+
+-- a journal with no steps
+pub summed_none : (journal : List Step) → journal ≡ [] → IsSumOf journal 0
+summed_none journal none = record {
+  is = sym (ap journal_sum none);
+  small = omega arith;
+}
+
+-- one step more adds its number
+pub summed_more : (before : List Step) (s : Step) (after : List Step) (sum number : ℕ) → IsSumOf before sum → number ≡ step_number s → number < 2 ^ 105 → after ≡ before ++ s ∷ [] → IsSumOf after (sum + number)
+summed_more before s after sum number summed numbered below is =
+    let added : journal_sum after ≡ journal_sum before + step_number s = ap journal_sum is ∙ sum_by_push step_number before s in
+    let longer : length after ≡ length before + 1 = ap length is ∙ length-append before (s ∷ []) in
+    let old : sum ≡ journal_sum before = summed.is in
+    let small : sum ≤ length before * 2 ^ 105 = summed.small in
+    record {
+      is = omega (arith, added, old, numbered);
+      small = omega (arith, longer, small, below);
+    }

@@ -1,12 +1,12 @@
 -- A network that runs, and the steps that made it what it is.
-use Rattle.std.specs.Prelude.{◌≡◌, ℕ, ◌≤◌, nat_lt, if◌then◌else◌, List, [], ◌∷◌, ◌++◌, length, Option, Some, slice_get}
+use Rattle.std.specs.Prelude.{◌≡◌, ℕ, ◌*◌, ◌^◌, ◌≤◌, nat_lt, if◌then◌else◌, List, [], ◌∷◌, ◌++◌, length, Option, Some, slice_get}
 use Rattle.ipv4_prefix.specs.LongestMatch.{longest_match}
 use Rattle.network_model.specs.declared.step.Step.{Step}
 use Rattle.network_model.specs.declared.step.Refusal.{Refusal}
 use Rattle.network_model.specs.World.{Network, Router, World, opening}
 use Rattle.network_model.specs.Step.{next, refusal}
 use Rattle.network_model.specs.Run.{Runs}
-use Rattle.network_model.specs.Journal.{most_steps}
+use Rattle.network_model.specs.Journal.{most_steps, journal_sum}
 use Rattle.network_model.specs.Publication.{Image, image_answer}
 use Rattle.fabric.specs.Images.{images_in_force}
 
@@ -44,3 +44,8 @@ pub record IsKept (f : Fabric) (capacity : ℕ) : Type 0 where
   pub short : length f.journal ≤ most_steps
   pub room : most_steps ≤ capacity
   pub in_force : f.images ≡ images_in_force f.world
+
+-- the number is the sum of the journal's steps, and not too large for 128 bits
+pub record IsSumOf (journal : List Step) (sum : ℕ) : Type 0 where
+  pub is : sum ≡ journal_sum journal
+  pub small : sum ≤ length journal * 2 ^ 105

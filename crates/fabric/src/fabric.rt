@@ -4,7 +4,7 @@ ghost use Rattle.std.specs.Prelude.{ℕ, None, Some, IsTrue, ◌≡◌, ◌≢�
 ghost use Rattle.network_model.specs.World as model;
 ghost use Rattle.network_model.specs.Step as steps;
 ghost use Rattle.network_model.specs.Run.{Runs};
-ghost use Rattle.network_model.specs.Journal.{most_steps};
+ghost use Rattle.network_model.specs.Journal.{journal_sum, most_steps};
 ghost use Rattle.world.specs.Steps.{IsDoneOr, StopsAt};
 ghost use Rattle.publication.specs.Lists.{answer_of as seen_answer, image_of};
 ghost use Rattle.fabric.specs.Fabric.{opening_fabric, after_step, fabric_refusal, ForwardsAsPublished};
@@ -38,11 +38,13 @@ pub struct Fabric<B: Naming> {
     readers: Vec<ImageReader<B>>,
     // Its room was made at the opening.
     journal: Vec<Step>,
+    // The sum of the numbers of its steps.
+    sum: u128,
 }
 
 impl<B: Naming> Model for Fabric<B> {
     ghost use Rattle.std.specs.Prelude.{vec_capacity};
-    ghost use Rattle.fabric.specs.Fabric.{Fabric as FabricState, fabric_of, IsKept};
+    ghost use Rattle.fabric.specs.Fabric.{Fabric as FabricState, fabric_of, IsKept, IsSumOf};
     ghost use Rattle.fabric.specs.Writers.{AreReaders, AreWriters, shown_images};
 
     ghost Value = { FabricState };
@@ -50,7 +52,7 @@ impl<B: Naming> Model for Fabric<B> {
     ghost view = { λ f. fabric_of f.network f.journal.items f.world (shown_images B.openings f.writers.items) };
 
     ghost invariant = { λ f. IsKept (fabric_of f.network f.journal.items f.world (shown_images B.openings f.writers.items)) (vec_capacity f.journal)
-        × AreWriters f.world f.writers.items × AreReaders f.world f.readers.items };
+        × AreWriters f.world f.writers.items × AreReaders f.world f.readers.items × IsSumOf f.journal.items f.sum };
 }
 
 impl<B: Naming> Fabric<B> {
@@ -90,6 +92,7 @@ impl<B: Naming> Fabric<B> {
             writers,
             readers,
             journal,
+            sum: 0,
         };
         fabric.holds();
         Ok((fabric, ports))
@@ -111,6 +114,13 @@ impl<B: Naming> Fabric<B> {
         ensures runs { Runs (model.opening (self.now).network) result.now (self.now).world }
     {
         &self.journal
+    }
+
+    /// The sum of the numbers of the journal's steps.
+    pub fn sum(&self) -> u128
+        ensures { result ≡ journal_sum (self.now).journal }
+    {
+        self.sum
     }
 
     /// The world that the steps made.
@@ -214,6 +224,7 @@ impl<B: Naming> Fabric<B> {
             return Err(Refusal::JournalFull);
         }
         let again = step;
+        let sum = self.sum + step.number();
         match step {
             Step::Publish { router } => {
                 let alloc = *self.journal.allocator();
@@ -230,6 +241,7 @@ impl<B: Naming> Fabric<B> {
             }
             _ => self.world.step(step)?,
         }
+        self.sum = sum;
         self.journal.push(again).unwrap();
         Ok(())
     }
@@ -279,6 +291,7 @@ impl<B: Naming> Fabric<B> {
             writers,
             readers: _readers,
             journal: _journal,
+            sum: _,
         } = self;
         close_all(rt, writers);
     }

@@ -4,18 +4,9 @@ use Rattle.std.specs.List.{AllByRecursion}
 use Rattle.std.proofs.Common.{refl, sym, ap, ◌∙◌, arith}
 use Rattle.network_model.specs.declared.step.Step.{Step}
 use Rattle.network_model.specs.declared.step.Step.TheVariants.{LinkUp, LinkDown, SetCost, Deliver, Publish, Release}
-use Rattle.network_model.specs.Journal.{Code, packed, step_code, step_number, journal_sum, steps_in_sum, most_steps}
+use Rattle.network_model.specs.Journal.{Code, IsCode, Fits, packed, step_code, step_number, journal_sum, steps_in_sum, most_steps}
 use Rattle.std.proofs.lemmas.List.Sums.{sum_by-cons}
 use Rattle.std.proofs.lemmas.Nat.{div-mul-add}
-
--- each part of a code is below its power of two
-pub record IsCode (c : Code) : Type 0 where
-  pub kind : c.kind < 2 ^ 4
-  pub subject : c.subject < 2 ^ 16
-  pub port : c.port < 2 ^ 8
-  pub cost : c.cost < 2 ^ 16
-  pub addr : c.addr < 2 ^ 32
-  pub len : c.len < 2 ^ 8
 
 pub packed_below : (c : Code) → IsCode c → packed c < 2 ^ 84
 packed_below c h = omega (arith, h.kind, h.subject, h.port, h.cost, h.addr, h.len)
@@ -56,10 +47,6 @@ step_of_code-step_code (SetCost i q cost) = refl
 step_of_code-step_code (Deliver i q) = refl
 step_of_code-step_code (Publish i) = refl
 step_of_code-step_code (Release i) = refl
-
--- a step whose parts fit its number
-abbrev pub Fits : Step → Type 0
-Fits s = IsCode (step_code s)
 
 -- distinct steps have distinct numbers
 pub step_number_injective : (s t : Step) → Fits s → Fits t → step_number s ≡ step_number t → s ≡ t

@@ -1,5 +1,5 @@
 -- Each step as a number, and a journal as the sum of its steps' numbers.
-use Rattle.std.specs.Prelude.{ℕ, ◌+◌, ◌*◌, ◌^◌, ◌/◌, List, sum_by}
+use Rattle.std.specs.Prelude.{ℕ, ◌+◌, ◌*◌, ◌^◌, ◌/◌, ◌<◌, List, sum_by}
 use Rattle.network_model.specs.declared.step.Step.{Step}
 use Rattle.network_model.specs.declared.step.Step.TheVariants.{LinkUp, LinkDown, SetCost, Deliver, Publish, Release}
 
@@ -20,14 +20,31 @@ pub record Code : Type 0 where
 abbrev pub packed : Code → ℕ
 packed c = ((((c.kind * 2 ^ 16 + c.subject) * 2 ^ 8 + c.port) * 2 ^ 16 + c.cost) * 2 ^ 32 + c.addr) * 2 ^ 8 + c.len
 
+-- a code without a prefix
+abbrev pub code_of : ℕ → ℕ → ℕ → ℕ → Code
+code_of kind subject port cost = record { kind = kind; subject = subject; port = port; cost = cost; addr = 0; len = 0 }
+
 -- the parts of each step: its kind, its router or link, its port and its cost, 0 where it has none; no step has a prefix yet
 abbrev pub step_code : Step → Code
-step_code (LinkUp l) = record { kind = 0; subject = l; port = 0; cost = 0; addr = 0; len = 0 }
-step_code (LinkDown l) = record { kind = 1; subject = l; port = 0; cost = 0; addr = 0; len = 0 }
-step_code (SetCost i q cost) = record { kind = 2; subject = i; port = q; cost = cost; addr = 0; len = 0 }
-step_code (Deliver i q) = record { kind = 3; subject = i; port = q; cost = 0; addr = 0; len = 0 }
-step_code (Publish i) = record { kind = 4; subject = i; port = 0; cost = 0; addr = 0; len = 0 }
-step_code (Release i) = record { kind = 5; subject = i; port = 0; cost = 0; addr = 0; len = 0 }
+step_code (LinkUp l) = code_of 0 l 0 0
+step_code (LinkDown l) = code_of 1 l 0 0
+step_code (SetCost i q cost) = code_of 2 i q cost
+step_code (Deliver i q) = code_of 3 i q 0
+step_code (Publish i) = code_of 4 i 0 0
+step_code (Release i) = code_of 5 i 0 0
+
+-- each part of a code is below its power of two
+pub record IsCode (c : Code) : Type 0 where
+  pub kind : c.kind < 2 ^ 4
+  pub subject : c.subject < 2 ^ 16
+  pub port : c.port < 2 ^ 8
+  pub cost : c.cost < 2 ^ 16
+  pub addr : c.addr < 2 ^ 32
+  pub len : c.len < 2 ^ 8
+
+-- a step whose parts fit its number
+abbrev pub Fits : Step → Type 0
+Fits s = IsCode (step_code s)
 
 -- a step's number: its code, above which one bit counts the step
 abbrev pub step_number : Step → ℕ

@@ -1,6 +1,7 @@
 //! The atomic steps of a network, and why one is refused.
 
-ghost use Rattle.std.specs.Prelude.{◌≡◌};
+ghost use Rattle.std.specs.Prelude.{◌≡◌, ◌+◌, ◌<◌, ◌^◌};
+ghost use Rattle.network_model.specs.Journal.{Fits, IsCode, code_of, packed, step_number};
 ghost use Rattle.network_model.specs.declared.step.Refusal.TheVariants.{NoMemory as OutOfMemory};
 
 use crate::memory::NoMemory;
@@ -23,6 +24,50 @@ pub enum Step {
     Publish { router: u16 },
     /// The router puts the front message that it holds on its link.
     Release { router: u16 },
+}
+
+// What a step's number counts it by, and the places of its parts.
+const ONE_STEP: u128 = 1 << 104;
+
+const KIND: u128 = 1 << 80;
+
+const SUBJECT: u128 = 1 << 64;
+
+const PORT: u128 = 1 << 56;
+
+const COST: u128 = 1 << 40;
+
+impl Step {
+    /// Its number, which no other step has: a journal's sum adds up those of its steps.
+    pub fn number(&self) -> u128
+        ensures number { result ≡ step_number self.now }
+        ensures below { result < 2 ^ 105 }
+        ensures fits { Fits self.now }
+    {
+        match *self {
+            Step::LinkUp { link } => number_of(0, link, 0, 0),
+            Step::LinkDown { link } => number_of(1, link, 0, 0),
+            Step::SetCost { router, port, cost } => number_of(2, router, port, cost.value()),
+            Step::Deliver { router, port } => number_of(3, router, port, 0),
+            Step::Publish { router } => number_of(4, router, 0, 0),
+            Step::Release { router } => number_of(5, router, 0, 0),
+        }
+    }
+}
+
+// The number of a step of these parts.
+fn number_of(kind: u8, subject: u16, port: u8, cost: u32) -> u128
+    requires kind { kind < 2 ^ 4 }
+    requires cost { cost < 2 ^ 16 }
+    ensures number { result ≡ 2 ^ 104 + packed (code_of kind subject port cost) }
+    ensures below { result < 2 ^ 105 }
+    ensures fits { IsCode (code_of kind subject port cost) }
+{
+    ONE_STEP
+        + u128::from(kind) * KIND
+        + u128::from(subject) * SUBJECT
+        + u128::from(port) * PORT
+        + u128::from(cost) * COST
 }
 
 /// Why a step, or a call on the network that does steps, is refused. Its text is its number and name.

@@ -1,4 +1,4 @@
-use Rattle.std.proofs.Common.{rules, Result, Ok, Err, None, ◌≡◌, ◌<◌, ◌≤◌, ◌++◌, [], ◌∷◌, length, vec_len, refl, sym, ap, subst, ◌∙◌, arith}
+use Rattle.std.proofs.Common.{rules, Result, Ok, Err, None, ◌≡◌, ◌+◌, ◌<◌, ◌≤◌, ◌++◌, [], ◌∷◌, length, vec_len, refl, sym, ap, subst, ◌∙◌, arith}
 use Rattle.std.specs.Prelude.{vec_capacity, set, get_or, OnErr}
 use Rattle.network_model.specs.declared.step.Step.{Step}
 use Rattle.network_model.specs.declared.step.Step.TheVariants.{Publish}
@@ -8,11 +8,11 @@ use Rattle.network_model.proofs.ListLaws.{None_not_Some}
 use Rattle.world.specs.Steps.{HasRoomForSteps}
 use Rattle.publication.specs.declared.known.Known.{Known}
 use Rattle.image_patch.specs.Patches.{patched}
-use Rattle.fabric.specs.Fabric.{Fabric, fabric_of, after_step, IsKept}
+use Rattle.fabric.specs.Fabric.{Fabric, fabric_of, after_step, IsKept, IsSumOf}
 use Rattle.fabric.specs.Patches.{IsPatchDue}
 use Rattle.fabric.specs.Images.{image_in_force, images_in_force}
 use Rattle.fabric.specs.Writers.{AreReaders, AreWriters, shown_images}
-use Rattle.fabric.proofs.Fabrics.{room_left, images_stay, images_due, kept_as, due_of}
+use Rattle.fabric.proofs.Fabrics.{room_left, images_stay, images_due, kept_as, due_of, summed_more}
 use Rattle.fabric.proofs.Publishing.{IsDue, due_there, is_due_by, none_heard, number_is, writer_within, names_all, next_number, readers_next, shown_done, still_heard, unseen_shown, writers_next, writers_set}
 use Rattle.fabric.proofs.fabric.Fabric.do_step.Given as given
 use Rattle.fabric.proofs.fabric.Fabric.do_step.Goals as goal
@@ -87,6 +87,7 @@ invariant_of-self g c =
           (ap (λ (k : Known). k.router) c.in_err-publish-in-Some.ensures.unseen ∙ number_is _ _ _ _ _ _ _ _ (due_refused g c))
           (still_heard _ _ _ _ _ _ _ _ (due_refused g c) (c.publish.new.self).waiting c.in_err-publish-in-Some.ensures.refused)),
       c.self.invariant.2,
+      c.self.invariant.3,
     )
 
 pub returns-in_err-publish-in-Some-clause-err : goal.returns-in_err-publish-in-Some-clause-err
@@ -184,13 +185,27 @@ stepped g c =
           }
     ]
 
+-- the sum has the step's number more
+summed : (g : given.Over) (c : goal.After-unwrap-2 g) → IsStepped g c → IsSumOf c.push.new.self.items (c.self.inside.sum + c.number.result)
+summed g c done =
+    summed_more c.self.inside.journal.items c.args.step c.push.new.self.items c.self.inside.sum c.number.result c.self.invariant.3 c.number.ensures.number c.number.ensures.below
+    (pushed g c ∙ ap (λ j. j.items ++ c.args.step ∷ []) done.journal)
+
 pub invariant_of-self-2 : goal.invariant_of-self-2
 invariant_of-self-2 g c =
     let done = stepped g c in (
       kept_as (old g c) (new g c) c.args.step (vec_capacity c.self.inside.journal) (vec_capacity c.push.new.self) c.self.invariant.0 done.lawful (short g c) done.after (room_kept g c done.journal),
       done.writers,
       done.readers,
+      summed g c done,
     )
 
 pub returns-clause-ok : goal.returns-clause-ok
 returns-clause-ok g c = let done = stepped g c in rw (← c.self.view_is) (done.lawful, sym done.after)
+
+pub overflow_add-sum : goal.overflow_add-sum
+overflow_add-sum g c =
+    let sum = (c.self.invariant.3).small in
+    let short = (c.self.invariant.0).short in
+    let below = c.number.ensures.below in
+    omega (arith, sum, short, below)

@@ -6,6 +6,7 @@ use Rattle.network_model.specs.Publication.{Image}
 use Rattle.publication.specs.Lists.{no_patches}
 use Rattle.fabric.specs.Images.{chosen_image}
 use Rattle.fabric.specs.Writers.{IsPort}
+use Rattle.fabric.proofs.Fabrics.{summed_none}
 use Rattle.fabric.proofs.Idle.{router_count}
 use Rattle.fabric.proofs.Opening.{chosen_rows_are, chosen_zero, each_map, is_opening, kept_open, new_readers, new_writers}
 use Rattle.fabric.proofs.fabric.Fabric.open.Given as given
@@ -50,6 +51,7 @@ invariant_of-fabric g c =
           c.in_ok-journal.journal.items (vec_capacity c.in_ok-journal.journal) c.in_ok-journal.ensures.items (omega (arith, c.in_ok-journal.ensures.capacity)),
       new_writers n g.B.Naming.openings c.requires.openings c.in_ok-writers.writers.items c.in_ok-writers.ensures.writers w,
       new_readers w c.in-Ok.readers.items (subst (λ m. IsPort m c.in-Ok.readers.items) (let lists : vec_len c.in_ok-writers.lists ≡ length w.routers = omega (arith, routers, whole.0, each.1) in lists) c.in-Ok.ensures.own),
+      summed_none c.in_ok-journal.journal.items c.in_ok-journal.ensures.items,
     )
 
 pub returns-clause-ok : goal.returns-clause-ok

@@ -1,0 +1,9 @@
+use Rattle.control.specs.Served.{none_asked}
+use Rattle.control.proofs.Serving.{served_on}
+use Rattle.control.proofs.rounds.settle.Goals as goal
+
+pub returns-then-is_err-clause-turns : goal.returns-then-is_err-clause-turns
+returns-then-is_err-clause-turns g c = served_on c.args.fabric none_asked c.loop.fabric c.serve_once-next.result.0 c.loop.invariant c.serve_once-next.ensures
+
+pub loop-preserved : goal.loop-preserved
+loop-preserved g c = served_on c.args.fabric none_asked c.loop.fabric c.serve_once-next.result.0 c.loop.invariant c.serve_once-next.ensures

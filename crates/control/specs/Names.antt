@@ -1,0 +1,14 @@
+-- The name of a control.
+use Rattle.std.specs.Prelude.{◌≡◌, ℕ}
+use Rattle.control.specs.declared.desk.Opening.{Opening}
+
+-- the names of an opening's two ledgers
+abbrev pub high_name : Opening → ℕ
+high_name o = (o.high).name
+
+abbrev pub low_name : Opening → ℕ
+low_name o = (o.low).name
+
+-- an opening of so many shares has this name
+abbrev pub IsNamed : Opening → ℕ → ℕ → ℕ → Type 0
+IsNamed o high low shares = (high_name o ≡ high) × (low_name o ≡ low) × (o.shares ≡ shares)

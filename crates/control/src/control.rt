@@ -1,0 +1,216 @@
+//! What a control does.
+
+ghost use Rattle.std.specs.Prelude.{◌≡◌, ◌<◌, ◌≤◌, ◌+◌, ◌*◌, ◌^◌, ◌↔◌, Some, true, slice_get, sum_by, vec_len, IfOk, IfErr, IsOk, OnOk, MatchOption, MatchResult};
+ghost use Rattle.network_model.specs.Journal.{journal_sum, step_number};
+ghost use Rattle.network_model.specs.Step as steps;
+ghost use Rattle.network_model.specs.Turns as turns;
+ghost use Rattle.world.specs.Steps.{IsDoneOr};
+ghost use Rattle.publication.specs.Lists.{image_of};
+ghost use Rattle.fabric.specs.Fabric.{Fabric as FabricState, fabric_refusal};
+ghost use Rattle.control.specs.Names.{IsNamed};
+ghost use Rattle.control.specs.Served.{IsFound, IsServed, IsTurn};
+ghost use Rattle.control.specs.Shares.{IsHolder, AreNew};
+
+use crate::desk::{Control, Guarded, High, Low, Naming, Opening, Share};
+use crate::guarded::UNIT;
+use fabric::Fabric;
+use network_model::{Refusal, Step};
+use publication::Job;
+use std::alloc::Global;
+use std::mem::ManuallyDrop;
+use std::sync::ledger::{self, Blank};
+use std::sync::{Mutex, Wait};
+
+impl Opening {
+    /// Of so many shares.
+    pub fn new(shares: u8) -> Opening
+        ensures { result.shares ≡ shares }
+    {
+        Opening {
+            high: Blank::new(u64::from(shares)),
+            low: Blank::new(u64::from(shares)),
+            shares,
+        }
+    }
+}
+
+impl<N: Naming> Share<N> {
+    /// The sum of the numbers of its holder's steps; the first share of a control has that of the steps
+    /// before it too.
+    pub fn sum(&self) -> u128
+        ensures { result ≡ self.now.sum }
+    {
+        self.sum
+    }
+
+    /// Its place among the shares of its control, from 0.
+    pub fn number(&self) -> u8
+        ensures { result ≡ self.now.number }
+    {
+        self.number
+    }
+
+    fn made(
+        number: u8,
+        sum: u128,
+        high: ledger::Share<High<N>>,
+        low: ledger::Share<Low<N>>,
+    ) -> Share<N>
+        requires parts { (high.parts ≡ 1) × (low.parts ≡ 1) }
+        requires adds_up { sum ≡ high.amount * 2 ^ 64 + low.amount }
+        ensures { (result.number ≡ number) × (result.sum ≡ sum) }
+    {
+        Share {
+            number,
+            sum,
+            refused: None,
+            high,
+            low,
+        }
+    }
+}
+
+impl<B: publication::Naming, N: Naming> Control<B, N> {
+    /// Puts a fabric under a lock, and makes the shares. The first has the journal's sum, the others
+    /// have 0. Without memory the fabric comes back.
+    pub fn new(
+        alloc: Global,
+        opening: Opening,
+        fabric: Fabric<B>,
+    ) -> Result<(Control<B, N>, Vec<Share<N>>), Fabric<B>>
+        requires names { IsNamed opening N.high N.low N.shares }
+        requires some { 0 < opening.shares }
+        requires opened { fabric ≡ N.opened }
+        ensures shares { IfOk result (λ r. (vec_len r.1 ≡ opening.shares) × AreNew (journal_sum fabric.journal) r.1.items) }
+        ensures object { IfErr result (λ f. f ≡ fabric) }
+    {
+        let sum = fabric.sum();
+        let Opening { high, low, shares } = opening;
+        let Ok(mut all) = Vec::with_capacity(alloc, usize::from(shares)) else {
+            return Err(fabric);
+        };
+        let (mut high_book, mut high_rest) = high.open::<High<N>>();
+        let (mut low_book, mut low_rest) = low.open::<Low<N>>();
+        let mut sum_left = sum;
+        let mut high_left = (sum / UNIT) as u64;
+        let mut low_left = (sum % UNIT) as u64;
+        high_book.add(&mut high_rest, high_left);
+        low_book.add(&mut low_rest, low_left);
+        for number in 0..shares {
+            let high = high_rest.split_off(1, high_left);
+            let low = low_rest.split_off(1, low_left);
+            all.push_reserved(Share::made(number, sum_left, high, low));
+            sum_left = 0;
+            high_left = 0;
+            low_left = 0;
+        }
+        let guarded = Guarded::made(fabric, high_book, low_book);
+        Ok((Control::of(guarded), all))
+    }
+
+    // A fabric has to be closed, so none is let go with the lock: `close` takes it out.
+    fn of(guarded: Guarded<B, N>) -> Control<B, N> {
+        let desk = unsafe { ManuallyDrop::new_unchecked(guarded) };
+        Control {
+            desk: Mutex::new(desk),
+        }
+    }
+
+    /// The fabric, where these are all shares of its control. Together they are the journal's sum.
+    pub fn close(self, shares: Vec<Share<N>>) -> Fabric<B>
+        requires all { vec_len shares ≡ N.shares }
+        requires some { 0 < vec_len shares }
+        ensures sum { sum_by (λ s. s.sum) shares.items ≡ journal_sum result.journal }
+        ensures served { IsServed N.opened N.asked result }
+    {
+        let mut shares = shares;
+        let Control { desk } = self;
+        let Guarded {
+            fabric,
+            mut high,
+            mut low,
+        } = ManuallyDrop::into_inner(desk.into_inner());
+        let Some(first) = shares.pop() else {
+            unreachable!()
+        };
+        let Share {
+            number: _,
+            sum: _,
+            refused: _,
+            high: mut all_high,
+            low: mut all_low,
+        } = first;
+        while let Some(share) = shares.pop() {
+            let Share {
+                number: _,
+                sum: _,
+                refused: _,
+                high: its_high,
+                low: its_low,
+            } = share;
+            all_high.merge(its_high);
+            all_low.merge(its_low);
+        }
+        high.audit(&mut all_high);
+        low.audit(&mut all_low);
+        fabric
+    }
+
+    /// Does a step, and adds its number to the share. Refused, as `Fabric::step` refuses it, it changes
+    /// nothing.
+    pub fn step<R: Wait>(&self, rt: &R, step: Step, share: &mut Share<N>) -> Result<(), Refusal>
+        requires asked { N.asked step ≡ true }
+        ensures sum { MatchResult result (λ _. share.new.sum ≡ share.old.sum + step_number step) (λ _. share.new.sum ≡ share.old.sum) }
+        ensures holder { IsHolder share.old share.new }
+        ensures cause { (f : FabricState) × IsFound N.opened N.asked N.shares share.old.sum f × IsDoneOr (fabric_refusal f step) result × OnOk result (steps.Lawful f.world step) }
+    {
+        self.desk.lock(rt).step(rt, step, share)
+    }
+
+    /// Does what a router has to do next, adds its number to the share, and answers it; none where the
+    /// router has nothing to do. Refused with `UnknownRouter`, then as `Fabric::step` refuses the step.
+    pub fn turn<R: Wait>(
+        &self,
+        rt: &R,
+        router: u16,
+        share: &mut Share<N>,
+    ) -> Result<Option<Step>, Refusal>
+        ensures sum { MatchResult result (λ o. MatchOption o (share.new.sum ≡ share.old.sum) (λ s. share.new.sum ≡ share.old.sum + step_number s)) (λ _. share.new.sum ≡ share.old.sum) }
+        ensures holder { IsHolder share.old share.new }
+        ensures turn { (f : FabricState) × IsFound N.opened N.asked N.shares share.old.sum f × IsTurn f router result }
+    {
+        self.desk.lock(rt).turn(rt, router, share)
+    }
+
+    /// An address for a worker to look up at a router, in an image no older than the one in force now.
+    /// Refused with `UnknownRouter`.
+    pub fn job<R: Wait>(
+        &self,
+        rt: &R,
+        number: u64,
+        router: u16,
+        addr: u32,
+    ) -> Result<Job<B>, Refusal>
+        ensures asked { IfOk result (λ j. (j.number ≡ number) × (j.told.router ≡ router) × (j.addr ≡ addr)) }
+        ensures known { IsOk result ↔ (router < (N.opened.network).routers) }
+        ensures err { IfErr result (λ e. e ≡ Refusal.UnknownRouter) }
+        ensures in_force { (f : FabricState) × IsServed N.opened N.asked f × IfOk result (λ j. slice_get f.images router ≡ Some (image_of B.openings j.told)) }
+    {
+        self.desk.lock(rt).job(number, router, addr)
+    }
+
+    /// Whether nothing is left to do.
+    pub fn is_settled<R: Wait>(&self, rt: &R) -> bool
+        ensures { (f : FabricState) × IsServed N.opened N.asked f × (result ≡ turns.is_settled f.world) }
+    {
+        self.desk.lock(rt).is_settled()
+    }
+
+    /// How many routers there are.
+    pub(crate) fn routers<R: Wait>(&self, rt: &R) -> u16
+        ensures routers { result ≡ (N.opened.network).routers }
+        ensures few { result ≤ 256 }
+    {
+        self.desk.lock(rt).routers()
+    }
+}

@@ -1,0 +1,112 @@
+//! What lies under the lock, and what its callers hold beside it.
+
+ghost use Rattle.std.specs.Prelude.{◌≡◌, ◌+◌, ◌*◌, ◌^◌};
+
+use fabric::Fabric;
+use network_model::Refusal;
+use std::marker::{Brand, Model, PhantomData};
+use std::mem::ManuallyDrop;
+use std::sync::Mutex;
+use std::sync::ledger::{self, Blank, Book, Ledger};
+
+/// Which control it is: the names of its two ledgers and the number of its shares, the fabric that it
+/// was made of, and the steps that may be asked for. A generic function has it as a type parameter,
+/// and its caller chooses it.
+pub trait Naming {
+    ghost use Rattle.std.specs.Prelude.{ℕ, Bool};
+    ghost use Rattle.network_model.specs.declared.step.Step.{Step};
+    ghost use Rattle.fabric.specs.Fabric.{Fabric as FabricState};
+
+    ghost high: { ℕ };
+
+    ghost low: { ℕ };
+
+    ghost shares: { ℕ };
+
+    ghost opened: { FabricState };
+
+    ghost asked: { Step → Bool };
+}
+
+impl Naming for Brand {
+    ghost use Rattle.control.specs.Served.{no_fabric, none_asked};
+
+    ghost high = { 0 };
+
+    ghost low = { 0 };
+
+    ghost shares = { 0 };
+
+    ghost opened = { no_fabric };
+
+    ghost asked = { none_asked };
+}
+
+/// The ledger of what the numbers of the steps come to in units of 2^64.
+pub struct High<N>(PhantomData<N>);
+
+impl<N: Naming> Ledger for High<N> {
+    ghost name = { N.high };
+
+    ghost parts = { N.shares };
+}
+
+/// The ledger of the rest.
+pub struct Low<N>(PhantomData<N>);
+
+impl<N: Naming> Ledger for Low<N> {
+    ghost name = { N.low };
+
+    ghost parts = { N.shares };
+}
+
+/// What a control is made of before it has a name.
+#[derive(Drop)]
+pub struct Opening {
+    pub(crate) high: Blank,
+    pub(crate) low: Blank,
+    pub(crate) shares: u8,
+    ghost high_parts: { high.parts ≡ shares },
+    ghost low_parts: { low.parts ≡ shares },
+}
+
+/// The fabric, and the books of the shares, which add up to its journal's sum. Contracts see it as
+/// the fabric.
+pub struct Guarded<B: publication::Naming, N: Naming> {
+    pub(crate) fabric: Fabric<B>,
+    pub(crate) high: Book<High<N>>,
+    pub(crate) low: Book<Low<N>>,
+}
+
+impl<B: publication::Naming, N: Naming> Model for Guarded<B, N> {
+    ghost use Rattle.std.specs.Prelude.{◌≡◌, ◌+◌, ◌*◌, ◌^◌};
+    ghost use Rattle.network_model.specs.Journal.{journal_sum};
+    ghost use Rattle.fabric.specs.Fabric.{Fabric as FabricState};
+    ghost use Rattle.control.specs.Served.{IsServed};
+
+    ghost Value = { FabricState };
+
+    ghost view = { λ g. g.fabric };
+
+    ghost invariant = { λ g. (g.high.total * 2 ^ 64 + g.low.total ≡ journal_sum g.fabric.journal) × IsServed N.opened N.asked g.fabric };
+}
+
+/// What the steps of one holder come to. One that is dropped is lost: its control can then not be
+/// closed.
+#[derive(Drop)]
+pub struct Share<N: Naming> {
+    pub(crate) number: u8,
+    pub(crate) sum: u128,
+    // Why its holder's last turn of a `serve` was refused.
+    pub(crate) refused: Option<Refusal>,
+    pub(crate) high: ledger::Share<High<N>>,
+    pub(crate) low: ledger::Share<Low<N>>,
+    ghost high_part: { high.parts ≡ 1 },
+    ghost low_part: { low.parts ≡ 1 },
+    ghost adds_up: { sum ≡ high.amount * 2 ^ 64 + low.amount },
+}
+
+/// A fabric under a lock. It is not `Drop`: end it by `close`.
+pub struct Control<B: publication::Naming, N: Naming> {
+    pub(crate) desk: Mutex<ManuallyDrop<Guarded<B, N>>>,
+}

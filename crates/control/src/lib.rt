@@ -1,0 +1,19 @@
+//! A fabric under a lock, stepped by several threads. What the steps of each come to stands in its
+//! share, and all shares together add up to the journal's sum.
+#![tactic(auto)]
+
+mod alone;
+mod control;
+mod desk;
+mod guarded;
+mod rounds;
+mod serve;
+
+pub use alone::one_step;
+pub use desk::{Control, Naming, Opening, Share};
+pub use network_model::{Refusal, Step};
+pub use rounds::settle;
+pub use serve::TurnGate;
+
+#[cfg(test)]
+mod tests;

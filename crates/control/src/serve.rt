@@ -1,0 +1,128 @@
+//! Threads that take turns.
+
+ghost use Rattle.std.specs.Prelude.{◌≡◌, ◌+◌, ◌<◌, ◌≤◌, nat_lt, if◌then◌else◌, Some, None, vec_len};
+ghost use Rattle.control.specs.Shares.{IsHolder, AreSameHolders};
+
+use crate::desk::{Control, Naming, Share};
+use network_model::Refusal;
+use std::sync::Wait;
+use std::sync::atomic::{AtomicBool, Ordering};
+use std::thread;
+use std::thread::Threads;
+
+/// What a thread that serves calls before and after each of its turns, while it has no lock. Threads
+/// are numbered as their shares, and each counts its turns from 1; the count stays at the greatest.
+pub trait TurnGate {
+    fn before(&self, thread: u8, turn: u64);
+
+    fn after(&self, thread: u8, turn: u64);
+}
+
+impl<B: publication::Naming + Send + Sync, N: Naming + Send + Sync> Control<B, N> {
+    /// Lets a thread for each of the n shares serve: thread t serves the routers whose number modulo n
+    /// is t, one turn each, in ascending cyclic order, until it finds the fabric settled. One without
+    /// routers returns at once. Where a step is refused, each thread stops after its present turn, and
+    /// the refusal of the lowest such thread is answered.
+    pub fn serve<R: Threads + Wait + Sync, G: TurnGate + Sync>(
+        &self,
+        rt: &R,
+        shares: &mut Vec<Share<N>>,
+        gate: &G,
+    ) -> Result<(), Refusal>
+        requires { 0 < vec_len shares.old }
+        ensures len { vec_len shares.new ≡ vec_len shares.old }
+        ensures same { AreSameHolders shares.old.items shares.new.items }
+    {
+        let stop = AtomicBool::new(false);
+        let rota = self.rota(rt, shares.len());
+        let threads = shares.len();
+        thread::for_each_mut(
+            rt,
+            shares.as_mut_slice(),
+            threads,
+            &|place, share| self.serve_one(rt, rota, place, share, gate, &stop),
+        );
+        for share in shares.as_slice() {
+            if let Some(refusal) = share.refused {
+                return Err(refusal);
+            }
+        }
+        Ok(())
+    }
+
+    fn rota<R: Wait>(&self, rt: &R, threads: usize) -> Rota
+        ensures { (result.threads ≡ threads) × (result.routers ≡ (N.opened.network).routers) }
+    {
+        let routers = self.routers(rt);
+        Rota { threads, routers }
+    }
+
+    // The turns of the thread that has the share at this place.
+    fn serve_one<R: Wait, G: TurnGate>(
+        &self,
+        rt: &R,
+        rota: Rota,
+        place: usize,
+        share: &mut Share<N>,
+        gate: &G,
+        stop: &AtomicBool,
+    )
+        ensures { IsHolder share.old share.new }
+    {
+        share.refused = None;
+        let Some(thread) = rota.first(place) else {
+            return;
+        };
+        let mut router = u16::from(thread);
+        let mut turn: u64 = 1;
+        for _ in rt.forever() {
+            if stop.load(Ordering::SeqCst) || self.is_settled(rt) {
+                break;
+            }
+            gate.before(thread, turn);
+            let done = self.turn(rt, router, share);
+            gate.after(thread, turn);
+            turn = turn.saturating_add(1);
+            if let Err(refusal) = done {
+                share.refused = Some(refusal);
+                stop.store(true, Ordering::SeqCst);
+                break;
+            }
+            router = rota.next(thread, router);
+        }
+    }
+}
+
+// How the routers of a network are dealt out to threads.
+#[derive(Clone, Copy)]
+struct Rota {
+    threads: usize,
+    routers: u16,
+    ghost few: { routers ≤ 256 },
+}
+
+impl Rota {
+    // The lowest router of a thread, which has the thread's number, if it has one.
+    fn first(self, thread: usize) -> Option<u8>
+        ensures { result ≡ (if nat_lt thread self.routers then Some thread else None) }
+    {
+        if thread < usize::from(self.routers) {
+            Some(thread as u8)
+        } else {
+            None
+        }
+    }
+
+    // The thread's router after this one; after its greatest, its lowest.
+    fn next(self, lowest: u8, router: u16) -> u16
+        ensures { result ≡ (if nat_lt (router + self.threads) self.routers then router + self.threads else lowest) }
+    {
+        let routers = usize::from(self.routers);
+        let router = usize::from(router);
+        if self.threads < routers && router + self.threads < routers {
+            (router + self.threads) as u16
+        } else {
+            u16::from(lowest)
+        }
+    }
+}
