@@ -3,7 +3,6 @@
 ghost use Rattle.std.specs.Prelude.{◌≡◌, ◌+◌, ◌++◌, ◌∷◌, [], ℕ, List, length, All, sum_by, IfOk, MatchOption, vec_len};
 ghost use Rattle.publication.specs.declared.job.Job.{Job};
 ghost use Rattle.publication.specs.Lists.{opening_of};
-ghost use Rattle.publication.specs.Names.{book_of};
 ghost use Rattle.packet_queue.specs.Ends.{puts_into, takes_from, put_by, taken_by, parts_of, AreAllEnds};
 ghost use Rattle.packet_queue.specs.Jobs.{jobs_of};
 
@@ -319,7 +318,7 @@ fn opened<B, R>(
 where
     B: Naming + Send + Sync + 'static,
     R: Threads + Wait + Abort + Copy + Send + Sync + 'static,
-    requires name { unnamed ≡ book_of B.books 0 }
+    requires books { B.books ≡ unnamed ∷ [] }
     requires generation { image.generation ≡ 0 }
     requires rows { image.rows ≡ opening_of B.openings 0 }
 {
