@@ -157,7 +157,8 @@ impl JobGate for Met {
     }
 }
 
-// One worker answers five jobs, until a stop message or the end of the queue.
+// One worker answers five jobs, until a stop message, behind which there is one more, or the end of the
+// queue.
 fn works<B: Naming, R: Wait + Abort>(
     rt: &R,
     alloc: Global,
@@ -176,6 +177,9 @@ fn works<B: Naming, R: Wait + Abort>(
     }
     if stops {
         assert!(rt; injector.stop(rt));
+        injector
+            .inject(rt, asked(6, 9, told))
+            .map_err(|_| "closed")?;
     }
     drop(injector);
     let taker = takers.pop().ok_or("taker")?;
