@@ -1,8 +1,9 @@
 -- New shares, one after another; what the shares tell of a step that nobody else had a share beside; and why a turn is refused.
-use Rattle.std.specs.Prelude.{◌≡◌, ℕ, ◌+◌, Bool, List, [], ◌∷◌, ◌++◌, length, set, sum_by, if◌then◌else◌, ◌==◌, Option, Some, None, Result, Ok, Err, OnOk, OnErr, MatchResult, ⊤}
-use Rattle.std.proofs.Common.{sym, subst, ◌∙◌, arith, inr}
+use Rattle.std.specs.Prelude.{◌≡◌, ℕ, ◌+◌, ◌<◌, Bool, List, [], ◌∷◌, ◌++◌, length, set, sum_by, if◌then◌else◌, ◌==◌, Option, Some, None, Result, Ok, Err, IfErr, OnOk, OnErr, MatchResult, ⊤, ◌⊎◌}
+use Rattle.std.proofs.Common.{sym, subst, ◌∙◌, arith, inl, inr}
 use Rattle.network_model.specs.declared.step.Step.{Step}
 use Rattle.network_model.specs.declared.step.Refusal.{Refusal}
+use Rattle.network_model.specs.declared.step.Refusal.TheVariants.{NoMemory}
 use Rattle.network_model.specs.Step.{Lawful}
 use Rattle.network_model.specs.Journal.{Fits, journal_sum, step_number}
 use Rattle.network_model.specs.Turns.{next_step}
@@ -10,9 +11,9 @@ use Rattle.publication.proofs.Places.{each-push}
 use Rattle.world.specs.Steps.{CanBeRefused, IsDoneOr}
 use Rattle.fabric.specs.Fabric.{Fabric, after_step, fabric_refusal}
 use Rattle.control.specs.declared.desk.Share.{Share}
-use Rattle.control.specs.Served.{IsFound, IsServed, IsTurn}
+use Rattle.control.specs.Served.{IsFound, IsServed, IsTurn, IsTurnRefused}
 use Rattle.control.specs.Shares.{AreNew}
-use Rattle.control.proofs.Serving.{same_by_sum, one_step_by_sum}
+use Rattle.control.proofs.Serving.{same_by_sum, one_step_by_sum, served_on}
 
 -- one share more
 pub new_more : {N : Type 0} (sum : ℕ) (ss ts : List (Share N)) (s : Share N) (n : ℕ) → AreNew sum ss → ts ≡ ss ++ s ∷ [] → length ss ≡ n → s.number ≡ n → s.sum ≡ (if n == 0 then sum else 0) → AreNew sum ts
@@ -36,6 +37,32 @@ refused_for (Some c) e h = let inner : ◌≡◌ {A = Result ⊤ Refusal} (Err e
 pub refused_turn : (f : Fabric) (i : ℕ) (s : Step) (r : Result ⊤ Refusal) (e : Refusal) (answer : Result (Option Step) Refusal) → next_step f.world i ≡ Some s → r ≡ Err e → answer ≡ Err e → IsDoneOr (fabric_refusal f s) r → IsTurn f i answer
 refused_turn f i s r e answer due refused is done =
     subst (IsTurn f i) (sym is) (inr (s, due, refused_for (fabric_refusal f s) e (subst (IsDoneOr (fabric_refusal f s)) refused done)))
+
+-- a turn that was refused at one of the routers
+pub turn_refused : (opened : Fabric) (asked : Step → Bool) (shares sum i : ℕ) (f : Fabric) (answer : Result (Option Step) Refusal) (e : Refusal) → IsFound opened asked shares sum f → i < (opened.network).routers
+    → answer ≡ Err e → IsTurn f i answer → IsTurnRefused opened asked e
+turn_refused opened asked shares sum i f answer e found within is turn = by_turn (subst (IsTurn f i) is turn)
+  where
+    by_turn : IsTurn f i (Err e) → IsTurnRefused opened asked e
+    by_turn (inl none) = let many = found.routers in let beyond = none.0 in absurd (omega (arith, many, beyond, within))
+    by_turn (inr due) = record { fabric = f; served = found.served; router = i; step = due.0; due = due.1; refused = due.2 }
+
+-- what was refused on the way from a fabric was refused on the way from one before it
+pub refused_on : (opened : Fabric) (asked : Step → Bool) (between : Fabric) (e : Refusal) → IsServed opened asked between → IsTurnRefused between asked e → IsTurnRefused opened asked e
+refused_on opened asked between e served refused = record {
+  fabric = refused.fabric;
+  served = served_on opened asked between refused.fabric served refused.served;
+  router = refused.router;
+  step = refused.step;
+  due = refused.due;
+  refused = refused.refused;
+}
+
+-- so it is where memory may be what was refused
+pub all_refused_on : (opened : Fabric) (asked : Step → Bool) (between : Fabric) (r : Result ⊤ Refusal) → IsServed opened asked between → IfErr r (λ e. IsTurnRefused between asked e ⊎ (e ≡ NoMemory)) → IfErr r (λ e. IsTurnRefused opened asked e ⊎ (e ≡ NoMemory))
+all_refused_on opened asked between (Ok x) served refused = tt
+all_refused_on opened asked between (Err e) served (inl refused) = inl (refused_on opened asked between e served refused)
+all_refused_on opened asked between (Err e) served (inr memory) = inr memory
 
 -- ---- one step of the only share
 

@@ -60,6 +60,16 @@ pub record IsFound (opened : Fabric) (asked : Step → Bool) (shares sum : ℕ) 
   pub served : IsServed opened asked fabric
   pub counted : sum ≤ journal_sum fabric.journal
   pub alone : shares ≡ 1 → journal_sum fabric.journal ≡ sum
+  pub routers : length fabric.world.routers ≡ (opened.network).routers
+
+-- on the way from the fabric that was opened, the step that some router had to do next was refused
+pub record IsTurnRefused (opened : Fabric) (asked : Step → Bool) (e : Refusal) : Type 0 where
+  pub fabric : Fabric
+  pub served : IsServed opened asked fabric
+  pub router : ℕ
+  pub step : Step
+  pub due : next_step fabric.world router ≡ Some step
+  pub refused : CanBeRefused (fabric_refusal fabric step) e
 
 -- a turn of router i: no such router; or the step that it has to do next was refused, or done; or it has nothing to do
 abbrev pub IsTurn : Fabric → ℕ → Result (Option Step) Refusal → Type 0

@@ -11,7 +11,7 @@ ghost use Rattle.control.specs.Names.{IsNamed};
 ghost use Rattle.control.specs.Served.{IsFound, IsServed, IsTurn};
 ghost use Rattle.control.specs.Shares.{IsHolder, AreNew};
 
-use crate::desk::{Control, Guarded, High, Low, Naming, Opening, Share};
+use crate::desk::{Control, Guarded, Halt, High, Low, Naming, Opening, Share};
 use crate::guarded::UNIT;
 use fabric::Fabric;
 use network_model::{Refusal, Step};
@@ -63,7 +63,7 @@ impl<N: Naming> Share<N> {
         Share {
             number,
             sum,
-            refused: None,
+            halt: Halt::none(),
             high,
             low,
         }
@@ -136,7 +136,7 @@ impl<B: publication::Naming, N: Naming> Control<B, N> {
         let Share {
             number: _,
             sum: _,
-            refused: _,
+            halt: _,
             high: mut all_high,
             low: mut all_low,
         } = first;
@@ -144,7 +144,7 @@ impl<B: publication::Naming, N: Naming> Control<B, N> {
             let Share {
                 number: _,
                 sum: _,
-                refused: _,
+                halt: _,
                 high: its_high,
                 low: its_low,
             } = share;

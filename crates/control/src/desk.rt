@@ -1,6 +1,7 @@
 //! What lies under the lock, and what its callers hold beside it.
 
-ghost use Rattle.std.specs.Prelude.{◌≡◌, ◌+◌, ◌*◌, ◌^◌};
+ghost use Rattle.std.specs.Prelude.{◌≡◌, ◌+◌, ◌*◌, ◌^◌, Some, None, IfSome};
+ghost use Rattle.control.specs.Served.{IsTurnRefused};
 
 use fabric::Fabric;
 use network_model::Refusal;
@@ -91,14 +92,64 @@ impl<B: publication::Naming, N: Naming> Model for Guarded<B, N> {
     ghost invariant = { λ g. (g.high.total * 2 ^ 64 + g.low.total ≡ journal_sum g.fabric.journal) × IsServed N.opened N.asked g.fabric };
 }
 
+/// Why the last `serve` of a holder ended before the fabric was settled: the refusal of a turn of
+/// its, if one was refused. Contracts see it as that.
+#[derive(Drop)]
+pub struct Halt<N: Naming> {
+    refusal: Option<Refusal>,
+    name: PhantomData<N>,
+}
+
+impl<N: Naming> Model for Halt<N> {
+    ghost use Rattle.std.specs.Prelude.{Option, IfSome};
+    ghost use Rattle.network_model.specs.declared.step.Refusal.{Refusal as StepRefusal};
+    ghost use Rattle.control.specs.Served.{IsTurnRefused};
+
+    ghost Value = { Option StepRefusal };
+
+    ghost view = { λ h. h.refusal };
+
+    ghost invariant = { λ h. IfSome h.refusal (IsTurnRefused N.opened N.asked) };
+}
+
+impl<N: Naming> Halt<N> {
+    /// No turn was refused.
+    pub fn none() -> Halt<N>
+        ensures { result ≡ None }
+    {
+        Halt {
+            refusal: None,
+            name: PhantomData,
+        }
+    }
+
+    /// A turn was refused with this.
+    pub fn at(refusal: Refusal) -> Halt<N>
+        requires { IsTurnRefused N.opened N.asked refusal }
+        ensures { result ≡ Some refusal }
+    {
+        Halt {
+            refusal: Some(refusal),
+            name: PhantomData,
+        }
+    }
+
+    /// The refusal, if there was one.
+    pub fn refusal(&self) -> Option<Refusal>
+        ensures same { result ≡ self.now }
+        ensures cause { IfSome result (IsTurnRefused N.opened N.asked) }
+    {
+        self.refusal
+    }
+}
+
 /// What the steps of one holder come to. One that is dropped is lost: its control can then not be
 /// closed.
 #[derive(Drop)]
 pub struct Share<N: Naming> {
     pub(crate) number: u8,
     pub(crate) sum: u128,
-    // Why its holder's last turn of a `serve` was refused.
-    pub(crate) refused: Option<Refusal>,
+    pub(crate) halt: Halt<N>,
     pub(crate) high: ledger::Share<High<N>>,
     pub(crate) low: ledger::Share<Low<N>>,
     ghost high_part: { high.parts ≡ 1 },

@@ -44,10 +44,11 @@ impl<B: publication::Naming, N: Naming> Guarded<B, N> {
         let Share {
             number: _,
             sum,
-            refused: _,
+            halt: _,
             high: own_high,
             low: own_low,
         } = share;
+        let _network = fabric.network();
         high.audit(own_high);
         low.audit(own_low);
         fabric.step(rt, step)?;
@@ -118,6 +119,7 @@ impl<B: publication::Naming, N: Naming> Guarded<B, N> {
         ensures sum { share.new.sum ≡ share.old.sum }
         ensures holder { IsHolder share.old share.new }
     {
+        let _network = self.fabric.network();
         self.high.audit(&mut share.high);
         self.low.audit(&mut share.low);
     }

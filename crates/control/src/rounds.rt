@@ -1,9 +1,9 @@
 //! Fabrics that several threads settle.
 
-ghost use Rattle.std.specs.Prelude.{◌≡◌, ◌<◌, IsTrue, OnOk};
+ghost use Rattle.std.specs.Prelude.{◌≡◌, ◌<◌, ◌⊎◌, IsTrue, IfErr, OnOk};
 ghost use Rattle.network_model.specs.Turns as turns;
 ghost use Rattle.control.specs.Names.{IsNamed};
-ghost use Rattle.control.specs.Served.{IsServed, none_asked};
+ghost use Rattle.control.specs.Served.{IsServed, IsTurnRefused, none_asked};
 
 use crate::desk::{Control, Naming, Opening};
 use crate::serve::TurnGate;
@@ -30,6 +30,7 @@ where
     requires some { 0 < threads }
     ensures turns { IsServed fabric none_asked result.0 }
     ensures settled { OnOk result.1 (IsTrue (turns.is_settled (result.0).world)) }
+    ensures err { IfErr result.1 (λ e. IsTurnRefused fabric none_asked e ⊎ (e ≡ Refusal.NoMemory)) }
 {
     let mut fabric = fabric;
     for _ in rt.forever() {
@@ -59,7 +60,8 @@ where
     requires names { IsNamed opening N.high N.low N.shares }
     requires some { 0 < opening.shares }
     requires opened { fabric ≡ N.opened }
-    ensures { IsServed N.opened N.asked result.0 }
+    ensures turns { IsServed N.opened N.asked result.0 }
+    ensures err { IfErr result.1 (λ e. IsTurnRefused N.opened N.asked e ⊎ (e ≡ Refusal.NoMemory)) }
 {
     match Control::<B, N>::new(alloc, opening, fabric) {
         Ok((control, mut shares)) => {

@@ -1,9 +1,10 @@
 //! Threads that take turns.
 
-ghost use Rattle.std.specs.Prelude.{◌≡◌, ◌+◌, ◌<◌, ◌≤◌, nat_lt, if◌then◌else◌, Some, None, vec_len};
+ghost use Rattle.std.specs.Prelude.{◌≡◌, ◌+◌, ◌<◌, ◌≤◌, nat_lt, if◌then◌else◌, Some, None, IfErr, vec_len};
+ghost use Rattle.control.specs.Served.{IsTurnRefused};
 ghost use Rattle.control.specs.Shares.{IsHolder, AreSameHolders};
 
-use crate::desk::{Control, Naming, Share};
+use crate::desk::{Control, Halt, Naming, Share};
 use network_model::Refusal;
 use std::sync::Wait;
 use std::sync::atomic::{AtomicBool, Ordering};
@@ -32,18 +33,18 @@ impl<B: publication::Naming + Send + Sync, N: Naming + Send + Sync> Control<B, N
         requires { 0 < vec_len shares.old }
         ensures len { vec_len shares.new ≡ vec_len shares.old }
         ensures same { AreSameHolders shares.old.items shares.new.items }
+        ensures err { IfErr result (IsTurnRefused N.opened N.asked) }
     {
         let stop = AtomicBool::new(false);
-        let rota = self.rota(rt, shares.len());
         let threads = shares.len();
         thread::for_each_mut(
             rt,
             shares.as_mut_slice(),
             threads,
-            &|place, share| self.serve_one(rt, rota, place, share, gate, &stop),
+            &|place, share| self.serve_one(rt, threads, place, share, gate, &stop),
         );
         for share in shares.as_slice() {
-            if let Some(refusal) = share.refused {
+            if let Some(refusal) = share.halt.refusal() {
                 return Err(refusal);
             }
         }
@@ -61,7 +62,7 @@ impl<B: publication::Naming + Send + Sync, N: Naming + Send + Sync> Control<B, N
     fn serve_one<R: Wait, G: TurnGate>(
         &self,
         rt: &R,
-        rota: Rota,
+        threads: usize,
         place: usize,
         share: &mut Share<N>,
         gate: &G,
@@ -69,7 +70,8 @@ impl<B: publication::Naming + Send + Sync, N: Naming + Send + Sync> Control<B, N
     )
         ensures { IsHolder share.old share.new }
     {
-        share.refused = None;
+        share.halt = Halt::none();
+        let rota = self.rota(rt, threads);
         let Some(thread) = rota.first(place) else {
             return;
         };
@@ -84,7 +86,7 @@ impl<B: publication::Naming + Send + Sync, N: Naming + Send + Sync> Control<B, N
             gate.after(thread, turn);
             turn = turn.saturating_add(1);
             if let Err(refusal) = done {
-                share.refused = Some(refusal);
+                share.halt = Halt::at(refusal);
                 stop.store(true, Ordering::SeqCst);
                 break;
             }

@@ -5,9 +5,8 @@ ghost use Rattle.std.specs.Prelude.{◌≡◌};
 ghost use Rattle.dualnet.specs.Files.{scenario_of, read_journal, kept_journal};
 
 use network_model::NoMemory;
-use play::{Cause, Fault, Source, play, refuse};
+use play::{Cause, Fault, Host, Source, play, refuse};
 use std::process::ExitCode;
-use std::sync::Wait;
 use std::{env, fs, io};
 use words::{Error, ErrorKind, Words, exit_status, not_utf8, read_words};
 
@@ -20,7 +19,7 @@ fn main(rt: HostRuntime) -> ExitCode {
 }
 
 // Does what the command line asks for.
-fn status<H: Wait>(rt: &HostRuntime, wait: &H) -> io::Result<u8> {
+fn status<H: Host>(rt: &HostRuntime, wait: &H) -> io::Result<u8> {
     let alloc = rt.alloc();
     let args = match env::args(rt) {
         Ok(args) => args,
@@ -50,7 +49,7 @@ fn tell(rt: &HostRuntime, error: &Error) -> u8 {
 }
 
 // Does what the words ask for, over the files that they name.
-fn done<H: Wait>(rt: &HostRuntime, wait: &H, words: &Words<'_>) -> u8 {
+fn done<H: Host>(rt: &HostRuntime, wait: &H, words: &Words<'_>) -> u8 {
     let scenario = open_file(rt, scenario_path(words));
     let journal = match replayed_path(words) {
         Some(path) => open_file(rt, path),

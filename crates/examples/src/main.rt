@@ -4,11 +4,10 @@
 
 ghost use Rattle.std.specs.Prelude.{◌≡◌};
 
-use play::{Source, play};
+use play::{Host, Source, play};
 use std::alloc::Global;
 use std::io::{Read, Write};
 use std::process::ExitCode;
-use std::sync::Wait;
 use std::{fs, io};
 use words::Words;
 
@@ -60,7 +59,7 @@ impl Verdict {
 }
 
 // Runs a scenario, and replays its journal.
-fn tried<H: Wait>(rt: &HostRuntime, wait: &H, name: &str) -> io::Result<Verdict> {
+fn tried<H: Host>(rt: &HostRuntime, wait: &H, name: &str) -> io::Result<Verdict> {
     let alloc = rt.alloc();
     let scenario = format!(in alloc; "{name}.toml")?;
     let output = format!(in alloc; "{name}.out")?;
@@ -105,7 +104,7 @@ struct Outcome {
     kept: Vec<u8>,
 }
 
-fn played<H: Wait, R: Read + Drop, J: Read + Drop>(
+fn played<H: Host, R: Read + Drop, J: Read + Drop>(
     wait: &H,
     alloc: Global,
     words: &Words<'_>,

@@ -1,6 +1,6 @@
 //! The fabric: a world, the images in force, and the journal.
 
-ghost use Rattle.std.specs.Prelude.{ℕ, None, Some, IsTrue, ◌≡◌, ◌≢◌, ◌⊎◌, ◌≤◌, ◌++◌, ◌<◌, ◌↔◌, [], ◌∷◌, take, length, slice_get, vec_len, All, IfOk, IfErr, IfSome, IsOk, OnOk, OnErr, MatchOption};
+ghost use Rattle.std.specs.Prelude.{ℕ, None, Some, Err, IsTrue, ◌≡◌, ◌≢◌, ◌⊎◌, ◌≤◌, ◌++◌, ◌<◌, ◌↔◌, [], ◌∷◌, take, length, slice_get, vec_len, All, IfOk, IfErr, IfSome, IsOk, OnOk, OnErr, MatchOption};
 ghost use Rattle.network_model.specs.World as model;
 ghost use Rattle.network_model.specs.Step as steps;
 ghost use Rattle.network_model.specs.Run.{Runs};
@@ -58,7 +58,7 @@ impl<B: Naming> Model for Fabric<B> {
 impl<B: Naming> Fabric<B> {
     /// Opens a network: every link is down, each prefix is known at its owner alone, whose image in
     /// force has it, and the journal is empty. It makes the room for a full journal, and gives a reader
-    /// of each router's image, by the routers' numbers, to each of 1 to 16 workers. Refused with
+    /// of each router's image, by the routers' numbers, to each of at most 16 workers. Refused with
     /// `NoMemory`, or with `NoReaderPlace` where an image has no place for a reader.
     pub fn open<R: Wait>(
         rt: &R,
@@ -297,11 +297,14 @@ impl<B: Naming> Fabric<B> {
     }
 }
 
-// What a reader answers that has learned of this list, where it shows nothing later.
+// What a reader answers that has learned of this list, where it shows nothing later. Refused with
+// `Stale` where it shows something later, and with `NoImage` where it was shown nothing.
 fn ask<B: Naming>(reader: &mut ImageReader<B>, told: &Told<B>, addr: u32) -> Result<Answer, Refusal>
     requires { told.now.router ≡ reader.old.router }
     ensures answer { IfOk result (λ a. a ≡ seen_answer (image_of B.openings told.now) addr) }
     ensures err { IfErr result (λ e. (e ≡ Refusal.Stale) ⊎ (e ≡ Refusal.NoImage)) }
+    ensures stale { result ≡ Err Refusal.Stale → reader.new ≢ told.now }
+    ensures unseen { result ≡ Err Refusal.NoImage → (reader.new ≡ reader.old) ⊎ (reader.new ≡ told.now) }
     ensures router { reader.new.router ≡ reader.old.router }
 {
     reader.learn(told);

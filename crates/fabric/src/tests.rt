@@ -177,3 +177,22 @@ fn tells<B: Naming, H: Wait + Abort>(
 fn tells_its_readers(rt: HostRuntime) -> Result<(), Fail> {
     two(&rt, rt.alloc(), Trial::TellsItsReaders)
 }
+
+#[test]
+fn refusals_have_their_numbers(rt: HostRuntime) -> Result<(), Fail> {
+    let refusals = [
+        (Refusal::UnknownRouter, "10 UnknownRouter"),
+        (Refusal::NothingDue, "17 NothingDue"),
+        (Refusal::NothingRipe, "18 NothingRipe"),
+        (Refusal::JournalFull, "19 JournalFull"),
+        (Refusal::NoMemory, "20 NoMemory"),
+        (Refusal::Stale, "22 Stale"),
+        (Refusal::NoReaderPlace, "23 NoReaderPlace"),
+        (Refusal::NoImage, "34 NoImage"),
+    ];
+    for (refusal, text) in refusals {
+        let got = format!(in rt.alloc(); "{refusal}")?;
+        assert_eq!(rt; got.as_str(), text);
+    }
+    Ok(())
+}

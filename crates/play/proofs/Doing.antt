@@ -1,10 +1,16 @@
 -- Commands done one after another.
 use Rattle.std.specs.Prelude.{⊤}
-use Rattle.std.proofs.Common.{◌≡◌, List, [], ◌∷◌, ◌++◌, Option, Some, None, Result, Err, refl, subst}
+use Rattle.std.proofs.Common.{◌≡◌, ◌⊎◌, List, [], ◌∷◌, ◌++◌, Option, Some, None, Result, Ok, Err, IsOk, IfErr, OnErr, MatchResult, refl, sym, subst}
+use Rattle.std.proofs.lemmas.Bool.{true≢false}
 use Rattle.network_model.specs.declared.step.Refusal.{Refusal}
+use Rattle.network_model.specs.declared.step.Refusal.TheVariants.{NoMemory}
 use Rattle.world.specs.Steps.{CanBeRefused, IsDoneOr}
 use Rattle.fabric.specs.Fabric.{Fabric}
+use Rattle.control.specs.Served.{IsServed, IsTurnRefused, none_asked}
 use Rattle.script.specs.declared.command.Command.{Command}
+use Rattle.play.specs.declared.fault.Cause.{Cause}
+use Rattle.play.specs.declared.fault.Cause.TheVariants.{Refused}
+use Rattle.play.specs.Settling.{StopsSettling}
 use Rattle.play.specs.Commands.{IsDone, AreDone}
 
 -- one command more
@@ -16,3 +22,19 @@ one_done (d ∷ cs) c f g h done is = (done.0, done.1, one_done cs c done.0 g h 
 pub refused_for : (cause : Option Refusal) (e : Refusal) → IsDoneOr {X = ⊤} cause (Err e) → CanBeRefused cause e
 refused_for None e memory = memory
 refused_for (Some c) e same = let inner : ◌≡◌ {A = Result ⊤ Refusal} (Err e) (Err c) = same in cc
+
+-- what is refused leaves all as it was
+pub step_refused : (cause : Option Refusal) (r : Result ⊤ Refusal) (f g : Fabric) → IsDoneOr cause r → OnErr r (g ≡ f) → IfErr r (λ e. CanBeRefused cause e × (g ≡ f))
+step_refused cause (Ok x) f g done same = tt
+step_refused cause (Err e) f g done same = (refused_for cause e done, same)
+
+-- a network that does not settle
+pub settle_refused : (r : Result ⊤ Refusal) (f g : Fabric) → IsServed f none_asked g → IfErr r (λ e. IsTurnRefused f none_asked e ⊎ (e ≡ NoMemory)) → IfErr r (StopsSettling f g)
+settle_refused (Ok x) f g served why = tt
+settle_refused (Err e) f g served why = record { served = served; cause = why }
+
+-- a refusal is a cause to stop
+pub caused_by : (done : Result ⊤ Refusal) (r : Result ⊤ Cause) (P : Cause → Type 0) → MatchResult done (λ _. IsOk r) (λ e. r ≡ Err (Refused e)) → IfErr done (λ e. P (Refused e)) → IfErr r P
+caused_by (Ok x) (Ok y) P is why = tt
+caused_by (Ok x) (Err c) P is why = absurd (true≢false (sym is))
+caused_by (Err e) r P is why = subst (λ q. IfErr q P) (sym is) why

@@ -1,6 +1,6 @@
-mod Settling
 mod Whole
 mod Printed
 mod Doing
+mod Dispatching
 mod Stops
 mod Running

@@ -1,22 +1,25 @@
 -- Texts that are printed one after another.
-use Rattle.std.proofs.Common.{◌≡◌, ℕ, List, [], ◌∷◌, ◌++◌, Option, Some, None, Result, Ok, Err, OnOk, Bool, false, is_err, refl, sym, ap, ◌∙◌}
+use Rattle.std.proofs.Common.{◌≡◌, ℕ, List, [], ◌∷◌, ◌++◌, Option, Some, None, Result, Ok, Err, OnOk, Bool, false, is_err, refl, sym, ap, subst, ◌∙◌}
 use Rattle.std.proofs.lemmas.Bool.{true≢false}
 use Rattle.std.proofs.lemmas.List.{append_assoc, append-nil}
 use Rattle.script.specs.Words.{Text}
 use Rattle.journal.proofs.Printed.{Appends-append}
 use Rattle.play.specs.Report.{Prints}
 use Rattle.std.specs.Io.KnownBytes.{Appends}
-use Rattle.ipv4_prefix.specs.Prefix.{Prefix}
-use Rattle.network_model.specs.declared.route.Entry.{Entry}
-use Rattle.script.specs.Directories.{Directory, row_text}
-use Rattle.play.specs.Commands.{rows_text}
+use Rattle.play.specs.Texts.{lines_text}
 
--- rows before rows
-pub rows_text-append : (d : Directory) (router : ℕ) (xs ys : List (Prefix × Entry)) → rows_text d router (xs ++ ys) ≡ rows_text d router xs ++ rows_text d router ys
-rows_text-append d router [] ys = refl
-rows_text-append d router (row ∷ xs) ys =
-    ap (λ t. (row_text d router row.0 row.1 ++ 10 ∷ []) ++ t) (rows_text-append d router xs ys)
-    ∙ sym (append_assoc (row_text d router row.0 row.1 ++ 10 ∷ []) (rows_text d router xs) (rows_text d router ys))
+-- lines before lines
+pub lines_text-append : {A : Type 0} (line : A → Text) (xs ys : List A) → lines_text line (xs ++ ys) ≡ lines_text line xs ++ lines_text line ys
+lines_text-append line [] ys = refl
+lines_text-append line (x ∷ xs) ys =
+    ap (λ t. (line x ++ 10 ∷ []) ++ t) (lines_text-append line xs ys)
+    ∙ sym (append_assoc (line x ++ 10 ∷ []) (lines_text line xs) (lines_text line ys))
+
+-- one line more
+pub line_more : {A : Type 0} (line : A → Text) (xs : List A) (x : A) (old mid new : Option Text) → Appends old mid (lines_text line xs) → Appends mid new (line x ++ 10 ∷ []) → Appends old new (lines_text line (xs ++ x ∷ []))
+line_more line xs x old mid new before more =
+    subst (Appends old new) (sym (lines_text-append line xs (x ∷ [])))
+    (Appends-append old mid new (lines_text line xs) (lines_text line (x ∷ [])) before (subst (Appends mid new) (sym (append-nil (line x ++ 10 ∷ []))) more))
 
 -- ---- something that is printed
 

@@ -52,13 +52,13 @@ run_ends text plan cs f g old new short planned is commands done keeps = record 
 
 pub run_stops : (text : Text) (plan : Plan) (cs : List Command) (f g : Fabric) (fault : Fault) → length text ≤ most_bytes → IsPlanned text plan
     → f ≡ opening_fabric plan.network → cs ≡ plan.commands.items → StopsAtCommand cs f g fault → StopsFor text fault
-run_stops text plan cs f g fault short planned is commands stops = inr (inr (record {
+run_stops text plan cs f g fault short planned is commands stops = inr (inr (inr (record {
   short = short;
   parts = planned.0;
   scenario = planned.1;
   fabric = g;
   stops = subst (λ ds. StopsAtCommand ds (opening_fabric (network_read planned.0)) g fault) (commands ∙ planned.2.commands) (subst (λ h. StopsAtCommand cs h g fault) (opens text plan planned f is) stops);
-}))
+})))
 
 -- a run of the plan of a text is one of the text
 pub plan_ends : (text : Text) (plan : Plan) (old new : Text) → length text ≤ most_bytes → IsPlanned text plan → RunsPlan plan old new → IsRunToEnd text old new
@@ -67,7 +67,8 @@ plan_ends text plan old new short planned runs = run_ends text plan plan.command
 pub plan_stops : (text : Text) (plan : Plan) (fault : Fault) → length text ≤ most_bytes → IsPlanned text plan → StopsPlan plan fault → StopsFor text fault
 plan_stops text plan fault short planned (inl memory) = inl (inr (inl memory))
 plan_stops text plan fault short planned (inr (inl readers)) = inr (inl readers)
-plan_stops text plan fault short planned (inr (inr stops)) = run_stops text plan plan.commands.items (opening_fabric plan.network) stops.0 fault short planned refl refl stops.1
+plan_stops text plan fault short planned (inr (inr (inl unanswered))) = inr (inr (inl unanswered))
+plan_stops text plan fault short planned (inr (inr (inr stops))) = run_stops text plan plan.commands.items (opening_fabric plan.network) stops.0 fault short planned refl refl stops.1
 
 -- ---- replays
 

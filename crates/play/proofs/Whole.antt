@@ -1,7 +1,7 @@
 -- A text that a limit does not cut.
 use Rattle.std.proofs.lemmas.List.{length-take}
 use Rattle.play.specs.declared.fault.Cause.{Cause}
-use Rattle.play.specs.declared.fault.Cause.TheVariants.{Memory, Unreadable, TooLarge, Document, Lines, Network, Refused, Journal, Unwritable}
+use Rattle.play.specs.declared.fault.Cause.TheVariants.{Memory, Unreadable, TooLarge, Document, Lines, Network, Refused, Journal, Unwritable, Workers}
 use Rattle.play.specs.Faults.{Gives, CannotRead, IsUnread}
 use Rattle.std.proofs.Common.{◌≡◌, ℕ, ◌<◌, List, [], ◌∷◌, ◌++◌, length, take, zero, suc, Option, Some, None, IfSome, option_map, refl, ap, ◌∙◌, arith}
 
@@ -43,3 +43,4 @@ cannot_read (Network fault) why bytes = absurd why
 cannot_read (Refused refusal) why bytes = absurd why
 cannot_read (Journal fault) why bytes = absurd why
 cannot_read Unwritable why bytes = absurd why
+cannot_read (Workers fault) why bytes = absurd why

@@ -1,5 +1,5 @@
 -- What the commands of a script do, and print.
-use Rattle.std.specs.Prelude.{◌≡◌, ℕ, ◌⊎◌, List, [], ◌∷◌, ◌++◌, Option, Some, None, nat_lt, if◌then◌else◌, length, take, slice_get, MatchOption}
+use Rattle.std.specs.Prelude.{◌≡◌, ℕ, ◌⊎◌, ⊤, List, [], ◌∷◌, ◌++◌, Option, Some, None, nat_lt, if◌then◌else◌, length, take, slice_get, MatchOption}
 use Rattle.ipv4_prefix.specs.Prefix.{Prefix}
 use Rattle.network_model.specs.declared.route.Entry.{Entry}
 use Rattle.network_model.specs.declared.step.Step.{Step as NetworkStep}
@@ -12,11 +12,13 @@ use Rattle.fabric.specs.Images.{answer_at}
 use Rattle.script.specs.Words.{Text}
 use Rattle.script.specs.Directories.{Directory, row_text}
 use Rattle.script.specs.declared.command.Command.{Command}
-use Rattle.script.specs.declared.command.Command.TheVariants.{Step, Try, Settle, State, Table, Lookup, Report}
+use Rattle.script.specs.declared.command.Command.TheVariants.{Step, Try, Settle, State, Table, Lookup, Inject, Drain, Report}
 use Rattle.script.specs.declared.place.Key.TheVariants.{Script}
-use Rattle.play.specs.declared.fault.Cause.TheVariants.{Refused}
+use Rattle.play.specs.declared.fault.Cause.{Cause}
 use Rattle.play.specs.declared.fault.Fault.{Fault}
-use Rattle.play.specs.Faults.{at_line}
+use Rattle.play.specs.Faults.{at_line, OfRefusal, OfWorkers}
+use Rattle.play.specs.Texts.{lines_text}
+use Rattle.play.specs.Dispatching.{CannotInject}
 use Rattle.play.specs.Settling.{Settles, StopsSettling}
 
 -- ---- commands
@@ -37,21 +39,25 @@ IsDone Settle f g = Settles f g
 IsDone (State router prefix) f g = g ≡ f
 IsDone (Table router) f g = g ≡ f
 IsDone (Lookup router addr) f g = g ≡ f
+IsDone (Inject router addr) f g = g ≡ f
+IsDone Drain f g = g ≡ f
 IsDone Report f g = g ≡ f
 
 -- why a command on a router is refused
 abbrev pub unknown_router : Fabric → ℕ → Option Refusal
 unknown_router f router = if nat_lt router (length f.world.routers) then None else Some UnknownRouter
 
--- a command that is refused: a step for its cause, in a network that settles the step that comes next, and a command on a router where there is no such router; a look-up also where the reader shows a later image, or none
-abbrev pub IsRefused : Command → Fabric → Fabric → Refusal → Type 0
-IsRefused (Step s) f g e = CanBeRefused (fabric_refusal f s) e × (g ≡ f)
-IsRefused (Try s) f g e = ⊥
-IsRefused Settle f g e = StopsSettling f g e
-IsRefused (State router prefix) f g e = CanBeRefused (unknown_router f router) e × (g ≡ f)
-IsRefused (Table router) f g e = CanBeRefused (unknown_router f router) e × (g ≡ f)
-IsRefused (Lookup router addr) f g e = MatchOption (answer_at f.world router addr) (e ≡ UnknownRouter) (λ _. (e ≡ Stale) ⊎ (e ≡ NoImage)) × (g ≡ f)
-IsRefused Report f g e = ⊥
+-- a command that is refused: a step for its cause, in a network that settles the step that comes next, and a command on a router where there is no such router; a look-up also where the reader shows a later image, or none; a job or a drain for what the workers do not do
+abbrev pub IsRefused : Command → Fabric → Fabric → Cause → Type 0
+IsRefused (Step s) f g cause = OfRefusal (CanBeRefused (fabric_refusal f s)) cause × (g ≡ f)
+IsRefused (Try s) f g cause = ⊥
+IsRefused Settle f g cause = OfRefusal (StopsSettling f g) cause
+IsRefused (State router prefix) f g cause = OfRefusal (CanBeRefused (unknown_router f router)) cause × (g ≡ f)
+IsRefused (Table router) f g cause = OfRefusal (CanBeRefused (unknown_router f router)) cause × (g ≡ f)
+IsRefused (Lookup router addr) f g cause = OfRefusal (λ e. MatchOption (answer_at f.world router addr) (e ≡ UnknownRouter) (λ _. (e ≡ Stale) ⊎ (e ≡ NoImage))) cause × (g ≡ f)
+IsRefused (Inject router addr) f g cause = CannotInject (unknown_router f router) cause × (g ≡ f)
+IsRefused Drain f g cause = OfWorkers (λ e. ⊤) cause × (g ≡ f)
+IsRefused Report f g cause = ⊥
 
 -- the commands, done one after another, lead from one fabric to the other
 abbrev pub AreDone : List Command → Fabric → Fabric → Type 0
@@ -63,15 +69,14 @@ pub record StopsAtCommand (commands : List Command) (f g : Fabric) (fault : Faul
   pub position : ℕ
   pub command : Command
   pub before : Fabric
-  pub refusal : Refusal
+  pub cause : Cause
   pub is_command : slice_get commands position ≡ Some command
   pub done : AreDone (take position commands) f before
-  pub refused : IsRefused command before g refusal
-  pub named : fault ≡ at_line (Refused refusal) Script position
+  pub refused : IsRefused command before g cause
+  pub named : fault ≡ at_line cause Script position
 
 -- ---- texts
 
 -- rows of a router, a line each
 abbrev pub rows_text : Directory → ℕ → List (Prefix × Entry) → Text
-rows_text d router [] = []
-rows_text d router (row ∷ rows) = (row_text d router row.0 row.1 ++ 10 ∷ []) ++ rows_text d router rows
+rows_text d router = lines_text (λ row. row_text d router row.0 row.1)

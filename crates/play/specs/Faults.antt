@@ -10,8 +10,11 @@ use Rattle.network_model.specs.declared.network.NetworkFault.{NetworkFault}
 use Rattle.network_model.specs.declared.network.NetworkFault.TheVariants.{BadRouters, BadLink, TooManyLinks, BadOwner, NoMemory as NoMemoryForNetwork}
 use Rattle.network_model.specs.declared.step.Refusal.TheVariants.{NoMemory as NoMemoryForStep, NoReaderPlace}
 use Rattle.journal.specs.declared.fault.JournalFault.TheVariants.{NoMemory as NoMemoryForJournal}
+use Rattle.network_model.specs.declared.step.Refusal.{Refusal}
+use Rattle.worker_pool.specs.declared.fault.PoolFault.{PoolFault}
+use Rattle.worker_pool.specs.declared.fault.PoolFault.TheVariants.{Memory as MemoryForWorkers, Refused as RefusedAtWork}
 use Rattle.play.specs.declared.fault.Cause.{Cause}
-use Rattle.play.specs.declared.fault.Cause.TheVariants.{Memory, Unreadable, TooLarge, Document, Lines, Network, Refused, Journal, Unwritable}
+use Rattle.play.specs.declared.fault.Cause.TheVariants.{Memory, Unreadable, TooLarge, Document, Lines, Network, Refused, Journal, Unwritable, Workers}
 use Rattle.play.specs.declared.fault.Fault.{Fault}
 
 -- ---- statuses
@@ -32,16 +35,32 @@ is_memory (Refused _) = false
 is_memory (Journal NoMemoryForJournal) = true
 is_memory (Journal _) = false
 is_memory Unwritable = false
+is_memory (Workers (MemoryForWorkers _)) = true
+is_memory (Workers (RefusedAtWork NoMemoryForStep)) = true
+is_memory (Workers _) = false
 
--- whether the cause came up after all input was read: a command was refused, or the journal could not be written
+-- whether the cause came up after all input was read: a command was refused, workers did not answer, or the journal could not be written
 abbrev pub comes_late : Cause → Bool
 comes_late (Refused _) = true
 comes_late Unwritable = true
+comes_late (Workers _) = true
 comes_late _ = false
 
 -- the exit status of a program that stops for a cause: 2 where it came up after all input was read, or memory ran out, else 1
 abbrev pub status_of : Cause → ℕ
 status_of cause = if comes_late cause || is_memory cause then 2 else 1
+
+-- ---- kinds
+
+-- the network refused a command, for such a reason
+abbrev pub OfRefusal : (Refusal → Type 0) → Cause → Type 0
+OfRefusal P (Refused e) = P e
+OfRefusal P _ = ⊥
+
+-- workers did not take a job, or did not answer it, for such a reason
+abbrev pub OfWorkers : (PoolFault → Type 0) → Cause → Type 0
+OfWorkers P (Workers e) = P e
+OfWorkers P _ = ⊥
 
 -- ---- places
 
@@ -68,6 +87,10 @@ opening_fault NoMemoryForNetwork = unplaced (Network NoMemoryForNetwork)
 -- the image of a router has no place for a reader
 abbrev pub IsWithoutReaders : Fault → Type 0
 IsWithoutReaders fault = fault ≡ unplaced (Refused NoReaderPlace)
+
+-- workers did not answer the last jobs of a script
+abbrev pub IsUnanswered : Fault → Type 0
+IsUnanswered fault = OfWorkers (λ e. ⊤) fault.cause × (fault.place ≡ None)
 
 -- want of memory, which can come anywhere
 pub record IsWantOfMemory (fault : Fault) : Type 0 where

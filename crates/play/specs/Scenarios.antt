@@ -19,7 +19,7 @@ use Rattle.fabric.specs.Fabric.{Fabric, opening_fabric}
 use Rattle.play.specs.declared.fault.Fault.{Fault}
 use Rattle.play.specs.declared.plan.Plan.{Plan}
 use Rattle.play.specs.declared.fault.Cause.TheVariants.{Document as OfDocument}
-use Rattle.play.specs.Faults.{unplaced, line_fault, opening_fault, most_bytes, IsUnread, IsWantOfMemory, IsWithoutReaders}
+use Rattle.play.specs.Faults.{unplaced, line_fault, opening_fault, most_bytes, IsUnread, IsWantOfMemory, IsWithoutReaders, IsUnanswered}
 use Rattle.play.specs.Commands.{AreDone, StopsAtCommand}
 
 -- ---- what was read
@@ -93,13 +93,14 @@ StopsReading bytes fault =
     ⊎ IsWantOfMemory fault
     ⊎ ((length bytes ≤ most_bytes) × IsFaultOf bytes fault)
 
--- why a run of a plan stops: its network cannot be opened, its journal not kept, or a command is refused
+-- why a run of a plan stops: its network cannot be opened, its journal not kept, a command is refused, or workers do not answer its last jobs
 abbrev pub StopsPlan : Plan → Fault → Type 0
 StopsPlan plan fault =
     IsWantOfMemory fault
     ⊎ IsWithoutReaders fault
+    ⊎ IsUnanswered fault
     ⊎ ((fabric : Fabric) × StopsAtCommand plan.commands.items (opening_fabric plan.network) fabric fault)
 
--- why a run of a file of these bytes stops: it has no network, an image of it no place for readers, or a command is refused
+-- why a run of a file of these bytes stops: it has no network, an image of it no place for readers, workers do not answer its last jobs, or a command is refused
 abbrev pub StopsFor : Text → Fault → Type 0
-StopsFor bytes fault = StopsReading bytes fault ⊎ IsWithoutReaders fault ⊎ StopsIn bytes fault
+StopsFor bytes fault = StopsReading bytes fault ⊎ IsWithoutReaders fault ⊎ IsUnanswered fault ⊎ StopsIn bytes fault

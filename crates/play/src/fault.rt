@@ -1,7 +1,7 @@
 //! Why the program stops, and the status that it ends with.
 
 ghost use Rattle.std.specs.Prelude.{◌≡◌};
-ghost use Rattle.play.specs.declared.fault.Cause.TheVariants.{Memory as OfMemory, Document as OfDocument, Refused as OfRefusal, Journal as OfJournal};
+ghost use Rattle.play.specs.declared.fault.Cause.TheVariants.{Memory as OfMemory, Document as OfDocument, Refused as OfRefusal, Journal as OfJournal, Workers as OfWorkers};
 ghost use Rattle.play.specs.Faults.{status_of, unplaced, line_fault, opening_fault};
 
 use journal::JournalFault;
@@ -9,6 +9,7 @@ use network_model::{NetworkFault, NoMemory, Refusal};
 use script::{Key, Located, Place};
 use std::fmt;
 use thiserror::Error;
+use worker_pool::PoolFault;
 
 /// What is wrong. Its text is its number and name.
 #[derive(Clone, Copy, Debug, PartialEq, Eq, Drop, Error)]
@@ -40,6 +41,9 @@ pub enum Cause {
     /// The file of the journal could not be written.
     #[error("49 Unwritable")]
     Unwritable,
+    /// Workers did not take a job, or did not answer it.
+    #[error(transparent)]
+    Workers(PoolFault),
 }
 
 /// What is wrong, and where: it is displayed as `25 BadLink at links 0`, or without a place as
@@ -62,9 +66,26 @@ impl Fault {
             | Cause::Network(NetworkFault::NoMemory)
             | Cause::Journal(JournalFault::NoMemory)
             | Cause::Refused(_)
-            | Cause::Unwritable => 2,
+            | Cause::Unwritable
+            | Cause::Workers(_) => 2,
             _ => 1,
         }
+    }
+}
+
+impl From<Refusal> for Cause {
+    ghost from_gives = { λ refusal e. e ≡ OfRefusal refusal };
+
+    fn from(refusal: Refusal) -> Cause {
+        Cause::Refused(refusal)
+    }
+}
+
+impl From<PoolFault> for Cause {
+    ghost from_gives = { λ fault e. e ≡ OfWorkers fault };
+
+    fn from(fault: PoolFault) -> Cause {
+        Cause::Workers(fault)
     }
 }
 

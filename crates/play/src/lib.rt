@@ -3,18 +3,20 @@
 #![tactic(auto)]
 
 mod commands;
+mod dispatch;
 mod fault;
 mod files;
+mod host;
 mod keep;
 mod plan;
 mod program;
 mod read;
 mod replay;
 mod report;
-mod settle;
 #[cfg(test)]
 mod tests;
 
 pub use fault::{Cause, Fault};
 pub use files::Source;
+pub use host::Host;
 pub use program::{End, play, refuse};

@@ -1,24 +1,26 @@
 //! What the program does, over any readers and writers.
 
-ghost use Rattle.std.specs.Prelude.{◌≡◌, ◌⊎◌, IfOk, IfErr, OnOk, vec_len};
-ghost use Rattle.fabric.specs.Writers.{opening_tables};
+ghost use Rattle.std.specs.Prelude.{◌≡◌, ◌⊎◌, ◌≤◌, All, IfOk, IfErr, OnOk, length, vec_len};
+ghost use Rattle.fabric.specs.Writers.{opening_tables, IsPort};
 ghost use Rattle.play.specs.Commands.{AreDone, StopsAtCommand};
-ghost use Rattle.play.specs.Faults.{status_of, IsWantOfMemory};
+ghost use Rattle.play.specs.Faults.{status_of, IsUnanswered, IsWantOfMemory};
 ghost use Rattle.play.specs.Scenarios.{StopsFor, StopsPlan, StopsReading};
 ghost use Rattle.play.specs.Ends.{status_at, Ends, Stops, OfBytes, IsChecked, IsRunToEnd, KeepsJournal, RunsPlan};
 
 use crate::commands::do_commands;
-use crate::fault::Fault;
+use crate::dispatch::{Dispatcher, ports_of};
+use crate::fault::{Cause, Fault};
+use crate::host::Host;
 use crate::keep::keep;
 use crate::plan::{Plan, read_plan};
 use crate::read::read_text;
 use crate::replay::replay;
 use fabric::{Fabric, Naming, Unnamed};
+use publication::ImageReader;
 use script::{Command, Directory};
 use std::alloc::Global;
 use std::io::{Read, Write};
 use std::marker::Brand;
-use std::sync::Wait;
 use words::Words;
 
 /// How a command ends that has met no fault.
@@ -48,7 +50,7 @@ impl End {
 /// Does what the words ask for, and answers the exit status. Only a replay reads `journal`. A fault is
 /// a line on `err`. A write to `out` or `err` that fails is lost, and changes nothing else. Where a run
 /// ends with status 0, its journal's text is added to `kept`.
-pub fn play<H: Wait, R: Read + Drop, J: Read + Drop, W: Write, E: Write>(
+pub fn play<H, R, J, W, E>(
     rt: &H,
     alloc: Global,
     words: &Words<'_>,
@@ -58,27 +60,54 @@ pub fn play<H: Wait, R: Read + Drop, J: Read + Drop, W: Write, E: Write>(
     err: &mut E,
     kept: &mut Vec<u8>,
 ) -> u8
+where
+    H: Host,
+    R: Read + Drop,
+    J: Read + Drop,
+    W: Write,
+    E: Write,
     ensures { ((end : End) × (result ≡ status_at end)
         × Ends words.now (R.remaining scenario) (J.remaining journal) kept.old.items kept.new.items end)
         ⊎ ((fault : Fault) × (result ≡ status_of fault.cause)
         × Stops words.now (R.remaining scenario) (J.remaining journal) fault) }
 {
-    let end = match *words {
+    match asked(rt, alloc, words, scenario, journal, out, kept) {
+        Ok(end) => end.status(),
+        Err(fault) => refuse(fault, err),
+    }
+}
+
+// Does what the words ask for.
+fn asked<H, R, J, W>(
+    rt: &H,
+    alloc: Global,
+    words: &Words<'_>,
+    scenario: R,
+    journal: J,
+    out: &mut W,
+    kept: &mut Vec<u8>,
+) -> Result<End, Fault>
+where
+    H: Host,
+    R: Read + Drop,
+    J: Read + Drop,
+    W: Write,
+    ensures ok { IfOk result
+        (Ends words.now (R.remaining scenario) (J.remaining journal) kept.old.items kept.new.items) }
+    ensures fault { IfErr result (Stops words.now (R.remaining scenario) (J.remaining journal)) }
+{
+    match *words {
         Words::Check { file: _ } => check(alloc, scenario, out),
         Words::Run {
             file: _,
-            threads: _,
-            workers: _,
+            threads,
+            workers,
             journal: _,
-        } => run(rt, alloc, scenario, out, kept),
+        } => run(rt, alloc, scenario, threads, workers, out, kept),
         Words::Replay {
             file: _,
             journal: _,
         } => replay(rt, alloc, scenario, journal, out),
-    };
-    match end {
-        Ok(end) => end.status(),
-        Err(fault) => refuse(fault, err),
     }
 }
 
@@ -107,13 +136,19 @@ fn check<R: Read + Drop, W: Write>(alloc: Global, scenario: R, out: &mut W) -> R
 
 // Opens the network of a scenario, does its commands, says how many steps were done, and keeps their
 // journal.
-fn run<H: Wait, R: Read + Drop, W: Write>(
+fn run<H, R, W>(
     rt: &H,
     alloc: Global,
     scenario: R,
+    threads: u8,
+    workers: u8,
     out: &mut W,
     kept: &mut Vec<u8>,
 ) -> Result<End, Fault>
+where
+    H: Host,
+    R: Read + Drop,
+    W: Write,
     ensures ok { IfOk result (λ end. (end ≡ End.Done)
         × OfBytes (R.remaining scenario) (λ bytes. IsRunToEnd bytes kept.old.items kept.new.items)) }
     ensures fault { IfErr result (λ e. OfBytes (R.remaining scenario) (λ bytes. StopsFor bytes e)) }
@@ -121,19 +156,25 @@ fn run<H: Wait, R: Read + Drop, W: Write>(
     let text = read_text(alloc, scenario)?;
     let plan = read_plan(alloc, text.as_str())?;
     let unnamed = Unnamed::many(alloc, usize::from(plan.network.routers()))?;
-    run_plan::<Brand, H, W>(rt, alloc, plan, unnamed, out, kept)?;
+    run_plan::<Brand, H, W>(rt, alloc, plan, unnamed, threads, workers, out, kept)?;
     Ok(End::Done)
 }
 
 // Opens the network of a plan under a name, does its commands, and keeps their journal.
-fn run_plan<B: Naming, H: Wait, W: Write>(
+fn run_plan<B, H, W>(
     rt: &H,
     alloc: Global,
     plan: Plan,
     unnamed: Vec<Unnamed>,
+    threads: u8,
+    workers: u8,
     out: &mut W,
     kept: &mut Vec<u8>,
 ) -> Result<(), Fault>
+where
+    B: Naming + Send + Sync + 'static,
+    H: Host,
+    W: Write,
     requires books { unnamed.items ≡ B.books }
     requires each { vec_len unnamed ≡ plan.network.routers }
     requires openings { opening_tables plan.network ≡ B.openings }
@@ -145,29 +186,64 @@ fn run_plan<B: Naming, H: Wait, W: Write>(
         directory,
         commands,
     } = plan;
-    let (mut fabric, _ports) = Fabric::<B>::open(rt, alloc, network, unnamed, 0)?;
-    let ended = run_commands(rt, &mut fabric, &directory, &commands, out, kept);
+    let workers = workers.max(1).min(16);
+    let (fabric, readers) = Fabric::<B>::open(rt, alloc, network, unnamed, workers)?;
+    let (fabric, ended) = run_commands(
+        rt, alloc, fabric, readers, &directory, &commands, threads, out, kept,
+    );
     fabric.close(rt);
     ended
 }
 
-// Does the commands, says how many steps were done, and keeps their journal.
-fn run_commands<B: Naming, H: Wait, W: Write>(
+// Does the commands, waits for the workers, says how many steps were done, and keeps their journal.
+fn run_commands<B, H, W>(
     rt: &H,
-    fabric: &mut Fabric<B>,
+    alloc: Global,
+    fabric: Fabric<B>,
+    readers: Vec<Vec<ImageReader<B>>>,
     directory: &Directory,
     commands: &[Command],
+    threads: u8,
     out: &mut W,
     kept: &mut Vec<u8>,
-) -> Result<(), Fault>
-    ensures ok { OnOk result (AreDone commands.now fabric.old fabric.new
-        × KeepsJournal directory.now fabric.new kept.old.items kept.new.items) }
-    ensures fault { IfErr result (λ e. StopsAtCommand commands.now fabric.old fabric.new e ⊎ IsWantOfMemory e) }
+) -> (Fabric<B>, Result<(), Fault>)
+where
+    B: Naming + Send + Sync + 'static,
+    H: Host,
+    W: Write,
+    requires ports { All (λ port. IsPort (length B.books) port.items) readers.items }
+    requires few { vec_len readers ≤ 16 }
+    ensures ok { OnOk result.1 (AreDone commands.now fabric result.0
+        × KeepsJournal directory.now result.0 kept.old.items kept.new.items) }
+    ensures fault { IfErr result.1 (λ e. StopsAtCommand commands.now fabric result.0 e ⊎ IsUnanswered e ⊎ IsWantOfMemory e) }
 {
-    do_commands(rt, fabric, directory, commands, out)?;
+    let mut dispatcher = match ports_of(alloc, readers) {
+        Ok(ports) => Dispatcher::new(ports),
+        Err(memory) => return (fabric, Err(Fault::from(memory))),
+    };
+    let (fabric, done) = do_commands(
+        rt,
+        alloc,
+        fabric,
+        &mut dispatcher,
+        directory,
+        commands,
+        threads,
+        out,
+    );
+    // No worker is left running, whatever became of the commands.
+    let answered = dispatcher.close(rt, alloc);
+    if let Err(fault) = done {
+        return (fabric, Err(fault));
+    }
+    if let Err(fault) = answered {
+        return (fabric, Err(Fault::from(Cause::Workers(fault))));
+    }
     let _ = writeln!(out, "done: {} steps", fabric.journal().len());
-    keep(fabric, directory, kept)?;
-    Ok(())
+    match keep(&fabric, directory, kept) {
+        Ok(()) => (fabric, Ok(())),
+        Err(memory) => (fabric, Err(Fault::from(memory))),
+    }
 }
 
 /// Says on `err` why the program stops, and answers its exit status.

@@ -1,15 +1,16 @@
 //! Runs of whole scenarios.
 
+mod dispatching;
 mod journals;
 mod reports;
 mod settling;
 
 use crate::files::Source;
+use crate::host::Host;
 use crate::program::play;
 use std::alloc::{AllocError, Global};
 use std::io;
 use std::io::{Read, Write};
-use std::sync::Wait;
 use std::test::Fail;
 use words::Words;
 
@@ -40,7 +41,7 @@ fn text(bytes: Vec<u8>) -> Result<String, Fail> {
     }
 }
 
-fn played<H: Wait, R: Read + Drop, J: Read + Drop>(
+fn played<H: Host, R: Read + Drop, J: Read + Drop>(
     rt: &H,
     alloc: Global,
     words: &Words<'_>,
@@ -65,7 +66,7 @@ fn played<H: Wait, R: Read + Drop, J: Read + Drop>(
 }
 
 // Runs a scenario, or checks it.
-fn asked<H: Wait, R: Read + Drop>(
+fn asked<H: Host, R: Read + Drop>(
     rt: &H,
     alloc: Global,
     words: &Words<'_>,
@@ -100,7 +101,7 @@ fn scenario(
     Ok(text)
 }
 
-fn run<H: Wait>(
+fn run<H: Host>(
     rt: &H,
     alloc: Global,
     routers: &str,

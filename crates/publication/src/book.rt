@@ -2,7 +2,6 @@
 //! beginning of it.
 
 ghost use Rattle.std.specs.Prelude.{◌≡◌, ◌⊎◌, ◌+◌, ◌<◌, ◌∷◌, ◌↔◌, [], ℕ, length, IfSome, IfOk, IsTrue, vec_len};
-ghost use Rattle.std.specs.Bool.{OnTrue};
 ghost use Rattle.publication.specs.Lists.{Begins, generation_of, no_patches, patch_of, with_patches};
 ghost use Rattle.publication.specs.Names.{book_of, head_of};
 
@@ -229,9 +228,9 @@ impl<B: Naming> Told<B> {
         }
     }
 
-    /// Whether the other is of the same writer and no shorter. Then this begins it.
+    /// Whether the other is of the same writer and no shorter: just where this begins it.
     pub(crate) fn begins(&self, other: &Told<B>) -> bool
-        ensures { OnTrue result (Begins self.now other.now) }
+        ensures { IsTrue result ↔ Begins self.now other.now }
     {
         if self.router != other.router || self.count > other.count {
             return false;
@@ -253,9 +252,10 @@ impl<B: Naming> Told<B> {
         true
     }
 
-    /// Whether it is of the same writer and one patch longer. Then the other begins it.
+    /// Whether it is of the same writer and one patch longer: just where the other begins it, and it
+    /// has one patch more.
     pub(crate) fn follows(&self, other: &Told<B>) -> bool
-        ensures { OnTrue result
+        ensures { IsTrue result ↔
             (Begins other.now self.now × (length self.now.patches ≡ length other.now.patches + 1)) }
     {
         if other.count >= self.count || self.count - other.count != 1 {

@@ -1,7 +1,6 @@
 //! A reader.
 
-ghost use Rattle.std.specs.Prelude.{◌≡◌, ◌⊎◌, ◌↔◌, true, false, None, IfOk, IsTrue, OnErr};
-ghost use Rattle.std.specs.Bool.{OnTrue};
+ghost use Rattle.std.specs.Prelude.{◌≡◌, ◌⊎◌, ◌↔◌, false, None, IfOk, IsTrue, OnErr};
 ghost use Rattle.left_right.specs.Sides.{view};
 ghost use Rattle.publication.specs.Lists.{Begins, answer_of, image_of};
 
@@ -68,8 +67,7 @@ impl<B: Naming> Model for ImageReader<B> {
 // it has seen.
 fn goes_on<B: Naming>(seen: &Told<B>, shown: &Told<B>, ahead: bool) -> bool
     requires { ahead ≡ false → Begins seen.now shown.now }
-    ensures begins { OnTrue result (Begins seen.now shown.now) }
-    ensures sure { ahead ≡ false → result ≡ true }
+    ensures { IsTrue result ↔ Begins seen.now shown.now }
 {
     if ahead { seen.begins(shown) } else { true }
 }

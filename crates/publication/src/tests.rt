@@ -5,10 +5,11 @@ ghost use Rattle.std.specs.Thread.{IsSend, IsSync};
 ghost use Rattle.publication.specs.Lists.{opening_of, prefixes_of};
 
 use crate::{
-    Answer, Entry, ImageReader, ImageWriter, Job, Naming, NoImage, NoMemory, Patch, Prefix,
-    ReadGate, Told, Unnamed, close_all, open, open_all,
+    Answer, Entry, ImageReader, ImageWriter, Job, Naming, NoImage, NoMemory, OpenFault, Patch,
+    Prefix, ReadGate, Told, Unnamed, close_all, open, open_all,
 };
 use ipv4_prefix::parse_addr;
+use network_model::Refusal;
 use std::alloc::Global;
 use std::marker::Brand;
 use std::process::Abort;
@@ -31,6 +32,29 @@ fn found(generation: u64, prefix: Prefix, entry: Entry) -> Result<Answer, NoImag
         generation,
         matched: Some((prefix, entry)),
     })
+}
+
+#[test]
+fn faults_have_their_numbers(rt: HostRuntime) -> Result<(), Fail> {
+    let none = (
+        format!(in rt.alloc(); "{}", NoImage)?,
+        format!(in rt.alloc(); "{}", Refusal::from(NoImage))?,
+    );
+    assert_eq!(rt; none.0.as_str(), "34 NoImage");
+    assert_eq!(rt; none.1.as_str(), "34 NoImage");
+    let faults = [
+        (OpenFault::NoMemory, "20 NoMemory"),
+        (OpenFault::NoReaderPlace, "23 NoReaderPlace"),
+    ];
+    for (fault, text) in faults {
+        let texts = (
+            format!(in rt.alloc(); "{fault}")?,
+            format!(in rt.alloc(); "{}", Refusal::from(fault))?,
+        );
+        assert_eq!(rt; texts.0.as_str(), text);
+        assert_eq!(rt; texts.1.as_str(), text);
+    }
+    Ok(())
 }
 
 // Publishes rows, where nothing waits.
@@ -280,11 +304,14 @@ fn generations_never_fall(rt: HostRuntime) -> Result<(), Fail> {
     race::<Brand, _>(&rt, rt.alloc(), Unnamed::new(), image)
 }
 
-// Holds a reader inside until another has looked up 1000 times since the writer began to publish.
+// Holds a reader inside until another has looked up 1000 times since the writer began to publish, and
+// then for 20 milliseconds more. Meanwhile the writer is not done with two publications, the second of
+// which changes the copy that is held.
 struct Hold<'a, R> {
     rt: &'a R,
     held: AtomicBool,
     publishes: AtomicBool,
+    published: AtomicBool,
     looked: AtomicU64,
     late: AtomicBool,
 }
@@ -295,6 +322,7 @@ impl<R> Drop for Hold<'_, R> {
             rt: _,
             held: _,
             publishes: _,
+            published: _,
             looked: _,
             late: _,
         } = self;
@@ -319,6 +347,10 @@ impl<R: Clock> ReadGate for Hold<'_, R> {
         self.held.store(true, Ordering::SeqCst);
         for _ in 0..1_000u32 {
             if self.looked.load(Ordering::SeqCst) >= 1_000 {
+                thread::sleep(self.rt, Duration::from_millis(20));
+                if self.published.load(Ordering::SeqCst) {
+                    self.late.store(true, Ordering::SeqCst);
+                }
                 return;
             }
             thread::sleep(self.rt, Duration::from_millis(1));
@@ -327,7 +359,7 @@ impl<R: Clock> ReadGate for Hold<'_, R> {
     }
 }
 
-// Publishes a row once the reader is held.
+// Publishes a row once the reader is held, and then another.
 fn set_while_held<B: Naming, R: Wait + Clock>(
     rt: &R,
     alloc: Global,
@@ -339,7 +371,12 @@ fn set_while_held<B: Naming, R: Wait + Clock>(
 {
     gate.wait_for(&gate.held);
     gate.publishes.store(true, Ordering::SeqCst);
-    set(rt, alloc, writer, &[(wide, via(0))]).ok()
+    let last = match set(rt, alloc, writer, &[(wide, via(0))]) {
+        Ok(_) => set(rt, alloc, writer, &[(wide, via(1))]).ok(),
+        Err(_) => None,
+    };
+    gate.published.store(true, Ordering::SeqCst);
+    last
 }
 
 // What a reader answers once it has learned what was told at its router.
@@ -419,6 +456,7 @@ fn publish_while_held<B: Naming + Send + Sync, R: Threads + Wait + Clock + Abort
         rt,
         held: AtomicBool::new(false),
         publishes: AtomicBool::new(false),
+        published: AtomicBool::new(false),
         looked: AtomicU64::new(0),
         late: AtomicBool::new(false),
     };
@@ -443,8 +481,8 @@ fn publish_while_held<B: Naming + Send + Sync, R: Threads + Wait + Clock + Abort
     };
     assert_eq!(rt; answer, Ok(none));
     assert_eq!(rt; wrong, 0);
-    assert_eq!(rt; after.0, Some(found(1, wide, via(0))));
-    assert_eq!(rt; after.1, Some(found(1, wide, via(0))));
+    assert_eq!(rt; after.0, Some(found(2, wide, via(1))));
+    assert_eq!(rt; after.1, Some(found(2, wide, via(1))));
     Ok(())
 }
 

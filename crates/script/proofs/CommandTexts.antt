@@ -1,5 +1,10 @@
 -- What a line asks for, by its first word.
-use Rattle.std.proofs.Common.{◌≡◌, ◌≢◌, ℕ, inl, inr, List, [], ◌∷◌, codes, refl}
+use Rattle.std.proofs.Common.{◌≡◌, ◌≢◌, ℕ, false, inl, inr, List, [], ◌∷◌, All, Contains, bytes_eq, codes, refl, sym, subst, ◌∙◌, arith}
+use Rattle.std.specs.List.{list_any}
+use Rattle.std.proofs.lemmas.Bool.{false≢true}
+use Rattle.std.proofs.lemmas.Slice.Eq.{bytes_eq-Decides}
+use Rattle.std.proofs.lemmas.List.Elements.{All-nil, All-cons, All-contains}
+use Rattle.std.proofs.lemmas.List.Folds.{list_any_at}
 use Rattle.ipv4_prefix.specs.Prefix.{Prefix}
 use Rattle.ipv4_prefix.specs.Faults.{SpellsPrefix, IsFirstFault}
 use Rattle.ipv4_prefix.specs.declared.fault.PrefixFault.{PrefixFault}
@@ -8,71 +13,115 @@ use Rattle.script.specs.declared.command.Command.{Command}
 use Rattle.script.specs.declared.fault.Fault.{Fault}
 use Rattle.script.specs.declared.fault.Fault.TheVariants.{BadName, BadLine, BadCost, BadCommand, TooLarge, NoMemory, Prefix as OfPrefix}
 use Rattle.script.specs.Words.{Text}
-use Rattle.script.specs.Commands.{NamesRouter, NamesText, IsOwned, AsksNoStep, Asks, HasBadValue, AsksNothing}
+use Rattle.script.specs.Commands.{NamesRouter, NamesText, NamesNoAddress, IsOwned, AsksNoStep, Asks, address_verbs, HasBadValue, AsksNothing}
 use Rattle.script.proofs.StepTexts.{clash, first_same, rest_same, no_verb, other_router, other_text}
 
 -- the text has no fault, but is that of no prefix that has an owner
 abbrev pub IsStrange : List (Prefix × ℕ) → Text → Type 0
 IsStrange owners text = ((p : Prefix) → SpellsPrefix text p → ¬ (IsOwned owners p)) × ((fault : PrefixFault) → ¬ (IsFirstFault text fault))
 
+-- the words name no router and text after a verb that takes an address
+abbrev pub NamesNone : List Text → List Text → Type 0
+NamesNone names words = (verb : Text) → Contains address_verbs verb → (router : ℕ) (text : Text) → ¬ (NamesText names verb words router text)
+
+-- the word is none of the list
+abbrev IsApart : Text → List Text → Type 0
+IsApart word words = All (λ w. word ≢ w) words
+
+-- ---- words after a verb, and the verbs that take an address
+
+-- a word that equals none of a list by the test
+apart_from : (word : Text) (words : List Text) → list_any (bytes_eq word) words ≡ false → IsApart word words
+apart_from word words apart k d within same = false≢true (sym apart ∙ list_any_at (bytes_eq word) words k d within ((bytes_eq-Decides word _).1 same))
+
+-- a verb that takes no address
+other_verb : (names : List Text) (verb : Text) (rest : List Text) → IsApart verb address_verbs → NamesNone names (verb ∷ rest)
+other_verb names verb rest apart word among router text h = All-contains (λ w. verb ≢ w) address_verbs word apart among (first_same _ _ _ _ h.spelled)
+
+-- a verb after which no router and text are named
+own_verb : (names : List Text) (verb : Text) (rest : List Text)
+    → ((router : ℕ) (text : Text) → ¬ (NamesText names verb (verb ∷ rest) router text)) → NamesNone names (verb ∷ rest)
+own_verb names verb rest none word among router text h =
+    none router text (subst (λ v. NamesText names v (verb ∷ rest) router text) (sym (first_same _ _ _ _ h.spelled)) h)
+
+-- ---- words that ask for no command
+
 module _ (names : List Text) (links : List LinkSpec) (owners : List (Prefix × ℕ)) where
-  -- words that ask for no command of any kind, nor for one with a bad value
-  no_command : (words : List Text)
-      → AsksNoStep names links words BadCommand
-      → ((after : List Text) → words ≡ codes "try" ∷ after → AsksNoStep names links after BadCommand)
-      → words ≢ codes "settle" ∷ []
-      → ((router : ℕ) (text : Text) → NamesText names (codes "state") words router text → IsStrange owners text)
-      → ((router : ℕ) → ¬ (NamesRouter names (codes "table") words router))
-      → ((router : ℕ) (text : Text) → ¬ (NamesText names (codes "lookup") words router text))
-      → words ≢ codes "report" ∷ []
-      → AsksNothing names links owners words BadCommand
-  no_command words step tried settle state table lookup report = (commands, faults)
+  -- two words or more that ask for no command of any kind, nor for one with a bad value
+  no_command : (verb : Text) (rest : List Text) → rest ≢ []
+      → AsksNoStep names links (verb ∷ rest) BadCommand
+      → ((after : List Text) → verb ∷ rest ≡ codes "try" ∷ after → AsksNoStep names links after BadCommand)
+      → ((router : ℕ) (text : Text) → NamesText names (codes "state") (verb ∷ rest) router text → IsStrange owners text)
+      → ((router : ℕ) → ¬ (NamesRouter names (codes "table") (verb ∷ rest) router))
+      → NamesNone names (verb ∷ rest)
+      → AsksNothing names links owners (verb ∷ rest) BadCommand
+  no_command verb rest some step tried state table address = (commands, faults)
     where
-      commands : (command : Command) → ¬ (Asks names links owners words command)
+      single : (word : Text) → verb ∷ rest ≢ word ∷ []
+      single word h = some (rest_same _ _ _ _ h)
+
+      commands : (command : Command) → ¬ (Asks names links owners (verb ∷ rest) command)
       commands (Command.Step s) h = step.0 s h
       commands (Command.Try s) h = (tried h.0 h.1).0 s h.2
-      commands Command.Settle h = settle h
+      commands Command.Settle h = single _ h
       commands (Command.State router prefix) h = (state router h.0 h.1).0 prefix h.2 h.3
       commands (Command.Table router) h = table router h
-      commands (Command.Lookup router addr) h = lookup router h.0 h.1
-      commands Command.Report h = report h
+      commands (Command.Lookup router addr) h = address _ (0, omega arith, refl) router h.0 h.1
+      commands (Command.Inject router addr) h = address _ (1, omega arith, refl) router h.0 h.1
+      commands Command.Drain h = single _ h
+      commands Command.Report h = single _ h
 
-      faults : (fault : Fault) → ¬ (HasBadValue names links words fault)
+      faults : (fault : Fault) → ¬ (HasBadValue names links (verb ∷ rest) fault)
       faults BadName h = h
       faults BadLine h = h
       faults BadCost (inl h) = step.1 h
       faults BadCost (inr h) = (tried h.0 h.1).1 h.2
       faults (OfPrefix fault) (inl h) = (state h.0 h.1 h.2).1 fault h.3
-      faults (OfPrefix fault) (inr h) = lookup h.1.0 h.1.1 h.1.2
+      faults (OfPrefix fault) (inr h) = address h.1.0 h.1.1 h.1.2.0 h.1.2.1 h.1.2.2
       faults BadCommand h = h
       faults TooLarge h = h
       faults NoMemory h = h
 
-  module _ (rest : List Text) where
+  module _ (rest : List Text) (some : rest ≢ []) where
     pub no_state : ((router : ℕ) (text : Text) → NamesText names (codes "state") (codes "state" ∷ rest) router text → IsStrange owners text)
         → AsksNothing names links owners (codes "state" ∷ rest) BadCommand
     no_state strange =
-        no_command _ (no_verb names links _ rest refl refl refl refl refl refl) (λ after e. absurd (clash _ _ _ _ refl e)) (clash _ _ _ _ refl)
-        strange (other_router names links _ _ _ refl) (other_text names links _ _ _ refl) (clash _ _ _ _ refl)
+        no_command _ rest some (no_verb names links _ rest refl refl refl refl refl refl) (λ after e. absurd (clash _ _ _ _ refl e))
+        strange (other_router names links _ _ _ refl) (other_verb names _ rest (apart_from _ address_verbs refl))
 
     pub no_table : ((router : ℕ) → ¬ (NamesRouter names (codes "table") (codes "table" ∷ rest) router)) → AsksNothing names links owners (codes "table" ∷ rest) BadCommand
     no_table none =
-        no_command _ (no_verb names links _ rest refl refl refl refl refl refl) (λ after e. absurd (clash _ _ _ _ refl e)) (clash _ _ _ _ refl)
-        (λ router text h. absurd (other_text names links _ _ _ refl router text h)) none (other_text names links _ _ _ refl) (clash _ _ _ _ refl)
+        no_command _ rest some (no_verb names links _ rest refl refl refl refl refl refl) (λ after e. absurd (clash _ _ _ _ refl e))
+        (λ router text h. absurd (other_text names links _ _ _ refl router text h)) none (other_verb names _ rest (apart_from _ address_verbs refl))
 
-    pub no_lookup : ((router : ℕ) (text : Text) → ¬ (NamesText names (codes "lookup") (codes "lookup" ∷ rest) router text)) → AsksNothing names links owners (codes "lookup" ∷ rest) BadCommand
-    no_lookup none =
-        no_command _ (no_verb names links _ rest refl refl refl refl refl refl) (λ after e. absurd (clash _ _ _ _ refl e)) (clash _ _ _ _ refl)
-        (λ router text h. absurd (other_text names links _ _ _ refl router text h)) (other_router names links _ _ _ refl) none (clash _ _ _ _ refl)
+    -- why a verb that takes an address, and is no other, asks for nothing
+    address_fault : (verb : Text) → Contains address_verbs verb → AsksNoStep names links (verb ∷ rest) BadCommand
+        → bytes_eq verb (codes "try") ≡ false → bytes_eq verb (codes "state") ≡ false → bytes_eq verb (codes "table") ≡ false
+        → (fault : Fault) → NamesNoAddress names verb (verb ∷ rest) fault → AsksNothing names links owners (verb ∷ rest) fault
+    address_fault verb among step tried state table BadName h = h
+    address_fault verb among step tried state table BadLine h = h
+    address_fault verb among step tried state table BadCost h = absurd h
+    address_fault verb among step tried state table (OfPrefix fault) h = inr (h.0, (verb, among, h.1))
+    address_fault verb among step tried state table BadCommand h =
+        no_command verb rest some step (λ after e. absurd (clash _ _ _ _ tried e)) (λ router text k. absurd (other_text names links _ _ _ state router text k))
+        (other_router names links _ _ _ table) (own_verb names verb rest h)
+    address_fault verb among step tried state table TooLarge h = h
+    address_fault verb among step tried state table NoMemory h = h
+
+    pub lookup_fault : (fault : Fault) → NamesNoAddress names (codes "lookup") (codes "lookup" ∷ rest) fault → AsksNothing names links owners (codes "lookup" ∷ rest) fault
+    lookup_fault = address_fault _ (0, omega arith, refl) (no_verb names links _ rest refl refl refl refl refl refl) refl refl refl
+
+    pub inject_fault : (fault : Fault) → NamesNoAddress names (codes "inject") (codes "inject" ∷ rest) fault → AsksNothing names links owners (codes "inject" ∷ rest) fault
+    inject_fault = address_fault _ (1, omega arith, refl) (no_verb names links _ rest refl refl refl refl refl refl) refl refl refl
 
   -- a fault of the step that a line asks for, where its first word is the verb of no other command
   module _ (verb : Text) (rest : List Text) (some : rest ≢ [])
-      (tried : verb ≢ codes "try") (state : verb ≢ codes "state") (table : verb ≢ codes "table") (lookup : verb ≢ codes "lookup") where
+      (tried : verb ≢ codes "try") (state : verb ≢ codes "state") (table : verb ≢ codes "table") (lookup : verb ≢ codes "lookup") (inject : verb ≢ codes "inject") where
     no_step_command : AsksNoStep names links (verb ∷ rest) BadCommand → AsksNothing names links owners (verb ∷ rest) BadCommand
     no_step_command none =
-        no_command (verb ∷ rest) none (λ after e. absurd (tried (first_same _ _ _ _ e))) (λ e. some (rest_same _ _ _ _ e))
+        no_command verb rest some none (λ after e. absurd (tried (first_same _ _ _ _ e)))
         (λ router text h. absurd (state (first_same _ _ _ _ h.spelled))) (λ router h. table (first_same _ _ _ _ h.spelled))
-        (λ router text h. lookup (first_same _ _ _ _ h.spelled)) (λ e. some (rest_same _ _ _ _ e))
+        (other_verb names verb rest (All-cons (λ w. verb ≢ w) _ (codes "inject" ∷ []) lookup (All-cons (λ w. verb ≢ w) _ [] inject (All-nil (λ w. verb ≢ w)))))
 
     pub step_fault : (fault : Fault) → AsksNoStep names links (verb ∷ rest) fault → AsksNothing names links owners (verb ∷ rest) fault
     step_fault BadName h = h

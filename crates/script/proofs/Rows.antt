@@ -3,6 +3,7 @@ use Rattle.std.proofs.Common.{◌≡◌, ℕ, inr, List, [], ◌∷◌, Some, No
 use Rattle.std.specs.Fmt.{digits}
 use Rattle.ipv4_prefix.specs.Prefix.{Prefix}
 use Rattle.network_model.specs.declared.network.LinkSpec.{LinkSpec}
+use Rattle.network_model.specs.declared.route.Entry.TheVariants.{Local, Via}
 use Rattle.network_model.specs.declared.step.Step.TheVariants.{LinkUp, SetCost, Deliver, Publish}
 use Rattle.script.specs.declared.command.Command.{Command}
 use Rattle.script.specs.declared.fault.Fault.TheVariants.{BadCost}
@@ -10,7 +11,7 @@ use Rattle.script.specs.Words.{Text, words_of}
 use Rattle.script.specs.Routers.{number_of}
 use Rattle.script.specs.Links.{end_of, IsLink}
 use Rattle.script.specs.Commands.{link_between, IsPortOn, IsCommand, IsCommandFault}
-use Rattle.script.specs.Directories.{neighbours_of}
+use Rattle.script.specs.Directories.{Directory, neighbours_of, directory_of, lookup_text, packet_text}
 
 four_words : words_of (codes "a b 1 20") ≡ codes "a" ∷ codes "b" ∷ codes "1" ∷ codes "20" ∷ []
 four_words = refl
@@ -101,6 +102,17 @@ asks_lookup = (
   (omega arith, refl),
 )
 
+asks_inject : IsCommand names links owners (codes "inject b 10.0.0.1") (Command.Inject 1 167772161)
+unfolding digits
+asks_inject = (
+  codes "10.0.0.1",
+  record { name = codes "b"; spelled = refl; has_text = λ e. cc; known = refl },
+  (omega arith, refl),
+)
+
+asks_drain : IsCommand names links owners (codes "drain") Command.Drain
+asks_drain = refl
+
 -- an end that is not known is no router
 is_link : IsLink names (codes "b z 1 20") (record { a = 1; b = 65535; from_a = 1; from_b = 20 })
 unfolding digits
@@ -109,3 +121,21 @@ is_link = (
   (record { positive = omega arith; small = omega arith }, record { positive = omega arith; small = omega arith }),
   refl,
 )
+
+-- ---- texts
+
+abbrev directory : Directory
+directory = directory_of names links
+
+lookup_found : lookup_text directory 2 167772161 (Some (record { addr = 167772160; len = 8 }, Local)) ≡ codes "lookup c 10.0.0.1: 10.0.0.0/8 local"
+unfolding digits
+lookup_found = refl
+
+-- b has a across its port 0
+packet_found : packet_text directory 7 1 167772161 (Some (record { addr = 167772160; len = 8 }, Via 0 1)) ≡ codes "packet 7 b 10.0.0.1: 10.0.0.0/8 via a 1"
+unfolding digits
+packet_found = refl
+
+packet_missed : packet_text directory 12 0 0 None ≡ codes "packet 12 a 0.0.0.0: none"
+unfolding digits
+packet_missed = refl

@@ -71,6 +71,20 @@ pub record NamesText (names : List Text) (verb : Text) (words : List Text) (rout
   pub has_text : text ≢ []
   pub known : number_of names name ≡ Some router
 
+-- the words name a router, and then an address, after the verb
+abbrev pub NamesAddress : List Text → Text → List Text → ℕ → ℕ → Type 0
+NamesAddress names verb words router addr = (text : Text) × NamesText names verb words router text × SpellsAddress text addr
+
+-- the words name a router after the verb, but what follows is no address
+abbrev pub NamesBadAddress : List Text → Text → List Text → Type 0
+NamesBadAddress names verb words = (router : ℕ) × (text : Text) × NamesText names verb words router text × ¬ (IsAddressText text)
+
+-- why the words name no router and address after the verb
+abbrev pub NamesNoAddress : List Text → Text → List Text → Fault → Type 0
+NamesNoAddress names verb words BadCommand = (router : ℕ) (text : Text) → ¬ (NamesText names verb words router text)
+NamesNoAddress names verb words (OfPrefix fault) = (fault ≡ BadAddress) × NamesBadAddress names verb words
+NamesNoAddress names verb words _ = ⊥
+
 -- the words are `try`, and then words that ask for something
 abbrev pub Tries : (List Text → Type 0) → List Text → Type 0
 Tries AskFor words = (after : List Text) × (words ≡ codes "try" ∷ after) × AskFor after
@@ -116,7 +130,9 @@ Asks names links owners words Command.Settle = words ≡ codes "settle" ∷ []
 Asks names links owners words (Command.State router prefix) =
     (text : Text) × NamesText names (codes "state") words router text × SpellsPrefix text prefix × IsOwned owners prefix
 Asks names links owners words (Command.Table router) = NamesRouter names (codes "table") words router
-Asks names links owners words (Command.Lookup router addr) = (text : Text) × NamesText names (codes "lookup") words router text × SpellsAddress text addr
+Asks names links owners words (Command.Lookup router addr) = NamesAddress names (codes "lookup") words router addr
+Asks names links owners words (Command.Inject router addr) = NamesAddress names (codes "inject") words router addr
+Asks names links owners words Command.Drain = words ≡ codes "drain" ∷ []
 Asks names links owners words Command.Report = words ≡ codes "report" ∷ []
 
 -- the command that a line says
@@ -127,14 +143,18 @@ IsCommand names links owners line command = Asks names links owners (words_of li
 abbrev pub AsksBadState : List Text → List Text → PrefixFault → Type 0
 AsksBadState names words fault = (router : ℕ) × (text : Text) × NamesText names (codes "state") words router text × IsFirstFault text fault
 
--- the words ask for a look-up, but of no address
-abbrev pub AsksBadLookup : List Text → List Text → Type 0
-AsksBadLookup names words = (router : ℕ) × (text : Text) × NamesText names (codes "lookup") words router text × ¬ (IsAddressText text)
+-- the verbs of the commands that name a router and an address
+abbrev pub address_verbs : List Text
+address_verbs = codes "lookup" ∷ codes "inject" ∷ []
+
+-- the words ask for a command that names an address, but what stands in its place is none
+abbrev pub AsksBadAddress : List Text → List Text → Type 0
+AsksBadAddress names words = (verb : Text) × Contains address_verbs verb × NamesBadAddress names verb words
 
 -- the words ask for a command, but the cost, the prefix or the address in it is none
 abbrev pub HasBadValue : List Text → List LinkSpec → List Text → Fault → Type 0
 HasBadValue names links words BadCost = AsksBadCost names links words ⊎ Tries (AsksBadCost names links) words
-HasBadValue names links words (OfPrefix fault) = AsksBadState names words fault ⊎ ((fault ≡ BadAddress) × AsksBadLookup names words)
+HasBadValue names links words (OfPrefix fault) = AsksBadState names words fault ⊎ ((fault ≡ BadAddress) × AsksBadAddress names words)
 HasBadValue names links words _ = ⊥
 
 -- why words ask for no command: the fault of a value, or else that there is neither a command nor such a fault

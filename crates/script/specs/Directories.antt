@@ -62,6 +62,14 @@ abbrev pub found_text : Directory → ℕ → Option (Prefix × Entry) → Text
 found_text d router None = codes "none"
 found_text d router (Some row) = prefix_text row.0 ++ codes " " ++ entry_text d router row.1
 
+-- a router, an address, and what the router found for it
+abbrev pub answer_text : Directory → ℕ → ℕ → Option (Prefix × Entry) → Text
+answer_text d router addr found = name_text d (Some router) ++ codes " " ++ address_text addr ++ codes ": " ++ found_text d router found
+
 -- what a look-up of an address at a router found
 abbrev pub lookup_text : Directory → ℕ → ℕ → Option (Prefix × Entry) → Text
-lookup_text d router addr found = codes "lookup " ++ name_text d (Some router) ++ codes " " ++ address_text addr ++ codes ": " ++ found_text d router found
+lookup_text d router addr found = codes "lookup " ++ answer_text d router addr found
+
+-- what a worker's job of this number found
+abbrev pub packet_text : Directory → ℕ → ℕ → ℕ → Option (Prefix × Entry) → Text
+packet_text d number router addr found = codes "packet " ++ decimal number ++ codes " " ++ answer_text d router addr found

@@ -4,7 +4,7 @@ ghost use Rattle.std.specs.Prelude.{◌≡◌, ◌≢◌, ℕ, [], ◌∷◌, �
 ghost use Rattle.std.specs.List.{list_any};
 ghost use Rattle.ipv4_prefix.specs.Prefix.{prefix_eq};
 ghost use Rattle.script.specs.Words.{Text, words_of};
-ghost use Rattle.script.specs.Commands.{Asks, AsksNothing, IsCommand, IsCommandFault, NamesText};
+ghost use Rattle.script.specs.Commands.{Asks, AsksNothing, IsCommand, IsCommandFault, NamesText, NamesAddress, NamesNoAddress};
 ghost use Rattle.script.specs.Reading.{StopsHere, ReadsFirst, IsWhole};
 ghost use Rattle.script.specs.Seen.{texts};
 
@@ -31,6 +31,10 @@ pub enum Command {
     Table { router: u16 },
     /// Look the address up in the router's image in force.
     Lookup { router: u16, addr: u32 },
+    /// Give the address to the workers, to look up at the router.
+    Inject { router: u16, addr: u32 },
+    /// Wait for the workers, and print their answers.
+    Drain,
     /// Print all links, routers and machines.
     Report,
 }
@@ -63,8 +67,9 @@ pub(crate) fn read_commands(
 }
 
 /// The command that a line says: a step, `try STEP`, `settle`, `state A PREFIX`, `table A`,
-/// `lookup A ADDR` or `report`. A `BadCommand` comes before the fault of a cost, a prefix or an
-/// address, but a prefix that the scenario does not have is a `BadCommand` after all others.
+/// `lookup A ADDR`, `inject A ADDR`, `drain` or `report`. A `BadCommand` comes before the fault of a
+/// cost, a prefix or an address, but a prefix that the scenario does not have is a `BadCommand` after
+/// all others.
 pub(crate) fn read_command(
     names: &Names,
     links: &[LinkSpec],
@@ -83,12 +88,14 @@ pub(crate) fn read_command(
 // The command that a line of one word says.
 fn read_word(word: &str) -> Result<Command, Fault>
     ensures ok { IfOk result (λ c. ((c ≡ Command.Settle) × (word.now ≡ codes "settle"))
+        ⊎ ((c ≡ Command.Drain) × (word.now ≡ codes "drain"))
         ⊎ ((c ≡ Command.Report) × (word.now ≡ codes "report"))) }
-    ensures err { IfErr result (λ e. (e ≡ Fault.BadCommand)
-        × (word.now ≢ codes "settle") × (word.now ≢ codes "report")) }
+    ensures err { IfErr result (λ e. (e ≡ Fault.BadCommand) × (word.now ≢ codes "settle")
+        × (word.now ≢ codes "drain") × (word.now ≢ codes "report")) }
 {
     match word {
         "settle" => Ok(Command::Settle),
+        "drain" => Ok(Command::Drain),
         "report" => Ok(Command::Report),
         _ => Err(Fault::BadCommand),
     }
@@ -125,15 +132,30 @@ fn read_words(
             Ok(Command::Table { router })
         }
         "lookup" => {
-            let (router, addr) = read_text(names, operands)?;
-            let addr = parse_addr(addr)?;
+            let (router, addr) = read_addr(names, operands)?;
             Ok(Command::Lookup { router, addr })
+        }
+        "inject" => {
+            let (router, addr) = read_addr(names, operands)?;
+            Ok(Command::Inject { router, addr })
         }
         _ => {
             let step = read_step(names, links, verb, operands)?;
             Ok(Command::Step(step))
         }
     }
+}
+
+// The router that the operands name, and the address after its name.
+fn read_addr(names: &Names, operands: &str) -> Result<(u16, u32), Fault>
+    ensures ok { IfOk result (λ a. (verb : Text)
+        → NamesAddress names.now verb (verb ∷ words_of operands.now) a.0 a.1) }
+    ensures err { IfErr result (λ e. (verb : Text)
+        → NamesNoAddress names.now verb (verb ∷ words_of operands.now) e) }
+{
+    let (router, text) = read_text(names, operands)?;
+    let addr = parse_addr(text)?;
+    Ok((router, addr))
 }
 
 // The router that the operands name, and the text after its name, which is not empty.

@@ -1,7 +1,7 @@
 //! Texts that name routers.
 
 ghost use Rattle.std.specs.Prelude.{◌≡◌, IfOk, Some, filter_map};
-ghost use Rattle.script.specs.Directories.{directory_of, far_end as other_end, neighbour_at, name_text, entry_text, row_text, found_text, lookup_text};
+ghost use Rattle.script.specs.Directories.{directory_of, far_end as other_end, neighbour_at, name_text, entry_text, row_text, found_text, answer_text, lookup_text, packet_text};
 
 use crate::names::Names;
 use ipv4_prefix::{Addr, Prefix};
@@ -72,6 +72,32 @@ impl Directory {
         ensures { result ≡ lookup_text self.now router addr found }
     {
         LookupText {
+            answer: self.answer(router, addr, found),
+        }
+    }
+
+    /// The text of a worker's job: `packet J A ADDR: PREFIX ENTRY`, or `packet J A ADDR: none`, where J
+    /// is the job's number.
+    pub fn packet(
+        &self,
+        number: u64,
+        router: u16,
+        addr: u32,
+        found: Option<(Prefix, Entry)>,
+    ) -> PacketText<'_>
+        ensures { result ≡ packet_text self.now number router addr found }
+    {
+        PacketText {
+            number,
+            answer: self.answer(router, addr, found),
+        }
+    }
+
+    // The text of what a router found for an address.
+    fn answer(&self, router: u16, addr: u32, found: Option<(Prefix, Entry)>) -> AnswerText<'_>
+        ensures { result ≡ answer_text self.now router addr found }
+    {
+        AnswerText {
             directory: self,
             router,
             addr,
@@ -186,36 +212,83 @@ impl fmt::Display for RowText<'_> {
     }
 }
 
-/// The text of a look-up.
+// The text of what a router found for an address.
 #[derive(Drop)]
-pub struct LookupText<'a> {
+struct AnswerText<'a> {
     directory: &'a Directory,
     router: u16,
     addr: u32,
     found: Option<(Prefix, Entry)>,
 }
 
-impl<'a> Model for LookupText<'a> {
+impl<'a> Model for AnswerText<'a> {
     ghost use Rattle.script.specs.Words.{Text};
-    ghost use Rattle.script.specs.Directories.{lookup_text};
+    ghost use Rattle.script.specs.Directories.{answer_text};
 
     ghost Value = { Text };
 
-    ghost view = { λ t. lookup_text t.directory.now t.router t.addr t.found };
+    ghost view = { λ t. answer_text t.directory.now t.router t.addr t.found };
 }
 
-impl fmt::Display for LookupText<'_> {
+impl fmt::Display for AnswerText<'_> {
     ghost output = { λ t. Some t };
 
     fn fmt<W: fmt::Write>(&self, f: &mut fmt::Formatter<W>) -> fmt::Result {
         let name = self.directory.name(Some(self.router));
         let addr = Addr(self.addr);
         match self.found {
-            None => write!(f, "lookup {name} {addr}: none"),
+            None => write!(f, "{name} {addr}: none"),
             Some((prefix, entry)) => {
                 let entry = self.directory.entry(self.router, entry);
-                write!(f, "lookup {name} {addr}: {prefix} {entry}")
+                write!(f, "{name} {addr}: {prefix} {entry}")
             }
         }
+    }
+}
+
+/// The text of a look-up.
+#[derive(Drop)]
+pub struct LookupText<'a> {
+    answer: AnswerText<'a>,
+}
+
+impl<'a> Model for LookupText<'a> {
+    ghost use Rattle.std.specs.Prelude.{◌++◌, codes};
+    ghost use Rattle.script.specs.Words.{Text};
+
+    ghost Value = { Text };
+
+    ghost view = { λ t. codes "lookup " ++ t.answer };
+}
+
+impl fmt::Display for LookupText<'_> {
+    ghost output = { λ t. Some t };
+
+    fn fmt<W: fmt::Write>(&self, f: &mut fmt::Formatter<W>) -> fmt::Result {
+        write!(f, "lookup {}", self.answer)
+    }
+}
+
+/// The text of a worker's job.
+#[derive(Drop)]
+pub struct PacketText<'a> {
+    number: u64,
+    answer: AnswerText<'a>,
+}
+
+impl<'a> Model for PacketText<'a> {
+    ghost use Rattle.std.specs.Prelude.{◌++◌, codes, decimal};
+    ghost use Rattle.script.specs.Words.{Text};
+
+    ghost Value = { Text };
+
+    ghost view = { λ t. codes "packet " ++ decimal t.number ++ codes " " ++ t.answer };
+}
+
+impl fmt::Display for PacketText<'_> {
+    ghost output = { λ t. Some t };
+
+    fn fmt<W: fmt::Write>(&self, f: &mut fmt::Formatter<W>) -> fmt::Result {
+        write!(f, "packet {} {}", self.number, self.answer)
     }
 }

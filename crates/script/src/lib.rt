@@ -16,7 +16,7 @@ mod tests;
 mod words;
 
 pub use command::Command;
-pub use directory::{Directory, LookupText, RowText};
+pub use directory::{Directory, LookupText, PacketText, RowText};
 pub use fault::Fault;
 pub use lines::{Line, LinkLine, MachineLine, RouterLine};
 pub use names::Names;

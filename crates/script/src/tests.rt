@@ -102,12 +102,26 @@ a|b|c;a b 1 1;10.0.0.0/8 b; publish a;45 BadCommand at script 0
 a|b|c;a b 1 1;10.0.0.0/8 b;lookup z 1.2.3;45 BadCommand at script 0
 a|b|c;a b 1 1;10.0.0.0/8 b;lookup a 1.2.3;2 BadAddress at script 0
 a|b|c;a b 1 1;10.0.0.0/8 b;lookup a 10.0.0.256;2 BadAddress at script 0
+a|b|c;a b 1 1;10.0.0.0/8 b;inject a;45 BadCommand at script 0
+a|b|c;a b 1 1;10.0.0.0/8 b;inject a ;45 BadCommand at script 0
+a|b|c;a b 1 1;10.0.0.0/8 b;inject x 10.0.0.1;45 BadCommand at script 0
+a|b|c;a b 1 1;10.0.0.0/8 b;inject x 10.0.0;45 BadCommand at script 0
+a|b|c;a b 1 1;10.0.0.0/8 b;inject a 10.0.0.1 b;45 BadCommand at script 0
+a|b|c;a b 1 1;10.0.0.0/8 b;inject a 10.0.0;2 BadAddress at script 0
+a|b|c;a b 1 1;10.0.0.0/8 b;inject a 10.0.0.256;2 BadAddress at script 0
+a|b|c;a b 1 1;10.0.0.0/8 b;inject a 10.0.0.1|drain|inject a 10.0.0;2 BadAddress at script 2
+a|b|c;a b 1 1;10.0.0.0/8 b;inject a 10.0.0.1;none
+a|b|c;a b 1 1;10.0.0.0/8 b;drain;none
+a|b|c;a b 1 1;10.0.0.0/8 b;drain now;45 BadCommand at script 0
+a|b|c;a b 1 1;10.0.0.0/8 b;drain ;45 BadCommand at script 0
 a|b|c;a b 1 1;10.0.0.0/8 b;settle a;45 BadCommand at script 0
 a|b|c;a b 1 1;10.0.0.0/8 b;settle ;45 BadCommand at script 0
 a|b|c;a b 1 1;10.0.0.0/8 b;report a;45 BadCommand at script 0
 a|b|c;a b 1 1;10.0.0.0/8 b;try;45 BadCommand at script 0
 a|b|c;a b 1 1;10.0.0.0/8 b;try settle;45 BadCommand at script 0
 a|b|c;a b 1 1;10.0.0.0/8 b;try report;45 BadCommand at script 0
+a|b|c;a b 1 1;10.0.0.0/8 b;try drain;45 BadCommand at script 0
+a|b|c;a b 1 1;10.0.0.0/8 b;try inject a 10.0.0.1;45 BadCommand at script 0
 a|b|c;a b 1 1;10.0.0.0/8 b;try table a;45 BadCommand at script 0
 a|b|c;a b 1 1;10.0.0.0/8 b;try state a 10.0.0.0/8;45 BadCommand at script 0
 a|b|c;a b 1 1;10.0.0.0/8 b;try try up a b;45 BadCommand at script 0
@@ -253,6 +267,27 @@ fn further_commands(rt: HostRuntime) -> Result<(), Fail> {
 }
 
 #[test]
+fn commands_for_workers(rt: HostRuntime) -> Result<(), Fail> {
+    let script = "inject a 10.0.0.1|inject c 0.0.0.0|lookup c 10.0.0.1|drain";
+    let reading = read(rt.alloc(), "a|b|c", "a b 1 1", "10.0.0.0/8 b", script)?;
+    assert!(rt; reading.fault.is_none());
+    let commands = [
+        Command::Inject {
+            router: 0,
+            addr: 0x0a00_0001,
+        },
+        Command::Inject { router: 2, addr: 0 },
+        Command::Lookup {
+            router: 2,
+            addr: 0x0a00_0001,
+        },
+        Command::Drain,
+    ];
+    assert_eq!(rt; reading.script.commands.as_slice(), commands.as_slice());
+    Ok(())
+}
+
+#[test]
 fn texts(rt: HostRuntime) -> Result<(), Fail> {
     let reading = read(rt.alloc(), "a|b", "a b 1 1", "10.0.0.0/8 a|0.0.0.0/0 a", "")?;
     let script = reading.script;
@@ -281,5 +316,11 @@ fn texts(rt: HostRuntime) -> Result<(), Fail> {
     let missed = directory.lookup(0, 0, None);
     let got = format!(in rt.alloc(); "{missed}")?;
     assert_eq!(rt; got.as_str(), "lookup a 0.0.0.0: none");
+    let found = directory.packet(7, 1, 0x0a00_0001, Some((block, via)));
+    let got = format!(in rt.alloc(); "{found}")?;
+    assert_eq!(rt; got.as_str(), "packet 7 b 10.0.0.1: 10.0.0.0/8 via a 1");
+    let missed = directory.packet(u64::MAX, 0, 0, None);
+    let got = format!(in rt.alloc(); "{missed}")?;
+    assert_eq!(rt; got.as_str(), "packet 18446744073709551615 a 0.0.0.0: none");
     Ok(())
 }

@@ -1,14 +1,14 @@
 //! Journals that runs keep, and their replays.
 
 use crate::files::Source;
+use crate::host::Host;
 use crate::tests::{Outcome, played, run, scenario};
 use std::alloc::Global;
 use std::io;
-use std::sync::Wait;
 use std::test::Fail;
 use words::Words;
 
-const REPLAY: Words<'static> = Words::Replay {
+pub const REPLAY: Words<'static> = Words::Replay {
     file: "scenario.toml",
     journal: "journal.txt",
 };
@@ -39,7 +39,7 @@ fn two(alloc: Global, script: &str) -> Result<String, Fail> {
 }
 
 // Replays a journal of that network.
-fn replayed<H: Wait>(rt: &H, alloc: Global, journal: &[u8]) -> Result<Outcome, Fail> {
+fn replayed<H: Host>(rt: &H, alloc: Global, journal: &[u8]) -> Result<Outcome, Fail> {
     let text = two(alloc, "")?;
     played(rt, alloc, &REPLAY, text.as_bytes(), journal)
 }
@@ -110,7 +110,7 @@ fn keeps(rt: HostRuntime) -> Result<(), Fail> {
 }
 
 // Whether the replay of a journal of that network agrees after its nine steps.
-fn is_agreed<H: Wait>(rt: &H, alloc: Global, journal: &str) -> Result<bool, Fail> {
+fn is_agreed<H: Host>(rt: &H, alloc: Global, journal: &str) -> Result<bool, Fail> {
     let got = replayed(rt, alloc, journal.as_bytes())?;
     let agrees = got.out.as_str() == "replay agrees: 9 steps\n";
     Ok(agrees && got.err.is_empty() && got.kept.is_empty() && got.status == 0)
@@ -215,7 +215,7 @@ fn differs_from_the_first_line(rt: HostRuntime) -> Result<(), Fail> {
 }
 
 // The fault of a journal that is none.
-fn refused<H: Wait>(rt: &H, alloc: Global, journal: &[u8], fault: &str) -> Result<bool, Fail> {
+fn refused<H: Host>(rt: &H, alloc: Global, journal: &[u8], fault: &str) -> Result<bool, Fail> {
     let got = replayed(rt, alloc, journal)?;
     let line = format!(in alloc; "dualnet: {fault}\n")?;
     Ok(got.err == line && got.out.is_empty() && got.status == 1)

@@ -1,13 +1,13 @@
 //! Reports on networks, and the states of their machines.
 
+use crate::host::Host;
 use crate::tests::run;
 use std::alloc::Global;
-use std::sync::Wait;
 use std::test::Fail;
 
 // What a script prints, on routers a, b and c in a line whose links have these costs; a owns
 // 10.0.0.0/8.
-fn line<H: Wait>(rt: &H, alloc: Global, links: &str, script: &str) -> Result<String, Fail> {
+fn line<H: Host>(rt: &H, alloc: Global, links: &str, script: &str) -> Result<String, Fail> {
     let got = run(rt, alloc, "a|b|c", links, "10.0.0.0/8 a", script)?;
     if got.status != 0 {
         return Err("the run did not come to its end".into());

@@ -1,18 +1,18 @@
 //! Networks that settle, links that flap, and costs that change.
 
+use crate::host::Host;
 use crate::tests::run;
 use std::alloc::{AllocError, Global};
-use std::sync::Wait;
 use std::test::Fail;
 
 // Routers a and b, with one link at cost 5 each way; a owns 10.0.0.0/8.
-fn two<H: Wait>(rt: &H, alloc: Global, script: &str) -> Result<String, Fail> {
+fn two<H: Host>(rt: &H, alloc: Global, script: &str) -> Result<String, Fail> {
     printed(rt, alloc, "a|b", "a b 5 5", "10.0.0.0/8 a", script)
 }
 
 // Routers a, b and c, of which a owns 10.0.0.0/8, settled, with the link of a and c at a cost of 12
 // each way and the others at 1, or with it at 5.
-fn three<H: Wait>(rt: &H, alloc: Global, far: u8, script: &str) -> Result<String, Fail> {
+fn three<H: Host>(rt: &H, alloc: Global, far: u8, script: &str) -> Result<String, Fail> {
     let mut links = String::new(alloc);
     write!(&mut links, "a b 1 1|b c 1 1|a c {far} {far}")?;
     let mut all = String::new(alloc);
@@ -28,7 +28,7 @@ fn three<H: Wait>(rt: &H, alloc: Global, far: u8, script: &str) -> Result<String
 }
 
 // What a script prints that comes to its end.
-fn printed<H: Wait>(
+fn printed<H: Host>(
     rt: &H,
     alloc: Global,
     routers: &str,

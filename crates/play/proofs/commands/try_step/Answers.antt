@@ -1,6 +1,14 @@
-use Rattle.std.proofs.Common.{inr}
+use Rattle.std.proofs.Common.{OnErr, ◌≡◌, inr, subst}
+use Rattle.world.specs.Steps.{IsDoneOr}
+use Rattle.fabric.specs.Fabric.{fabric_refusal}
 use Rattle.play.proofs.Doing.{refused_for}
 use Rattle.play.proofs.commands.try_step.Goals as goal
 
 pub returns-in-Err : goal.returns-in-Err
-returns-in-Err g c = inr (c.in-Err.refusal, refused_for _ _ c.in-Err.ensures.cause, c.in-Err.ensures.err)
+returns-in-Err g c =
+    let cause = fabric_refusal c.args.fabric c.args.step in
+    inr (
+      c.in-Err.refusal,
+      refused_for cause c.in-Err.refusal (subst (λ r. IsDoneOr cause r) c.in-Err.is c.one_step-fabric.ensures.cause),
+      subst (λ r. OnErr r (c.one_step-fabric.result.0 ≡ c.args.fabric)) c.in-Err.is c.one_step-fabric.ensures.err,
+    )

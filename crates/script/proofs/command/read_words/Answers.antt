@@ -1,4 +1,4 @@
-use Rattle.std.proofs.Common.{◌∷◌, inl, inr, codes, sym, subst, ◌∙◌}
+use Rattle.std.proofs.Common.{◌∷◌, inl, codes, sym, subst, ◌∙◌}
 use Rattle.script.specs.declared.fault.Fault.TheVariants.{Prefix as OfPrefix}
 use Rattle.script.specs.Words.{words_of}
 use Rattle.script.specs.Commands.{AsksNothing}
@@ -6,20 +6,26 @@ use Rattle.script.proofs.Exits.{at_err}
 use Rattle.script.proofs.Splits.{words-some}
 use Rattle.script.proofs.StepTexts.{names_router, names_no_router, text_unique}
 use Rattle.script.proofs.OwnerTexts.{owned_by_test, strange}
-use Rattle.script.proofs.CommandTexts.{IsStrange, no_state, no_table, no_lookup, step_fault}
+use Rattle.script.proofs.CommandTexts.{IsStrange, no_state, no_table, lookup_fault, inject_fault, step_fault}
 use Rattle.script.proofs.command.read_words.Goals as goal
 
 pub returns-in_err-router-in-state-clause-err : goal.returns-in_err-router-in-state-clause-err
 returns-in_err-router-in-state-clause-err c =
     let none = c.in_err-router-in-state.ensures.err in
     at_err c.from_residual-in_err-router-in-state.result (AsksNothing c.args.names.now c.args.links.now c.args.owners.now (c.args.verb.now ∷ words_of c.args.operands.now)) c.in_err-router-in-state.field-0.0 c.from_residual-in_err-router-in-state.ensures.1
-    (rw (none.0, c.in-state.is) (no_state c.args.names.now c.args.links.now c.args.owners.now (words_of c.args.operands.now) (λ router text h. absurd (none.1 (codes "state") router text h))))
+    (rw (none.0, c.in-state.is) (no_state c.args.names.now c.args.links.now c.args.owners.now (words_of c.args.operands.now) (words-some c.args.operands.now) (λ router text h. absurd (none.1 (codes "state") router text h))))
 
 pub returns-in_err-router-in-lookup-clause-err : goal.returns-in_err-router-in-lookup-clause-err
 returns-in_err-router-in-lookup-clause-err c =
-    let none = c.in_err-router-in-lookup.ensures.err in
     at_err c.from_residual-in_err-router-in-lookup.result (AsksNothing c.args.names.now c.args.links.now c.args.owners.now (c.args.verb.now ∷ words_of c.args.operands.now)) c.in_err-router-in-lookup.field-0.0 c.from_residual-in_err-router-in-lookup.ensures.1
-    (rw (none.0, c.in-lookup.is) (no_lookup c.args.names.now c.args.links.now c.args.owners.now (words_of c.args.operands.now) (none.1 (codes "lookup"))))
+    (rw c.in-lookup.is (lookup_fault c.args.names.now c.args.links.now c.args.owners.now (words_of c.args.operands.now) (words-some c.args.operands.now)
+    c.in_err-router-in-lookup.field-0.0 (c.in_err-router-in-lookup.ensures.err (codes "lookup"))))
+
+pub returns-in_err-router-in-inject-clause-err : goal.returns-in_err-router-in-inject-clause-err
+returns-in_err-router-in-inject-clause-err c =
+    at_err c.from_residual-in_err-router-in-inject.result (AsksNothing c.args.names.now c.args.links.now c.args.owners.now (c.args.verb.now ∷ words_of c.args.operands.now)) c.in_err-router-in-inject.field-0.0 c.from_residual-in_err-router-in-inject.ensures.1
+    (rw c.in-inject.is (inject_fault c.args.names.now c.args.links.now c.args.owners.now (words_of c.args.operands.now) (words-some c.args.operands.now)
+    c.in_err-router-in-inject.field-0.0 (c.in_err-router-in-inject.ensures.err (codes "inject"))))
 
 pub returns-in_err-prefix-in-state-clause-err : goal.returns-in_err-prefix-in-state-clause-err
 returns-in_err-prefix-in-state-clause-err c =
@@ -31,28 +37,20 @@ returns-then-not-is_owned-clause-err c =
     let named = c.in_ok-router-in-state.ensures.ok (codes "state") in
     let fails = sym c.is_owned.ensures ∙ c.if-not-is_owned.true in
     let none = strange c.args.owners.now c.in_ok-prefix-in-state.prefix c.in_ok-router-in-state.prefix.now c.parse.result c.in_ok-prefix-in-state.was c.parse.ensures.every_prefix c.parse.ensures.every_fault fails in
-    rw c.in-state.is (no_state c.args.names.now c.args.links.now c.args.owners.now (words_of c.args.operands.now) (λ router text h.
+    rw c.in-state.is (no_state c.args.names.now c.args.links.now c.args.owners.now (words_of c.args.operands.now) (words-some c.args.operands.now) (λ router text h.
     subst (IsStrange c.args.owners.now) (text_unique c.args.names.now (codes "state") _ c.in_ok-router-in-state.router router c.in_ok-router-in-state.prefix.now text named h) none))
 
 pub returns-in_err-router-in-table-clause-err : goal.returns-in_err-router-in-table-clause-err
 returns-in_err-router-in-table-clause-err c =
     let none = c.in_err-router-in-table.ensures.err in
     at_err c.from_residual-in_err-router-in-table.result (AsksNothing c.args.names.now c.args.links.now c.args.owners.now (c.args.verb.now ∷ words_of c.args.operands.now)) c.in_err-router-in-table.field-0.0 c.from_residual-in_err-router-in-table.ensures.1
-    (rw (none.0, c.in-table.is) (no_table c.args.names.now c.args.links.now c.args.owners.now (words_of c.args.operands.now) (λ router h. names_no_router c.args.names.now (codes "table") c.args.operands.now router none.1 h)))
-
-pub returns-in_err-addr-in-lookup-clause-err : goal.returns-in_err-addr-in-lookup-clause-err
-returns-in_err-addr-in-lookup-clause-err c =
-    at_err c.from_residual-in_err-addr-in-lookup.result (AsksNothing c.args.names.now c.args.links.now c.args.owners.now (c.args.verb.now ∷ words_of c.args.operands.now)) (OfPrefix c.in_err-addr-in-lookup.field-0.0) c.from_residual-in_err-addr-in-lookup.ensures.1
-    (rw c.in-lookup.is (inr (
-      c.in_err-addr-in-lookup.ensures.bad_address,
-      (c.in_ok-router-in-lookup.router, c.in_ok-router-in-lookup.addr.now, c.in_ok-router-in-lookup.ensures.ok (codes "lookup"), c.in_err-addr-in-lookup.ensures.no_address),
-    )))
+    (rw (none.0, c.in-table.is) (no_table c.args.names.now c.args.links.now c.args.owners.now (words_of c.args.operands.now) (words-some c.args.operands.now) (λ router h. names_no_router c.args.names.now (codes "table") c.args.operands.now router none.1 h)))
 
 pub returns-in_err-step-in_default-clause-err : goal.returns-in_err-step-in_default-clause-err
 returns-in_err-step-in_default-clause-err c =
     at_err c.from_residual-in_err-step-in_default.result (AsksNothing c.args.names.now c.args.links.now c.args.owners.now (c.args.verb.now ∷ words_of c.args.operands.now)) c.in_err-step-in_default.field-0.0 c.from_residual-in_err-step-in_default.ensures.1
     (step_fault c.args.names.now c.args.links.now c.args.owners.now c.args.verb.now (words_of c.args.operands.now) (words-some c.args.operands.now)
-    c.in_default.not-try c.in_default.not-state c.in_default.not-table c.in_default.not-lookup c.in_err-step-in_default.field-0.0 c.in_err-step-in_default.ensures.err)
+    c.in_default.not-try c.in_default.not-state c.in_default.not-table c.in_default.not-lookup c.in_default.not-inject c.in_err-step-in_default.field-0.0 c.in_err-step-in_default.ensures.err)
 
 pub returns-else-not-is_owned-clause-ok : goal.returns-else-not-is_owned-clause-ok
 returns-else-not-is_owned-clause-ok c =
@@ -63,3 +61,9 @@ pub returns-in_ok-router-in-table-clause-ok : goal.returns-in_ok-router-in-table
 returns-in_ok-router-in-table-clause-ok c =
     let known = c.in_ok-router-in-table.ensures.ok in
     rw c.in-table.is (names_router c.args.names.now (codes "table") c.args.operands.now c.in_ok-router-in-table.router known.0 known.1)
+
+pub returns-in_ok-router-in-lookup-clause-ok : goal.returns-in_ok-router-in-lookup-clause-ok
+returns-in_ok-router-in-lookup-clause-ok c = rw c.in-lookup.is (c.in_ok-router-in-lookup.ensures.ok (codes "lookup"))
+
+pub returns-in_ok-router-in-inject-clause-ok : goal.returns-in_ok-router-in-inject-clause-ok
+returns-in_ok-router-in-inject-clause-ok c = rw c.in-inject.is (c.in_ok-router-in-inject.ensures.ok (codes "inject"))

@@ -1,0 +1,14 @@
+use Rattle.std.proofs.Common.{rules, length}
+use Rattle.publication.proofs.Places.{rest_all}
+use Rattle.fabric.specs.Writers.{IsPort}
+use Rattle.play.proofs.Dispatching.{first_each}
+use Rattle.play.proofs.dispatch.ports_of.Goals as goal
+
+pub loop-readers-preserved : goal.loop-readers-preserved
+loop-readers-preserved g c = (
+  tt,
+  tt,
+  search rules,
+  search rules,
+  rest_all (λ readers. IsPort (length g.B.Naming.books) readers.items) _ c.in-Some.readers _ c.in-Some.ensures.steps.0 c.loop-readers.invariant.4,
+)

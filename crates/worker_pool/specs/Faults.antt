@@ -1,0 +1,40 @@
+-- Which faults a call of a pool answers.
+use Rattle.std.specs.Prelude.{◌≡◌, ◌⊎◌, ⊤, List, Some}
+use Rattle.network_model.specs.declared.step.Refusal.{Refusal}
+use Rattle.publication.specs.declared.job.Job.{Job}
+use Rattle.forwarder.specs.Replies.{Replied}
+use Rattle.forwarder.specs.Gathering.{fault_of}
+use Rattle.worker_pool.specs.declared.fault.PoolFault.{PoolFault}
+use Rattle.worker_pool.specs.declared.fault.PoolFault.TheVariants.{NoThread, Memory, Closed, Refused, Gather}
+
+-- workers do not begin: there is no thread, or no memory
+abbrev pub IsBeginFault : PoolFault → Type 0
+IsBeginFault NoThread = ⊤
+IsBeginFault (Memory _) = ⊤
+IsBeginFault Closed = ⊥
+IsBeginFault (Refused _) = ⊥
+IsBeginFault (Gather _) = ⊥
+
+-- a job is not taken: there is no memory, or nobody takes it
+abbrev pub IsInjectFault : PoolFault → Type 0
+IsInjectFault NoThread = ⊥
+IsInjectFault (Memory _) = ⊤
+IsInjectFault Closed = ⊤
+IsInjectFault (Refused _) = ⊥
+IsInjectFault (Gather _) = ⊥
+
+-- there are no replies: there is no memory for them, or a worker was refused memory or had no image
+abbrev pub IsWorkFault : PoolFault → Type 0
+IsWorkFault NoThread = ⊥
+IsWorkFault (Memory _) = ⊤
+IsWorkFault Closed = ⊥
+IsWorkFault (Refused r) = (r ≡ Refusal.NoMemory) ⊎ (r ≡ Refusal.NoImage)
+IsWorkFault (Gather _) = ⊥
+
+-- jobs are not answered: there are no replies, or some whose fault it is that they are not those to the jobs
+abbrev pub IsDrainFault : {X : Type 0} → List (Job X) → PoolFault → Type 0
+IsDrainFault jobs NoThread = ⊥
+IsDrainFault jobs (Memory _) = ⊤
+IsDrainFault jobs Closed = ⊥
+IsDrainFault jobs (Refused r) = (r ≡ Refusal.NoMemory) ⊎ (r ≡ Refusal.NoImage)
+IsDrainFault {X} jobs (Gather g) = (rs : List (Replied X)) × (fault_of jobs rs ≡ Some g)

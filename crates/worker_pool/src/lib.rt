@@ -1,0 +1,12 @@
+//! Workers that answer jobs, each in a thread of its own.
+#![tactic(auto)]
+
+mod fault;
+mod pool;
+
+pub use fault::PoolFault;
+pub use forwarder::{ForwardPort, Job, Naming, Reply};
+pub use pool::WorkerPool;
+
+#[cfg(test)]
+mod tests;

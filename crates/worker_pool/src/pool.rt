@@ -1,0 +1,260 @@
+//! A pool of workers.
+
+ghost use Rattle.std.specs.Prelude.{◌≡◌, ◌≤◌, ◌⊎◌, ◌++◌, ◌∷◌, [], Err, true, All, count_by, map, IfErr, IfOk, MatchResult, vec_len};
+ghost use Rattle.std.specs.List.{list_any};
+ghost use Rattle.std.specs.List.Sorted.{IsStrictlyIncreasing};
+ghost use Rattle.std.specs.Vec.{vec_capacity};
+ghost use Rattle.network_model.specs.declared.step.Refusal.TheVariants.{NoMemory as OutOfMemory, NoImage as WithoutImage};
+ghost use Rattle.forwarder.specs.Gathering.{is_reply_to, number_of};
+ghost use Rattle.worker_pool.specs.declared.fault.PoolFault.TheVariants.{Closed as IsClosed};
+ghost use Rattle.worker_pool.specs.Faults.{IsBeginFault, IsInjectFault, IsWorkFault, IsDrainFault};
+
+use crate::fault::PoolFault;
+use forwarder::{ForwardPort, Job, JobGate, Naming, Reply, Worked, gather, work};
+use network_model::{NoMemory, Refusal};
+use packet_queue::{Injector, PacketQueue, Taker};
+use std::alloc::Global;
+use std::marker::Model;
+use std::sync::Wait;
+use std::thread;
+use std::thread::{Promise, PromisedHandle, Threads};
+
+/// Workers that take jobs from one queue, each in a thread of its own. It is not `Drop`: end it by
+/// `drain` or `end`, which wait for every thread. Contracts see how many workers there are, and the
+/// jobs that they were given, in order.
+pub struct WorkerPool<B: Naming> {
+    injector: Injector<B>,
+    running: Vec<Running<B>>,
+    jobs: Vec<Job<B>>,
+    // Room for the workers' ports.
+    ports: Vec<ForwardPort<B>>,
+}
+
+impl<B: Naming> Model for WorkerPool<B> {
+    ghost use Rattle.std.specs.Prelude.{◌≡◌, ◌≤◌, [], vec_len};
+    ghost use Rattle.std.specs.Vec.{vec_capacity};
+    ghost use Rattle.worker_pool.specs.Crews.{Crew};
+
+    ghost Value = { Crew B };
+
+    ghost view = { λ p. record { workers = vec_len p.running; jobs = p.jobs.items } };
+
+    ghost invariant = { λ p. (p.ports.items ≡ []) × (vec_len p.running ≤ vec_capacity p.ports) };
+}
+
+// Nobody watches the jobs of workers.
+struct Unwatched;
+
+impl JobGate for Unwatched {
+    fn before(&self, _job: u64) {}
+
+    fn after(&self, _job: u64) {}
+}
+
+// A worker that is refused tells why.
+#[derive(Drop)]
+struct TellsWhy;
+
+impl<B: Naming> Promise<Worked<B>> for TellsWhy {
+    ghost use Rattle.std.specs.Prelude.{◌≡◌, ◌⊎◌, IfErr};
+    ghost use Rattle.network_model.specs.declared.step.Refusal.TheVariants.{NoMemory as OutOfMemory, NoImage as WithoutImage};
+
+    ghost kept_by = { λ _ w. IfErr w.replies (λ e. (e ≡ OutOfMemory) ⊎ (e ≡ WithoutImage)) };
+}
+
+type Running<B> = PromisedHandle<Worked<B>, TellsWhy>;
+
+// Begins a worker.
+fn begin<B, R>(
+    rt: R,
+    alloc: Global,
+    port: ForwardPort<B>,
+    taker: Taker<B>,
+) -> Result<Running<B>, PoolFault>
+where
+    B: Naming + Send + Sync + 'static,
+    R: Threads + Wait + Copy + Send + 'static,
+    ensures { IfErr result IsBeginFault }
+{
+    let worker = move || work(&rt, alloc, port, taker, &Unwatched);
+    match thread::spawn_with(&rt, TellsWhy, worker) {
+        Ok(handle) => Ok(handle),
+        Err(_) => Err(PoolFault::NoThread),
+    }
+}
+
+// Waits for workers whom nobody gives a job any more, and puts their ports into the room for them.
+fn end_all<B: Naming, R: Threads>(
+    rt: &R,
+    injector: Injector<B>,
+    running: Vec<Running<B>>,
+    room: Vec<ForwardPort<B>>,
+) -> Vec<ForwardPort<B>>
+    requires empty { room.items ≡ [] }
+    requires fits { vec_len running ≤ vec_capacity room }
+    ensures { vec_len result ≡ vec_len running }
+{
+    drop(injector);
+    let (mut running, mut ports) = (running, room);
+    while let Some(handle) = running.pop() {
+        ports.push_reserved(handle.join(rt).port);
+    }
+    ports
+}
+
+impl<B: Naming + Send + Sync + 'static> WorkerPool<B> {
+    /// Begins a worker for each port, at most 16; there may be none. Refused with `NoThread` where there
+    /// is no thread for one of them, or with `Memory`: it has waited for those that it began, and their
+    /// ports are let go.
+    pub fn new<R>(
+        rt: R,
+        alloc: Global,
+        ports: Vec<ForwardPort<B>>,
+    ) -> Result<WorkerPool<B>, PoolFault>
+    where
+        R: Threads + Wait + Copy + Send + 'static,
+        requires few { vec_len ports ≤ 16 }
+        ensures jobs { IfOk result (λ p. p.jobs ≡ []) }
+        ensures workers { IfOk result (λ p. p.workers ≡ vec_len ports) }
+        ensures err { IfErr result IsBeginFault }
+    {
+        let (injector, takers) = PacketQueue::new::<B>(alloc, ports.len() as u8)?;
+        let Ok(mut running) = Vec::with_capacity(alloc, ports.len()) else {
+            return Err(PoolFault::Memory(NoMemory));
+        };
+        let Ok(room) = Vec::with_capacity(alloc, ports.len()) else {
+            return Err(PoolFault::Memory(NoMemory));
+        };
+        let (mut ports, mut takers) = (ports, takers);
+        while let Some(port) = ports.pop() {
+            let Some(taker) = takers.pop() else {
+                unreachable!()
+            };
+            match begin(rt, alloc, port, taker) {
+                Ok(handle) => running.push_reserved(handle),
+                Err(fault) => {
+                    drop(end_all(&rt, injector, running, room));
+                    return Err(fault);
+                }
+            }
+        }
+        Ok(WorkerPool {
+            injector,
+            running,
+            jobs: Vec::new(alloc),
+            ports: room,
+        })
+    }
+}
+
+impl<B: Naming> WorkerPool<B> {
+    /// Gives the workers a job. It waits where 64 jobs wait already. Refused with `Closed` where there
+    /// are no workers, or the queue hands the job back, or with `Memory`.
+    pub fn inject<R: Wait>(&mut self, rt: &R, job: Job<B>) -> Result<(), PoolFault>
+        ensures jobs { MatchResult result
+            (λ _. (self.new).jobs ≡ (self.old).jobs ++ job ∷ [])
+            (λ _. (self.new).jobs ≡ (self.old).jobs) }
+        ensures workers { (self.new).workers ≡ (self.old).workers }
+        ensures none { (self.old).workers ≡ 0 → result ≡ Err IsClosed }
+        ensures err { IfErr result IsInjectFault }
+    {
+        if self.running.is_empty() {
+            return Err(PoolFault::Closed);
+        }
+        if self.jobs.reserve(1).is_err() {
+            return Err(PoolFault::Memory(NoMemory));
+        }
+        let kept = job.again();
+        if self.injector.inject(rt, job).is_err() {
+            return Err(PoolFault::Closed);
+        }
+        self.jobs.push_reserved(kept);
+        Ok(())
+    }
+
+    /// Waits until the workers have answered all jobs and ended. Gives their ports back, and for each
+    /// job the one reply to it, in order of the jobs' numbers. Refused with `Memory`; with `Refused`,
+    /// where a worker was refused memory or had no image; or with `Gather`.
+    pub fn drain<R: Threads + Wait>(
+        self,
+        rt: &R,
+        alloc: Global,
+    ) -> (Vec<ForwardPort<B>>, Result<Vec<Reply<B>>, PoolFault>)
+        ensures ports { vec_len result.0 ≡ self.workers }
+        ensures order { IfOk result.1 (λ rs. IsStrictlyIncreasing (map number_of rs.items)) }
+        ensures each { IfOk result.1 (λ rs. All (λ j. count_by (is_reply_to j) rs.items ≡ 1) self.jobs) }
+        ensures only { IfOk result.1 (λ rs. All (λ r. list_any (λ j. is_reply_to j r) self.jobs ≡ true) rs.items) }
+        ensures fault { IfErr result.1 (IsDrainFault self.jobs) }
+    {
+        let WorkerPool {
+            mut injector,
+            mut running,
+            jobs,
+            mut ports,
+        } = self;
+        let _ = injector.stop(rt);
+        drop(injector);
+        let mut replies = Ok(Vec::new(alloc));
+        while let Some(handle) = running.pop() {
+            let Worked {
+                port,
+                taker: _,
+                replies: own,
+            } = handle.join(rt);
+            ports.push_reserved(port);
+            replies = with_replies(replies, own);
+        }
+        (ports, gathered(&jobs, replies))
+    }
+
+    /// Waits until the workers have ended, and lets their replies go. They answer the jobs that wait
+    /// first. Gives their ports back; it takes no memory.
+    pub fn end<R: Threads>(self, rt: &R) -> Vec<ForwardPort<B>>
+        ensures { vec_len result ≡ self.workers }
+    {
+        let WorkerPool {
+            injector,
+            running,
+            jobs: _,
+            ports,
+        } = self;
+        end_all(rt, injector, running, ports)
+    }
+}
+
+// The replies with those of one worker more.
+fn with_replies<B: Naming>(
+    replies: Result<Vec<Reply<B>>, PoolFault>,
+    own: Result<Vec<Reply<B>>, Refusal>,
+) -> Result<Vec<Reply<B>>, PoolFault>
+    requires so_far { IfErr replies IsWorkFault }
+    requires own { IfErr own (λ e. (e ≡ OutOfMemory) ⊎ (e ≡ WithoutImage)) }
+    ensures { IfErr result IsWorkFault }
+{
+    let mut replies = replies?;
+    let mut own = match own {
+        Ok(own) => own,
+        Err(refusal) => return Err(PoolFault::Refused(refusal)),
+    };
+    match replies.append(&mut own) {
+        Ok(()) => Ok(replies),
+        Err(_) => Err(PoolFault::Memory(NoMemory)),
+    }
+}
+
+// The replies to these jobs, in order.
+fn gathered<B: Naming>(
+    jobs: &[Job<B>],
+    replies: Result<Vec<Reply<B>>, PoolFault>,
+) -> Result<Vec<Reply<B>>, PoolFault>
+    requires { IfErr replies IsWorkFault }
+    ensures order { IfOk result (λ rs. IsStrictlyIncreasing (map number_of rs.items)) }
+    ensures each { IfOk result (λ rs. All (λ j. count_by (is_reply_to j) rs.items ≡ 1) jobs.now) }
+    ensures only { IfOk result (λ rs. All (λ r. list_any (λ j. is_reply_to j r) jobs.now ≡ true) rs.items) }
+    ensures fault { IfErr result (IsDrainFault jobs.now) }
+{
+    match gather(jobs, replies?) {
+        Ok(replies) => Ok(replies),
+        Err(fault) => Err(PoolFault::Gather(fault)),
+    }
+}
