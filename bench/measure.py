@@ -1,6 +1,6 @@
 #!/usr/bin/env python3
 """Runs the networks of a folder by the program and by the model, and prints how fast each was; then
-replays the journals that the program writes.
+replays the journals that the program writes, and runs the networks by several control threads.
 
     python3 bench/measure.py PROGRAM FOLDER RUNS
 
@@ -17,6 +17,7 @@ from tempfile import NamedTemporaryFile
 from typing import NamedTuple
 
 NETWORKS = ["grid", "line", "flap"]
+THREADS = [1, 2, 4]
 GNU_TIME = "/usr/bin/time"
 MODEL = [sys.executable, str(Path(__file__).with_name("model.py"))]
 
@@ -90,6 +91,17 @@ def main(words: list[str]) -> None:
         size = journal.stat().st_size / 2**20
         rate = written.steps() / replayed.seconds
         print(f"{name:7} {size:7.1f} {written.seconds:9.3f} {replayed.seconds:9.3f} {rate:10,.0f}")
+    print(f"{'network':7} {'threads':>7} {'steps':>9} {'seconds':>9} {'steps/s':>10} {'ratio':>6}")
+    for name in NETWORKS:
+        scenario, alone = folder / f"{name}.toml", 0.0
+        for threads in THREADS:
+            one = fastest(runs, program, "run", scenario, "--threads", str(threads))
+            rate = one.steps() / one.seconds
+            alone = alone or rate
+            print(
+                f"{name:7} {threads:7} {one.steps():9,} {one.seconds:9.3f} {rate:10,.0f} {rate / alone:6.2f}",
+                flush=True,
+            )
 
 
 if __name__ == "__main__":

@@ -3,7 +3,7 @@
 //! end as it should.
 #![tactic(auto)]
 
-mod scenario;
+mod random;
 
 ghost use Rattle.std.specs.Prelude.{◌≡◌, ◌↔◌};
 
@@ -24,7 +24,7 @@ fn main(rt: HostRuntime) -> ExitCode {
     let _ = writeln!(&mut out, "seed {seed}");
     let mut good = 0u32;
     for number in 0..count {
-        match scenario::random(rt.alloc(), seed.wrapping_add(u64::from(number))) {
+        match random::draw(rt.alloc(), seed.wrapping_add(u64::from(number))) {
             Ok(text) => match tried(&rt, rt.alloc(), text.as_bytes()) {
                 true => good = good.saturating_add(1),
                 false => {

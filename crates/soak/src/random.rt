@@ -48,7 +48,7 @@ impl Dice {
 
 /// The text of the scenario of this seed: 3 to 8 routers, links between half of all pairs, 2 to 5
 /// prefixes, and 200 commands, none of which ends the run.
-pub fn random(alloc: Global, seed: u64) -> Result<String, AllocError> {
+pub fn draw(alloc: Global, seed: u64) -> Result<String, AllocError> {
     let mut dice = Dice { state: seed };
     let mut text = String::new(alloc);
     let routers = 3 + dice.below(6);
