@@ -5,7 +5,7 @@
 
 mod random;
 
-ghost use Rattle.std.specs.Prelude.{◌≡◌, ◌↔◌};
+ghost use Rattle.std.specs.Prelude.{◌≡◌, ◌↔◌, true};
 
 use play::{Host, Source, play};
 use std::alloc::Global;
