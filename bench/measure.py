@@ -23,9 +23,10 @@ MODEL = [sys.executable, str(Path(__file__).with_name("model.py"))]
 
 
 class Run(NamedTuple):
-    """What a process printed, how long it took, and its memory."""
+    """What a process printed, also to its standard error, how long it took, and its memory."""
 
     output: str
+    errors: str
     seconds: float
     kibibytes: int | None
 
@@ -40,11 +41,12 @@ def run(*words: str | Path) -> Run:
         if has_memory:
             command = [GNU_TIME, "-f", "%M", "-o", memory.name, *command]
         start = time.perf_counter()
-        process = subprocess.run(command, stdout=subprocess.PIPE, text=True)
+        process = subprocess.run(command, capture_output=True, text=True)
         seconds = time.perf_counter() - start
         if process.returncode != 0:
-            sys.exit(f"{' '.join(command)}: status {process.returncode}")
-        return Run(process.stdout, seconds, int(memory.read()) if has_memory else None)
+            sys.exit(f"{' '.join(command)}: status {process.returncode}\n{process.stderr}")
+        peak = int(memory.read()) if has_memory else None
+        return Run(process.stdout, process.stderr, seconds, peak)
 
 
 def fastest(runs: int, *words: str | Path) -> Run:

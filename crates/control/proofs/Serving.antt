@@ -10,6 +10,7 @@ use Rattle.network_model.specs.Step.{Lawful, next}
 use Rattle.network_model.specs.Run.{Runs}
 use Rattle.network_model.specs.Journal.{Fits, journal_sum, step_code, step_number}
 use Rattle.network_model.proofs.JournalLaws.{packed_below, step_number_injective}
+use Rattle.world.proofs.Headline.{runs-append}
 use Rattle.fabric.specs.Fabric.{Fabric, after_step, fabric_of}
 use Rattle.fabric.specs.Images.{images_in_force}
 use Rattle.control.specs.Served.{AreTurns, IsServed, IsTurnAt, images_after}
@@ -32,10 +33,6 @@ served_none opened asked = record {
 turns-append : (asked : Step → Bool) (w : World) (ss : List Step) (v : World) (ts : List Step) → AreTurns asked w ss → Runs w ss v → AreTurns asked v ts → AreTurns asked w (ss ++ ts)
 turns-append asked w [] v ts turns runs later = subst (λ x. AreTurns asked x ts) (sym runs) later
 turns-append asked w (s ∷ ss) v ts turns runs later = (turns.0, turns-append asked (next w s) ss v ts turns.1 runs.1 later)
-
-runs-append : (w : World) (ss : List Step) (v : World) (ts : List Step) (u : World) → Runs w ss v → Runs v ts u → Runs w (ss ++ ts) u
-runs-append w [] v ts u runs later = subst (λ x. Runs x ts u) (sym runs) later
-runs-append w (s ∷ ss) v ts u runs later = (runs.0, runs-append (next w s) ss v ts u runs.1 later)
 
 fit-append : (ss ts : List Step) → AllByRecursion Fits ss → AllByRecursion Fits ts → AllByRecursion Fits (ss ++ ts)
 fit-append [] ts fit later = later

@@ -29,7 +29,7 @@ sum_alone f (x ∷ []) y one = omega arith
 sum_alone f (x ∷ z ∷ xs) y one = absurd (omega (arith, one))
 
 -- why a step was refused
-refused_for : (cause : Option Refusal) (e : Refusal) → IsDoneOr {X = ⊤} cause (Err e) → CanBeRefused cause e
+pub refused_for : (cause : Option Refusal) (e : Refusal) → IsDoneOr {X = ⊤} cause (Err e) → CanBeRefused cause e
 refused_for None e h = h
 refused_for (Some c) e h = let inner : ◌≡◌ {A = Result ⊤ Refusal} (Err e) (Err c) = h in cc
 

@@ -11,7 +11,8 @@ use Rattle.network_model.specs.Turns.{next_step}
 use Rattle.network_model.specs.Journal.{Fits, journal_sum}
 use Rattle.network_model.specs.Publication.{Image}
 use Rattle.world.specs.Steps.{CanBeRefused}
-use Rattle.fabric.specs.Fabric.{Fabric, fabric_refusal}
+use Rattle.fabric.specs.Fabric.{Fabric, fabric_refusal, ForwardsAsPublished}
+use Rattle.fabric.specs.Headline.{NeverMeetsTwice, LeadsAtLeastCost}
 use Rattle.fabric.specs.Images.{images_in_force}
 
 -- a fabric of no routers
@@ -55,12 +56,19 @@ pub record IsServed (opened : Fabric) (asked : Step → Bool) (fabric : Fabric) 
   pub fit : AllByRecursion Fits extra
   pub images : fabric.images ≡ images_after opened extra fabric.world
 
+-- its images in force answer by longest match over what the routers published, no packet circles along them, and at quiet they lead along least-cost walks
+pub record HasHeadline (fabric : Fabric) : Type 0 where
+  pub forwards : ForwardsAsPublished fabric
+  pub no_loop : NeverMeetsTwice fabric
+  pub least_cost : LeadsAtLeastCost fabric
+
 -- a fabric that the holder of a share of this sum can have found under the lock: its journal counts what the share does, and where there is no other share, nothing else
 pub record IsFound (opened : Fabric) (asked : Step → Bool) (shares sum : ℕ) (fabric : Fabric) : Type 0 where
   pub served : IsServed opened asked fabric
   pub counted : sum ≤ journal_sum fabric.journal
   pub alone : shares ≡ 1 → journal_sum fabric.journal ≡ sum
   pub routers : length fabric.world.routers ≡ (opened.network).routers
+  pub headline : HasHeadline fabric
 
 -- on the way from the fabric that was opened, the step that some router had to do next was refused
 pub record IsTurnRefused (opened : Fabric) (asked : Step → Bool) (e : Refusal) : Type 0 where

@@ -8,7 +8,7 @@ ghost use Rattle.world.specs.Steps.{IsDoneOr};
 ghost use Rattle.publication.specs.Lists.{image_of};
 ghost use Rattle.fabric.specs.Fabric.{Fabric as FabricState, fabric_refusal};
 ghost use Rattle.control.specs.Names.{IsNamed};
-ghost use Rattle.control.specs.Served.{IsFound, IsServed, IsTurn};
+ghost use Rattle.control.specs.Served.{HasHeadline, IsFound, IsServed, IsTurn};
 ghost use Rattle.control.specs.Shares.{IsHolder, AreNew};
 
 use crate::desk::{Control, Guarded, Halt, High, Low, Naming, Opening, Share};
@@ -194,14 +194,14 @@ impl<B: publication::Naming, N: Naming> Control<B, N> {
         ensures asked { IfOk result (λ j. (j.number ≡ number) × (j.told.router ≡ router) × (j.addr ≡ addr)) }
         ensures known { IsOk result ↔ (router < (N.opened.network).routers) }
         ensures err { IfErr result (λ e. e ≡ Refusal.UnknownRouter) }
-        ensures in_force { (f : FabricState) × IsServed N.opened N.asked f × IfOk result (λ j. slice_get f.images router ≡ Some (image_of B.openings j.told)) }
+        ensures in_force { (f : FabricState) × IsServed N.opened N.asked f × HasHeadline f × IfOk result (λ j. slice_get f.images router ≡ Some (image_of B.openings j.told)) }
     {
         self.desk.lock(rt).job(number, router, addr)
     }
 
     /// Whether nothing is left to do.
     pub fn is_settled<R: Wait>(&self, rt: &R) -> bool
-        ensures { (f : FabricState) × IsServed N.opened N.asked f × (result ≡ turns.is_settled f.world) }
+        ensures { (f : FabricState) × IsServed N.opened N.asked f × HasHeadline f × (result ≡ turns.is_settled f.world) }
     {
         self.desk.lock(rt).is_settled()
     }

@@ -92,8 +92,8 @@ impl<B: publication::Naming, N: Naming> Model for Guarded<B, N> {
     ghost invariant = { λ g. (g.high.total * 2 ^ 64 + g.low.total ≡ journal_sum g.fabric.journal) × IsServed N.opened N.asked g.fabric };
 }
 
-/// Why the last `serve` of a holder ended before the fabric was settled: the refusal of a turn of
-/// its, if one was refused. Contracts see it as that.
+/// Why the last `serve` of a holder ended before the fabric was settled: the refusal of one of
+/// its turns, if one was refused. Contracts see it as that.
 #[derive(Drop)]
 pub struct Halt<N: Naming> {
     refusal: Option<Refusal>,

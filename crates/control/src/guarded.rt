@@ -7,7 +7,7 @@ ghost use Rattle.network_model.specs.Turns as turns;
 ghost use Rattle.world.specs.Steps.{IsDoneOr};
 ghost use Rattle.publication.specs.Lists.{image_of};
 ghost use Rattle.fabric.specs.Fabric.{after_step, fabric_refusal};
-ghost use Rattle.control.specs.Served.{IsFound, IsServed, IsTurn, IsTurnAt};
+ghost use Rattle.control.specs.Served.{HasHeadline, IsFound, IsServed, IsTurn, IsTurnAt};
 ghost use Rattle.control.specs.Shares.{IsHolder};
 
 use crate::desk::{Guarded, High, Low, Naming, Share};
@@ -49,6 +49,7 @@ impl<B: publication::Naming, N: Naming> Guarded<B, N> {
             low: own_low,
         } = share;
         let _network = fabric.network();
+        fabric.holds();
         high.audit(own_high);
         low.audit(own_low);
         fabric.step(rt, step)?;
@@ -87,20 +88,24 @@ impl<B: publication::Naming, N: Naming> Guarded<B, N> {
     /// An address to look up at a router, in an image no older than the one in force now.
     pub fn job(&self, number: u64, router: u16, addr: u32) -> Result<Job<B>, Refusal>
         ensures served { IsServed N.opened N.asked self.now }
+        ensures headline { HasHeadline self.now }
         ensures asked { IfOk result (λ j. (j.number ≡ number) × (j.told.router ≡ router) × (j.addr ≡ addr)) }
         ensures in_force { IfOk result (λ j. slice_get (self.now).images router ≡ Some (image_of B.openings j.told)) }
         ensures known { IsOk result ↔ (router < (N.opened.network).routers) }
         ensures err { IfErr result (λ e. e ≡ Refusal.UnknownRouter) }
     {
         let _network = self.fabric.network();
+        self.fabric.holds();
         self.fabric.job(number, router, addr)
     }
 
     /// Whether nothing is left to do.
     pub fn is_settled(&self) -> bool
         ensures served { IsServed N.opened N.asked self.now }
+        ensures headline { HasHeadline self.now }
         ensures settled { result ≡ turns.is_settled (self.now).world }
     {
+        self.fabric.holds();
         self.fabric.is_settled()
     }
 
@@ -120,6 +125,7 @@ impl<B: publication::Naming, N: Naming> Guarded<B, N> {
         ensures holder { IsHolder share.old share.new }
     {
         let _network = self.fabric.network();
+        self.fabric.holds();
         self.high.audit(&mut share.high);
         self.low.audit(&mut share.low);
     }

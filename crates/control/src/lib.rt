@@ -14,6 +14,3 @@ pub use desk::{Control, Naming, Opening, Share};
 pub use network_model::{Refusal, Step};
 pub use rounds::settle;
 pub use serve::TurnGate;
-
-#[cfg(test)]
-mod tests;

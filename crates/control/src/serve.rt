@@ -1,11 +1,13 @@
 //! Threads that take turns.
 
 ghost use Rattle.std.specs.Prelude.{◌≡◌, ◌+◌, ◌<◌, ◌≤◌, nat_lt, if◌then◌else◌, Some, None, IfErr, vec_len};
-ghost use Rattle.control.specs.Served.{IsTurnRefused};
+ghost use Rattle.network_model.specs.Turns as turns;
+ghost use Rattle.fabric.specs.Fabric.{Fabric as FabricState};
+ghost use Rattle.control.specs.Served.{IsFound, IsServed, IsTurn, IsTurnRefused};
 ghost use Rattle.control.specs.Shares.{IsHolder, AreSameHolders};
 
 use crate::desk::{Control, Halt, Naming, Share};
-use network_model::Refusal;
+use network_model::{Refusal, Step};
 use std::sync::Wait;
 use std::sync::atomic::{AtomicBool, Ordering};
 use std::thread;
@@ -58,6 +60,22 @@ impl<B: publication::Naming + Send + Sync, N: Naming + Send + Sync> Control<B, N
         Rota { threads, routers }
     }
 
+    // A turn, and whether the fabric is settled after it, under one lock.
+    fn turn_and_look<R: Wait>(
+        &self,
+        rt: &R,
+        router: u16,
+        share: &mut Share<N>,
+    ) -> (Result<Option<Step>, Refusal>, bool)
+        ensures holder { IsHolder share.old share.new }
+        ensures turn { (f : FabricState) × IsFound N.opened N.asked N.shares share.old.sum f × IsTurn f router result.0 }
+        ensures settled { (f : FabricState) × IsServed N.opened N.asked f × (result.1 ≡ turns.is_settled f.world) }
+    {
+        let mut guarded = self.desk.lock(rt);
+        let done = guarded.turn(rt, router, share);
+        (done, guarded.is_settled())
+    }
+
     // The turns of the thread that has the share at this place.
     fn serve_one<R: Wait, G: TurnGate>(
         &self,
@@ -77,13 +95,15 @@ impl<B: publication::Naming + Send + Sync, N: Naming + Send + Sync> Control<B, N
         };
         let mut router = u16::from(thread);
         let mut turn: u64 = 1;
+        let mut settled = self.is_settled(rt);
         for _ in rt.forever() {
-            if stop.load(Ordering::SeqCst) || self.is_settled(rt) {
+            if settled || stop.load(Ordering::SeqCst) {
                 break;
             }
             gate.before(thread, turn);
-            let done = self.turn(rt, router, share);
+            let (done, at_rest) = self.turn_and_look(rt, router, share);
             gate.after(thread, turn);
+            settled = at_rest;
             turn = turn.saturating_add(1);
             if let Err(refusal) = done {
                 share.halt = Halt::at(refusal);

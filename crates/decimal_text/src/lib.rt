@@ -4,6 +4,3 @@
 mod number;
 
 pub use number::read_number;
-
-#[cfg(test)]
-mod tests;

@@ -45,8 +45,6 @@
 mod origin;
 mod port_set;
 mod replies;
-#[cfg(test)]
-mod tests;
 
 pub use origin::Origin;
 pub use port_set::PortSet;

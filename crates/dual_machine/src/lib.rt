@@ -6,8 +6,6 @@ mod events;
 mod machine;
 mod mode;
 mod sends;
-#[cfg(test)]
-mod tests;
 
 pub use diffusing_replies::{Debt, Origin, PortSet};
 pub use machine::Machine;

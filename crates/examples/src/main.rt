@@ -4,11 +4,11 @@
 
 ghost use Rattle.std.specs.Prelude.{◌≡◌};
 
-use play::{Host, Source, play};
-use std::alloc::Global;
-use std::io::{Read, Write};
+use play::Host;
+use std::fs;
+use std::io::{self, Write};
 use std::process::ExitCode;
-use std::{fs, io};
+use trial::{Outcome, asked, played};
 use words::Words;
 
 // The scenarios, without the ends of their names.
@@ -70,9 +70,8 @@ fn tried<H: Host>(rt: &HostRuntime, wait: &H, name: &str) -> io::Result<Verdict>
         workers: 1,
         journal: None,
     };
-    let missing: Source<io::Empty> = Source::Missing;
     let file = fs::open(rt, scenario.as_str())?;
-    let ran = played(wait, alloc, &run, file, missing);
+    let ran = asked(wait, alloc, &run, file);
     let replay = Words::Replay {
         file: scenario.as_str(),
         journal: "",
@@ -94,28 +93,4 @@ fn judge(ran: &Outcome, wanted: &[u8], replayed: &Outcome) -> Verdict
         return Verdict::IsNotReplayed;
     }
     Verdict::IsAsItShouldBe
-}
-
-// What the program gave.
-#[derive(Drop)]
-struct Outcome {
-    status: u8,
-    out: Vec<u8>,
-    kept: Vec<u8>,
-}
-
-fn played<H: Host, R: Read + Drop, J: Read + Drop>(
-    wait: &H,
-    alloc: Global,
-    words: &Words<'_>,
-    scenario: R,
-    journal: J,
-) -> Outcome {
-    let mut out = Vec::new(alloc);
-    let mut err = Vec::new(alloc);
-    let mut kept = Vec::new(alloc);
-    let status = play(
-        wait, alloc, words, scenario, journal, &mut out, &mut err, &mut kept,
-    );
-    Outcome { status, out, kept }
 }

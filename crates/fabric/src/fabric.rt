@@ -273,8 +273,11 @@ impl<B: Naming> Fabric<B> {
         }
     }
 
-    // What holds of every fabric, for the clauses of its callers.
-    fn holds(&self)
+    /// It does nothing. What holds of every fabric, for whoever has one: each image in force answers
+    /// every address with the longest match over the rows that its router published; no packet that is
+    /// matched by one prefix at every hop meets a router twice; and where all is quiet, rows lead along
+    /// least-cost walks.
+    pub fn holds(&self)
         ensures forwards { ForwardsAsPublished self.now }
         ensures no_loop { NeverMeetsTwice self.now }
         ensures least_cost { LeadsAtLeastCost self.now }

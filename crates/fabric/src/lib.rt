@@ -10,6 +10,3 @@ pub use fabric::{Fabric, MOST_STEPS};
 pub use network_model::{Answer, Entry, Prefix, Refusal, Step};
 pub use publication::{ImageReader, Job, Naming, Unnamed};
 pub use world::{Network, Ran, World};
-
-#[cfg(test)]
-mod tests;

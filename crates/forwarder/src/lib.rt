@@ -11,6 +11,3 @@ pub use port::ForwardPort;
 pub use publication::{Answer, ImageReader, Job, Naming, NoImage};
 pub use reply::Reply;
 pub use worker::{JobGate, Worked, work};
-
-#[cfg(test)]
-mod tests;

@@ -19,6 +19,3 @@ pub fn compile(alloc: Global, table: &RouteTable) -> Result<Image, NoMemory>
     }
     Ok(image)
 }
-
-#[cfg(test)]
-mod tests;

@@ -35,6 +35,3 @@ impl Apply for Image {
         Ok(())
     }
 }
-
-#[cfg(test)]
-mod tests;

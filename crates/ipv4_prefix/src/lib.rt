@@ -8,6 +8,3 @@ mod prefix;
 pub use addr::{Addr, parse_addr};
 pub use fault::PrefixFault;
 pub use prefix::Prefix;
-
-#[cfg(test)]
-mod tests;

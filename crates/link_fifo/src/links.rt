@@ -206,6 +206,3 @@ impl Links {
             .ok_or(LinkRefusal::NothingToDeliver)
     }
 }
-
-#[cfg(test)]
-mod tests;

@@ -8,6 +8,3 @@ mod kind;
 pub use cost::{BadCost, Cost};
 pub use distance::Distance;
 pub use kind::Kind;
-
-#[cfg(test)]
-mod tests;

@@ -204,6 +204,3 @@ impl<T: Copy> Pool<T> {
         Ok(to)
     }
 }
-
-#[cfg(test)]
-mod tests;

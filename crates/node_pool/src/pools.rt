@@ -100,6 +100,3 @@ impl<N: Copy, R: Copy> NodePool<N, R> {
         }
     }
 }
-
-#[cfg(test)]
-mod tests;

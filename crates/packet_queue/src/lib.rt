@@ -16,6 +16,3 @@ pub use network_model::NoMemory;
 pub use opening::PacketQueue;
 pub use publication::{Job, Naming};
 pub use reckoning::reckon;
-
-#[cfg(test)]
-mod tests;

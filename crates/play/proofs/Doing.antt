@@ -6,6 +6,7 @@ use Rattle.network_model.specs.declared.step.Refusal.{Refusal}
 use Rattle.network_model.specs.declared.step.Refusal.TheVariants.{NoMemory}
 use Rattle.world.specs.Steps.{CanBeRefused, IsDoneOr}
 use Rattle.fabric.specs.Fabric.{Fabric}
+use Rattle.control.proofs.Sharing.{refused_for}
 use Rattle.control.specs.Served.{IsServed, IsTurnRefused, none_asked}
 use Rattle.script.specs.declared.command.Command.{Command}
 use Rattle.play.specs.declared.fault.Cause.{Cause}
@@ -17,11 +18,6 @@ use Rattle.play.specs.Commands.{IsDone, AreDone}
 pub one_done : (cs : List Command) (c : Command) (f g h : Fabric) → AreDone cs f g → IsDone c g h → AreDone (cs ++ c ∷ []) f h
 one_done [] c f g h same is = (h, subst (λ (k : Fabric). IsDone c k h) same is, refl)
 one_done (d ∷ cs) c f g h done is = (done.0, done.1, one_done cs c done.0 g h done.2 is)
-
--- why a step was refused that was not done
-pub refused_for : (cause : Option Refusal) (e : Refusal) → IsDoneOr {X = ⊤} cause (Err e) → CanBeRefused cause e
-refused_for None e memory = memory
-refused_for (Some c) e same = let inner : ◌≡◌ {A = Result ⊤ Refusal} (Err e) (Err c) = same in cc
 
 -- what is refused leaves all as it was
 pub step_refused : (cause : Option Refusal) (r : Result ⊤ Refusal) (f g : Fabric) → IsDoneOr cause r → OnErr r (g ≡ f) → IfErr r (λ e. CanBeRefused cause e × (g ≡ f))

@@ -4,7 +4,7 @@ use Rattle.ipv4_prefix.specs.Prefix.{Prefix}
 use Rattle.network_model.specs.declared.route.Entry.{Entry}
 use Rattle.network_model.specs.declared.step.Step.{Step as NetworkStep}
 use Rattle.network_model.specs.declared.step.Refusal.{Refusal}
-use Rattle.network_model.specs.declared.step.Refusal.TheVariants.{UnknownRouter, Stale, NoImage}
+use Rattle.network_model.specs.declared.step.Refusal.TheVariants.{UnknownRouter, NoMemory, Stale, NoImage}
 use Rattle.network_model.specs.Step.{Lawful}
 use Rattle.world.specs.Steps.{CanBeRefused}
 use Rattle.fabric.specs.Fabric.{Fabric, after_step, fabric_refusal}
@@ -12,7 +12,7 @@ use Rattle.fabric.specs.Images.{answer_at}
 use Rattle.script.specs.Words.{Text}
 use Rattle.script.specs.Directories.{Directory, row_text}
 use Rattle.script.specs.declared.command.Command.{Command}
-use Rattle.script.specs.declared.command.Command.TheVariants.{Step, Try, Settle, State, Table, Lookup, Inject, Drain, Report}
+use Rattle.script.specs.declared.command.Command.TheVariants.{Step, Try, Settle, State, Table, Lookup, Inject, Trace, Drain, Report}
 use Rattle.script.specs.declared.place.Key.TheVariants.{Script}
 use Rattle.play.specs.declared.fault.Cause.{Cause}
 use Rattle.play.specs.declared.fault.Fault.{Fault}
@@ -40,6 +40,7 @@ IsDone (State router prefix) f g = g ≡ f
 IsDone (Table router) f g = g ≡ f
 IsDone (Lookup router addr) f g = g ≡ f
 IsDone (Inject router addr) f g = g ≡ f
+IsDone (Trace router addr) f g = g ≡ f
 IsDone Drain f g = g ≡ f
 IsDone Report f g = g ≡ f
 
@@ -47,7 +48,11 @@ IsDone Report f g = g ≡ f
 abbrev pub unknown_router : Fabric → ℕ → Option Refusal
 unknown_router f router = if nat_lt router (length f.world.routers) then None else Some UnknownRouter
 
--- a command that is refused: a step for its cause, in a network that settles the step that comes next, and a command on a router where there is no such router; a look-up also where the reader shows a later image, or none; a job or a drain for what the workers do not do
+-- why a packet is not traced: there is no such router; or want of memory, or a reader that shows a later image, or none
+abbrev pub CannotTrace : Fabric → ℕ → Refusal → Type 0
+CannotTrace f router e = MatchOption (unknown_router f router) ((e ≡ NoMemory) ⊎ (e ≡ Stale) ⊎ (e ≡ NoImage)) (λ cause. e ≡ cause)
+
+-- a command that is refused: a step for its cause, in a network that settles the step that comes next, and a command on a router where there is no such router; a look-up and a trace also where the reader shows a later image, or none, and a trace for want of memory; a job or a drain for what the workers do not do
 abbrev pub IsRefused : Command → Fabric → Fabric → Cause → Type 0
 IsRefused (Step s) f g cause = OfRefusal (CanBeRefused (fabric_refusal f s)) cause × (g ≡ f)
 IsRefused (Try s) f g cause = ⊥
@@ -56,6 +61,7 @@ IsRefused (State router prefix) f g cause = OfRefusal (CanBeRefused (unknown_rou
 IsRefused (Table router) f g cause = OfRefusal (CanBeRefused (unknown_router f router)) cause × (g ≡ f)
 IsRefused (Lookup router addr) f g cause = OfRefusal (λ e. MatchOption (answer_at f.world router addr) (e ≡ UnknownRouter) (λ _. (e ≡ Stale) ⊎ (e ≡ NoImage))) cause × (g ≡ f)
 IsRefused (Inject router addr) f g cause = CannotInject (unknown_router f router) cause × (g ≡ f)
+IsRefused (Trace router addr) f g cause = OfRefusal (CannotTrace f router) cause × (g ≡ f)
 IsRefused Drain f g cause = OfWorkers (λ e. ⊤) cause × (g ≡ f)
 IsRefused Report f g cause = ⊥
 

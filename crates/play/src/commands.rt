@@ -19,6 +19,7 @@ use std::alloc::Global;
 use std::io;
 use std::io::Write;
 use std::sync::Wait;
+use tracer::trace;
 
 /// Does the commands in order, up to the first that is refused; so many threads settle the network.
 /// Their steps make a run of lawful steps.
@@ -101,6 +102,9 @@ where
             let done = dispatcher.inject(*rt, alloc, &fabric, router, addr);
             (fabric, done)
         }
+        Command::Trace { router, addr } => {
+            show_trace(alloc, fabric, directory, router, addr, out)
+        }
         Command::Drain => (fabric, drain(rt, alloc, dispatcher, directory, out)),
         Command::Report => {
             let _ = print_report(&fabric, directory, out);
@@ -162,6 +166,28 @@ fn look_up<B: Naming, W: Write>(
             (fabric, Ok(()))
         }
         Err(refusal) => (fabric, Err(Cause::Refused(refusal))),
+    }
+}
+
+// Traces a packet along the images in force, and prints its way. What it prints may be lost.
+fn show_trace<B: Naming, W: Write>(
+    alloc: Global,
+    fabric: Fabric<B>,
+    directory: &Directory,
+    router: u16,
+    addr: u32,
+    out: &mut W,
+) -> (Fabric<B>, Result<(), Cause>)
+    ensures ok { OnOk result.1 (IsDone (Command.Trace router addr) fabric result.0) }
+    ensures err { IfErr result.1 (IsRefused (Command.Trace router addr) fabric result.0) }
+{
+    let mut fabric = fabric;
+    match trace(&mut fabric, alloc, router, addr) {
+        Ok(traced) => {
+            let _ = writeln!(out, "{}", directory.trace(router, addr, &traced));
+            (fabric, Ok(()))
+        }
+        Err(fault) => (fabric, Err(Cause::Refused(Refusal::from(fault)))),
     }
 }
 

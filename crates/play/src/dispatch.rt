@@ -1,6 +1,6 @@
 //! Jobs of a script, which workers answer.
 
-ghost use Rattle.std.specs.Prelude.{◌≡◌, ◌≤◌, ◌++◌, ◌∷◌, [], true, All, IfOk, IfErr, OnOk, count_by, length, map, vec_len};
+ghost use Rattle.std.specs.Prelude.{◌≡◌, ◌≤◌, ◌++◌, ◌∷◌, [], true, All, IfOk, IfErr, OnErr, OnOk, count_by, length, map, vec_len};
 ghost use Rattle.std.specs.List.{list_any};
 ghost use Rattle.std.specs.List.Sorted.{IsStrictlyIncreasing};
 ghost use Rattle.std.specs.Io.KnownBytes.{Appends};
@@ -60,7 +60,7 @@ impl<B: Naming + Send + Sync + 'static> Dispatcher<B> {
     }
 
     /// Gives the workers the next job: to look the address up at the router, in an image no older than
-    /// the one in force now. Jobs are numbered from 1. Refused, it gives no job.
+    /// the one in force now. Jobs are numbered from 1. Refused, it gives no job, and takes no number.
     pub fn inject<H: Host>(
         &mut self,
         rt: H,
@@ -71,6 +71,7 @@ impl<B: Naming + Send + Sync + 'static> Dispatcher<B> {
     ) -> Result<(), Cause>
         ensures ok { OnOk result ((job : _) × IsNextJob B.openings (fabric.now).images self.old.last router addr job
             × (self.new.jobs ≡ self.old.jobs ++ job ∷ []) × (self.new.last ≡ job.number)) }
+        ensures refused { OnErr result ((self.new.jobs ≡ self.old.jobs) × (self.new.last ≡ self.old.last)) }
         ensures err { IfErr result (CannotInject (unknown_router fabric.now router)) }
     {
         let job = fabric.job(self.last.saturating_add(1), router, addr)?;
@@ -90,6 +91,7 @@ impl<B: Naming + Send + Sync + 'static> Dispatcher<B> {
     fn begun<H: Host>(&mut self, rt: H, alloc: Global) -> Result<WorkerPool<B>, PoolFault>
         ensures jobs { IfOk result (λ p. p.jobs ≡ self.old.jobs) }
         ensures few { IfOk result (λ p. p.workers ≤ 16) }
+        ensures refused { OnErr result (self.new.jobs ≡ self.old.jobs) }
         ensures err { IfErr result IsBeginFault }
         ensures last { self.new.last ≡ self.old.last }
     {
@@ -119,25 +121,27 @@ impl<B: Naming + Send + Sync + 'static> Dispatcher<B> {
         self.at_rest = ports;
         replies
     }
-}
 
-impl<B: Naming + Send + Sync + 'static> Dispatcher<B> {
-    /// Waits until the workers have answered all jobs, as `drain` does, and lets their replies and
+    /// Waits until the workers have answered all jobs, answers their replies as `drain` does, and lets
     /// their ports go.
-    pub fn close<H: Host>(self, rt: &H, alloc: Global) -> Result<(), PoolFault>
-        ensures { IfErr result (IsDrainFault self.jobs) }
+    pub fn close<H: Host>(self, rt: &H, alloc: Global) -> Result<Vec<Reply<B>>, PoolFault>
+        ensures order { IfOk result (λ rs. IsStrictlyIncreasing (map number_of rs.items)) }
+        ensures each { IfOk result (λ rs. All (λ j. count_by (is_reply_to j) rs.items ≡ 1) self.jobs) }
+        ensures only { IfOk result (λ rs. All (λ r. list_any (λ j. is_reply_to j r) self.jobs ≡ true) rs.items) }
+        ensures fault { IfErr result (IsDrainFault self.jobs) }
     {
+        let mut drained = self;
+        let replies = drained.drain(rt, alloc);
         let Dispatcher {
             at_rest: _,
             pool,
             last: _,
-        } = self;
-        let Some(pool) = pool else {
-            return Ok(());
-        };
-        let (_ports, replies) = pool.drain(rt, alloc);
-        let _replies = replies?;
-        Ok(())
+        } = drained;
+        // There are none, since they were drained.
+        if let Some(others) = pool {
+            drop(others.end(rt));
+        }
+        replies
     }
 }
 

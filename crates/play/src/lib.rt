@@ -13,8 +13,6 @@ mod program;
 mod read;
 mod replay;
 mod report;
-#[cfg(test)]
-mod tests;
 
 pub use fault::{Cause, Fault};
 pub use files::Source;

@@ -18,6 +18,3 @@ pub use network_model::{Answer, Entry, NoMemory, Prefix};
 pub use reader::{ImageReader, NoImage, ReadGate};
 pub use writer::{ImageWriter, OpenFault, open};
 pub use writers::{close_all, open_all};
-
-#[cfg(test)]
-mod tests;

@@ -112,6 +112,3 @@ impl Gate {
         self.ripe
     }
 }
-
-#[cfg(test)]
-mod tests;

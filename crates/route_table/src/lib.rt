@@ -9,6 +9,3 @@ mod table;
 pub use iter::{ChangedRows, ControlRows, PublishedRows};
 pub use network_model::{Entry, NoMemory, Prefix};
 pub use table::RouteTable;
-
-#[cfg(test)]
-mod tests;

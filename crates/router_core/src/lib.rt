@@ -7,6 +7,3 @@ mod router;
 
 pub use network_model::{Entry, Held, Item, Message, NoMemory, Port, Prefix};
 pub use router::Router;
-
-#[cfg(test)]
-mod tests;

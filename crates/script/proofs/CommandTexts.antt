@@ -68,6 +68,7 @@ module _ (names : List Text) (links : List LinkSpec) (owners : List (Prefix × �
       commands (Command.Table router) h = table router h
       commands (Command.Lookup router addr) h = address _ (0, omega arith, refl) router h.0 h.1
       commands (Command.Inject router addr) h = address _ (1, omega arith, refl) router h.0 h.1
+      commands (Command.Trace router addr) h = address _ (2, omega arith, refl) router h.0 h.1
       commands Command.Drain h = single _ h
       commands Command.Report h = single _ h
 
@@ -114,14 +115,17 @@ module _ (names : List Text) (links : List LinkSpec) (owners : List (Prefix × �
     pub inject_fault : (fault : Fault) → NamesNoAddress names (codes "inject") (codes "inject" ∷ rest) fault → AsksNothing names links owners (codes "inject" ∷ rest) fault
     inject_fault = address_fault _ (1, omega arith, refl) (no_verb names links _ rest refl refl refl refl refl refl) refl refl refl
 
+    pub trace_fault : (fault : Fault) → NamesNoAddress names (codes "trace") (codes "trace" ∷ rest) fault → AsksNothing names links owners (codes "trace" ∷ rest) fault
+    trace_fault = address_fault _ (2, omega arith, refl) (no_verb names links _ rest refl refl refl refl refl refl) refl refl refl
+
   -- a fault of the step that a line asks for, where its first word is the verb of no other command
   module _ (verb : Text) (rest : List Text) (some : rest ≢ [])
-      (tried : verb ≢ codes "try") (state : verb ≢ codes "state") (table : verb ≢ codes "table") (lookup : verb ≢ codes "lookup") (inject : verb ≢ codes "inject") where
+      (tried : verb ≢ codes "try") (state : verb ≢ codes "state") (table : verb ≢ codes "table") (lookup : verb ≢ codes "lookup") (inject : verb ≢ codes "inject") (trace : verb ≢ codes "trace") where
     no_step_command : AsksNoStep names links (verb ∷ rest) BadCommand → AsksNothing names links owners (verb ∷ rest) BadCommand
     no_step_command none =
         no_command verb rest some none (λ after e. absurd (tried (first_same _ _ _ _ e)))
         (λ router text h. absurd (state (first_same _ _ _ _ h.spelled))) (λ router h. table (first_same _ _ _ _ h.spelled))
-        (other_verb names verb rest (All-cons (λ w. verb ≢ w) _ (codes "inject" ∷ []) lookup (All-cons (λ w. verb ≢ w) _ [] inject (All-nil (λ w. verb ≢ w)))))
+        (other_verb names verb rest (All-cons (λ w. verb ≢ w) _ (codes "inject" ∷ codes "trace" ∷ []) lookup (All-cons (λ w. verb ≢ w) _ (codes "trace" ∷ []) inject (All-cons (λ w. verb ≢ w) _ [] trace (All-nil (λ w. verb ≢ w))))))
 
     pub step_fault : (fault : Fault) → AsksNoStep names links (verb ∷ rest) fault → AsksNothing names links owners (verb ∷ rest) fault
     step_fault BadName h = h

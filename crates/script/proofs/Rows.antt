@@ -7,11 +7,12 @@ use Rattle.network_model.specs.declared.route.Entry.TheVariants.{Local, Via}
 use Rattle.network_model.specs.declared.step.Step.TheVariants.{LinkUp, SetCost, Deliver, Publish}
 use Rattle.script.specs.declared.command.Command.{Command}
 use Rattle.script.specs.declared.fault.Fault.TheVariants.{BadCost}
+use Rattle.packet_trace.specs.declared.End.{End}
 use Rattle.script.specs.Words.{Text, words_of}
 use Rattle.script.specs.Routers.{number_of}
 use Rattle.script.specs.Links.{end_of, IsLink}
 use Rattle.script.specs.Commands.{link_between, IsPortOn, IsCommand, IsCommandFault}
-use Rattle.script.specs.Directories.{Directory, neighbours_of, directory_of, lookup_text, packet_text}
+use Rattle.script.specs.Directories.{Directory, neighbours_of, directory_of, lookup_text, packet_text, trace_text}
 
 four_words : words_of (codes "a b 1 20") ≡ codes "a" ∷ codes "b" ∷ codes "1" ∷ codes "20" ∷ []
 four_words = refl
@@ -110,6 +111,14 @@ asks_inject = (
   (omega arith, refl),
 )
 
+asks_trace : IsCommand names links owners (codes "trace c 10.0.0.1") (Command.Trace 2 167772161)
+unfolding digits
+asks_trace = (
+  codes "10.0.0.1",
+  record { name = codes "c"; spelled = refl; has_text = λ e. cc; known = refl },
+  (omega arith, refl),
+)
+
 asks_drain : IsCommand names links owners (codes "drain") Command.Drain
 asks_drain = refl
 
@@ -139,3 +148,11 @@ packet_found = refl
 packet_missed : packet_text directory 12 0 0 None ≡ codes "packet 12 a 0.0.0.0: none"
 unfolding digits
 packet_missed = refl
+
+trace_lost : trace_text directory 2 167772161 (2 ∷ 1 ∷ []) End.DeadLink ≡ codes "trace c 10.0.0.1: c b dead link"
+unfolding digits
+trace_lost = refl
+
+trace_missed : trace_text directory 0 0 (0 ∷ []) End.NoRoute ≡ codes "trace a 0.0.0.0: a no route"
+unfolding digits
+trace_missed = refl

@@ -132,6 +132,7 @@ Asks names links owners words (Command.State router prefix) =
 Asks names links owners words (Command.Table router) = NamesRouter names (codes "table") words router
 Asks names links owners words (Command.Lookup router addr) = NamesAddress names (codes "lookup") words router addr
 Asks names links owners words (Command.Inject router addr) = NamesAddress names (codes "inject") words router addr
+Asks names links owners words (Command.Trace router addr) = NamesAddress names (codes "trace") words router addr
 Asks names links owners words Command.Drain = words ≡ codes "drain" ∷ []
 Asks names links owners words Command.Report = words ≡ codes "report" ∷ []
 
@@ -145,7 +146,7 @@ AsksBadState names words fault = (router : ℕ) × (text : Text) × NamesText na
 
 -- the verbs of the commands that name a router and an address
 abbrev pub address_verbs : List Text
-address_verbs = codes "lookup" ∷ codes "inject" ∷ []
+address_verbs = codes "lookup" ∷ codes "inject" ∷ codes "trace" ∷ []
 
 -- the words ask for a command that names an address, but what stands in its place is none
 abbrev pub AsksBadAddress : List Text → List Text → Type 0

@@ -1,6 +1,6 @@
 -- Who stands at the other end of each port, and the texts that name routers.
 use Rattle.std.specs.Prelude.{ℕ, ◌==◌, if◌then◌else◌, List, ◌++◌, map, Option, Some, None, option_map, filter_map, length, min, slice_get, option_and_then, unwrap_or, codes, decimal}
-use Rattle.std.specs.List.{range_with_len}
+use Rattle.std.specs.List.{flat_map, range_with_len}
 use Rattle.ipv4_prefix.specs.Prefix.{Prefix}
 use Rattle.ipv4_prefix.specs.Texts.{address_text, prefix_text}
 use Rattle.network_model.specs.declared.network.End.{End}
@@ -10,6 +10,7 @@ use Rattle.network_model.specs.declared.network.Place.{Place}
 use Rattle.network_model.specs.declared.route.Entry.{Entry}
 use Rattle.network_model.specs.declared.route.Entry.TheVariants.{Local, Via, Unreachable}
 use Rattle.network_model.specs.World.{other, places_from}
+use Rattle.packet_trace.specs.declared.End.{End as Ending}
 use Rattle.script.specs.Words.{Text}
 use Rattle.script.specs.Routers.{no_router}
 
@@ -73,3 +74,19 @@ lookup_text d router addr found = codes "lookup " ++ answer_text d router addr f
 -- what a worker's job of this number found
 abbrev pub packet_text : Directory → ℕ → ℕ → ℕ → Option (Prefix × Entry) → Text
 packet_text d number router addr found = codes "packet " ++ decimal number ++ codes " " ++ answer_text d router addr found
+
+-- the names of routers, each with a space behind it
+abbrev pub path_text : Directory → List ℕ → Text
+path_text d path = flat_map (λ i. name_text d (Some i) ++ codes " ") path
+
+-- why a trace ends
+abbrev pub end_text : Ending → Text
+end_text Ending.Delivered = codes "delivered"
+end_text Ending.NoRoute = codes "no route"
+end_text Ending.Unreachable = codes "unreachable"
+end_text Ending.DeadLink = codes "dead link"
+end_text Ending.Crossed = codes "crossed"
+
+-- the trace of a packet for an address from a router: the routers that it passes, and why it ends
+abbrev pub trace_text : Directory → ℕ → ℕ → List ℕ → Ending → Text
+trace_text d router addr path end = codes "trace " ++ name_text d (Some router) ++ codes " " ++ address_text addr ++ codes ": " ++ path_text d path ++ end_text end

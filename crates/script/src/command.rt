@@ -33,6 +33,8 @@ pub enum Command {
     Lookup { router: u16, addr: u32 },
     /// Give the address to the workers, to look up at the router.
     Inject { router: u16, addr: u32 },
+    /// Print the way of a packet for the address from the router.
+    Trace { router: u16, addr: u32 },
     /// Wait for the workers, and print their answers.
     Drain,
     /// Print all links, routers and machines.
@@ -67,9 +69,9 @@ pub(crate) fn read_commands(
 }
 
 /// The command that a line says: a step, `try STEP`, `settle`, `state A PREFIX`, `table A`,
-/// `lookup A ADDR`, `inject A ADDR`, `drain` or `report`. A `BadCommand` comes before the fault of a
-/// cost, a prefix or an address, but a prefix that the scenario does not have is a `BadCommand` after
-/// all others.
+/// `lookup A ADDR`, `inject A ADDR`, `trace A ADDR`, `drain` or `report`. A `BadCommand` comes before
+/// the fault of a cost, a prefix or an address, but a prefix that the scenario does not have is a
+/// `BadCommand` after all others.
 pub(crate) fn read_command(
     names: &Names,
     links: &[LinkSpec],
@@ -138,6 +140,10 @@ fn read_words(
         "inject" => {
             let (router, addr) = read_addr(names, operands)?;
             Ok(Command::Inject { router, addr })
+        }
+        "trace" => {
+            let (router, addr) = read_addr(names, operands)?;
+            Ok(Command::Trace { router, addr })
         }
         _ => {
             let step = read_step(names, links, verb, operands)?;

@@ -11,8 +11,7 @@ mod owner;
 mod place;
 mod reading;
 mod step;
-#[cfg(test)]
-mod tests;
+mod tracing;
 mod words;
 
 pub use command::Command;
@@ -23,3 +22,4 @@ pub use names::Names;
 pub use place::{Key, Located, Place};
 pub use reading::{Reading, Script, read_script};
 pub use step::parse_step;
+pub use tracing::TraceText;

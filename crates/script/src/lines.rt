@@ -249,6 +249,3 @@ impl fmt::Display for Line<'_> {
         }
     }
 }
-
-#[cfg(test)]
-mod tests;

@@ -1,17 +1,21 @@
-//! Runs random scenarios by several control threads and forwarding workers, and replays the journal of
-//! each: `soak [SEED [COUNT]]`. It prints the seed first, and the text of each scenario that does not
-//! end as it should.
+//! Runs random scenarios by several control threads and forwarding workers, replays the journal of
+//! each, and traces packets after each of its steps: `soak [SEED [COUNT]]`. It prints the seed first,
+//! and the text of each scenario that does not end as it should.
 #![tactic(auto)]
 
 mod random;
+mod traces;
 
 ghost use Rattle.std.specs.Prelude.{◌≡◌, ◌↔◌, true};
 
-use play::{Host, Source, play};
-use std::alloc::Global;
-use std::io::{Read, Write};
+use crate::random::Scenario;
+use crate::traces::{PART, are_straight, step_lines, traced};
+use play::Host;
+use std::alloc::{AllocError, Global};
+use std::env;
+use std::io::Write;
 use std::process::ExitCode;
-use std::{env, io};
+use trial::played;
 use words::Words;
 
 const THREADS: u8 = 4;
@@ -25,10 +29,10 @@ fn main(rt: HostRuntime) -> ExitCode {
     let mut good = 0u32;
     for number in 0..count {
         match random::draw(rt.alloc(), seed.wrapping_add(u64::from(number))) {
-            Ok(text) => match tried(&rt, rt.alloc(), text.as_bytes()) {
-                true => good = good.saturating_add(1),
-                false => {
-                    let _ = write!(&mut out, "scenario {number}:\n{text}");
+            Ok(scenario) => match tried(&rt, rt.alloc(), &scenario) {
+                Ok(true) => good = good.saturating_add(1),
+                _ => {
+                    let _ = write!(&mut out, "scenario {number}:\n{}", scenario.text);
                 }
             },
             Err(_) => {
@@ -38,7 +42,7 @@ fn main(rt: HostRuntime) -> ExitCode {
     }
     let _ = writeln!(
         &mut out,
-        "{good} of {count} run by {THREADS} threads and {WORKERS} workers, and replayed"
+        "{good} of {count} run by {THREADS} threads and {WORKERS} workers, replayed and traced"
     );
     ExitCode::from(if good == count { 0 } else { 1 })
 }
@@ -59,44 +63,69 @@ fn asked(rt: &HostRuntime) -> (u64, u32) {
     numbers
 }
 
-// Whether a scenario is run to its end, and what its journal tells is done again.
-fn tried<H: Host>(rt: &H, alloc: Global, scenario: &[u8]) -> bool {
-    let run = Words::Run {
+// Whether a scenario is run to its end, what its journal tells is done again, and no packet that is
+// traced after a step of it meets a router twice.
+fn tried<H: Host>(rt: &H, alloc: Global, scenario: &Scenario) -> Result<bool, AllocError> {
+    let words = Words::Run {
         file: "",
         threads: THREADS,
         workers: WORKERS,
         journal: None,
     };
-    let replay = Words::Replay {
+    let text = scenario.text.as_bytes();
+    let ran = trial::asked(rt, alloc, &words, text);
+    let words = Words::Replay {
         file: "",
         journal: "",
     };
-    let mut kept = Vec::new(alloc);
-    let missing: Source<io::Empty> = Source::Missing;
-    let ran = status(rt, alloc, &run, scenario, missing, &mut kept);
-    let journal = kept.as_slice();
-    let replayed = status(rt, alloc, &replay, scenario, journal, &mut Vec::new(alloc));
-    is_good(ran, replayed)
+    let replayed = played(rt, alloc, &words, text, ran.kept.as_slice());
+    let straight = is_straight(rt, alloc, scenario, &ran.kept)?;
+    Ok(is_good(ran.status, replayed.status, straight))
 }
 
-fn is_good(ran: u8, replayed: u8) -> bool
-    ensures { result ≡ true ↔ (ran ≡ 0) × (replayed ≡ 0) }
-{
-    ran == 0 && replayed == 0
-}
-
-// How the program ends, whatever it prints.
-fn status<H: Host, J: Read + Drop>(
+// Whether the steps of a journal are done again with traces after each, none of which meets a router
+// twice.
+fn is_straight<H: Host>(
     rt: &H,
     alloc: Global,
-    words: &Words<'_>,
-    scenario: &[u8],
-    journal: J,
-    kept: &mut Vec<u8>,
-) -> u8 {
-    let mut out = Vec::new(alloc);
-    let mut err = Vec::new(alloc);
-    play(
-        rt, alloc, words, scenario, journal, &mut out, &mut err, kept,
-    )
+    scenario: &Scenario,
+    journal: &[u8],
+) -> Result<bool, AllocError> {
+    let Ok(journal) = str::from_utf8(journal) else {
+        return Ok(false);
+    };
+    let Some(steps) = step_lines(journal) else {
+        return Ok(false);
+    };
+    let last = steps.lines().count().saturating_sub(1) / PART;
+    for part in 0..=last {
+        let Some(text) = traced(alloc, scenario, steps, part)? else {
+            return Ok(false);
+        };
+        if !is_run_straight(rt, alloc, &text) {
+            return Ok(false);
+        }
+    }
+    Ok(true)
+}
+
+// Whether a script comes to its end, and prints traces, none of which meets a router twice.
+fn is_run_straight<H: Host>(rt: &H, alloc: Global, text: &str) -> bool {
+    let words = Words::Run {
+        file: "",
+        threads: 1,
+        workers: 1,
+        journal: None,
+    };
+    let ran = trial::asked(rt, alloc, &words, text.as_bytes());
+    let Ok(out) = str::from_utf8(&ran.out) else {
+        return false;
+    };
+    ran.status == 0 && are_straight(out)
+}
+
+fn is_good(ran: u8, replayed: u8, straight: bool) -> bool
+    ensures { result ≡ true ↔ (ran ≡ 0) × (replayed ≡ 0) × (straight ≡ true) }
+{
+    ran == 0 && replayed == 0 && straight
 }

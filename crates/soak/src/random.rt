@@ -5,7 +5,7 @@ ghost use Rattle.std.specs.Prelude.{◌<◌, ◌≤◌};
 use std::alloc::{AllocError, Global};
 
 // Names of routers.
-const NAMES: [&str; 8] = ["a", "b", "c", "d", "e", "f", "g", "h"];
+pub const NAMES: [&str; 8] = ["a", "b", "c", "d", "e", "f", "g", "h"];
 
 // Prefixes that nest, and one beside them.
 const PREFIXES: [&str; 5] = [
@@ -17,7 +17,7 @@ const PREFIXES: [&str; 5] = [
 ];
 
 // An address in each of them.
-const ADDRESSES: [&str; 5] = [
+pub const ADDRESSES: [&str; 5] = [
     "10.9.9.9",
     "10.1.9.9",
     "10.1.2.9",
@@ -46,9 +46,17 @@ impl Dice {
     }
 }
 
-/// The text of the scenario of this seed: 3 to 8 routers, links between half of all pairs, 2 to 5
-/// prefixes, and 200 commands, none of which ends the run.
-pub fn draw(alloc: Global, seed: u64) -> Result<String, AllocError> {
+/// A scenario of so many routers.
+#[derive(Drop)]
+pub struct Scenario {
+    pub text: String,
+    pub routers: u8,
+    ghost few: { routers ≤ 8 },
+}
+
+/// The scenario of this seed: 3 to 8 routers, links between half of all pairs, 2 to 5 prefixes, and
+/// 200 commands, none of which ends the run.
+pub fn draw(alloc: Global, seed: u64) -> Result<Scenario, AllocError> {
     let mut dice = Dice { state: seed };
     let mut text = String::new(alloc);
     let routers = 3 + dice.below(6);
@@ -68,7 +76,10 @@ pub fn draw(alloc: Global, seed: u64) -> Result<String, AllocError> {
         command(&mut dice, routers, &links, &mut text)?;
     }
     text.push_str("]\n")?;
-    Ok(text)
+    Ok(Scenario {
+        text,
+        routers: routers as u8,
+    })
 }
 
 // Links between about half of all pairs of routers, at costs of 1 to 9, and the names of their ends.

@@ -9,6 +9,3 @@ mod tree;
 pub use image::Image;
 pub use network_model::{Entry, Prefix};
 pub use tree::Visits;
-
-#[cfg(test)]
-mod tests;

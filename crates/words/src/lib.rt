@@ -3,8 +3,6 @@
 
 mod commands;
 mod status;
-#[cfg(test)]
-mod tests;
 mod words;
 
 pub use clap::Error;

@@ -7,6 +7,3 @@ mod pool;
 pub use fault::PoolFault;
 pub use forwarder::{ForwardPort, Job, Naming, Reply};
 pub use pool::WorkerPool;
-
-#[cfg(test)]
-mod tests;

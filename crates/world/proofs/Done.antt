@@ -34,6 +34,11 @@ pub no_cause : {C T : Type 0} (A : Type 0) (o : Option C) (x : T) → MatchOptio
 no_cause A None x done = refl
 no_cause A (Some e) x done = absurd (true≢false (ap is_ok done))
 
+-- what is refused for its cause alone has one
+pub only_cause : (T : Type 0) {C : Type 0} (o : Option C) (e : C) → MatchOption o (false ≡ true) (λ (x : C). ◌≡◌ {A = Result T C} (Err e) (Err x)) → o ≡ Some e
+only_cause T None e none = absurd (true≢false (sym none))
+only_cause T {C} (Some x) e same = let inner : ◌≡◌ {A = Result T C} (Err e) (Err x) = same in cc
+
 -- the tests fail alike, whatever the causes are named
 none_of_two : {C D : Type 0} (x y : C) (u v : D) (a b : Bool) → first_cause ((a, x) ∷ (b, y) ∷ []) ≡ None → first_cause ((a, u) ∷ (b, v) ∷ []) ≡ None
 none_of_two x y u v true b none = absurd (None_not_Some (sym none))

@@ -2,6 +2,7 @@ pub mod Inboxes
 pub mod Steps
 pub mod Openings
 pub mod Faults
+pub mod Headline
 pub mod Degrees
 pub mod Done
 pub mod Ranges

@@ -1,3 +1,4 @@
+pub mod Headline
 pub mod Kept
 pub mod Parts
 pub mod Steps

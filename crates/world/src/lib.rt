@@ -8,6 +8,3 @@ mod world;
 pub use network::{MOST_LINKS, MOST_PORTS, MOST_PREFIXES, MOST_ROUTERS, Network};
 pub use network_model::{LinkSpec, NetworkFault, Place, Prefix, Refusal, Step};
 pub use world::{Ran, World};
-
-#[cfg(test)]
-mod tests;

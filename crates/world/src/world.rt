@@ -9,6 +9,7 @@ ghost use Rattle.network_model.specs.Step.{refusal};
 ghost use Rattle.network_model.specs.Run.{Runs};
 ghost use Rattle.network_model.specs.Turns as turns;
 ghost use Rattle.world.specs.Steps.{IsDoneOr, HasRoomForSteps, IsPort, port_refusal, StopsAt};
+ghost use Rattle.world.specs.Headline.{IsReached, IsSound};
 ghost use Rattle.world.specs.Waiting.{is_waiting, waiting_port};
 
 use crate::network::Network;
@@ -165,6 +166,8 @@ impl World {
         ensures done { result.done ≤ length steps.now }
         ensures runs { Runs self.old (take result.done steps.now) self.new }
         ensures stop { MatchOption result.refusal (result.done ≡ length steps.now) (StopsAt (refusal self.new) steps.now result.done) }
+        ensures reached { (n : model.Network) → IsReached n self.old → IsReached n self.new }
+        ensures headline { (n : model.Network) → IsReached n self.old → IsSound n self.new }
         ensures publication { IfSome result.refusal (λ e. (i : ℕ) → slice_get steps.now result.done ≡ Some (Step.Publish i) → refusal self.new (Step.Publish i) ≡ Some e) }
     {
         for (done, &step) in steps.iter().enumerate() {

@@ -1,7 +1,7 @@
 use Rattle.std.proofs.Common.{OnErr, ◌≡◌, inr, subst}
 use Rattle.world.specs.Steps.{IsDoneOr}
 use Rattle.fabric.specs.Fabric.{fabric_refusal}
-use Rattle.play.proofs.Doing.{refused_for}
+use Rattle.control.proofs.Sharing.{refused_for}
 use Rattle.play.proofs.commands.try_step.Goals as goal
 
 pub returns-in-Err : goal.returns-in-Err

@@ -1,7 +1,6 @@
 use Rattle.std.proofs.Common.{rules, length}
 use Rattle.publication.proofs.Places.{rest_all}
 use Rattle.fabric.specs.Writers.{IsPort}
-use Rattle.play.proofs.Dispatching.{first_each}
 use Rattle.play.proofs.dispatch.ports_of.Goals as goal
 
 pub loop-readers-preserved : goal.loop-readers-preserved

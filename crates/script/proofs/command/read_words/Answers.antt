@@ -6,7 +6,7 @@ use Rattle.script.proofs.Exits.{at_err}
 use Rattle.script.proofs.Splits.{words-some}
 use Rattle.script.proofs.StepTexts.{names_router, names_no_router, text_unique}
 use Rattle.script.proofs.OwnerTexts.{owned_by_test, strange}
-use Rattle.script.proofs.CommandTexts.{IsStrange, no_state, no_table, lookup_fault, inject_fault, step_fault}
+use Rattle.script.proofs.CommandTexts.{IsStrange, no_state, no_table, lookup_fault, inject_fault, trace_fault, step_fault}
 use Rattle.script.proofs.command.read_words.Goals as goal
 
 pub returns-in_err-router-in-state-clause-err : goal.returns-in_err-router-in-state-clause-err
@@ -26,6 +26,12 @@ returns-in_err-router-in-inject-clause-err c =
     at_err c.from_residual-in_err-router-in-inject.result (AsksNothing c.args.names.now c.args.links.now c.args.owners.now (c.args.verb.now ∷ words_of c.args.operands.now)) c.in_err-router-in-inject.field-0.0 c.from_residual-in_err-router-in-inject.ensures.1
     (rw c.in-inject.is (inject_fault c.args.names.now c.args.links.now c.args.owners.now (words_of c.args.operands.now) (words-some c.args.operands.now)
     c.in_err-router-in-inject.field-0.0 (c.in_err-router-in-inject.ensures.err (codes "inject"))))
+
+pub returns-in_err-router-in-trace-clause-err : goal.returns-in_err-router-in-trace-clause-err
+returns-in_err-router-in-trace-clause-err c =
+    at_err c.from_residual-in_err-router-in-trace.result (AsksNothing c.args.names.now c.args.links.now c.args.owners.now (c.args.verb.now ∷ words_of c.args.operands.now)) c.in_err-router-in-trace.field-0.0 c.from_residual-in_err-router-in-trace.ensures.1
+    (rw c.in-trace.is (trace_fault c.args.names.now c.args.links.now c.args.owners.now (words_of c.args.operands.now) (words-some c.args.operands.now)
+    c.in_err-router-in-trace.field-0.0 (c.in_err-router-in-trace.ensures.err (codes "trace"))))
 
 pub returns-in_err-prefix-in-state-clause-err : goal.returns-in_err-prefix-in-state-clause-err
 returns-in_err-prefix-in-state-clause-err c =
@@ -50,7 +56,7 @@ pub returns-in_err-step-in_default-clause-err : goal.returns-in_err-step-in_defa
 returns-in_err-step-in_default-clause-err c =
     at_err c.from_residual-in_err-step-in_default.result (AsksNothing c.args.names.now c.args.links.now c.args.owners.now (c.args.verb.now ∷ words_of c.args.operands.now)) c.in_err-step-in_default.field-0.0 c.from_residual-in_err-step-in_default.ensures.1
     (step_fault c.args.names.now c.args.links.now c.args.owners.now c.args.verb.now (words_of c.args.operands.now) (words-some c.args.operands.now)
-    c.in_default.not-try c.in_default.not-state c.in_default.not-table c.in_default.not-lookup c.in_default.not-inject c.in_err-step-in_default.field-0.0 c.in_err-step-in_default.ensures.err)
+    c.in_default.not-try c.in_default.not-state c.in_default.not-table c.in_default.not-lookup c.in_default.not-inject c.in_default.not-trace c.in_err-step-in_default.field-0.0 c.in_err-step-in_default.ensures.err)
 
 pub returns-else-not-is_owned-clause-ok : goal.returns-else-not-is_owned-clause-ok
 returns-else-not-is_owned-clause-ok c =
@@ -67,3 +73,6 @@ returns-in_ok-router-in-lookup-clause-ok c = rw c.in-lookup.is (c.in_ok-router-i
 
 pub returns-in_ok-router-in-inject-clause-ok : goal.returns-in_ok-router-in-inject-clause-ok
 returns-in_ok-router-in-inject-clause-ok c = rw c.in-inject.is (c.in_ok-router-in-inject.ensures.ok (codes "inject"))
+
+pub returns-in_ok-router-in-trace-clause-ok : goal.returns-in_ok-router-in-trace-clause-ok
+returns-in_ok-router-in-trace-clause-ok c = rw c.in-trace.is (c.in_ok-router-in-trace.ensures.ok (codes "trace"))

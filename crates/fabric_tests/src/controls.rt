@@ -1,0 +1,435 @@
+//! Networks of two routers under a lock: steps, turns, and threads that serve.
+
+ghost use Rattle.std.specs.Prelude.{◌≡◌, ◌<◌, true, vec_len};
+ghost use Rattle.fabric.specs.Writers.{opening_tables};
+ghost use Rattle.control.specs.Names.{IsNamed};
+
+use control::{Control, Naming, Opening, Refusal, Share, Step, TurnGate, one_step, settle};
+use fabric::{Fabric, Network, Prefix, Unnamed};
+use network_model::{Cost, LinkSpec};
+use std::alloc::Global;
+use std::marker::Brand;
+use std::process::Abort;
+use std::sync::Wait;
+use std::sync::atomic::{AtomicU64, Ordering};
+use std::test::Fail;
+use std::thread;
+use std::thread::Threads;
+use std::time::{Clock, Duration};
+
+// Routers 0 and 1 with one link at cost 5 each way; router 0 owns 10.0.0.0/8.
+fn two_routers(alloc: Global) -> Result<Network, Fail> {
+    let link = LinkSpec {
+        a: 0,
+        b: 1,
+        from_a: Cost::new(5)?,
+        from_b: Cost::new(5)?,
+    };
+    let links = vec![in alloc; link]?;
+    let prefixes = vec![in alloc; (Prefix::parse("10.0.0.0/8")?, 0)]?;
+    Ok(Network::new(2, links, prefixes)?)
+}
+
+const UP: Step = Step::LinkUp { link: 0 };
+
+const DOWN: Step = Step::LinkDown { link: 0 };
+
+// An address of that prefix.
+const ADDR: u32 = 0x0A01_0203;
+
+// What is done with the fabric of that network.
+#[derive(Clone, Copy)]
+enum Trial {
+    ByHand,
+    Meets,
+    Serves,
+    GivesJobs,
+    OneStep,
+    Settles,
+}
+
+fn two<H: Threads + Wait + Abort + Clock + Sync>(
+    rt: &H,
+    alloc: Global,
+    shares: u8,
+    trial: Trial,
+) -> Result<(), Fail>
+    requires { 0 < shares }
+{
+    let network = two_routers(alloc)?;
+    let unnamed = Unnamed::many(alloc, usize::from(network.routers()))?;
+    opened::<Brand, H>(rt, alloc, network, unnamed, shares, trial)
+}
+
+// Opens it, does this, and closes it.
+fn opened<B, H>(
+    rt: &H,
+    alloc: Global,
+    network: Network,
+    unnamed: Vec<Unnamed>,
+    shares: u8,
+    trial: Trial,
+) -> Result<(), Fail>
+where
+    B: publication::Naming + Send + Sync,
+    H: Threads + Wait + Abort + Clock + Sync,
+    requires books { unnamed.items ≡ B.books }
+    requires each { vec_len unnamed ≡ network.routers }
+    requires openings { opening_tables network ≡ B.openings }
+    requires some { 0 < shares }
+{
+    let Ok((fabric, _ports)) = Fabric::<B>::open(rt, alloc, network, unnamed, 0) else {
+        return Err("open".into());
+    };
+    let (fabric, done) = match trial {
+        Trial::OneStep => one(rt, alloc, fabric),
+        Trial::Settles => settles(rt, alloc, fabric, shares),
+        _ => controlled::<B, Brand, H>(rt, alloc, Opening::new(shares), fabric, trial),
+    };
+    fabric.close(rt);
+    done
+}
+
+// Puts it under a lock, does this, and takes it out. The shares add up to the journal's sum.
+fn controlled<B, N, H>(
+    rt: &H,
+    alloc: Global,
+    opening: Opening,
+    fabric: Fabric<B>,
+    trial: Trial,
+) -> (Fabric<B>, Result<(), Fail>)
+where
+    B: publication::Naming + Send + Sync,
+    N: Naming + Send + Sync,
+    H: Threads + Wait + Abort + Clock + Sync,
+    requires names { IsNamed opening N.high N.low N.shares }
+    requires some { 0 < opening.shares }
+    requires opened { fabric ≡ N.opened }
+    requires asked { (s : Step) → N.asked s ≡ true }
+{
+    match Control::<B, N>::new(alloc, opening, fabric) {
+        Ok((control, shares)) => {
+            let (shares, done) = tried(rt, &control, shares, trial);
+            let sum = sum_of(&shares);
+            let fabric = control.close(shares);
+            assert_eq!(rt; fabric.sum(), sum);
+            (fabric, done)
+        }
+        Err(fabric) => (fabric, Err("memory".into())),
+    }
+}
+
+fn sum_of<N: Naming>(shares: &[Share<N>]) -> u128 {
+    let mut sum: u128 = 0;
+    for share in shares {
+        sum = sum.wrapping_add(share.sum());
+    }
+    sum
+}
+
+fn tried<B, N, H>(
+    rt: &H,
+    control: &Control<B, N>,
+    shares: Vec<Share<N>>,
+    trial: Trial,
+) -> (Vec<Share<N>>, Result<(), Fail>)
+where
+    B: publication::Naming + Send + Sync,
+    N: Naming + Send + Sync,
+    H: Threads + Wait + Abort + Clock + Sync,
+    requires some { 0 < vec_len shares }
+    requires asked { (s : Step) → N.asked s ≡ true }
+    ensures { vec_len result.0 ≡ vec_len shares }
+{
+    let mut shares = shares;
+    match trial {
+        Trial::ByHand => {
+            let done = by_hand(rt, control, &mut shares[0]);
+            (shares, done)
+        }
+        Trial::Meets => meets(rt, control, shares),
+        Trial::GivesJobs => gives_jobs(rt, control, shares),
+        _ => serves(rt, control, shares),
+    }
+}
+
+// ---- one thread
+
+fn by_hand<B: publication::Naming, N: Naming, H: Wait + Abort>(
+    rt: &H,
+    control: &Control<B, N>,
+    share: &mut Share<N>,
+) -> Result<(), Fail>
+    requires asked { (s : Step) → N.asked s ≡ true }
+{
+    assert_eq!(rt; (share.number(), share.sum()), (0, 0));
+    assert!(rt; control.is_settled(rt));
+    assert_eq!(rt; control.turn(rt, 0, share), Ok(None));
+    assert_eq!(rt; control.step(rt, UP, share), Ok(()));
+    assert_eq!(rt; share.sum(), UP.number());
+    assert!(rt; !control.is_settled(rt));
+    assert_eq!(rt; control.step(rt, UP, share), Err(Refusal::AlreadyUp));
+    assert_eq!(rt; control.turn(rt, 2, share), Err(Refusal::UnknownRouter));
+    assert_eq!(rt; share.sum(), UP.number());
+    let deliver = Step::Deliver { router: 1, port: 0 };
+    assert_eq!(rt; control.turn(rt, 1, share), Ok(Some(deliver)));
+    assert_eq!(rt; share.sum(), UP.number() + deliver.number());
+    let unknown = control.job(rt, 1, 2, ADDR).err();
+    assert_eq!(rt; unknown, Some(Refusal::UnknownRouter));
+    Ok(())
+}
+
+#[test]
+fn steps_by_hand(rt: HostRuntime) -> Result<(), Fail> {
+    two(&rt, rt.alloc(), 1, Trial::ByHand)
+}
+
+fn one<B: publication::Naming, H: Wait + Abort>(
+    rt: &H,
+    alloc: Global,
+    fabric: Fabric<B>,
+) -> (Fabric<B>, Result<(), Fail>) {
+    let (fabric, up) = one_step(rt, alloc, fabric, UP);
+    assert_eq!(rt; up, Ok(()));
+    let (fabric, again) = one_step(rt, alloc, fabric, UP);
+    assert_eq!(rt; again, Err(Refusal::AlreadyUp));
+    assert_eq!(rt; fabric.journal(), [UP].as_slice());
+    (fabric, Ok(()))
+}
+
+#[test]
+fn one_step_alone(rt: HostRuntime) -> Result<(), Fail> {
+    two(&rt, rt.alloc(), 1, Trial::OneStep)
+}
+
+// ---- threads that serve
+
+// Lets turns go on as they like.
+struct Open;
+
+impl TurnGate for Open {
+    fn before(&self, _thread: u8, _turn: u64) {}
+
+    fn after(&self, _thread: u8, _turn: u64) {}
+}
+
+fn serves<B, N, H>(
+    rt: &H,
+    control: &Control<B, N>,
+    shares: Vec<Share<N>>,
+) -> (Vec<Share<N>>, Result<(), Fail>)
+where
+    B: publication::Naming + Send + Sync,
+    N: Naming + Send + Sync,
+    H: Threads + Wait + Abort + Sync,
+    requires some { 0 < vec_len shares }
+    requires asked { (s : Step) → N.asked s ≡ true }
+    ensures { vec_len result.0 ≡ vec_len shares }
+{
+    let mut shares = shares;
+    assert_eq!(rt; control.step(rt, UP, &mut shares[0]), Ok(()));
+    let first = shares[0].sum();
+    assert_eq!(rt; control.serve(rt, &mut shares, &Open), Ok(()));
+    assert!(rt; control.is_settled(rt));
+    assert!(rt; shares[0].sum() > first);
+    assert_eq!(rt; control.step(rt, DOWN, &mut shares[0]), Ok(()));
+    assert_eq!(rt; control.serve(rt, &mut shares, &Open), Ok(()));
+    assert!(rt; control.is_settled(rt));
+    (shares, Ok(()))
+}
+
+#[test]
+fn one_serves(rt: HostRuntime) -> Result<(), Fail> {
+    two(&rt, rt.alloc(), 1, Trial::Serves)
+}
+
+#[test]
+fn two_serve(rt: HostRuntime) -> Result<(), Fail> {
+    two(&rt, rt.alloc(), 2, Trial::Serves)
+}
+
+#[test]
+fn sixteen_serve(rt: HostRuntime) -> Result<(), Fail> {
+    two(&rt, rt.alloc(), 16, Trial::Serves)
+}
+
+// Whether the number gets there within 1000 polls, a millisecond apart.
+fn gets_to<H: Clock>(rt: &H, number: &AtomicU64, wanted: u64) -> bool {
+    for _ in 0..1000u16 {
+        if number.load(Ordering::SeqCst) >= wanted {
+            return true;
+        }
+        thread::sleep(rt, Duration::from_millis(1));
+    }
+    false
+}
+
+// The first turns of two threads wait for each other.
+#[derive(Drop)]
+struct Meeting<'a, H> {
+    rt: &'a H,
+    begun: AtomicU64,
+    met: AtomicU64,
+}
+
+impl<H: Clock> TurnGate for Meeting<'_, H> {
+    fn before(&self, _thread: u8, turn: u64) {
+        if turn == 1 {
+            self.begun.fetch_add(1, Ordering::SeqCst);
+            if gets_to(self.rt, &self.begun, 2) {
+                self.met.fetch_add(1, Ordering::SeqCst);
+            }
+        }
+    }
+
+    fn after(&self, _thread: u8, _turn: u64) {}
+}
+
+fn meets<B, N, H>(
+    rt: &H,
+    control: &Control<B, N>,
+    shares: Vec<Share<N>>,
+) -> (Vec<Share<N>>, Result<(), Fail>)
+where
+    B: publication::Naming + Send + Sync,
+    N: Naming + Send + Sync,
+    H: Threads + Wait + Abort + Clock + Sync,
+    requires some { 0 < vec_len shares }
+    requires asked { (s : Step) → N.asked s ≡ true }
+    ensures { vec_len result.0 ≡ vec_len shares }
+{
+    let mut shares = shares;
+    let gate = Meeting {
+        rt,
+        begun: AtomicU64::new(0),
+        met: AtomicU64::new(0),
+    };
+    assert_eq!(rt; control.step(rt, UP, &mut shares[0]), Ok(()));
+    assert_eq!(rt; control.serve(rt, &mut shares, &gate), Ok(()));
+    assert_eq!(rt; gate.met.load(Ordering::SeqCst), 2);
+    (shares, Ok(()))
+}
+
+#[test]
+fn two_meet(rt: HostRuntime) -> Result<(), Fail> {
+    two(&rt, rt.alloc(), 2, Trial::Meets)
+}
+
+fn settles<B, H>(
+    rt: &H,
+    alloc: Global,
+    fabric: Fabric<B>,
+    threads: u8,
+) -> (Fabric<B>, Result<(), Fail>)
+where
+    B: publication::Naming + Send + Sync,
+    H: Threads + Wait + Abort + Sync,
+    requires { 0 < threads }
+{
+    let mut fabric = fabric;
+    assert_eq!(rt; fabric.step(rt, UP), Ok(()));
+    let (fabric, done) = settle(rt, alloc, fabric, threads, &Open);
+    assert_eq!(rt; done, Ok(()));
+    assert!(rt; fabric.is_settled());
+    assert!(rt; fabric.journal().len() > 1);
+    (fabric, Ok(()))
+}
+
+#[test]
+fn two_settle(rt: HostRuntime) -> Result<(), Fail> {
+    two(&rt, rt.alloc(), 2, Trial::Settles)
+}
+
+// ---- jobs while a turn waits
+
+// The first turn waits for a job that another thread gets.
+#[derive(Drop)]
+struct Waiting<'a, H> {
+    rt: &'a H,
+    begun: AtomicU64,
+    got: AtomicU64,
+}
+
+impl<H: Clock> TurnGate for Waiting<'_, H> {
+    fn before(&self, _thread: u8, turn: u64) {
+        if turn == 1 {
+            self.begun.store(1, Ordering::SeqCst);
+            gets_to(self.rt, &self.got, 1);
+        }
+    }
+
+    fn after(&self, _thread: u8, _turn: u64) {}
+}
+
+// The generation of the job that it gets while the first turn waits.
+fn get_first<B, N, H>(rt: &H, control: &Control<B, N>, gate: &Waiting<'_, H>) -> Option<u64>
+where
+    B: publication::Naming,
+    N: Naming,
+    H: Wait + Clock,
+{
+    if !gets_to(rt, &gate.begun, 1) {
+        return None;
+    }
+    let job = control.job(rt, 1, 1, ADDR).ok()?;
+    gate.got.store(1, Ordering::SeqCst);
+    Some(job.generation())
+}
+
+fn serve_all<B, N, H, G>(
+    rt: &H,
+    control: &Control<B, N>,
+    shares: Vec<Share<N>>,
+    gate: &G,
+) -> (Vec<Share<N>>, Result<(), Refusal>)
+where
+    B: publication::Naming + Send + Sync,
+    N: Naming + Send + Sync,
+    H: Threads + Wait + Sync,
+    G: TurnGate + Sync,
+    ensures { vec_len result.0 ≡ vec_len shares }
+{
+    let mut shares = shares;
+    if shares.is_empty() {
+        return (shares, Ok(()));
+    }
+    let done = control.serve(rt, &mut shares, gate);
+    (shares, done)
+}
+
+fn gives_jobs<B, N, H>(
+    rt: &H,
+    control: &Control<B, N>,
+    shares: Vec<Share<N>>,
+) -> (Vec<Share<N>>, Result<(), Fail>)
+where
+    B: publication::Naming + Send + Sync,
+    N: Naming + Send + Sync,
+    H: Threads + Wait + Abort + Clock + Sync,
+    requires some { 0 < vec_len shares }
+    requires asked { (s : Step) → N.asked s ≡ true }
+    ensures { vec_len result.0 ≡ vec_len shares }
+{
+    let mut shares = shares;
+    assert_eq!(rt; control.step(rt, UP, &mut shares[0]), Ok(()));
+    let gate = Waiting {
+        rt,
+        begun: AtomicU64::new(0),
+        got: AtomicU64::new(0),
+    };
+    let ((shares, done), first) = thread::join(
+        rt,
+        || serve_all(rt, control, shares, &gate),
+        || get_first(rt, control, &gate),
+    );
+    assert_eq!(rt; done, Ok(()));
+    assert_eq!(rt; first, Some(0));
+    let second = control.job(rt, 2, 1, ADDR).ok();
+    assert_eq!(rt; second.map(|job| job.generation()), Some(1));
+    (shares, Ok(()))
+}
+
+#[test]
+fn job_while_a_turn_waits(rt: HostRuntime) -> Result<(), Fail> {
+    two(&rt, rt.alloc(), 1, Trial::GivesJobs)
+}

@@ -1,0 +1,198 @@
+//! Fabrics of two routers: their steps, their images, and those who look up in them.
+
+ghost use Rattle.std.specs.Prelude.{◌≡◌, vec_len};
+ghost use Rattle.fabric.specs.Writers.{opening_tables};
+
+use fabric::{Answer, Entry, Fabric, ImageReader, Naming, Network, Prefix, Refusal, Step, Unnamed};
+use network_model::{Cost, LinkSpec};
+use std::alloc::Global;
+use std::marker::Brand;
+use std::process::Abort;
+use std::sync::Wait;
+use std::test::Fail;
+
+// Routers 0 and 1 with one link at cost 5 each way; router 0 owns 10.0.0.0/8.
+fn two_routers(alloc: Global) -> Result<Network, Fail> {
+    let link = LinkSpec {
+        a: 0,
+        b: 1,
+        from_a: Cost::new(5)?,
+        from_b: Cost::new(5)?,
+    };
+    let links = vec![in alloc; link]?;
+    let prefixes = vec![in alloc; (Prefix::parse("10.0.0.0/8")?, 0)]?;
+    Ok(Network::new(2, links, prefixes)?)
+}
+
+// The steps by which router 1 learns the way of router 0, and publishes it.
+const LEARNS: [Step; 7] = [
+    Step::LinkUp { link: 0 },
+    Step::Deliver { router: 0, port: 0 },
+    Step::Deliver { router: 1, port: 0 },
+    Step::Publish { router: 0 },
+    Step::Release { router: 0 },
+    Step::Deliver { router: 1, port: 0 },
+    Step::Publish { router: 1 },
+];
+
+// An address of that prefix.
+const ADDR: u32 = 0x0A01_0203;
+
+// What is done with the fabric of that network.
+#[derive(Clone, Copy)]
+enum Trial {
+    PublishesTheWay,
+    AnswersByWhatIsInForce,
+    StopsAtARefusedStep,
+    TellsItsReaders,
+}
+
+// Opens it, with readers for two workers, does this, and closes it.
+fn opened<B: Naming, H: Wait + Abort>(
+    rt: &H,
+    alloc: Global,
+    network: Network,
+    unnamed: Vec<Unnamed>,
+    trial: Trial,
+) -> Result<(), Fail>
+    requires books { unnamed.items ≡ B.books }
+    requires each { vec_len unnamed ≡ network.routers }
+    requires openings { opening_tables network ≡ B.openings }
+{
+    let Ok((mut fabric, mut ports)) = Fabric::<B>::open(rt, alloc, network, unnamed, 2) else {
+        return Err("open".into());
+    };
+    let port = ports.pop();
+    let done = match (trial, port) {
+        (Trial::PublishesTheWay, _) => publishes(rt, &mut fabric),
+        (Trial::AnswersByWhatIsInForce, _) => answers(rt, &mut fabric),
+        (Trial::StopsAtARefusedStep, _) => stops(rt, &mut fabric),
+        (Trial::TellsItsReaders, Some(port)) => tells(rt, &mut fabric, port),
+        (Trial::TellsItsReaders, None) => Err("ports".into()),
+    };
+    fabric.close(rt);
+    done
+}
+
+fn two<H: Wait + Abort>(rt: &H, alloc: Global, trial: Trial) -> Result<(), Fail> {
+    let network = two_routers(alloc)?;
+    let unnamed = Unnamed::many(alloc, usize::from(network.routers()))?;
+    opened::<Brand, H>(rt, alloc, network, unnamed, trial)
+}
+
+// What the prefix of router 0 answers at router 1, once it has learned the way.
+fn way() -> Result<Answer, Fail> {
+    let prefix = Prefix::parse("10.0.0.0/8")?;
+    let via = Entry::Via {
+        port: 0,
+        session: 1,
+    };
+    Ok(Answer {
+        generation: 1,
+        matched: Some((prefix, via)),
+    })
+}
+
+fn publishes<B: Naming, H: Wait + Abort>(rt: &H, fabric: &mut Fabric<B>) -> Result<(), Fail> {
+    let ran = fabric.run(rt, &LEARNS);
+    assert_eq!(rt; (ran.done, ran.refusal), (7, None));
+    assert_eq!(rt; fabric.journal(), LEARNS.as_slice());
+    let way = way()?;
+    assert_eq!(rt; fabric.lookup(1, ADDR), Ok(way));
+    let mut rows = fabric.table(1)?.published_rows();
+    assert_eq!(rt; rows.next(), way.matched);
+    assert_eq!(rt; rows.next(), None);
+    Ok(())
+}
+
+#[test]
+fn publishes_the_way(rt: HostRuntime) -> Result<(), Fail> {
+    two(&rt, rt.alloc(), Trial::PublishesTheWay)
+}
+
+const NOTHING: Answer = Answer {
+    generation: 0,
+    matched: None,
+};
+
+fn answers<B: Naming, H: Wait + Abort>(rt: &H, fabric: &mut Fabric<B>) -> Result<(), Fail> {
+    let ran = fabric.run(rt, &LEARNS[..6]);
+    assert_eq!(rt; (ran.done, ran.refusal), (6, None));
+    assert_eq!(rt; fabric.lookup(1, ADDR), Ok(NOTHING));
+    assert_eq!(rt; fabric.lookup(2, 0), Err(Refusal::UnknownRouter));
+    Ok(())
+}
+
+#[test]
+fn answers_by_what_is_in_force(rt: HostRuntime) -> Result<(), Fail> {
+    two(&rt, rt.alloc(), Trial::AnswersByWhatIsInForce)
+}
+
+fn stops<B: Naming, H: Wait + Abort>(rt: &H, fabric: &mut Fabric<B>) -> Result<(), Fail> {
+    let steps = [
+        Step::LinkUp { link: 0 },
+        Step::Release { router: 0 },
+        Step::LinkDown { link: 0 },
+    ];
+    let ran = fabric.run(rt, &steps);
+    assert_eq!(rt; (ran.done, ran.refusal), (1, Some(Refusal::NothingRipe)));
+    assert_eq!(rt; fabric.journal().len(), 1);
+    let up = fabric.step(rt, Step::LinkUp { link: 0 });
+    assert_eq!(rt; up, Err(Refusal::AlreadyUp));
+    let unknown = fabric.step(rt, Step::Publish { router: 7 });
+    assert_eq!(rt; unknown, Err(Refusal::UnknownRouter));
+    let nothing = fabric.step(rt, Step::Publish { router: 1 });
+    assert_eq!(rt; nothing, Err(Refusal::NothingDue));
+    Ok(())
+}
+
+#[test]
+fn stops_at_a_refused_step(rt: HostRuntime) -> Result<(), Fail> {
+    two(&rt, rt.alloc(), Trial::StopsAtARefusedStep)
+}
+
+// A worker's reader answers a job in the image that was in force when the job was made.
+fn tells<B: Naming, H: Wait + Abort>(
+    rt: &H,
+    fabric: &mut Fabric<B>,
+    port: Vec<ImageReader<B>>,
+) -> Result<(), Fail> {
+    let mut readers = port.into_iter();
+    assert_eq!(rt; readers.len(), 2);
+    let job = fabric.job(1, 1, ADDR)?;
+    assert_eq!(rt; (job.number, job.router(), job.generation()), (1, 1, 0));
+    let ran = fabric.run(rt, &LEARNS);
+    assert_eq!(rt; (ran.done, ran.refusal), (7, None));
+    let job = fabric.job(2, 1, ADDR)?;
+    assert_eq!(rt; (job.number, job.router(), job.generation()), (2, 1, 1));
+    let unknown = fabric.job(3, 2, ADDR).err();
+    assert_eq!(rt; unknown, Some(Refusal::UnknownRouter));
+    let _first = readers.next();
+    let mut second = readers.next().ok_or("no reader")?;
+    assert_eq!(rt; second.lookup(ADDR), Ok(way()?));
+    Ok(())
+}
+
+#[test]
+fn tells_its_readers(rt: HostRuntime) -> Result<(), Fail> {
+    two(&rt, rt.alloc(), Trial::TellsItsReaders)
+}
+
+#[test]
+fn refusals_have_their_numbers(rt: HostRuntime) -> Result<(), Fail> {
+    let refusals = [
+        (Refusal::UnknownRouter, "10 UnknownRouter"),
+        (Refusal::NothingDue, "17 NothingDue"),
+        (Refusal::NothingRipe, "18 NothingRipe"),
+        (Refusal::JournalFull, "19 JournalFull"),
+        (Refusal::NoMemory, "20 NoMemory"),
+        (Refusal::Stale, "22 Stale"),
+        (Refusal::NoReaderPlace, "23 NoReaderPlace"),
+        (Refusal::NoImage, "34 NoImage"),
+    ];
+    for (refusal, text) in refusals {
+        let got = format!(in rt.alloc(); "{refusal}")?;
+        assert_eq!(rt; got.as_str(), text);
+    }
+    Ok(())
+}

@@ -1,0 +1,18 @@
+//! Tests of publications, queues, workers, fabrics, control threads and traces, each through its
+//! public surface.
+#![tactic(auto)]
+
+#[cfg(test)]
+mod controls;
+#[cfg(test)]
+mod fabrics;
+#[cfg(test)]
+mod publications;
+#[cfg(test)]
+mod queues;
+#[cfg(test)]
+mod traces;
+#[cfg(test)]
+mod worker_pools;
+#[cfg(test)]
+mod workers;

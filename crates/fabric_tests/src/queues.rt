@@ -1,0 +1,362 @@
+//! Queues in one thread, and through worker threads.
+
+ghost use Rattle.std.specs.Prelude.{◌≡◌, ◌+◌, ◌++◌, ◌∷◌, [], ℕ, List, length, All, sum_by, IfOk, MatchOption, vec_len};
+ghost use Rattle.publication.specs.declared.job.Job.{Job};
+ghost use Rattle.publication.specs.Lists.{opening_of};
+ghost use Rattle.packet_queue.specs.Ends.{puts_into, takes_from, put_by, taken_by, parts_of, AreAllEnds};
+ghost use Rattle.packet_queue.specs.Jobs.{jobs_of};
+
+use packet_queue::{Injector, Job, Naming, PacketQueue, Taken, Taker, reckon};
+use publication::{Told, Unnamed, open};
+use std::alloc::{AllocError, Global};
+use std::marker::Brand;
+use std::process::Abort;
+use std::snapshot::Snapshot;
+use std::sync::Wait;
+use std::test::*;
+use std::thread;
+use std::thread::{Promise, PromisedHandle, Threads};
+use tree_bitmap::Image;
+use tree_bitmap::parts::empty;
+
+fn asked<B: Naming>(number: u64, told: &Told<B>) -> Job<B> {
+    Job {
+        number,
+        addr: 7,
+        told: told.again(),
+    }
+}
+
+// What came out of a queue, by its number.
+#[derive(Clone, Copy, PartialEq, Debug)]
+enum Sight {
+    Job(u64),
+    Stop,
+    Closed,
+}
+
+fn seen_as<B: Naming>(taken: Option<Taken<B>>) -> Sight {
+    match taken {
+        Some(Taken::Job(job)) => Sight::Job(job.number),
+        Some(Taken::Stop) => Sight::Stop,
+        None => Sight::Closed,
+    }
+}
+
+// The number of a job that was handed back.
+fn back<B: Naming>(put: Result<(), Job<B>>) -> Option<u64> {
+    match put {
+        Ok(()) => None,
+        Err(job) => Some(job.number),
+    }
+}
+
+fn in_order<B: Naming, R: Wait + Abort>(rt: &R, alloc: Global, told: &Told<B>) -> Result<(), Fail> {
+    let (mut injector, mut takers) = PacketQueue::new::<B>(alloc, 2)?;
+    assert_eq!(rt; injector.workers(), 2);
+    let mut second = takers.pop().ok_or("two")?;
+    let mut first = takers.pop().ok_or("two")?;
+    assert!(rt; takers.is_empty());
+    assert_eq!(rt; back(injector.inject(rt, asked(0, told))), None);
+    assert_eq!(rt; back(injector.inject(rt, asked(1, told))), None);
+    assert_eq!(rt; back(injector.inject(rt, asked(2, told))), None);
+    assert!(rt; injector.stop(rt));
+    assert_eq!(rt; seen_as(first.next(rt)), Sight::Job(0));
+    assert_eq!(rt; seen_as(second.next(rt)), Sight::Job(1));
+    assert_eq!(rt; seen_as(second.next(rt)), Sight::Job(2));
+    assert_eq!(rt; seen_as(second.next(rt)), Sight::Stop);
+    assert_eq!(rt; seen_as(first.next(rt)), Sight::Stop);
+    drop(injector);
+    assert_eq!(rt; seen_as(first.next(rt)), Sight::Closed);
+    Ok(())
+}
+
+// Puts so many jobs, takes so many messages, and counts what is left.
+fn left_of<B: Naming, R: Wait + Abort>(
+    rt: &R,
+    alloc: Global,
+    told: &Told<B>,
+    put: u64,
+    take: u64,
+) -> Result<u64, Fail> {
+    let (mut injector, mut takers) = PacketQueue::new::<B>(alloc, 3)?;
+    for number in 0..put {
+        assert_eq!(rt; back(injector.inject(rt, asked(number, told))), None);
+    }
+    assert!(rt; injector.stop(rt));
+    let Some(mut taker) = takers.pop() else {
+        return Err("three".into());
+    };
+    for _ in 0..take {
+        assert!(rt; taker.next(rt).is_some());
+    }
+    takers.push(taker)?;
+    Ok(reckon(injector, takers))
+}
+
+fn counted<B: Naming, R: Wait + Abort>(rt: &R, alloc: Global, told: &Told<B>) -> Result<(), Fail> {
+    assert_eq!(rt; left_of(rt, alloc, told, 0, 0)?, 0);
+    assert_eq!(rt; left_of(rt, alloc, told, 5, 0)?, 5);
+    assert_eq!(rt; left_of(rt, alloc, told, 61, 20)?, 41);
+    assert_eq!(rt; left_of(rt, alloc, told, 5, 5)?, 0);
+    assert_eq!(rt; left_of(rt, alloc, told, 5, 7)?, 0);
+    Ok(())
+}
+
+fn closed<B: Naming, R: Wait + Abort>(rt: &R, alloc: Global, told: &Told<B>) -> Result<(), Fail> {
+    let (mut injector, takers) = PacketQueue::new::<B>(alloc, 0)?;
+    assert_eq!(rt; back(injector.inject(rt, asked(1, told))), Some(1));
+    assert!(rt; injector.stop(rt));
+    assert_eq!(rt; reckon(injector, takers), 0);
+    let (mut injector, takers) = PacketQueue::new::<B>(alloc, 2)?;
+    assert_eq!(rt; back(injector.inject(rt, asked(2, told))), None);
+    drop(takers);
+    assert_eq!(rt; back(injector.inject(rt, asked(3, told))), Some(3));
+    assert!(rt; !injector.stop(rt));
+    let (mut injector, mut takers) = PacketQueue::new::<B>(alloc, 1)?;
+    assert_eq!(rt; back(injector.inject(rt, asked(4, told))), None);
+    drop(injector);
+    let mut taker = takers.pop().ok_or("one")?;
+    assert_eq!(rt; seen_as(taker.next(rt)), Sight::Job(4));
+    assert_eq!(rt; seen_as(taker.next(rt)), Sight::Closed);
+    Ok(())
+}
+
+// A taker with the jobs that a worker took.
+#[derive(Drop)]
+struct Worked<B: Naming> {
+    taker: Taker<B>,
+    jobs: Vec<Job<B>>,
+}
+
+// A worker's taker is still of its queue, and has taken the jobs that the worker hands out.
+#[derive(Drop)]
+struct GoesOn<B: Naming> {
+    was: Snapshot<Taker<B>>,
+}
+
+impl<B: Naming> Promise<Worked<B>> for GoesOn<B> {
+    ghost use Rattle.std.specs.Prelude.{◌≡◌, ◌++◌};
+    ghost use Rattle.packet_queue.specs.Ends.{takes_from, taken_by};
+    ghost use Rattle.packet_queue.specs.Jobs.{jobs_of};
+
+    ghost kept_by = { λ p r. (takes_from r.taker ≡ takes_from p.was.value)
+        × (jobs_of (taken_by r.taker) ≡ jobs_of (taken_by p.was.value) ++ r.jobs.items) };
+}
+
+// The job that a worker takes next. None where it takes none any more.
+#[tactic(auto, using(packet_queue::proofs::Jobs::jobs_of_job, packet_queue::proofs::Jobs::jobs_of_stop))]
+fn next_job<B: Naming, R: Wait>(rt: &R, taker: &mut Taker<B>) -> Option<Job<B>>
+    ensures from { takes_from taker.new ≡ takes_from taker.old }
+    ensures jobs { MatchOption result
+        (jobs_of (taken_by taker.new) ≡ jobs_of (taken_by taker.old))
+        (λ job. jobs_of (taken_by taker.new) ≡ jobs_of (taken_by taker.old) ++ job ∷ []) }
+{
+    match taker.next(rt) {
+        Some(Taken::Job(job)) => Some(job),
+        _ => None,
+    }
+}
+
+// Takes jobs until a stop message, or none, or memory runs out.
+fn work<B: Naming, R: Wait>(rt: &R, alloc: Global, mut taker: Taker<B>) -> Worked<B>
+    ensures from { takes_from result.taker ≡ takes_from taker }
+    ensures jobs { jobs_of (taken_by result.taker) ≡ jobs_of (taken_by taker) ++ result.jobs.items }
+{
+    let mut jobs = Vec::new(alloc);
+    for _ in rt.forever() {
+        if jobs.reserve(1).is_err() {
+            break;
+        }
+        match next_job(rt, &mut taker) {
+            Some(job) => jobs.push_reserved(job),
+            None => break,
+        }
+    }
+    Worked { taker, jobs }
+}
+
+type Running<B> = PromisedHandle<Worked<B>, GoesOn<B>>;
+
+fn start<B, R>(rt: R, alloc: Global, taker: Taker<B>) -> Result<Running<B>, AllocError>
+where
+    B: Naming + Send + Sync + 'static,
+    R: Threads + Wait + Copy + Send + 'static,
+    ensures { IfOk result (λ h. h.promise.was.value ≡ taker) }
+{
+    let promise = GoesOn {
+        was: Snapshot::of(&taker),
+    };
+    Ok(thread::spawn_with(&rt, promise, move || { work(&rt, alloc, taker) })?)
+}
+
+// A thread for each taker of the injector's queue.
+fn start_all<B, R>(
+    rt: R,
+    alloc: Global,
+    injector: &Injector<B>,
+    mut takers: Vec<Taker<B>>,
+) -> Result<Vec<Running<B>>, AllocError>
+where
+    B: Naming + Send + Sync + 'static,
+    R: Threads + Wait + Copy + Send + 'static,
+    requires from { All (λ t. takes_from t ≡ puts_into injector.now) takers.items }
+    requires nothing { All (λ t. taken_by t ≡ []) takers.items }
+    ensures len { IfOk result (λ v. vec_len v ≡ vec_len takers) }
+    ensures from { IfOk result (λ v. All (λ h. takes_from h.promise.was.value ≡ puts_into injector.now) v.items) }
+    ensures nothing { IfOk result (λ v. All (λ h. taken_by h.promise.was.value ≡ []) v.items) }
+{
+    let mut running = Vec::new(alloc);
+    while let Some(taker) = takers.pop() {
+        running.push(start::<B, R>(rt, alloc, taker)?)?;
+    }
+    Ok(running)
+}
+
+// Joins the threads, and gives the jobs that they took and how many are left.
+fn finish<B, R>(
+    rt: &R,
+    alloc: Global,
+    injector: Injector<B>,
+    mut running: Vec<Running<B>>,
+) -> Result<(Vec<Job<B>>, u64), AllocError>
+where
+    B: Naming + Send + Sync + 'static,
+    R: Threads + Wait,
+    requires all { parts_of injector + vec_len running ≡ 256 }
+    requires from { All (λ h. takes_from h.promise.was.value ≡ puts_into injector) running.items }
+    requires nothing { All (λ h. taken_by h.promise.was.value ≡ []) running.items }
+    ensures { IfOk result (λ r. (left : List (Job B))
+        × ((h : Job B → ℕ) → sum_by h (jobs_of (put_by injector)) ≡ sum_by h r.0.items + sum_by h left)
+        × (r.1 ≡ length left)) }
+{
+    let mut takers = Vec::new(alloc);
+    let mut all = Vec::new(alloc);
+    while let Some(thread) = running.pop() {
+        let Worked { taker, mut jobs } = thread.join(rt);
+        all.append(&mut jobs)?;
+        takers.push(taker)?;
+    }
+    let left = reckon(injector, takers);
+    Ok((all, left))
+}
+
+// The numbers below 128, each once, as bits; none where one of them comes twice.
+fn bits_of<B: Naming>(jobs: &[Job<B>]) -> Option<u128> {
+    let mut bits = 0u128;
+    for job in jobs {
+        if job.number >= 128 {
+            return None;
+        }
+        let bit = 1u128 << job.number;
+        if bits & bit != 0 {
+            return None;
+        }
+        bits |= bit;
+    }
+    Some(bits)
+}
+
+// A hundred jobs go through two threads, and come out once each.
+fn hundred<B, R>(
+    rt: R,
+    alloc: Global,
+    told: &Told<B>,
+    mut injector: Injector<B>,
+    takers: Vec<Taker<B>>,
+) -> Result<(), Fail>
+where
+    B: Naming + Send + Sync + 'static,
+    R: Threads + Wait + Abort + Copy + Send + Sync + 'static,
+    requires all { AreAllEnds injector takers.items }
+    requires nothing { All (λ t. taken_by t ≡ []) takers.items }
+{
+    let running = start_all::<B, R>(rt, alloc, &injector, takers)?;
+    for number in 0..100 {
+        assert_eq!(rt; back(injector.inject(&rt, asked(number, told))), None);
+    }
+    assert!(rt; injector.stop(&rt));
+    let (jobs, left) = finish::<B, R>(&rt, alloc, injector, running)?;
+    assert_eq!(rt; left, 0);
+    assert_eq!(rt; bits_of(&jobs), Some((1 << 100) - 1));
+    Ok(())
+}
+
+// What is done with a queue.
+#[derive(Clone, Copy)]
+enum Trial {
+    KeepsTheOrder,
+    CountsWhatIsLeft,
+    Closes,
+    FeedsThreads,
+}
+
+fn tried<B, R>(rt: R, alloc: Global, told: &Told<B>, trial: Trial) -> Result<(), Fail>
+where
+    B: Naming + Send + Sync + 'static,
+    R: Threads + Wait + Abort + Copy + Send + Sync + 'static,
+{
+    match trial {
+        Trial::KeepsTheOrder => in_order(&rt, alloc, told),
+        Trial::CountsWhatIsLeft => counted(&rt, alloc, told),
+        Trial::Closes => closed(&rt, alloc, told),
+        Trial::FeedsThreads => {
+            let (injector, takers) = PacketQueue::new::<B>(alloc, 2)?;
+            hundred(rt, alloc, told, injector, takers)
+        }
+    }
+}
+
+// Opens the writer of a router, whose list the jobs are told of.
+fn opened<B, R>(
+    rt: R,
+    alloc: Global,
+    unnamed: Unnamed,
+    image: Image,
+    trial: Trial,
+) -> Result<(), Fail>
+where
+    B: Naming + Send + Sync + 'static,
+    R: Threads + Wait + Abort + Copy + Send + Sync + 'static,
+    requires books { B.books ≡ unnamed ∷ [] }
+    requires generation { image.generation ≡ 0 }
+    requires rows { image.rows ≡ opening_of B.openings 0 }
+{
+    let Ok((writer, _)) = open::<B, R>(&rt, alloc, unnamed, 0, image, 0) else {
+        return Err("open".into());
+    };
+    let told = writer.tell();
+    let done = tried(rt, alloc, &told, trial);
+    writer.close(&rt);
+    done
+}
+
+#[test]
+fn keeps_the_order(rt: HostRuntime) -> Result<(), Fail> {
+    let image = empty(rt.alloc())?;
+    opened::<Brand, _>(rt, rt.alloc(), Unnamed::new(), image, Trial::KeepsTheOrder)
+}
+
+#[test]
+fn counts_what_is_left(rt: HostRuntime) -> Result<(), Fail> {
+    let image = empty(rt.alloc())?;
+    opened::<Brand, _>(
+        rt,
+        rt.alloc(),
+        Unnamed::new(),
+        image,
+        Trial::CountsWhatIsLeft,
+    )
+}
+
+#[test]
+fn hands_back_when_closed(rt: HostRuntime) -> Result<(), Fail> {
+    let image = empty(rt.alloc())?;
+    opened::<Brand, _>(rt, rt.alloc(), Unnamed::new(), image, Trial::Closes)
+}
+
+#[test]
+fn feeds_two_threads(rt: HostRuntime) -> Result<(), Fail> {
+    let image = empty(rt.alloc())?;
+    opened::<Brand, _>(rt, rt.alloc(), Unnamed::new(), image, Trial::FeedsThreads)
+}

@@ -1,0 +1,217 @@
+//! Workers that look up at a router whose writer publishes all the time: `load WORKERS ANSWERS` lets 1
+//! to 16 workers answer so many jobs each, and prints how many were answered; to its standard error it
+//! prints how often the writer published meanwhile. It is timed from outside.
+#![tactic(auto)]
+
+ghost use Rattle.std.specs.Prelude.{◌≡◌, ◌+◌, ◌<◌, ◌≤◌, ◌∷◌, [], length, IfOk};
+ghost use Rattle.publication.specs.Lists.{opening_of};
+
+use forwarder::{ForwardPort, ImageReader, Job, Naming};
+use network_model::{Entry, Prefix};
+use publication::{ImageWriter, Patch, Told, Unnamed, open};
+use std::alloc::{AllocError, Global};
+use std::io::Write;
+use std::marker::Brand;
+use std::process::ExitCode;
+use std::sync::Wait;
+use std::sync::atomic::{AtomicBool, Ordering};
+use std::thread::Threads;
+use std::{env, thread};
+use tree_bitmap::Image;
+use tree_bitmap::parts::{empty, set_row};
+
+fn main(rt: HostRuntime) -> ExitCode {
+    let (workers, answers) = asked(&rt);
+    let (alloc, unnamed) = (rt.alloc(), Unnamed::new());
+    let Ok(image) = table(alloc) else {
+        return ExitCode::from(2);
+    };
+    match measure::<Brand, HostRuntime>(&rt, alloc, unnamed, image, workers, answers) {
+        Some((answered, published)) => {
+            let _ = writeln!(&mut rt.stdout(), "workers {workers}: answered {answered}");
+            let _ = writeln!(&mut rt.stderr(), "published {published}");
+            ExitCode::from(0)
+        }
+        None => ExitCode::from(2),
+    }
+}
+
+// The numbers of workers and of jobs for each; 1 and 1000 where they are not asked for.
+fn asked(rt: &HostRuntime) -> (u8, u32) {
+    let mut numbers = (1, 1000);
+    let Ok(args) = env::args(rt) else {
+        return numbers;
+    };
+    for (place, word) in args.enumerate() {
+        match place {
+            1 => numbers.0 = word.parse().unwrap_or(numbers.0),
+            2 => numbers.1 = word.parse().unwrap_or(numbers.1),
+            _ => {}
+        }
+    }
+    (numbers.0.max(1).min(16), numbers.1)
+}
+
+// 4096 rows of 24 bits below 10.0.0.0/8, and the row of 10.0.0.0/8.
+fn table(alloc: Global) -> Result<Image, network_model::NoMemory>
+    ensures { IfOk result (λ i. i.generation ≡ 0) }
+{
+    let mut image = empty(alloc)?;
+    set_row(&mut image, Prefix::covering(0x0A00_0000, 8), Entry::Local)?;
+    for number in 0..4096u32 {
+        let prefix = Prefix::covering(0x0A00_0000 + number * 4096, 24);
+        set_row(
+            &mut image,
+            prefix,
+            Entry::Via {
+                port: 1,
+                session: 1,
+            },
+        )?;
+    }
+    Ok(image)
+}
+
+// A worker, and how many jobs it answered.
+#[derive(Drop)]
+struct Lane<B: Naming> {
+    port: ForwardPort<B>,
+    answered: u64,
+}
+
+impl<B: Naming> Lane<B> {
+    // Answers so many jobs, each for another address below 10.0.0.0/8.
+    fn run(&mut self, told: &Told<B>, answers: u32)
+        ensures few { self.new.answered ≤ self.old.answered + answers }
+    {
+        let mut addr = 0x0A00_0000u32;
+        let mut answered = 0u64;
+        for number in 0..answers {
+            let job = Job {
+                number: u64::from(number),
+                addr,
+                told: told.again(),
+            };
+            if self.port.answer(&job).is_ok() {
+                answered = answered.saturating_add(1);
+            }
+            addr = 0x0A00_0000 | (addr.wrapping_mul(1_664_525).wrapping_add(1_013_904_223) >> 8);
+        }
+        self.answered = self.answered.saturating_add(answered);
+    }
+}
+
+// A port of a fabric's only router.
+fn port_of<B: Naming>(alloc: Global, reader: ImageReader<B>) -> Result<ForwardPort<B>, AllocError>
+    requires { length B.books ≡ 1 }
+{
+    let first = reader.view().router();
+    if first != 0 {
+        return Err(AllocError);
+    }
+    // Room for eight, so that no two workers write to one cache line.
+    let mut readers = Vec::with_capacity(alloc, 8)?;
+    readers.push_reserved(reader);
+    Ok(ForwardPort::new(readers))
+}
+
+// A lane for each reader.
+fn lanes_of<B: Naming>(
+    alloc: Global,
+    readers: Vec<ImageReader<B>>,
+) -> Result<Vec<Lane<B>>, AllocError>
+    requires { length B.books ≡ 1 }
+{
+    let mut lanes = Vec::new(alloc);
+    for reader in readers {
+        let port = port_of(alloc, reader)?;
+        lanes.push(Lane { port, answered: 0 })?;
+    }
+    Ok(lanes)
+}
+
+// Publishes one row of 10.0.0.0/8 or another until it is told to stop. How often it did.
+fn publish_until<B: Naming, R: Wait>(
+    rt: &R,
+    alloc: Global,
+    writer: &mut ImageWriter<B>,
+    stop: &AtomicBool,
+) -> u64
+    requires { writer.old.waiting ≡ [] }
+{
+    let mut published = 0u64;
+    for _ in rt.forever() {
+        if stop.load(Ordering::SeqCst) {
+            break;
+        }
+        let port = (published % 2) as u8;
+        let Ok(rows) = vec![in alloc;
+            (
+                Prefix::covering(0x0A00_0000, 8),
+                Entry::Via { port, session: 1 }
+            ),
+        ] else {
+            break;
+        };
+        let Some(generation) = writer.generation().checked_add(1) else {
+            break;
+        };
+        if writer.publish(rt, Patch { generation, rows }).is_err() {
+            break;
+        }
+        published = published.saturating_add(1);
+    }
+    published
+}
+
+// How many jobs were answered, and how often the writer published; none without memory.
+fn measure<B: Naming + Send + Sync, R: Threads + Wait + Sync>(
+    rt: &R,
+    alloc: Global,
+    unnamed: Unnamed,
+    image: Image,
+    workers: u8,
+    answers: u32,
+) -> Option<(u64, u64)>
+    requires books { B.books ≡ unnamed ∷ [] }
+    requires generation { image.generation ≡ 0 }
+    requires rows { image.rows ≡ opening_of B.openings 0 }
+{
+    let (mut writer, readers) = open::<B, R>(rt, alloc, unnamed, 0, image, workers).ok()?;
+    let told = writer.tell();
+    let Ok(mut lanes) = lanes_of(alloc, readers) else {
+        writer.close(rt);
+        return None;
+    };
+    let stop = AtomicBool::new(false);
+    let threads = lanes.len();
+    if threads == 0 {
+        writer.close(rt);
+        return None;
+    }
+    let (published, ()) = thread::join(
+        rt,
+        ||
+            requires { writer.waiting ≡ [] }
+        { publish_until(rt, alloc, &mut writer, &stop) },
+        ||
+            requires { 0 < threads }
+        {
+            thread::for_each_mut(
+                rt,
+                lanes.as_mut_slice(),
+                threads,
+                &|_, lane| {
+                    lane.run(&told, answers);
+                },
+            );
+            stop.store(true, Ordering::SeqCst);
+        },
+    );
+    writer.close(rt);
+    let mut answered = 0u64;
+    for lane in lanes.as_slice() {
+        answered = answered.saturating_add(lane.answered);
+    }
+    Some((answered, published))
+}

@@ -1,0 +1,34 @@
+//! Tests of addresses, costs, links, machines, routers, worlds and images, each through its public
+//! surface.
+#![tactic(auto)]
+
+#[cfg(test)]
+mod addresses;
+#[cfg(test)]
+mod compiled;
+#[cfg(test)]
+mod costs;
+#[cfg(test)]
+mod gates;
+#[cfg(test)]
+mod images;
+#[cfg(test)]
+mod links;
+#[cfg(test)]
+mod machines;
+#[cfg(test)]
+mod node_pools;
+#[cfg(test)]
+mod numbers;
+#[cfg(test)]
+mod patches;
+#[cfg(test)]
+mod pools;
+#[cfg(test)]
+mod replies;
+#[cfg(test)]
+mod routers;
+#[cfg(test)]
+mod tables;
+#[cfg(test)]
+mod worlds;

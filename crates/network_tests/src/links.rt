@@ -1,0 +1,131 @@
+use link_fifo::{LinkRefusal, Links, Put};
+use network_model::{Cost, Distance, End, Item, Kind, LinkSpec, Message, Prefix, Refusal};
+use std::alloc::Global;
+use std::test::Fail;
+
+// One link of the routers 3 and 7, at cost 5 from the first and 9 from the other.
+fn one_link(alloc: Global) -> Result<Links, Fail> {
+    let spec = LinkSpec {
+        a: 3,
+        b: 7,
+        from_a: Cost::new(5)?,
+        from_b: Cost::new(9)?,
+    };
+    Ok(Links::new(alloc, &[spec])?)
+}
+
+fn update() -> Result<Message, Fail> {
+    Ok(Message {
+        kind: Kind::Update,
+        prefix: Prefix::new(0x0a00_0000, 8)?,
+        value: Distance::ZERO,
+    })
+}
+
+// Up and down once, with every notice taken.
+fn flap(links: &mut Links) -> Result<(), LinkRefusal> {
+    links.up(0)?;
+    links.take(0, End::A)?;
+    links.take(0, End::B)?;
+    links.down(0)?;
+    links.take(0, End::A)?;
+    links.take(0, End::B)?;
+    Ok(())
+}
+
+#[test]
+fn items_come_out_in_order(rt: HostRuntime) -> Result<(), Fail> {
+    let mut links = one_link(rt.alloc())?;
+    let message = update()?;
+    links.up(0)?;
+    links.set_cost(0, End::B, Cost::new(6)?)?;
+    assert_eq!(rt; links.put(0, End::A, 1, message)?, Put::Queued);
+    assert_eq!(rt;
+        links.front(0, End::A)?,
+        Item::Up {
+            session: 1,
+            cost: Cost::new(5)?
+        }
+    );
+    assert_eq!(rt;
+        links.take(0, End::B)?,
+        Item::Up {
+            session: 1,
+            cost: Cost::new(9)?
+        }
+    );
+    assert_eq!(rt;
+        links.take(0, End::B)?,
+        Item::Cost {
+            session: 1,
+            cost: Cost::new(6)?
+        }
+    );
+    assert_eq!(rt; links.take(0, End::B)?, Item::Message(message));
+    assert_eq!(rt; links.take(0, End::B), Err(LinkRefusal::NothingToDeliver));
+    Ok(())
+}
+
+#[test]
+fn going_down_loses_the_messages(rt: HostRuntime) -> Result<(), Fail> {
+    let mut links = one_link(rt.alloc())?;
+    links.up(0)?;
+    links.put(0, End::A, 1, update()?)?;
+    links.down(0)?;
+    assert_eq!(rt;
+        links.take(0, End::B)?,
+        Item::Up {
+            session: 1,
+            cost: Cost::new(9)?
+        }
+    );
+    assert_eq!(rt; links.take(0, End::B)?, Item::Down { session: 1 });
+    assert_eq!(rt; links.take(0, End::B), Err(LinkRefusal::NothingToDeliver));
+    Ok(())
+}
+
+#[test]
+fn message_of_an_ended_session_is_stale(rt: HostRuntime) -> Result<(), Fail> {
+    let mut links = one_link(rt.alloc())?;
+    links.up(0)?;
+    links.down(0)?;
+    links.up(0)?;
+    assert_eq!(rt; links.put(0, End::A, 1, update()?)?, Put::Stale);
+    assert_eq!(rt; links.len(), 1);
+    assert_eq!(rt; links.queued(0, End::B), 3);
+    Ok(())
+}
+
+#[test]
+fn sessions_are_spent_at_65535(rt: HostRuntime) -> Result<(), Fail> {
+    let mut links = one_link(rt.alloc())?;
+    for _ in 0..65535 {
+        flap(&mut links)?;
+    }
+    assert_eq!(rt; links.up(0), Err(LinkRefusal::SessionsSpent));
+    assert_eq!(rt; links.len(), 1);
+    assert_eq!(rt; links.session(0), 65535);
+    Ok(())
+}
+
+#[test]
+fn refusals_have_their_numbers(rt: HostRuntime) -> Result<(), Fail> {
+    let refusals = [
+        (LinkRefusal::UnknownLink, "11 UnknownLink"),
+        (LinkRefusal::AlreadyUp, "13 AlreadyUp"),
+        (LinkRefusal::IsDown, "14 IsDown"),
+        (LinkRefusal::SessionsSpent, "15 SessionsSpent"),
+        (LinkRefusal::NothingToDeliver, "16 NothingToDeliver"),
+        (LinkRefusal::NoMemory, "20 NoMemory"),
+    ];
+    for (refusal, text) in refusals {
+        let of_step = Refusal::from(refusal);
+        let texts = (
+            format!(in rt.alloc(); "{refusal}")?,
+            format!(in rt.alloc(); "{of_step}")?,
+        );
+        assert_eq!(rt; texts.0.as_str(), text);
+        assert_eq!(rt; texts.1.as_str(), text);
+    }
+    Ok(())
+}

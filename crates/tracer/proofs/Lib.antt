@@ -1,0 +1,3 @@
+-- The proofs of the traces of a fabric.
+pub mod Runs
+pub mod Walks

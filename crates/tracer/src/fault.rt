@@ -1,0 +1,60 @@
+//! Why a packet is not traced.
+
+ghost use Rattle.std.specs.Prelude.{◌≡◌, ◌⊎◌};
+ghost use Rattle.tracer.specs.Faults.{refusal_of};
+ghost use Rattle.tracer.specs.declared.fault.TraceFault.TheVariants.{NoMemory as OutOfMemory};
+
+use network_model::Refusal;
+use std::alloc::AllocFailed;
+use thiserror::Error;
+
+/// Why a packet is not traced. Its text is its number and name.
+#[derive(Clone, Copy, Debug, PartialEq, Eq, Drop, Error)]
+pub enum TraceFault {
+    /// The router's number is too large.
+    #[error("10 UnknownRouter")]
+    UnknownRouter,
+    /// A growth was refused.
+    #[error("20 NoMemory")]
+    NoMemory,
+    /// A reader showed a later image than the one in force.
+    #[error("22 Stale")]
+    Stale,
+    /// A reader was given no image.
+    #[error("34 NoImage")]
+    NoImage,
+}
+
+impl<T: Drop> From<AllocFailed<T>> for TraceFault {
+    ghost from_gives = { λ _ e. e ≡ OutOfMemory };
+
+    fn from(_error: AllocFailed<T>) -> TraceFault {
+        TraceFault::NoMemory
+    }
+}
+
+impl From<TraceFault> for Refusal {
+    ghost from_gives = { λ fault e. e ≡ refusal_of fault };
+
+    fn from(fault: TraceFault) -> Refusal {
+        match fault {
+            TraceFault::UnknownRouter => Refusal::UnknownRouter,
+            TraceFault::NoMemory => Refusal::NoMemory,
+            TraceFault::Stale => Refusal::Stale,
+            TraceFault::NoImage => Refusal::NoImage,
+        }
+    }
+}
+
+// The fault of a look-up at a router that is known.
+pub fn lookup_fault(refusal: Refusal) -> TraceFault
+    requires { (refusal ≡ Refusal.Stale) ⊎ (refusal ≡ Refusal.NoImage) }
+    ensures stale { refusal ≡ Refusal.Stale → result ≡ TraceFault.Stale }
+    ensures no_image { refusal ≡ Refusal.NoImage → result ≡ TraceFault.NoImage }
+{
+    match refusal {
+        Refusal::Stale => TraceFault::Stale,
+        Refusal::NoImage => TraceFault::NoImage,
+        _ => unreachable!(),
+    }
+}

@@ -1,0 +1,15 @@
+-- What the program gave.
+use Rattle.std.specs.Prelude.{◌≡◌, ℕ, ◌⊎◌, Option, []}
+use Rattle.script.specs.Words.{Text}
+use Rattle.words.specs.declared.words.Words.{Words}
+use Rattle.play.specs.declared.program.End.{End}
+use Rattle.play.specs.declared.fault.Fault.{Fault}
+use Rattle.play.specs.Ends.{status_at, Ends, Stops}
+use Rattle.play.specs.Faults.{status_of}
+
+-- a command came to an end, or it stopped for a fault; the status says which, and a journal was kept or
+-- not
+abbrev pub Gave : Words → Option Text → Option Text → ℕ → Text → Type 0
+Gave words scenario journal status kept =
+    ((end : End) × (status ≡ status_at end) × Ends words scenario journal [] kept end)
+    ⊎ ((fault : Fault) × (status ≡ status_of fault.cause) × Stops words scenario journal fault)

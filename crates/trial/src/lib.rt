@@ -1,0 +1,60 @@
+//! What the program does, held in memory: for examples, random scenarios and tests.
+#![tactic(auto)]
+
+ghost use Rattle.std.specs.Prelude.{Option};
+ghost use Rattle.script.specs.Words.{Text};
+ghost use Rattle.trial.specs.Outcomes.{Gave};
+
+use play::{Host, Source, play};
+use std::alloc::Global;
+use std::io;
+use std::io::Read;
+use words::Words;
+
+/// What the program gave.
+#[derive(Drop)]
+pub struct Outcome {
+    /// Its exit status.
+    pub status: u8,
+    /// What it printed.
+    pub out: Vec<u8>,
+    /// What it printed of a fault.
+    pub err: Vec<u8>,
+    /// The text of the journal of a run that ended with status 0; else nothing.
+    pub kept: Vec<u8>,
+}
+
+/// Does what the words ask for, with the bytes of a scenario and of a journal.
+pub fn played<H, R, J>(rt: &H, alloc: Global, words: &Words<'_>, scenario: R, journal: J) -> Outcome
+where
+    H: Host,
+    R: Read + Drop,
+    J: Read + Drop,
+    ensures { Gave words.now (R.remaining scenario) (J.remaining journal) result.status result.kept.items }
+{
+    let mut out = Vec::new(alloc);
+    let mut err = Vec::new(alloc);
+    let mut kept = Vec::new(alloc);
+    let status = play(
+        rt, alloc, words, scenario, journal, &mut out, &mut err, &mut kept,
+    );
+    Outcome {
+        status,
+        out,
+        err,
+        kept,
+    }
+}
+
+/// The same where there is no journal to replay.
+pub fn asked<H: Host, R: Read + Drop>(
+    rt: &H,
+    alloc: Global,
+    words: &Words<'_>,
+    scenario: R,
+) -> Outcome
+    ensures { (journal : Option Text) × Gave words.now (R.remaining scenario) journal result.status result.kept.items }
+{
+    let missing: Source<io::Empty> = Source::Missing;
+    played(rt, alloc, words, scenario, missing)
+}
