@@ -10,7 +10,7 @@ use Rattle.network_model.specs.Step.{Lawful, next}
 use Rattle.network_model.specs.Run.{Runs}
 use Rattle.network_model.specs.Journal.{Fits, journal_sum, step_code, step_number}
 use Rattle.network_model.proofs.JournalLaws.{packed_below, step_number_injective}
-use Rattle.world.proofs.Headline.{runs-append}
+use Rattle.world.proofs.Runs.{runs-append}
 use Rattle.fabric.specs.Fabric.{Fabric, after_step, fabric_of}
 use Rattle.fabric.specs.Images.{images_in_force}
 use Rattle.control.specs.Served.{AreTurns, IsServed, IsTurnAt, images_after}

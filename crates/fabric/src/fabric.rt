@@ -5,7 +5,7 @@ ghost use Rattle.network_model.specs.World as model;
 ghost use Rattle.network_model.specs.Step as steps;
 ghost use Rattle.network_model.specs.Run.{Runs};
 ghost use Rattle.network_model.specs.Journal.{journal_sum, most_steps};
-ghost use Rattle.world.specs.Steps.{IsDoneOr, StopsAt};
+ghost use Rattle.world.specs.Steps.{DiscardsStale, IsDoneOr, StopsAt};
 ghost use Rattle.publication.specs.Lists.{answer_of as seen_answer, image_of};
 ghost use Rattle.fabric.specs.Fabric.{opening_fabric, after_step, fabric_refusal, ForwardsAsPublished};
 ghost use Rattle.fabric.specs.Images.{answer_at};
@@ -201,11 +201,12 @@ impl<B: Naming> Fabric<B> {
 
     /// Does one step, and writes it into the journal. Refused, it leaves all as it was: with
     /// `JournalFull` where the journal is full, then as the world refuses it; want of memory comes
-    /// last.
+    /// last. The release of a stale message takes none.
     pub fn step<R: Wait>(&mut self, rt: &R, step: Step) -> Result<(), Refusal>
         ensures ok { OnOk result (steps.Lawful (self.old).world step × (self.new ≡ after_step self.old step)) }
         ensures err { OnErr result (self.new ≡ self.old) }
         ensures cause { IsDoneOr (fabric_refusal self.old step) result }
+        ensures stale { fabric_refusal self.old step ≡ None → DiscardsStale (self.old).world step result }
         ensures forwards { ForwardsAsPublished self.new }
         ensures no_loop { NeverMeetsTwice self.new }
         ensures least_cost { LeadsAtLeastCost self.new }
@@ -219,6 +220,7 @@ impl<B: Naming> Fabric<B> {
         ensures ok { OnOk result (steps.Lawful (self.old).world step × (self.new ≡ after_step self.old step)) }
         ensures err { OnErr result (self.new ≡ self.old) }
         ensures cause { IsDoneOr (fabric_refusal self.old step) result }
+        ensures stale { fabric_refusal self.old step ≡ None → DiscardsStale (self.old).world step result }
     {
         if self.journal.len() >= MOST_STEPS {
             return Err(Refusal::JournalFull);

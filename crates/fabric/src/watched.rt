@@ -5,7 +5,7 @@ ghost use Rattle.std.specs.Option.{option_map_or};
 ghost use Rattle.network_model.specs.World as model;
 ghost use Rattle.network_model.specs.Step as steps;
 ghost use Rattle.network_model.specs.Turns as turns;
-ghost use Rattle.world.specs.Steps.{IsDoneOr, HasRoomForSteps};
+ghost use Rattle.world.specs.Steps.{DiscardsStale, IsDoneOr, HasRoomForSteps};
 ghost use Rattle.fabric.specs.Rest.{is_busy, is_restless, link_number};
 
 use link_fifo::Links;
@@ -67,6 +67,7 @@ impl WatchedWorld {
         ensures err { OnErr result (self.new ≡ self.old) }
         ensures cause { IsDoneOr (steps.refusal self.old step) result }
         ensures publication { (i : ℕ) → step ≡ Step.Publish i → MatchOption (steps.refusal self.old step) (IsOk result) (λ e. result ≡ Err e) }
+        ensures stale { DiscardsStale self.old step result }
     {
         let touched = Touched::by(&step, &self.world);
         let before = touched.unrest(&self.world);

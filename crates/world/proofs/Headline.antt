@@ -1,18 +1,12 @@
 -- Runs that go on from a world to which a run of a network led.
-use Rattle.std.specs.Prelude.{List, [], ◌∷◌, ◌++◌}
-use Rattle.std.proofs.Common.{sym, subst}
+use Rattle.std.specs.Prelude.{List, ◌++◌}
 use Rattle.network_model.specs.declared.step.Step.{Step}
 use Rattle.network_model.specs.World.{Network, World, opening}
-use Rattle.network_model.specs.Step.{next}
 use Rattle.network_model.specs.Run.{Runs}
 use Rattle.packet_loops.proofs.Walks.{always_packets_free}
 use Rattle.quiet_routes.proofs.Routes.{quiet_routes}
 use Rattle.world.specs.Headline.{IsReached, IsSound}
-
--- steps after steps
-pub runs-append : (w : World) (ss : List Step) (v : World) (ts : List Step) (u : World) → Runs w ss v → Runs v ts u → Runs w (ss ++ ts) u
-runs-append w [] v ts u runs later = subst (λ x. Runs x ts u) (sym runs) later
-runs-append w (s ∷ ss) v ts u runs later = (runs.0, runs-append (next w s) ss v ts u runs.1 later)
+use Rattle.world.proofs.Runs.{runs-append}
 
 -- a world to which more steps lead
 pub reached_on : (n : Network) (w v : World) (ss : List Step) → IsReached n w → Runs w ss v → IsReached n v

@@ -1,7 +1,7 @@
--- Runs by one step more, and the room that a run leaves for generations.
+-- Runs by more steps, and the room that a run leaves for generations.
 use Rattle.std.specs.Prelude.{◌≡◌, ℕ, zero, suc, ◌+◌, ◌<◌, ◌^◌, List, [], ◌∷◌, ◌++◌, map, length, get_or, All}
 use Rattle.std.specs.List.{range_with_len}
-use Rattle.std.proofs.Common.{refl, sym, ap, subst, arith}
+use Rattle.std.proofs.Common.{refl, sym, subst, arith}
 use Rattle.network_model.specs.declared.item.Item.{Item}
 use Rattle.network_model.specs.declared.network.End.{End}
 use Rattle.network_model.specs.declared.step.Step.{Step}
@@ -14,10 +14,14 @@ use Rattle.network_model.proofs.ListLaws.{option_map_or-ind}
 use Rattle.network_model.proofs.WorldLaws.{routers-changed_link}
 use Rattle.world.specs.Steps.{HasRoomForSteps}
 
+-- steps after steps
+pub runs-append : (w : World) (ss : List Step) (v : World) (ts : List Step) (u : World) → Runs w ss v → Runs v ts u → Runs w (ss ++ ts) u
+runs-append w [] v ts u runs later = subst (λ x. Runs x ts u) (sym runs) later
+runs-append w (s ∷ ss) v ts u runs later = (runs.0, runs-append (next w s) ss v ts u runs.1 later)
+
 -- a run with one lawful step more
 pub with_last_step : (w : World) (ss : List Step) (v : World) (s : Step) → Runs w ss v → Lawful v s → Runs w (ss ++ s ∷ []) (next v s)
-with_last_step w [] v s runs lawful = (subst (λ x. Lawful x s) (sym runs) lawful, ap (λ x. next x s) runs)
-with_last_step w (t ∷ ts) v s runs lawful = (runs.0, with_last_step (next w t) ts v s runs.1 lawful)
+with_last_step w ss v s runs lawful = runs-append w ss v (s ∷ []) (next v s) runs (lawful, refl)
 
 -- ---- room
 

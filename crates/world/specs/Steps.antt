@@ -1,11 +1,15 @@
 -- What a step answers, and the room that the routers' generations need.
-use Rattle.std.specs.Prelude.{ℕ, ◌+◌, ◌^◌, ◌<◌, List, [], ◌∷◌, slice_get, is_none, Option, Some, Result, Err, ◌≡◌, MatchOption, IsOkUnless, All}
+use Rattle.std.specs.Prelude.{ℕ, ◌+◌, ◌^◌, ◌<◌, Bool, true, false, not, List, [], ◌∷◌, slice_get, is_none, Option, Some, Result, Err, ◌≡◌, MatchOption, IsOk, IsOkUnless, All}
+use Rattle.std.specs.Option.{option_map_or}
 use Rattle.network_model.specs.declared.step.Step.{Step}
+use Rattle.network_model.specs.declared.step.Step.TheVariants.{Release}
 use Rattle.network_model.specs.declared.step.Refusal.{Refusal}
 use Rattle.network_model.specs.declared.step.Refusal.TheVariants.{UnknownRouter, UnknownLink}
+use Rattle.network_model.specs.declared.item.Held.{Held}
 use Rattle.network_model.specs.declared.network.Place.{Place}
 use Rattle.network_model.specs.World.{Link, Router, World, place_at, link_at}
 use Rattle.network_model.specs.Network.{first_cause}
+use Rattle.network_model.specs.Step.{is_up_in, release_at}
 
 -- refused for this cause, if there is one; else done, unless memory runs out
 abbrev pub IsDoneOr : {X : Type 0} → Option Refusal → Result X Refusal → Type 0
@@ -22,6 +26,14 @@ StopsAt cause steps n e = (s : Step) × (slice_get steps n ≡ Some s) × CanBeR
 -- no router's generation passes 64 bits in this many steps
 abbrev pub HasRoomForSteps : ℕ → World → Type 0
 HasRoomForSteps n w = All (λ (r : Router). r.generation + n < 2 ^ 64) w.routers
+
+-- a message that router i holds is stale: the link of its port is not up in its session, or no more there
+abbrev pub is_stale : World → ℕ → Held → Bool
+is_stale w i h = not (option_map_or (is_up_in h.session) (link_at w i h.port) false)
+
+-- a step that releases a stale message is done, as if there were always memory
+abbrev pub DiscardsStale : {X : Type 0} → World → Step → Result X Refusal → Type 0
+DiscardsStale w s r = (i : ℕ) (h : Held) → s ≡ Release i → release_at w i ≡ Some h → is_stale w i h ≡ true → IsOk r
 
 -- a port of a router that is there, at the end of a link that is there
 pub record IsPort (w : World) (i q : ℕ) (p : Place) : Type 0 where

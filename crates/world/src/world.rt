@@ -8,7 +8,8 @@ ghost use Rattle.network_model.specs.Step as steps;
 ghost use Rattle.network_model.specs.Step.{refusal};
 ghost use Rattle.network_model.specs.Run.{Runs};
 ghost use Rattle.network_model.specs.Turns as turns;
-ghost use Rattle.world.specs.Steps.{IsDoneOr, HasRoomForSteps, IsPort, port_refusal, StopsAt};
+ghost use Rattle.network_model.specs.declared.item.Held.{Held};
+ghost use Rattle.world.specs.Steps.{DiscardsStale, IsDoneOr, HasRoomForSteps, IsPort, is_stale, port_refusal, StopsAt};
 ghost use Rattle.world.specs.Headline.{IsReached, IsSound};
 ghost use Rattle.world.specs.Waiting.{is_waiting, waiting_port};
 
@@ -142,13 +143,15 @@ impl World {
     }
 
     /// Does one step. Refused, it leaves all as it was. The causes are tested in the order of the
-    /// definition; want of memory comes after them. A publication takes no memory.
+    /// definition; want of memory comes after them. A publication takes no memory, nor does the release
+    /// of a stale message, which is discarded.
     pub fn step(&mut self, step: Step) -> Result<(), Refusal>
         requires { HasRoomForSteps 1 self.old }
         ensures ok { OnOk result (steps.Lawful self.old step × (self.new ≡ steps.next self.old step)) }
         ensures err { OnErr result (self.new ≡ self.old) }
         ensures cause { IsDoneOr (steps.refusal self.old step) result }
         ensures publication { (i : ℕ) → step ≡ Step.Publish i → MatchOption (steps.refusal self.old step) (IsOk result) (λ e. result ≡ Err e) }
+        ensures stale { DiscardsStale self.old step result }
     {
         match step {
             Step::LinkUp { link } => self.link_up(link),
@@ -246,6 +249,7 @@ impl World {
         ensures ok { OnOk result (self.new ≡ steps.next self.old (Step.Release router)) }
         ensures err { OnErr result (self.new ≡ self.old) }
         ensures cause { IsDoneOr (steps.refusal self.old (Step.Release router)) result }
+        ensures stale { (h : Held) → steps.release_at self.old router ≡ Some h → is_stale self.old router h ≡ true → IsOk result }
     {
         if usize::from(router) >= self.routers.len() {
             return Err(Refusal::UnknownRouter);
