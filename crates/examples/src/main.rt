@@ -12,10 +12,11 @@ use trial::{Outcome, asked, played};
 use words::Words;
 
 // The scenarios, without the ends of their names.
-const EXAMPLES: [&str; 7] = [
+const EXAMPLES: [&str; 8] = [
     "two-routers",
     "ring",
     "line",
+    "long-line",
     "grid",
     "flapping-link",
     "nested-prefixes",

@@ -92,3 +92,105 @@ fn runs_up_to_a_refused_step(rt: HostRuntime) -> Result<(), Fail> {
     assert!(rt; world.links().len() == 1 && world.links().is_up(0));
     Ok(())
 }
+
+fn spec(a: u16, b: u16) -> Result<LinkSpec, Fail> {
+    Ok(LinkSpec {
+        a,
+        b,
+        from_a: Cost::new(1)?,
+        from_b: Cost::new(1)?,
+    })
+}
+
+// As much as a network can have: 256 routers and 1024 links, 32 of them at router 0, which owns 4096
+// prefixes. Link 0 joins routers 0 and 1.
+fn largest(alloc: Global) -> Result<Network, Fail> {
+    let mut links = Vec::new(alloc);
+    for b in 1..33 {
+        links.push(spec(0, b)?)?;
+    }
+    for apart in 1..5 {
+        for a in 1..249 {
+            links.push(spec(a, a + apart)?)?;
+        }
+    }
+    let mut prefixes = Vec::new(alloc);
+    for block in 0..4096 {
+        prefixes.push((Prefix::new(0x0A00_0000 + block * 0x100, 24)?, 0))?;
+    }
+    Ok(Network::new(256, links, prefixes)?)
+}
+
+// Takes so many items at a port.
+fn deliver(world: &mut World, router: u16, count: usize) -> Result<(), Fail> {
+    for _ in 0..count {
+        step(world, Step::Deliver { router, port: 0 })?;
+    }
+    Ok(())
+}
+
+// Link 0 comes up, and router 0 sends all that it owns.
+fn comes_up(world: &mut World) -> Result<(), Fail> {
+    step(world, Step::LinkUp { link: 0 })?;
+    deliver(world, 0, 1)?;
+    step(world, Step::Publish { router: 0 })?;
+    for _ in 0..4096 {
+        step(world, Step::Release { router: 0 })?;
+    }
+    Ok(())
+}
+
+#[test]
+fn the_largest_network_works(rt: HostRuntime) -> Result<(), Fail> {
+    let alloc = rt.alloc();
+    let network = largest(alloc)?;
+    let mut world = World::open(alloc, &network)?;
+    comes_up(&mut world)?;
+    deliver(&mut world, 1, 4097)?;
+    step(
+        &mut world,
+        Step::SetCost {
+            router: 0,
+            port: 0,
+            cost: Cost::new(2)?,
+        },
+    )?;
+    deliver(&mut world, 0, 1)?;
+    step(
+        &mut world,
+        Step::SetCost {
+            router: 1,
+            port: 0,
+            cost: Cost::new(2)?,
+        },
+    )?;
+    deliver(&mut world, 1, 1)?;
+    step(&mut world, Step::Publish { router: 1 })?;
+    let last = Prefix::parse("10.15.255.0/24")?;
+    assert_eq!(rt; world.routers().len(), 256);
+    if world.routers().len() > 1 {
+        let found = world.router(1);
+        assert_eq!(rt; (found.table().len(), found.held()), (4096, 8192));
+        assert_eq!(rt;
+            found.table().published(last),
+            Some(Entry::Via {
+                port: 0,
+                session: 1
+            })
+        );
+    }
+    // What was sent is lost with its session.
+    step(&mut world, Step::LinkDown { link: 0 })?;
+    deliver(&mut world, 0, 1)?;
+    deliver(&mut world, 1, 1)?;
+    comes_up(&mut world)?;
+    step(&mut world, Step::LinkDown { link: 0 })?;
+    deliver(&mut world, 0, 1)?;
+    // The notices that the link came up and went down are left.
+    deliver(&mut world, 1, 2)?;
+    assert_eq!(rt;
+        world.step(Step::Deliver { router: 1, port: 0 }),
+        Err(Refusal::NothingToDeliver)
+    );
+    Ok(())
+}
