@@ -5,7 +5,7 @@ ghost use Rattle.fabric.specs.Writers.{opening_tables};
 ghost use Rattle.control.specs.Names.{IsNamed};
 
 use control::{Control, Naming, Opening, Refusal, Share, Step, TurnGate, one_step, settle};
-use fabric::{Fabric, Network, Prefix, Unnamed};
+use fabric::{Fabric, MOST_STEPS, Network, Prefix, Unnamed};
 use network_model::{Cost, LinkSpec};
 use std::alloc::Global;
 use std::marker::Brand;
@@ -43,6 +43,7 @@ enum Trial {
     ByHand,
     Meets,
     Serves,
+    IsRefused { router: u16 },
     GivesJobs,
     OneStep,
     Settles,
@@ -148,6 +149,7 @@ where
             (shares, done)
         }
         Trial::Meets => meets(rt, control, shares),
+        Trial::IsRefused { router } => is_refused(rt, control, shares, router),
         Trial::GivesJobs => gives_jobs(rt, control, shares),
         _ => serves(rt, control, shares),
     }
@@ -251,6 +253,77 @@ fn two_serve(rt: HostRuntime) -> Result<(), Fail> {
 #[test]
 fn sixteen_serve(rt: HostRuntime) -> Result<(), Fail> {
     two(&rt, rt.alloc(), 16, Trial::Serves)
+}
+
+fn priced(router: u16, cost: Cost) -> Step {
+    Step::SetCost {
+        router,
+        port: 0,
+        cost,
+    }
+}
+
+// Fills the journal with the same cost, told again and again, so that this router has something to
+// do, and no other.
+fn fill<B: publication::Naming, N: Naming, H: Wait>(
+    rt: &H,
+    control: &Control<B, N>,
+    router: u16,
+    share: &mut Share<N>,
+) -> Result<(), Fail>
+    requires asked { (s : Step) → N.asked s ≡ true }
+{
+    control.step(rt, UP, share)?;
+    for _ in 0..10 {
+        control.turn(rt, 0, share)?;
+        control.turn(rt, 1, share)?;
+    }
+    if !control.is_settled(rt) {
+        return Err("something is left to do".into());
+    }
+    let cost = Cost::new(5)?;
+    control.step(rt, priced(router, cost), share)?;
+    for _ in 0..MOST_STEPS {
+        let told = control.step(rt, priced(router, cost), share);
+        if told.is_err() || control.turn(rt, router, share).is_err() {
+            break;
+        }
+    }
+    Ok(())
+}
+
+// The thread of this router meets a refusal, and the other has nothing to do.
+fn is_refused<B, N, H>(
+    rt: &H,
+    control: &Control<B, N>,
+    shares: Vec<Share<N>>,
+    router: u16,
+) -> (Vec<Share<N>>, Result<(), Fail>)
+where
+    B: publication::Naming + Send + Sync,
+    N: Naming + Send + Sync,
+    H: Threads + Wait + Abort + Sync,
+    requires some { 0 < vec_len shares }
+    requires asked { (s : Step) → N.asked s ≡ true }
+    ensures { vec_len result.0 ≡ vec_len shares }
+{
+    let mut shares = shares;
+    if let Err(fail) = fill(rt, control, router, &mut shares[0]) {
+        return (shares, Err(fail));
+    }
+    let done = control.serve(rt, &mut shares, &Open);
+    assert_eq!(rt; done, Err(Refusal::JournalFull));
+    (shares, Ok(()))
+}
+
+#[test]
+fn first_thread_is_refused(rt: HostRuntime) -> Result<(), Fail> {
+    two(&rt, rt.alloc(), 2, Trial::IsRefused { router: 0 })
+}
+
+#[test]
+fn second_thread_is_refused(rt: HostRuntime) -> Result<(), Fail> {
+    two(&rt, rt.alloc(), 2, Trial::IsRefused { router: 1 })
 }
 
 // Whether the number gets there within 1000 polls, a millisecond apart.
