@@ -129,15 +129,20 @@ fn deliver(world: &mut World, router: u16, count: usize) -> Result<(), Fail> {
     Ok(())
 }
 
+// A router sends so many messages.
+fn release(world: &mut World, router: u16, count: usize) -> Result<(), Fail> {
+    for _ in 0..count {
+        step(world, Step::Release { router })?;
+    }
+    Ok(())
+}
+
 // Link 0 comes up, and router 0 sends all that it owns.
 fn comes_up(world: &mut World) -> Result<(), Fail> {
     step(world, Step::LinkUp { link: 0 })?;
     deliver(world, 0, 1)?;
     step(world, Step::Publish { router: 0 })?;
-    for _ in 0..4096 {
-        step(world, Step::Release { router: 0 })?;
-    }
-    Ok(())
+    release(world, 0, 4096)
 }
 
 #[test]
@@ -180,6 +185,7 @@ fn the_largest_network_works(rt: HostRuntime) -> Result<(), Fail> {
         );
     }
     // What was sent is lost with its session.
+    release(&mut world, 1, 8192)?;
     step(&mut world, Step::LinkDown { link: 0 })?;
     deliver(&mut world, 0, 1)?;
     deliver(&mut world, 1, 1)?;
@@ -188,6 +194,9 @@ fn the_largest_network_works(rt: HostRuntime) -> Result<(), Fail> {
     deliver(&mut world, 0, 1)?;
     // The notices that the link came up and went down are left.
     deliver(&mut world, 1, 2)?;
+    if !world.has_room_for(1) {
+        return Err("a generation has no room".into());
+    }
     assert_eq!(rt;
         world.step(Step::Deliver { router: 1, port: 0 }),
         Err(Refusal::NothingToDeliver)
