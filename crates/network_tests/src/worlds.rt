@@ -121,7 +121,7 @@ fn largest(alloc: Global) -> Result<Network, Fail> {
     Ok(Network::new(256, links, prefixes)?)
 }
 
-// Takes so many items at a port.
+// A router takes so many items at its first port.
 fn deliver(world: &mut World, router: u16, count: usize) -> Result<(), Fail> {
     for _ in 0..count {
         step(world, Step::Deliver { router, port: 0 })?;
