@@ -4,9 +4,10 @@ ghost use Rattle.std.specs.Prelude.{◌≡◌, ◌<◌, true, vec_len};
 ghost use Rattle.fabric.specs.Writers.{opening_tables};
 ghost use Rattle.control.specs.Names.{IsNamed};
 
+use crate::networks::two_routers;
 use control::{Control, Naming, Opening, Refusal, Share, Step, TurnGate, one_step, settle};
-use fabric::{Fabric, MOST_STEPS, Network, Prefix, Unnamed};
-use network_model::{Cost, LinkSpec};
+use fabric::{Fabric, MOST_STEPS, Network, Unnamed};
+use network_model::Cost;
 use std::alloc::Global;
 use std::marker::Brand;
 use std::process::Abort;
@@ -16,19 +17,6 @@ use std::test::Fail;
 use std::thread;
 use std::thread::Threads;
 use std::time::{Clock, Duration};
-
-// Routers 0 and 1 with one link at cost 5 each way; router 0 owns 10.0.0.0/8.
-fn two_routers(alloc: Global) -> Result<Network, Fail> {
-    let link = LinkSpec {
-        a: 0,
-        b: 1,
-        from_a: Cost::new(5)?,
-        from_b: Cost::new(5)?,
-    };
-    let links = vec![in alloc; link]?;
-    let prefixes = vec![in alloc; (Prefix::parse("10.0.0.0/8")?, 0)]?;
-    Ok(Network::new(2, links, prefixes)?)
-}
 
 const UP: Step = Step::LinkUp { link: 0 };
 

@@ -3,26 +3,13 @@
 ghost use Rattle.std.specs.Prelude.{◌≡◌, vec_len};
 ghost use Rattle.fabric.specs.Writers.{opening_tables};
 
+use crate::networks::two_routers;
 use fabric::{Answer, Entry, Fabric, ImageReader, Naming, Network, Prefix, Refusal, Step, Unnamed};
-use network_model::{Cost, LinkSpec};
 use std::alloc::Global;
 use std::marker::Brand;
 use std::process::Abort;
 use std::sync::Wait;
 use std::test::Fail;
-
-// Routers 0 and 1 with one link at cost 5 each way; router 0 owns 10.0.0.0/8.
-fn two_routers(alloc: Global) -> Result<Network, Fail> {
-    let link = LinkSpec {
-        a: 0,
-        b: 1,
-        from_a: Cost::new(5)?,
-        from_b: Cost::new(5)?,
-    };
-    let links = vec![in alloc; link]?;
-    let prefixes = vec![in alloc; (Prefix::parse("10.0.0.0/8")?, 0)]?;
-    Ok(Network::new(2, links, prefixes)?)
-}
 
 // The steps by which router 1 learns the way of router 0, and publishes it.
 const LEARNS: [Step; 7] = [

@@ -3,8 +3,8 @@
 ghost use Rattle.std.specs.Prelude.{◌≡◌, vec_len};
 ghost use Rattle.fabric.specs.Writers.{opening_tables};
 
+use crate::networks::link;
 use fabric::{Network, Prefix, Step, Unnamed};
-use network_model::{Cost, LinkSpec};
 use std::alloc::Global;
 use std::marker::Brand;
 use std::process::Abort;
@@ -35,15 +35,6 @@ const SECOND: u8 = 1;
 const ADDR: u32 = 0x0A00_0001;
 
 const LONGER: u32 = 0x0A01_0001;
-
-fn link(a: u16, b: u16, cost: u32) -> Result<LinkSpec, Fail> {
-    Ok(LinkSpec {
-        a,
-        b,
-        from_a: Cost::new(cost)?,
-        from_b: Cost::new(cost)?,
-    })
-}
 
 // In a ring: the link of a and c costs 5, the others 1; a owns 10.0.0.0/8.
 fn ring(alloc: Global) -> Result<Network, Fail> {

@@ -1,6 +1,6 @@
 //! The texts of lines.
 
-use crate::scripts::read;
+use crate::scripts::{read, writes};
 use metric::{Cost, Distance};
 use network_model::{Entry, Prefix};
 use script::{Directory, LinkLine, MachineLine, Reading, RouterLine};
@@ -26,8 +26,8 @@ fn links(rt: HostRuntime) -> Result<(), Fail> {
         queued_a: 2,
         queued_b: 3,
     };
-    let got = format!(in rt.alloc(); "{}", directory.link(line))?;
-    assert_eq!(rt; got.as_str(), "link a b up 2 5 5 queued 2 3");
+    let want = "link a b up 2 5 5 queued 2 3";
+    writes(&rt, rt.alloc(), &directory.link(line), want)?;
     let line = LinkLine {
         a: 2,
         b: 1,
@@ -38,9 +38,8 @@ fn links(rt: HostRuntime) -> Result<(), Fail> {
         queued_a: 0,
         queued_b: 70_000,
     };
-    let got = format!(in rt.alloc(); "{}", directory.link(line))?;
-    assert_eq!(rt; got.as_str(), "link c b down 65535 1 65535 queued 0 70000");
-    Ok(())
+    let want = "link c b down 65535 1 65535 queued 0 70000";
+    writes(&rt, rt.alloc(), &directory.link(line), want)
 }
 
 #[test]
@@ -62,15 +61,16 @@ fn routers(rt: HostRuntime) -> Result<(), Fail> {
             held,
             ripe,
         };
-        let got = format!(in rt.alloc(); "{}", directory.router(line))?;
-        assert_eq!(rt; got.as_str(), want);
+        writes(&rt, rt.alloc(), &directory.router(line), want)?;
     }
     Ok(())
 }
 
 #[test]
 fn machines(rt: HostRuntime) -> Result<(), Fail> {
-    let directory = directory(rt.alloc())?;
+    let alloc = rt.alloc();
+    let directory = directory(alloc)?;
+    let prefix = Prefix::new(0x0a00_0000, 8)?;
     let via = Entry::Via {
         port: 1,
         session: 1,
@@ -111,17 +111,18 @@ fn machines(rt: HostRuntime) -> Result<(), Fail> {
     ] {
         let line = MachineLine {
             router,
-            prefix: Prefix::new(0x0a00_0000, 8)?,
+            prefix,
             origin,
             rd: Distance::new(rd),
             fd: Distance::new(fd),
             entry,
         };
-        let got = format!(in rt.alloc(); "{}", directory.machine(line))?;
-        assert_eq!(rt; got.as_str(), want);
+        writes(&rt, alloc, &directory.machine(line), want)?;
     }
-    let unheard = directory.unheard(1, Prefix::new(0x0a00_0000, 8)?);
-    let got = format!(in rt.alloc(); "{unheard}")?;
-    assert_eq!(rt; got.as_str(), "b 10.0.0.0/8 unheard");
-    Ok(())
+    writes(
+        &rt,
+        alloc,
+        &directory.unheard(1, prefix),
+        "b 10.0.0.0/8 unheard",
+    )
 }

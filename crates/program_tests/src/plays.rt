@@ -6,6 +6,7 @@ mod reports;
 mod settling;
 mod tracing;
 
+use crate::scripts::row_of;
 use play::{Host, Source, play};
 use std::alloc::{AllocError, Global};
 use std::io;
@@ -282,20 +283,11 @@ a|b;a b 1 1;x|0.0.0.0/0 a;x;43 BadLine at prefixes 0
 a|b;a b 1;;x;43 BadLine at links 0
 a|b;a z 1 1;;x;25 BadLink at links 0";
 
-// The parts of a row of these tables.
-fn parts(row: &str) -> Option<(&str, &str, &str, &str, &str)> {
-    let (routers, row) = row.split_once(';')?;
-    let (links, row) = row.split_once(';')?;
-    let (prefixes, row) = row.split_once(';')?;
-    let (script, fault) = row.split_once(';')?;
-    Some((routers, links, prefixes, script, fault))
-}
-
 #[test]
 fn refuses_scenarios(rt: HostRuntime) -> Result<(), Fail> {
     for rows in [FAULTS, FIRST_FAULTS] {
         for row in rows.split('\n') {
-            let (routers, links, prefixes, script, fault) = parts(row).ok_or("no row")?;
+            let (routers, links, prefixes, script, fault) = row_of(row).ok_or("no row")?;
             let line = format!(in rt.alloc(); "dualnet: {fault}\n")?;
             let text = scenario(rt.alloc(), routers, links, prefixes, script)?;
             for words in [&CHECK, &RUN] {

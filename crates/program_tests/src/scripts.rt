@@ -1,10 +1,12 @@
 //! Readings of whole scenarios, and the texts of faults and rows.
 
 use metric::Cost;
-use network_model::{Entry, Step};
+use network_model::{Entry, Prefix, Step};
 use packet_trace::{End, Trace};
 use script::{Command, Directory, Reading, read_script};
 use std::alloc::{AllocError, Global};
+use std::fmt::Display;
+use std::process::Abort;
 use std::test::Fail;
 
 // The parts of a text between bars, as lines; no lines of an empty text.
@@ -169,7 +171,7 @@ a;;x;x;43 BadLine at prefixes 0
 a;;;x;45 BadCommand at script 0";
 
 // The parts of a row.
-fn row_of(row: &str) -> Option<(&str, &str, &str, &str, &str)> {
+pub(crate) fn row_of(row: &str) -> Option<(&str, &str, &str, &str, &str)> {
     let (routers, row) = row.split_once(';')?;
     let (links, row) = row.split_once(';')?;
     let (prefixes, row) = row.split_once(';')?;
@@ -330,51 +332,109 @@ fn texts_of_traces(rt: HostRuntime) -> Result<(), Fail> {
     ] {
         let path = vec![in rt.alloc(); 2u16, 1, 0]?;
         let traced = Trace { path, end };
-        let got = format!(in rt.alloc(); "{}", directory.trace(2, 0x0a00_0001, &traced))?;
-        assert_eq!(rt; got.as_str(), want);
+        writes(
+            &rt,
+            rt.alloc(),
+            &directory.trace(2, 0x0a00_0001, &traced),
+            want,
+        )?;
     }
     let path = vec![in rt.alloc(); 0u16]?;
     let end = End::NoRoute;
     let traced = Trace { path, end };
-    let got = format!(in rt.alloc(); "{}", directory.trace(0, 0, &traced))?;
-    assert_eq!(rt; got.as_str(), "trace a 0.0.0.0: a no route");
+    let want = "trace a 0.0.0.0: a no route";
+    writes(&rt, rt.alloc(), &directory.trace(0, 0, &traced), want)
+}
+
+// A value is written so.
+pub(crate) fn writes<T: Display>(
+    rt: &impl Abort,
+    alloc: Global,
+    text: &T,
+    want: &str,
+) -> Result<(), Fail> {
+    let got = format!(in alloc; "{text}")?;
+    assert_eq!(rt; got.as_str(), want);
+    Ok(())
+}
+
+// Routers a and b, with a link from port 0 of each to the other.
+fn two_routers(alloc: Global) -> Result<Directory, Fail> {
+    let Reading { script, fault: _ } = read(alloc, "a|b", "a b 1 1", "", "")?;
+    Ok(Directory::new(alloc, script.names, &script.links)?)
+}
+
+const VIA: Entry = Entry::Via {
+    port: 0,
+    session: 1,
+};
+
+#[test]
+fn owners_in_order(rt: HostRuntime) -> Result<(), Fail> {
+    let reading = read(rt.alloc(), "a|b", "", "10.0.0.0/8 b|0.0.0.0/0 a", "")?;
+    let owners = [(Prefix::new(0x0a00_0000, 8)?, 1), (Prefix::new(0, 0)?, 0)];
+    assert_eq!(rt; reading.script.owners.as_slice(), owners.as_slice());
     Ok(())
 }
 
 #[test]
-fn texts(rt: HostRuntime) -> Result<(), Fail> {
-    let reading = read(rt.alloc(), "a|b", "a b 1 1", "10.0.0.0/8 a|0.0.0.0/0 a", "")?;
-    let script = reading.script;
-    let directory = Directory::new(rt.alloc(), script.names, &script.links)?;
+fn neighbours(rt: HostRuntime) -> Result<(), Fail> {
+    let directory = two_routers(rt.alloc())?;
     assert_eq!(rt; directory.neighbour(1, 0), Some(0));
     assert_eq!(rt; directory.neighbour(1, 1), None);
     assert_eq!(rt; directory.names().name(1), Some("b"));
-    assert_eq!(rt; script.owners.len(), 2);
-    let (block, _) = script.owners[0];
-    let (all, _) = script.owners[1];
-    let via = Entry::Via {
-        port: 0,
-        session: 1,
-    };
+    Ok(())
+}
+
+#[test]
+fn texts_of_rows(rt: HostRuntime) -> Result<(), Fail> {
+    let alloc = rt.alloc();
+    let directory = two_routers(alloc)?;
+    let block = Prefix::new(0x0a00_0000, 8)?;
     for (entry, want) in [
         (Entry::Local, "b 10.0.0.0/8 local"),
-        (via, "b 10.0.0.0/8 via a 1"),
+        (VIA, "b 10.0.0.0/8 via a 1"),
         (Entry::Unreachable, "b 10.0.0.0/8 unreachable"),
     ] {
-        let got = format!(in rt.alloc(); "{}", directory.row(1, block, entry))?;
-        assert_eq!(rt; got.as_str(), want);
+        writes(&rt, alloc, &directory.row(1, block, entry), want)?;
     }
-    let found = directory.lookup(0, u32::MAX, Some((all, Entry::Local)));
-    let got = format!(in rt.alloc(); "{found}")?;
-    assert_eq!(rt; got.as_str(), "lookup a 255.255.255.255: 0.0.0.0/0 local");
-    let missed = directory.lookup(0, 0, None);
-    let got = format!(in rt.alloc(); "{missed}")?;
-    assert_eq!(rt; got.as_str(), "lookup a 0.0.0.0: none");
-    let found = directory.packet(7, 1, 0x0a00_0001, Some((block, via)));
-    let got = format!(in rt.alloc(); "{found}")?;
-    assert_eq!(rt; got.as_str(), "packet 7 b 10.0.0.1: 10.0.0.0/8 via a 1");
-    let missed = directory.packet(u64::MAX, 0, 0, None);
-    let got = format!(in rt.alloc(); "{missed}")?;
-    assert_eq!(rt; got.as_str(), "packet 18446744073709551615 a 0.0.0.0: none");
+    Ok(())
+}
+
+#[test]
+fn texts_of_answers(rt: HostRuntime) -> Result<(), Fail> {
+    let alloc = rt.alloc();
+    let directory = two_routers(alloc)?;
+    let all = Some((Prefix::new(0, 0)?, Entry::Local));
+    let block = Some((Prefix::new(0x0a00_0000, 8)?, VIA));
+    for (addr, matched, want) in [
+        (u32::MAX, all, "lookup a 255.255.255.255: 0.0.0.0/0 local"),
+        (0, None, "lookup a 0.0.0.0: none"),
+    ] {
+        writes(&rt, alloc, &directory.lookup(0, addr, matched), want)?;
+    }
+    for (job, router, addr, matched, want) in [
+        (
+            7,
+            1,
+            0x0a00_0001,
+            block,
+            "packet 7 b 10.0.0.1: 10.0.0.0/8 via a 1",
+        ),
+        (
+            u64::MAX,
+            0,
+            0,
+            None,
+            "packet 18446744073709551615 a 0.0.0.0: none",
+        ),
+    ] {
+        writes(
+            &rt,
+            alloc,
+            &directory.packet(job, router, addr, matched),
+            want,
+        )?;
+    }
     Ok(())
 }

@@ -49,15 +49,10 @@ fn changed(alloc: Global, old: &str, new: &str) -> Result<String, Fail> {
     Ok(format!(in alloc; "{before}{new}{after}")?)
 }
 
-// A run keeps its journal byte for byte, unless it stops.
-#[test]
-fn keeps(rt: HostRuntime) -> Result<(), Fail> {
-    let alloc = rt.alloc();
-    let steps = "up a b|deliver a b|deliver b a|publish a|release a|deliver b a|publish b";
-    let got = run(&rt, alloc, "a|b", "a b 5 5", "10.0.0.0/8 a", steps)?;
-    assert_eq!(rt; got.status, 0);
-    assert_eq!(rt;
-        got.kept.as_str(),
+// Scripts that come to their end, and the journals that their runs keep.
+const KEPT: [(&str, &str); 3] = [
+    (
+        "up a b|deliver a b|deliver b a|publish a|release a|deliver b a|publish b",
         "dualnet journal 1\n\
         up a b\n\
         deliver a b\n\
@@ -71,27 +66,11 @@ fn keeps(rt: HostRuntime) -> Result<(), Fail> {
         a gen 1 held 0 ripe 0\n\
         a 10.0.0.0/8 passive RD 0 FD 0 local\n\
         b gen 1 held 1 ripe 1\n\
-        b 10.0.0.0/8 passive RD 5 FD 5 via a 1\n"
-    );
-    let got = run(
-        &rt,
-        alloc,
-        "a|b",
-        "a b 5 5",
-        "10.0.0.0/8 a",
-        "up b a|settle",
-    )?;
-    assert_eq!(rt; got.kept.as_str(), SETTLED);
-    let got = run(
-        &rt,
-        alloc,
-        "a|b",
-        "a b 5 5",
-        "10.0.0.0/8 a",
+        b 10.0.0.0/8 passive RD 5 FD 5 via a 1\n",
+    ),
+    ("up b a|settle", SETTLED),
+    (
         "try up a b|try up a b|cost b a 7|down b a",
-    )?;
-    assert_eq!(rt;
-        got.kept.as_str(),
         "dualnet journal 1\n\
         up a b\n\
         cost b a 7\n\
@@ -100,9 +79,19 @@ fn keeps(rt: HostRuntime) -> Result<(), Fail> {
         link a b down 1 5 7 queued 2 3\n\
         a gen 0 held 0 ripe 0\n\
         a 10.0.0.0/8 passive RD 0 FD 0 local\n\
-        b gen 0 held 0 ripe 0\n"
-    );
-    let got = run(&rt, alloc, "a|b", "a b 5 5", "", "up a b|up a b")?;
+        b gen 0 held 0 ripe 0\n",
+    ),
+];
+
+// A run keeps its journal byte for byte, unless it stops.
+#[test]
+fn keeps(rt: HostRuntime) -> Result<(), Fail> {
+    for (script, want) in KEPT {
+        let got = run(&rt, rt.alloc(), "a|b", "a b 5 5", "10.0.0.0/8 a", script)?;
+        assert_eq!(rt; got.status, 0);
+        assert_eq!(rt; got.kept.as_str(), want);
+    }
+    let got = run(&rt, rt.alloc(), "a|b", "a b 5 5", "", "up a b|up a b")?;
     assert_eq!(rt; got.kept.as_str(), "");
     assert_eq!(rt; got.status, 2);
     Ok(())
@@ -241,10 +230,8 @@ end;End;11";
 // The text of a journal of which one line is another, or is missing.
 fn with_line(alloc: Global, old: &str, new: &str) -> Result<String, Fail> {
     let old = format!(in alloc; "{old}\n")?;
-    if new.is_empty() {
-        return changed(alloc, old.as_str(), "");
-    }
-    let new = format!(in alloc; "{new}\n")?;
+    let end = if new.is_empty() { "" } else { "\n" };
+    let new = format!(in alloc; "{new}{end}")?;
     changed(alloc, old.as_str(), new.as_str())
 }
 
