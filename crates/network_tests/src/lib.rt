@@ -19,8 +19,6 @@ mod machines;
 #[cfg(test)]
 mod node_pools;
 #[cfg(test)]
-mod numbers;
-#[cfg(test)]
 mod patches;
 #[cfg(test)]
 mod pools;
@@ -30,5 +28,7 @@ mod replies;
 mod routers;
 #[cfg(test)]
 mod tables;
+#[cfg(test)]
+mod texts;
 #[cfg(test)]
 mod worlds;

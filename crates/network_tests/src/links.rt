@@ -1,6 +1,8 @@
+use crate::texts::is_written;
 use link_fifo::{LinkRefusal, Links, Put};
 use network_model::{Cost, Distance, End, Item, Kind, LinkSpec, Message, Prefix, Refusal};
 use std::alloc::Global;
+use std::process::Abort;
 use std::test::Fail;
 
 // One link of the routers 3 and 7, at cost 5 from the first and 9 from the other.
@@ -33,67 +35,47 @@ fn flap(links: &mut Links) -> Result<(), LinkRefusal> {
     Ok(())
 }
 
-#[test]
-fn items_come_out_in_order(rt: HostRuntime) -> Result<(), Fail> {
-    let mut links = one_link(rt.alloc())?;
+// Notices and messages come out in the order in which they were put in.
+fn takes_in_order(rt: &impl Abort, links: &mut Links) -> Result<(), Fail> {
     let message = update()?;
+    let cost = Cost::new(6)?;
     links.up(0)?;
-    links.set_cost(0, End::B, Cost::new(6)?)?;
+    links.set_cost(0, End::B, cost)?;
     assert_eq!(rt; links.put(0, End::A, 1, message)?, Put::Queued);
-    assert_eq!(rt;
-        links.front(0, End::A)?,
-        Item::Up {
-            session: 1,
-            cost: Cost::new(5)?
-        }
-    );
-    assert_eq!(rt;
-        links.take(0, End::B)?,
-        Item::Up {
-            session: 1,
-            cost: Cost::new(9)?
-        }
-    );
-    assert_eq!(rt;
-        links.take(0, End::B)?,
-        Item::Cost {
-            session: 1,
-            cost: Cost::new(6)?
-        }
-    );
+    let _up = links.take(0, End::B)?;
+    assert_eq!(rt; links.front(0, End::B)?, Item::Cost { session: 1, cost });
+    assert_eq!(rt; links.take(0, End::B)?, Item::Cost { session: 1, cost });
     assert_eq!(rt; links.take(0, End::B)?, Item::Message(message));
     assert_eq!(rt; links.take(0, End::B), Err(LinkRefusal::NothingToDeliver));
     Ok(())
 }
 
 #[test]
-fn going_down_loses_the_messages(rt: HostRuntime) -> Result<(), Fail> {
+fn items_come_out_in_order(rt: HostRuntime) -> Result<(), Fail> {
     let mut links = one_link(rt.alloc())?;
+    takes_in_order(&rt, &mut links)
+}
+
+// Going down loses the messages, and a message of the session that has ended is stale.
+fn ends_a_session(rt: &impl Abort, links: &mut Links) -> Result<(), Fail> {
+    let message = update()?;
     links.up(0)?;
-    links.put(0, End::A, 1, update()?)?;
+    links.put(0, End::A, 1, message)?;
     links.down(0)?;
-    assert_eq!(rt;
-        links.take(0, End::B)?,
-        Item::Up {
-            session: 1,
-            cost: Cost::new(9)?
-        }
-    );
+    let _up = links.take(0, End::B)?;
     assert_eq!(rt; links.take(0, End::B)?, Item::Down { session: 1 });
+    assert_eq!(rt; links.take(0, End::B), Err(LinkRefusal::NothingToDeliver));
+    links.up(0)?;
+    assert_eq!(rt; links.put(0, End::A, 1, message)?, Put::Stale);
+    let _up = links.take(0, End::B)?;
     assert_eq!(rt; links.take(0, End::B), Err(LinkRefusal::NothingToDeliver));
     Ok(())
 }
 
 #[test]
-fn message_of_an_ended_session_is_stale(rt: HostRuntime) -> Result<(), Fail> {
+fn a_session_ends_with_its_messages(rt: HostRuntime) -> Result<(), Fail> {
     let mut links = one_link(rt.alloc())?;
-    links.up(0)?;
-    links.down(0)?;
-    links.up(0)?;
-    assert_eq!(rt; links.put(0, End::A, 1, update()?)?, Put::Stale);
-    assert_eq!(rt; links.len(), 1);
-    assert_eq!(rt; links.queued(0, End::B), 3);
-    Ok(())
+    ends_a_session(&rt, &mut links)
 }
 
 #[test]
@@ -110,22 +92,16 @@ fn sessions_are_spent_at_65535(rt: HostRuntime) -> Result<(), Fail> {
 
 #[test]
 fn refusals_have_their_numbers(rt: HostRuntime) -> Result<(), Fail> {
-    let refusals = [
+    for (refusal, text) in [
         (LinkRefusal::UnknownLink, "11 UnknownLink"),
         (LinkRefusal::AlreadyUp, "13 AlreadyUp"),
         (LinkRefusal::IsDown, "14 IsDown"),
         (LinkRefusal::SessionsSpent, "15 SessionsSpent"),
         (LinkRefusal::NothingToDeliver, "16 NothingToDeliver"),
         (LinkRefusal::NoMemory, "20 NoMemory"),
-    ];
-    for (refusal, text) in refusals {
-        let of_step = Refusal::from(refusal);
-        let texts = (
-            format!(in rt.alloc(); "{refusal}")?,
-            format!(in rt.alloc(); "{of_step}")?,
-        );
-        assert_eq!(rt; texts.0.as_str(), text);
-        assert_eq!(rt; texts.1.as_str(), text);
+    ] {
+        is_written(&rt, rt.alloc(), &refusal, text)?;
+        is_written(&rt, rt.alloc(), &Refusal::from(refusal), text)?;
     }
     Ok(())
 }

@@ -96,39 +96,42 @@ fn to_both(kind: Kind, value: u32) -> [Outgoing; 2] {
     [out(kind, value, 0), out(kind, value, 1)]
 }
 
-#[test]
-fn a_cost_rises_again(rt: HostRuntime) -> Result<(), Fail> {
-    let mut bench = Bench::new(rt.alloc())?;
-    bench.message(&rt, Kind::Update, 0, 0)?;
-    bench.shows(&rt, (1, 1), 0, None);
-    bench.sent(&rt, &to_both(Kind::Update, 1));
-    bench.message(&rt, Kind::Update, 2, 1)?;
-    bench.shows(&rt, (1, 1), 0, None);
-    bench.sent(&rt, &[]);
-    bench.cost(&rt, 0, 10)?;
-    bench.shows(&rt, (10, 1), 0, Some((1, both(), None)));
-    bench.sent(&rt, &to_both(Kind::Query, 10));
-    bench.message(&rt, Kind::Reply, 0, 0)?;
-    bench.shows(&rt, (10, 1), 0, Some((1, only_1(), None)));
-    bench.sent(&rt, &[]);
-    bench.cost(&rt, 0, 20)?;
-    bench.shows(&rt, (10, 1), 0, Some((0, only_1(), None)));
-    bench.sent(&rt, &[]);
-    bench.message(&rt, Kind::Reply, 11, 1)?;
-    bench.shows(&rt, (20, 10), 0, Some((1, both(), None)));
-    bench.sent(&rt, &to_both(Kind::Query, 20));
-    bench.message(&rt, Kind::Reply, 0, 0)?;
-    bench.shows(&rt, (20, 10), 0, Some((1, only_1(), None)));
-    bench.sent(&rt, &[]);
-    bench.message(&rt, Kind::Reply, 12, 1)?;
-    bench.shows(&rt, (13, 13), 1, None);
-    bench.sent(&rt, &to_both(Kind::Update, 13));
+fn rises_again(rt: &impl Abort, bench: &mut Bench) -> Result<(), Fail> {
+    bench.message(rt, Kind::Update, 0, 0)?;
+    bench.shows(rt, (1, 1), 0, None);
+    bench.sent(rt, &to_both(Kind::Update, 1));
+    bench.message(rt, Kind::Update, 2, 1)?;
+    bench.shows(rt, (1, 1), 0, None);
+    bench.sent(rt, &[]);
+    bench.cost(rt, 0, 10)?;
+    bench.shows(rt, (10, 1), 0, Some((1, both(), None)));
+    bench.sent(rt, &to_both(Kind::Query, 10));
+    bench.message(rt, Kind::Reply, 0, 0)?;
+    bench.shows(rt, (10, 1), 0, Some((1, only_1(), None)));
+    bench.sent(rt, &[]);
+    bench.cost(rt, 0, 20)?;
+    bench.shows(rt, (10, 1), 0, Some((0, only_1(), None)));
+    bench.sent(rt, &[]);
+    bench.message(rt, Kind::Reply, 11, 1)?;
+    bench.shows(rt, (20, 10), 0, Some((1, both(), None)));
+    bench.sent(rt, &to_both(Kind::Query, 20));
+    bench.message(rt, Kind::Reply, 0, 0)?;
+    bench.shows(rt, (20, 10), 0, Some((1, only_1(), None)));
+    bench.sent(rt, &[]);
+    bench.message(rt, Kind::Reply, 12, 1)?;
+    bench.shows(rt, (13, 13), 1, None);
+    bench.sent(rt, &to_both(Kind::Update, 13));
     Ok(())
 }
 
+#[test]
+fn a_cost_rises_again(rt: HostRuntime) -> Result<(), Fail> {
+    let mut bench = Bench::new(rt.alloc())?;
+    rises_again(&rt, &mut bench)
+}
+
 // The successor asks, and asks again; the other port asks in between, and its reply is awaited.
-fn asked_twice(alloc: Global, rt: &impl Abort) -> Result<Bench, Fail> {
-    let mut bench = Bench::new(alloc)?;
+fn is_asked_twice(rt: &impl Abort, bench: &mut Bench) -> Result<(), Fail> {
     bench.message(rt, Kind::Update, 0, 0)?;
     bench.shows(rt, (1, 1), 0, None);
     bench.sent(rt, &to_both(Kind::Update, 1));
@@ -144,12 +147,13 @@ fn asked_twice(alloc: Global, rt: &impl Abort) -> Result<Bench, Fail> {
     bench.message(rt, Kind::Query, 3, 1)?;
     bench.shows(rt, (6, 1), 0, Some((2, only_1(), Some(0))));
     bench.sent(rt, &[out(Kind::Reply, 6, 1)]);
-    Ok(bench)
+    Ok(())
 }
 
 #[test]
 fn the_debt_is_paid(rt: HostRuntime) -> Result<(), Fail> {
-    let mut bench = asked_twice(rt.alloc(), &rt)?;
+    let mut bench = Bench::new(rt.alloc())?;
+    is_asked_twice(&rt, &mut bench)?;
     bench.message(&rt, Kind::Reply, 4, 1)?;
     bench.shows(&rt, (5, 5), 1, None);
     bench.sent(&rt, &[out(Kind::Reply, 5, 0), out(Kind::Update, 5, 1)]);
@@ -158,7 +162,8 @@ fn the_debt_is_paid(rt: HostRuntime) -> Result<(), Fail> {
 
 #[test]
 fn the_debt_is_kept(rt: HostRuntime) -> Result<(), Fail> {
-    let mut bench = asked_twice(rt.alloc(), &rt)?;
+    let mut bench = Bench::new(rt.alloc())?;
+    is_asked_twice(&rt, &mut bench)?;
     bench.message(&rt, Kind::Reply, 20, 1)?;
     bench.shows(&rt, (8, 6), 0, Some((3, both(), Some(0))));
     bench.sent(&rt, &to_both(Kind::Query, 8));

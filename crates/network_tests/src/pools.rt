@@ -1,9 +1,8 @@
 use node_pool::Pool;
+use std::process::Abort;
 use std::test::Fail;
 
-#[test]
-fn what_was_given_is_taken_again(rt: HostRuntime) -> Result<(), Fail> {
-    let mut pool = Pool::new(rt.alloc());
+fn takes_again(rt: &impl Abort, pool: &mut Pool<char>) -> Result<(), Fail> {
     let first = pool.take(3, 'a')?;
     let second = pool.take(3, 'b')?;
     assert_eq!(rt; (first, second), (0, 3));
@@ -14,6 +13,12 @@ fn what_was_given_is_taken_again(rt: HostRuntime) -> Result<(), Fail> {
     let other = pool.take(2, 'd')?;
     assert_eq!(rt; (other, pool.spare(3), pool.cell_count()), (6, 0, 8));
     Ok(())
+}
+
+#[test]
+fn what_was_given_is_taken_again(rt: HostRuntime) -> Result<(), Fail> {
+    let mut pool = Pool::new(rt.alloc());
+    takes_again(&rt, &mut pool)
 }
 
 #[test]

@@ -1,6 +1,6 @@
-//! Sets of ports, replies that come, and the table of origin states.
+//! Replies that come.
 
-use diffusing_replies::{Origin, PortSet, Replies};
+use diffusing_replies::{PortSet, Replies};
 
 #[test]
 fn the_last_reply_ends_the_wait(rt: HostRuntime) {
@@ -32,29 +32,4 @@ fn a_reply_that_came_comes_again(rt: HostRuntime) {
     let awaited = replies.awaited();
     assert_eq!(rt; awaited, PortSet::empty().with(4));
     assert!(rt; awaited.has(4) && !awaited.has(31) && !awaited.has(255));
-}
-
-#[test]
-fn sets_are_equal_by_their_ports(rt: HostRuntime) {
-    let one = PortSet::empty().with(0).with(31).with(0);
-    assert_eq!(rt; one, PortSet::empty().with(31).with(0));
-    assert_ne!(rt; one, PortSet::empty().with(31));
-}
-
-#[test]
-fn origins_follow_the_table(rt: HostRuntime) {
-    let rows = [
-        (Origin::OwnDisturbed, 0, 0, 2, 0, true, 1),
-        (Origin::Own, 1, 0, 2, 0, false, 1),
-        (Origin::OwingDisturbed, 2, 2, 2, 0, true, 3),
-        (Origin::Owing, 3, 2, 2, 0, false, 3),
-    ];
-    for (origin, number, rose, queried, lost, needs_test, restart) in rows {
-        assert_eq!(rt; origin.number(), number);
-        assert_eq!(rt; origin.rose().number(), rose);
-        assert_eq!(rt; origin.queried().number(), queried);
-        assert_eq!(rt; origin.lost().number(), lost);
-        assert_eq!(rt; origin.needs_test(), needs_test);
-        assert_eq!(rt; origin.restart().number(), restart);
-    }
 }

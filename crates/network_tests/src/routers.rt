@@ -24,48 +24,42 @@ fn take(router: &mut Router, item: Item) -> Result<(), Fail> {
     Ok(())
 }
 
-#[test]
-fn learns_a_prefix(rt: HostRuntime) -> Result<(), Fail> {
-    let alloc = rt.alloc();
-    let ten = Prefix::parse("10.0.0.0/8")?;
-    let mut router = one_port(alloc, &[])?;
+// The link comes up, and its other end tells of 10.0.0.0/8.
+fn meets_an_update(router: &mut Router) -> Result<(), Fail> {
     let up = Item::Up {
         session: 1,
         cost: Cost::new(5)?,
     };
-    take(&mut router, up)?;
-    assert!(rt; !router.due());
+    take(router, up)?;
     let update = Message {
         kind: Kind::Update,
-        prefix: ten,
+        prefix: Prefix::parse("10.0.0.0/8")?,
         value: Distance::ZERO,
     };
-    take(&mut router, Item::Message(update))?;
-    assert_eq!(rt;
-        router.table().get(ten),
-        Some(Entry::Via {
-            port: 0,
-            session: 1
-        })
-    );
-    assert_eq!(rt; router.table().published(ten), None);
-    assert_eq!(rt; router.patch_rows(alloc)?.len(), 1);
-    assert!(rt; router.due() && router.is_passive());
+    take(router, Item::Message(update))
+}
+
+#[test]
+fn learns_a_prefix(rt: HostRuntime) -> Result<(), Fail> {
+    let ten = Prefix::parse("10.0.0.0/8")?;
+    let via = Entry::Via {
+        port: 0,
+        session: 1,
+    };
+    let mut router = one_port(rt.alloc(), &[])?;
+    meets_an_update(&mut router)?;
+    assert_eq!(rt; router.table().get(ten), Some(via));
+    assert_eq!(rt; router.patch_rows(rt.alloc())?.len(), 1);
     assert_eq!(rt; (router.held(), router.ripe()), (1, 0));
+    assert!(rt; router.due() && router.is_passive());
     Ok(())
 }
 
 #[test]
-fn owns_prefixes(rt: HostRuntime) -> Result<(), Fail> {
-    let alloc = rt.alloc();
+fn owns_a_prefix(rt: HostRuntime) -> Result<(), Fail> {
     let ten = Prefix::parse("10.0.0.0/8")?;
-    let router = one_port(alloc, &[ten])?;
+    let router = one_port(rt.alloc(), &[ten])?;
     assert_eq!(rt; router.table().published(ten), Some(Entry::Local));
-    assert!(rt;
-        router
-            .machine(ten)
-            .is_some_and(|machine| machine.rd() == Distance::ZERO)
-    );
     assert!(rt; !router.due());
     Ok(())
 }

@@ -1,5 +1,6 @@
 use network_model::{Cost, Entry};
 use std::alloc::Global;
+use std::process::Abort;
 use std::test::Fail;
 use world::{LinkSpec, Network, NetworkFault, Prefix, Refusal, Step, World};
 
@@ -25,71 +26,70 @@ fn step(world: &mut World, step: Step) -> Result<(), Fail> {
     Ok(())
 }
 
+// The world's refusal of a step.
+fn refused(rt: &impl Abort, world: &mut World, step: Step, refusal: Refusal) {
+    assert!(rt; world.has_room_for(1) && world.step(step) == Err(refusal));
+}
+
+// Router 1 learns the way of router 0, and publishes it.
+fn learns(rt: &impl Abort, world: &mut World) -> Result<(), Fail> {
+    for lawful in [
+        Step::LinkUp { link: 0 },
+        Step::Deliver { router: 0, port: 0 },
+        Step::Deliver { router: 1, port: 0 },
+        Step::Publish { router: 0 },
+        Step::Release { router: 0 },
+        Step::Deliver { router: 1, port: 0 },
+        Step::Publish { router: 1 },
+    ] {
+        step(world, lawful)?;
+    }
+    let ten = Prefix::parse("10.0.0.0/8")?;
+    let via = Entry::Via {
+        port: 0,
+        session: 1,
+    };
+    assert_eq!(rt; world.routers().len(), 2);
+    if world.routers().len() > 1 {
+        assert_eq!(rt; world.router(1).table().published(ten), Some(via));
+    }
+    Ok(())
+}
+
 #[test]
 fn learns_the_way(rt: HostRuntime) -> Result<(), Fail> {
-    let alloc = rt.alloc();
-    let network = two_routers(alloc)?;
-    let mut world = World::open(alloc, &network)?;
-    step(&mut world, Step::LinkUp { link: 0 })?;
-    step(&mut world, Step::Deliver { router: 0, port: 0 })?;
-    step(&mut world, Step::Deliver { router: 1, port: 0 })?;
-    step(&mut world, Step::Publish { router: 0 })?;
-    step(&mut world, Step::Release { router: 0 })?;
-    step(&mut world, Step::Deliver { router: 1, port: 0 })?;
-    step(&mut world, Step::Publish { router: 1 })?;
-    assert_eq!(rt; world.routers().len(), 2);
-    let ten = Prefix::parse("10.0.0.0/8")?;
-    if world.routers().len() > 1 {
-        assert_eq!(rt;
-            world.router(1).table().published(ten),
-            Some(Entry::Via {
-                port: 0,
-                session: 1
-            })
-        );
-    }
-    Ok(())
+    let network = two_routers(rt.alloc())?;
+    let mut world = World::open(rt.alloc(), &network)?;
+    let nothing = Step::Deliver { router: 0, port: 0 };
+    refused(&rt, &mut world, nothing, Refusal::NothingToDeliver);
+    learns(&rt, &mut world)
 }
 
 #[test]
-fn refuses_at_the_opening(rt: HostRuntime) -> Result<(), Fail> {
-    let alloc = rt.alloc();
-    let network = two_routers(alloc)?;
-    let mut world = World::open(alloc, &network)?;
-    if !world.has_room_for(1) {
-        return Err("a generation has no room".into());
-    }
-    assert_eq!(rt;
-        world.step(Step::Deliver { router: 0, port: 0 }),
-        Err(Refusal::NothingToDeliver)
-    );
-    Ok(())
-}
-
-#[test]
-fn refuses_a_network_without_routers(rt: HostRuntime) -> Result<(), Fail> {
+fn refuses_a_network_without_routers(rt: HostRuntime) {
     let alloc = rt.alloc();
     let made = Network::new(0, Vec::new(alloc), Vec::new(alloc));
     assert!(rt; matches!(made, Err(NetworkFault::BadRouters)));
-    Ok(())
 }
 
-#[test]
-fn runs_up_to_a_refused_step(rt: HostRuntime) -> Result<(), Fail> {
-    let alloc = rt.alloc();
-    let network = two_routers(alloc)?;
-    let mut world = World::open(alloc, &network)?;
+fn stops(rt: &impl Abort, world: &mut World) {
     let steps = [
         Step::LinkUp { link: 0 },
         Step::Release { router: 0 },
         Step::LinkDown { link: 0 },
     ];
-    if !world.has_room_for(steps.len()) {
-        return Err("a generation has no room".into());
+    if world.has_room_for(steps.len()) {
+        let ran = world.run(&steps);
+        assert_eq!(rt; (ran.done, ran.refusal), (1, Some(Refusal::NothingRipe)));
     }
-    let ran = world.run(&steps);
-    assert_eq!(rt; (ran.done, ran.refusal), (1, Some(Refusal::NothingRipe)));
     assert!(rt; world.links().len() == 1 && world.links().is_up(0));
+}
+
+#[test]
+fn runs_up_to_a_refused_step(rt: HostRuntime) -> Result<(), Fail> {
+    let network = two_routers(rt.alloc())?;
+    let mut world = World::open(rt.alloc(), &network)?;
+    stops(&rt, &mut world);
     Ok(())
 }
 
@@ -145,61 +145,51 @@ fn comes_up(world: &mut World) -> Result<(), Fail> {
     release(world, 0, 4096)
 }
 
-#[test]
-fn the_largest_network_works(rt: HostRuntime) -> Result<(), Fail> {
-    let alloc = rt.alloc();
-    let network = largest(alloc)?;
-    let mut world = World::open(alloc, &network)?;
-    comes_up(&mut world)?;
-    deliver(&mut world, 1, 4097)?;
-    step(
-        &mut world,
-        Step::SetCost {
-            router: 0,
-            port: 0,
-            cost: Cost::new(2)?,
-        },
-    )?;
-    deliver(&mut world, 0, 1)?;
-    step(
-        &mut world,
-        Step::SetCost {
-            router: 1,
-            port: 0,
-            cost: Cost::new(2)?,
-        },
-    )?;
-    deliver(&mut world, 1, 1)?;
-    step(&mut world, Step::Publish { router: 1 })?;
-    let last = Prefix::parse("10.15.255.0/24")?;
+// Router 1 learns all that router 0 owns, and publishes it at another cost.
+fn learns_all(rt: &impl Abort, world: &mut World) -> Result<(), Fail> {
+    let cost = Cost::new(2)?;
+    comes_up(world)?;
+    deliver(world, 1, 4097)?;
+    for router in [0, 1] {
+        step(
+            world,
+            Step::SetCost {
+                router,
+                port: 0,
+                cost,
+            },
+        )?;
+        deliver(world, router, 1)?;
+    }
+    step(world, Step::Publish { router: 1 })?;
     assert_eq!(rt; world.routers().len(), 256);
     if world.routers().len() > 1 {
         let found = world.router(1);
         assert_eq!(rt; (found.table().len(), found.held()), (4096, 8192));
-        assert_eq!(rt;
-            found.table().published(last),
-            Some(Entry::Via {
-                port: 0,
-                session: 1
-            })
-        );
     }
-    // What was sent is lost with its session.
-    release(&mut world, 1, 8192)?;
-    step(&mut world, Step::LinkDown { link: 0 })?;
-    deliver(&mut world, 0, 1)?;
-    deliver(&mut world, 1, 1)?;
-    comes_up(&mut world)?;
-    step(&mut world, Step::LinkDown { link: 0 })?;
-    deliver(&mut world, 0, 1)?;
-    // The notices that the link came up and went down are left.
-    deliver(&mut world, 1, 2)?;
-    if !world.has_room_for(1) {
-        return Err("a generation has no room".into());
-    }
-    assert_eq!(rt;
-        world.step(Step::Deliver { router: 1, port: 0 }),
-        Err(Refusal::NothingToDeliver)
-    );
     Ok(())
+}
+
+// What was sent both ways is lost with its session.
+fn loses_all(rt: &impl Abort, world: &mut World) -> Result<(), Fail> {
+    release(world, 1, 8192)?;
+    step(world, Step::LinkDown { link: 0 })?;
+    deliver(world, 0, 1)?;
+    deliver(world, 1, 1)?;
+    comes_up(world)?;
+    step(world, Step::LinkDown { link: 0 })?;
+    deliver(world, 0, 1)?;
+    // The notices that the link came up and went down are left.
+    deliver(world, 1, 2)?;
+    let nothing = Step::Deliver { router: 1, port: 0 };
+    assert!(rt; world.has_room_for(1) && world.step(nothing) == Err(Refusal::NothingToDeliver));
+    Ok(())
+}
+
+#[test]
+fn the_largest_network_works(rt: HostRuntime) -> Result<(), Fail> {
+    let network = largest(rt.alloc())?;
+    let mut world = World::open(rt.alloc(), &network)?;
+    learns_all(&rt, &mut world)?;
+    loses_all(&rt, &mut world)
 }

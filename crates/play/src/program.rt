@@ -73,7 +73,11 @@ where
 {
     match asked(rt, alloc, words, scenario, journal, out, kept) {
         Ok(end) => end.status(),
-        Err(fault) => refuse(fault, err),
+        Err(fault) => {
+            // What was printed comes before the fault, also where `out` keeps it for a while.
+            let _ = out.flush();
+            refuse(fault, err)
+        }
     }
 }
 

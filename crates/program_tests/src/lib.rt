@@ -1,13 +1,10 @@
-//! Tests of the texts that the program reads, and of whole runs.
+//! What no file of cases can say: files that cannot be read or written, texts that are not UTF-8, the
+//! limits, and numbers that no run reaches.
 #![tactic(auto)]
 
 #[cfg(test)]
-mod command_line;
+mod files;
 #[cfg(test)]
-mod documents;
+mod limits;
 #[cfg(test)]
 mod lines;
-#[cfg(test)]
-mod plays;
-#[cfg(test)]
-mod scripts;

@@ -1,9 +1,11 @@
 //! The program's commands, as `clap` is told of them.
 
-ghost use Rattle.std.specs.Prelude.{◌≡◌, IfOk, codes, false};
+ghost use Rattle.std.specs.Prelude.{◌≡◌, IfOk, codes, false, pos};
+ghost use Rattle.clap.specs.declared.builder.value_parser.ValueParser.TheVariants.{Signed};
 ghost use Rattle.clap.specs.Words.{app_of, kind_of, rule_of};
 ghost use Rattle.words.specs.Commands.{IsCommand, check_app, file_rule, number_rule, path_rule, program, replay_app, run_app};
 
+use clap::builder::ValueParser;
 use clap::error::ErrorKind;
 use clap::{Arg, Command, Error, value_parser};
 use std::alloc::{AllocError, Global};
@@ -109,8 +111,15 @@ fn number_arg<'a>(alloc: Global, id: &'a str, help: &'a str) -> Arg<'a>
         .long(id)
         .value_name("N")
         .help(help)
-        .value_parser(value_parser!(u8).range(1..=16))
+        .value_parser(small_number())
         .default_value("1")
+}
+
+// A number of 1 to 16.
+fn small_number<'a>() -> ValueParser<'a>
+    ensures { result ≡ Signed (pos 1) (pos 16) }
+{
+    value_parser!(u8).range(1..=16)
 }
 
 // An option with a path, which may be left out.

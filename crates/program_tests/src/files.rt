@@ -1,0 +1,146 @@
+//! Files that cannot be read or written, and texts that are not UTF-8.
+
+use play::{Host, Source, play};
+use std::alloc::Global;
+use std::io::{self, Read, Write};
+use std::process::Abort;
+use trial::{Outcome, asked, played};
+use words::{Words, exit_status, not_utf8};
+
+pub const CHECK: Words<'static> = Words::Check {
+    file: "scenario.toml",
+};
+
+pub const RUN: Words<'static> = Words::Run {
+    file: "scenario.toml",
+    threads: 1,
+    workers: 1,
+    journal: None,
+};
+
+const REPLAY: Words<'static> = Words::Replay {
+    file: "scenario.toml",
+    journal: "journal",
+};
+
+const SCENARIO: &[u8] = b"routers = [\"a\"]\nlinks = []\nprefixes = [\"0.0.0.0/0 a\"]\n\
+    script = [\"table a\", \"lookup a 0.0.0.0\", \"state a 0.0.0.0/0\", \"report\"]\n";
+
+// The fault is told, and nothing else is printed.
+pub fn tells(rt: &impl Abort, got: &Outcome, fault: &str) {
+    assert_eq!(rt; got.err.as_slice(), fault.as_bytes());
+    assert!(rt; got.out.is_empty());
+    assert!(rt; got.kept.is_empty());
+    assert_eq!(rt; got.status, 1);
+}
+
+// A reader that gives one byte and then fails.
+#[derive(Drop)]
+struct Broken {
+    given: bool,
+}
+
+impl Read for Broken {
+    fn read(&mut self, buf: &mut [u8]) -> io::Result<usize> {
+        if self.given || buf.is_empty() {
+            return Err(io::Error::from(io::ErrorKind::NotFound));
+        }
+        self.given = true;
+        buf[0] = b'#';
+        Ok(1)
+    }
+}
+
+const BROKEN: Broken = Broken { given: false };
+
+const MISSING: Source<io::Empty> = Source::Missing;
+
+#[test]
+fn scenario_cannot_be_read(rt: HostRuntime) {
+    let alloc = rt.alloc();
+    tells(
+        &rt,
+        &asked(&rt, alloc, &CHECK, MISSING),
+        "dualnet: 47 Unreadable\n",
+    );
+    tells(
+        &rt,
+        &asked(&rt, alloc, &RUN, BROKEN),
+        "dualnet: 47 Unreadable\n",
+    );
+    tells(
+        &rt,
+        &asked(&rt, alloc, &RUN, b"\xff".as_slice()),
+        "dualnet: 40 BadToml\n",
+    );
+}
+
+#[test]
+fn journal_cannot_be_read(rt: HostRuntime) {
+    let alloc = rt.alloc();
+    let got = played(&rt, alloc, &REPLAY, SCENARIO, MISSING);
+    tells(&rt, &got, "dualnet: 47 Unreadable\n");
+    let got = played(&rt, alloc, &REPLAY, SCENARIO, BROKEN);
+    tells(&rt, &got, "dualnet: 47 Unreadable\n");
+    let bytes = b"dualnet journal 1\nend\n\xff\n".as_slice();
+    let got = played(&rt, alloc, &REPLAY, SCENARIO, bytes);
+    tells(&rt, &got, "dualnet: 48 BadJournal\n");
+}
+
+// The last line of a journal may end without a line feed.
+#[test]
+fn journal_without_its_last_line_feed(rt: HostRuntime) {
+    let journal =
+        b"dualnet journal 1\nend\na gen 0 held 0 ripe 0\na 0.0.0.0/0 passive RD 0 FD 0 local";
+    let got = played(&rt, rt.alloc(), &REPLAY, SCENARIO, journal.as_slice());
+    assert_eq!(rt; got.out.as_slice(), b"replay agrees: 0 steps\n".as_slice());
+    assert_eq!(rt; got.status, 0);
+}
+
+#[test]
+fn word_is_no_text(rt: HostRuntime) {
+    let error = not_utf8(rt.alloc()).expect(&rt, "memory");
+    let text = error.to_string(rt.alloc()).expect(&rt, "memory");
+    assert!(rt; text.starts_with("error: a word is not UTF-8"), "{text}");
+    assert!(rt; error.use_stderr());
+    assert_eq!(rt; exit_status(&error), 1);
+}
+
+// A writer that fails.
+#[derive(Drop)]
+struct Closed;
+
+impl Write for Closed {
+    fn write(&mut self, _buf: &[u8]) -> io::Result<usize> {
+        Err(io::Error::from(io::ErrorKind::BrokenPipe))
+    }
+
+    fn flush(&mut self) -> io::Result<()> {
+        Ok(())
+    }
+}
+
+// The status of a run whose output is lost.
+fn lost<H: Host>(rt: &H, alloc: Global, scenario: &[u8]) -> u8 {
+    let mut kept = Vec::new(alloc);
+    play(
+        rt,
+        alloc,
+        &RUN,
+        scenario,
+        MISSING,
+        &mut Closed,
+        &mut Closed,
+        &mut kept,
+    )
+}
+
+// What cannot be written is lost, and the status stays.
+#[test]
+fn writes_fail(rt: HostRuntime) {
+    let refused =
+        b"routers = [\"a\"]\nlinks = []\nprefixes = []\nscript = [\"table a\", \"publish a\"]\n";
+    assert_eq!(rt; lost(&rt, rt.alloc(), SCENARIO), 0);
+    assert_eq!(rt; lost(&rt, rt.alloc(), refused.as_slice()), 2);
+    assert_eq!(rt; lost(&rt, rt.alloc(), b"x".as_slice()), 1);
+}
