@@ -1,6 +1,6 @@
 -- The machine of one router for one prefix: what each event makes of it, and what it sends.
 -- (DUAL, as in Garcia-Luna-Aceves, Loop-Free Routing Using Diffusing Computations, 1993, in this project's profile:
--- docs/DEFINITIONS.md says where the two differ.)
+-- docs/2-model.md says where the two differ.)
 use Rattle.std.specs.Prelude.{ℕ, zero, suc, min, Bool, true, false, not, ◌&&◌, nat_lt, ◌==◌, if◌then◌else◌, List, [], ◌∷◌, ◌++◌, Option, Some, None, map, slice_get, option_and_then}
 use Rattle.std.specs.List.{list_any, position_from}
 use Rattle.std.specs.Option.{option_map_or}
