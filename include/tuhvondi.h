@@ -54,6 +54,31 @@ enum tuhvondi_status {
     TUHVONDI_NO_MEMORY = 20
 };
 
+/* A status in words, for messages: never null, and not to be freed. */
+static inline const char *tuhvondi_status_text(uint32_t status)
+{
+    switch (status) {
+    case TUHVONDI_DONE:
+        return "done";
+    case TUHVONDI_BAD_LENGTH:
+        return "a row's length is above 32";
+    case TUHVONDI_HOST_BITS:
+        return "a row's address has bits set after its length";
+    case TUHVONDI_BAD_KIND:
+        return "a row's kind is above 2";
+    case TUHVONDI_NO_IMAGE_HELD:
+        return "the handle holds no image";
+    case TUHVONDI_BAD_COUNT:
+        return "there are not as many answers as addresses";
+    case TUHVONDI_SHARED:
+        return "other handles hold the image too";
+    case TUHVONDI_NO_MEMORY:
+        return "memory was refused";
+    default:
+        return "no status of this library";
+    }
+}
+
 /* Where packets go that a row's prefix matches. */
 enum tuhvondi_kind {
     /* To this router itself. */

@@ -13,6 +13,7 @@ use Rattle.network_model.proofs.JournalLaws.{packed_below, step_number_injective
 use Rattle.world.proofs.Runs.{runs-append}
 use Rattle.fabric.specs.Fabric.{Fabric, after_step, fabric_of}
 use Rattle.fabric.specs.Images.{images_in_force}
+use Rattle.fabric.proofs.Fabrics.{fit-append}
 use Rattle.control.specs.Served.{AreTurns, IsServed, IsTurnAt, images_after}
 
 -- ---- what was done
@@ -33,10 +34,6 @@ served_none opened asked = record {
 turns-append : (asked : Step → Bool) (w : World) (ss : List Step) (v : World) (ts : List Step) → AreTurns asked w ss → Runs w ss v → AreTurns asked v ts → AreTurns asked w (ss ++ ts)
 turns-append asked w [] v ts turns runs later = subst (λ x. AreTurns asked x ts) (sym runs) later
 turns-append asked w (s ∷ ss) v ts turns runs later = (turns.0, turns-append asked (next w s) ss v ts turns.1 runs.1 later)
-
-fit-append : (ss ts : List Step) → AllByRecursion Fits ss → AllByRecursion Fits ts → AllByRecursion Fits (ss ++ ts)
-fit-append [] ts fit later = later
-fit-append (s ∷ ss) ts fit later = (fit.0, fit-append ss ts fit.1 later)
 
 images-append : (opened between : Fabric) (ss ts : List Step) (u : World) → between.images ≡ images_after opened ss between.world → (ts ≡ [] → between.world ≡ u) → images_after between ts u ≡ images_after opened (ss ++ ts) u
 images-append opened between [] [] u images same = images

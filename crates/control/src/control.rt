@@ -1,7 +1,7 @@
 //! What a control does.
 
-ghost use Rattle.std.specs.Prelude.{◌≡◌, ◌<◌, ◌≤◌, ◌+◌, ◌*◌, ◌^◌, ◌↔◌, Some, true, slice_get, sum_by, vec_len, IfOk, IfErr, IsOk, OnOk, MatchOption, MatchResult};
-ghost use Rattle.network_model.specs.Journal.{journal_sum, step_number};
+ghost use Rattle.std.specs.Prelude.{◌≡◌, ◌<◌, ◌≤◌, ◌+◌, ◌*◌, ◌^◌, ◌↔◌, Some, true, length, slice_get, sum_by, vec_len, IfOk, IfErr, IsOk, OnOk, MatchOption, MatchResult};
+ghost use Rattle.network_model.specs.Journal.{journal_sum, step_number, steps_in_sum};
 ghost use Rattle.network_model.specs.Step as steps;
 ghost use Rattle.network_model.specs.Turns as turns;
 ghost use Rattle.world.specs.Steps.{IsDoneOr};
@@ -116,11 +116,13 @@ impl<B: publication::Naming, N: Naming> Control<B, N> {
         }
     }
 
-    /// The fabric, where these are all shares of its control. Together they are the journal's sum.
+    /// The fabric, where these are all shares of its control. Together they are the journal's sum,
+    /// which tells how many steps it has.
     pub fn close(self, shares: Vec<Share<N>>) -> Fabric<B>
         requires all { vec_len shares ≡ N.shares }
         requires some { 0 < vec_len shares }
         ensures sum { sum_by (λ s. s.sum) shares.items ≡ journal_sum result.journal }
+        ensures length { steps_in_sum (sum_by (λ s. s.sum) shares.items) ≡ length result.journal }
         ensures served { IsServed N.opened N.asked result }
     {
         let mut shares = shares;
@@ -153,6 +155,7 @@ impl<B: publication::Naming, N: Naming> Control<B, N> {
         }
         high.audit(&mut all_high);
         low.audit(&mut all_low);
+        let _sum = fabric.sum();
         fabric
     }
 

@@ -1,6 +1,6 @@
 -- What a step leaves of what every fabric keeps.
 use Rattle.std.specs.Prelude.{◌≡◌, ℕ, zero, suc, ◌+◌, ◌*◌, ◌^◌, ◌<◌, ◌≤◌, cond, List, [], ◌∷◌, ◌++◌, map, length, set, Some, None, slice_get, option_map, option_and_then}
-use Rattle.std.specs.List.{range_with_len}
+use Rattle.std.specs.List.{AllByRecursion, range_with_len}
 use Rattle.std.proofs.Common.{refl, sym, ap, subst, ◌∙◌, arith, length-append}
 use Rattle.std.proofs.lemmas.List.{length-map}
 use Rattle.std.proofs.lemmas.List.Sums.{sum_by_push}
@@ -13,7 +13,7 @@ use Rattle.network_model.specs.Machine.{changed_at}
 use Rattle.network_model.specs.World.{Link, Router, World, Network, opening, opening_router_of}
 use Rattle.network_model.specs.Step.{Lawful, next, is_due, changed_router, changed_link, with_cost, with_front_taken, with_message, with_delivered, with_released, front_at, release_at, router_accepting, router_publishing, router_releasing}
 use Rattle.network_model.specs.Run.{Runs}
-use Rattle.network_model.specs.Journal.{most_steps, step_number, journal_sum}
+use Rattle.network_model.specs.Journal.{Fits, most_steps, step_number, journal_sum}
 use Rattle.network_model.specs.Publication.{Image, image_answer}
 use Rattle.network_model.proofs.ListLaws.{map-changed_at, option_map_or-ind, None_not_Some, Some_injective}
 use Rattle.network_model.proofs.WorldLaws.{routers-changed_link}
@@ -81,10 +81,11 @@ pub image_is : (f : Fabric) (capacity : ℕ) → IsKept f capacity → (i : ℕ)
 image_is f capacity kept i r at =
     ap (λ xs. slice_get xs i) kept.in_force ∙ slice_get-map image_in_force f.world.routers i ∙ ap (option_map image_in_force) at
 
--- so it answers as the router published
+-- so it has the rows that the router published, and answers as they do
 pub forwards : (f : Fabric) (capacity : ℕ) → IsKept f capacity → ForwardsAsPublished f
 forwards f capacity kept = record {
   every_router = ap length kept.in_force ∙ length-map f.world.routers image_in_force;
+  rows = λ i r image at here. ap (λ (x : Image). x.rows) (same i r image at here);
   longest = λ i r image at here addr. ap (λ x. image_answer x addr) (same i r image at here);
   generation = λ i r image at here. ap (λ (x : Image). x.generation) (same i r image at here);
 }
@@ -145,11 +146,17 @@ pub summed_none : (journal : List Step) → journal ≡ [] → IsSumOf journal 0
 summed_none journal none = record {
   is = sym (ap journal_sum none);
   small = omega arith;
+  fit = subst (AllByRecursion Fits) (sym none) tt;
 }
 
+-- the steps of two lists fit where those of each do
+pub fit-append : (ss ts : List Step) → AllByRecursion Fits ss → AllByRecursion Fits ts → AllByRecursion Fits (ss ++ ts)
+fit-append [] ts fit later = later
+fit-append (s ∷ ss) ts fit later = (fit.0, fit-append ss ts fit.1 later)
+
 -- one step more adds its number
-pub summed_more : (before : List Step) (s : Step) (after : List Step) (sum number : ℕ) → IsSumOf before sum → number ≡ step_number s → number < 2 ^ 105 → after ≡ before ++ s ∷ [] → IsSumOf after (sum + number)
-summed_more before s after sum number summed numbered below is =
+pub summed_more : (before : List Step) (s : Step) (after : List Step) (sum number : ℕ) → IsSumOf before sum → number ≡ step_number s → number < 2 ^ 105 → Fits s → after ≡ before ++ s ∷ [] → IsSumOf after (sum + number)
+summed_more before s after sum number summed numbered below fits is =
     let added : journal_sum after ≡ journal_sum before + step_number s = ap journal_sum is ∙ sum_by_push step_number before s in
     let longer : length after ≡ length before + 1 = ap length is ∙ length-append before (s ∷ []) in
     let old : sum ≡ journal_sum before = summed.is in
@@ -157,4 +164,5 @@ summed_more before s after sum number summed numbered below is =
     record {
       is = omega (arith, added, old, numbered);
       small = omega (arith, longer, small, below);
+      fit = subst (AllByRecursion Fits) (sym is) (fit-append before (s ∷ []) summed.fit (fits, tt));
     }

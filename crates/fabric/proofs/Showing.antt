@@ -1,12 +1,14 @@
 -- The images that writers show are those in force.
-use Rattle.std.specs.Prelude.{◌≡◌, ℕ, List, Option, Some, None, slice_get, option_map}
-use Rattle.std.proofs.Common.{refl, sym, ap, ◌∙◌}
+use Rattle.std.specs.Prelude.{◌≡◌, ℕ, List, length, Option, Some, None, IfSome, slice_get, option_map}
+use Rattle.std.proofs.Common.{refl, sym, ap, subst, ◌∙◌}
 use Rattle.std.proofs.lemmas.Option.{slice_get-map}
 use Rattle.ipv4_prefix.specs.Prefix.{Prefix}
 use Rattle.network_model.specs.declared.route.Entry.{Entry}
 use Rattle.network_model.specs.World.{Router, World}
+use Rattle.network_model.specs.Publication.{Image}
 use Rattle.network_model.proofs.ListLaws.{None_not_Some, Some_injective}
-use Rattle.publication.specs.Lists.{Writing, image_of}
+use Rattle.publication.specs.declared.known.Known.{Known}
+use Rattle.publication.specs.Lists.{Writing, generation_of, image_of}
 use Rattle.fabric.specs.Images.{answer_at, answer_of, image_in_force, images_in_force}
 use Rattle.fabric.specs.Writers.{shown_images}
 
@@ -23,3 +25,9 @@ module _ (openings : List (List (Prefix × Entry))) (w : World) (writers : List 
   -- so it answers as its router
   pub answer_is : (addr : ℕ) → answer_at w i addr ≡ Some (answer_of addr (image_of openings x.published))
   answer_is addr = ap (option_map (λ r. answer_of addr (image_in_force r))) router_of.1 ∙ ap (λ image. Some (answer_of addr image)) (sym router_of.2)
+
+  -- and the writer's list has as many publications as its router has made
+  pub list_is_last : (told : Known) → told ≡ x.published → length x.published.publications ≡ generation_of x.published → IfSome (slice_get w.routers i) (λ r. length told.publications ≡ r.generation)
+  list_is_last told is counted =
+      subst (λ o. IfSome o (λ (r : Router). length told.publications ≡ r.generation)) (sym router_of.1)
+      (ap (λ (k : Known). length k.publications) is ∙ counted ∙ ap (λ (image : Image). image.generation) router_of.2)

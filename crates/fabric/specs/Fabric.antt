@@ -1,12 +1,13 @@
 -- A network that runs, and the steps that made it what it is.
 use Rattle.std.specs.Prelude.{◌≡◌, ℕ, ◌*◌, ◌^◌, ◌≤◌, nat_lt, if◌then◌else◌, List, [], ◌∷◌, ◌++◌, length, Option, Some, slice_get}
+use Rattle.std.specs.List.{AllByRecursion}
 use Rattle.ipv4_prefix.specs.LongestMatch.{longest_match}
 use Rattle.network_model.specs.declared.step.Step.{Step}
 use Rattle.network_model.specs.declared.step.Refusal.{Refusal}
 use Rattle.network_model.specs.World.{Network, Router, World, opening}
 use Rattle.network_model.specs.Step.{next, refusal}
 use Rattle.network_model.specs.Run.{Runs}
-use Rattle.network_model.specs.Journal.{most_steps, journal_sum}
+use Rattle.network_model.specs.Journal.{Fits, most_steps, journal_sum}
 use Rattle.network_model.specs.Publication.{Image, image_answer}
 use Rattle.fabric.specs.Images.{images_in_force}
 
@@ -32,9 +33,10 @@ after_step f s = fabric_of f.network (f.journal ++ s ∷ []) (next f.world s) (i
 abbrev pub fabric_refusal : Fabric → Step → Option Refusal
 fabric_refusal f s = if nat_lt (length f.journal) most_steps then refusal f.world s else Some Refusal.JournalFull
 
--- each router has an image in force, which answers every address with the longest match over the rows that the router published, and has the generation of that publication
+-- each router has an image in force, which has the rows that the router published and answers every address with the longest match over them, and has the generation of that publication
 pub record ForwardsAsPublished (f : Fabric) : Type 0 where
   pub every_router : length f.images ≡ length f.world.routers
+  pub rows : (i : ℕ) (r : Router) (image : Image) → slice_get f.world.routers i ≡ Some r → slice_get f.images i ≡ Some image → image.rows ≡ (r.table).published
   pub longest : (i : ℕ) (r : Router) (image : Image) → slice_get f.world.routers i ≡ Some r → slice_get f.images i ≡ Some image → (addr : ℕ) → image_answer image addr ≡ longest_match addr (r.table).published
   pub generation : (i : ℕ) (r : Router) (image : Image) → slice_get f.world.routers i ≡ Some r → slice_get f.images i ≡ Some image → image.generation ≡ r.generation
 
@@ -45,7 +47,8 @@ pub record IsKept (f : Fabric) (capacity : ℕ) : Type 0 where
   pub room : most_steps ≤ capacity
   pub in_force : f.images ≡ images_in_force f.world
 
--- the number is the sum of the journal's steps, and not too large for 128 bits
+-- the number is the sum of the journal's steps, each of which fits its own, and not too large for 128 bits
 pub record IsSumOf (journal : List Step) (sum : ℕ) : Type 0 where
   pub is : sum ≡ journal_sum journal
   pub small : sum ≤ length journal * 2 ^ 105
+  pub fit : AllByRecursion Fits journal

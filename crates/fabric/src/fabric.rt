@@ -4,7 +4,7 @@ ghost use Rattle.std.specs.Prelude.{ℕ, None, Some, Err, IsTrue, ◌≡◌, ◌
 ghost use Rattle.network_model.specs.World as model;
 ghost use Rattle.network_model.specs.Step as steps;
 ghost use Rattle.network_model.specs.Run.{Runs};
-ghost use Rattle.network_model.specs.Journal.{journal_sum, most_steps};
+ghost use Rattle.network_model.specs.Journal.{journal_sum, most_steps, steps_in_sum};
 ghost use Rattle.world.specs.Steps.{DiscardsStale, IsDoneOr, StopsAt};
 ghost use Rattle.publication.specs.Lists.{answer_of as seen_answer, image_of};
 ghost use Rattle.fabric.specs.Fabric.{opening_fabric, after_step, fabric_refusal, ForwardsAsPublished};
@@ -116,9 +116,10 @@ impl<B: Naming> Fabric<B> {
         &self.journal
     }
 
-    /// The sum of the numbers of the journal's steps.
+    /// The sum of the numbers of the journal's steps, which tells how many they are.
     pub fn sum(&self) -> u128
-        ensures { result ≡ journal_sum (self.now).journal }
+        ensures sum { result ≡ journal_sum (self.now).journal }
+        ensures length { steps_in_sum result ≡ length (self.now).journal }
     {
         self.sum
     }
@@ -166,22 +167,26 @@ impl<B: Naming> Fabric<B> {
         ask(&mut self.readers[place], &told, addr)
     }
 
-    /// An address for a worker to look up at a router, in an image no older than the one in force now.
-    /// Refused with `UnknownRouter`.
+    /// An address for a worker to look up at a router, in an image no older than the one in force now:
+    /// the job is told of the list that the router's last publication made. Refused with
+    /// `UnknownRouter`.
     pub fn job(&self, number: u64, router: u16, addr: u32) -> Result<Job<B>, Refusal>
         ensures asked { IfOk result (λ j. (j.number ≡ number) × (j.told.router ≡ router) × (j.addr ≡ addr)) }
         ensures in_force { IfOk result (λ j. slice_get (self.now).images router ≡ Some (image_of B.openings j.told)) }
+        ensures last { IfOk result (λ j. IfSome (slice_get (self.now).world.routers router) (λ r. length (j.told).publications ≡ r.generation)) }
         ensures known { IsOk result ↔ (router < length (self.now).world.routers) }
         ensures err { IfErr result (λ e. e ≡ Refusal.UnknownRouter) }
     {
-        let writer = self
-            .writers
-            .get(usize::from(router))
-            .ok_or(Refusal::UnknownRouter)?;
+        let Some(writer) = self.writers.get(usize::from(router)) else {
+            return Err(Refusal::UnknownRouter);
+        };
+        // It counts the publications.
+        let _generation = writer.generation();
+        let last = writer.tell();
         Ok(Job {
             number,
             addr,
-            told: writer.tell(),
+            told: last,
         })
     }
 
@@ -275,10 +280,10 @@ impl<B: Naming> Fabric<B> {
         }
     }
 
-    /// It does nothing. What holds of every fabric, for whoever has one: each image in force answers
-    /// every address with the longest match over the rows that its router published; no packet that is
-    /// matched by one prefix at every hop meets a router twice; and where all is quiet, rows lead along
-    /// least-cost walks.
+    /// It does nothing. What holds of every fabric, for whoever has one: each image in force has the
+    /// rows that its router published, and answers every address with the longest match over them; no
+    /// packet that is matched by one prefix at every hop meets a router twice; and where all is quiet,
+    /// rows lead along least-cost walks.
     pub fn holds(&self)
         ensures forwards { ForwardsAsPublished self.now }
         ensures no_loop { NeverMeetsTwice self.now }

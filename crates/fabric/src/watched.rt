@@ -153,7 +153,7 @@ fn released_to(world: &World, router: u16) -> Option<u16>
 
 // Whether something stands on the link, in either direction.
 fn is_busy(links: &Links, link: u16) -> bool
-    ensures { result ≡ option_map_or is_busy (slice_get links.now link) false }
+    ensures { result ≡ option_map_or is_busy (slice_get links.now.links link) false }
 {
     links.front(link, End::A).is_ok() || links.front(link, End::B).is_ok()
 }

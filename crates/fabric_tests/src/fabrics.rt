@@ -4,7 +4,6 @@ ghost use Rattle.std.specs.Prelude.{◌≡◌, vec_len};
 ghost use Rattle.fabric.specs.Writers.{opening_tables};
 
 use crate::networks::two_routers;
-use crate::texts::is_written;
 use fabric::{Answer, Entry, Fabric, ImageReader, Naming, Network, Prefix, Refusal, Step, Unnamed};
 use std::alloc::Global;
 use std::marker::Brand;
@@ -166,21 +165,4 @@ fn has_job<B: Naming>(rt: &impl Abort, fabric: &Fabric<B>, generation: u64) -> R
 #[test]
 fn tells_its_readers(rt: HostRuntime) -> Result<(), Fail> {
     two(&rt, rt.alloc(), Trial::TellsItsReaders)
-}
-
-#[test]
-fn refusals_have_their_numbers(rt: HostRuntime) -> Result<(), Fail> {
-    for (refusal, text) in [
-        (Refusal::UnknownRouter, "10 UnknownRouter"),
-        (Refusal::NothingDue, "17 NothingDue"),
-        (Refusal::NothingRipe, "18 NothingRipe"),
-        (Refusal::JournalFull, "19 JournalFull"),
-        (Refusal::NoMemory, "20 NoMemory"),
-        (Refusal::Stale, "22 Stale"),
-        (Refusal::NoReaderPlace, "23 NoReaderPlace"),
-        (Refusal::NoImage, "34 NoImage"),
-    ] {
-        is_written(&rt, rt.alloc(), &refusal, text)?;
-    }
-    Ok(())
 }

@@ -13,8 +13,6 @@ mod publications;
 #[cfg(test)]
 mod queues;
 #[cfg(test)]
-mod texts;
-#[cfg(test)]
 mod traces;
 #[cfg(test)]
 mod worker_pools;

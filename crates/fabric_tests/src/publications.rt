@@ -4,7 +4,6 @@ ghost use Rattle.std.specs.Prelude.{◌≡◌, ◌⊎◌, ◌∷◌, [], All, ma
 ghost use Rattle.std.specs.Thread.{IsSend, IsSync};
 ghost use Rattle.publication.specs.Lists.{opening_of, prefixes_of};
 
-use crate::texts::is_written;
 use ipv4_prefix::parse_addr;
 use publication::{
     Answer, Entry, ImageReader, ImageWriter, Job, Naming, NoImage, NoMemory, OpenFault, Patch,
@@ -32,18 +31,6 @@ fn found(generation: u64, prefix: Prefix, entry: Entry) -> Result<Answer, NoImag
         generation,
         matched: Some((prefix, entry)),
     })
-}
-
-#[test]
-fn faults_have_their_numbers(rt: HostRuntime) -> Result<(), Fail> {
-    is_written(&rt, rt.alloc(), &NoImage, "34 NoImage")?;
-    for (fault, text) in [
-        (OpenFault::NoMemory, "20 NoMemory"),
-        (OpenFault::NoReaderPlace, "23 NoReaderPlace"),
-    ] {
-        is_written(&rt, rt.alloc(), &fault, text)?;
-    }
-    Ok(())
 }
 
 // Publishes rows, where nothing waits.

@@ -4,7 +4,6 @@ ghost use Rattle.std.specs.Prelude.{◌≡◌, vec_len};
 ghost use Rattle.fabric.specs.Writers.{opening_tables};
 
 use crate::networks::link;
-use crate::texts::is_written;
 use fabric::{Network, Prefix, Unnamed};
 use std::alloc::Global;
 use std::marker::Brand;
@@ -88,17 +87,4 @@ fn ends_where_it_begins(rt: HostRuntime) -> Result<(), Fail> {
     let network = line(rt.alloc())?;
     let unnamed = Unnamed::many(rt.alloc(), usize::from(network.routers()))?;
     opened::<Brand, _>(&rt, rt.alloc(), network, unnamed)
-}
-
-#[test]
-fn faults_are_named(rt: HostRuntime) -> Result<(), Fail> {
-    for (fault, text) in [
-        (TraceFault::UnknownRouter, "10 UnknownRouter"),
-        (TraceFault::NoMemory, "20 NoMemory"),
-        (TraceFault::Stale, "22 Stale"),
-        (TraceFault::NoImage, "34 NoImage"),
-    ] {
-        is_written(&rt, rt.alloc(), &fault, text)?;
-    }
-    Ok(())
 }

@@ -338,19 +338,3 @@ fn workers_without_an_image(rt: HostRuntime) -> Result<(), Fail> {
 fn no_workers(rt: HostRuntime) -> Result<(), Fail> {
     pooled(rt, rt.alloc(), 0, Trial::Refuses)
 }
-
-#[test]
-fn faults_have_texts(rt: HostRuntime) -> Result<(), Fail> {
-    let alloc = rt.alloc();
-    let texts = [
-        (PoolFault::NoThread, "12 NoThread"),
-        (PoolFault::Memory(NoMemory), "20 NoMemory"),
-        (PoolFault::Closed, "33 Closed"),
-        (PoolFault::Refused(Refusal::NoImage), "34 NoImage"),
-        (PoolFault::Gather(GatherFault::Missing), "32 Missing"),
-    ];
-    for (fault, text) in texts {
-        assert_eq!(rt; format!(in alloc; "{fault}")?.as_str(), text);
-    }
-    Ok(())
-}

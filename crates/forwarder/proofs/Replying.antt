@@ -9,6 +9,11 @@ if_more (Ok old) (Err e) P Q S more none step was = tt
 if_more (Err e) (Ok new) P Q S more none step was = absurd (cc)
 if_more (Err e) (Err f) P Q S more none step was = tt
 
+-- an error comes with what holds anyway
+pub on_err : {V E : Type 0} (r : Result V E) {P : Type 0} → P → IfErr r (λ _. P)
+on_err (Ok x) p = tt
+on_err (Err e) p = p
+
 -- one job more was taken, and one more is replied to
 pub taken_more : {A : Type 0} (first replied taken new answered : List A) (job : A) → taken ≡ first ++ replied → new ≡ taken ++ job ∷ [] → answered ≡ replied ++ job ∷ [] → new ≡ first ++ answered
 taken_more first replied taken new answered job was took replies = took ∙ ap (λ xs. xs ++ job ∷ []) was ∙ append_assoc first replied (job ∷ []) ∙ ap (λ xs. first ++ xs) (sym replies)

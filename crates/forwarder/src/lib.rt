@@ -10,4 +10,4 @@ pub use gathering::{GatherFault, gather};
 pub use port::ForwardPort;
 pub use publication::{Answer, ImageReader, Job, Naming, NoImage};
 pub use reply::Reply;
-pub use worker::{JobGate, Worked, work};
+pub use worker::{JobGate, Worked, with_reply, work};

@@ -1,6 +1,6 @@
 //! A worker: what takes jobs from a queue and answers them.
 
-ghost use Rattle.std.specs.Prelude.{◌≡◌, ◌⊎◌, ◌++◌, ◌∷◌, [], Err, map, IfOk, IfErr, MatchOption};
+ghost use Rattle.std.specs.Prelude.{◌≡◌, ◌⊎◌, ◌<◌, ◌++◌, ◌∷◌, [], Err, length, map, IfOk, IfErr, MatchOption};
 ghost use Rattle.network_model.specs.declared.step.Refusal.TheVariants.{NoMemory as OutOfMemory, NoImage as WithoutImage};
 ghost use Rattle.packet_queue.specs.Ends.{takes_from, taken_by};
 ghost use Rattle.packet_queue.specs.Jobs.{jobs_of};
@@ -34,7 +34,7 @@ pub struct Worked<B: Naming> {
 
 /// Takes jobs and answers them, until it takes a stop message or the queue is closed. Where its list
 /// of replies cannot grow (`NoMemory`), or an answer has no image (`NoImage`), it goes on taking, and
-/// tells the first such refusal in place of its replies.
+/// tells the first such refusal in place of its replies, job by job as `with_reply` does.
 pub fn work<B: Naming, R: Wait, G: JobGate>(
     rt: &R,
     alloc: Global,
@@ -47,6 +47,7 @@ pub fn work<B: Naming, R: Wait, G: JobGate>(
     ensures replies { IfOk result.replies (λ rs. jobs_of (taken_by result.taker)
         ≡ jobs_of (taken_by taker) ++ map (λ r. r.job) rs.items) }
     ensures refused { IfErr result.replies (λ e. (e ≡ OutOfMemory) ⊎ (e ≡ WithoutImage)) }
+    ensures some { IfErr result.replies (λ _. length (jobs_of (taken_by taker)) < length (jobs_of (taken_by result.taker))) }
 {
     let mut port = port;
     let mut taker = taker;
@@ -80,8 +81,9 @@ fn next_job<B: Naming, R: Wait>(rt: &R, taker: &mut Taker<B>) -> Option<Job<B>>
     }
 }
 
-// The replies, with one to this job behind them.
-fn with_reply<B: Naming>(
+/// A worker's replies, with one to this job behind them. Where one before was refused, that refusal
+/// stays; else it is refused with `NoMemory`, or with `NoImage`.
+pub fn with_reply<B: Naming>(
     replies: Result<Vec<Reply<B>>, Refusal>,
     port: &mut ForwardPort<B>,
     job: &Job<B>,
@@ -89,7 +91,7 @@ fn with_reply<B: Naming>(
     requires { IfErr replies (λ e. (e ≡ OutOfMemory) ⊎ (e ≡ WithoutImage)) }
     ensures later { AreLater port.old port.new }
     ensures ok { IfOk result (λ rs. IfOk replies (λ old. map (λ r. r.job) rs.items ≡ map (λ r. r.job) old.items ++ job.now ∷ [])) }
-    ensures none { IfErr replies (λ e. result ≡ Err e) }
+    ensures first { IfErr replies (λ e. result ≡ Err e) }
     ensures err { IfErr result (λ e. (e ≡ OutOfMemory) ⊎ (e ≡ WithoutImage)) }
 {
     let mut replies = replies?;

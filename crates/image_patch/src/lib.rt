@@ -1,7 +1,7 @@
 //! Patches of images, in place.
 #![tactic(auto)]
 
-ghost use Rattle.std.specs.Prelude.{◌≡◌, OnOk, OnErr};
+ghost use Rattle.std.specs.Prelude.{◌≡◌, ◌<◌, length, OnOk, OnErr};
 ghost use Rattle.image_patch.specs.Patches.{patched};
 
 use network_model::{Entry, NoMemory, Prefix};
@@ -29,6 +29,9 @@ impl Apply for Image {
     fn apply(&mut self, patch: &Patch) -> Result<(), NoMemory>
         ensures ok { OnOk result (self.new ≡ patched patch.now.generation patch.now.rows.items self.old) }
         ensures err { OnErr result (self.new ≡ self.old) }
+
+        // A patch without rows takes no memory.
+        ensures full { OnErr result (0 < length patch.now.rows.items) }
     {
         set_rows(self, &patch.rows)?;
         set_generation(self, patch.generation);

@@ -14,7 +14,7 @@ use Rattle.script.specs.declared.fault.Fault.TheVariants.{BadName, BadLine, BadC
 use Rattle.script.proofs.StepTexts.{clash}
 use Rattle.journal.specs.Lines.{lines_of}
 use Rattle.journal.specs.Steps.{SaysStep}
-use Rattle.journal.specs.Journal.{heading, ending, HasSteps, IsJournal, IsBadAt}
+use Rattle.journal.specs.Journal.{heading, ending, HasSteps, IsBadAt}
 
 -- past the heading
 pub steps_none : (names : List Text) (links : List LinkSpec) (text : Text) (steps : List Step) (rest : List Text)
@@ -35,12 +35,6 @@ steps_more names links text steps new lines rest line s has next says more =
         says = all_zipped_more (SaysStep names links) has.says.said steps line s has.says.says says;
       };
     })
-
--- at the ending
-pub journal_ends : (names : List Text) (links : List LinkSpec) (text : Text) (steps : List Step) (lines : List Text) (line report : Text)
-    → HasSteps names links text steps lines → lines ≡ line ∷ lines_of report → line ≡ ending → IsJournal names links text steps report
-journal_ends names links text steps lines line report has next is =
-    subst (HasSteps names links text steps) (next ∙ ap (λ l. l ∷ lines_of report) is) has
 
 -- words that ask for a cost that is none ask for no step
 no_cost_no_step : (names : List Text) (links : List LinkSpec) (words : List Text) → AsksBadCost names links words → (s : Step) → ¬ (AsksStep names links words s)

@@ -38,9 +38,9 @@ pub record HasSteps (names : List Text) (links : List LinkSpec) (text : Text) (s
   pub headed : lines_of text ≡ heading ∷ after
   pub says : SaysSteps names links after steps rest
 
--- the text of a journal: the heading, a line for each step, the ending, and then the report
+-- the text of a journal: UTF-8, of the heading, a line for each step, the ending, and then the report
 abbrev pub IsJournal : List Text → List LinkSpec → Text → List Step → Text → Type 0
-IsJournal names links text steps report = HasSteps names links text steps (ending ∷ lines_of report)
+IsJournal names links text steps report = IsUtf8 text × HasSteps names links text steps (ending ∷ lines_of report)
 
 -- neither the ending nor a step comes first
 abbrev pub HasNoStep : List Text → List LinkSpec → List Text → Type 0
@@ -61,10 +61,10 @@ IsBadAt names links text line =
     ((line ≡ 1) × (slice_get (lines_of text) 0 ≢ Some heading))
     ⊎ StopsPastSteps names links text line
 
--- why the text is not that of a journal; that memory runs out can come anywhere
+-- why the text is not that of a journal: it is not UTF-8, or else a line; that memory runs out can come anywhere
 abbrev pub IsFaultOf : List Text → List LinkSpec → Text → JournalFault → Type 0
 IsFaultOf names links text BadText = ¬ (IsUtf8 text)
-IsFaultOf names links text (BadLine line) = IsBadAt names links text line
+IsFaultOf names links text (BadLine line) = IsUtf8 text × IsBadAt names links text line
 IsFaultOf names links text NoMemory = ⊥
 
 -- ---- compared

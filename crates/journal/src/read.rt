@@ -1,6 +1,6 @@
 //! Reads the text of a journal.
 
-ghost use Rattle.std.specs.Prelude.{◌≡◌, ◌≢◌, ◌⊎◌, ◌∷◌, Some, IfOk, IfErr, IfSome, IfNone, slice_get};
+ghost use Rattle.std.specs.Prelude.{◌≡◌, ◌≢◌, ◌⊎◌, ◌∷◌, Some, IfOk, IfErr, IfSome, IfNone, IsUtf8, slice_get};
 ghost use Rattle.journal.specs.declared.fault.JournalFault.TheVariants.{NoMemory as OutOfMemory};
 ghost use Rattle.journal.specs.Lines.{lines_of};
 ghost use Rattle.journal.specs.Journal.{heading, IsJournal, IsFaultOf};
@@ -27,8 +27,8 @@ pub struct Journal<'a> {
 }
 
 /// Reads the text of a journal of the network whose routers have these names and whose links are
-/// these: the line `dualnet journal 1`, a line for each step, the line `end`, and the report. The first
-/// line that is not so is the fault.
+/// these: the line `dualnet journal 1`, a line for each step, the line `end`, and the report. A text that
+/// is not UTF-8 is the fault before any line; else it is the first line that is not so.
 pub fn read_journal<'a>(
     alloc: Global,
     names: &Names,
@@ -51,6 +51,7 @@ fn read_text<'a>(
     links: &[LinkSpec],
     text: &'a str,
 ) -> Result<Journal<'a>, JournalFault>
+    requires { IsUtf8 text.now }
     ensures ok { IfOk result (λ j. IsJournal names.now links.now text.now j.steps.items j.report.now) }
     ensures err { IfErr result (λ e. (e ≡ OutOfMemory) ⊎ IsFaultOf names.now links.now text.now e) }
 {

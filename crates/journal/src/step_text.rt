@@ -75,8 +75,7 @@ impl fmt::Display for StepText<'_> {
                 let name = self.directory.name(Some(router));
                 let neighbour = self.directory.neighbour(router, port);
                 let across = self.directory.name(neighbour);
-                let value = cost.value();
-                write!(f, "cost {name} {across} {value}")
+                write!(f, "cost {name} {across} {cost}")
             }
             Step::Deliver { router, port } => {
                 let name = self.directory.name(Some(router));

@@ -1,2 +1,3 @@
 pub mod Changes
 mod Answers
+pub mod Rooms

@@ -1,10 +1,10 @@
 //! One link, and what stands on it.
 
-ghost use Rattle.std.specs.Prelude.{◌≡◌, ◌<◌, ◌≤◌, [], filter, length, slice_get, true, OnErr, OnOk};
+ghost use Rattle.std.specs.Prelude.{ℕ, ◌≡◌, ◌+◌, ◌<◌, ◌≤◌, [], filter, length, slice_get, true, OnErr, OnOk, IfNone};
 ghost use Rattle.std.specs.VecDeque.{deque_capacity, deque_len};
 ghost use Rattle.network_model.specs.World as world;
 ghost use Rattle.network_model.specs.Step as step;
-ghost use Rattle.link_fifo.specs.Side.{side_of};
+ghost use Rattle.link_fifo.specs.Side.{side_of, room_of, room_to, IsFull, KeepsRoom};
 ghost use Rattle.link_fifo.specs.Refusals.{sent_in};
 
 use network_model::{Cost, End, Item, LinkSpec, Message};
@@ -29,13 +29,14 @@ pub(crate) struct Link {
 }
 
 impl Model for Link {
-    ghost use Rattle.network_model.specs.World.{Link as WorldLink};
+    ghost use Rattle.link_fifo.specs.Side.{LinkAndRoom, side_of, room_of};
 
-    ghost Value = { WorldLink };
+    ghost Value = { LinkAndRoom };
 
-    ghost use Rattle.link_fifo.specs.Side.{side_of};
-
-    ghost view = { λ k. record { up = k.up; session = k.session; a = side_of k.a; b = side_of k.b } };
+    ghost view = { λ k. record {
+      link = record { up = k.up; session = k.session; a = side_of k.a; b = side_of k.b };
+      room = record { to_a = room_of k.a; to_b = room_of k.b };
+    } };
 }
 
 fn is_notice(item: &Item) -> bool
@@ -66,16 +67,18 @@ impl Side {
 
     // Puts an item into the room that was made for it.
     fn queue(&mut self, item: Item)
-        requires { deque_len self.old.inbox < deque_capacity self.old.inbox }
-        ensures { side_of self.new ≡ step.with_item item (side_of self.old) }
+        requires { 0 < room_of self.old }
+        ensures side { side_of self.new ≡ step.with_item item (side_of self.old) }
+        ensures room { room_of self.old ≤ room_of self.new + 1 }
     {
         self.inbox.push_back(item).unwrap();
     }
 
     // Drops the messages, and tells this end that the link went down.
     fn cut(&mut self, session: u16)
-        requires { deque_len self.old.inbox < deque_capacity self.old.inbox }
-        ensures { side_of self.new ≡ step.side_cut session (side_of self.old) }
+        requires { 0 < room_of self.old }
+        ensures side { side_of self.new ≡ step.side_cut session (side_of self.old) }
+        ensures room { room_of self.old ≤ room_of self.new + 1 }
     {
         drop_messages(&mut self.inbox);
         self.queue(Item::Down { session });
@@ -84,8 +87,21 @@ impl Side {
     fn put(&mut self, item: Item) -> Result<(), AllocError>
         ensures ok { OnOk result (side_of self.new ≡ step.with_item item (side_of self.old)) }
         ensures err { OnErr result (side_of self.new ≡ side_of self.old) }
+        ensures full { OnErr result (room_of self.old ≡ 0) }
+        ensures room { room_of self.old ≤ room_of self.new + 1 }
     {
         self.inbox.push_back(item)?;
+        Ok(())
+    }
+
+    // Makes room for an item more.
+    fn reserve(&mut self) -> Result<(), AllocError>
+        ensures side { side_of self.new ≡ side_of self.old }
+        ensures ok { OnOk result (0 < room_of self.new) }
+        ensures full { OnErr result (room_of self.old ≡ 0) }
+        ensures room { room_of self.old ≤ room_of self.new }
+    {
+        self.inbox.reserve(1)?;
         Ok(())
     }
 
@@ -93,6 +109,8 @@ impl Side {
         ensures ok { let changed = record (side_of self.old) { cost = cost } in
             OnOk result (side_of self.new ≡ step.with_item (Item.Cost session cost) changed) }
         ensures err { OnErr result (side_of self.new ≡ side_of self.old) }
+        ensures full { OnErr result (room_of self.old ≡ 0) }
+        ensures room { room_of self.old ≤ room_of self.new + 1 }
     {
         self.put(Item::Cost { session, cost })?;
         self.cost = cost;
@@ -102,7 +120,7 @@ impl Side {
 
 impl Link {
     pub(crate) fn new(alloc: Global, spec: &LinkSpec) -> Link
-        ensures { result ≡ world.opening_link spec.now }
+        ensures { result.link ≡ world.opening_link spec.now }
     {
         Link {
             up: false,
@@ -113,25 +131,25 @@ impl Link {
     }
 
     pub(crate) fn is_up(&self) -> bool
-        ensures { result ≡ (self.now).up }
+        ensures { result ≡ self.now.link.up }
     {
         self.up
     }
 
     pub(crate) fn session(&self) -> u16
-        ensures { result ≡ (self.now).session }
+        ensures { result ≡ self.now.link.session }
     {
         self.session
     }
 
     pub(crate) fn is_up_in(&self, session: u16) -> bool
-        ensures { result ≡ step.is_up_in session self.now }
+        ensures { result ≡ step.is_up_in session self.now.link }
     {
         self.up && self.session == session
     }
 
     fn side(&self, end: End) -> &Side
-        ensures { side_of result.now ≡ world.side end self.now }
+        ensures { side_of result.now ≡ world.side end self.now.link }
     {
         match end {
             End::A => &self.a,
@@ -140,36 +158,49 @@ impl Link {
     }
 
     pub(crate) fn router(&self, end: End) -> u16
-        ensures { result ≡ (world.side end self.now).router }
+        ensures { result ≡ (world.side end self.now.link).router }
     {
         self.side(end).router
     }
 
     pub(crate) fn cost(&self, end: End) -> Cost
-        ensures { result ≡ (world.side end self.now).cost }
+        ensures { result ≡ (world.side end self.now.link).cost }
     {
         self.side(end).cost
     }
 
     pub(crate) fn queued(&self, to: End) -> usize
-        ensures { result ≡ length (world.side to self.now).inbox }
+        ensures { result ≡ length (world.side to self.now.link).inbox }
     {
         self.side(to).inbox.len()
     }
 
     pub(crate) fn front(&self, to: End) -> Option<Item>
-        ensures { result ≡ slice_get (world.side to self.now).inbox 0 }
+        ensures { result ≡ slice_get (world.side to self.now.link).inbox 0 }
     {
         self.side(to).inbox.front().copied()
     }
 
-    pub(crate) fn come_up(&mut self) -> Result<(), AllocError>
-        requires { (self.old).session < step.last_session }
-        ensures ok { OnOk result (self.new ≡ step.link_come_up self.old) }
-        ensures err { OnErr result (self.new ≡ self.old) }
+    // Makes room for an item more towards each end.
+    fn reserve(&mut self) -> Result<(), AllocError>
+        ensures link { self.new.link ≡ self.old.link }
+        ensures to_a { OnOk result (0 < self.new.room.to_a) }
+        ensures to_b { OnOk result (0 < self.new.room.to_b) }
+        ensures full { OnErr result (IsFull self.old.room) }
+        ensures room { KeepsRoom 0 self.old.room self.new.room }
     {
-        self.a.inbox.reserve(1)?;
-        self.b.inbox.reserve(1)?;
+        self.a.reserve()?;
+        self.b.reserve()
+    }
+
+    pub(crate) fn come_up(&mut self) -> Result<(), AllocError>
+        requires { self.old.link.session < step.last_session }
+        ensures ok { OnOk result (self.new.link ≡ step.link_come_up self.old.link) }
+        ensures err { OnErr result (self.new.link ≡ self.old.link) }
+        ensures full { OnErr result (IsFull self.old.room) }
+        ensures room { KeepsRoom 1 self.old.room self.new.room }
+    {
+        self.reserve()?;
         let session = self.session + 1;
         let (from_a, from_b) = (self.a.cost, self.b.cost);
         self.a.queue(Item::Up {
@@ -186,11 +217,12 @@ impl Link {
     }
 
     pub(crate) fn go_down(&mut self) -> Result<(), AllocError>
-        ensures ok { OnOk result (self.new ≡ step.link_gone_down self.old) }
-        ensures err { OnErr result (self.new ≡ self.old) }
+        ensures ok { OnOk result (self.new.link ≡ step.link_gone_down self.old.link) }
+        ensures err { OnErr result (self.new.link ≡ self.old.link) }
+        ensures full { OnErr result (IsFull self.old.room) }
+        ensures room { KeepsRoom 1 self.old.room self.new.room }
     {
-        self.a.inbox.reserve(1)?;
-        self.b.inbox.reserve(1)?;
+        self.reserve()?;
         let session = self.session;
         self.a.cut(session);
         self.b.cut(session);
@@ -199,8 +231,10 @@ impl Link {
     }
 
     pub(crate) fn set_cost(&mut self, end: End, cost: Cost) -> Result<(), AllocError>
-        ensures ok { OnOk result (self.new ≡ step.with_cost cost end self.old) }
-        ensures err { OnErr result (self.new ≡ self.old) }
+        ensures ok { OnOk result (self.new.link ≡ step.with_cost cost end self.old.link) }
+        ensures err { OnErr result (self.new.link ≡ self.old.link) }
+        ensures full { OnErr result (room_to end self.old.room ≡ 0) }
+        ensures room { KeepsRoom 1 self.old.room self.new.room }
     {
         let session = self.session;
         match end {
@@ -216,10 +250,12 @@ impl Link {
         session: u16,
         message: Message,
     ) -> Result<(), AllocError>
-        requires { step.is_up_in session self.old ≡ true }
+        requires { step.is_up_in session self.old.link ≡ true }
         ensures ok { let held = sent_in session message in
-            OnOk result (self.new ≡ step.with_message held from self.old) }
-        ensures err { OnErr result (self.new ≡ self.old) }
+            OnOk result (self.new.link ≡ step.with_message held from self.old.link) }
+        ensures err { OnErr result (self.new.link ≡ self.old.link) }
+        ensures full { OnErr result (room_to (world.other from) self.old.room ≡ 0) }
+        ensures room { KeepsRoom 1 self.old.room self.new.room }
     {
         let item = Item::Message(message);
         match from {
@@ -229,8 +265,10 @@ impl Link {
     }
 
     pub(crate) fn take(&mut self, to: End) -> Option<Item>
-        ensures taken { result ≡ slice_get (world.side to self.old).inbox 0 }
-        ensures rest { self.new ≡ step.with_front_taken to self.old }
+        ensures taken { result ≡ slice_get (world.side to self.old.link).inbox 0 }
+        ensures rest { self.new.link ≡ step.with_front_taken to self.old.link }
+        ensures none { IfNone result (self.new.link ≡ self.old.link) }
+        ensures room { KeepsRoom 0 self.old.room self.new.room }
     {
         match to {
             End::A => self.a.inbox.pop_front(),

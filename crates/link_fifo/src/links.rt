@@ -1,9 +1,12 @@
 //! The links of a network, by number.
 
-ghost use Rattle.std.specs.Prelude.{◌≡◌, ◌<◌, ◌↔◌, [], IsTrue, map, length, slice_get, IfSome, IfOk, OnOk, OnErr};
+ghost use Rattle.std.specs.Prelude.{◌≡◌, ◌<◌, ◌↔◌, ◌⊎◌, [], IsTrue, map, length, slice_get, IfSome, IfOk, OnOk, OnErr, Err};
 ghost use Rattle.network_model.specs.Machine.{changed_at};
 ghost use Rattle.network_model.specs.World as world;
 ghost use Rattle.network_model.specs.Step as step;
+ghost use Rattle.network_model.specs.declared.network.End.TheVariants.{A, B};
+ghost use Rattle.link_fifo.specs.declared.refusal.LinkRefusal.TheVariants.{NoMemory as OutOfMemory};
+ghost use Rattle.link_fifo.specs.Side.{KeepsRooms, room_at};
 ghost use Rattle.link_fifo.specs.Refusals.{refusal_to_come_up, refusal_to_change, IsDoneUnless, front_of, sent_in, AnswersPut};
 
 use crate::link::Link;
@@ -20,76 +23,76 @@ pub struct Links {
 }
 
 impl Model for Links {
-    ghost use Rattle.std.specs.Prelude.{List};
-    ghost use Rattle.network_model.specs.World.{Link as WorldLink};
+    ghost use Rattle.link_fifo.specs.Side.{LinksAndRooms, links_of};
 
-    ghost Value = { List WorldLink };
+    ghost Value = { LinksAndRooms };
 
-    ghost view = { λ s. s.links.items };
+    ghost view = { λ s. links_of s.links.items };
 }
 
 impl Links {
     /// Links as these say, each down, in session 0, with nothing on it.
     pub fn new(alloc: Global, specs: &[LinkSpec]) -> Result<Links, NoMemory>
-        ensures { IfOk result (λ links. links ≡ map world.opening_link specs.now) }
+        ensures ok { IfOk result (λ l. l.links ≡ map world.opening_link specs.now) }
+        ensures full { OnErr result (0 < length specs.now) }
     {
-        let links = specs
-            .iter()
-            .map(|spec| Link::new(alloc, spec))
-            .collect(alloc)?;
+        let mut links = Vec::with_capacity(alloc, specs.len())?;
+        for spec in specs {
+            links.push_reserved(Link::new(alloc, spec));
+        }
         Ok(Links { links })
     }
 
     /// How many links there are.
     pub fn len(&self) -> usize
-        ensures { result ≡ length self.now }
+        ensures { result ≡ length self.now.links }
     {
         self.links.len()
     }
 
     /// Whether there is no link.
     pub fn is_empty(&self) -> bool
-        ensures { IsTrue result ↔ (self.now ≡ []) }
+        ensures { IsTrue result ↔ (self.now.links ≡ []) }
     {
         self.links.is_empty()
     }
 
     /// Whether the link is up.
     pub fn is_up(&self, link: u16) -> bool
-        requires known { link < length self.now }
-        ensures up { IfSome (slice_get self.now link) (λ k. result ≡ k.up) }
+        requires known { link < length self.now.links }
+        ensures up { IfSome (slice_get self.now.links link) (λ k. result ≡ k.up) }
     {
         self.links[usize::from(link)].is_up()
     }
 
     /// How often the link has come up.
     pub fn session(&self, link: u16) -> u16
-        requires known { link < length self.now }
-        ensures session { IfSome (slice_get self.now link) (λ k. result ≡ k.session) }
+        requires known { link < length self.now.links }
+        ensures session { IfSome (slice_get self.now.links link) (λ k. result ≡ k.session) }
     {
         self.links[usize::from(link)].session()
     }
 
     /// The router at an end of the link.
     pub fn router(&self, link: u16, end: End) -> u16
-        requires known { link < length self.now }
-        ensures router { IfSome (slice_get self.now link) (λ k. result ≡ (world.side end k).router) }
+        requires known { link < length self.now.links }
+        ensures router { IfSome (slice_get self.now.links link) (λ k. result ≡ (world.side end k).router) }
     {
         self.links[usize::from(link)].router(end)
     }
 
     /// The cost of the link from one end, which it keeps while it is down.
     pub fn cost(&self, link: u16, end: End) -> Cost
-        requires known { link < length self.now }
-        ensures cost { IfSome (slice_get self.now link) (λ k. result ≡ (world.side end k).cost) }
+        requires known { link < length self.now.links }
+        ensures cost { IfSome (slice_get self.now.links link) (λ k. result ≡ (world.side end k).cost) }
     {
         self.links[usize::from(link)].cost(end)
     }
 
     /// How many items the end `to` has yet to take.
     pub fn queued(&self, link: u16, to: End) -> usize
-        requires known { link < length self.now }
-        ensures queued { IfSome (slice_get self.now link) (λ k. result ≡ length (world.side to k).inbox) }
+        requires known { link < length self.now.links }
+        ensures queued { IfSome (slice_get self.now.links link) (λ k. result ≡ length (world.side to k).inbox) }
     {
         self.links[usize::from(link)].queued(to)
     }
@@ -97,9 +100,11 @@ impl Links {
     /// The link comes up in its next session, and each end is told so with the cost from there. Refused
     /// with `UnknownLink`, `AlreadyUp`, `SessionsSpent` and `NoMemory`, in this order.
     pub fn up(&mut self, link: u16) -> Result<(), LinkRefusal>
-        ensures ok { OnOk result (self.new ≡ changed_at link step.link_come_up self.old) }
-        ensures err { OnErr result (self.new ≡ self.old) }
-        ensures cause { IsDoneUnless (refusal_to_come_up self.old link) result }
+        ensures ok { OnOk result (self.new.links ≡ changed_at link step.link_come_up self.old.links) }
+        ensures err { OnErr result (self.new.links ≡ self.old.links) }
+        ensures cause { IsDoneUnless (refusal_to_come_up self.old.links link) result }
+        ensures full { result ≡ Err OutOfMemory → (room_at self.old link A ≡ 0) ⊎ (room_at self.old link B ≡ 0) }
+        ensures room { KeepsRooms 1 self.old self.new }
     {
         if usize::from(link) >= self.len() {
             return Err(LinkRefusal::UnknownLink);
@@ -117,9 +122,11 @@ impl Links {
     /// The link goes down: the messages on it are lost, the notices stay in order, and each end is told.
     /// Refused with `UnknownLink`, `IsDown` and `NoMemory`, in this order.
     pub fn down(&mut self, link: u16) -> Result<(), LinkRefusal>
-        ensures ok { OnOk result (self.new ≡ changed_at link step.link_gone_down self.old) }
-        ensures err { OnErr result (self.new ≡ self.old) }
-        ensures cause { IsDoneUnless (refusal_to_change self.old link) result }
+        ensures ok { OnOk result (self.new.links ≡ changed_at link step.link_gone_down self.old.links) }
+        ensures err { OnErr result (self.new.links ≡ self.old.links) }
+        ensures cause { IsDoneUnless (refusal_to_change self.old.links link) result }
+        ensures full { result ≡ Err OutOfMemory → (room_at self.old link A ≡ 0) ⊎ (room_at self.old link B ≡ 0) }
+        ensures room { KeepsRooms 1 self.old self.new }
     {
         if usize::from(link) >= self.len() {
             return Err(LinkRefusal::UnknownLink);
@@ -134,9 +141,11 @@ impl Links {
     /// The link has another cost from this end, which is told it. Refused with `UnknownLink`, `IsDown`
     /// and `NoMemory`, in this order.
     pub fn set_cost(&mut self, link: u16, end: End, cost: Cost) -> Result<(), LinkRefusal>
-        ensures ok { OnOk result (self.new ≡ changed_at link (step.with_cost cost end) self.old) }
-        ensures err { OnErr result (self.new ≡ self.old) }
-        ensures cause { IsDoneUnless (refusal_to_change self.old link) result }
+        ensures ok { OnOk result (self.new.links ≡ changed_at link (step.with_cost cost end) self.old.links) }
+        ensures err { OnErr result (self.new.links ≡ self.old.links) }
+        ensures cause { IsDoneUnless (refusal_to_change self.old.links link) result }
+        ensures full { result ≡ Err OutOfMemory → room_at self.old link end ≡ 0 }
+        ensures room { KeepsRooms 1 self.old self.new }
     {
         if usize::from(link) >= self.len() {
             return Err(LinkRefusal::UnknownLink);
@@ -150,8 +159,8 @@ impl Links {
 
     // Whether the link is up in this session.
     fn is_up_in(&self, link: u16, session: u16) -> bool
-        requires known { link < length self.now }
-        ensures answer { IfSome (slice_get self.now link) (λ k. result ≡ step.is_up_in session k) }
+        requires known { link < length self.now.links }
+        ensures answer { IfSome (slice_get self.now.links link) (λ k. result ≡ step.is_up_in session k) }
     {
         self.links[usize::from(link)].is_up_in(session)
     }
@@ -167,9 +176,11 @@ impl Links {
         message: Message,
     ) -> Result<Put, LinkRefusal>
         ensures ok { let held = sent_in session message in
-            OnOk result (self.new ≡ changed_at link (step.with_message held from) self.old) }
-        ensures err { OnErr result (self.new ≡ self.old) }
-        ensures answer { AnswersPut session (slice_get self.old link) result }
+            OnOk result (self.new.links ≡ changed_at link (step.with_message held from) self.old.links) }
+        ensures err { OnErr result (self.new.links ≡ self.old.links) }
+        ensures answer { AnswersPut session (slice_get self.old.links link) result }
+        ensures full { result ≡ Err OutOfMemory → room_at self.old link (world.other from) ≡ 0 }
+        ensures room { KeepsRooms 1 self.old self.new }
     {
         if usize::from(link) >= self.len() {
             return Err(LinkRefusal::UnknownLink);
@@ -183,7 +194,7 @@ impl Links {
 
     /// The item that the end `to` takes next. Refused with `UnknownLink` and `NothingToDeliver`.
     pub fn front(&self, link: u16, to: End) -> Result<Item, LinkRefusal>
-        ensures { result ≡ front_of to (slice_get self.now link) }
+        ensures { result ≡ front_of to (slice_get self.now.links link) }
     {
         let found = self
             .links
@@ -194,9 +205,10 @@ impl Links {
 
     /// Takes the front item towards the end `to`. Refused with `UnknownLink` and `NothingToDeliver`.
     pub fn take(&mut self, link: u16, to: End) -> Result<Item, LinkRefusal>
-        ensures answer { result ≡ front_of to (slice_get self.old link) }
-        ensures ok { OnOk result (self.new ≡ changed_at link (step.with_front_taken to) self.old) }
-        ensures err { OnErr result (self.new ≡ self.old) }
+        ensures answer { result ≡ front_of to (slice_get self.old.links link) }
+        ensures ok { OnOk result (self.new.links ≡ changed_at link (step.with_front_taken to) self.old.links) }
+        ensures err { OnErr result (self.new.links ≡ self.old.links) }
+        ensures room { KeepsRooms 0 self.old self.new }
     {
         if usize::from(link) >= self.len() {
             return Err(LinkRefusal::UnknownLink);

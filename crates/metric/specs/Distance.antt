@@ -1,5 +1,5 @@
 -- Distances and link costs: those of the network model of Garcia-Luna-Aceves (1993), in whole numbers.
-use Rattle.std.specs.Prelude.{ℕ, ◌+◌, ◌≤◌, nat_lt, if◌then◌else◌}
+use Rattle.std.specs.Prelude.{ℕ, ◌+◌, ◌≤◌, ◌==◌, List, nat_lt, if◌then◌else◌, codes, decimal}
 
 -- the distance that stands for "no route"
 abbrev pub infinity : ℕ
@@ -17,3 +17,7 @@ greatest_cost = 65535
 pub record IsCost (c : ℕ) : Type 0 where
   pub positive : 1 ≤ c
   pub small : c ≤ greatest_cost
+
+-- the text of a distance: a decimal number, or "inf"
+abbrev pub distance_text : ℕ → List ℕ
+distance_text d = if d == infinity then codes "inf" else decimal d

@@ -53,6 +53,10 @@ impl Cost {
 }
 
 impl fmt::Display for Cost {
+    ghost use Rattle.std.specs.Prelude.{Some, decimal};
+
+    ghost output = { λ c. Some (decimal c) };
+
     fn fmt<W: fmt::Write>(&self, f: &mut fmt::Formatter<W>) -> fmt::Result {
         let value = self.value;
         write!(f, "{value}")

@@ -65,6 +65,11 @@ impl Distance {
 }
 
 impl fmt::Display for Distance {
+    ghost use Rattle.std.specs.Prelude.{Some};
+    ghost use Rattle.metric.specs.Distance.{distance_text};
+
+    ghost output = { λ d. Some (distance_text d) };
+
     fn fmt<W: fmt::Write>(&self, f: &mut fmt::Formatter<W>) -> fmt::Result {
         if self.is_infinite() {
             return f.write_str("inf");

@@ -1,5 +1,5 @@
 -- The least distance, and two choices of the machine's definition that lose nothing: to choose again where a link comes up
--- would give the same, and a computation with no one to ask is over by the rule of completion.
+-- would give the same, and a computation with no one to ask is over by the rule of completion for a machine that owes nothing.
 use Rattle.std.specs.Prelude.{◌≡◌, ℕ, zero, suc, ◌+◌, ◌≤◌, min, Bool, true, false, cond, not, ◌&&◌, ◌||◌, ◌==◌, nat_lt, if◌then◌else◌, List, [], ◌∷◌, Option, Some, None, slice_get}
 use Rattle.std.specs.List.{list_any, position_from}
 use Rattle.std.specs.Option.{option_map_or}
@@ -65,6 +65,7 @@ news_to_others-none_up but old new ns none = by_test (old == new)
     by_test false = all_from-none_up 0 but Update new ns none
 
 -- a computation that would begin with nobody up: its distance is infinity, the condition holds for that, and its result is that of the rule of completion
+-- where nothing is owed; a debt, which no machine has with nobody up, is dropped without a reply
 pub condition_holds-none_up : (ns : List Neighbour) (s : Option ℕ) → IsNoneUp ns → condition_holds (via_successor ns s) ns ≡ true
 condition_holds-none_up ns s none = rw (least-none_up ns none, via_successor-none_up ns s none) refl
 

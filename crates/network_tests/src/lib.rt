@@ -7,8 +7,6 @@ mod addresses;
 #[cfg(test)]
 mod compiled;
 #[cfg(test)]
-mod costs;
-#[cfg(test)]
 mod gates;
 #[cfg(test)]
 mod images;
@@ -28,7 +26,5 @@ mod replies;
 mod routers;
 #[cfg(test)]
 mod tables;
-#[cfg(test)]
-mod texts;
 #[cfg(test)]
 mod worlds;

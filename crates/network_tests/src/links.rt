@@ -1,6 +1,5 @@
-use crate::texts::is_written;
 use link_fifo::{LinkRefusal, Links, Put};
-use network_model::{Cost, Distance, End, Item, Kind, LinkSpec, Message, Prefix, Refusal};
+use network_model::{Cost, Distance, End, Item, Kind, LinkSpec, Message, Prefix};
 use std::alloc::Global;
 use std::process::Abort;
 use std::test::Fail;
@@ -87,21 +86,5 @@ fn sessions_are_spent_at_65535(rt: HostRuntime) -> Result<(), Fail> {
     assert_eq!(rt; links.up(0), Err(LinkRefusal::SessionsSpent));
     assert_eq!(rt; links.len(), 1);
     assert_eq!(rt; links.session(0), 65535);
-    Ok(())
-}
-
-#[test]
-fn refusals_have_their_numbers(rt: HostRuntime) -> Result<(), Fail> {
-    for (refusal, text) in [
-        (LinkRefusal::UnknownLink, "11 UnknownLink"),
-        (LinkRefusal::AlreadyUp, "13 AlreadyUp"),
-        (LinkRefusal::IsDown, "14 IsDown"),
-        (LinkRefusal::SessionsSpent, "15 SessionsSpent"),
-        (LinkRefusal::NothingToDeliver, "16 NothingToDeliver"),
-        (LinkRefusal::NoMemory, "20 NoMemory"),
-    ] {
-        is_written(&rt, rt.alloc(), &refusal, text)?;
-        is_written(&rt, rt.alloc(), &Refusal::from(refusal), text)?;
-    }
     Ok(())
 }

@@ -13,12 +13,13 @@ use Rattle.script.specs.declared.command.Command.{Command}
 use Rattle.journal.specs.declared.fault.JournalFault.{JournalFault}
 use Rattle.journal.specs.declared.fault.JournalFault.TheVariants.{NoMemory as NoMemoryForJournal}
 use Rattle.journal.specs.Journal.{IsJournal, IsFaultOf as IsJournalFault}
+use Rattle.play.specs.declared.fault.Cause.{Cause}
 use Rattle.play.specs.declared.fault.Fault.{Fault}
 use Rattle.play.specs.declared.fault.Cause.TheVariants.{Refused as OfRefusal, Journal as OfJournal}
 use Rattle.play.specs.declared.plan.Plan.{Plan}
 use Rattle.play.specs.declared.program.End.{End}
 use Rattle.play.specs.declared.program.End.TheVariants.{Done, Refused, Differs}
-use Rattle.play.specs.Faults.{unplaced, IsWantOfMemory, IsWithoutReaders, Gives, most_bytes}
+use Rattle.play.specs.Faults.{unplaced, IsWantOfMemory, IsWithoutReaders, CannotRead, Gives, most_bytes}
 use Rattle.play.specs.Scenarios.{IsScenario, IsPlanOf, StopsFor, StopsPlan, network_read}
 use Rattle.play.specs.Commands.{AreDone, StopsAtCommand}
 use Rattle.play.specs.Ends.{KeepsJournal, IsRunToEnd, RunsPlan, IsJournalOf, Replays, RunsWhole, StepsReplay, StopsReplay}
@@ -103,6 +104,10 @@ pub stops_opening : (text : Text) (known : Option Text) (fault : Fault) → IsWa
 stops_opening text known fault (inl memory) = inl (inr (inl memory))
 stops_opening text known fault (inr readers) = inr (inl readers)
 
+-- a journal whose reader fails
+pub stops_unread : (text : Text) (known : Option Text) (plan : Plan) (cause : Cause) → length text ≤ most_bytes → IsPlanned text plan → CannotRead cause → StopsReplay text known (unplaced cause)
+stops_unread text known plan cause short planned cannot = inr (inr (short, (planned.0, planned.1, inl (refl, cannot))))
+
 -- what is not a journal of the scenario's network
 pub stops_journal : (text lines given : Text) (known : Option Text) (plan : Plan) (names : List Text) (links : List LinkSpec) (e : JournalFault) (fault : Fault) → length text ≤ most_bytes
     → IsPlanned text plan → Gives known lines → names ≡ plan.directory.names → links ≡ plan.network.links → given ≡ lines → fault ≡ unplaced (OfJournal e)
@@ -112,16 +117,18 @@ stops_journal text lines given known plan names links e fault short planned give
 stops_journal text lines given known plan names links e fault short planned gives names_are links_are same is (inr why) =
     inr (inr (
       short,
-      inr (
-        lines,
-        gives,
+      (
         planned.0,
         planned.1,
-        e,
-        subst (λ ls. IsJournalFault planned.0.names planned.0.links ls e) same
-            (subst (λ ks. IsJournalFault planned.0.names ks given e) (links_are ∙ ap (λ n. n.links) planned.2.network)
-            (subst (λ ns. IsJournalFault ns links given e) (names_are ∙ ap (λ d. d.names) planned.2.directory) why)),
-        is,
+        inr (
+          lines,
+          gives,
+          e,
+          subst (λ ls. IsJournalFault planned.0.names planned.0.links ls e) same
+              (subst (λ ks. IsJournalFault planned.0.names ks given e) (links_are ∙ ap (λ n. n.links) planned.2.network)
+              (subst (λ ns. IsJournalFault ns links given e) (names_are ∙ ap (λ d. d.names) planned.2.directory) why)),
+          is,
+        ),
       ),
     ))
 

@@ -92,12 +92,11 @@ Replays bytes lines Done = RunsWhole bytes lines
 Replays bytes lines Refused = RunsToRefusal bytes lines
 Replays bytes lines Differs = RunsWhole bytes lines
 
--- why a journal of the network of a scenario is not read: its reader fails, memory runs out, or it is no such journal
+-- why a journal of the network of a scenario, which is read first, is not read: its reader fails, memory runs out, or it is no such journal
 abbrev pub StopsJournal : Text → Option Text → Fault → Type 0
-StopsJournal bytes journal fault =
+StopsJournal bytes journal fault = (parts : Parts) × IsScenario bytes parts × (
     ((fault.place ≡ None) × CannotRead fault.cause)
-    ⊎ ((lines : Text) × Gives journal lines × (parts : Parts) × IsScenario bytes parts
-    × (e : JournalFault) × IsJournalFault parts.names parts.links lines e × (fault ≡ unplaced (OfJournal e)))
+    ⊎ ((lines : Text) × Gives journal lines × (e : JournalFault) × IsJournalFault parts.names parts.links lines e × (fault ≡ unplaced (OfJournal e))))
 
 -- why a replay is not begun: for its scenario, an image without a place for readers, or else for its journal
 abbrev pub StopsReplay : Text → Option Text → Fault → Type 0

@@ -105,8 +105,8 @@ fn print_machine<W: Write>(
 
 // What is told of a link.
 fn link_line(links: &Links, link: u16) -> LinkLine
-    requires { link < length links.now }
-    ensures { IfSome (slice_get links.now link) (λ k. result ≡ line_of_link k) }
+    requires { link < length links.now.links }
+    ensures { IfSome (slice_get links.now.links link) (λ k. result ≡ line_of_link k) }
 {
     LinkLine {
         a: links.router(link, End::A),

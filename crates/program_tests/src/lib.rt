@@ -8,3 +8,5 @@ mod files;
 mod limits;
 #[cfg(test)]
 mod lines;
+#[cfg(test)]
+mod written;

@@ -1,10 +1,10 @@
 //! Lines with numbers that no run reaches.
 
+use crate::written::is_written;
 use metric::{Cost, Distance};
 use network_model::{Entry, Prefix};
 use script::{Directory, LinkLine, MachineLine, RouterLine, read_script};
 use std::alloc::{AllocError, Global};
-use std::fmt::Display;
 use std::process::Abort;
 
 fn lines(alloc: Global, text: &str) -> Result<Vec<String>, AllocError> {
@@ -25,12 +25,6 @@ fn directory(rt: &impl Abort, alloc: Global) -> Directory {
     Directory::new(alloc, script.names, &script.links).expect(rt, "memory")
 }
 
-// A value is written so.
-fn writes<T: Display>(rt: &impl Abort, alloc: Global, value: &T, want: &str) {
-    let got = value.to_string(alloc).expect(rt, "memory");
-    assert_eq!(rt; got.as_str(), want);
-}
-
 #[test]
 fn link(rt: HostRuntime) {
     let line = LinkLine {
@@ -45,7 +39,7 @@ fn link(rt: HostRuntime) {
     };
     let directory = directory(&rt, rt.alloc());
     let want = "link b a down 65535 1 65535 queued 0 70000";
-    writes(&rt, rt.alloc(), &directory.link(line), want);
+    is_written(&rt, rt.alloc(), &directory.link(line), want);
 }
 
 #[test]
@@ -58,7 +52,7 @@ fn router(rt: HostRuntime) {
     };
     let directory = directory(&rt, rt.alloc());
     let want = "b gen 18446744073709551615 held 3 ripe 2";
-    writes(&rt, rt.alloc(), &directory.router(line), want);
+    is_written(&rt, rt.alloc(), &directory.router(line), want);
 }
 
 #[test]
@@ -73,14 +67,14 @@ fn machine(rt: HostRuntime) {
     };
     let directory = directory(&rt, rt.alloc());
     let want = "b 10.0.0.0/8 active 3 RD 4294967294 FD inf unreachable";
-    writes(&rt, rt.alloc(), &directory.machine(line), want);
+    is_written(&rt, rt.alloc(), &directory.machine(line), want);
 }
 
 #[test]
 fn packet(rt: HostRuntime) {
     let directory = directory(&rt, rt.alloc());
     let want = "packet 18446744073709551615 a 255.255.255.255: none";
-    writes(
+    is_written(
         &rt,
         rt.alloc(),
         &directory.packet(u64::MAX, 0, u32::MAX, None),

@@ -1,4 +1,4 @@
--- The exchange that adds a patch keeps the rule of the book.
+-- The exchange that adds a publication keeps the rule of the book.
 use Rattle.std.proofs.Common.{◌≡◌, ℕ, ◌+◌, ◌<◌, ◌==◌, Bool, true, false, List, [], ◌∷◌, ◌++◌, length, refl, ap, sym, subst, arith, inl, length-append, None}
 use Rattle.std.proofs.lemmas.List.{append-nil}
 use Rattle.std.proofs.lemmas.Bool.Decides.{nat_tests}
@@ -10,13 +10,13 @@ use Rattle.network_model.specs.Publication.{Patch}
 use Rattle.publication.specs.Names.{IsKept, Adds}
 use Rattle.publication.proofs.Beginnings.{prefix_whole}
 
-abbrev pub shown : List Patch → List Patch
+abbrev pub shown : List (List Patch) → List (List Patch)
 shown log = []
 
-abbrev pub moved : List Patch → List Patch → ℕ → Type 0
+abbrev pub moved : List (List Patch) → List (List Patch) → ℕ → Type 0
 moved xs ys n = Unit {0}
 
-adds_goes : (log v : List Patch) (e : Patch) (old : ℕ) → length v ≡ old → IsPrefix v log → (b : Bool) → (length log == old) ≡ b
+adds_goes : (log v : List (List Patch)) (e : List Patch) (old : ℕ) → length v ≡ old → IsPrefix v log → (b : Bool) → (length log == old) ≡ b
     → Goes IsKept shown moved 0 (v, (no_nib, None)) (λ n. either (n == old) (old + 1) n) (Adds (step 0 old (old + 1) e) (v, (no_nib, None))) ((length log, true) ∷ (0, true) ∷ []) log
 adds_goes log v e old len pre true is =
     let here : length log ≡ old = grind (arith, nat_tests) in
@@ -42,13 +42,13 @@ adds_goes log v e old len pre false is =
       rw is (ap length all),
     )
 
--- whatever the book is, the exchange adds the patch to all that was seen, or finds that the list is longer
-pub adds_moves : (v : List Patch) (e : Patch) (old : ℕ) → length v ≡ old
+-- whatever the book is, the exchange adds the publication to all that was seen, or finds that the list is longer
+pub adds_moves : (v : List (List Patch)) (e : List Patch) (old : ℕ) → length v ≡ old
     → Moves IsKept shown moved 0 (v, (no_nib, None)) (λ n. either (n == old) (old + 1) n) (Adds (step 0 old (old + 1) e) (v, (no_nib, None)))
 adds_moves v e old len cs log kept pre away =
     let P : List Cell → Type 0 = λ c. (0 < length c) × ((cell c 0).1 ≡ true) × Goes IsKept shown moved 0 (v, (no_nib, None)) (λ n. either (n == old) (old + 1) n) (Adds (step 0 old (old + 1) e) (v, (no_nib, None))) c log in
     subst P (sym kept) (omega arith, refl, adds_goes log v e old len pre (length log == old) refl)
 
--- where the number found is the one expected, the patch was added
-pub adds_match : (found old : ℕ) (w v p : List Patch) → found ≡ old → MatchBool (found == old) (w ≡ v ++ p) (length w ≡ found) → w ≡ v ++ p
+-- where the number found is the one expected, the publication was added
+pub adds_match : (found old : ℕ) (w v p : List (List Patch)) → found ≡ old → MatchBool (found == old) (w ≡ v ++ p) (length w ≡ found) → w ≡ v ++ p
 adds_match found old w v p same m = let b : (found == old) ≡ true = grind (arith, nat_tests, same) in rw b at m

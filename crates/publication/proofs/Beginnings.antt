@@ -1,10 +1,10 @@
 -- Beginnings of lists.
-use Rattle.std.proofs.Common.{◌≡◌, ◌∙◌, ◌+◌, ◌≤◌, List, [], ◌∷◌, ◌++◌, length, refl, ap, sym, arith, append_assoc, length-append}
+use Rattle.std.proofs.Common.{◌≡◌, ◌∙◌, ◌≤◌, List, [], ◌∷◌, ◌++◌, length, refl, ap, sym, arith, append_assoc, length-append}
 use Rattle.std.proofs.lemmas.List.{append-nil}
 use mathlib.Core.List.{IsPrefix}
 use Rattle.network_model.specs.Publication.{Patch}
 use Rattle.publication.specs.declared.known.Known.{Known}
-use Rattle.publication.specs.Lists.{Begins, with_patches}
+use Rattle.publication.specs.Lists.{Begins, with_publication}
 
 module _ {A : Type 0} where
   -- each list begins with itself
@@ -39,24 +39,15 @@ module _ {A : Type 0} where
   prefix_whole xs ys a len = all_there xs ys a.0 a.1 len
 
 pub begins_self : (k : Known) → Begins k k
-begins_self k = record { router = refl; patches = prefix_self k.patches }
+begins_self k = record { router = refl; publications = prefix_self k.publications }
 
 pub begins_trans : (j k l : Known) → Begins j k → Begins k l → Begins j l
-begins_trans j k l a b = record { router = b.router ∙ a.router; patches = prefix_trans j.patches k.patches l.patches a.patches b.patches }
+begins_trans j k l a b = record { router = b.router ∙ a.router; publications = prefix_trans j.publications k.publications l.publications a.publications b.publications }
 
--- a list begins itself with more patches
-pub begins_more : (k : Known) (ps : List Patch) → Begins k (with_patches k ps)
-begins_more k ps = record { router = refl; patches = (ps, refl) }
+-- a list begins itself with one more publication
+pub begins_more : (k : Known) (ps : List Patch) → Begins k (with_publication k ps)
+begins_more k ps = record { router = refl; publications = (ps ∷ [], refl) }
 
--- of two beginnings of one list of patches, by one router, the shorter begins the longer
-pub begins_shorter : (j k : Known) (whole : List Patch) → k.router ≡ j.router → IsPrefix j.patches whole → IsPrefix k.patches whole → length j.patches ≤ length k.patches → Begins j k
-begins_shorter j k whole same a b less = record { router = same; patches = prefix_shorter j.patches k.patches whole a b less }
-
--- a list that one of the two begins, that is one patch longer, and that ends with this patch
-pub one_more : (j k before : Known) (p : Patch) → Begins j k → length k.patches ≡ length j.patches + 1 → k ≡ with_patches before (p ∷ []) → k ≡ with_patches j (p ∷ [])
-one_more j k before p begins len is =
-    let all : k.patches ≡ before.patches ++ p ∷ [] = ap (λ l. l.patches) is in
-    let n : length before.patches ≡ length j.patches = omega (arith, len, ap length all, length-append before.patches (p ∷ [])) in
-    let same : j.patches ≡ before.patches = prefix_whole j.patches before.patches (prefix_shorter j.patches before.patches k.patches begins.patches (p ∷ [], sym all) (omega (arith, n))) (sym n) in
-    let patches : k.patches ≡ j.patches ++ p ∷ [] = all ∙ ap (λ ps. ps ++ p ∷ []) (sym same) in
-    λ i. record { router = begins.router i; patches = patches i }
+-- of two beginnings of one list of publications, by one router, the shorter begins the longer
+pub begins_shorter : (j k : Known) (whole : List (List Patch)) → k.router ≡ j.router → IsPrefix j.publications whole → IsPrefix k.publications whole → length j.publications ≤ length k.publications → Begins j k
+begins_shorter j k whole same a b less = record { router = same; publications = prefix_shorter j.publications k.publications whole a b less }

@@ -1,11 +1,12 @@
--- Lists of patches, the images that they stand for, and what waits for the next publication.
-use Rattle.std.specs.Prelude.{◌≡◌, ℕ, Bool, true, List, [], ◌∷◌, ◌++◌, map, Option, Some, None, ◌<◌, length, drop, get_or, slice_index_or}
+-- Published lists, the images that they stand for, and what waits for the next publication.
+use Rattle.std.specs.Prelude.{◌≡◌, ℕ, Bool, true, List, [], ◌∷◌, ◌++◌, map, Option, Some, None, ◌<◌, length, get_or, slice_index_or}
 use Rattle.std.specs.List.{list_any}
 use mathlib.Core.List.{IsPrefix}
 use Rattle.ipv4_prefix.specs.Prefix.{Prefix, prefix_eq}
 use Rattle.network_model.specs.Publication.{Patch, Image, image_answer, published_generation, published_image}
 use Rattle.network_model.specs.declared.route.Answer.{Answer}
 use Rattle.network_model.specs.declared.route.Entry.{Entry}
+use Rattle.image_patch.specs.Patches.{patched}
 use Rattle.image_patch.specs.declared.Patch.{Patch as PatchFields}
 use Rattle.publication.specs.declared.known.Known.{Known}
 
@@ -13,18 +14,27 @@ use Rattle.publication.specs.declared.known.Known.{Known}
 abbrev pub patch_of : PatchFields → Patch
 patch_of p = record { generation = p.generation; rows = p.rows.items }
 
--- a list with more patches behind
-abbrev pub with_patches : Known → List Patch → Known
-with_patches known ps = record { router = known.router; patches = known.patches ++ ps }
+-- what is published together: patches that waited, and the one behind them
+abbrev pub bundle_of : List PatchFields → PatchFields → List Patch
+bundle_of waiting p = map patch_of waiting ++ patch_of p ∷ []
 
--- a router's list with no patches
+-- the patches of publications, in order
+abbrev pub patches_of : List (List Patch) → List Patch
+patches_of [] = []
+patches_of (ps ∷ rest) = ps ++ patches_of rest
+
+-- a list with one more publication, of these patches
+abbrev pub with_publication : Known → List Patch → Known
+with_publication known ps = record { router = known.router; publications = known.publications ++ ps ∷ [] }
+
+-- a router's list before the first publication
 abbrev pub no_patches : ℕ → Known
-no_patches router = record { router = router; patches = [] }
+no_patches router = record { router = router; publications = [] }
 
--- two lists are of one router, and the one begins the other
+-- two lists are of one router, and its writer had the one, after some of the publications that made the other or before the first of them
 pub record Begins (earlier later : Known) : Type 0 where
   pub router : later.router ≡ earlier.router
-  pub patches : IsPrefix earlier.patches later.patches
+  pub publications : IsPrefix earlier.publications later.publications
 
 -- the opening table of a router, by the opening tables of all
 abbrev pub opening_of : List (List (Prefix × Entry)) → ℕ → List (Prefix × Entry)
@@ -32,11 +42,11 @@ opening_of openings router = slice_index_or openings router []
 
 -- the image of a list: its router's opening table with the rows of its patches set in order
 abbrev pub image_of : List (List (Prefix × Entry)) → Known → Image
-image_of openings known = published_image (opening_of openings known.router) known.patches
+image_of openings known = published_image (opening_of openings known.router) (patches_of known.publications)
 
 -- the generation of a list: that of its last patch, 0 where it has none
 abbrev pub generation_of : Known → ℕ
-generation_of known = published_generation 0 known.patches
+generation_of known = published_generation 0 (patches_of known.publications)
 
 -- what an image answers for an address, with its generation
 abbrev pub answer_of : Image → ℕ → Answer
@@ -68,11 +78,7 @@ new_writing router = record { published = no_patches router; waiting = [] }
 abbrev pub EachAt : {A : Type 0} → (ℕ → A → Type 0) → List A → Type 0
 EachAt {A} P xs = (k : ℕ) (d : A) → k < length xs → P k (get_or xs k d)
 
--- the patch that found no place among those that wait, if there is one
-abbrev pub held_of : Option Patch → List Patch
-held_of None = []
-held_of (Some p) = p ∷ []
-
--- the patches that wait: those of a log that are not shown yet, and the one that found no place there
-abbrev pub pending : ℕ → List Patch → Option Patch → List Patch
-pending shown log held = drop shown log ++ held_of held
+-- an image that a patch may be wanting
+abbrev pub followed : Option PatchFields → Image → Image
+followed None image = image
+followed (Some p) image = patched p.generation p.rows.items image

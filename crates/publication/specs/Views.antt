@@ -2,13 +2,16 @@
 use Rattle.std.specs.Prelude.{◌≡◌, ℕ, List, Option, Some, IfSome}
 use mathlib.Core.Option.{some}
 use lib.ListN.{get_elem?}
+use Rattle.ipv4_prefix.specs.Prefix.{Prefix}
+use Rattle.network_model.specs.Publication.{Image}
+use Rattle.network_model.specs.declared.route.Entry.{Entry}
 use Rattle.publication.specs.declared.known.Known.{Known}
-use Rattle.publication.specs.Lists.{Begins}
+use Rattle.publication.specs.Lists.{Begins, image_of}
 
--- every view begins the list of the copy that is shown
-abbrev pub Keeps : Known → List (Option Known) → Type 0
-Keeps shown views = (seat : ℕ) (v : Option Known) → get_elem? views seat ≡ some v → IfSome v (λ k. Begins k shown)
+-- the image that is shown is that of its list, which every view begins
+abbrev pub Keeps : List (List (Prefix × Entry)) → Image → Known → List (Option Known) → Type 0
+Keeps openings image shown views = (image ≡ image_of openings shown) × ((seat : ℕ) (v : Option Known) → get_elem? views seat ≡ some v → IfSome v (λ k. Begins k shown))
 
--- the view began the list that was shown, and is the list that is shown now
-abbrev pub Sees : Option Known → Known → Known → Option Known → Type 0
-Sees v before after w = IfSome v (λ k. Begins k before) × (w ≡ Some after)
+-- the view began the list that was shown, and is the list that is shown now, with its image
+abbrev pub Sees : List (List (Prefix × Entry)) → Option Known → Known → Image → Known → Option Known → Type 0
+Sees openings v before image after w = IfSome v (λ k. Begins k before) × (w ≡ Some after) × (image ≡ image_of openings after)

@@ -1,21 +1,21 @@
-//! The list of patches that a writer announced, which exists in the proofs alone, and what knows a
-//! beginning of it.
+//! The list of publications of a writer, which exists in the proofs alone, and what knows a beginning
+//! of it.
 
-ghost use Rattle.std.specs.Prelude.{◌≡◌, ◌⊎◌, ◌+◌, ◌<◌, ◌∷◌, ◌↔◌, [], ℕ, length, IfSome, IfOk, IsTrue, vec_len};
-ghost use Rattle.publication.specs.Lists.{Begins, generation_of, no_patches, patch_of, with_patches};
+ghost use Rattle.std.specs.Prelude.{◌≡◌, ◌⊎◌, ◌<◌, ◌↔◌, [], length, IfSome, IfOk, IsTrue, vec_len};
+ghost use Rattle.publication.specs.Lists.{Begins, bundle_of, generation_of, no_patches, with_publication};
 ghost use Rattle.publication.specs.Names.{book_of, head_of};
 
-use crate::known::Change;
+use crate::known::Bundle;
 use image_patch::Patch;
 use logbook::{Gain, Offer, Plain, Play, Rule, Seen, Start, Word};
 use network_model::NoMemory;
 use std::alloc::Global;
 use std::marker::{Brand, Model, PhantomData};
 
-/// The rule of a book: its word counts the patches.
+/// The rule of a book: its word counts the publications.
 pub struct Law;
 
-impl Rule<Change, u64> for Law {
+impl Rule<Bundle, u64> for Law {
     ghost use Rattle.std.specs.Prelude.{[]};
     ghost use base.Fml.{ftrue};
     ghost use Rattle.publication.specs.Names.{IsKept};
@@ -36,29 +36,35 @@ impl Rule<Change, u64> for Law {
 /// Callers trade nothing.
 pub struct Nothing;
 
-impl Gain<Change, u64> for Nothing {
+impl Gain<Bundle, u64> for Nothing {
     ghost use base.Fml.{ftrue};
 
     ghost after = { λ names about answer. ftrue };
 }
 
-/// A step that adds a patch.
+/// A step that adds a publication.
 pub struct Add;
 
-impl Play<Change, u64> for Add {
+impl Play<Bundle, u64> for Add {
     ghost use Rattle.publication.specs.Names.{Adds};
 
     ghost then = { Adds };
 }
 
-/// What a step asks for: the patch.
-impl Plain<Patch, Change, u64> for Add {
+/// What is to be published: what waits, and then the patch.
+pub(crate) struct Coming {
+    pub waiting: Vec<Patch>,
+    pub patch: Patch,
+}
+
+/// What a step asks for: the publication.
+impl Plain<Coming, Bundle, u64> for Add {
     ghost use Rattle.std.specs.Prelude.{None};
-    ghost use Rattle.publication.specs.Lists.{patch_of};
+    ghost use Rattle.publication.specs.Lists.{bundle_of};
 
-    ghost ask = { λ patch. patch_of patch };
+    ghost ask = { λ coming. bundle_of coming.waiting.items coming.patch };
 
-    ghost state = { λ patch. None };
+    ghost state = { λ coming. None };
 }
 
 /// Which fabric a writer, a reader or a `Told` is of: the books of its writers and the tables that
@@ -86,8 +92,8 @@ impl Naming for Brand {
 /// What a writer is made of before its fabric has a name. Contracts see it as its book.
 #[derive(Drop)]
 pub struct Unnamed {
-    head: Word<Change, u64, Law>,
-    seen: Seen<Change, u64, Law>,
+    head: Word<Bundle, u64, Law>,
+    seen: Seen<Bundle, u64, Law>,
 }
 
 impl Model for Unnamed {
@@ -147,23 +153,23 @@ impl Unnamed {
     }
 }
 
-/// The word that counts the patches of a list. The writer has it.
+/// The word that counts the publications of a list. The writer has it.
 #[derive(Drop)]
 pub(crate) struct Ledger<B: Naming> {
     router: u16,
-    head: Word<Change, u64, Law>,
+    head: Word<Bundle, u64, Law>,
     of: PhantomData<B>,
     ghost head_is: { head ≡ head_of (book_of B.books router) },
 }
 
-/// What was told of a writer: a list of patches, which begins all that the writer publishes later.
-/// It takes no memory.
+/// What was told of a writer: the list that it had after some of its publications, which begins all
+/// that it publishes later. It takes no memory.
 #[derive(Drop)]
 pub struct Told<B: Naming> {
     router: u16,
     count: u64,
     generation: u64,
-    seen: Seen<Change, u64, Law>,
+    seen: Seen<Bundle, u64, Law>,
     of: PhantomData<B>,
 }
 
@@ -171,14 +177,15 @@ impl<B: Naming> Model for Told<B> {
     ghost use Rattle.std.specs.Prelude.{◌≡◌, ◌<◌, length};
     ghost use Rattle.network_model.specs.Publication.{published_generation};
     ghost use Rattle.publication.specs.declared.known.Known.{Known};
+    ghost use Rattle.publication.specs.Lists.{patches_of};
     ghost use Rattle.publication.specs.Names.{book_of};
 
     ghost Value = { Known };
 
-    ghost view = { λ t. record { router = t.router; patches = t.seen.log } };
+    ghost view = { λ t. record { router = t.router; publications = t.seen.log } };
 
     ghost invariant = { λ t. (t.count ≡ length t.seen.log)
-        × (t.generation ≡ published_generation 0 t.seen.log)
+        × (t.generation ≡ published_generation 0 (patches_of t.seen.log))
         × (t.seen.book ≡ book_of B.books t.router)
         × (t.router < length B.books) };
 }
@@ -252,28 +259,19 @@ impl<B: Naming> Told<B> {
         true
     }
 
-    /// Whether it is of the same writer and one patch longer: just where the other begins it, and it
-    /// has one patch more.
-    pub(crate) fn follows(&self, other: &Told<B>) -> bool
-        ensures { IsTrue result ↔
-            (Begins other.now self.now × (length self.now.patches ≡ length other.now.patches + 1)) }
-    {
-        if other.count >= self.count || self.count - other.count != 1 {
-            return false;
-        }
-        other.begins(self)
-    }
-
-    /// The list with one patch more. None where the list is longer than this.
-    pub(crate) fn add(&self, ledger: &Ledger<B>, patch: &Patch) -> Option<Told<B>>
+    /// The list with one more publication. None where the list is longer than this.
+    pub(crate) fn add(&self, ledger: &Ledger<B>, coming: &Coming) -> Option<Told<B>>
         requires { ledger.now.router ≡ self.now.router }
-        ensures { IfSome result (λ t. t ≡ with_patches self.now (patch_of patch.now ∷ [])) }
+        ensures { IfSome result
+            (λ t. t ≡ with_publication self.now (bundle_of coming.now.waiting.items coming.now.patch)) }
     {
         if self.count == u64::MAX {
             return None;
         }
         let mut seen = self.seen.again();
-        let mut offer: Offer<Change, u64, Law, Nothing> = seen.plain::<Nothing, Patch, Add>(patch);
+        let mut offer: Offer<Bundle, u64, Law, Nothing> = seen.plain::<Nothing, Coming, Add>(
+            coming,
+        );
         let mut pen = seen.no_pen();
         let found = ledger.head.compare_exchange::<Add, Nothing>(
             self.count,
@@ -288,7 +286,7 @@ impl<B: Naming> Told<B> {
         Some(Told {
             router: self.router,
             count: self.count + 1,
-            generation: patch.generation,
+            generation: coming.patch.generation,
             seen,
             of: PhantomData,
         })

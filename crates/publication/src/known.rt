@@ -1,4 +1,4 @@
-//! What contracts see of patches and of lists of patches. No value of these types is made.
+//! What contracts see of patches, of publications and of published lists. No value of these types is made.
 
 use network_model::{Entry, Prefix};
 use std::marker::Model;
@@ -17,8 +17,22 @@ impl Model for Change {
     ghost view = { λ c. record { generation = c.generation; rows = c.rows } };
 }
 
-/// A list of patches of a router's writer.
+/// The patches of one publication: those that waited, and then the one that was handed in.
+pub struct Bundle {
+    patches: [Change; 0],
+}
+
+impl Model for Bundle {
+    ghost use Rattle.std.specs.Prelude.{List};
+    ghost use Rattle.network_model.specs.Publication.{Patch};
+
+    ghost Value = { List Patch };
+
+    ghost view = { λ b. b.patches };
+}
+
+/// The list that a router's writer had after some of its publications.
 pub struct Known {
     pub router: u16,
-    pub patches: [Change; 0],
+    pub publications: [Bundle; 0],
 }

@@ -42,8 +42,8 @@ impl ReadGate for NoGate {
     fn inside(&self) {}
 }
 
-/// Looks addresses up, with no lock and no wait. Contracts see it as its view: a list that its
-/// writer has published.
+/// Looks addresses up, with no lock and no wait. Contracts see it as its view: the list that its
+/// writer had after some of its publications, or before the first.
 #[derive(Drop)]
 pub struct ImageReader<B: Naming> {
     reader: Option<Reader<Edition<B>, Option<Known>, Shown<B>>>,
@@ -86,8 +86,9 @@ impl<B: Naming> ImageReader<B> {
         }
     }
 
-    /// Looks an address up in the image of the view that it then has: the list that its writer has
-    /// published last. It takes no memory. Refused, the view stays.
+    /// Looks an address up in the image of the view that it then has: a list that its writer had
+    /// after some publication, and no earlier than the view before. It takes no memory. Refused, the
+    /// view stays.
     pub fn lookup(&mut self, addr: u32) -> Result<Answer, NoImage>
         ensures later { Begins self.old self.new }
         ensures answer { IfOk result (λ a. a ≡ answer_of (image_of B.openings self.new) addr) }
@@ -105,7 +106,7 @@ impl<B: Naming> ImageReader<B> {
         let Some(reader) = self.reader.take() else {
             return Err(NoImage);
         };
-        match reader.enter_as::<Sees>() {
+        match reader.enter_as::<Sees<B>>() {
             Ok(reading) => {
                 gate.inside();
                 let (answer, told) = reading.get().answer(addr);

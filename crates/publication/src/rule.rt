@@ -6,7 +6,7 @@ use crate::known::Known;
 use crossbeam_utils::rule::{Outcome, Protocol};
 use std::marker::PhantomData;
 
-/// A view is the list of a copy that was shown.
+/// The copy that is shown is the image of its list, and a view is the list of a copy that was shown.
 pub struct Shown<B: Naming> {
     of: PhantomData<B>,
 }
@@ -15,16 +15,18 @@ impl<B: Naming> Protocol<Edition<B>, Option<Known>> for Shown<B> {
     ghost use Rattle.std.specs.Prelude.{None};
     ghost use Rattle.publication.specs.Views.{Keeps};
 
-    ghost holds = { λ shown views. Keeps shown views };
+    ghost holds = { λ shown views. Keeps B.openings shown.image shown.told views };
 
     ghost first = { None };
 }
 
-/// What was shown before is seen, and what is shown afterwards.
-pub struct Sees;
+/// What was shown before is seen, and what is shown afterwards, which is the image of its list.
+pub struct Sees<B: Naming> {
+    of: PhantomData<B>,
+}
 
-impl<B: Naming> Outcome<Edition<B>, Option<Known>> for Sees {
+impl<B: Naming> Outcome<Edition<B>, Option<Known>> for Sees<B> {
     ghost use Rattle.publication.specs.Views.{Sees};
 
-    ghost then = { λ view before after now. Sees view before after now };
+    ghost then = { λ view before after now. Sees B.openings view before.told after.image after.told now };
 }

@@ -3,27 +3,26 @@
 ghost use Rattle.std.specs.Prelude.{◌≡◌, ◌⊎◌, ◌+◌, ◌++◌, ◌∷◌, ◌≤◌, ◌<◌, [], length, map, All, IfOk, OnOk, OnErr, vec_len};
 ghost use Rattle.std.specs.Vec.{vec_capacity};
 ghost use Rattle.image_patch.specs.Patches.{patched};
-ghost use Rattle.publication.specs.Lists.{Covers, generation_of, image_of, is_named, new_writing, no_patches, opening_of, patch_of, prefixes_of, with_patches};
+ghost use Rattle.publication.specs.Lists.{Covers, generation_of, image_of, is_named, new_writing, no_patches, opening_of, patch_of, prefixes_of, with_publication};
 ghost use Rattle.publication.specs.Names.{book_of};
 ghost use Rattle.publication.specs.declared.writer.OpenFault.TheVariants.{NoMemory as OutOfMemory, NoReaderPlace as NoPlace};
 
-use crate::book::{Ledger, Naming, Told, Unnamed};
-use crate::edition::{Announced, Edition};
+use crate::book::{Naming, Told, Unnamed};
+use crate::edition::Edition;
 use crate::known::Known;
-use crate::press::{Copies, Press};
+use crate::press::{Press, two};
 use crate::reader::ImageReader;
 use crate::rule::Shown;
 use image_patch::Patch;
 use left_right::Absorb;
 use left_right::reader::Factory;
-use left_right::writer::Writer;
 use network_model::{NoMemory, Prefix, Refusal};
 use std::alloc::Global;
+use std::convert::Infallible;
 use std::marker::Model;
 use std::sync::Wait;
 use thiserror::Error;
 use tree_bitmap::Image;
-use tree_bitmap::parts::copy;
 
 /// Why no writer was made. Its text is its number and name.
 #[derive(Clone, Copy, Debug, PartialEq, Eq, Drop, Error)]
@@ -57,57 +56,33 @@ impl From<OpenFault> for Refusal {
     }
 }
 
-/// Publishes patches. It is not `Drop`: end it by `close`. Contracts see the list that it has
-/// published, and the patches that wait since a publication was refused.
+/// Publishes patches. It is not `Drop`: end it by `close`. Contracts see the list of its
+/// publications, and the patches that wait since one was refused.
 pub struct ImageWriter<B: Naming>
 where
-    Edition<B>: Absorb<Announced<B>, State = Known>,
+    Edition<B>: Absorb<Infallible, State = ()>,
 {
     press: Press<B>,
-    ledger: Ledger<B>,
-    // All that was announced: what was published, and what waits.
-    told: Told<B>,
     // The prefixes that waiting patches name.
     prefixes: Vec<Prefix>,
 }
 
 impl<B: Naming> Model for ImageWriter<B>
 where
-    Edition<B>: Absorb<Announced<B>, State = Known>,
+    Edition<B>: Absorb<Infallible, State = ()>,
 {
-    ghost use Rattle.std.specs.Prelude.{◌≡◌};
-    ghost use Rattle.publication.specs.Lists.{Writing, pending, prefixes_of, with_patches};
+    ghost use Rattle.std.specs.Prelude.{◌≡◌, length, map};
+    ghost use Rattle.publication.specs.Lists.{Writing, generation_of, patch_of, prefixes_of};
 
     ghost Value = { Writing };
 
     ghost view = { λ w. record {
-      published = w.press.writer.desk.shown.value;
-      waiting = pending w.press.writer.behind w.press.writer.log.items w.press.held;
+      published = w.press.writer.desk.shown.value.told;
+      waiting = map patch_of w.press.waiting.items;
     } };
 
-    ghost invariant = { λ w. (w.told ≡ with_patches w.press.writer.desk.shown.value
-        (pending w.press.writer.behind w.press.writer.log.items w.press.held))
-        × (w.prefixes.items
-        ≡ prefixes_of (pending w.press.writer.behind w.press.writer.log.items w.press.held))
-        × (w.ledger.router ≡ w.told.router) };
-}
-
-// The list with the patch behind it. It waits for ever where the list is longer than this, as no
-// writer's own is, or has 2^64 - 1 patches.
-fn announce<B: Naming, R: Wait>(
-    rt: &R,
-    told: &Told<B>,
-    ledger: &Ledger<B>,
-    patch: &Patch,
-) -> Told<B>
-    requires { ledger.now.router ≡ told.now.router }
-    ensures { result ≡ with_patches told.now (patch_of patch.now ∷ []) }
-{
-    if let Some(longer) = told.add(ledger, patch) {
-        return longer;
-    }
-    for _ in rt.forever() {}
-    unreachable!()
+    ghost invariant = { λ w. (w.prefixes.items ≡ prefixes_of (map patch_of w.press.waiting.items))
+        × (length w.press.writer.desk.shown.value.told.publications ≡ generation_of w.press.writer.desk.shown.value.told) };
 }
 
 // Adds the prefixes that a patch names.
@@ -128,9 +103,11 @@ impl<B: Naming> ImageWriter<B> {
         self.press.shown()
     }
 
-    /// The generation of the image in force: that of the patch that was published last, or 0.
+    /// The generation of the image in force: that of the patch that was published last, or 0. It is
+    /// the number of publications.
     pub fn generation(&self) -> u64
-        ensures { result ≡ generation_of self.now.published }
+        ensures generation { result ≡ generation_of self.now.published }
+        ensures count { result ≡ length self.now.published.publications }
     {
         self.press.shown().generation()
     }
@@ -149,16 +126,16 @@ impl<B: Naming> ImageWriter<B> {
         &self.prefixes
     }
 
-    /// Puts a patch in force, and just before it those that wait. The patch has the next generation,
-    /// and names each prefix for which `waits_for` is true. It waits for readers that still look up
-    /// in the copy to be changed. Refused, readers see what they saw, and the patch may wait for the
-    /// next call.
+    /// Puts a patch in force, and just before it those that wait, as one publication. The patch has
+    /// the next generation, and names each prefix for which `waits_for` is true. It waits for readers
+    /// that still look up in the copy to be changed. Refused, it publishes nothing: readers see what
+    /// they saw, and the patch may wait for the next call.
     pub fn publish<R: Wait>(&mut self, rt: &R, patch: Patch) -> Result<Told<B>, NoMemory>
         requires number { patch.generation ≡ generation_of self.old.published + 1 }
         requires covers { Covers (patch_of patch) self.old.waiting }
         ensures told { IfOk result (λ t. t ≡ self.new.published) }
         ensures list { OnOk result (self.new.published
-            ≡ with_patches self.old.published (self.old.waiting ++ patch_of patch ∷ [])) }
+            ≡ with_publication self.old.published (self.old.waiting ++ patch_of patch ∷ [])) }
         ensures waiting { OnOk result (self.new.waiting ≡ []) }
         ensures image { OnOk result (image_of B.openings self.new.published
             ≡ patched patch.generation patch.rows.items (image_of B.openings self.old.published)) }
@@ -167,12 +144,9 @@ impl<B: Naming> ImageWriter<B> {
             ⊎ (self.new.waiting ≡ self.old.waiting ++ patch_of patch ∷ [])) }
     {
         self.prefixes.reserve(patch.rows.len())?;
-        self.press.settle()?;
-        let told = announce(rt, &self.told, &self.ledger, &patch);
+        self.press.reserve()?;
         note_prefixes(&mut self.prefixes, &patch);
-        self.told = told.again();
-        self.press.add(Announced::new(patch, told))?;
-        self.press.show(rt)?;
+        self.press.publish(rt, patch)?;
         self.prefixes.clear();
         Ok(self.press.shown())
     }
@@ -181,8 +155,6 @@ impl<B: Naming> ImageWriter<B> {
     pub fn close<R: Wait>(self, rt: &R) {
         let ImageWriter {
             press,
-            ledger: _ledger,
-            told: _told,
             prefixes: _prefixes,
         } = self;
         press.close(rt);
@@ -231,25 +203,13 @@ pub fn open<B: Naming, R: Wait>(
     ensures count { IfOk result (λ o. vec_len o.1 ≡ readers) }
     ensures readers { IfOk result (λ o. All (λ r. r ≡ no_patches router) o.1.items) }
 {
-    let second = copy(&image, alloc)?;
     let (ledger, told) = unnamed.named::<B>(router);
-    let first = Edition::new(image, told.again());
-    let second = Edition::new(second, told.again());
-    let made: Result<Copies<B>, _> = Writer::new(alloc, first, second, usize::from(readers) + 1);
-    let Ok(writer) = made else {
-        return Err(OpenFault::NoMemory);
-    };
+    let writer = two(rt, alloc, image, &told, readers)?;
     match make_readers(alloc, writer.factory(), &told, readers) {
         Ok(list) => {
+            let press = Press::new(writer, ledger, alloc);
             let prefixes = Vec::new(alloc);
-            let press = Press::new(writer);
-            let writer = ImageWriter {
-                press,
-                ledger,
-                told,
-                prefixes,
-            };
-            Ok((writer, list))
+            Ok((ImageWriter { press, prefixes }, list))
         }
         Err(fault) => {
             writer.take(rt);

@@ -1,6 +1,6 @@
 //! What a router's machines do to its table and its gate.
 
-ghost use Rattle.std.specs.Prelude.{◌≡◌, ◌≤◌, ◌<◌, ◌+◌, ◌*◌, ◌++◌, map, length, IsSome, All, OnOk};
+ghost use Rattle.std.specs.Prelude.{◌≡◌, ◌≤◌, ◌<◌, ◌+◌, ◌*◌, ◌++◌, ◌⊎◌, map, length, IsSome, All, OnOk, OnErr};
 ghost use Rattle.std.specs.List.{flat_map};
 ghost use Rattle.std.specs.FinMap.{find as row_of, put};
 ghost use Rattle.ipv4_prefix.specs.Prefix.{prefix_cmp};
@@ -86,6 +86,7 @@ impl Effects {
         ensures gate { self.new.gate.gate ≡ self.old.gate.gate }
         ensures sends { OnOk result (each ≤ self.new.sends.capacity) }
         ensures room { OnOk result (all ≤ self.new.gate.room) }
+        ensures full { OnErr result ((self.old.sends.capacity < each) ⊎ (self.old.gate.room < all)) }
     {
         self.sends.clear();
         self.sends.reserve(each)?;

@@ -172,8 +172,15 @@ impl Router {
     pub fn patch_rows(&self, alloc: Global) -> Result<Vec<(Prefix, Entry)>, NoMemory>
         ensures rows { IfOk result (λ rows. rows.items ≡ step.changed_rows (self.now).table) }
         ensures patch { IfOk result (λ rows. with_rows rows.items (self.now).table.published ≡ (self.now).table.control) }
+
+        // Where no row has changed it takes no memory.
+        ensures full { OnErr result (0 < length (step.changed_rows (self.now).table)) }
     {
-        let rows = self.effects.table.changed().collect(alloc)?;
+        let changed = self.effects.table.changed();
+        if !self.effects.table.is_changed() {
+            return Ok(Vec::new(alloc));
+        }
+        let rows = changed.collect(alloc)?;
         Ok(rows)
     }
 
@@ -265,7 +272,7 @@ impl Router {
     {
         // A machine sends at most one message more than it has ports.
         let each = self.ports.len() + 1;
-        let all = self.machines.len().checked_mul(each).ok_or(NoMemory)?;
+        let all = self.machines.len().saturating_mul(each);
         self.effects.reserve(each, all)?;
         self.ports[usize::from(port)] = changed;
         meet_all(

@@ -1,6 +1,6 @@
 -- The texts that tell of links, routers and machines.
-use Rattle.std.specs.Prelude.{ℕ, Bool, true, false, ◌==◌, if◌then◌else◌, ◌++◌, Option, Some, None, codes, decimal}
-use Rattle.metric.specs.Distance.{infinity}
+use Rattle.std.specs.Prelude.{ℕ, Bool, true, false, ◌++◌, Option, Some, None, codes, decimal}
+use Rattle.metric.specs.Distance.{distance_text}
 use Rattle.ipv4_prefix.specs.Prefix.{Prefix}
 use Rattle.ipv4_prefix.specs.Texts.{prefix_text}
 use Rattle.script.specs.Words.{Text}
@@ -15,10 +15,6 @@ use Rattle.script.specs.declared.lines.Told.TheVariants.{Link, Router, Machine, 
 abbrev pub up_text : Bool → Text
 up_text true = codes "up"
 up_text false = codes "down"
-
--- a distance: its number, or `inf` where no way is known
-abbrev pub distance_text : ℕ → Text
-distance_text d = if d == infinity then codes "inf" else decimal d
 
 -- two numbers, of one end and of the other
 abbrev pub pair_text : ℕ → ℕ → Text

@@ -158,8 +158,7 @@ impl fmt::Display for CostsText {
     ghost output = { λ t. Some (pair_text t.0 t.1) };
 
     fn fmt<W: fmt::Write>(&self, f: &mut fmt::Formatter<W>) -> fmt::Result {
-        let (from_a, from_b) = (self.0.value(), self.1.value());
-        write!(f, "{from_a} {from_b}")
+        write!(f, "{} {}", self.0, self.1)
     }
 }
 
@@ -175,25 +174,6 @@ impl fmt::Display for QueuedText {
 
     fn fmt<W: fmt::Write>(&self, f: &mut fmt::Formatter<W>) -> fmt::Result {
         write!(f, "{} {}", self.0, self.1)
-    }
-}
-
-// The text of a distance.
-#[derive(Clone, Copy)]
-struct DistanceText(Distance);
-
-impl fmt::Display for DistanceText {
-    ghost use Rattle.std.specs.Prelude.{Some};
-    ghost use Rattle.script.specs.Lines.{distance_text};
-
-    ghost output = { λ t. Some (distance_text t.0) };
-
-    fn fmt<W: fmt::Write>(&self, f: &mut fmt::Formatter<W>) -> fmt::Result {
-        if self.0.is_infinite() {
-            return write!(f, "inf");
-        }
-        let value = self.0.value();
-        write!(f, "{value}")
     }
 }
 
@@ -238,7 +218,7 @@ impl fmt::Display for Line<'_> {
             Told::Machine(line) => {
                 let name = self.directory.name(Some(line.router));
                 let (prefix, state) = (line.prefix, StateText(line.origin));
-                let (rd, fd) = (DistanceText(line.rd), DistanceText(line.fd));
+                let (rd, fd) = (line.rd, line.fd);
                 let entry = self.directory.entry(line.router, line.entry);
                 write!(f, "{name} {prefix} {state} RD {rd} FD {fd} {entry}")
             }

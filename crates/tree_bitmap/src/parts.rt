@@ -1,6 +1,6 @@
 //! What those need who make images, or change them.
 
-ghost use Rattle.std.specs.Prelude.{◌≡◌, [], IfOk, OnOk, OnErr};
+ghost use Rattle.std.specs.Prelude.{◌≡◌, ◌<◌, [], length, IfOk, OnOk, OnErr};
 ghost use Rattle.std.specs.FinMap.{put};
 ghost use Rattle.ipv4_prefix.specs.Prefix.{prefix_cmp};
 ghost use Rattle.network_model.specs.Publication.{with_rows};
@@ -43,6 +43,9 @@ pub fn set_row(image: &mut Image, prefix: Prefix, entry: Entry) -> Result<(), No
 pub fn set_rows(image: &mut Image, rows: &[(Prefix, Entry)]) -> Result<(), NoMemory>
     ensures ok { OnOk result (image.new ≡ record image.old { rows = with_rows rows.now image.old.rows }) }
     ensures err { OnErr result (image.new ≡ image.old) }
+
+    // No rows take no memory.
+    ensures full { OnErr result (0 < length rows.now) }
 {
     image.tree.reserve(rows.len())?;
     image.tree.set_rows(rows)

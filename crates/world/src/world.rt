@@ -45,9 +45,9 @@ impl Model for World {
 
     ghost Value = { NetworkWorld };
 
-    ghost view = { λ w. world_of w.places.items w.links w.routers.items };
+    ghost view = { λ w. world_of w.places.items w.links.links w.routers.items };
 
-    ghost invariant = { λ w. IsKept (world_of w.places.items w.links w.routers.items) };
+    ghost invariant = { λ w. IsKept (world_of w.places.items w.links.links w.routers.items) };
 }
 
 impl World {
@@ -68,7 +68,7 @@ impl World {
 
     /// The links, by number.
     pub fn links(&self) -> &Links
-        ensures { result.now ≡ (self.now).links }
+        ensures { result.now.links ≡ (self.now).links }
     {
         &self.links
     }

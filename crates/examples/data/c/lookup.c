@@ -1,9 +1,7 @@
 /* Makes an image of four rows, looks up addresses in two threads, patches the image, looks up again.
- * At the top of the repository:
+ * Once the library is installed, as by ./install /usr/local:
  *
- *     (cd crates/lookup_ffi && rt lib)
- *     cc -O2 -Iinclude examples/c/lookup.c crates/lookup_ffi/out/liblookup_ffi.a \
- *         "$(dirname "$(rt doc)")/c/liblibc_c.a" -pthread -o lookup
+ *     cc -O2 examples/c/lookup.c $(pkg-config --cflags --libs tuhvondi) -pthread -o lookup
  *     ./lookup
  *
  * prints what examples/c/lookup.out has. */
@@ -102,8 +100,9 @@ int main(void)
         {.addr = 0, .len = 0, .kind = TUHVONDI_VIA, .port = 3, .session = 1},
         {.addr = 0x0a010000, .len = 16, .kind = TUHVONDI_LOCAL},
     };
-    printf("while it is shared, a patch answers %u\n",
-           tuhvondi_image_apply(&image, 1, patch, COUNT(patch)));
+    uint32_t refused = tuhvondi_image_apply(&image, 1, patch, COUNT(patch));
+    printf("while it is shared, a patch answers %" PRIu32 ": %s\n", refused,
+           tuhvondi_status_text(refused));
     for (size_t i = 0; i < COUNT(readers); i++) {
         pthread_join(threads[i], NULL);
         tuhvondi_image_free(&readers[i].image);
@@ -113,9 +112,10 @@ int main(void)
         return 1;
 
     const struct tuhvondi_row bad[] = {{.addr = 0x0a000001, .len = 8}};
-    printf("a row with host bits answers %u\n",
-           tuhvondi_image_apply(&image, 2, bad, COUNT(bad)));
+    refused = tuhvondi_image_apply(&image, 2, bad, COUNT(bad));
+    printf("a row with host bits answers %" PRIu32 ": %s\n", refused, tuhvondi_status_text(refused));
     tuhvondi_image_free(&image);
-    printf("a freed image answers %u\n", tuhvondi_image_apply(&image, 2, rows, COUNT(rows)));
+    refused = tuhvondi_image_apply(&image, 2, rows, COUNT(rows));
+    printf("a freed image answers %" PRIu32 ": %s\n", refused, tuhvondi_status_text(refused));
     return 0;
 }

@@ -1,4 +1,4 @@
-use Rattle.std.proofs.Common.{◌≡◌, ◌⊎◌, ◌++◌, map}
+use Rattle.std.proofs.Common.{◌≡◌, ◌⊎◌, ◌<◌, ◌≤◌, ◌++◌, length, map}
 use Rattle.std.specs.Prelude.{IfOk, IfErr}
 use Rattle.network_model.specs.declared.step.Refusal.TheVariants.{NoMemory, NoImage}
 use Rattle.packet_queue.specs.Ends.{takes_from, taken_by}
@@ -12,3 +12,5 @@ invariant-loop g l =
     × (takes_from l.taker ≡ takes_from l.initial.taker)
     × IfOk l.replies (λ rs. jobs_of (taken_by l.taker) ≡ jobs_of (taken_by l.initial.taker) ++ map (λ r. r.job) rs.items)
     × IfErr l.replies (λ e. (e ≡ NoMemory) ⊎ (e ≡ NoImage))
+    × (length (jobs_of (taken_by l.initial.taker)) ≤ length (jobs_of (taken_by l.taker)))
+    × IfErr l.replies (λ _. length (jobs_of (taken_by l.initial.taker)) < length (jobs_of (taken_by l.taker)))

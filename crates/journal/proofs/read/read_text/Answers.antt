@@ -22,9 +22,12 @@ returns-clause-err c =
       | in-Some-next_line+else-eq+in_default-parse_step w ↦
           let line = w.in-Some-next_line.line.now in
           let apart : line ≢ ending = λ is. true≢false (sym ((bytes_eq-Decides line ending).1 is) ∙ sym w.eq.ensures ∙ w.if-eq.false) in
-          inr (stops_at_line c.args.names.now c.args.links.now c.args.text.now c.loop-line.steps.items (lines_of c.loop-line.rest.now) (lines_of w.in-Some-next_line.after.now) line (c.len.result + 2)
-          c.loop-line.invariant.1 w.in-Some-next_line.ensures.some apart
-          (says_no_step w.in_default-parse_step.field-0 c.args.names.now c.args.links.now (words_of line) w.in_default-parse_step.ensures.err) number)
+          inr (
+            c.requires,
+            stops_at_line c.args.names.now c.args.links.now c.args.text.now c.loop-line.steps.items (lines_of c.loop-line.rest.now) (lines_of w.in-Some-next_line.after.now) line (c.len.result + 2)
+                c.loop-line.invariant.1 w.in-Some-next_line.ensures.some apart
+                (says_no_step w.in_default-parse_step.field-0 c.args.names.now c.args.links.now (words_of line) w.in_default-parse_step.ensures.err) number,
+          )
       | in_default-next_line w ↦
-          inr (stops_missing c.args.names.now c.args.links.now c.args.text.now c.loop-line.steps.items (lines_of c.loop-line.rest.now) (c.len.result + 2) c.loop-line.invariant.1 w.in_default-next_line.ensures.none number)
+          inr (c.requires, stops_missing c.args.names.now c.args.links.now c.args.text.now c.loop-line.steps.items (lines_of c.loop-line.rest.now) (c.len.result + 2) c.loop-line.invariant.1 w.in_default-next_line.ensures.none number)
     ]

@@ -1,4 +1,4 @@
-use Rattle.std.proofs.Common.{◌≡◌, ◌+◌, ◌≤◌, All, vec_len, vec_capacity, length}
+use Rattle.std.proofs.Common.{◌≡◌, ◌+◌, All, vec_len, vec_capacity, length}
 use Rattle.std.specs.Vec.Iter.{into_iter_items}
 use Rattle.fabric.specs.Writers.{IsPort}
 use Rattle.play.proofs.dispatch.ports_of.Given as goal

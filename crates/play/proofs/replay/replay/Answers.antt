@@ -3,8 +3,17 @@ use Rattle.script.proofs.Exits.{at_err}
 use Rattle.play.specs.declared.fault.Cause.TheVariants.{Journal as OfJournal}
 use Rattle.play.specs.Faults.{unplaced}
 use Rattle.play.specs.Ends.{OfBytes, StopsReplay}
-use Rattle.play.proofs.Running.{IsPlanned, journal_of, replay_ends, stops_journal, stops_opening}
+use Rattle.play.proofs.Running.{IsPlanned, journal_of, replay_ends, stops_journal, stops_opening, stops_unread}
 use Rattle.play.proofs.replay.replay.Goals as goal
+
+pub returns-in_err-lines-clause-fault : goal.returns-in_err-lines-clause-fault
+returns-in_err-lines-clause-fault g c =
+    let text = string_bytes c.in_ok-text.text in
+    let planned : IsPlanned text c.in_ok-network.field-0 = rw (← c.as_str.ensures.value) c.in_ok-network.ensures.ok in
+    let cause = c.in_err-lines.field-0.0 in
+    at_err c.from_residual-in_err-lines.result (λ e. OfBytes (g.R.Read.remaining c.args.scenario) (λ bytes. StopsReplay bytes (g.J.Read.remaining c.args.journal) e)) (unplaced cause)
+    c.from_residual-in_err-lines.ensures.1
+    (text, c.in_ok-text.ensures.whole, stops_unread text (g.J.Read.remaining c.args.journal) c.in_ok-network.field-0 cause c.in_ok-text.ensures.short planned c.in_err-lines.ensures.fault)
 
 pub returns-in_err-steps-clause-fault : goal.returns-in_err-steps-clause-fault
 returns-in_err-steps-clause-fault g c =

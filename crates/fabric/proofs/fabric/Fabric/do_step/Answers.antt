@@ -188,7 +188,7 @@ stepped g c =
 -- the sum has the step's number more
 summed : (g : given.Over) (c : goal.After-unwrap-2 g) → IsStepped g c → IsSumOf c.push.new.self.items (c.self.inside.sum + c.number.result)
 summed g c done =
-    summed_more c.self.inside.journal.items c.args.step c.push.new.self.items c.self.inside.sum c.number.result c.self.invariant.3 c.number.ensures.number c.number.ensures.below
+    summed_more c.self.inside.journal.items c.args.step c.push.new.self.items c.self.inside.sum c.number.result c.self.invariant.3 c.number.ensures.number c.number.ensures.below c.number.ensures.fits
     (pushed g c ∙ ap (λ j. j.items ++ c.args.step ∷ []) done.journal)
 
 pub invariant_of-self-2 : goal.invariant_of-self-2

@@ -1,8 +1,8 @@
-use Rattle.std.proofs.Common.{◌≡◌, ◌++◌, ◌∷◌, [], refl, sym, ◌∙◌, ap, arith, length-append}
-use Rattle.publication.specs.Lists.{patch_of}
+use Rattle.std.proofs.Common.{◌≡◌, ◌++◌, ◌∷◌, [], map, refl, sym, ◌∙◌, ap, arith, length-append}
+use Rattle.publication.specs.Lists.{bundle_of, patch_of}
 use Rattle.publication.specs.Names.{book_of}
 use Rattle.publication.proofs.Announcing.{adds_moves, adds_match}
-use Rattle.publication.proofs.Tables.{generation-last}
+use Rattle.publication.proofs.Tables.{generation-more}
 use Rattle.publication.proofs.book.Told.add.Goals as goal
 
 pub compare_exchange-found-requires : goal.compare_exchange-found-requires
@@ -17,16 +17,16 @@ compare_exchange-found-requires g c =
       ap (λ s. s.book) seen ∙ sym book,
       pen.0 ∙ (ap (λ s. s.book) seen ∙ sym book),
       offer.0,
-      rw (ap (λ w. w.key) h, ap (λ s. s.log) seen, pen.1, offer.1, offer.3) (adds_moves c.self.inside.seen.log (patch_of c.args.patch.now) c.self.inside.count (sym c.self.invariant.0)),
+      rw (ap (λ w. w.key) h, ap (λ s. s.log) seen, pen.1, offer.1, offer.3) (adds_moves c.self.inside.seen.log (bundle_of c.args.coming.now.waiting.items c.args.coming.now.patch) c.self.inside.count (sym c.self.invariant.0)),
     )
 
 pub invariant_of-result : goal.invariant_of-result
 invariant_of-result g c =
     let e = c.compare_exchange-found.ensures in
     let longer = adds_match c.compare_exchange-found.result c.self.inside.count c.compare_exchange-found.new.seen.log c.again-seen.result.log (c.plain-offer.result.ask ∷ []) c.if-found-self.false e.7 in
-    let log : c.compare_exchange-found.new.seen.log ≡ c.self.inside.seen.log ++ patch_of c.args.patch.now ∷ [] = longer ∙ rw (ap (λ s. s.log) c.again-seen.ensures, c.plain-offer.ensures.1) refl in (
-      rw log (omega (arith, length-append c.self.inside.seen.log (patch_of c.args.patch.now ∷ []), c.self.invariant.0)),
-      rw log (sym (generation-last 0 c.self.inside.seen.log (patch_of c.args.patch.now))),
+    let log : c.compare_exchange-found.new.seen.log ≡ c.self.inside.seen.log ++ bundle_of c.args.coming.now.waiting.items c.args.coming.now.patch ∷ [] = longer ∙ rw (ap (λ s. s.log) c.again-seen.ensures, c.plain-offer.ensures.1) refl in (
+      rw log (omega (arith, length-append c.self.inside.seen.log (bundle_of c.args.coming.now.waiting.items c.args.coming.now.patch ∷ []), c.self.invariant.0)),
+      rw log (sym (generation-more c.self.inside.seen.log (map patch_of c.args.coming.now.waiting.items) (patch_of c.args.coming.now.patch))),
       e.0 ∙ (ap (λ s. s.book) c.again-seen.ensures ∙ c.self.invariant.2),
       c.self.invariant.3,
     )
@@ -35,5 +35,5 @@ pub returns : goal.returns
 returns g c =
     let e = c.compare_exchange-found.ensures in
     let longer = adds_match c.compare_exchange-found.result c.self.inside.count c.compare_exchange-found.new.seen.log c.again-seen.result.log (c.plain-offer.result.ask ∷ []) c.if-found-self.false e.7 in
-    let log : c.compare_exchange-found.new.seen.log ≡ c.self.inside.seen.log ++ patch_of c.args.patch.now ∷ [] = longer ∙ rw (ap (λ s. s.log) c.again-seen.ensures, c.plain-offer.ensures.1) refl in
-    rw (← c.self.view_is) (λ i. record { router = c.self.inside.router; patches = log i })
+    let log : c.compare_exchange-found.new.seen.log ≡ c.self.inside.seen.log ++ bundle_of c.args.coming.now.waiting.items c.args.coming.now.patch ∷ [] = longer ∙ rw (ap (λ s. s.log) c.again-seen.ensures, c.plain-offer.ensures.1) refl in
+    rw (← c.self.view_is) (λ i. record { router = c.self.inside.router; publications = log i })

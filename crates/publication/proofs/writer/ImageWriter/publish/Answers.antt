@@ -1,49 +1,41 @@
-use Rattle.std.proofs.Common.{◌≡◌, ◌++◌, ◌∷◌, [], map, drop, ap, sym, ◌∙◌}
-use Rattle.publication.specs.Lists.{image_of, pending, patch_of, with_patches}
-use Rattle.publication.proofs.Tables.{image-covered}
-use Rattle.publication.proofs.Waiting.{nothing_held, shows_all, waits_too}
+use Rattle.std.proofs.Common.{rules, ◌≡◌, ◌++◌, ◌∷◌, [], List, length, map, ap, subst, sym, ◌∙◌}
+use Rattle.image_patch.specs.declared.Patch.{Patch as PatchFields}
+use Rattle.publication.specs.declared.known.Known.{Known}
+use Rattle.publication.specs.Lists.{Writing, bundle_of, generation_of, image_of, patch_of, prefixes_of, with_publication}
+use Rattle.publication.proofs.Tables.{image-covered, numbered-more}
+use Rattle.publication.proofs.Waiting.{waits_too}
 use Rattle.publication.proofs.writer.ImageWriter.publish.Goals as goal
 
-pub invariant_of-self-in_err-add : goal.invariant_of-self-in_err-add
-invariant_of-self-in_err-add g c =
+pub invariant_of-self-in_err-publish : goal.invariant_of-self-in_err-publish
+invariant_of-self-in_err-publish g c =
     let old = c.self.inside in
-    let waiting = pending old.press.writer.behind old.press.writer.log.items old.press.held in
-    let s = c.settle.new.self in
-    let a = c.add.new.self in
-    let here : drop s.writer.behind s.writer.log.items ≡ waiting = nothing_held (drop s.writer.behind s.writer.log.items) waiting s.held c.in_ok-settle.ensures.none c.in_ok-settle.ensures.waiting in
-    let both = waits_too old.told old.press.writer.desk.shown.value waiting c.again.result a.writer.desk.shown.value (pending a.writer.behind a.writer.log.items a.held) old.prefixes.items c.note_prefixes.new.prefixes.items (patch_of c.args.patch)
-    c.self.invariant.0
-    c.self.invariant.1
-    (c.again.ensures ∙ c.announce-told.ensures)
-    (c.note_prefixes.ensures ∙ ap (λ l. l ++ map (λ r. r.0) c.args.patch.rows.items) c.in_ok-reserve.ensures.items)
-    (c.in_err-add.ensures.shown ∙ c.in_ok-settle.ensures.shown)
-    (c.in_err-add.ensures.waiting ∙ (ap (λ l. l ++ c.new.result ∷ []) here ∙ ap (λ p. waiting ++ p ∷ []) c.new.ensures)) in
-    (both.0, both.1, c.self.invariant.2 ∙ sym (ap (λ k. k.router) (c.again.ensures ∙ c.announce-told.ensures)))
+    let patch = c.args.patch in
+    let waiting : c.publish.new.self.waiting.items ≡ old.press.waiting.items ++ patch ∷ [] = c.in_err-publish.ensures.waiting ∙ ap (λ l. l ++ patch ∷ []) c.reserve-2.ensures.waiting in
+    let told : old.press.writer.desk.shown.value.told ≡ c.publish.new.self.writer.desk.shown.value.told = sym (c.in_err-publish.ensures.same ∙ c.reserve-2.ensures.shown) in (
+      c.note_prefixes.ensures ∙ (ap (λ l. l ++ map (λ r. r.0) patch.rows.items) c.in_ok-reserve.ensures.items
+          ∙ (waits_too old.press.waiting.items patch old.prefixes.items c.self.invariant.0 ∙ ap (λ l. prefixes_of (map patch_of l)) (sym waiting))),
+      subst (λ (k : Known). length k.publications ≡ generation_of k) told c.self.invariant.1,
+    )
 
-pub invariant_of-self-in_err-show : goal.invariant_of-self-in_err-show
-invariant_of-self-in_err-show g c =
-    let old = c.self.inside in
-    let waiting = pending old.press.writer.behind old.press.writer.log.items old.press.held in
-    let s = c.settle.new.self in
-    let a = c.show.new.self in
-    let here : drop s.writer.behind s.writer.log.items ≡ waiting = nothing_held (drop s.writer.behind s.writer.log.items) waiting s.held c.in_ok-settle.ensures.none c.in_ok-settle.ensures.waiting in
-    let both = waits_too old.told old.press.writer.desk.shown.value waiting c.again.result a.writer.desk.shown.value (pending a.writer.behind a.writer.log.items a.held) old.prefixes.items c.note_prefixes.new.prefixes.items (patch_of c.args.patch)
-    c.self.invariant.0
-    c.self.invariant.1
-    (c.again.ensures ∙ c.announce-told.ensures)
-    (c.note_prefixes.ensures ∙ ap (λ l. l ++ map (λ r. r.0) c.args.patch.rows.items) c.in_ok-reserve.ensures.items)
-    (c.in_err-show.ensures.same ∙ (c.in_ok-add.ensures.shown ∙ c.in_ok-settle.ensures.shown))
-    (c.in_err-show.ensures.waiting ∙ (c.in_ok-add.ensures.waiting ∙ (ap (λ l. l ++ c.new.result ∷ []) here ∙ ap (λ p. waiting ++ p ∷ []) c.new.ensures))) in
-    (both.0, both.1, c.self.invariant.2 ∙ sym (ap (λ k. k.router) (c.again.ensures ∙ c.announce-told.ensures)))
+-- the list has this publication more
+list_more : (told between old : Known) (waiting waited : List PatchFields) (patch : PatchFields) (w : Writing) → told ≡ with_publication between (bundle_of waiting patch) → between ≡ old → waiting ≡ waited
+    → record { published = old; waiting = map patch_of waited } ≡ w → told ≡ with_publication w.published (w.waiting ++ patch_of patch ∷ [])
+list_more told between old waiting waited patch w done same kept is =
+    done ∙ (ap (λ l. with_publication l (bundle_of waiting patch)) same
+    ∙ (ap (λ l. with_publication old (bundle_of l patch)) kept
+    ∙ ap (λ (v : Writing). with_publication v.published (v.waiting ++ patch_of patch ∷ [])) is))
+
+pub invariant_of-self-2 : goal.invariant_of-self-2
+invariant_of-self-2 g c =
+    let writing = c.args.self.now in
+    let list = list_more _ _ _ _ _ c.args.patch writing c.in_ok-publish.ensures.shown c.reserve-2.ensures.shown c.reserve-2.ensures.waiting c.self.view_is in
+    let counted : length writing.published.publications ≡ generation_of writing.published = subst (λ (w : Writing). length w.published.publications ≡ generation_of w.published) c.self.view_is c.self.invariant.1 in (
+      search rules,
+      subst (λ (k : Known). length k.publications ≡ generation_of k) (sym list) (numbered-more writing.published writing.waiting (patch_of c.args.patch) counted c.requires.number),
+    )
 
 pub returns-clause-image : goal.returns-clause-image
 returns-clause-image g c =
-    let old = c.self.inside in
-    let waiting = pending old.press.writer.behind old.press.writer.log.items old.press.held in
-    let s = c.settle.new.self in
-    let a = c.add.new.self in
-    let here : drop s.writer.behind s.writer.log.items ≡ waiting = nothing_held (drop s.writer.behind s.writer.log.items) waiting s.held c.in_ok-settle.ensures.none c.in_ok-settle.ensures.waiting in
-    let wait = c.in_ok-add.ensures.waiting ∙ (ap (λ l. l ++ c.new.result ∷ []) here ∙ ap (λ p. waiting ++ p ∷ []) c.new.ensures) in
-    let list = shows_all old.press.writer.desk.shown.value a.writer.desk.shown.value c.show.new.self.writer.desk.shown.value (pending a.writer.behind a.writer.log.items a.held) (waiting ++ patch_of c.args.patch ∷ []) (c.in_ok-add.ensures.shown ∙ c.in_ok-settle.ensures.shown) wait c.in_ok-show.ensures.shown in
-    ap (image_of g.B.Naming.openings) (list ∙ ap (λ w. with_patches w.published (w.waiting ++ patch_of c.args.patch ∷ [])) c.self.view_is)
-    ∙ image-covered g.B.Naming.openings c.args.self.now.published c.args.self.now.waiting (patch_of c.args.patch) c.requires.covers
+    let writing = c.args.self.now in
+    let list = list_more _ _ _ _ _ c.args.patch writing c.in_ok-publish.ensures.shown c.reserve-2.ensures.shown c.reserve-2.ensures.waiting c.self.view_is in
+    ap (image_of g.B.Naming.openings) list ∙ image-covered g.B.Naming.openings writing.published writing.waiting (patch_of c.args.patch) c.requires.covers

@@ -9,8 +9,8 @@ use Rattle.world.proofs.world.World.open.Goals as goal
 pub invariant_of-result : goal.invariant_of-result
 invariant_of-result c =
     let n : Network = c.args.network.now in
-    let same : world_of c.in_ok-places.places.items c.in_ok-links.links c.in_ok-routers.routers.items ≡ opening n
-    = ap (λ xs. record { places = xs; links = c.in_ok-links.links; routers = c.in_ok-routers.routers.items }) c.in_ok-places.ensures
-    ∙ ap (λ ks. record { places = (opening n).places; links = ks; routers = c.in_ok-routers.routers.items }) (c.in_ok-links.ensures ∙ ap (map opening_link) c.links.ensures.links)
+    let same : world_of c.in_ok-places.places.items c.in_ok-links.links.links c.in_ok-routers.routers.items ≡ opening n
+    = ap (λ xs. record { places = xs; links = c.in_ok-links.links.links; routers = c.in_ok-routers.routers.items }) c.in_ok-places.ensures
+    ∙ ap (λ ks. record { places = (opening n).places; links = ks; routers = c.in_ok-routers.routers.items }) (c.in_ok-links.ensures.ok ∙ ap (map opening_link) c.links.ensures.links)
     ∙ ap (λ rs. record { places = (opening n).places; links = (opening n).links; routers = rs }) c.in_ok-routers.ensures in
     subst IsKept (sym same) (opening-kept n)

@@ -1,0 +1,109 @@
+//! What faults, costs and distances are written as.
+
+use forwarder::GatherFault;
+use ipv4_prefix::PrefixFault;
+use link_fifo::LinkRefusal;
+use metric::{BadCost, Cost, Distance};
+use network_model::{NoMemory, Refusal};
+use publication::{NoImage, OpenFault};
+use std::alloc::Global;
+use std::fmt::Display;
+use std::process::Abort;
+use tracer::TraceFault;
+use worker_pool::PoolFault;
+
+pub fn is_written<T: Display>(rt: &impl Abort, alloc: Global, value: &T, want: &str) {
+    let text = value.to_string(alloc).expect(rt, "memory");
+    assert_eq!(rt; text.as_str(), want);
+}
+
+#[test]
+fn costs_and_distances(rt: HostRuntime) {
+    let most = Cost::new(65535).expect(&rt, "a cost");
+    is_written(&rt, rt.alloc(), &most, "65535");
+    is_written(&rt, rt.alloc(), &BadCost, "5 BadCost");
+    is_written(&rt, rt.alloc(), &Distance::INF, "inf");
+    is_written(&rt, rt.alloc(), &Distance::new(16711425), "16711425");
+}
+
+#[test]
+fn faults_of_prefixes(rt: HostRuntime) {
+    for (fault, text) in [
+        (PrefixFault::NoSlash, "1 NoSlash"),
+        (PrefixFault::BadAddress, "2 BadAddress"),
+        (PrefixFault::BadLength, "3 BadLength"),
+        (PrefixFault::HostBits, "4 HostBits"),
+    ] {
+        is_written(&rt, rt.alloc(), &fault, text);
+    }
+}
+
+#[test]
+fn refusals_of_links(rt: HostRuntime) {
+    for (refusal, text) in [
+        (LinkRefusal::UnknownLink, "11 UnknownLink"),
+        (LinkRefusal::AlreadyUp, "13 AlreadyUp"),
+        (LinkRefusal::IsDown, "14 IsDown"),
+        (LinkRefusal::SessionsSpent, "15 SessionsSpent"),
+        (LinkRefusal::NothingToDeliver, "16 NothingToDeliver"),
+        (LinkRefusal::NoMemory, "20 NoMemory"),
+    ] {
+        is_written(&rt, rt.alloc(), &refusal, text);
+        is_written(&rt, rt.alloc(), &Refusal::from(refusal), text);
+    }
+}
+
+// Those that no link has.
+#[test]
+fn refusals(rt: HostRuntime) {
+    for (refusal, text) in [
+        (Refusal::UnknownRouter, "10 UnknownRouter"),
+        (Refusal::NothingDue, "17 NothingDue"),
+        (Refusal::NothingRipe, "18 NothingRipe"),
+        (Refusal::JournalFull, "19 JournalFull"),
+        (Refusal::Stale, "22 Stale"),
+        (Refusal::NoReaderPlace, "23 NoReaderPlace"),
+        (Refusal::NoImage, "34 NoImage"),
+    ] {
+        is_written(&rt, rt.alloc(), &refusal, text);
+    }
+}
+
+#[test]
+fn faults_of_images(rt: HostRuntime) {
+    is_written(&rt, rt.alloc(), &NoImage, "34 NoImage");
+    is_written(&rt, rt.alloc(), &OpenFault::NoMemory, "20 NoMemory");
+    is_written(
+        &rt,
+        rt.alloc(),
+        &OpenFault::NoReaderPlace,
+        "23 NoReaderPlace",
+    );
+}
+
+#[test]
+fn faults_of_traces(rt: HostRuntime) {
+    for (fault, text) in [
+        (TraceFault::UnknownRouter, "10 UnknownRouter"),
+        (TraceFault::NoMemory, "20 NoMemory"),
+        (TraceFault::Stale, "22 Stale"),
+        (TraceFault::NoImage, "34 NoImage"),
+    ] {
+        is_written(&rt, rt.alloc(), &fault, text);
+    }
+}
+
+#[test]
+fn faults_of_workers(rt: HostRuntime) {
+    for (fault, text) in [
+        (PoolFault::NoThread, "12 NoThread"),
+        (PoolFault::Memory(NoMemory), "20 NoMemory"),
+        (PoolFault::Gather(GatherFault::Stranger), "30 Stranger"),
+        (PoolFault::Gather(GatherFault::Doubled), "31 Doubled"),
+        (PoolFault::Gather(GatherFault::Missing), "32 Missing"),
+        (PoolFault::Closed, "33 Closed"),
+        (PoolFault::Refused(Refusal::NoImage), "34 NoImage"),
+    ] {
+        is_written(&rt, rt.alloc(), &fault, text);
+    }
+}
