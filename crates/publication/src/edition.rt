@@ -7,7 +7,6 @@ use crate::book::{Naming, Told};
 use left_right::Absorb;
 use network_model::Answer;
 use std::alloc::AllocError;
-use std::convert::Infallible;
 use tree_bitmap::Image;
 
 /// An image and a list. In the copy that readers take, it is the image of that list.
@@ -32,19 +31,15 @@ impl<B: Naming> Edition<B> {
     }
 }
 
-/// `left_right` keeps no patches: the writer itself has its hidden copy follow.
-impl<B: Naming> Absorb<Infallible> for Edition<B> {
+/// `left_right` keeps no patches: the writer itself has its hidden copy follow, and appends nothing.
+impl<B: Naming> Absorb<()> for Edition<B> {
     type State = ();
 
     ghost state = { λ _. tt };
 
     ghost applied = { λ _ _. tt };
 
-    fn absorb_first(
-        &mut self,
-        operation: &Infallible,
-        _other: &Edition<B>,
-    ) -> Result<(), AllocError> {
-        match *operation {}
+    fn absorb_first(&mut self, _operation: &(), _other: &Edition<B>) -> Result<(), AllocError> {
+        Ok(())
     }
 }

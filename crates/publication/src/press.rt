@@ -15,17 +15,16 @@ use left_right::Absorb;
 use left_right::writer::Writer;
 use network_model::NoMemory;
 use std::alloc::Global;
-use std::convert::Infallible;
 use std::sync::Wait;
 use tree_bitmap::Image;
 use tree_bitmap::parts::{copy, empty};
 
-pub(crate) type Copies<B> = Writer<Edition<B>, Infallible, Option<Known>, Shown<B>>;
+pub(crate) type Copies<B> = Writer<Edition<B>, (), Option<Known>, Shown<B>>;
 
 /// The copies, and what waits for the next publication.
 pub struct Press<B: Naming>
 where
-    Edition<B>: Absorb<Infallible, State = ()>,
+    Edition<B>: Absorb<(), State = ()>,
 {
     writer: Copies<B>,
     // The patch that the hidden copy is wanting.

@@ -18,7 +18,6 @@ use left_right::Absorb;
 use left_right::reader::Factory;
 use network_model::{NoMemory, Prefix, Refusal};
 use std::alloc::Global;
-use std::convert::Infallible;
 use std::marker::Model;
 use std::sync::Wait;
 use thiserror::Error;
@@ -60,7 +59,7 @@ impl From<OpenFault> for Refusal {
 /// publications, and the patches that wait since one was refused.
 pub struct ImageWriter<B: Naming>
 where
-    Edition<B>: Absorb<Infallible, State = ()>,
+    Edition<B>: Absorb<(), State = ()>,
 {
     press: Press<B>,
     // The prefixes that waiting patches name.
@@ -69,7 +68,7 @@ where
 
 impl<B: Naming> Model for ImageWriter<B>
 where
-    Edition<B>: Absorb<Infallible, State = ()>,
+    Edition<B>: Absorb<(), State = ()>,
 {
     ghost use Rattle.std.specs.Prelude.{◌≡◌, length, map};
     ghost use Rattle.publication.specs.Lists.{Writing, generation_of, patch_of, prefixes_of};
