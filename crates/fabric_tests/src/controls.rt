@@ -32,7 +32,6 @@ enum Trial {
     Meets,
     Serves,
     IsRefused { router: u16 },
-    GivesJobs,
     OneStep,
     Settles,
 }
@@ -138,7 +137,6 @@ where
         }
         Trial::Meets => meets(rt, control, shares),
         Trial::IsRefused { router } => is_refused(rt, control, shares, router),
-        Trial::GivesJobs => gives_jobs(rt, control, shares),
         _ => serves(rt, control, shares),
     }
 }
@@ -315,7 +313,7 @@ fn second_thread_is_refused(rt: HostRuntime) -> Result<(), Fail> {
 }
 
 // Whether the number gets there within 1000 polls, a millisecond apart.
-fn gets_to<H: Clock>(rt: &H, number: &AtomicU64, wanted: u64) -> bool {
+pub(crate) fn gets_to<H: Clock>(rt: &H, number: &AtomicU64, wanted: u64) -> bool {
     for _ in 0..1000u16 {
         if number.load(Ordering::SeqCst) >= wanted {
             return true;
@@ -399,98 +397,4 @@ where
 #[test]
 fn two_settle(rt: HostRuntime) -> Result<(), Fail> {
     two(&rt, rt.alloc(), 2, Trial::Settles)
-}
-
-// ---- jobs while a turn waits
-
-// The first turn waits for a job that another thread gets.
-#[derive(Drop)]
-struct Waiting<'a, H> {
-    rt: &'a H,
-    begun: AtomicU64,
-    got: AtomicU64,
-}
-
-impl<H: Clock> TurnGate for Waiting<'_, H> {
-    fn before(&self, _thread: u8, turn: u64) {
-        if turn == 1 {
-            self.begun.store(1, Ordering::SeqCst);
-            gets_to(self.rt, &self.got, 1);
-        }
-    }
-
-    fn after(&self, _thread: u8, _turn: u64) {}
-}
-
-// The generation of the job that it gets while the first turn waits.
-fn get_first<B, N, H>(rt: &H, control: &Control<B, N>, gate: &Waiting<'_, H>) -> Option<u64>
-where
-    B: publication::Naming,
-    N: Naming,
-    H: Wait + Clock,
-{
-    if !gets_to(rt, &gate.begun, 1) {
-        return None;
-    }
-    let job = control.job(rt, 1, 1, ADDR).ok()?;
-    gate.got.store(1, Ordering::SeqCst);
-    Some(job.generation())
-}
-
-fn serve_all<B, N, H, G>(
-    rt: &H,
-    control: &Control<B, N>,
-    shares: Vec<Share<N>>,
-    gate: &G,
-) -> (Vec<Share<N>>, Result<(), Refusal>)
-where
-    B: publication::Naming + Send + Sync,
-    N: Naming + Send + Sync,
-    H: Threads + Wait + Sync,
-    G: TurnGate + Sync,
-    ensures { vec_len result.0 ≡ vec_len shares }
-{
-    let mut shares = shares;
-    if shares.is_empty() {
-        return (shares, Ok(()));
-    }
-    let done = control.serve(rt, &mut shares, gate);
-    (shares, done)
-}
-
-fn gives_jobs<B, N, H>(
-    rt: &H,
-    control: &Control<B, N>,
-    shares: Vec<Share<N>>,
-) -> (Vec<Share<N>>, Result<(), Fail>)
-where
-    B: publication::Naming + Send + Sync,
-    N: Naming + Send + Sync,
-    H: Threads + Wait + Abort + Clock + Sync,
-    requires some { 0 < vec_len shares }
-    requires asked { (s : Step) → N.asked s ≡ true }
-    ensures { vec_len result.0 ≡ vec_len shares }
-{
-    let mut shares = shares;
-    assert_eq!(rt; control.step(rt, UP, &mut shares[0]), Ok(()));
-    let gate = Waiting {
-        rt,
-        begun: AtomicU64::new(0),
-        got: AtomicU64::new(0),
-    };
-    let ((shares, done), first) = thread::join(
-        rt,
-        || serve_all(rt, control, shares, &gate),
-        || get_first(rt, control, &gate),
-    );
-    assert_eq!(rt; done, Ok(()));
-    assert_eq!(rt; first, Some(0));
-    let second = control.job(rt, 2, 1, ADDR).ok();
-    assert_eq!(rt; second.map(|job| job.generation()), Some(1));
-    (shares, Ok(()))
-}
-
-#[test]
-fn job_while_a_turn_waits(rt: HostRuntime) -> Result<(), Fail> {
-    two(&rt, rt.alloc(), 1, Trial::GivesJobs)
 }

@@ -7,6 +7,8 @@ mod controls;
 #[cfg(test)]
 mod fabrics;
 #[cfg(test)]
+mod jobs;
+#[cfg(test)]
 mod networks;
 #[cfg(test)]
 mod publications;

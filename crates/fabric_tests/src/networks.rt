@@ -1,6 +1,9 @@
-//! Links and networks that several of these tests open.
+//! Links, networks and ports that several of these tests open.
+
+ghost use Rattle.std.specs.Prelude.{◌≡◌, length};
 
 use fabric::{Network, Prefix};
+use forwarder::{ForwardPort, ImageReader, Naming};
 use network_model::{Cost, LinkSpec};
 use std::alloc::Global;
 use std::test::Fail;
@@ -20,4 +23,20 @@ pub fn two_routers(alloc: Global) -> Result<Network, Fail> {
     let links = vec![in alloc; link(0, 1, 5)?]?;
     let prefixes = vec![in alloc; (Prefix::parse("10.0.0.0/8")?, 0)]?;
     Ok(Network::new(2, links, prefixes)?)
+}
+
+// A port of the two routers.
+pub fn port_of<B: Naming>(
+    alloc: Global,
+    first: ImageReader<B>,
+    second: ImageReader<B>,
+) -> Result<ForwardPort<B>, Fail>
+    requires { length B.books ≡ 2 }
+{
+    let (one, two) = (first.view().router(), second.view().router());
+    if one != 0 || two != 1 {
+        return Err("routers".into());
+    }
+    let readers = vec![in alloc; first, second]?;
+    Ok(ForwardPort::new(readers))
 }

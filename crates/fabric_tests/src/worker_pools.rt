@@ -2,6 +2,7 @@
 
 ghost use Rattle.std.specs.Prelude.{◌≡◌, ◌≤◌, All, IfOk, length, map, vec_len};
 
+use crate::networks::port_of;
 use forwarder::{Answer, GatherFault, ImageReader};
 use network_model::{Entry, NoMemory, Prefix, Refusal};
 use publication::{Told, Unnamed, close_all, open_all};
@@ -32,22 +33,6 @@ fn image(alloc: Global, router: u8) -> Result<Image, Fail>
     let mut image = empty(alloc)?;
     set_row(&mut image, prefix, entry)?;
     Ok(image)
-}
-
-// A port of the two routers.
-fn port_of<B: Naming>(
-    alloc: Global,
-    first: ImageReader<B>,
-    second: ImageReader<B>,
-) -> Result<ForwardPort<B>, Fail>
-    requires { length B.books ≡ 2 }
-{
-    let (one, two) = (first.view().router(), second.view().router());
-    if one != 0 || two != 1 {
-        return Err("routers".into());
-    }
-    let readers = vec![in alloc; first, second]?;
-    Ok(ForwardPort::new(readers))
 }
 
 // A port for each of so many workers.
