@@ -58,15 +58,15 @@ fn answer<B, N, R>(
     port: &mut ForwardPort<B>,
     number: u64,
     router: u16,
-) -> Result<Answer, Fail>
+) -> Option<Answer>
 where
     B: publication::Naming,
     N: Naming,
     R: Wait,
 {
-    let job = control.job(rt, number, router, ADDR)?;
-    let reply = port.answer(&job)?;
-    Ok(reply.answer())
+    let job = control.job(rt, number, router, ADDR).ok()?;
+    let reply = port.answer(&job).ok()?;
+    Some(reply.answer())
 }
 
 // Does that at router 0 once the first turn has begun, and lets the turn go on.
@@ -75,7 +75,7 @@ fn answer_first<B, N, H>(
     control: &Control<B, N>,
     port: ForwardPort<B>,
     gate: &Waiting<'_, H>,
-) -> (ForwardPort<B>, Result<Answer, Fail>)
+) -> (ForwardPort<B>, Option<Answer>)
 where
     B: publication::Naming,
     N: Naming,
@@ -83,7 +83,7 @@ where
 {
     let mut port = port;
     if !gets_to(rt, &gate.begun, 1) {
-        return (port, Err("no turn".into()));
+        return (port, None);
     }
     let first = answer(rt, control, &mut port, 1, 0);
     gate.answered.store(1, Ordering::SeqCst);
@@ -142,17 +142,13 @@ where
 }
 
 // The owner answers by its opening table, and the other router by the first that it published.
-fn are_right<R: Abort>(
-    rt: &R,
-    first: Result<Answer, Fail>,
-    second: Result<Answer, Fail>,
-) -> Result<(), Fail> {
+fn are_right<R: Abort>(rt: &R, first: Option<Answer>, second: Option<Answer>) -> Result<(), Fail> {
     let via = Entry::Via {
         port: 0,
         session: 1,
     };
-    assert_eq!(rt; first?, by(0, Entry::Local)?);
-    assert_eq!(rt; second?, by(1, via)?);
+    assert_eq!(rt; first, Some(by(0, Entry::Local)?));
+    assert_eq!(rt; second, Some(by(1, via)?));
     Ok(())
 }
 
