@@ -90,6 +90,7 @@ where
     (port, first)
 }
 
+// Serves with these shares. What calls it, a closure, knows of none that there is one.
 fn serve<B, N, H>(
     rt: &H,
     control: &Control<B, N>,
@@ -100,10 +101,12 @@ where
     B: publication::Naming + Send + Sync,
     N: Naming + Send + Sync,
     H: Threads + Wait + Clock + Sync,
-    requires { 0 < vec_len shares }
     ensures { vec_len result.0 ≡ vec_len shares }
 {
     let mut shares = shares;
+    if shares.is_empty() {
+        return (shares, Ok(()));
+    }
     let done = control.serve(rt, &mut shares, gate);
     (shares, done)
 }
