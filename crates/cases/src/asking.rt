@@ -1,6 +1,7 @@
 //! Does what a case asks, and tells where it gives something else.
 
 use crate::verdict::{Given, Verdict, Wanted, judge};
+use advice::{Faulty, advise, explained, is_check};
 use play::Host;
 use std::alloc::{AllocError, Global};
 use std::io::Write;
@@ -81,7 +82,17 @@ fn done<H: Host>(
 ) -> Result<Given, AllocError> {
     let words = format!(in alloc; "{asked:?}\n")?;
     let scenario = case.scenario.as_bytes();
-    let outcome = played(wait, alloc, asked, scenario, case.journal.as_bytes());
+    let mut outcome = played(wait, alloc, asked, scenario, case.journal.as_bytes());
+    if let (Some(file), Some(fault)) = (explained(asked), outcome.fault) {
+        let faulty = Faulty {
+            file,
+            text: case.scenario,
+            kind: fault.kind(),
+            place: fault.place,
+            is_check: is_check(asked),
+        };
+        let _ = advise(alloc, faulty, &mut outcome.err);
+    }
     let replay = replay_status(wait, alloc, asked, scenario, &outcome);
     Ok(Given {
         outcome,
@@ -90,7 +101,7 @@ fn done<H: Host>(
     })
 }
 
-// The status of the replay of a run that came to its end, else 0.
+// The status of the replay of a run or a shell that came to its end, else 0.
 fn replay_status<H: Host>(
     wait: &H,
     alloc: Global,
@@ -98,14 +109,28 @@ fn replay_status<H: Host>(
     scenario: &[u8],
     ran: &Outcome,
 ) -> u8 {
-    match *asked {
+    let file = match *asked {
         Words::Run {
             file,
             threads: _,
             workers: _,
             journal: _,
-        } if ran.status == 0 => {
-            let again = Words::Replay { file, journal: "" };
+            explain: _,
+        } => Some(file),
+        Words::Shell {
+            file,
+            journal: _,
+            explain: _,
+        } => Some(file),
+        _ => None,
+    };
+    match file {
+        Some(file) if ran.status == 0 => {
+            let again = Words::Replay {
+                file,
+                journal: "",
+                explain: false,
+            };
             played(wait, alloc, &again, scenario, ran.kept.as_slice()).status
         }
         _ => 0,
@@ -126,6 +151,7 @@ fn refused(alloc: Global, error: &Error) -> Result<Given, AllocError> {
         out,
         err,
         kept: Vec::new(alloc),
+        fault: None,
     };
     Ok(Given {
         outcome,

@@ -3,7 +3,8 @@
 //! what the case says. Then its blocks follow, a line `--- BLOCK` and the lines of its text:
 //!
 //!     scenario    the scenario; where it is missing, that of the case before
-//!     journal     the journal that is replayed; where it is missing, that of the case before
+//!     journal     the journal that is replayed, or what is typed into a shell; where it is missing, that
+//!                 of the case before
 //!     line N      stands for line N of the journal, here alone
 //!     out         what is printed; where it is missing, nothing
 //!     out or      what may be printed in place of that
@@ -13,7 +14,7 @@
 //!     status N    the exit status; where it is missing, 0
 //!
 //! Where the text of `out` or `err` ends with `..` and a line feed, it is met by each text that begins
-//! like it. The journal of a run that ends with status 0 has to be replayed with status 0.
+//! like it. The journal of a run or a shell that ends with status 0 has to be replayed with status 0.
 
 use crate::asking::{Case, is_right};
 use crate::tally::Tally;

@@ -52,7 +52,7 @@ pub struct Given {
     pub outcome: Outcome,
     /// What the command line asks for.
     pub words: String,
-    /// The status of the replay of a run that came to its end, else 0.
+    /// The status of the replay of a run or a shell that came to its end, else 0.
     pub replay: u8,
 }
 

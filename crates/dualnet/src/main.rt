@@ -4,9 +4,10 @@
 ghost use Rattle.std.specs.Prelude.{◌≡◌};
 ghost use Rattle.dualnet.specs.Files.{scenario_of, read_journal, kept_journal};
 
+use advice::{Faulty, advise, explained, is_check};
 use network_model::NoMemory;
 use play::{Cause, Fault, Host, Source, play, refuse};
-use std::io::{BufWriter, IsTerminal, LineWriter, Write};
+use std::io::{BufWriter, IsTerminal, LineWriter, Read, Write};
 use std::process::ExitCode;
 use std::{env, fs, io};
 use words::{Error, ErrorKind, Words, exit_status, not_utf8, read_words};
@@ -63,23 +64,51 @@ fn tell(rt: &HostRuntime, error: &Error) -> u8 {
 
 // Does what the words ask for, over the files that they name.
 fn done<H: Host, W: Write>(rt: &HostRuntime, wait: &H, words: &Words<'_>, out: &mut W) -> u8 {
-    let scenario = open_file(rt, scenario_path(words));
-    let journal = match replayed_path(words) {
-        Some(path) => open_file(rt, path),
-        None => Source::Missing,
+    if is_overwritten(words) {
+        return refuse(Fault::from(Cause::Unwritable), &mut rt.stderr());
+    }
+    let mut scenario = Kept {
+        file: match scenario_path(words) {
+            Some(path) => open_file(rt, path),
+            None => Source::Missing,
+        },
+        bytes: Vec::new(rt.alloc()),
+    };
+    let second = match *words {
+        Words::Shell {
+            file: _,
+            journal: _,
+            explain: _,
+        } => Source::Open(Input::Standard(rt.stdin())),
+        _ => match replayed_path(words) {
+            Some(path) => open_file(rt, path),
+            None => Source::Missing,
+        },
     };
     let mut kept = Vec::new(rt.alloc());
+    let mut fault = None;
     let status = play(
         wait,
         rt.alloc(),
         words,
-        scenario,
-        journal,
+        &mut scenario,
+        second,
         out,
         &mut rt.stderr(),
         &mut kept,
+        &mut fault,
     );
     let _ = out.flush();
+    if let (Some(file), Some(fault)) = (explained(words), fault) {
+        let faulty = Faulty {
+            file,
+            text: str::from_utf8(&scenario.bytes).unwrap_or(""),
+            kind: fault.kind(),
+            place: fault.place,
+            is_check: is_check(words),
+        };
+        let _ = advise(rt.alloc(), faulty, &mut rt.stderr());
+    }
     match kept_path(words) {
         Some(path) if status == 0 => written(rt, path, &kept),
         _ => status,
@@ -87,18 +116,29 @@ fn done<H: Host, W: Write>(rt: &HostRuntime, wait: &H, words: &Words<'_>, out: &
 }
 
 // The file of the scenario.
-fn scenario_path<'a>(words: &Words<'a>) -> &'a str
+fn scenario_path<'a>(words: &Words<'a>) -> Option<&'a str>
     ensures { result ≡ scenario_of words.now }
 {
     match *words {
-        Words::Check { file } => file,
+        Words::Check { file, explain: _ } => Some(file),
         Words::Run {
             file,
             threads: _,
             workers: _,
             journal: _,
-        } => file,
-        Words::Replay { file, journal: _ } => file,
+            explain: _,
+        } => Some(file),
+        Words::Replay {
+            file,
+            journal: _,
+            explain: _,
+        } => Some(file),
+        Words::Explain { kind: _ } => None,
+        Words::Shell {
+            file,
+            journal: _,
+            explain: _,
+        } => Some(file),
     }
 }
 
@@ -107,12 +147,16 @@ fn replayed_path<'a>(words: &Words<'a>) -> Option<&'a str>
     ensures { result ≡ read_journal words.now }
 {
     match *words {
-        Words::Replay { file: _, journal } => Some(journal),
+        Words::Replay {
+            file: _,
+            journal,
+            explain: _,
+        } => Some(journal),
         _ => None,
     }
 }
 
-// The file that the journal of a run is to be written to.
+// The file that the journal of a run or a shell is to be written to.
 fn kept_path<'a>(words: &Words<'a>) -> Option<&'a str>
     ensures { result ≡ kept_journal words.now }
 {
@@ -122,8 +166,22 @@ fn kept_path<'a>(words: &Words<'a>) -> Option<&'a str>
             threads: _,
             workers: _,
             journal,
+            explain: _,
         } => journal,
+        Words::Shell {
+            file: _,
+            journal: path,
+            explain: _,
+        } => path,
         _ => None,
+    }
+}
+
+// Whether the journal is to be written over the scenario.
+fn is_overwritten(words: &Words<'_>) -> bool {
+    match (scenario_path(words), kept_path(words)) {
+        (Some(scenario), Some(journal)) => scenario == journal,
+        _ => false,
     }
 }
 
@@ -135,9 +193,44 @@ fn written(rt: &HostRuntime, path: &str, journal: &[u8]) -> u8 {
     }
 }
 
-fn open_file(rt: &HostRuntime, path: &str) -> Source<fs::File> {
+// A reader, and what was read by it.
+#[derive(Drop)]
+struct Kept {
+    file: Source<Input>,
+    bytes: Vec<u8>,
+}
+
+impl Read for Kept {
+    fn read(&mut self, buf: &mut [u8]) -> io::Result<usize> {
+        let count = self.file.read(buf)?;
+        self.bytes.extend_from_slice(&buf[..count.min(buf.len())])?;
+        Ok(count)
+    }
+}
+
+// A file, or the standard input.
+#[derive(Drop)]
+enum Input {
+    File(fs::File),
+    Standard(io::Stdin),
+}
+
+impl Read for Input {
+    fn read(&mut self, buf: &mut [u8]) -> io::Result<usize> {
+        match self {
+            Input::File(file) => file.read(buf),
+            Input::Standard(input) => input.read(buf),
+        }
+    }
+}
+
+// Opens a file; a hyphen is the standard input.
+fn open_file(rt: &HostRuntime, path: &str) -> Source<Input> {
+    if path == "-" {
+        return Source::Open(Input::Standard(rt.stdin()));
+    }
     match fs::open(rt, path) {
-        Ok(file) => Source::Open(file),
+        Ok(file) => Source::Open(Input::File(file)),
         Err(_) => Source::Missing,
     }
 }

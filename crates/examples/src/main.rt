@@ -1,10 +1,12 @@
-//! Runs each scenario of the examples, compares what it prints with the file that stands beside it,
-//! and replays its journal.
+//! Runs each scenario of the examples, by its script and by a shell, compares what it prints with the
+//! file that stands beside it, and replays its journal.
 #![tactic(auto)]
 
 ghost use Rattle.std.specs.Prelude.{◌≡◌};
 
 use play::Host;
+use scenario::read_scenario;
+use std::alloc::{AllocError, Global};
 use std::fs;
 use std::io::{self, Write};
 use std::process::ExitCode;
@@ -44,6 +46,7 @@ fn main(rt: HostRuntime) -> ExitCode {
 enum Verdict {
     IsAsItShouldBe,
     PrintsSomethingElse,
+    IsOtherInAShell,
     IsNotReplayed,
     IsUnread,
 }
@@ -53,13 +56,14 @@ impl Verdict {
         match self {
             Verdict::IsAsItShouldBe => "as it should be",
             Verdict::PrintsSomethingElse => "prints something else",
+            Verdict::IsOtherInAShell => "prints something else in a shell",
             Verdict::IsNotReplayed => "is not replayed",
             Verdict::IsUnread => "cannot be read",
         }
     }
 }
 
-// Runs a scenario, and replays its journal.
+// Runs a scenario, does the commands of its script in a shell, and replays its journal.
 fn tried<H: Host>(rt: &HostRuntime, wait: &H, name: &str) -> io::Result<Verdict> {
     let alloc = rt.alloc();
     let scenario = format!(in alloc; "{name}.toml")?;
@@ -70,25 +74,52 @@ fn tried<H: Host>(rt: &HostRuntime, wait: &H, name: &str) -> io::Result<Verdict>
         threads: 1,
         workers: 1,
         journal: None,
+        explain: false,
     };
     let file = fs::open(rt, scenario.as_str())?;
     let ran = asked(wait, alloc, &run, file);
     let replay = Words::Replay {
         file: scenario.as_str(),
         journal: "",
+        explain: false,
     };
     let file = fs::open(rt, scenario.as_str())?;
     let replayed = played(wait, alloc, &replay, file, ran.kept.as_slice());
-    Ok(judge(&ran, &wanted, &replayed))
+    let text = fs::read_to_string(rt, scenario.as_str())?;
+    let typed = typed(alloc, text.as_str())?;
+    let shell = Words::Shell {
+        file: scenario.as_str(),
+        journal: None,
+        explain: false,
+    };
+    let file = fs::open(rt, scenario.as_str())?;
+    let shown = played(wait, alloc, &shell, file, typed.as_bytes());
+    Ok(judge(&ran, &shown, &wanted, &replayed))
 }
 
-// What to say of a run that should print this, and of its replay.
-fn judge(ran: &Outcome, wanted: &[u8], replayed: &Outcome) -> Verdict
+// The lines of a scenario's script, as they are typed into a shell; none where it is no scenario.
+fn typed(alloc: Global, text: &str) -> Result<String, AllocError> {
+    let mut typed = String::new(alloc);
+    if let Ok(lines) = read_scenario(alloc, text) {
+        for line in &lines.script {
+            typed.push_str(line.as_str())?;
+            typed.push('\n')?;
+        }
+    }
+    Ok(typed)
+}
+
+// What to say of a run and of a shell that should print this, and of the run's replay.
+fn judge(ran: &Outcome, shown: &Outcome, wanted: &[u8], replayed: &Outcome) -> Verdict
     ensures right { result ≡ Verdict.IsAsItShouldBe → (ran.now.status ≡ 0)
-        × (ran.now.out.items ≡ wanted.now) × (replayed.now.status ≡ 0) }
+        × (ran.now.out.items ≡ wanted.now) × (shown.now.status ≡ 0)
+        × (shown.now.out.items ≡ wanted.now) × (replayed.now.status ≡ 0) }
 {
     if ran.status != 0 || ran.out.as_slice() != wanted {
         return Verdict::PrintsSomethingElse;
+    }
+    if shown.status != 0 || shown.out.as_slice() != wanted {
+        return Verdict::IsOtherInAShell;
     }
     if replayed.status != 0 {
         return Verdict::IsNotReplayed;

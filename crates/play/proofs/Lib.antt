@@ -4,3 +4,4 @@ mod Doing
 mod Dispatching
 mod Stops
 mod Running
+mod Trying

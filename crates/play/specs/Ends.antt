@@ -13,8 +13,6 @@ use Rattle.script.specs.Reading.{Parts}
 use Rattle.script.specs.Directories.{Directory, directory_of}
 use Rattle.journal.specs.declared.fault.JournalFault.{JournalFault}
 use Rattle.journal.specs.Journal.{journal_text, IsJournal, IsFaultOf as IsJournalFault}
-use Rattle.words.specs.declared.words.Words.{Words}
-use Rattle.words.specs.declared.words.Words.TheVariants.{Check, Run, Replay}
 use Rattle.play.specs.declared.fault.Fault.{Fault}
 use Rattle.play.specs.declared.fault.Cause.TheVariants.{Journal as OfJournal}
 use Rattle.play.specs.declared.program.End.{End}
@@ -102,20 +100,6 @@ StopsJournal bytes journal fault = (parts : Parts) × IsScenario bytes parts × 
 abbrev pub StopsReplay : Text → Option Text → Fault → Type 0
 StopsReplay bytes journal fault = StopsReading bytes fault ⊎ IsWithoutReaders fault ⊎ ((length bytes ≤ most_bytes) × StopsJournal bytes journal fault)
 
--- ---- all commands
-
 -- of the bytes that a reader gives
 abbrev pub OfBytes : Option Text → (Text → Type 0) → Type 0
 OfBytes known P = (bytes : Text) × Gives known bytes × P bytes
-
--- how a command ends that has met no fault
-abbrev pub Ends : Words → Option Text → Option Text → Text → Text → End → Type 0
-Ends (Check _) scenario journal old new end = (end ≡ Done) × (new ≡ old) × OfBytes scenario IsChecked
-Ends (Run _ _ _ _) scenario journal old new end = (end ≡ Done) × OfBytes scenario (λ bytes. IsRunToEnd bytes old new)
-Ends (Replay _ _) scenario journal old new end = (new ≡ old) × OfBytes scenario (λ bytes. OfBytes journal (λ lines. Replays bytes lines end))
-
--- why a command stops
-abbrev pub Stops : Words → Option Text → Option Text → Fault → Type 0
-Stops (Check _) scenario journal fault = OfBytes scenario (λ bytes. StopsReading bytes fault)
-Stops (Run _ _ _ _) scenario journal fault = OfBytes scenario (λ bytes. StopsFor bytes fault)
-Stops (Replay _ _) scenario journal fault = OfBytes scenario (λ bytes. StopsReplay bytes journal fault)

@@ -1,8 +1,10 @@
 pub mod Faults
 pub mod Texts
 pub mod Settling
+pub mod Shell
 pub mod Dispatching
 pub mod Commands
 pub mod Scenarios
+pub mod Outcomes
 pub mod Report
 pub mod Ends

@@ -61,8 +61,8 @@ where
     (fabric, Ok(()))
 }
 
-// Does one command. What it prints may be lost.
-fn do_command<B, H, W>(
+/// Does one command. What it prints may be lost.
+pub fn do_command<B, H, W>(
     rt: &H,
     alloc: Global,
     fabric: Fabric<B>,

@@ -8,11 +8,13 @@ mod fault;
 mod files;
 mod host;
 mod keep;
+mod kind;
 mod plan;
 mod program;
 mod read;
 mod replay;
 mod report;
+mod shell;
 
 pub use fault::{Cause, Fault};
 pub use files::Source;

@@ -5,7 +5,8 @@ ghost use Rattle.fabric.specs.Writers.{opening_tables, IsPort};
 ghost use Rattle.play.specs.Commands.{AreDone, StopsAtCommand};
 ghost use Rattle.play.specs.Faults.{status_of, IsUnanswered, IsWantOfMemory};
 ghost use Rattle.play.specs.Scenarios.{StopsFor, StopsPlan, StopsReading};
-ghost use Rattle.play.specs.Ends.{status_at, Ends, Stops, OfBytes, IsChecked, IsRunToEnd, KeepsJournal, RunsPlan};
+ghost use Rattle.play.specs.Ends.{status_at, OfBytes, IsChecked, IsRunToEnd, KeepsJournal, RunsPlan};
+ghost use Rattle.play.specs.Outcomes.{Ends, Stops};
 
 use crate::commands::do_commands;
 use crate::dispatch::{Dispatcher, ports_of};
@@ -15,7 +16,9 @@ use crate::keep::keep;
 use crate::plan::{Plan, read_plan};
 use crate::read::read_text;
 use crate::replay::replay;
-use fabric::{Fabric, Naming, Unnamed};
+use crate::shell::shell;
+use fabric::{Fabric, MOST_STEPS, Naming, Unnamed};
+use network_model::Refusal;
 use publication::ImageReader;
 use script::{Command, Directory};
 use std::alloc::Global;
@@ -47,9 +50,10 @@ impl End {
     }
 }
 
-/// Does what the words ask for, and answers the exit status. Only a replay reads `journal`. A fault is
-/// a line on `err`. A write to `out` or `err` that fails is lost, and changes nothing else. Where a run
-/// ends with status 0, its journal's text is added to `kept`.
+/// Does what the words ask for, and answers the exit status. Only a replay and a shell read `journal`:
+/// the shell reads its commands there. A fault is a line on `err`, and where the program stops for it,
+/// it is in `told`. A write to `out` or `err` that fails is lost, and changes nothing else. Where a run
+/// or a shell ends with status 0, its journal's text is added to `kept`.
 pub fn play<H, R, J, W, E>(
     rt: &H,
     alloc: Global,
@@ -59,6 +63,7 @@ pub fn play<H, R, J, W, E>(
     out: &mut W,
     err: &mut E,
     kept: &mut Vec<u8>,
+    told: &mut Option<Fault>,
 ) -> u8
 where
     H: Host,
@@ -71,24 +76,26 @@ where
         ⊎ ((fault : Fault) × (result ≡ status_of fault.cause)
         × Stops words.now (R.remaining scenario) (J.remaining journal) fault) }
 {
-    match asked(rt, alloc, words, scenario, journal, out, kept) {
+    match asked(rt, alloc, words, scenario, journal, out, err, kept) {
         Ok(end) => end.status(),
         Err(fault) => {
             // What was printed comes before the fault, also where `out` keeps it for a while.
             let _ = out.flush();
+            *told = Some(fault);
             refuse(fault, err)
         }
     }
 }
 
 // Does what the words ask for.
-fn asked<H, R, J, W>(
+fn asked<H, R, J, W, E>(
     rt: &H,
     alloc: Global,
     words: &Words<'_>,
     scenario: R,
     journal: J,
     out: &mut W,
+    err: &mut E,
     kept: &mut Vec<u8>,
 ) -> Result<End, Fault>
 where
@@ -96,22 +103,37 @@ where
     R: Read + Drop,
     J: Read + Drop,
     W: Write,
+    E: Write,
     ensures ok { IfOk result
         (Ends words.now (R.remaining scenario) (J.remaining journal) kept.old.items kept.new.items) }
     ensures fault { IfErr result (Stops words.now (R.remaining scenario) (J.remaining journal)) }
 {
     match *words {
-        Words::Check { file: _ } => check(alloc, scenario, out),
+        Words::Check {
+            file: _,
+            explain: _,
+        } => check(alloc, scenario, out),
         Words::Run {
             file: _,
             threads,
             workers,
             journal: _,
+            explain: _,
         } => run(rt, alloc, scenario, threads, workers, out, kept),
         Words::Replay {
             file: _,
             journal: _,
+            explain: _,
         } => replay(rt, alloc, scenario, journal, out),
+        Words::Explain { kind } => {
+            let _ = write!(out, "{}", kind.page());
+            Ok(End::Done)
+        }
+        Words::Shell {
+            file: _,
+            journal: _,
+            explain: _,
+        } => shell(rt, alloc, scenario, journal, out, err, kept),
     }
 }
 
@@ -250,10 +272,14 @@ where
     }
 }
 
-/// Says on `err` why the program stops, and answers its exit status.
+/// Says on `err` why the program stops, and answers its exit status. Where the journal is full, a
+/// second line says how many steps were done.
 pub fn refuse<E: Write>(fault: Fault, err: &mut E) -> u8
     ensures { result ≡ status_of fault.cause }
 {
     let _ = writeln!(err, "dualnet: {fault}");
+    if matches!(fault.cause, Cause::Refused(Refusal::JournalFull)) {
+        let _ = writeln!(err, "dualnet: {MOST_STEPS} steps were done");
+    }
     fault.status()
 }

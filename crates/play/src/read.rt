@@ -48,8 +48,8 @@ pub fn read_bytes<R: Read + Drop>(alloc: Global, reader: R) -> Result<Vec<u8>, C
     }
 }
 
-// Why a reader failed.
-fn read_failure(error: &io::Error) -> Cause
+/// Why a reader failed.
+pub fn read_failure(error: &io::Error) -> Cause
     ensures unread { CannotRead result }
     ensures memory { IsTrue (is_memory result) ↔ (error_kind error.now ≡ ErrorKind.OutOfMemory) }
 {

@@ -9,6 +9,7 @@ use words::{Words, exit_status, not_utf8};
 
 pub const CHECK: Words<'static> = Words::Check {
     file: "scenario.toml",
+    explain: false,
 };
 
 pub const RUN: Words<'static> = Words::Run {
@@ -16,11 +17,13 @@ pub const RUN: Words<'static> = Words::Run {
     threads: 1,
     workers: 1,
     journal: None,
+    explain: false,
 };
 
 const REPLAY: Words<'static> = Words::Replay {
     file: "scenario.toml",
     journal: "journal",
+    explain: false,
 };
 
 const SCENARIO: &[u8] = b"routers = [\"a\"]\nlinks = []\nprefixes = [\"0.0.0.0/0 a\"]\n\
@@ -132,6 +135,7 @@ fn lost<H: Host>(rt: &H, alloc: Global, scenario: &[u8]) -> u8 {
         &mut Closed,
         &mut Closed,
         &mut kept,
+        &mut None,
     )
 }
 

@@ -72,7 +72,7 @@ pub(crate) fn read_commands(
 /// `lookup A ADDR`, `inject A ADDR`, `trace A ADDR`, `drain` or `report`. A `BadCommand` comes before
 /// the fault of a cost, a prefix or an address, but a prefix that the scenario does not have is a
 /// `BadCommand` after all others.
-pub(crate) fn read_command(
+pub fn read_command(
     names: &Names,
     links: &[LinkSpec],
     owners: &[(Prefix, u16)],

@@ -14,7 +14,7 @@ mod step;
 mod tracing;
 mod words;
 
-pub use command::Command;
+pub use command::{Command, read_command};
 pub use directory::{Directory, LookupText, PacketText, RowText};
 pub use fault::Fault;
 pub use lines::{Line, LinkLine, MachineLine, RouterLine};

@@ -71,12 +71,14 @@ fn tried<H: Host>(rt: &H, alloc: Global, scenario: &Scenario) -> Result<bool, Al
         threads: THREADS,
         workers: WORKERS,
         journal: None,
+        explain: false,
     };
     let text = scenario.text.as_bytes();
     let ran = trial::asked(rt, alloc, &words, text);
     let words = Words::Replay {
         file: "",
         journal: "",
+        explain: false,
     };
     let replayed = played(rt, alloc, &words, text, ran.kept.as_slice());
     let straight = is_straight(rt, alloc, scenario, &ran.kept)?;
@@ -116,6 +118,7 @@ fn is_run_straight<H: Host>(rt: &H, alloc: Global, text: &str) -> bool {
         threads: 1,
         workers: 1,
         journal: None,
+        explain: false,
     };
     let ran = trial::asked(rt, alloc, &words, text.as_bytes());
     let Ok(out) = str::from_utf8(&ran.out) else {

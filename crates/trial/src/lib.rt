@@ -5,7 +5,7 @@ ghost use Rattle.std.specs.Prelude.{Option};
 ghost use Rattle.script.specs.Words.{Text};
 ghost use Rattle.trial.specs.Outcomes.{Gave};
 
-use play::{Host, Source, play};
+use play::{Fault, Host, Source, play};
 use std::alloc::Global;
 use std::io;
 use std::io::Read;
@@ -20,11 +20,13 @@ pub struct Outcome {
     pub out: Vec<u8>,
     /// What it printed of a fault.
     pub err: Vec<u8>,
-    /// The text of the journal of a run that ended with status 0; else nothing.
+    /// The text of the journal of a run or a shell that ended with status 0; else nothing.
     pub kept: Vec<u8>,
+    /// The fault for which it stopped, where it did.
+    pub fault: Option<Fault>,
 }
 
-/// Does what the words ask for, with the bytes of a scenario and of a journal.
+/// Does what the words ask for, with the bytes of a scenario, and of a journal or the commands of a shell.
 pub fn played<H, R, J>(rt: &H, alloc: Global, words: &Words<'_>, scenario: R, journal: J) -> Outcome
 where
     H: Host,
@@ -35,14 +37,16 @@ where
     let mut out = Vec::new(alloc);
     let mut err = Vec::new(alloc);
     let mut kept = Vec::new(alloc);
+    let mut fault = None;
     let status = play(
-        rt, alloc, words, scenario, journal, &mut out, &mut err, &mut kept,
+        rt, alloc, words, scenario, journal, &mut out, &mut err, &mut kept, &mut fault,
     );
     Outcome {
         status,
         out,
         err,
         kept,
+        fault,
     }
 }
 

@@ -30,6 +30,7 @@ pub record Seen : Type 0 where
   pub threads : Option Text
   pub workers : Option Text
   pub journal : Option Text
+  pub explain : Option Text
 
 abbrev pub seen : Option (Text × List Row) → Option Seen
 seen = option_map (λ p. record {
@@ -38,6 +39,7 @@ seen = option_map (λ p. record {
   threads = one_of (codes "threads") p.1;
   workers = one_of (codes "workers") p.1;
   journal = first_of (codes "journal") p.1;
+  explain = one_of (codes "explain") p.1;
 })
 
 -- what the command that was built has of the words is what they spell
@@ -46,13 +48,13 @@ pub seen_as : (met : Option (Text × List Row)) (a : App) (words line : List Tex
 seen_as met a words line is spelled e = ap seen (e ∙ ap (λ (b : App). subcommand_of b words) is ∙ ap (subcommand_of program) spelled)
 
 abbrev pub seen_check : Text → Seen
-seen_check file = record { name = codes "check"; file = Some file; threads = None; workers = None; journal = None }
+seen_check file = record { name = codes "check"; file = Some file; threads = None; workers = None; journal = None; explain = Some (codes "false") }
 
 abbrev pub seen_run : Text → Seen
-seen_run file = record { name = codes "run"; file = Some file; threads = Some (codes "1"); workers = Some (codes "1"); journal = None }
+seen_run file = record { name = codes "run"; file = Some file; threads = Some (codes "1"); workers = Some (codes "1"); journal = None; explain = Some (codes "false") }
 
 abbrev pub seen_replay : Text → Text → Seen
-seen_replay file journal = record { name = codes "replay"; file = Some file; threads = None; workers = None; journal = Some journal }
+seen_replay file journal = record { name = codes "replay"; file = Some file; threads = None; workers = None; journal = Some journal; explain = Some (codes "false") }
 
 module _ (name : Text) where
   abbrev pub file_line : Text → Text → List Text

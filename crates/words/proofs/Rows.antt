@@ -1,7 +1,7 @@
 -- Worked examples: what clap's definition of the command line makes of some words.
 use Rattle.std.proofs.Common.{◌≡◌, List, [], ◌∷◌, Option, Some, None, codes, refl}
 use Rattle.clap.specs.Words.{Kinds, Text, fault_of, subcommand_of}
-use Rattle.clap.specs.declared.error.kind.ErrorKind.TheVariants.{ArgumentConflict, DisplayHelp, InvalidSubcommand, InvalidValue, MissingRequiredArgument, MissingSubcommand, UnknownArgument, ValueValidation}
+use Rattle.clap.specs.declared.error.kind.ErrorKind.TheVariants.{ArgumentConflict, DisplayHelp, DisplayVersion, InvalidSubcommand, InvalidValue, MissingRequiredArgument, MissingSubcommand, UnknownArgument, ValueValidation}
 use Rattle.clap.proofs.OnLiterals.{clap_on_literals}
 use Rattle.words.specs.Commands.{program}
 use Rattle.words.proofs.Lines.{Seen, seen}
@@ -19,7 +19,7 @@ unfolding clap_on_literals
 after_hyphens = refl
 
 file_after_hyphens : finds (codes "run" ∷ codes "--" ∷ codes "-a.toml" ∷ [])
-    ≡ Some (record { name = codes "run"; file = Some (codes "-a.toml"); threads = Some (codes "1"); workers = Some (codes "1"); journal = None })
+    ≡ Some (record { name = codes "run"; file = Some (codes "-a.toml"); threads = Some (codes "1"); workers = Some (codes "1"); journal = None; explain = Some (codes "false") })
 unfolding clap_on_literals
 file_after_hyphens = refl
 
@@ -28,7 +28,7 @@ unfolding clap_on_literals
 options_after = refl
 
 found_after : finds (codes "run" ∷ codes "a" ∷ codes "--threads" ∷ codes "4" ∷ codes "--workers" ∷ codes "16" ∷ codes "--journal" ∷ codes "b" ∷ [])
-    ≡ Some (record { name = codes "run"; file = Some (codes "a"); threads = Some (codes "4"); workers = Some (codes "16"); journal = Some (codes "b") })
+    ≡ Some (record { name = codes "run"; file = Some (codes "a"); threads = Some (codes "4"); workers = Some (codes "16"); journal = Some (codes "b"); explain = Some (codes "false") })
 unfolding clap_on_literals
 found_after = refl
 
@@ -37,11 +37,33 @@ unfolding clap_on_literals
 options_before = refl
 
 found_before : finds (codes "run" ∷ codes "--workers=16" ∷ codes "--threads=4" ∷ codes "a" ∷ [])
-    ≡ Some (record { name = codes "run"; file = Some (codes "a"); threads = Some (codes "4"); workers = Some (codes "16"); journal = None })
+    ≡ Some (record { name = codes "run"; file = Some (codes "a"); threads = Some (codes "4"); workers = Some (codes "16"); journal = None; explain = Some (codes "false") })
 unfolding clap_on_literals
 found_before = refl
 
+explained : finds (codes "check" ∷ codes "a" ∷ codes "--explain" ∷ [])
+    ≡ Some (record { name = codes "check"; file = Some (codes "a"); threads = None; workers = None; journal = None; explain = Some (codes "true") })
+unfolding clap_on_literals
+explained = refl
+
+number : asks (codes "explain" ∷ codes "45" ∷ []) ≡ []
+unfolding clap_on_literals
+number = refl
+
+standard_input : finds (codes "shell" ∷ codes "-" ∷ codes "--journal" ∷ codes "b" ∷ [])
+    ≡ Some (record { name = codes "shell"; file = Some (codes "-"); threads = None; workers = None; journal = Some (codes "b"); explain = Some (codes "false") })
+unfolding clap_on_literals
+standard_input = refl
+
 -- ---- what is refused
+
+version : asks (codes "--version" ∷ []) ≡ DisplayVersion ∷ []
+unfolding clap_on_literals
+version = refl
+
+great_number : asks (codes "explain" ∷ codes "50" ∷ []) ≡ ValueValidation ∷ []
+unfolding clap_on_literals
+great_number = refl
 
 help : asks (codes "--help" ∷ []) ≡ DisplayHelp ∷ []
 unfolding clap_on_literals

@@ -1,13 +1,13 @@
 -- From the subcommand that was met to what it asks for.
-use Rattle.std.proofs.Common.{◌≡◌, ℕ, List, Option, Some, None, IfNone, option_map, length, Box, sym, ap, subst, ◌∙◌, codes, arith}
+use Rattle.std.proofs.Common.{◌≡◌, ℕ, List, Option, Some, None, IfNone, option_map, ◌*◌, ◌+◌, length, slice_index, Box, sym, ap, subst, ◌∙◌, codes, arith}
 use Rattle.std.specs.Box.{box_value}
 use Rattle.std.specs.Option.{option_map_or}
 use Rattle.clap.specs.Words.{Row, Text, found_of, rows_of, subcommand_rows}
 use Rattle.clap.specs.declared.parser.matches.SubCommand.{SubCommand}
 use Rattle.clap.specs.declared.parser.matches.ArgMatches.TheViews.{out-SubCommand}
-use Rattle.words.specs.Asked.{IsAsked, IsCheck, IsReplay, IsRun}
+use Rattle.words.specs.Asked.{IsAsked, IsCheck, IsExplain, IsReplay, IsRun, IsShell}
 use Rattle.words.specs.declared.words.Words.{Words}
-use Rattle.words.specs.declared.words.Words.TheVariants.{Check, Run, Replay}
+use Rattle.words.specs.declared.words.Words.TheVariants.{Check, Run, Replay, Explain, Shell}
 
 -- the name of the subcommand and its rows, which two clauses tell apart
 pub met_rows : {Z : Type 0} (o : Option (Box SubCommand Z)) (name : Text) (rows : List Row)
@@ -19,28 +19,48 @@ met_rows (Some b) name rows e h =
     let r = ap (λ o. elim o [ Some v ↦ v | None ↦ rows ]) h in
     ap (λ x. Some (x, rows_of (found_of (out-SubCommand (box_value b)).matches))) n ∙ ap (λ x. Some (name, x)) r
 
--- the commands are told apart by how long their names are
-abbrev name_length : Option (Text × List Row) → ℕ
-name_length met = option_map_or (λ p. length p.0) met 0
+-- the commands are told apart by the lengths of their names and their first letters
+abbrev name_key : Option (Text × List Row) → ℕ
+name_key met = option_map_or (λ p. 256 * length p.0 + slice_index p.0 0) met 0
 
 abbrev rows_in : List Row → Option (Text × List Row) → List Row
 rows_in other met = option_map_or (λ p. p.1) met other
 
 module _ (met : Option (Text × List Row)) (rows : List Row) where
   pub no_check_asked : met ≡ Some (codes "check", rows) → ((w : Words) → IsCheck rows w → ⊥) → (w : Words) → IsAsked met w → ⊥
-  no_check_asked is none (Check f) h = none (Check f) (subst (λ r. IsCheck r (Check f)) (sym (ap (rows_in rows) h.1) ∙ ap (rows_in rows) is) h.2)
-  no_check_asked is none (Run f t k j) h = absurd (omega (arith, sym (ap name_length h.1) ∙ ap name_length is))
-  no_check_asked is none (Replay f j) h = absurd (omega (arith, sym (ap name_length h.1) ∙ ap name_length is))
+  no_check_asked is none (Check f e) h = none (Check f e) (subst (λ r. IsCheck r (Check f e)) (sym (ap (rows_in rows) h.1) ∙ ap (rows_in rows) is) h.2)
+  no_check_asked is none (Run f t k j e) h = absurd (omega (arith, sym (ap name_key h.1) ∙ ap name_key is))
+  no_check_asked is none (Replay f j e) h = absurd (omega (arith, sym (ap name_key h.1) ∙ ap name_key is))
+  no_check_asked is none (Explain k) h = absurd (omega (arith, sym (ap name_key h.1) ∙ ap name_key is))
+  no_check_asked is none (Shell f j e) h = absurd (omega (arith, sym (ap name_key h.1) ∙ ap name_key is))
 
   pub no_run_asked : met ≡ Some (codes "run", rows) → ((w : Words) → IsRun rows w → ⊥) → (w : Words) → IsAsked met w → ⊥
-  no_run_asked is none (Check f) h = absurd (omega (arith, sym (ap name_length h.1) ∙ ap name_length is))
-  no_run_asked is none (Run f t k j) h = none (Run f t k j) (subst (λ r. IsRun r (Run f t k j)) (sym (ap (rows_in rows) h.1) ∙ ap (rows_in rows) is) h.2)
-  no_run_asked is none (Replay f j) h = absurd (omega (arith, sym (ap name_length h.1) ∙ ap name_length is))
+  no_run_asked is none (Check f e) h = absurd (omega (arith, sym (ap name_key h.1) ∙ ap name_key is))
+  no_run_asked is none (Run f t k j e) h = none (Run f t k j e) (subst (λ r. IsRun r (Run f t k j e)) (sym (ap (rows_in rows) h.1) ∙ ap (rows_in rows) is) h.2)
+  no_run_asked is none (Replay f j e) h = absurd (omega (arith, sym (ap name_key h.1) ∙ ap name_key is))
+  no_run_asked is none (Explain k) h = absurd (omega (arith, sym (ap name_key h.1) ∙ ap name_key is))
+  no_run_asked is none (Shell f j e) h = absurd (omega (arith, sym (ap name_key h.1) ∙ ap name_key is))
 
   pub no_replay_asked : met ≡ Some (codes "replay", rows) → ((w : Words) → IsReplay rows w → ⊥) → (w : Words) → IsAsked met w → ⊥
-  no_replay_asked is none (Check f) h = absurd (omega (arith, sym (ap name_length h.1) ∙ ap name_length is))
-  no_replay_asked is none (Run f t k j) h = absurd (omega (arith, sym (ap name_length h.1) ∙ ap name_length is))
-  no_replay_asked is none (Replay f j) h = none (Replay f j) (subst (λ r. IsReplay r (Replay f j)) (sym (ap (rows_in rows) h.1) ∙ ap (rows_in rows) is) h.2)
+  no_replay_asked is none (Check f e) h = absurd (omega (arith, sym (ap name_key h.1) ∙ ap name_key is))
+  no_replay_asked is none (Run f t k j e) h = absurd (omega (arith, sym (ap name_key h.1) ∙ ap name_key is))
+  no_replay_asked is none (Replay f j e) h = none (Replay f j e) (subst (λ r. IsReplay r (Replay f j e)) (sym (ap (rows_in rows) h.1) ∙ ap (rows_in rows) is) h.2)
+  no_replay_asked is none (Explain k) h = absurd (omega (arith, sym (ap name_key h.1) ∙ ap name_key is))
+  no_replay_asked is none (Shell f j e) h = absurd (omega (arith, sym (ap name_key h.1) ∙ ap name_key is))
+
+  pub no_explain_asked : met ≡ Some (codes "explain", rows) → ((w : Words) → IsExplain rows w → ⊥) → (w : Words) → IsAsked met w → ⊥
+  no_explain_asked is none (Check f e) h = absurd (omega (arith, sym (ap name_key h.1) ∙ ap name_key is))
+  no_explain_asked is none (Run f t k j e) h = absurd (omega (arith, sym (ap name_key h.1) ∙ ap name_key is))
+  no_explain_asked is none (Replay f j e) h = absurd (omega (arith, sym (ap name_key h.1) ∙ ap name_key is))
+  no_explain_asked is none (Explain k) h = none (Explain k) (subst (λ r. IsExplain r (Explain k)) (sym (ap (rows_in rows) h.1) ∙ ap (rows_in rows) is) h.2)
+  no_explain_asked is none (Shell f j e) h = absurd (omega (arith, sym (ap name_key h.1) ∙ ap name_key is))
+
+  pub no_shell_asked : met ≡ Some (codes "shell", rows) → ((w : Words) → IsShell rows w → ⊥) → (w : Words) → IsAsked met w → ⊥
+  no_shell_asked is none (Check f e) h = absurd (omega (arith, sym (ap name_key h.1) ∙ ap name_key is))
+  no_shell_asked is none (Run f t k j e) h = absurd (omega (arith, sym (ap name_key h.1) ∙ ap name_key is))
+  no_shell_asked is none (Replay f j e) h = absurd (omega (arith, sym (ap name_key h.1) ∙ ap name_key is))
+  no_shell_asked is none (Explain k) h = absurd (omega (arith, sym (ap name_key h.1) ∙ ap name_key is))
+  no_shell_asked is none (Shell f j e) h = none (Shell f j e) (subst (λ r. IsShell r (Shell f j e)) (sym (ap (rows_in rows) h.1) ∙ ap (rows_in rows) is) h.2)
 
 pub passed_on : {A : Type 0} (o : Option A) (P Q : Type 0) → (P → Q) → IfNone o P → IfNone o Q
 passed_on None P Q f h = f h

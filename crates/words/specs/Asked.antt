@@ -1,10 +1,11 @@
 -- What the matches of the command line ask for.
-use Rattle.std.specs.Prelude.{◌≡◌, ◌≢◌, ◌≤◌, ℕ, List, [], ◌∷◌, Option, Some, None, map, option_map, slice_index, codes}
+use Rattle.std.specs.Prelude.{◌≡◌, ◌≢◌, ◌≤◌, ℕ, Bool, true, false, List, [], ◌∷◌, Option, Some, None, map, option_map, slice_index, codes}
 use Rattle.std.specs.Borrow.{Bor}
 use Rattle.std.specs.Str.Parse.{IsNumeral, digits_value, without_leading_plus}
 use Rattle.clap.specs.Words.{Row, Text, first_of, one_of}
 use Rattle.words.specs.declared.words.Words.{Words}
-use Rattle.words.specs.declared.words.Words.TheVariants.{Check, Run, Replay}
+use Rattle.explanations.specs.Numbers.{number_of}
+use Rattle.words.specs.declared.words.Words.TheVariants.{Check, Run, Replay, Explain, Shell}
 
 -- the bytes of each word
 abbrev pub texts : List (Bor Text) → List Text
@@ -15,37 +16,61 @@ abbrev pub IsNumberText : Text → ℕ → Type 0
 IsNumberText text n = IsNumeral 10 (without_leading_plus text)
     × (n ≡ digits_value 10 (without_leading_plus text))
 
--- the matches have the number at the name, and it is 1 to 16
-abbrev pub HasNumber : List Row → Text → ℕ → Type 0
-HasNumber rows id n = (text : Text) × (one_of id rows ≡ Some text) × IsNumberText text n
-    × (1 ≤ n) × (n ≤ 16)
+-- the matches have the number at the name, and it is at least 1, and no more than this
+abbrev pub HasNumber : List Row → Text → ℕ → ℕ → Type 0
+HasNumber rows id most n = (text : Text) × (one_of id rows ≡ Some text) × IsNumberText text n
+    × (1 ≤ n) × (n ≤ most)
+
+-- whether an option with no value is among the matches
+abbrev pub IsFlag : List Row → Text → Bool → Type 0
+IsFlag rows id is = (one_of id rows ≡ Some (codes "true") → is ≡ true)
+    × (one_of id rows ≡ Some (codes "false") → is ≡ false)
 
 -- the matches of `check`: a file
 abbrev pub IsCheck : List Row → Words → Type 0
-IsCheck rows (Check file) = first_of (codes "file") rows ≡ Some file.now
+IsCheck rows (Check file explain) = (first_of (codes "file") rows ≡ Some file.now)
+    × IsFlag rows (codes "explain") explain
 IsCheck rows _ = ⊥
 
 -- the matches of `run`: a file, two numbers, and a path where one is given
 abbrev pub IsRun : List Row → Words → Type 0
-IsRun rows (Run file threads workers journal) = (first_of (codes "file") rows ≡ Some file.now)
-    × HasNumber rows (codes "threads") threads × HasNumber rows (codes "workers") workers
+IsRun rows (Run file threads workers journal explain) = (first_of (codes "file") rows ≡ Some file.now)
+    × HasNumber rows (codes "threads") 16 threads × HasNumber rows (codes "workers") 16 workers
     × (first_of (codes "journal") rows ≡ option_map (λ path. path.now) journal)
+    × IsFlag rows (codes "explain") explain
 IsRun rows _ = ⊥
 
 -- the matches of `replay`: two files
 abbrev pub IsReplay : List Row → Words → Type 0
-IsReplay rows (Replay file journal) = (first_of (codes "file") rows ≡ Some file.now)
+IsReplay rows (Replay file journal explain) = (first_of (codes "file") rows ≡ Some file.now)
     × (first_of (codes "journal") rows ≡ Some journal.now)
+    × IsFlag rows (codes "explain") explain
 IsReplay rows _ = ⊥
+
+-- the matches of `explain`: a number that the program prints
+abbrev pub IsExplain : List Row → Words → Type 0
+IsExplain rows (Explain kind) = HasNumber rows (codes "number") 49 (number_of kind)
+IsExplain rows _ = ⊥
+
+-- the matches of `shell`: a file, and a path where one is given
+abbrev pub IsShell : List Row → Words → Type 0
+IsShell rows (Shell file journal explain) = (first_of (codes "file") rows ≡ Some file.now)
+    × (first_of (codes "journal") rows ≡ option_map (λ path. path.now) journal)
+    × IsFlag rows (codes "explain") explain
+IsShell rows _ = ⊥
 
 -- the subcommand that was met, with its matches, asks for this
 abbrev pub IsAsked : Option (Text × List Row) → Words → Type 0
-IsAsked met (Check file) =
-    (rows : List Row) × (met ≡ Some (codes "check", rows)) × IsCheck rows (Check file)
-IsAsked met (Run file threads workers journal) = (rows : List Row)
-    × (met ≡ Some (codes "run", rows)) × IsRun rows (Run file threads workers journal)
-IsAsked met (Replay file journal) = (rows : List Row)
-    × (met ≡ Some (codes "replay", rows)) × IsReplay rows (Replay file journal)
+IsAsked met (Check file explain) =
+    (rows : List Row) × (met ≡ Some (codes "check", rows)) × IsCheck rows (Check file explain)
+IsAsked met (Run file threads workers journal explain) = (rows : List Row)
+    × (met ≡ Some (codes "run", rows)) × IsRun rows (Run file threads workers journal explain)
+IsAsked met (Replay file journal explain) = (rows : List Row)
+    × (met ≡ Some (codes "replay", rows)) × IsReplay rows (Replay file journal explain)
+IsAsked met (Explain kind) =
+    (rows : List Row) × (met ≡ Some (codes "explain", rows)) × IsExplain rows (Explain kind)
+IsAsked met (Shell file journal explain) = (rows : List Row)
+    × (met ≡ Some (codes "shell", rows)) × IsShell rows (Shell file journal explain)
 
 -- the words are the program's name, the command and a file, which does not begin with a hyphen
 pub record IsFileLine (command file : Text) (words : List Text) : Type 0 where
@@ -60,18 +85,19 @@ pub record IsReplayLine (file journal : Text) (words : List Text) : Type 0 where
   pub no_option_file : slice_index file 0 ≢ 45
   pub no_option_journal : slice_index journal 0 ≢ 45
 
--- what is asked for is to check this file
+-- what is asked for is to check this file, and to explain nothing
 abbrev pub ChecksFile : Text → Words → Type 0
-ChecksFile file (Check given) = given.now ≡ file
+ChecksFile file (Check given explain) = (given.now ≡ file) × (explain ≡ false)
 ChecksFile file _ = ⊥
 
 -- what is asked for is to run this file, by one thread and one worker, and to write no journal
 abbrev pub RunsFile : Text → Words → Type 0
-RunsFile file (Run given threads workers journal) =
-    (given.now ≡ file) × (threads ≡ 1) × (workers ≡ 1) × (journal ≡ None)
+RunsFile file (Run given threads workers journal explain) =
+    (given.now ≡ file) × (threads ≡ 1) × (workers ≡ 1) × (journal ≡ None) × (explain ≡ false)
 RunsFile file _ = ⊥
 
 -- what is asked for is to replay this journal over the network of this file
 abbrev pub ReplaysFiles : Text → Text → Words → Type 0
-ReplaysFiles file journal (Replay given steps) = (given.now ≡ file) × (steps.now ≡ journal)
+ReplaysFiles file journal (Replay given steps explain) =
+    (given.now ≡ file) × (steps.now ≡ journal) × (explain ≡ false)
 ReplaysFiles file journal _ = ⊥

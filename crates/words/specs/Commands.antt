@@ -2,11 +2,12 @@
 use Rattle.std.specs.Prelude.{◌≡◌, List, [], ◌∷◌, Some, codes, pos, true, false}
 use Rattle.clap.specs.Words.{App, Rule, Text, Kinds, app_of, fault_of, new_app, new_rule, with_rule, with_subcommand}
 use Rattle.clap.specs.Kinds.{or_else}
-use Rattle.clap.specs.declared.error.kind.ErrorKind.TheVariants.{MissingRequiredArgument}
+use Rattle.clap.specs.declared.error.kind.ErrorKind.TheVariants.{InvalidValue}
 use Rattle.clap.specs.Simple.{on_top}
 use Rattle.clap.specs.declared.builder.command.Command.{Command}
 use Rattle.clap.specs.declared.builder.command.Command.TheViews.{out-Command}
 use Rattle.clap.specs.declared.builder.value_parser.ValueParser.TheVariants.{Signed}
+use Rattle.clap.specs.declared.builder.action.ArgAction.TheVariants.{SetTrue}
 
 -- a word that has to be there
 abbrev pub file_rule : Text → Rule
@@ -25,31 +26,48 @@ number_rule id = record (new_rule id) {
 abbrev pub path_rule : Text → Rule
 path_rule id = record (new_rule id) { long = Some id; value_names = 1 }
 
--- `check FILE`
+-- an option with no value, which may be left out
+abbrev pub flag_rule : Text → Rule
+flag_rule id = record (new_rule id) { long = Some id; action = Some SetTrue }
+
+-- a number of 1 to 49 that has to be there
+abbrev pub known_rule : Text → Rule
+known_rule id = record (new_rule id) { value_names = 1; required = true; parser = Some (Signed (pos 1) (pos 49)) }
+
+-- `check FILE [--explain]`
 abbrev pub check_app : App
-check_app = with_rule (new_app (codes "check")) (file_rule (codes "file"))
+check_app = with_rule (with_rule (new_app (codes "check")) (file_rule (codes "file"))) (flag_rule (codes "explain"))
 
--- `run FILE [--threads N] [--workers N] [--journal PATH]`
+-- `run FILE [--threads N] [--workers N] [--journal PATH] [--explain]`
 abbrev pub run_app : App
-run_app = with_rule (with_rule (with_rule (with_rule (new_app (codes "run"))
+run_app = with_rule (with_rule (with_rule (with_rule (with_rule (new_app (codes "run"))
     (file_rule (codes "file"))) (number_rule (codes "threads"))) (number_rule (codes "workers")))
-    (path_rule (codes "journal"))
+    (path_rule (codes "journal"))) (flag_rule (codes "explain"))
 
--- `replay FILE JOURNAL`
+-- `replay FILE JOURNAL [--explain]`
 abbrev pub replay_app : App
-replay_app = with_rule (with_rule (new_app (codes "replay")) (file_rule (codes "file")))
-    (file_rule (codes "journal"))
+replay_app = with_rule (with_rule (with_rule (new_app (codes "replay")) (file_rule (codes "file")))
+    (file_rule (codes "journal"))) (flag_rule (codes "explain"))
+
+-- `explain NUMBER`
+abbrev pub explain_app : App
+explain_app = with_rule (new_app (codes "explain")) (known_rule (codes "number"))
+
+-- `shell FILE [--journal PATH] [--explain]`
+abbrev pub shell_app : App
+shell_app = with_rule (with_rule (with_rule (new_app (codes "shell")) (file_rule (codes "file")))
+    (path_rule (codes "journal"))) (flag_rule (codes "explain"))
 
 -- the program, which has to be given one of its commands
 abbrev pub program : App
-program = with_subcommand (with_subcommand (with_subcommand
-    (on_top (λ s. record s { subcommand_required = true }) (new_app (codes "dualnet")))
-    check_app.top) run_app.top) replay_app.top
+program = with_subcommand (with_subcommand (with_subcommand (with_subcommand (with_subcommand
+    (on_top (λ s. record s { subcommand_required = true }) (on_top (λ s. record s { has_version = true }) (new_app (codes "dualnet"))))
+    check_app.top) run_app.top) replay_app.top) explain_app.top) shell_app.top
 
 -- a command that reads as this, with no global argument
 abbrev pub IsCommand : App → Command → Type 0
 IsCommand app c = (app_of c ≡ app) × ((out-Command c).has_globals ≡ false)
 
--- the kinds of error that the words may give: those of clap's definition, and where it gives none a missing word
+-- the kinds of error that the words may give: those of clap's definition, and where it gives none a number that is never printed
 abbrev pub kinds_of : List Text → Kinds
-kinds_of words = or_else (fault_of program words) (MissingRequiredArgument ∷ [])
+kinds_of words = or_else (fault_of program words) (InvalidValue ∷ [])

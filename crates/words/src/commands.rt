@@ -3,11 +3,11 @@
 ghost use Rattle.std.specs.Prelude.{◌≡◌, IfOk, codes, false, pos};
 ghost use Rattle.clap.specs.declared.builder.value_parser.ValueParser.TheVariants.{Signed};
 ghost use Rattle.clap.specs.Words.{app_of, kind_of, rule_of};
-ghost use Rattle.words.specs.Commands.{IsCommand, check_app, file_rule, number_rule, path_rule, program, replay_app, run_app};
+ghost use Rattle.words.specs.Commands.{IsCommand, check_app, explain_app, file_rule, flag_rule, known_rule, number_rule, path_rule, program, replay_app, run_app, shell_app};
 
 use clap::builder::ValueParser;
 use clap::error::ErrorKind;
-use clap::{Arg, Command, Error, value_parser};
+use clap::{Arg, ArgAction, Command, Error, value_parser};
 use std::alloc::{AllocError, Global};
 
 /// The error of a command line of which a word is not UTF-8.
@@ -18,16 +18,47 @@ pub fn not_utf8(alloc: Global) -> Result<Error, AllocError>
     command.error(ErrorKind::InvalidValue, "a word is not UTF-8")
 }
 
+// What stands below the program's help.
+const AFTER_HELP: &str = "\
+Commands of a script and of the shell:
+  up A B, down A B       the link of A and B comes up, goes down
+  cost A B C             the cost from A on the link to B becomes C
+  deliver A B            A takes the front item from its port to B
+  publish A, release A   A puts its rows in force, sends its front message
+  try STEP               does one of these steps, prints whether it was refused
+  settle                 each router does what it has to do, until nothing is left
+  state A PREFIX         prints what A's machine for the prefix is at
+  table A                prints the rows that A published
+  lookup A ADDR          looks the address up in A's image
+  trace A ADDR           follows a packet for the address from A
+  inject A ADDR, drain   gives the workers a packet, prints what they answered
+  report                 prints all links, routers and machines
+
+Exit status:
+  0  done; a replay agrees
+  1  a fault in the command line, in the scenario or in the journal's text
+  2  a step, memory, a thread or a file to be written was refused
+  3  a replay ended in another state than its journal says
+
+FILE is a path, or - for the standard input. `dualnet explain N` tells of each
+number that is printed; `man dualnet` (docs/dualnet.1) of all else.
+
+Example:
+  dualnet run examples/two-routers.toml";
+
 pub(crate) fn program_command<'a>(alloc: Global) -> Result<Command<'a>, AllocError>
     ensures { IfOk result (λ c. app_of c ≡ program) }
 {
     Command::new(alloc, "dualnet")
         .about("A network of IPv4 routers that route by DUAL and forward by longest match")
-        .after_help("Example:\n  dualnet run examples/two-routers.toml")
+        .version("0.1.0")
+        .after_help(AFTER_HELP)
         .subcommand_required(true)
         .subcommand(check_command(alloc)?)?
         .subcommand(run_command(alloc)?)?
-        .subcommand(replay_command(alloc)?)
+        .subcommand(replay_command(alloc)?)?
+        .subcommand(explain_command(alloc)?)?
+        .subcommand(shell_command(alloc)?)
 }
 
 fn check_command<'a>(alloc: Global) -> Result<Command<'a>, AllocError>
@@ -36,7 +67,8 @@ fn check_command<'a>(alloc: Global) -> Result<Command<'a>, AllocError>
     Command::new(alloc, "check")
         .about("Reads a scenario and says what it holds")
         .after_help("Example:\n  dualnet check examples/two-routers.toml")
-        .arg(scenario_arg(alloc))
+        .arg(scenario_arg(alloc))?
+        .arg(explain_arg(alloc))
 }
 
 fn run_command<'a>(alloc: Global) -> Result<Command<'a>, AllocError>
@@ -52,11 +84,6 @@ fn run_command<'a>(alloc: Global) -> Result<Command<'a>, AllocError>
         "workers",
         "Forwarding workers, the threads that answer packets: 1 to 16",
     );
-    let journal = path_arg(
-        alloc,
-        "journal",
-        "File to write the journal of all steps to, once the run has ended with status 0",
-    );
     Command::new(alloc, "run")
         .about("Opens the network of a scenario and does the commands of its script")
         .after_help(
@@ -65,7 +92,8 @@ fn run_command<'a>(alloc: Global) -> Result<Command<'a>, AllocError>
         .arg(scenario_arg(alloc))?
         .arg(threads)?
         .arg(workers)?
-        .arg(journal)
+        .arg(journal_arg(alloc))?
+        .arg(explain_arg(alloc))
 }
 
 fn replay_command<'a>(alloc: Global) -> Result<Command<'a>, AllocError>
@@ -81,7 +109,28 @@ fn replay_command<'a>(alloc: Global) -> Result<Command<'a>, AllocError>
         .about("Does the steps of a journal over the network of a scenario")
         .after_help("Example:\n  dualnet replay examples/two-routers.toml two-routers.journal")
         .arg(scenario_arg(alloc))?
-        .arg(journal)
+        .arg(journal)?
+        .arg(explain_arg(alloc))
+}
+
+fn explain_command<'a>(alloc: Global) -> Result<Command<'a>, AllocError>
+    ensures { IfOk result (IsCommand explain_app) }
+{
+    Command::new(alloc, "explain")
+        .about("Tells of a number that the program prints: when it comes, and what to do")
+        .after_help("Example:\n  dualnet explain 45")
+        .arg(known_arg(alloc))
+}
+
+fn shell_command<'a>(alloc: Global) -> Result<Command<'a>, AllocError>
+    ensures { IfOk result (IsCommand shell_app) }
+{
+    Command::new(alloc, "shell")
+        .about("Opens the network of a scenario and does commands from the standard input")
+        .after_help("Example:\n  dualnet shell examples/ring.toml")
+        .arg(scenario_arg(alloc))?
+        .arg(journal_arg(alloc))?
+        .arg(explain_arg(alloc))
 }
 
 fn scenario_arg<'a>(alloc: Global) -> Arg<'a>
@@ -89,6 +138,28 @@ fn scenario_arg<'a>(alloc: Global) -> Arg<'a>
     ensures local { result.global ≡ false }
 {
     file_arg(alloc, "file", "FILE", "Scenario, a TOML file")
+}
+
+fn journal_arg<'a>(alloc: Global) -> Arg<'a>
+    ensures rule { rule_of result ≡ path_rule (codes "journal") }
+    ensures local { result.global ≡ false }
+{
+    path_arg(
+        alloc,
+        "journal",
+        "File to write the journal of all steps to, once all ended with status 0",
+    )
+}
+
+fn explain_arg<'a>(alloc: Global) -> Arg<'a>
+    ensures rule { rule_of result ≡ flag_rule (codes "explain") }
+    ensures local { result.global ≡ false }
+{
+    flag_arg(
+        alloc,
+        "explain",
+        "Tell more of a fault: where, what was expected, and what to do",
+    )
 }
 
 // A word that has to be there.
@@ -120,6 +191,36 @@ fn small_number<'a>() -> ValueParser<'a>
     ensures { result ≡ Signed (pos 1) (pos 16) }
 {
     value_parser!(u8).range(1..=16)
+}
+
+// A number that the program prints: 1 to 49.
+fn known_number<'a>() -> ValueParser<'a>
+    ensures { result ≡ Signed (pos 1) (pos 49) }
+{
+    value_parser!(u8).range(1..=49)
+}
+
+// A number that the program prints, which has to be there.
+fn known_arg<'a>(alloc: Global) -> Arg<'a>
+    ensures rule { rule_of result ≡ known_rule (codes "number") }
+    ensures local { result.global ≡ false }
+{
+    Arg::new(alloc, "number")
+        .value_name("NUMBER")
+        .help("Number, as 45 of `45 BadCommand`")
+        .required(true)
+        .value_parser(known_number())
+}
+
+// An option with no value, which may be left out.
+fn flag_arg<'a>(alloc: Global, id: &'a str, help: &'a str) -> Arg<'a>
+    ensures rule { rule_of result ≡ flag_rule id.entry.now }
+    ensures local { result.global ≡ false }
+{
+    Arg::new(alloc, id)
+        .long(id)
+        .help(help)
+        .action(ArgAction::SetTrue)
 }
 
 // An option with a path, which may be left out.

@@ -3,19 +3,22 @@
 ghost use Rattle.std.specs.Prelude.{◌≡◌, IfOk, IfErr, IfSome, IfNone, MatchResult, List, ℕ, [], ⊤, codes};
 ghost use Rattle.clap.specs.Words.{HasKind, Text, fault_of, first_of, kind_of, rows_of, found_of, subcommand_of, subcommand_rows_of};
 ghost use Rattle.words.specs.Commands.{program, kinds_of};
-ghost use Rattle.words.specs.Asked.{ChecksFile, HasNumber, IsAsked, IsCheck, IsFileLine, IsReplay, IsReplayLine, IsRun, ReplaysFiles, RunsFile, texts};
+ghost use Rattle.words.specs.Asked.{ChecksFile, HasNumber, IsAsked, IsCheck, IsExplain, IsFileLine, IsFlag, IsReplay, IsReplayLine, IsRun, IsShell, ReplaysFiles, RunsFile, texts};
 
 use crate::commands::program_command;
 use clap::error::ErrorKind;
 use clap::{ArgMatches, Error};
+use explanations::Kind;
 use std::alloc::Global;
 
 /// What the command line asks for.
 #[derive(Clone, Copy, Debug, PartialEq, Eq)]
 pub enum Words<'a> {
-    /// Read the scenario in the file and say what it holds.
+    /// Read the scenario in the file and say what it holds. Here and below, more is told of a fault
+    /// where `explain` is set.
     Check {
         file: &'a str,
+        explain: bool,
     },
     /// Run the script of the scenario in the file, by so many control threads and forwarding
     /// workers, 1 to 16 of each, and then write the journal to the path, where one is given.
@@ -24,11 +27,24 @@ pub enum Words<'a> {
         threads: u8,
         workers: u8,
         journal: Option<&'a str>,
+        explain: bool,
     },
     /// Do the steps of the journal over the network of the scenario in the file.
     Replay {
         file: &'a str,
         journal: &'a str,
+        explain: bool,
+    },
+    /// Tell of a number.
+    Explain {
+        kind: Kind,
+    },
+    /// Do commands from the standard input on the network of the scenario in the file, and then write
+    /// the journal to the path, where one is given.
+    Shell {
+        file: &'a str,
+        journal: Option<&'a str>,
+        explain: bool,
     },
 }
 
@@ -53,7 +69,7 @@ pub fn read_words<'a>(alloc: Global, words: &'a [&'a str]) -> Result<Words<'a>, 
     let matches = command.try_get_matches_from_mut(words)?;
     match asked(&matches) {
         Some(asked) => Ok(asked),
-        None => Err(command.error(ErrorKind::MissingRequiredArgument, "a word is missing")?),
+        None => Err(command.error(ErrorKind::InvalidValue, "no such number is printed")?),
     }
 }
 
@@ -68,6 +84,10 @@ fn asked<'a>(matches: &ArgMatches<'a>) -> Option<Words<'a>>
         run_words(inner)
     } else if let Some(inner) = matches.subcommand_matches("replay") {
         replay_words(inner)
+    } else if let Some(inner) = matches.subcommand_matches("explain") {
+        explain_words(inner)
+    } else if let Some(inner) = matches.subcommand_matches("shell") {
+        shell_words(inner)
     } else {
         None
     }
@@ -78,7 +98,8 @@ fn check_words<'a>(matches: &ArgMatches<'a>) -> Option<Words<'a>>
     ensures none { IfNone result ((w : Words) → IsCheck (rows_of (found_of matches.now)) w → ⊥) }
 {
     let file = matches.get_str("file")?;
-    Some(Words::Check { file })
+    let explain = flag(matches, "explain");
+    Some(Words::Check { file, explain })
 }
 
 fn run_words<'a>(matches: &ArgMatches<'a>) -> Option<Words<'a>>
@@ -86,14 +107,16 @@ fn run_words<'a>(matches: &ArgMatches<'a>) -> Option<Words<'a>>
     ensures none { IfNone result ((w : Words) → IsRun (rows_of (found_of matches.now)) w → ⊥) }
 {
     let file = matches.get_str("file")?;
-    let threads = number(matches, "threads")?;
-    let workers = number(matches, "workers")?;
+    let threads = number(matches, "threads", 16)?;
+    let workers = number(matches, "workers", 16)?;
     let journal = matches.get_str("journal");
+    let explain = flag(matches, "explain");
     Some(Words::Run {
         file,
         threads,
         workers,
         journal,
+        explain,
     })
 }
 
@@ -103,16 +126,51 @@ fn replay_words<'a>(matches: &ArgMatches<'a>) -> Option<Words<'a>>
 {
     let file = matches.get_str("file")?;
     let journal = matches.get_str("journal")?;
-    Some(Words::Replay { file, journal })
+    let explain = flag(matches, "explain");
+    Some(Words::Replay {
+        file,
+        journal,
+        explain,
+    })
 }
 
-// The number at the name, where it is 1 to 16.
-fn number(matches: &ArgMatches<'_>, id: &str) -> Option<u8>
-    ensures some { IfSome result (HasNumber (rows_of (found_of matches.now)) id.now) }
-    ensures none { IfNone result ((n : ℕ) → HasNumber (rows_of (found_of matches.now)) id.now n → ⊥) }
+fn explain_words<'a>(matches: &ArgMatches<'a>) -> Option<Words<'a>>
+    ensures some { IfSome result (IsExplain (rows_of (found_of matches.now))) }
+    ensures none { IfNone result ((w : Words) → IsExplain (rows_of (found_of matches.now)) w → ⊥) }
+{
+    let number = number(matches, "number", 49)?;
+    let kind = Kind::of(number)?;
+    Some(Words::Explain { kind })
+}
+
+fn shell_words<'a>(matches: &ArgMatches<'a>) -> Option<Words<'a>>
+    ensures some { IfSome result (IsShell (rows_of (found_of matches.now))) }
+    ensures none { IfNone result ((w : Words) → IsShell (rows_of (found_of matches.now)) w → ⊥) }
+{
+    let file = matches.get_str("file")?;
+    let journal = matches.get_str("journal");
+    let explain = flag(matches, "explain");
+    Some(Words::Shell {
+        file,
+        journal,
+        explain,
+    })
+}
+
+// Whether the option at the name is given.
+fn flag(matches: &ArgMatches<'_>, id: &str) -> bool
+    ensures { IsFlag (rows_of (found_of matches.now)) id.now result }
+{
+    matches.get_flag(id)
+}
+
+// The number at the name, where it is at least 1, and no more than `most`.
+fn number(matches: &ArgMatches<'_>, id: &str, most: u8) -> Option<u8>
+    ensures some { IfSome result (HasNumber (rows_of (found_of matches.now)) id.now most) }
+    ensures none { IfNone result ((n : ℕ) → HasNumber (rows_of (found_of matches.now)) id.now most n → ⊥) }
 {
     let number = matches.get_one::<u8>(id)?;
-    if number < 1 || number > 16 {
+    if number < 1 || number > most {
         return None;
     }
     Some(number)

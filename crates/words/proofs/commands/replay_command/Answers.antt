@@ -13,5 +13,6 @@ returns c =
       ap (λ f. f.has_globals) c.after_help.ensures ∙ ap (λ f. f.has_globals) c.about.ensures ∙ c.new.ensures.local,
     ) in
     let one = one_more c.after_help.result c.in_ok-arg.field-0 c.scenario_arg.result _ _ none c.in_ok-arg.ensures c.scenario_arg.ensures.rule c.scenario_arg.ensures.local in
-    IfOk-weaker c.arg-2.result _ _
-    (λ m added. one_more c.in_ok-arg.field-0 m c.file_arg-journal.result _ _ one added c.file_arg-journal.ensures.rule c.file_arg-journal.ensures.local) c.arg-2.ensures
+    let two = one_more c.in_ok-arg.field-0 c.in_ok-arg-2.field-0 c.file_arg-journal.result _ _ one c.in_ok-arg-2.ensures c.file_arg-journal.ensures.rule c.file_arg-journal.ensures.local in
+    IfOk-weaker c.arg-3.result _ _
+    (λ m added. one_more c.in_ok-arg-2.field-0 m c.explain_arg.result _ _ two added c.explain_arg.ensures.rule c.explain_arg.ensures.local) c.arg-3.ensures

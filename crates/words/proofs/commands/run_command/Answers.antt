@@ -15,5 +15,6 @@ returns c =
     let one = one_more c.after_help.result c.in_ok-arg.field-0 c.scenario_arg.result _ _ none c.in_ok-arg.ensures c.scenario_arg.ensures.rule c.scenario_arg.ensures.local in
     let two = one_more c.in_ok-arg.field-0 c.in_ok-arg-2.field-0 c.number_arg-threads.result _ _ one c.in_ok-arg-2.ensures c.number_arg-threads.ensures.rule c.number_arg-threads.ensures.local in
     let three = one_more c.in_ok-arg-2.field-0 c.in_ok-arg-3.field-0 c.number_arg-workers.result _ _ two c.in_ok-arg-3.ensures c.number_arg-workers.ensures.rule c.number_arg-workers.ensures.local in
-    IfOk-weaker c.arg-4.result _ _
-    (λ m added. one_more c.in_ok-arg-3.field-0 m c.path_arg-journal.result _ _ three added c.path_arg-journal.ensures.rule c.path_arg-journal.ensures.local) c.arg-4.ensures
+    let four = one_more c.in_ok-arg-3.field-0 c.in_ok-arg-4.field-0 c.journal_arg.result _ _ three c.in_ok-arg-4.ensures c.journal_arg.ensures.rule c.journal_arg.ensures.local in
+    IfOk-weaker c.arg-5.result _ _
+    (λ m added. one_more c.in_ok-arg-4.field-0 m c.explain_arg.result _ _ four added c.explain_arg.ensures.rule c.explain_arg.ensures.local) c.arg-5.ensures

@@ -9,4 +9,4 @@ returns-in_err-file-clause-none c =
     (none_given c.get_str.result (found_of c.args.matches.now) (codes "file") c.get_str.ensures c.in_err-file.was))
 
 pub returns-clause-some : goal.returns-clause-some
-returns-clause-some c = some_given c.get_str.result (found_of c.args.matches.now) (codes "file") c.in_ok-file.file c.get_str.ensures c.in_ok-file.was
+returns-clause-some c = (some_given c.get_str.result (found_of c.args.matches.now) (codes "file") c.in_ok-file.file c.get_str.ensures c.in_ok-file.was, c.flag-explain.ensures)

@@ -1,6 +1,6 @@
-use Rattle.std.proofs.Common.{◌∙◌, None, [], ◌∷◌, sym, ap}
+use Rattle.std.proofs.Common.{◌∙◌, None, [], ◌∷◌, false, sym, ap}
 use Rattle.clap.specs.Words.{App, HasKind, app_of, fault_of, is_simple, is_simple_and_free, kind_of, subcommand_rows_of}
-use Rattle.clap.specs.declared.error.kind.ErrorKind.TheVariants.{MissingRequiredArgument}
+use Rattle.clap.specs.declared.error.kind.ErrorKind.TheVariants.{InvalidValue}
 use Rattle.clap.proofs.FaultLemmas.{first_fails}
 use Rattle.clap.proofs.TakesLemmas.{passed_up}
 use Rattle.words.specs.Asked.{texts}
@@ -21,7 +21,7 @@ pub returns-in_err-matches-clause-kinds : goal.returns-in_err-matches-clause-kin
 returns-in_err-matches-clause-kinds c =
     let failed = kind_as (app_of c.in_ok-command.command) (texts c.args.words.now) c.in_err-matches.field-0.0 c.in_ok-command.ensures c.in_err-matches.ensures.kinds in
     passed_up c.from_residual-in_err-matches.result c.in_err-matches.field-0.0 (HasKind (kinds_of (texts c.args.words.now))) c.from_residual-in_err-matches.ensures.1
-    (first_fails (fault_of program (texts c.args.words.now)) (MissingRequiredArgument ∷ []) (kind_of c.in_err-matches.field-0.0) failed)
+    (first_fails (fault_of program (texts c.args.words.now)) (InvalidValue ∷ []) (kind_of c.in_err-matches.field-0.0) failed)
 
 pub returns-in_err-matches-clause-every : goal.returns-in_err-matches-clause-every
 returns-in_err-matches-clause-every c asked none is =
@@ -73,16 +73,16 @@ pub returns-clause-check : goal.returns-clause-check
 returns-clause-check c file is =
     let met = seen_as (subcommand_rows_of c.in_ok-matches.matches) (app_of c.in_ok-command.command) (texts c.args.words.now) _ c.in_ok-command.ensures is.spelled
     (c.in_ok-matches.ensures.ok.2 (ap is_simple c.in_ok-command.ensures ∙ is_plain)).1 in
-    absurd (c.in-None.ensures.none (Check (given file)) (check_asks (subcommand_rows_of c.in_ok-matches.matches) file (met ∙ check_met is.name file is.no_option)))
+    absurd (c.in-None.ensures.none (Check (given file) false) (check_asks (subcommand_rows_of c.in_ok-matches.matches) file (met ∙ check_met is.name file is.no_option)))
 
 pub returns-clause-run : goal.returns-clause-run
 returns-clause-run c file is =
     let met = seen_as (subcommand_rows_of c.in_ok-matches.matches) (app_of c.in_ok-command.command) (texts c.args.words.now) _ c.in_ok-command.ensures is.spelled
     (c.in_ok-matches.ensures.ok.2 (ap is_simple c.in_ok-command.ensures ∙ is_plain)).1 in
-    absurd (c.in-None.ensures.none (Run (given file) 1 1 None) (run_asks (subcommand_rows_of c.in_ok-matches.matches) file (met ∙ run_met is.name file is.no_option)))
+    absurd (c.in-None.ensures.none (Run (given file) 1 1 None false) (run_asks (subcommand_rows_of c.in_ok-matches.matches) file (met ∙ run_met is.name file is.no_option)))
 
 pub returns-clause-replay : goal.returns-clause-replay
 returns-clause-replay c file journal is =
     let met = seen_as (subcommand_rows_of c.in_ok-matches.matches) (app_of c.in_ok-command.command) (texts c.args.words.now) _ c.in_ok-command.ensures is.spelled
     (c.in_ok-matches.ensures.ok.2 (ap is_simple c.in_ok-command.ensures ∙ is_plain)).1 in
-    absurd (c.in-None.ensures.none (Replay (given file) (given journal)) (replay_asks (subcommand_rows_of c.in_ok-matches.matches) file journal (met ∙ replay_met is.name file journal is.no_option_file is.no_option_journal)))
+    absurd (c.in-None.ensures.none (Replay (given file) (given journal) false) (replay_asks (subcommand_rows_of c.in_ok-matches.matches) file journal (met ∙ replay_met is.name file journal is.no_option_file is.no_option_journal)))

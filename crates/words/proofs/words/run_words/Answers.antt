@@ -22,4 +22,5 @@ returns-clause-some c = (
   c.in_ok-threads.ensures.some,
   c.in_ok-workers.ensures.some,
   text_given c.get_str-journal.result (found_of c.args.matches.now) (codes "journal") c.get_str-journal.ensures,
+  c.flag-explain.ensures,
 )

@@ -1,0 +1,45 @@
+//! Whether more is to be told of a fault.
+
+ghost use Rattle.std.specs.Prelude.{◌≡◌};
+ghost use Rattle.advice.specs.Asked.{explained_file};
+
+use words::Words;
+
+/// The scenario in which the fault is, where more is to be told of it.
+pub fn explained<'a>(words: &Words<'a>) -> Option<&'a str>
+    ensures { result ≡ explained_file words.now }
+{
+    let (file, explain) = match *words {
+        Words::Check { file, explain } => (file, explain),
+        Words::Run {
+            file,
+            threads: _,
+            workers: _,
+            journal: _,
+            explain,
+        } => (file, explain),
+        Words::Replay {
+            file,
+            journal: _,
+            explain,
+        } => (file, explain),
+        Words::Explain { kind: _ } => return None,
+        Words::Shell {
+            file,
+            journal: _,
+            explain,
+        } => (file, explain),
+    };
+    if explain { Some(file) } else { None }
+}
+
+/// Whether a scenario is to be checked alone.
+pub fn is_check(words: &Words<'_>) -> bool {
+    match words {
+        Words::Check {
+            file: _,
+            explain: _,
+        } => true,
+        _ => false,
+    }
+}

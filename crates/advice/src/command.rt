@@ -1,0 +1,139 @@
+//! Why a line is no command.
+
+use decimal_text::read_number;
+use network_model::LinkSpec;
+use script::Names;
+use std::alloc::Global;
+use std::io;
+use std::io::Write;
+use strsim::levenshtein;
+
+// The forms of all commands but `try STEP`.
+const FORMS: [&str; 12] = [
+    "up A B",
+    "down A B",
+    "cost A B C",
+    "deliver A B",
+    "publish A",
+    "release A",
+    "settle",
+    "state A PREFIX",
+    "table A",
+    "lookup A ADDR",
+    "trace A ADDR",
+    "report",
+];
+
+// The forms of those that workers answer.
+const JOBS: [&str; 2] = ["inject A ADDR", "drain"];
+
+/// Tells why a line of the script is no command on this network.
+pub fn tell_command<W: Write>(
+    alloc: Global,
+    names: &Names,
+    links: &[LinkSpec],
+    line: &str,
+    out: &mut W,
+) -> io::Result<()> {
+    if has_empty_word(line) {
+        return writeln!(
+            out,
+            "  words stand between single spaces, and none at an end"
+        );
+    }
+    let line = line.strip_prefix("try ").unwrap_or(line);
+    let verb = line.split(' ').next().unwrap_or("");
+    let Some(form) = form_of(verb) else {
+        return tell_unknown(alloc, verb, out);
+    };
+    if form.split(' ').count() != line.split(' ').count() {
+        return writeln!(out, "  wrong number of words: it is `{form}`");
+    }
+    tell_words(names, links, form, line, out)
+}
+
+/// Whether two spaces stand in a row, or one at an end.
+pub fn has_empty_word(line: &str) -> bool {
+    line.split(' ').any(|word| word.is_empty())
+}
+
+fn form_of(verb: &str) -> Option<&'static str> {
+    for form in FORMS {
+        if form.split(' ').next() == Some(verb) {
+            return Some(form);
+        }
+    }
+    for form in JOBS {
+        if form.split(' ').next() == Some(verb) {
+            return Some(form);
+        }
+    }
+    None
+}
+
+// Tells of a word that is no command, and of the nearest one that is, if it is near.
+fn tell_unknown<W: Write>(alloc: Global, verb: &str, out: &mut W) -> io::Result<()> {
+    let mut nearest = ("", 3);
+    for form in FORMS {
+        nearest = nearer(alloc, verb, form, nearest)?;
+    }
+    for form in JOBS {
+        nearest = nearer(alloc, verb, form, nearest)?;
+    }
+    match nearest.0 {
+        "" => writeln!(out, "  unknown command `{verb}`"),
+        word => writeln!(out, "  unknown command `{verb}`: is it `{word}`?"),
+    }
+}
+
+// The first word of the form, where it is nearer to the verb than the word before.
+fn nearer<'a>(
+    alloc: Global,
+    verb: &str,
+    form: &'a str,
+    before: (&'a str, usize),
+) -> io::Result<(&'a str, usize)> {
+    let word = form.split(' ').next().unwrap_or("");
+    let distance = levenshtein(alloc, verb, word)?;
+    Ok(if distance < before.1 {
+        (word, distance)
+    } else {
+        before
+    })
+}
+
+// Tells of the first word that does not fit its form.
+fn tell_words<W: Write>(
+    names: &Names,
+    links: &[LinkSpec],
+    form: &str,
+    line: &str,
+    out: &mut W,
+) -> io::Result<()> {
+    let mut first = None;
+    for (wanted, word) in form.split(' ').zip(line.split(' ')) {
+        match wanted {
+            "A" | "B" => {
+                let Some(router) = names.number(word) else {
+                    return writeln!(out, "  unknown router `{word}`");
+                };
+                if let Some(other) = first
+                    && !links.iter().any(|link| joins(link, other, router))
+                {
+                    return writeln!(out, "  no link joins these two routers");
+                }
+                first = Some(router);
+            }
+            "C" if read_number(word).is_none() => {
+                return writeln!(out, "  `{word}` is no whole number");
+            }
+            "PREFIX" => return writeln!(out, "  the scenario has no prefix `{word}`"),
+            _ => {}
+        }
+    }
+    writeln!(out, "  it is `{form}`")
+}
+
+fn joins(link: &LinkSpec, a: u16, b: u16) -> bool {
+    (link.a == a && link.b == b) || (link.a == b && link.b == a)
+}

@@ -1,0 +1,14 @@
+//! What is told more of a fault, where it is asked for: where it stands, what was expected, and what to
+//! do.
+#![tactic(auto)]
+
+mod asked;
+mod command;
+mod document;
+mod line;
+mod others;
+mod position;
+mod told;
+
+pub use asked::{explained, is_check};
+pub use told::{Faulty, advise};

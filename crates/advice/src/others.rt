@@ -1,0 +1,138 @@
+//! The other faults of a scenario's lines, as far as each can be told by itself.
+
+use crate::told::{Faulty, tell_line};
+use explanations::Kind;
+use network_model::Step;
+use scenario::Lines;
+use script::{Fault, Key, Located, Place, Script, read_command, read_script};
+use std::alloc::Global;
+use std::io;
+use std::io::Write;
+
+// How many are told beside the first.
+const MOST_OTHERS: u8 = 19;
+
+/// Tells of faults beside the first: of other names where a name is at fault, of other links and
+/// prefixes where one of these is, else of other commands.
+pub fn tell_others<W: Write>(
+    alloc: Global,
+    faulty: Faulty<'_>,
+    lines: &Lines,
+    first: Place,
+    out: &mut W,
+) -> io::Result<()> {
+    match first.key {
+        Key::Routers => {
+            tell_list(alloc, faulty, lines, Key::Routers, first, MOST_OTHERS, out)?;
+        }
+        Key::Links | Key::Prefixes => {
+            let left = tell_list(alloc, faulty, lines, Key::Links, first, MOST_OTHERS, out)?;
+            tell_list(alloc, faulty, lines, Key::Prefixes, first, left, out)?;
+        }
+        Key::Script => tell_commands(alloc, faulty, lines, first, out)?,
+    }
+    Ok(())
+}
+
+// Tells of the faults of a list's lines, and answers how many more may be told.
+fn tell_list<W: Write>(
+    alloc: Global,
+    faulty: Faulty<'_>,
+    lines: &Lines,
+    key: Key,
+    first: Place,
+    most: u8,
+    out: &mut W,
+) -> io::Result<u8> {
+    let list = match key {
+        Key::Routers => &lines.routers,
+        Key::Links => &lines.links,
+        _ => &lines.prefixes,
+    };
+    let mut left = most;
+    for (position, one) in list.chunks(1).enumerate() {
+        let place = Place { key, position };
+        if left > 0
+            && place != first
+            && let Some(fault) = fault_alone(alloc, lines, key, one)
+        {
+            tell_other(alloc, faulty, lines, fault, place, out)?;
+            left = left.saturating_sub(1);
+        }
+    }
+    Ok(left)
+}
+
+// The fault of a list of one line.
+fn fault_alone(alloc: Global, lines: &Lines, key: Key, one: &[String]) -> Option<Fault> {
+    let none: &[String] = &[];
+    let read = match key {
+        Key::Routers => read_script(alloc, one, none, none, none),
+        Key::Links => read_script(alloc, &lines.routers, one, none, none),
+        _ => read_script(alloc, &lines.routers, none, one, none),
+    };
+    match read {
+        Ok(reading) => {
+            let at = reading.fault?;
+            Some(at.fault)
+        }
+        Err(_) => None,
+    }
+}
+
+// Tells of the faults of other commands.
+fn tell_commands<W: Write>(
+    alloc: Global,
+    faulty: Faulty<'_>,
+    lines: &Lines,
+    first: Place,
+    out: &mut W,
+) -> io::Result<()> {
+    let none: &[String] = &[];
+    let Ok(reading) = read_script(alloc, &lines.routers, &lines.links, &lines.prefixes, none) else {
+        return Ok(());
+    };
+    let key = Key::Script;
+    let mut left = MOST_OTHERS;
+    for (position, line) in lines.script.iter().enumerate() {
+        let place = Place { key, position };
+        if left > 0
+            && place != first
+            && let Some(fault) = command_fault(&reading.script, line.as_str())
+        {
+            tell_other(alloc, faulty, lines, fault, place, out)?;
+            left = left.saturating_sub(1);
+        }
+    }
+    Ok(())
+}
+
+fn command_fault(script: &Script, line: &str) -> Option<Fault> {
+    // Names the type of a command's step, without which the checker has no plan for it.
+    let _step: Option<Step> = None;
+    match read_command(&script.names, &script.links, &script.owners, line) {
+        Ok(_) => None,
+        Err(fault) => Some(fault),
+    }
+}
+
+fn tell_other<W: Write>(
+    alloc: Global,
+    faulty: Faulty<'_>,
+    lines: &Lines,
+    fault: Fault,
+    place: Place,
+    out: &mut W,
+) -> io::Result<()> {
+    let located = Located {
+        fault,
+        place: Some(place),
+    };
+    writeln!(out, "dualnet: {located}")?;
+    let kind = match fault {
+        Fault::BadLine => Kind::BadLine,
+        Fault::BadCommand => Kind::BadCommand,
+        _ => Kind::BadName,
+    };
+    tell_line(alloc, faulty, lines, kind, place, out)
+}
