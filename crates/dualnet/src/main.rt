@@ -8,6 +8,7 @@ use advice::{Faulty, advise, explained, is_check};
 use network_model::NoMemory;
 use play::{Cause, Fault, Host, Source, play, refuse};
 use std::io::{BufWriter, IsTerminal, LineWriter, Read, Write};
+use std::os::unix::fs::MetadataExt;
 use std::process::ExitCode;
 use std::{env, fs, io};
 use words::{Error, ErrorKind, Words, exit_status, not_utf8, read_words};
@@ -64,7 +65,7 @@ fn tell(rt: &HostRuntime, error: &Error) -> u8 {
 
 // Does what the words ask for, over the files that they name.
 fn done<H: Host, W: Write>(rt: &HostRuntime, wait: &H, words: &Words<'_>, out: &mut W) -> u8 {
-    if is_overwritten(words) {
+    if is_overwritten(rt, words) {
         return refuse(Fault::from(Cause::Unwritable), &mut rt.stderr());
     }
     let mut scenario = Kept {
@@ -178,9 +179,20 @@ fn kept_path<'a>(words: &Words<'a>) -> Option<&'a str>
 }
 
 // Whether the journal is to be written over the scenario.
-fn is_overwritten(words: &Words<'_>) -> bool {
+fn is_overwritten(rt: &HostRuntime, words: &Words<'_>) -> bool {
     match (scenario_path(words), kept_path(words)) {
-        (Some(scenario), Some(journal)) => scenario == journal,
+        (Some(scenario), Some(journal)) => is_one_file(rt, scenario, journal),
+        _ => false,
+    }
+}
+
+// Whether two paths lead to one file, by whatever spelling or link.
+fn is_one_file(rt: &HostRuntime, one: &str, other: &str) -> bool {
+    if one == other {
+        return true;
+    }
+    match (fs::metadata(rt, one), fs::metadata(rt, other)) {
+        (Ok(one), Ok(other)) => one.dev() == other.dev() && one.ino() == other.ino(),
         _ => false,
     }
 }
