@@ -1,38 +1,36 @@
 //! Sets of ports.
 
 ghost use Rattle.std.specs.Prelude.{◌≡◌, ℕ, ◌<◌, ◌==◌, ◌&&◌, ◌||◌, ◌↔◌, IsTrue, not, false};
-ghost use Rattle.std.specs.List.{list_any};
 ghost use Rattle.std.specs.FinSet as set;
-ghost use Rattle.diffusing_replies.specs.Ports as ports;
 
 use std::marker::Model;
 
 /// A set of ports below 32.
 #[derive(Clone, Copy, Debug, PartialEq, Eq)]
 pub struct PortSet {
-    // By port, whether it is in the set.
-    members: [bool; 32],
+    // The bit of a port says whether it is in the set.
+    mask: u32,
 }
 
 impl Model for PortSet {
-    ghost use Rattle.std.specs.Prelude.{◌≡◌, length};
+    ghost use Rattle.std.specs.Prelude.{◌<◌, ◌^◌};
     ghost use Rattle.std.specs.Ordering.{nat_cmp};
     ghost use Rattle.std.specs.FinSet as set;
     ghost use Rattle.std.specs.Coded.{coded_ℕ};
     ghost use Rattle.std.proofs.Common.{ap};
-    ghost use Rattle.diffusing_replies.specs.Ports.{marked_ports, marks_of, marks_of-marked_ports};
+    ghost use Rattle.diffusing_replies.specs.Ports.{ports_of, mask_of, mask_of-ports_of};
 
     ghost Value = { set.FinSet nat_cmp };
 
     ghost coded = { set.code coded_ℕ };
 
-    ghost view = { λ s. marked_ports s.members };
+    ghost view = { λ s. ports_of s.mask };
 
-    ghost invariant = { λ s. length s.members ≡ 32 };
+    ghost invariant = { λ s. s.mask < 2 ^ 32 };
 
-    ghost inverse = { λ s. record { members = marks_of s } };
+    ghost inverse = { λ s. record { mask = mask_of s } };
 
-    ghost inverse_ok = { λ s whole. ap (λ m. record { members = m }) (marks_of-marked_ports s.members whole) };
+    ghost inverse_ok = { λ s below. ap (λ m. record { mask = m }) (mask_of-ports_of s.mask below) };
 }
 
 impl PortSet {
@@ -40,9 +38,7 @@ impl PortSet {
     pub fn empty() -> PortSet
         ensures { (q : ℕ) → set.contains result q ≡ false }
     {
-        PortSet {
-            members: [false; 32],
-        }
+        PortSet { mask: 0 }
     }
 
     /// These ports, and this one.
@@ -50,9 +46,9 @@ impl PortSet {
         requires { port < 32 }
         ensures { (q : ℕ) → set.contains result q ≡ (q == port || set.contains self q) }
     {
-        let mut members = self.members;
-        members[port as usize] = true;
-        PortSet { members }
+        PortSet {
+            mask: self.mask | 1 << port,
+        }
     }
 
     // These ports, but not this one.
@@ -60,9 +56,9 @@ impl PortSet {
         requires { port < 32 }
         ensures { (q : ℕ) → set.contains result q ≡ (set.contains self q && not (q == port)) }
     {
-        let mut members = self.members;
-        members[port as usize] = false;
-        PortSet { members }
+        PortSet {
+            mask: self.mask & !(1 << port),
+        }
     }
 
     /// Whether the port is in the set.
@@ -70,30 +66,13 @@ impl PortSet {
         ensures value { result ≡ set.contains self port }
         ensures below { IsTrue result → port < 32 }
     {
-        is_marked(&self.members, port)
+        port < 32 && self.mask >> port & 1 == 1
     }
 
     // Whether no port is in the set.
     pub(crate) fn is_empty(self) -> bool
         ensures { IsTrue result ↔ ((q : ℕ) → set.contains self q ≡ false) }
     {
-        !is_any_marked(&self.members)
+        self.mask == 0
     }
-}
-
-// Whether the port's place is marked; past the last there is none.
-fn is_marked(members: &[bool], port: u8) -> bool
-    ensures { result ≡ ports.is_marked members.now port }
-{
-    match members.get(port as usize) {
-        Some(member) => *member,
-        None => false,
-    }
-}
-
-// Whether any place is.
-fn is_any_marked(members: &[bool]) -> bool
-    ensures { result ≡ list_any (λ b. b) members.now }
-{
-    members.iter().any(|member| *member)
 }

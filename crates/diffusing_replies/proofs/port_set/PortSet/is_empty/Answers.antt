@@ -1,18 +1,20 @@
-use Rattle.std.proofs.Common.{◌≡◌, ℕ, Bool, true, false, not, IsTrue, refl, ap, sym, ◌∙◌}
+use Rattle.std.proofs.Common.{◌≡◌, ℕ, Bool, true, false, ◌==◌, IsTrue, refl, ap, sym, ◌∙◌}
+use Rattle.std.proofs.lemmas.Bool.{eqb-true}
+use Rattle.std.proofs.lemmas.Nat.Bits.{bit_at-zero}
 use Rattle.std.specs.FinSet as set
-use Rattle.diffusing_replies.specs.Ports.{Ports, is_marked, contains-marked_ports}
-use Rattle.diffusing_replies.proofs.Marks.{none_marked, no_mark}
+use Rattle.diffusing_replies.specs.Ports.{Ports, is_set, contains-ports_of}
+use Rattle.diffusing_replies.proofs.Masks.{none_set}
 use Rattle.diffusing_replies.proofs.port_set.PortSet.is_empty.Goals as goal
 
-not_true : (b : Bool) → IsTrue (not b) → b ≡ false
-not_true true h = cc
-not_true false h = refl
+as_true : (b : Bool) → IsTrue b → b ≡ true
+as_true true h = refl
+as_true false h = cc
+
+no_bits : (mask q : ℕ) → IsTrue (mask == 0) → is_set mask q ≡ false
+no_bits mask q none = rw (eqb-true mask 0 (as_true (mask == 0) none), bit_at-zero q) refl
 
 pub returns : goal.returns
 returns c =
-    let members = c.self.inside.members in
-    let same : (q : ℕ) → is_marked members q ≡ set.contains c.args.self q = λ q. sym (contains-marked_ports members c.self.invariant q) ∙ ap (λ (s : Ports). set.contains s q) c.self.view_is in
-    let any = c.is_any_marked.ensures in (
-      λ none q. sym (same q) ∙ none_marked members (sym any ∙ not_true c.is_any_marked.result none) q,
-      λ none. rw (any ∙ no_mark members (λ q. same q ∙ none q)) refl,
-    )
+    let mask = c.self.inside.mask in
+    let same : (q : ℕ) → is_set mask q ≡ set.contains c.args.self q = λ q. sym (contains-ports_of mask c.self.invariant q) ∙ ap (λ (s : Ports). set.contains s q) c.self.view_is in
+    (λ none q. sym (same q) ∙ no_bits mask q none, λ none. rw (none_set mask c.self.invariant (λ q. same q ∙ none q)) refl)

@@ -1,10 +1,10 @@
-use Rattle.std.proofs.Common.{◌≡◌, Bool, List, length, ap, sym, ◌∙◌, arith}
+use Rattle.std.proofs.Common.{◌≡◌, ℕ, ◌<◌, ◌^◌, ap, sym, ◌∙◌, arith}
 use Rattle.std.proofs.lemmas.Grind.{common_steps}
-use Rattle.diffusing_replies.specs.Ports.{Ports, marked_ports, marks_of, marks_of-marked_ports}
+use Rattle.diffusing_replies.specs.Ports.{Ports, ports_of, mask_of, mask_of-ports_of}
 use Rattle.diffusing_replies.proofs.port_set.PortSetPartialEq.eq.Goals as goal
 
-of_view : (members : List Bool) (s : Ports) → length members ≡ 32 → marked_ports members ≡ s → marks_of s ≡ members
-of_view members s whole is = ap marks_of (sym is) ∙ marks_of-marked_ports members whole
+of_view : (mask : ℕ) (s : Ports) → mask < 2 ^ 32 → ports_of mask ≡ s → mask_of s ≡ mask
+of_view mask s whole is = ap mask_of (sym is) ∙ mask_of-ports_of mask whole
 
 pub returns : goal.returns
 returns c = grind (arith, common_steps, of_view)
