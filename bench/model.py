@@ -26,6 +26,12 @@ def step_of(network: Network, words: list[str]) -> Step:
             return network.link_down, network.port(a, b).link
         case ["cost", a, b, cost]:
             return network.set_cost, network.port(a, b), int(cost)
+        case ["attach", a, prefix, cost]:
+            return network.attach, network.routers[a], Prefix.read(prefix), int(cost)
+        case ["detach", a, prefix]:
+            return network.detach, network.routers[a], Prefix.read(prefix)
+        case ["deliver", a, b] if a == b:
+            return network.take_notice, network.routers[a]
         case ["deliver", a, b]:
             return network.deliver, network.routers[a], network.numbers[a, b]
         case ["publish", a]:
@@ -71,7 +77,7 @@ def report(network: Network) -> Iterator[str]:
         yield f"link {a.router.name} {b.router.name} {state} {costs} queued {queued}"
     for router in network.routers.values():
         held = f"held {len(router.gate)} ripe {router.ripe}"
-        yield f"{router.name} gen {router.generation} {held}"
+        yield f"{router.name} gen {router.generation} {held} attach {len(router.notices)}"
         for prefix in sorted(router.machines):
             yield machine_line(router, prefix)
 

@@ -6,6 +6,7 @@ from typing import Protocol
 INF = 4294967295
 
 UP, DOWN, COST = "up", "down", "cost"
+ATTACHED, DETACHED = "attached", "detached"
 UPDATE, QUERY, REPLY = "update", "query", "reply"
 
 # A port, the kind of the message that is sent there, and its distance.
@@ -20,14 +21,17 @@ class Neighbour(Protocol):
 
 
 class Machine:
-    """One router's DUAL machine for one prefix. All machines of a router look at its ports."""
+    """One router's DUAL machine for one prefix. All machines of a router look at its ports.
 
-    def __init__(self, ports: Sequence[Neighbour], local: bool) -> None:
+    The router's own attachment is one way more, numbered by how many ports there are: it reports 0,
+    and is neither sent to nor awaited."""
+
+    def __init__(self, ports: Sequence[Neighbour], attachment: int | None) -> None:
         self.ports = ports
-        self.local = local
+        self.attachment = attachment
         self.values = [INF] * len(ports)
-        self.rd = self.fd = 0 if local else INF
-        self.successor: int | None = None
+        self.rd = self.fd = INF if attachment is None else attachment
+        self.successor = None if attachment is None else len(ports)
         # The computation under way: none where the origin state is none. Its distance is `rd`.
         self.origin: int | None = None
         self.awaited: set[int] = set()
@@ -39,9 +43,18 @@ class Machine:
             self.values[port] = value
         if kind == UP:
             return [(port, UPDATE, self.rd)] if self.rd < INF else []
-        if self.local:
-            return [(port, REPLY, 0)] if kind == QUERY else []
-        lost = kind == DOWN and port == self.successor
+        return self._decide(kind, port, kind == DOWN and port == self.successor)
+
+    def notice(self, attachment: int | None) -> list[Send]:
+        """Meets a notice of the attachment: its cost, or that it is gone."""
+        self.attachment = attachment
+        lost = attachment is None and self.is_local()
+        return self._decide(DETACHED if attachment is None else ATTACHED, len(self.ports), lost)
+
+    def is_local(self) -> bool:
+        return self.successor == len(self.ports)
+
+    def _decide(self, kind: str, port: int, lost: bool) -> list[Send]:
         if lost:
             self.successor = None
         if self.origin is None:
@@ -104,19 +117,28 @@ class Machine:
     def _choice(self) -> tuple[bool, int, int | None]:
         """Whether the condition holds, the least sum, and the successor to choose."""
         sums = [(self._sum(q), q) for q, port in enumerate(self.ports) if port.up]
+        if self.attachment is not None:
+            sums.append((self.attachment, len(self.ports)))
         least = min(sums)[0] if sums else INF
         if least == INF:
             return self.fd == INF, INF, None
-        feasible = [q for total, q in sums if total == least and self.values[q] < self.fd]
+        feasible = [q for total, q in sums if total == least and self._reported(q) < self.fd]
         if not feasible:
             return False, least, None
         return True, least, self.successor if self.successor in feasible else feasible[0]
+
+    def _reported(self, way: int) -> int:
+        return self.values[way] if way < len(self.ports) else 0
 
     def _sum(self, port: int) -> int:
         return min(self.values[port] + self.ports[port].cost, INF)
 
     def _by_successor(self) -> int:
-        return INF if self.successor is None else self._sum(self.successor)
+        if self.successor is None:
+            return INF
+        if self.is_local():
+            return INF if self.attachment is None else self.attachment
+        return self._sum(self.successor)
 
     def __str__(self) -> str:
         mode = "passive" if self.origin is None else f"active {self.origin}"

@@ -5,7 +5,7 @@ from collections.abc import Callable
 from itertools import cycle
 from typing import Any, NamedTuple
 
-from model_machine import COST, DOWN, INF, UP, Machine
+from model_machine import COST, DOWN, INF, UP, Machine, Send
 
 MAX_SESSION = 65535
 MAX_STEPS = 1_000_000
@@ -50,6 +50,13 @@ class Message(NamedTuple):
     kind: str
     prefix: Prefix
     value: int
+
+
+class AttachmentNotice(NamedTuple):
+    """What a router is told of its own attachment: its cost, or none where it is gone."""
+
+    prefix: Prefix
+    cost: int | None
 
 
 class Held(NamedTuple):
@@ -117,13 +124,18 @@ class Router:
         self.control: dict[Prefix, Entry] = {}
         self.published: dict[Prefix, Entry] = {}
         self.changed: set[Prefix] = set()
+        # The costs at which it is attached, and the notices of them that it has yet to take.
+        self.attachments: dict[Prefix, int] = {}
+        self.notices: deque[AttachmentNotice] = deque()
         self.gate: deque[Held] = deque()
         self.ripe = 0
         self.generation = 0
         self.is_idle = False
 
-    def own(self, prefix: Prefix) -> None:
-        self.machines[prefix] = Machine(self.ports, True)
+    def open_attached(self, prefix: Prefix, cost: int) -> None:
+        """Is attached to a prefix from the start. Its ports have to be there."""
+        self.attachments[prefix] = cost
+        self.machines[prefix] = Machine(self.ports, cost)
         self.control[prefix] = self.published[prefix] = LOCAL
 
     def is_due(self) -> bool:
@@ -132,9 +144,8 @@ class Router:
     def accept(self, number: int, item: Notice | Message) -> None:
         """Takes an item from a port."""
         if isinstance(item, Message):
-            if item.prefix not in self.machines:
-                self.machines[item.prefix] = Machine(self.ports, False)
-            self._meet(item.prefix, item.kind, number, item.value)
+            machine = self._machine(item.prefix)
+            self._send(item.prefix, machine.meet(item.kind, number, item.value))
             return
         port = self.ports[number]
         if item.kind == DOWN:
@@ -142,14 +153,24 @@ class Router:
         else:
             port.up, port.session, port.cost = True, item.session, item.cost
         for prefix in sorted(self.machines):
-            self._meet(prefix, item.kind, number, INF)
+            self._send(prefix, self.machines[prefix].meet(item.kind, number, INF))
 
-    def _meet(self, prefix: Prefix, kind: str, number: int, value: int) -> None:
-        machine = self.machines[prefix]
-        for to, what, distance in machine.meet(kind, number, value):
+    def accept_notice(self) -> None:
+        """Takes the oldest notice of its attachments."""
+        prefix, cost = self.notices.popleft()
+        self._send(prefix, self._machine(prefix).notice(cost))
+
+    def _machine(self, prefix: Prefix) -> Machine:
+        if prefix not in self.machines:
+            self.machines[prefix] = Machine(self.ports, None)
+        return self.machines[prefix]
+
+    def _send(self, prefix: Prefix, sends: list[Send]) -> None:
+        """Holds what a machine sends, and chooses its row anew."""
+        for to, what, distance in sends:
             port = self.ports[to]
             self.gate.append(Held(port, port.session, Message(what, prefix, distance)))
-        entry = self._entry(machine)
+        entry = self._entry(self.machines[prefix])
         self.control[prefix] = entry
         if entry == self.published.get(prefix):
             self.changed.discard(prefix)
@@ -157,10 +178,10 @@ class Router:
             self.changed.add(prefix)
 
     def _entry(self, machine: Machine) -> Entry:
-        if machine.local:
-            return LOCAL
         if machine.successor is None:
             return UNREACHABLE
+        if machine.is_local():
+            return LOCAL
         port = self.ports[machine.successor]
         return Via(port, port.session)
 
@@ -198,8 +219,8 @@ class Network:
             self.numbers[a, b], self.numbers[b, a] = (len(end.ports) for end in ends)
             self.links.append(Link(*ends, int(from_a), int(from_b)))
         for line in prefixes:
-            prefix, owner = line.split()
-            self.routers[owner].own(Prefix.read(prefix))
+            prefix, router, *cost = line.split()
+            self.routers[router].open_attached(Prefix.read(prefix), int(cost[0]) if cost else 1)
 
     def port(self, name: str, peer: str) -> Port:
         return self.routers[name].ports[self.numbers[name, peer]]
@@ -227,6 +248,25 @@ class Network:
             raise Refused("14 IsDown")
         port.link_cost = cost
         port.put(Notice(COST, port.link.session, cost))
+
+    def attach(self, router: Router, prefix: Prefix, cost: int) -> None:
+        router.attachments[prefix] = cost
+        self._tell(router, AttachmentNotice(prefix, cost))
+
+    def detach(self, router: Router, prefix: Prefix) -> None:
+        if prefix not in router.attachments:
+            raise Refused("29 NotAttached")
+        del router.attachments[prefix]
+        self._tell(router, AttachmentNotice(prefix, None))
+
+    def _tell(self, router: Router, notice: AttachmentNotice) -> None:
+        router.notices.append(notice)
+        router.is_idle = False
+
+    def take_notice(self, router: Router) -> None:
+        if not router.notices:
+            raise Refused("16 NothingToDeliver")
+        router.accept_notice()
 
     def deliver(self, router: Router, number: int) -> None:
         inbox = router.ports[number].inbox
@@ -263,6 +303,8 @@ class Network:
         for number, port in enumerate(router.ports):
             if port.inbox:
                 return self.deliver, router, number
+        if router.notices:
+            return self.take_notice, router
         return None
 
     def settle(self) -> None:

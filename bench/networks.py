@@ -17,8 +17,8 @@ SIDE = 16
 ROUTERS = SIDE * SIDE
 # A run has a million steps at most, which bounds the prefixes: with all links up at once the grid with
 # 64 prefixes would take more than four million, so `grid` settles after each link.
-OWNERS = 64
-FLAPPING_OWNERS = 8
+PREFIXES = 64
+FLAPPING_PREFIXES = 8
 FLAPS = 1000
 
 
@@ -47,7 +47,7 @@ def ups(links: list[str]) -> list[str]:
     return ["up {} {}".format(*link.split()[:2]) for link in links]
 
 
-def square(owners: int) -> Scenario:
+def square(count: int) -> Scenario:
     """A square of routers with costs of 1 to 9, not the same both ways, and prefixes spread over it."""
     random = Random(SEED)
     links = []
@@ -55,14 +55,14 @@ def square(owners: int) -> Scenario:
         right, below = here + 1, here + SIDE
         for there in [right] * (right % SIDE != 0) + [below] * (below < ROUTERS):
             links.append(f"r{here} r{there} {random.randint(1, 9)} {random.randint(1, 9)}")
-    prefixes = [f"10.0.{k}.0/24 r{k * ROUTERS // owners}" for k in range(owners)]
+    prefixes = [f"10.0.{k}.0/24 r{k * ROUTERS // count}" for k in range(count)]
     routers = [f"r{k}" for k in range(ROUTERS)]
     return Scenario(routers, links, prefixes, [])
 
 
 def grid() -> Scenario:
     """The square, which settles after each link."""
-    scenario = square(OWNERS)
+    scenario = square(PREFIXES)
     return scenario.with_commands(*[it for up in ups(scenario.links) for it in (up, "settle")])
 
 
@@ -78,7 +78,7 @@ def flap() -> Scenario:
     """The square, and a link in its middle that goes down and comes up a thousand times."""
     here = ROUTERS // 2 + SIDE // 2
     flaps = [f"down r{here} r{here + 1}", "settle", f"up r{here} r{here + 1}", "settle"] * FLAPS
-    scenario = square(FLAPPING_OWNERS)
+    scenario = square(FLAPPING_PREFIXES)
     return scenario.with_commands(*ups(scenario.links), "settle", *flaps)
 
 

@@ -45,6 +45,16 @@ def random_prefixes(random: Random, routers: list[str]) -> list[IPv4Network]:
     return prefixes
 
 
+def random_attachments(random: Random, routers: list[str], prefixes: list[IPv4Network]) -> list[str]:
+    """Each prefix at one to three routers; a line without a cost says 1."""
+    lines = []
+    for prefix in prefixes:
+        for router in random.sample(routers, random.choice([1, 1, 2, 3])):
+            lines.append(f"{prefix} {router}{random.choice(['', ' 1', ' 2', ' 7'])}")
+    random.shuffle(lines)
+    return lines
+
+
 class Script:
     """Random commands. The model does each of them, so that most of the steps tried are lawful."""
 
@@ -81,16 +91,23 @@ class Script:
             steps += [f"publish {name}"] * router.is_due()
             for port in router.ports:
                 steps += [f"deliver {name} {port.other.router.name}"] * (len(port.inbox) > 0)
+            steps += [f"deliver {name} {name}"] * (len(router.notices) > 0)
         return steps
 
     def step(self) -> str:
         lawful = self.lawful_steps()
         if lawful and self.random.random() < 0.75:
             return self.random.choice(lawful)
-        kind = self.random.choice(["up", "down", "cost", "deliver", "publish", "release"])
+        kinds = ["up", "down", "cost", "attach", "detach", "deliver", "publish", "release"]
+        kind = self.random.choice(kinds)
         match kind:
             case "publish" | "release":
                 return f"{kind} {self.router()}"
+            case "attach":
+                cost = self.random.choice([1, 2, 5, 20, 65535])
+                return f"attach {self.router()} {self.random.choice(self.prefixes)} {cost}"
+            case "detach":
+                return f"detach {self.router()} {self.random.choice(self.prefixes)}"
             case "cost":
                 return f"cost {self.ends()} {self.random.choice([1, 2, 5, 20, 65535])}"
             case _:
@@ -118,8 +135,8 @@ def random_scenario(seed: int) -> Scenario:
     routers = [f"r{k}" for k in range(random.randint(3, 8))]
     links = random_links(random, routers)
     prefixes = random_prefixes(random, routers)
-    owned = [f"{prefix} {random.choice(routers)}" for prefix in prefixes]
-    script = Script(random, Network(routers, links, owned), prefixes)
+    attachments = random_attachments(random, routers, prefixes)
+    script = Script(random, Network(routers, links, attachments), prefixes)
     for up in ups(links):
         if random.random() < 0.8:
             script.add(up)
@@ -127,7 +144,7 @@ def random_scenario(seed: int) -> Scenario:
         script.add("settle")
     while len(script.commands) < COMMANDS - 2:
         script.add(script.command())
-    return Scenario(routers, links, owned, [*script.commands, "settle", "report"])
+    return Scenario(routers, links, attachments, [*script.commands, "settle", "report"])
 
 
 def main(words: list[str]) -> None:

@@ -9,13 +9,15 @@ use std::io::Write;
 use strsim::levenshtein;
 
 // The forms of all commands but `try STEP`.
-const FORMS: [&str; 12] = [
+const FORMS: [&str; 14] = [
     "up A B",
     "down A B",
     "cost A B C",
     "deliver A B",
     "publish A",
     "release A",
+    "attach A PREFIX COST",
+    "detach A PREFIX",
     "settle",
     "state A PREFIX",
     "table A",
@@ -111,6 +113,7 @@ fn tell_words<W: Write>(
     out: &mut W,
 ) -> io::Result<()> {
     let mut first = None;
+    let mut prefix = None;
     for (wanted, word) in form.split(' ').zip(line.split(' ')) {
         match wanted {
             "A" | "B" => {
@@ -124,14 +127,17 @@ fn tell_words<W: Write>(
                 }
                 first = Some(router);
             }
-            "C" if read_number(word).is_none() => {
+            "C" | "COST" if read_number(word).is_none() => {
                 return writeln!(out, "  `{word}` is no whole number");
             }
-            "PREFIX" => return writeln!(out, "  the scenario has no prefix `{word}`"),
+            "PREFIX" => prefix = Some(word),
             _ => {}
         }
     }
-    writeln!(out, "  it is `{form}`")
+    match prefix {
+        Some(prefix) => writeln!(out, "  the scenario has no prefix `{prefix}`"),
+        None => writeln!(out, "  it is `{form}`"),
+    }
 }
 
 fn joins(link: &LinkSpec, a: u16, b: u16) -> bool {

@@ -5,10 +5,12 @@
 mod asked;
 mod command;
 mod document;
+mod journal;
 mod line;
 mod others;
 mod position;
 mod told;
 
 pub use asked::{explained, is_check};
+pub use journal::advise_journal;
 pub use told::{Faulty, advise};

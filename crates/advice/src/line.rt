@@ -37,7 +37,7 @@ pub fn tell_link<W: Write>(names: &Names, line: &str, out: &mut W) -> io::Result
     )
 }
 
-/// Tells why a line is no prefix with its owner.
+/// Tells why a line attaches no router to a prefix.
 pub fn tell_prefix<W: Write>(names: &Names, line: &str, out: &mut W) -> io::Result<()> {
     if has_empty_word(line) {
         return writeln!(
@@ -45,14 +45,20 @@ pub fn tell_prefix<W: Write>(names: &Names, line: &str, out: &mut W) -> io::Resu
             "  words stand between single spaces, and none at an end"
         );
     }
-    let Some((_, owner)) = line.split_once(' ') else {
-        return writeln!(out, "  wrong number of words: it is `PREFIX OWNER`");
+    let mut words = line.split(' ').skip(1);
+    let (Some(router), cost, None) = (words.next(), words.next(), words.next()) else {
+        return writeln!(out, "  wrong number of words: it is `PREFIX ROUTER COST`");
     };
-    if owner.contains(' ') {
-        return writeln!(out, "  wrong number of words: it is `PREFIX OWNER`");
+    if names.number(router).is_none() {
+        return writeln!(out, "  unknown router `{router}`");
     }
-    if names.number(owner).is_none() {
-        return writeln!(out, "  unknown router `{owner}`");
+    if let Some(cost) = cost
+        && read_number(cost).is_none()
+    {
+        return writeln!(out, "  `{cost}` is no whole number");
     }
-    writeln!(out, "  the prefix was given before, or is one too many")
+    writeln!(
+        out,
+        "  the prefix was given before at this router, or is one too many"
+    )
 }

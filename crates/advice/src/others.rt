@@ -110,7 +110,7 @@ fn tell_commands<W: Write>(
 fn command_fault(script: &Script, line: &str) -> Option<Fault> {
     // Names the type of a command's step, without which the checker has no plan for it.
     let _step: Option<Step> = None;
-    match read_command(&script.names, &script.links, &script.owners, line) {
+    match read_command(&script.names, &script.links, &script.attachments, line) {
         Ok(_) => None,
         Err(fault) => Some(fault),
     }

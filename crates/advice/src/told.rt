@@ -34,9 +34,7 @@ pub fn advise<W: Write>(alloc: Global, faulty: Faulty<'_>, out: &mut W) -> io::R
         Kind::BadKey => tell_keys(alloc, faulty.text, out)?,
         _ => tell_place(alloc, faulty, out)?,
     }
-    let page = faulty.kind.page();
-    writeln!(out, "  when: {}", page.cause())?;
-    writeln!(out, "  do:   {}", page.remedy())?;
+    write!(out, "{}", faulty.kind.page().brief())?;
     match (faulty.place, read_scenario(alloc, faulty.text)) {
         (Some(place), Ok(lines)) if faulty.is_check => {
             tell_others(alloc, faulty, &lines, place, out)

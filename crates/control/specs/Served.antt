@@ -18,9 +18,9 @@ use Rattle.fabric.specs.Images.{images_in_force}
 -- a fabric of no routers
 abbrev pub no_fabric : Fabric
 no_fabric = record {
-  network = record { routers = 0; links = []; owners = [] };
+  network = record { routers = 0; links = []; attachments = [] };
   journal = [];
-  world = record { places = []; links = []; routers = [] };
+  world = record { places = []; links = []; prefixes = []; attachments = []; routers = [] };
   images = [];
 }
 

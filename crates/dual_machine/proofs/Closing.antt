@@ -1,5 +1,5 @@
 -- The parts of a machine fit together still once a record has changed.
-use Rattle.std.specs.Prelude.{◌≡◌, ℕ, ◌≤◌, Bool, true, false, not, ◌↔◌, IsTrue, List, ◌++◌, length, take, Option, Some, None, All, IfSome}
+use Rattle.std.specs.Prelude.{◌≡◌, ℕ, ◌≤◌, Bool, false, not, ◌↔◌, IsTrue, List, ◌++◌, length, take, Option, Some, None, All, IfSome}
 use Rattle.std.proofs.Common.{arith, subst, sym, ◌∙◌}
 use Rattle.std.specs.List.{list_any}
 use Rattle.std.specs.FinSet.{contains}
@@ -7,14 +7,14 @@ use Rattle.metric.specs.Distance.{IsCost}
 use Rattle.diffusing_replies.specs.Ports.{Ports}
 use Rattle.network_model.specs.declared.machine.Event.{Event}
 use Rattle.network_model.specs.declared.machine.Neighbour.{Neighbour}
-use Rattle.network_model.specs.Machine.{records_after}
+use Rattle.network_model.specs.Machine.{records_after, attachment_after}
 use Rattle.dual_machine.specs.declared.mode.Active.{Active}
 use Rattle.dual_machine.specs.Awaited.{awaited_of, AwaitsBelow}
 use Rattle.dual_machine.specs.Event.{BringsCost}
 use Rattle.dual_machine.specs.Parts.{IsSound, IsUnderWay, computation_of}
 use Rattle.dual_machine.proofs.Awaiting.{asking-done}
 use Rattle.dual_machine.proofs.Changes.{refilled}
-use Rattle.dual_machine.proofs.Costs.{HasCost-records_after}
+use Rattle.dual_machine.proofs.Costs.{HasCost-records_after, HasCost-attachment_after}
 use Rattle.dual_machine.proofs.Room.{IsAsking}
 
 -- ---- the records as a change through a slice leaves them: ports is that slice before, new after, and before is the whole list
@@ -24,26 +24,23 @@ costs_after e before ports new rest n whole same is brought costs =
     let HaveCosts = λ (ns : List Neighbour). All (λ n. IsCost n.cost) ns in
     subst HaveCosts (sym (refilled new rest n whole ∙ is)) (HasCost-records_after e ports brought (subst HaveCosts (sym same) costs))
 
-pub IsSound_after : (e : Event) (local : Bool) (before ports new rest : List Neighbour) (s : Option ℕ) (a : Option Active) (n : ℕ) → n ≡ length new → n ≤ 32 → length before ≡ n → ports ≡ before → new ≡ records_after e ports → BringsCost e → All (λ n. IsCost n.cost) before → IfSome a (IsUnderWay local (length before) s) → IsSound local (take n (new ++ rest)) s a
-IsSound_after e local before ports new rest s a n whole few as_many same is brought costs under_way =
+pub IsSound_after : (e : Event) (attachment later : Option ℕ) (before ports new rest : List Neighbour) (s : Option ℕ) (a : Option Active) (n : ℕ) → n ≡ length new → n ≤ 32 → length before ≡ n → ports ≡ before → new ≡ records_after e ports → later ≡ attachment_after e attachment → BringsCost e
+    → All (λ n. IsCost n.cost) before → IfSome attachment (λ cost. IsCost cost) → IfSome a (IsUnderWay (length before) s) → IsSound later (take n (new ++ rest)) s a
+IsSound_after e attachment later before ports new rest s a n whole few as_many same is later_is brought costs attached under_way =
     let kept = refilled new rest n whole in record {
       few = rw kept (omega arith);
       costs = costs_after e before ports new rest n whole same is brought costs;
+      attached = subst (λ (o : Option ℕ). IfSome o (λ cost. IsCost cost)) (sym later_is) (HasCost-attachment_after e attachment brought attached);
       under_way = rw kept (rw (as_many ∙ whole) at under_way);
     }
 
--- the owner has no computation, so its successor does not matter
-pub IsUnderWay-owner : (local : Bool) (n : ℕ) (s t : Option ℕ) (a : Option Active) → local ≡ true → IfSome a (IsUnderWay local n s) → IfSome a (IsUnderWay local n t)
-IsUnderWay-owner local n s t None owner h = tt
-IsUnderWay-owner local n s t (Some a) owner h = let remote : local ≡ false = h.remote in cc
-
-pub IsAsking-computation_of : (local : Bool) (n : ℕ) (s : Option ℕ) (a : Option Active) → IfSome a (IsUnderWay local n s) → IsAsking (computation_of n a)
-IsAsking-computation_of local n s None h = tt
-IsAsking-computation_of local n s (Some a) h = h.asking
+pub IsAsking-computation_of : (n : ℕ) (s : Option ℕ) (a : Option Active) → IfSome a (IsUnderWay n s) → IsAsking (computation_of n a)
+IsAsking-computation_of n s None h = tt
+IsAsking-computation_of n s (Some a) h = h.asking
 
 -- someone is awaited after an event exactly where not all replies are there
-pub asking_after : (local : Bool) (n : ℕ) (s : Option ℕ) (active : Option Active) (a : Active) (new : Ports) (done : Bool) → active ≡ Some a → IfSome active (IsUnderWay local n s)
+pub asking_after : (n : ℕ) (s : Option ℕ) (active : Option Active) (a : Active) (new : Ports) (done : Bool) → active ≡ Some a → IfSome active (IsUnderWay n s)
     → ((m : ℕ) → AwaitsBelow m a.replies → AwaitsBelow m new) → (IsTrue done ↔ ((q : ℕ) → contains new q ≡ false)) → list_any (λ b. b) (awaited_of n new) ≡ not done
-asking_after local n s active a new done is under_way no_more ended =
-    let before = subst (λ (o : Option Active). IfSome o (IsUnderWay local n s)) is under_way in
+asking_after n s active a new done is under_way no_more ended =
+    let before = subst (λ (o : Option Active). IfSome o (IsUnderWay n s)) is under_way in
     asking-done done new n (no_more n before.known) ended

@@ -1,15 +1,15 @@
 -- Every cost is at least 1: so a near successor makes the condition hold.
-use Rattle.std.specs.Prelude.{◌≡◌, ◌≢◌, ℕ, zero, suc, ◌<◌, ◌≤◌, min, Bool, true, false, ◌&&◌, ◌||◌, ◌==◌, nat_lt, if◌then◌else◌, List, [], ◌∷◌, Option, Some, None, All}
+use Rattle.std.specs.Prelude.{◌≡◌, ◌≢◌, ℕ, zero, suc, ◌<◌, ◌≤◌, min, Bool, true, false, ◌&&◌, ◌||◌, ◌==◌, nat_lt, if◌then◌else◌, List, [], ◌∷◌, ◌++◌, Option, Some, None, All, IfSome}
 use Rattle.std.specs.List.{list_any}
 use Rattle.std.proofs.Common.{refl, arith}
 use Rattle.std.proofs.lemmas.Bool.{or_left, or_right}
 use Rattle.std.proofs.lemmas.Bool.Decides.{nat_tests}
-use Rattle.std.proofs.lemmas.List.Elements.{All-cons, All-head, All-tail}
+use Rattle.std.proofs.lemmas.List.Elements.{All-cons, All-head, All-tail, All-append}
 use Rattle.metric.specs.Distance.{infinity, plus, IsCost}
 use Rattle.network_model.specs.declared.machine.Event.{Event}
-use Rattle.network_model.specs.declared.machine.Event.TheVariants.{Message, Up, Down, Cost}
+use Rattle.network_model.specs.declared.machine.Event.TheVariants.{Message, Up, Down, Cost, Attached, Detached}
 use Rattle.network_model.specs.declared.machine.Neighbour.{Neighbour}
-use Rattle.network_model.specs.Machine.{changed_at, records_after, distance, least, is_feasible, condition_holds, via_successor}
+use Rattle.network_model.specs.Machine.{changed_at, records_after, attachment_after, at_home, home_ways, distance, least, is_feasible, condition_holds, via_successor}
 use Rattle.dual_machine.specs.Event.{BringsCost}
 use Rattle.network_model.proofs.MachineLaws.{least_bounded}
 
@@ -28,6 +28,21 @@ HasCost-records_after (Message q kind value) ns brought costs = HasCost-changed_
 HasCost-records_after (Up q cost) ns brought costs = HasCost-changed_at _ (λ n h. brought) q ns costs
 HasCost-records_after (Down q) ns brought costs = HasCost-changed_at _ (λ n h. h) q ns costs
 HasCost-records_after (Cost q cost) ns brought costs = HasCost-changed_at _ (λ n h. brought) q ns costs
+HasCost-records_after (Attached cost) ns brought costs = costs
+HasCost-records_after Detached ns brought costs = costs
+
+pub HasCost-attachment_after : (e : Event) (a : Option ℕ) → BringsCost e → IfSome a (λ cost. IsCost cost) → IfSome (attachment_after e a) (λ cost. IsCost cost)
+HasCost-attachment_after (Message q kind value) a brought attached = attached
+HasCost-attachment_after (Up q cost) a brought attached = attached
+HasCost-attachment_after (Down q) a brought attached = attached
+HasCost-attachment_after (Cost q cost) a brought attached = attached
+HasCost-attachment_after (Attached cost) a brought attached = brought
+HasCost-attachment_after Detached a brought attached = tt
+
+-- and so has each way
+pub HasCost-ways : (ns : List Neighbour) (a : Option ℕ) → All (λ n. IsCost n.cost) ns → IfSome a (λ cost. IsCost cost) → All (λ n. IsCost n.cost) (ns ++ home_ways a)
+HasCost-ways ns None costs attached = All-append HasCost ns [] costs (λ k d h. absurd (omega arith))
+HasCost-ways ns (Some cost) costs attached = All-append HasCost ns (home_ways (Some cost)) costs (All-cons HasCost (at_home cost) [] attached (λ k d h. absurd (omega arith)))
 
 -- ---- the condition
 

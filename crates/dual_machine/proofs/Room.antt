@@ -7,10 +7,10 @@ use Rattle.metric.specs.Distance.{infinity}
 use Rattle.metric.specs.declared.kind.Kind.{Kind}
 use Rattle.metric.specs.declared.kind.Kind.TheVariants.{Update, Query, Reply}
 use Rattle.network_model.specs.declared.machine.Event.{Event}
-use Rattle.network_model.specs.declared.machine.Event.TheVariants.{Message, Up, Down, Cost}
+use Rattle.network_model.specs.declared.machine.Event.TheVariants.{Message, Up, Down, Cost, Attached, Detached}
 use Rattle.network_model.specs.declared.machine.Neighbour.{Neighbour}
 use Rattle.network_model.specs.declared.machine.Outgoing.{Outgoing}
-use Rattle.network_model.specs.Machine.{Machine, Computation, Reaction, changed_at, records_after, one_to, all_from, news_to_others, is_port, passive_result, new_computation, started_computation, completion, via_successor, condition_holds, least, asker, awaited_after, debt_after, active_reaction, passive_reaction, decision, with_records, greeting, reaction}
+use Rattle.network_model.specs.Machine.{Machine, Computation, Reaction, ways, changed_at, records_after, one_to, all_from, news_to_others, is_port, passive_result, new_computation, started_computation, completion, via_successor, condition_holds, least, asker, awaited_after, debt_after, active_reaction, passive_reaction, decision, with_records, greeting, reaction}
 use Rattle.dual_machine.specs.Outbox.{most_sent}
 
 -- how many are up, by recursion from the right
@@ -44,25 +44,25 @@ length-news_to_others but old new ns = length-if (old == new) [] (all_from 0 but
 
 length-passive_result : (m : Machine) (fd : ℕ) (owed : Option ℕ) → length (passive_result m fd owed).sends ≤ up_count m.ports + 1
 length-passive_result m fd owed =
-    omega (arith, length-append (one_to owed Reply (least m.ports)) (news_to_others owed m.rd (least m.ports) m.ports), length-one_to owed Reply (least m.ports), length-news_to_others owed m.rd (least m.ports) m.ports)
+    omega (arith, length-append (one_to owed Reply (least (ways m))) (news_to_others owed m.rd (least (ways m)) m.ports), length-one_to owed Reply (least (ways m)), length-news_to_others owed m.rd (least (ways m)) m.ports)
 
 length-new_computation : (m : Machine) (fd : ℕ) (debt : Option ℕ) → length (new_computation m fd debt).sends ≤ up_count m.ports
 length-new_computation m fd debt =
-    sends-if (list_any (λ n. n.up) m.ports) _ _ (up_count m.ports) (length-all_from 0 None Query (via_successor m.ports m.successor) m.ports) (omega arith)
+    sends-if (list_any (λ n. n.up) m.ports) _ _ (up_count m.ports) (length-all_from 0 None Query (via_successor (ways m) m.successor) m.ports) (omega arith)
 
 length-started_computation : (m : Machine) (asked : Option ℕ) → length (started_computation m asked).sends ≤ up_count m.ports + 1
 length-started_computation m None = omega (arith, length-new_computation m m.fd None)
 length-started_computation m (Some q) =
     sends-if (is_port q m.successor) _ _ (up_count m.ports + 1) (omega (arith, length-new_computation m m.fd (Some q)))
-    (omega (arith, length-append (one_to (Some q) Reply (via_successor m.ports m.successor)) (new_computation m m.fd None).sends, length-new_computation m m.fd None))
+    (omega (arith, length-append (one_to (Some q) Reply (via_successor (ways m) m.successor)) (new_computation m m.fd None).sends, length-new_computation m m.fd None))
 
 length-completion : (m : Machine) (debt : Option ℕ) → length (completion m debt).sends ≤ up_count m.ports + 1
 length-completion m debt =
-    sends-if (condition_holds m.rd m.ports) _ _ (up_count m.ports + 1) (length-passive_result m m.rd debt) (omega (arith, length-new_computation m m.rd debt))
+    sends-if (condition_holds m.rd (ways m)) _ _ (up_count m.ports + 1) (length-passive_result m m.rd debt) (omega (arith, length-new_computation m m.rd debt))
 
 length-passive_reaction : (m : Machine) (e : Event) → length (passive_reaction m e).sends ≤ up_count m.ports + 1
 length-passive_reaction m e =
-    sends-if (condition_holds m.fd m.ports) _ _ (up_count m.ports + 1) (length-passive_result m m.fd (asker e)) (length-started_computation m (asker e))
+    sends-if (condition_holds m.fd (ways m)) _ _ (up_count m.ports + 1) (length-passive_result m m.fd (asker e)) (length-started_computation m (asker e))
 
 length-active_reaction : (m : Machine) (e : Event) (c : Computation) → list_any (λ b. b) c.awaited ≡ true → length (active_reaction m e c).sends ≤ up_count m.ports + 1
 length-active_reaction m (Message q Query value) c asking =
@@ -77,21 +77,21 @@ length-active_reaction m (Down q) c asking =
     sends-if (list_any (λ b. b) (awaited_after (Down q) c.awaited)) _ _ (up_count m.ports + 1) (omega arith) (length-completion m (debt_after m.successor (Down q) c.debt))
 length-active_reaction m (Cost q cost) c asking =
     sends-if (list_any (λ b. b) (awaited_after (Cost q cost) c.awaited)) _ _ (up_count m.ports + 1) (omega arith) (length-completion m c.debt)
+length-active_reaction m (Attached cost) c asking =
+    sends-if (list_any (λ b. b) c.awaited) _ _ (up_count m.ports + 1) (omega arith) (length-completion m c.debt)
+length-active_reaction m Detached c asking =
+    sends-if (list_any (λ b. b) c.awaited) _ _ (up_count m.ports + 1) (omega arith) (length-completion m c.debt)
 
 -- a computation under way awaits someone
 abbrev pub IsAsking : Option Computation → Type 0
 IsAsking o = IfSome o (λ c. list_any (λ b. b) c.awaited ≡ true)
 
 length-decision : (m : Machine) (e : Event) → IsAsking m.computation → length (decision m e).sends ≤ up_count m.ports + 1
-length-decision m e asking = by_owner m.local refl
+length-decision m e asking = by_mode m.computation refl asking
   where
-    by_mode : (o : Option Computation) → m.local ≡ false → m.computation ≡ o → IsAsking o → length (decision m e).sends ≤ up_count m.ports + 1
-    by_mode None remote mode asks = rw (remote, mode) (length-passive_reaction (record m { local = false; computation = None }) e)
-    by_mode (Some c) remote mode asks = rw (remote, mode) (length-active_reaction (record m { local = false; computation = Some c }) e c asks)
-
-    by_owner : (b : Bool) → m.local ≡ b → length (decision m e).sends ≤ up_count m.ports + 1
-    by_owner true owner = rw owner (omega (arith, length-one_to (asker e) Reply 0))
-    by_owner false owner = by_mode m.computation owner refl asking
+    by_mode : (o : Option Computation) → m.computation ≡ o → IsAsking o → length (decision m e).sends ≤ up_count m.ports + 1
+    by_mode None mode asks = rw mode (length-passive_reaction (record m { computation = None }) e)
+    by_mode (Some c) mode asks = rw mode (length-active_reaction (record m { computation = Some c }) e c asks)
 
 up_count-changed_at : (f : Neighbour → Neighbour) → ((n : Neighbour) → (f n).up && not n.up ≡ false) → (k : ℕ) (ns : List Neighbour) → up_count (changed_at k f ns) ≤ up_count ns
 up_count-changed_at f less k [] = omega arith
@@ -127,6 +127,8 @@ length-reaction m (Down q) asking =
     length-decision_after m (Down q) (up_count-changed_at (λ n. record { up = false; cost = n.cost; reported = n.reported }) (λ n. refl) q m.ports) asking
 length-reaction m (Cost q cost) asking =
     length-decision_after m (Cost q cost) (up_count-changed_at (λ n. record { up = n.up; cost = cost; reported = n.reported }) (λ n. same_up n.up) q m.ports) asking
+length-reaction m (Attached cost) asking = length-decision_after m (Attached cost) (omega arith) asking
+length-reaction m Detached asking = length-decision_after m Detached (omega arith) asking
 
 -- an event other than Up is decided
 pub reaction-decision : (m : Machine) (e : Event) → ((q cost : ℕ) → e ≡ Up q cost → ⊥) → reaction m e ≡ decision (with_records m e) e
@@ -134,3 +136,5 @@ reaction-decision m (Message q kind value) other = refl
 reaction-decision m (Up q cost) other = absurd (other q cost refl)
 reaction-decision m (Down q) other = refl
 reaction-decision m (Cost q cost) other = refl
+reaction-decision m (Attached cost) other = refl
+reaction-decision m Detached other = refl

@@ -1,6 +1,7 @@
 -- The parts of a machine, and what is true of them in every machine.
-use Rattle.std.specs.Prelude.{◌≡◌, ℕ, ◌≤◌, Bool, true, false, List, length, Option, Some, None, is_some, All, IfSome}
+use Rattle.std.specs.Prelude.{◌≡◌, ℕ, ◌≤◌, Bool, true, false, nat_lt, List, length, Option, Some, None, All, IfSome}
 use Rattle.std.specs.List.{list_any}
+use Rattle.std.specs.Option.{option_map_or}
 use Rattle.metric.specs.Distance.{IsCost}
 use Rattle.network_model.specs.declared.machine.Neighbour.{Neighbour}
 use Rattle.network_model.specs.Machine.{Computation}
@@ -9,25 +10,29 @@ use Rattle.diffusing_replies.specs.declared.origin.Origin.TheVariants.{OwnDistur
 use Rattle.dual_machine.specs.Awaited.{awaited_of, AwaitsBelow}
 use Rattle.dual_machine.specs.declared.mode.Active.{Active}
 
--- a debt is there exactly where the origin state says so, and then it is to the successor
-abbrev pub IsDebtOf : Origin → Option ℕ → Option ℕ → Type 0
-IsDebtOf OwnDisturbed successor debt = debt ≡ None
-IsDebtOf Own successor debt = debt ≡ None
-IsDebtOf OwingDisturbed successor debt = (debt ≡ successor) × (is_some successor ≡ true)
-IsDebtOf Owing successor debt = (debt ≡ successor) × (is_some successor ≡ true)
+-- whether there is a successor and it is one of so many ports
+abbrev pub is_port_below : ℕ → Option ℕ → Bool
+is_port_below count successor = option_map_or (λ q. nat_lt q count) successor false
 
--- a computation under way is not the owner's, awaits some of its ports, and owes what its origin state says
-pub record IsUnderWay (local : Bool) (count : ℕ) (successor : Option ℕ) (a : Active) : Type 0 where
-  pub remote : local ≡ false
+-- a debt is there exactly where the origin state says so, and then it is to the successor, which is a port
+abbrev pub IsDebtOf : ℕ → Origin → Option ℕ → Option ℕ → Type 0
+IsDebtOf count OwnDisturbed successor debt = debt ≡ None
+IsDebtOf count Own successor debt = debt ≡ None
+IsDebtOf count OwingDisturbed successor debt = (debt ≡ successor) × (is_port_below count successor ≡ true)
+IsDebtOf count Owing successor debt = (debt ≡ successor) × (is_port_below count successor ≡ true)
+
+-- a computation under way awaits some of its ports, and owes what its origin state says
+pub record IsUnderWay (count : ℕ) (successor : Option ℕ) (a : Active) : Type 0 where
   pub asking : list_any (λ b. b) (awaited_of count a.replies) ≡ true
   pub known : AwaitsBelow count a.replies
-  pub debt : IsDebtOf a.origin successor a.debt
+  pub debt : IsDebtOf count a.origin successor a.debt
 
 -- the parts of a machine fit together
-pub record IsSound (local : Bool) (ports : List Neighbour) (successor : Option ℕ) (active : Option Active) : Type 0 where
+pub record IsSound (attachment : Option ℕ) (ports : List Neighbour) (successor : Option ℕ) (active : Option Active) : Type 0 where
   pub few : length ports ≤ 32
   pub costs : All (λ n. IsCost n.cost) ports
-  pub under_way : IfSome active (IsUnderWay local (length ports) successor)
+  pub attached : IfSome attachment (λ cost. IsCost cost)
+  pub under_way : IfSome active (IsUnderWay (length ports) successor)
 
 -- the computation over so many ports, if one is under way
 abbrev pub computation_of : ℕ → Option Active → Option Computation

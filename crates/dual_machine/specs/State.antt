@@ -1,15 +1,15 @@
 -- What callers see of a machine, and what an event does to its origin state.
-use Rattle.std.specs.Prelude.{◌≡◌, ℕ, Bool, true, false, nat_lt, if◌then◌else◌, List, map, Option, Some, None, slice_get, is_some, unwrap_or}
+use Rattle.std.specs.Prelude.{◌≡◌, ℕ, Bool, false, nat_lt, if◌then◌else◌, List, map, Option, Some, None, slice_get, is_some, unwrap_or}
 use Rattle.std.specs.List.{list_any}
 use Rattle.std.specs.Option.{option_map}
 use Rattle.std.specs.FinSet.{contains}
 use Rattle.metric.specs.Distance.{infinity}
 use Rattle.metric.specs.declared.kind.Kind.TheVariants.{Query}
 use Rattle.network_model.specs.declared.machine.Event.{Event}
-use Rattle.network_model.specs.declared.machine.Event.TheVariants.{Message, Up, Down, Cost}
+use Rattle.network_model.specs.declared.machine.Event.TheVariants.{Message, Up, Down, Cost, Attached, Detached}
 use Rattle.network_model.specs.declared.machine.Neighbour.{Neighbour}
 use Rattle.network_model.specs.declared.machine.PortInfo.{PortInfo}
-use Rattle.network_model.specs.Machine.{Machine, Computation, opening_machine, ways, is_port, asker, via_successor, condition_holds, with_records, awaited_after}
+use Rattle.network_model.specs.Machine.{Machine, Computation, opening_machine, ways, degree, is_port, asker, via_successor, condition_holds, with_records, awaited_after}
 use Rattle.diffusing_replies.specs.declared.origin.Origin.{Origin}
 use Rattle.diffusing_replies.specs.declared.origin.Origin.TheVariants.{Own, Owing}
 use Rattle.dual_machine.specs.declared.mode.Mode.{Mode}
@@ -25,16 +25,17 @@ pub record State : Type 0 where
 abbrev pub opening_neighbours : List PortInfo → List Neighbour
 opening_neighbours ports = map (λ p. record { up = p.up; cost = p.cost; reported = infinity }) ports
 
--- a machine that has heard nothing over these ports, passive
-abbrev pub opening_state : Bool → List PortInfo → State
-opening_state local ports = record { machine = opening_machine local (opening_neighbours ports); origin = None }
+-- a machine that has heard nothing over these ports, passive, with this attachment
+abbrev pub opening_state : Option ℕ → List PortInfo → State
+opening_state attachment ports = record { machine = opening_machine attachment (opening_neighbours ports); origin = None }
 
 -- ---- the origin state after an event
 
--- whether the event takes the successor's link
-abbrev pub is_loss_of : Option ℕ → Event → Bool
-is_loss_of successor (Down q) = is_port q successor
-is_loss_of successor _ = false
+-- whether the event takes the successor: its link, or the attachment, whose number is the degree
+abbrev pub is_loss_of : ℕ → Option ℕ → Event → Bool
+is_loss_of degree successor (Down q) = is_port q successor
+is_loss_of degree successor Detached = is_port degree successor
+is_loss_of degree successor _ = false
 
 -- whether the event is a query from the successor
 abbrev pub is_query_from : Option ℕ → Event → Bool
@@ -45,11 +46,11 @@ is_query_from successor _ = false
 abbrev pub has_risen : Machine → Bool
 has_risen m = nat_lt m.rd (via_successor (ways m) m.successor)
 
--- the origin state of a computation that goes on: by the successor before the event, and whether the distance has risen. A loss counts
+-- the origin state of a computation that goes on: by the degree, the successor before the event, and whether the distance has risen. A loss counts
 -- before a query, and a query before the distance
-abbrev pub moved : Option ℕ → Event → Bool → Origin → Origin
-moved successor e risen o =
-    if is_loss_of successor e then lost o
+abbrev pub moved : ℕ → Option ℕ → Event → Bool → Origin → Origin
+moved degree successor e risen o =
+    if is_loss_of degree successor e then lost o
     else if is_query_from successor e then queried o
     else if risen then rose o
     else o
@@ -75,17 +76,13 @@ passive_origin m e = if condition_holds m.fd (ways m) then None else started_ori
 abbrev pub active_origin : Machine → Event → Computation → Origin → Option Origin
 active_origin m e c o = if list_any (λ b. b) (awaited_after e c.awaited) then Some o else completion_origin m o
 
--- the origin state once the records have changed by the event; the owner has none
+-- the origin state once the records have changed by the event
 abbrev pub decided_origin : State → Event → Option Origin
-decided_origin s e = by_owner (s.machine).local
+decided_origin s e = by_mode (s.machine).computation s.origin
   where
     by_mode : Option Computation → Option Origin → Option Origin
-    by_mode (Some c) (Some o) = active_origin (with_records s.machine e) e c (moved (s.machine).successor e (has_risen (with_records s.machine e)) o)
+    by_mode (Some c) (Some o) = active_origin (with_records s.machine e) e c (moved (degree s.machine) (s.machine).successor e (has_risen (with_records s.machine e)) o)
     by_mode _ _ = passive_origin (with_records s.machine e) e
-
-    by_owner : Bool → Option Origin
-    by_owner true = s.origin
-    by_owner false = by_mode (s.machine).computation s.origin
 
 -- the origin state after an event: a link that comes up leaves it as it is
 abbrev pub origin_after : State → Event → Option Origin
@@ -93,6 +90,8 @@ origin_after s (Up q cost) = s.origin
 origin_after s (Message q kind value) = decided_origin s (Message q kind value)
 origin_after s (Down q) = decided_origin s (Down q)
 origin_after s (Cost q cost) = decided_origin s (Cost q cost)
+origin_after s (Attached cost) = decided_origin s (Attached cost)
+origin_after s Detached = decided_origin s Detached
 
 -- ---- what a machine shows
 

@@ -1,6 +1,6 @@
 //! What an event says, and what it does to the parts of a machine.
 
-ghost use Rattle.std.specs.Prelude.{◌≡◌, ℕ, ◌<◌, ◌≤◌, nat_lt, length};
+ghost use Rattle.std.specs.Prelude.{◌≡◌, ℕ, ◌≤◌, ◌++◌, nat_lt, length};
 ghost use Rattle.std.specs.FinSet as set;
 ghost use Rattle.metric.specs.Distance.{infinity};
 ghost use Rattle.network_model.specs.Machine as dual;
@@ -10,7 +10,7 @@ ghost use Rattle.dual_machine.specs.State as state;
 
 use crate::distances::via_successor;
 use diffusing_replies::{Debt, Origin, PortSet, Replies};
-use network_model::{Distance, Event, Kind, Neighbour};
+use network_model::{Cost, Distance, Event, Kind, Neighbour};
 
 // Whether this is the port, if there is one.
 pub(crate) fn is_port(port: u8, other: Option<u8>) -> bool
@@ -48,12 +48,24 @@ pub(crate) fn other_asker(event: &Event, successor: Option<u8>) -> Option<u8>
     }
 }
 
-// The successor after the event: none where its link is lost.
-pub(crate) fn successor_after(event: &Event, successor: Option<u8>) -> Option<u8>
-    ensures { result ≡ dual.successor_after event.now successor }
+// The attachment after the event.
+pub(crate) fn attachment_after(event: &Event, attachment: Option<Cost>) -> Option<Cost>
+    ensures { result ≡ dual.attachment_after event.now attachment }
+{
+    match *event {
+        Event::Attached { cost } => Some(cost),
+        Event::Detached => None,
+        _ => attachment,
+    }
+}
+
+// The successor after the event: none where its link is lost, or the attachment that it is.
+pub(crate) fn successor_after(degree: u8, event: &Event, successor: Option<u8>) -> Option<u8>
+    ensures { result ≡ dual.successor_after degree event.now successor }
 {
     match *event {
         Event::Down { port } if is_port(port, successor) => None,
+        Event::Detached if is_port(degree, successor) => None,
         _ => successor,
     }
 }
@@ -73,12 +85,13 @@ pub(crate) fn debt_after(event: &Event, successor: Option<u8>, debt: Debt) -> De
     }
 }
 
-// Whether the event takes the successor's link.
-fn is_loss_of(successor: Option<u8>, event: &Event) -> bool
-    ensures { result ≡ state.is_loss_of successor event.now }
+// Whether the event takes the successor: its link, or the attachment that it is.
+fn is_loss_of(degree: u8, successor: Option<u8>, event: &Event) -> bool
+    ensures { result ≡ state.is_loss_of degree successor event.now }
 {
     match *event {
         Event::Down { port } => is_port(port, successor),
+        Event::Detached => is_port(degree, successor),
         _ => false,
     }
 }
@@ -97,9 +110,9 @@ fn is_query_from(successor: Option<u8>, event: &Event) -> bool
     }
 }
 
-// Changes the record of the event's port.
+// Changes the record of the event's port, if it has one.
 pub(crate) fn change_record(ports: &mut [Neighbour], event: &Event)
-    requires { events.port_of event.now < length ports.old }
+    requires { events.IsKnown (length ports.old) event.now }
     ensures records { ports.new ≡ dual.records_after event.now ports.old }
 
     // Known by the type of a cost.
@@ -120,12 +133,14 @@ pub(crate) fn change_record(ports: &mut [Neighbour], event: &Event)
             prove!(cost.value() > 0);
             ports[port as usize].cost = cost
         }
+        Event::Attached { cost } => prove!(cost.value() > 0),
+        Event::Detached => {}
     }
 }
 
 // A reply ends the wait for its port, and so does the loss of the link.
 pub(crate) fn end_wait(replies: &mut Replies, event: &Event)
-    requires { events.port_of event.now < 32 }
+    requires { events.IsKnown 32 event.now }
     ensures awaited { (n : ℕ) → awaited_of n replies.new ≡ dual.awaited_after event.now (awaited_of n replies.old) }
     ensures no_more { (n : ℕ) → AwaitsBelow n replies.old → AwaitsBelow n replies.new }
 {
@@ -155,18 +170,29 @@ pub(crate) fn up_ports(ports: &[Neighbour]) -> PortSet
 }
 
 // Whether the distance by way of the successor is above the one with which the computation began.
-pub(crate) fn has_risen(rd: Distance, ports: &[Neighbour], successor: Option<u8>) -> bool
-    ensures risen { result ≡ nat_lt rd (dual.via_successor ports.now successor) }
+pub(crate) fn has_risen(
+    rd: Distance,
+    ports: &[Neighbour],
+    attachment: &Option<Cost>,
+    successor: Option<u8>,
+) -> bool
+    ensures risen { result ≡ nat_lt rd (dual.via_successor (ports.now ++ dual.home_ways attachment.now) successor) }
     ensures bounded { rd ≤ infinity }
 {
-    rd.value() < via_successor(ports, successor).value()
+    rd.value() < via_successor(ports, attachment, successor).value()
 }
 
 // The origin state after the event, by the successor before it.
-pub(crate) fn moved(origin: Origin, event: &Event, successor: Option<u8>, risen: bool) -> Origin
-    ensures { result ≡ state.moved successor event.now risen origin }
+pub(crate) fn moved(
+    origin: Origin,
+    degree: u8,
+    event: &Event,
+    successor: Option<u8>,
+    risen: bool,
+) -> Origin
+    ensures { result ≡ state.moved degree successor event.now risen origin }
 {
-    if is_loss_of(successor, event) {
+    if is_loss_of(degree, successor, event) {
         origin.lost()
     } else if is_query_from(successor, event) {
         origin.queried()

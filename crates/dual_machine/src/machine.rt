@@ -1,10 +1,10 @@
 //! The machine itself.
 
-ghost use Rattle.std.specs.Prelude.{◌≡◌, ℕ, ◌+◌, ◌<◌, ◌≤◌, ◌++◌, ◌↔◌, IsTrue, true, false, length, None, IsOk, OnOk, OnErr, IfOk, All, is_none};
+ghost use Rattle.std.specs.Prelude.{◌≡◌, ℕ, ◌+◌, ◌<◌, ◌≤◌, ◌++◌, ◌↔◌, IsTrue, true, false, length, None, IsOk, OnOk, OnErr, IfOk, All, IfSome, is_none, slice_get};
 ghost use Rattle.metric.specs.Distance.{IsCost, infinity};
 ghost use Rattle.diffusing_replies.specs.Origin as table;
 ghost use Rattle.network_model.specs.Machine as dual;
-ghost use Rattle.dual_machine.specs.Event.{port_of, IsTimely};
+ghost use Rattle.dual_machine.specs.Event.{IsKnown, IsTimely};
 ghost use Rattle.dual_machine.specs.Outbox.{HasRoom, most_sent};
 ghost use Rattle.dual_machine.specs.Parts.{IsDebtOf};
 ghost use Rattle.dual_machine.specs.State as state;
@@ -13,20 +13,20 @@ use crate::distances::{
     chosen_successor, condition_holds, is_any_up, is_up_at, least, nearer, up_count, via_successor,
 };
 use crate::events::{
-    asker, change_record, debt_after, end_wait, has_risen, is_port, moved, other_asker,
-    successor_after, up_ports,
+    asker, attachment_after, change_record, debt_after, end_wait, has_risen, is_port, moved,
+    other_asker, successor_after, up_ports,
 };
 use crate::mode::{Active, Mode};
 use crate::sends::Sends;
 use diffusing_replies::{Debt, Origin, Replies};
-use network_model::{Distance, Event, Kind, Neighbour, NoMemory, PortInfo};
+use network_model::{Cost, Distance, Event, Kind, Neighbour, NoMemory, PortInfo};
 use std::alloc::{AllocError, Global};
 use std::marker::Model;
 
 /// The machine of one router for one prefix.
 #[derive(Debug, Drop)]
 pub struct Machine {
-    local: bool,
+    attachment: Option<Cost>,
     ports: Vec<Neighbour>,
     rd: Distance,
     fd: Distance,
@@ -43,7 +43,7 @@ impl Model for Machine {
 
     ghost view = { λ m. record {
       machine = record {
-        local = m.local;
+        attachment = m.attachment;
         ports = m.ports.items;
         rd = m.rd;
         fd = m.fd;
@@ -53,7 +53,7 @@ impl Model for Machine {
       origin = origin_of m.active;
     } };
 
-    ghost invariant = { λ m. IsSound m.local m.ports.items m.successor m.active };
+    ghost invariant = { λ m. IsSound m.attachment m.ports.items m.successor m.active };
 }
 
 // A neighbour that has reported nothing.
@@ -82,31 +82,56 @@ fn opening_neighbours(alloc: Global, ports: &[PortInfo]) -> Result<Vec<Neighbour
 }
 
 impl Machine {
-    /// A machine that has heard nothing over these ports; `local` where the router owns the prefix.
-    pub fn new(alloc: Global, local: bool, ports: &[PortInfo]) -> Result<Machine, NoMemory>
+    /// A machine that has heard nothing over these ports, with the cost of the router's attachment to
+    /// the prefix, if it has one.
+    pub fn new(
+        alloc: Global,
+        attachment: Option<Cost>,
+        ports: &[PortInfo],
+    ) -> Result<Machine, NoMemory>
         requires { length ports.now ≤ 32 }
-        ensures ok { IfOk result (λ m. m ≡ state.opening_state local ports.now) }
+        ensures ok { IfOk result (λ m. m ≡ state.opening_state attachment ports.now) }
 
         // Without ports it takes no memory.
         ensures full { OnErr result (0 < length ports.now) }
     {
         let neighbours = opening_neighbours(alloc, ports)?;
-        let distance = if local { Distance::ZERO } else { Distance::INF };
+        let (distance, successor) = match attachment {
+            Some(cost) => {
+                prove!(cost.value() > 0);
+                (Distance::ZERO.plus(cost), Some(ports.len() as u8))
+            }
+            None => (Distance::INF, None),
+        };
         Ok(Machine {
-            local,
+            attachment,
             ports: neighbours,
             rd: distance,
             fd: distance,
-            successor: None,
+            successor,
             active: None,
         })
     }
 
-    /// Whether the router owns the prefix.
+    /// Whether the router's own attachment is the successor.
     pub fn is_local(&self) -> bool
-        ensures { result ≡ (self.now).machine.local }
+        ensures { result ≡ dual.is_port (dual.degree (self.now).machine) (self.now).machine.successor }
     {
-        self.local
+        is_port(self.degree(), self.successor)
+    }
+
+    /// The cost of the router's own attachment, if it is attached.
+    pub fn attachment(&self) -> Option<Cost>
+        ensures { result ≡ (self.now).machine.attachment }
+    {
+        self.attachment
+    }
+
+    // How many ports there are, by which number the attachment goes as one more.
+    fn degree(&self) -> u8
+        ensures { result ≡ dual.degree (self.now).machine }
+    {
+        self.ports.len() as u8
     }
 
     /// The reported distance.
@@ -123,7 +148,8 @@ impl Machine {
         self.fd
     }
 
-    /// The port of the successor, if there is one.
+    /// The successor, if there is one: a port, or the attachment, whose number is how many ports there
+    /// are.
     pub fn successor(&self) -> Option<u8>
         ensures { result ≡ (self.now).machine.successor }
     {
@@ -167,10 +193,17 @@ impl Machine {
         }
     }
 
+    /// What the machine keeps of the neighbour at this port; none where the router has no such port.
+    pub fn neighbour(&self, port: u8) -> Option<Neighbour>
+        ensures { result ≡ slice_get (self.now).machine.ports port }
+    {
+        self.ports.get(usize::from(port)).copied()
+    }
+
     /// Whether the machine may be told of the event: its port is known, `Up` names one that is
-    /// down, and any other event one that is up.
+    /// down, and any other event of a port one that is up. It may always be told of the attachment.
     pub fn is_timely(&self, event: Event) -> bool
-        ensures { IsTrue result ↔ ((port_of event < length (self.now).machine.ports)
+        ensures { IsTrue result ↔ (IsKnown (dual.degree (self.now).machine) event
             × IsTimely (self.now).machine.ports event) }
     {
         match event {
@@ -180,13 +213,14 @@ impl Machine {
             Event::Message { port, .. } | Event::Down { port } | Event::Cost { port, .. } => {
                 (port as usize) < self.ports.len() && is_up_at(&self.ports, port)
             }
+            Event::Attached { .. } | Event::Detached => true,
         }
     }
 
     /// Tells the machine of an event, and appends what it sends. All growth is made first, so that
     /// a refused call changes nothing.
     pub fn event(&mut self, event: Event, sends: &mut Sends) -> Result<(), NoMemory>
-        requires known { port_of event < length (self.old).machine.ports }
+        requires known { IsKnown (dual.degree (self.old).machine) event }
         requires timely { IsTimely (self.old).machine.ports event }
         ensures machine { OnOk result ((self.new).machine ≡ (dual.reaction (self.old).machine event).machine) }
         ensures origin { OnOk result ((self.new).origin ≡ state.origin_after self.old event) }
@@ -228,7 +262,7 @@ impl Machine {
 
     // What an event other than Up does.
     fn react(&mut self, event: &Event, sends: &mut Sends)
-        requires known { port_of event.now < length (self.old).machine.ports }
+        requires known { IsKnown (dual.degree (self.old).machine) event.now }
         requires room { HasRoom sends.old
             (length (dual.decision (dual.with_records (self.old).machine event.now) event.now).sends) }
         ensures machine { (self.new).machine
@@ -238,19 +272,17 @@ impl Machine {
             ++ (dual.decision (dual.with_records (self.old).machine event.now) event.now).sends }
         ensures capacity { sends.new.capacity ≡ sends.old.capacity }
     {
+        let degree = self.ports.len() as u8;
         let before = self.successor;
         change_record(&mut self.ports, event);
-        self.successor = successor_after(event, before);
-        if self.local {
-            sends.push_to(asker(event), Kind::Reply, Distance::ZERO);
-            return;
-        }
+        self.attachment = attachment_after(event, self.attachment);
+        self.successor = successor_after(degree, event, before);
         let Some(active) = self.active else {
             self.decide(event, sends);
             return;
         };
-        let risen = has_risen(self.rd, &self.ports, self.successor);
-        let origin = moved(active.origin, event, before, risen);
+        let risen = has_risen(self.rd, &self.ports, &self.attachment, self.successor);
+        let origin = moved(active.origin, degree, event, before, risen);
         let debt = debt_after(event, self.successor, active.debt);
         sends.push_to(other_asker(event, self.successor), Kind::Reply, self.rd);
         let mut replies = active.replies;
@@ -269,7 +301,7 @@ impl Machine {
 
     // A passive machine stays passive where the condition holds, and else begins a computation.
     fn decide(&mut self, event: &Event, sends: &mut Sends)
-        requires remote { (self.old).machine.local ≡ false }
+        requires known { IsKnown (dual.degree (self.old).machine) event.now }
         requires room { HasRoom sends.old (length (dual.passive_reaction (self.old).machine event.now).sends) }
         ensures machine { (self.new).machine ≡ (dual.passive_reaction (self.old).machine event.now).machine }
         ensures origin { (self.new).origin ≡ state.passive_origin (self.old).machine event.now }
@@ -278,7 +310,7 @@ impl Machine {
         ensures capacity { sends.new.capacity ≡ sends.old.capacity }
     {
         let asker = asker(event);
-        if condition_holds(self.fd, &self.ports) {
+        if condition_holds(self.fd, &self.ports, &self.attachment) {
             let fd = self.fd;
             self.become_passive(fd, asker, sends);
         } else {
@@ -289,7 +321,7 @@ impl Machine {
     // A computation that an event begins. A query from the successor leaves a debt; one from
     // another port is answered first.
     fn start(&mut self, asker: Option<u8>, sends: &mut Sends)
-        requires remote { (self.old).machine.local ≡ false }
+        requires known { IfSome asker (λ q. q < dual.degree (self.old).machine) }
         requires room { HasRoom sends.old (length (dual.started_computation (self.old).machine asker).sends) }
         ensures machine { (self.new).machine ≡ (dual.started_computation (self.old).machine asker).machine }
         ensures origin { (self.new).origin ≡ state.started_origin (self.old).machine asker }
@@ -303,7 +335,7 @@ impl Machine {
                 self.begin(fd, Origin::Owing, asker, sends);
             }
             _ => {
-                let v = via_successor(&self.ports, self.successor);
+                let v = via_successor(&self.ports, &self.attachment, self.successor);
                 sends.push_to(asker, Kind::Reply, v);
                 self.begin(fd, Origin::Own, None, sends);
             }
@@ -313,8 +345,7 @@ impl Machine {
     // A computation whose last reply is there. Where its origin state needs no test, the condition
     // holds.
     fn complete(&mut self, origin: Origin, debt: Debt, sends: &mut Sends)
-        requires remote { (self.old).machine.local ≡ false }
-        requires debt { IsDebtOf origin (self.old).machine.successor debt }
+        requires debt { IsDebtOf (dual.degree (self.old).machine) origin (self.old).machine.successor debt }
         requires tested { table.needs_test origin ≡ false
             → dual.condition_holds (self.old).machine.rd (dual.ways (self.old).machine) ≡ true }
         requires room { HasRoom sends.old (length (dual.completion (self.old).machine debt).sends) }
@@ -324,7 +355,7 @@ impl Machine {
         ensures capacity { sends.new.capacity ≡ sends.old.capacity }
     {
         let v = self.rd;
-        if !origin.needs_test() || condition_holds(v, &self.ports) {
+        if !origin.needs_test() || condition_holds(v, &self.ports, &self.attachment) {
             self.become_passive(v, debt, sends);
         } else {
             self.begin(v, origin.restart(), debt, sends);
@@ -341,22 +372,21 @@ impl Machine {
             ++ (dual.passive_result (self.old).machine fd owed).sends }
         ensures capacity { sends.new.capacity ≡ sends.old.capacity }
     {
-        let rd = least(&self.ports);
+        let rd = least(&self.ports, &self.attachment);
         sends.push_to(owed, Kind::Reply, rd);
         if rd != self.rd {
             sends.push_to_all(owed, Kind::Update, rd, &self.ports);
         }
-        self.successor = chosen_successor(fd, &self.ports, self.successor);
+        self.successor = chosen_successor(fd, &self.ports, &self.attachment, self.successor);
         self.rd = rd;
         self.fd = nearer(fd, rd);
         self.active = None;
     }
 
-    // A computation that begins: everyone who is up is asked, and awaited. With no one up it is over
-    // at once.
+    // A computation that begins: everyone who is up is asked, and awaited, but never the attachment.
+    // With no one up it is over at once.
     fn begin(&mut self, fd: Distance, origin: Origin, debt: Debt, sends: &mut Sends)
-        requires remote { (self.old).machine.local ≡ false }
-        requires debt { IsDebtOf origin (self.old).machine.successor debt }
+        requires debt { IsDebtOf (dual.degree (self.old).machine) origin (self.old).machine.successor debt }
         requires room { HasRoom sends.old (length (dual.new_computation (self.old).machine fd debt).sends) }
         ensures machine { (self.new).machine ≡ (dual.new_computation (self.old).machine fd debt).machine }
         ensures origin { (self.new).origin ≡ state.new_origin (self.old).machine origin }
@@ -365,7 +395,7 @@ impl Machine {
         ensures capacity { sends.new.capacity ≡ sends.old.capacity }
     {
         if is_any_up(&self.ports) {
-            let v = via_successor(&self.ports, self.successor);
+            let v = via_successor(&self.ports, &self.attachment, self.successor);
             sends.push_to_all(None, Kind::Query, v, &self.ports);
             let replies = Replies::begin(up_ports(&self.ports));
             self.rd = v;

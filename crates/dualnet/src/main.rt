@@ -4,7 +4,8 @@
 ghost use Rattle.std.specs.Prelude.{◌≡◌};
 ghost use Rattle.dualnet.specs.Files.{scenario_of, read_journal, kept_journal};
 
-use advice::{Faulty, advise, explained, is_check};
+use advice::{Faulty, advise, advise_journal, explained, is_check};
+use journal::JournalFault;
 use network_model::NoMemory;
 use play::{Cause, Fault, Host, Source, play, refuse};
 use std::io::{BufWriter, IsTerminal, LineWriter, Read, Write};
@@ -75,16 +76,9 @@ fn done<H: Host, W: Write>(rt: &HostRuntime, wait: &H, words: &Words<'_>, out: &
         },
         bytes: Vec::new(rt.alloc()),
     };
-    let second = match *words {
-        Words::Shell {
-            file: _,
-            journal: _,
-            explain: _,
-        } => Source::Open(Input::Standard(rt.stdin())),
-        _ => match replayed_path(words) {
-            Some(path) => open_file(rt, path),
-            None => Source::Missing,
-        },
+    let mut second = Kept {
+        file: second_input(rt, words),
+        bytes: Vec::new(rt.alloc()),
     };
     let mut kept = Vec::new(rt.alloc());
     let mut fault = None;
@@ -93,7 +87,7 @@ fn done<H: Host, W: Write>(rt: &HostRuntime, wait: &H, words: &Words<'_>, out: &
         rt.alloc(),
         words,
         &mut scenario,
-        second,
+        &mut second,
         out,
         &mut rt.stderr(),
         &mut kept,
@@ -101,6 +95,7 @@ fn done<H: Host, W: Write>(rt: &HostRuntime, wait: &H, words: &Words<'_>, out: &
     );
     let _ = out.flush();
     if let (Some(file), Some(fault)) = (explained(words), fault) {
+        tell_line(rt, words, fault, &second.bytes);
         let faulty = Faulty {
             file,
             text: str::from_utf8(&scenario.bytes).unwrap_or(""),
@@ -113,6 +108,32 @@ fn done<H: Host, W: Write>(rt: &HostRuntime, wait: &H, words: &Words<'_>, out: &
     match kept_path(words) {
         Some(path) if status == 0 => written(rt, path, &kept),
         _ => status,
+    }
+}
+
+// The journal that is replayed, or the commands of a shell.
+fn second_input(rt: &HostRuntime, words: &Words<'_>) -> Source<Input> {
+    match *words {
+        Words::Shell {
+            file: _,
+            journal: _,
+            explain: _,
+        } => Source::Open(Input::Standard(rt.stdin())),
+        _ => match replayed_path(words) {
+            Some(path) => open_file(rt, path),
+            None => Source::Missing,
+        },
+    }
+}
+
+// Tells of the line of a journal that is none of its, where that is the fault.
+fn tell_line(rt: &HostRuntime, words: &Words<'_>, fault: Fault, journal: &[u8]) {
+    if let (Some(path), Cause::Journal(JournalFault::BadLine { line })) = (
+        replayed_path(words),
+        fault.cause,
+    ) {
+        let text = str::from_utf8(journal).unwrap_or("");
+        let _ = advise_journal(path, text, line, &mut rt.stderr());
     }
 }
 

@@ -14,7 +14,7 @@ use trial::{Outcome, asked, played};
 use words::Words;
 
 // The scenarios, without the ends of their names.
-const EXAMPLES: [&str; 8] = [
+const EXAMPLES: [&str; 9] = [
     "two-routers",
     "ring",
     "line",
@@ -23,6 +23,7 @@ const EXAMPLES: [&str; 8] = [
     "flapping-link",
     "nested-prefixes",
     "crossed-packet",
+    "anycast",
 ];
 
 fn main(rt: HostRuntime) -> ExitCode {

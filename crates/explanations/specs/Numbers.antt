@@ -1,7 +1,7 @@
 -- The numbers that the program prints, and their names.
 use Rattle.std.specs.Prelude.{ℕ, List, codes}
 use Rattle.explanations.specs.declared.kind.Kind.{Kind}
-use Rattle.explanations.specs.declared.kind.Kind.TheVariants.{NoSlash, BadAddress, BadLength, HostBits, BadCost, UnknownRouter, UnknownLink, NoThread, AlreadyUp, IsDown, SessionsSpent, NothingToDeliver, NothingDue, NothingRipe, JournalFull, NoMemory, Stale, NoReaderPlace, BadRouters, BadLink, TooManyLinks, BadOwner, Stranger, Doubled, Missing, Closed, NoImage, BadToml, BadKey, BadName, BadLine, BadCommand, TooLarge, Unreadable, BadJournal, Unwritable}
+use Rattle.explanations.specs.declared.kind.Kind.TheVariants.{NoSlash, BadAddress, BadLength, HostBits, BadCost, UnknownRouter, UnknownLink, NoThread, AlreadyUp, IsDown, SessionsSpent, NothingToDeliver, NothingDue, NothingRipe, JournalFull, NoMemory, Busy, Stale, NoReaderPlace, BadRouters, BadLink, TooManyLinks, BadOwner, UnknownPrefix, NotAttached, Stranger, Doubled, Missing, Closed, NoImage, WrongTicket, BadToml, BadKey, BadName, BadLine, BadCommand, TooLarge, Unreadable, BadJournal, Unwritable}
 
 -- the number of a kind
 abbrev pub number_of : Kind → ℕ
@@ -21,17 +21,21 @@ number_of NothingDue = 17
 number_of NothingRipe = 18
 number_of JournalFull = 19
 number_of NoMemory = 20
+number_of Busy = 21
 number_of Stale = 22
 number_of NoReaderPlace = 23
 number_of BadRouters = 24
 number_of BadLink = 25
 number_of TooManyLinks = 26
 number_of BadOwner = 27
+number_of UnknownPrefix = 28
+number_of NotAttached = 29
 number_of Stranger = 30
 number_of Doubled = 31
 number_of Missing = 32
 number_of Closed = 33
 number_of NoImage = 34
+number_of WrongTicket = 35
 number_of BadToml = 40
 number_of BadKey = 41
 number_of BadName = 42
@@ -60,17 +64,21 @@ name_of NothingDue = codes "NothingDue"
 name_of NothingRipe = codes "NothingRipe"
 name_of JournalFull = codes "JournalFull"
 name_of NoMemory = codes "NoMemory"
+name_of Busy = codes "Busy"
 name_of Stale = codes "Stale"
 name_of NoReaderPlace = codes "NoReaderPlace"
 name_of BadRouters = codes "BadRouters"
 name_of BadLink = codes "BadLink"
 name_of TooManyLinks = codes "TooManyLinks"
 name_of BadOwner = codes "BadOwner"
+name_of UnknownPrefix = codes "UnknownPrefix"
+name_of NotAttached = codes "NotAttached"
 name_of Stranger = codes "Stranger"
 name_of Doubled = codes "Doubled"
 name_of Missing = codes "Missing"
 name_of Closed = codes "Closed"
 name_of NoImage = codes "NoImage"
+name_of WrongTicket = codes "WrongTicket"
 name_of BadToml = codes "BadToml"
 name_of BadKey = codes "BadKey"
 name_of BadName = codes "BadName"

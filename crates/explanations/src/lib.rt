@@ -5,4 +5,4 @@ mod kind;
 mod page;
 
 pub use kind::Kind;
-pub use page::Page;
+pub use page::{Brief, Page};

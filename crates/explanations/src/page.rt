@@ -32,17 +32,21 @@ impl Kind {
             Kind::NothingRipe => NOTHING_RIPE,
             Kind::JournalFull => JOURNAL_FULL,
             Kind::NoMemory => NO_MEMORY,
+            Kind::Busy => BUSY,
             Kind::Stale => STALE,
             Kind::NoReaderPlace => NO_READER_PLACE,
             Kind::BadRouters => BAD_ROUTERS,
             Kind::BadLink => BAD_LINK,
             Kind::TooManyLinks => TOO_MANY_LINKS,
             Kind::BadOwner => BAD_OWNER,
+            Kind::UnknownPrefix => UNKNOWN_PREFIX,
+            Kind::NotAttached => NOT_ATTACHED,
             Kind::Stranger => STRANGER,
             Kind::Doubled => DOUBLED,
             Kind::Missing => MISSING,
             Kind::Closed => CLOSED,
             Kind::NoImage => NO_IMAGE,
+            Kind::WrongTicket => WRONG_TICKET,
             Kind::BadToml => BAD_TOML,
             Kind::BadKey => BAD_KEY,
             Kind::BadName => BAD_NAME,
@@ -57,14 +61,20 @@ impl Kind {
 }
 
 impl Page {
-    /// When the number comes.
-    pub fn cause(&self) -> &'static str {
-        self.cause
+    /// What stands below a fault, where more is to be told of it.
+    pub fn brief(self) -> Brief {
+        Brief(self)
     }
+}
 
-    /// What to do.
-    pub fn remedy(&self) -> &'static str {
-        self.remedy
+/// The lines that tell when a number comes, and what to do.
+#[derive(Clone, Copy)]
+pub struct Brief(Page);
+
+impl fmt::Display for Brief {
+    fn fmt<W: fmt::Write>(&self, f: &mut fmt::Formatter<W>) -> fmt::Result {
+        writeln!(f, "  when: {}", self.0.cause)?;
+        writeln!(f, "  do:   {}", self.0.remedy)
     }
 }
 
@@ -107,8 +117,8 @@ const HOST_BITS: Page = Page {
 
 const BAD_COST: Page = Page {
     kind: Kind::BadCost,
-    cause: "a cost is outside 1 to 65535",
-    example: "`cost a b 0`, and the link `a b 65536 1`",
+    cause: "the cost of a link or of an attachment is outside 1 to 65535",
+    example: "`cost a b 0`, the link `a b 65536 1`, and the prefix `10.0.0.0/8 a 0`",
     remedy: "write a whole number of 1 to 65535",
 };
 
@@ -156,7 +166,7 @@ const SESSIONS_SPENT: Page = Page {
 
 const NOTHING_TO_DELIVER: Page = Page {
     kind: Kind::NothingToDeliver,
-    cause: "`deliver A B` where nothing waits for A from B",
+    cause: "`deliver A B` where nothing waits for A from B, or `deliver A A` where no notice of its attachments does",
     example: "`deliver a b` twice after one `up a b`: each end takes one notice",
     remedy: "see with `report` what is queued; `settle` delivers all that there is",
 };
@@ -187,6 +197,13 @@ const NO_MEMORY: Page = Page {
     cause: "the system refused memory, of which the journal's place takes 12 MB when the network is opened",
     example: "`(ulimit -v 8000; dualnet run FILE)`",
     remedy: "give the program more memory",
+};
+
+const BUSY: Page = Page {
+    kind: Kind::Busy,
+    cause: "a step at a router whose image is being published",
+    example: "none: the program does not let it happen",
+    remedy: "report it",
 };
 
 const STALE: Page = Page {
@@ -226,9 +243,23 @@ const TOO_MANY_LINKS: Page = Page {
 
 const BAD_OWNER: Page = Page {
     kind: Kind::BadOwner,
-    cause: "a prefix is given twice, or there are more than 4,096",
-    example: "`prefixes = [\"10.0.0.0/8 a\", \"10.0.0.0/8 b\"]`",
-    remedy: "give each prefix one owner",
+    cause: "a prefix is given twice at one router, or there are more than 4,096 prefixes, or 16,384 attachments",
+    example: "`prefixes = [\"10.0.0.0/8 a 1\", \"10.0.0.0/8 a 5\"]`",
+    remedy: "give a prefix once at a router: more routers may have it, and `attach` changes its cost",
+};
+
+const UNKNOWN_PREFIX: Page = Page {
+    kind: Kind::UnknownPrefix,
+    cause: "a step names a prefix that the network does not have",
+    example: "none in a script: its prefixes are read first, and an unknown one is 45",
+    remedy: "report it: the program does not let it happen",
+};
+
+const NOT_ATTACHED: Page = Page {
+    kind: Kind::NotAttached,
+    cause: "`detach A PREFIX` where A is not attached to the prefix",
+    example: "`detach a 10.0.0.0/8`, `detach a 10.0.0.0/8`",
+    remedy: "leave the second out, or write `try detach A PREFIX`, which prints the refusal and goes on",
 };
 
 const STRANGER: Page = Page {
@@ -266,6 +297,13 @@ const NO_IMAGE: Page = Page {
     remedy: "report it",
 };
 
+const WRONG_TICKET: Page = Page {
+    kind: Kind::WrongTicket,
+    cause: "the ticket of a publication is not the one that is out for its router",
+    example: "none: the program does not let it happen",
+    remedy: "report it",
+};
+
 const BAD_TOML: Page = Page {
     kind: Kind::BadToml,
     cause: "the file is no TOML document in UTF-8",
@@ -289,9 +327,9 @@ const BAD_NAME: Page = Page {
 
 const BAD_LINE: Page = Page {
     kind: Kind::BadLine,
-    cause: "a line of `links` or `prefixes` has a wrong number of words, two spaces in a row, a number that cannot be read, or an owner that is unknown",
-    example: "the link `a b 1`, the prefix `10.0.0.0/8 z`",
-    remedy: "write a link as `A B C1 C2`, and a prefix as `PREFIX OWNER`, with single spaces",
+    cause: "a line of `links` or `prefixes` has a wrong number of words, two spaces in a row, a number that cannot be read, or, of a prefix, an unknown router",
+    example: "the link `a b 1`, the prefix `10.0.0.0/8 z 1`",
+    remedy: "write a link as `A B C1 C2`, and a prefix as `PREFIX ROUTER COST`, with single spaces",
 };
 
 const BAD_COMMAND: Page = Page {
@@ -317,7 +355,7 @@ const UNREADABLE: Page = Page {
 
 const BAD_JOURNAL: Page = Page {
     kind: Kind::BadJournal,
-    cause: "the file is no journal of this scenario's network: its first line is another, or a line is no step of the scenario's routers and links",
+    cause: "the file is no journal of this scenario's network: its first line is another, or a line is no step of the scenario's routers, links and prefixes",
     example: "`dualnet replay ring.toml two-routers.journal`",
     remedy: "give the scenario whose run wrote the journal, and the journal as it was written",
 };

@@ -8,10 +8,10 @@ use Rattle.std.proofs.lemmas.Option.{slice_get_within, slice_get-map}
 use Rattle.network_model.specs.declared.item.Item.{Item}
 use Rattle.network_model.specs.declared.network.End.{End}
 use Rattle.network_model.specs.declared.step.Step.{Step}
-use Rattle.network_model.specs.declared.step.Step.TheVariants.{LinkUp, LinkDown, SetCost, Deliver, Publish, Release}
+use Rattle.network_model.specs.declared.step.Step.TheVariants.{LinkUp, LinkDown, SetCost, Deliver, Publish, Release, Attach, Detach}
 use Rattle.network_model.specs.Machine.{changed_at}
 use Rattle.network_model.specs.World.{Link, Router, World, Network, opening, opening_router_of}
-use Rattle.network_model.specs.Step.{Lawful, next, is_due, changed_router, changed_link, with_cost, with_front_taken, with_message, with_delivered, with_released, front_at, release_at, router_accepting, router_publishing, router_releasing}
+use Rattle.network_model.specs.Step.{Lawful, next, is_due, changed_router, changed_link, with_cost, with_front_taken, with_message, with_delivered, with_noticed, with_notice_taken, with_released, front_at, notice_at, release_at, changed_attachments, router_accepting, router_at_home, router_publishing, router_releasing}
 use Rattle.network_model.specs.Run.{Runs}
 use Rattle.network_model.specs.Journal.{Fits, most_steps, step_number, journal_sum}
 use Rattle.network_model.specs.Publication.{Image, image_answer}
@@ -48,11 +48,15 @@ images-next w s other = by_step s other
     by_step (LinkUp l) _ = refl
     by_step (LinkDown l) _ = refl
     by_step (SetCost i q cost) _ = images-changed_link i q (with_cost cost) w
-    by_step (Deliver i q) _ = option_map_or-ind (λ v. images_in_force v ≡ images_in_force w) (with_delivered i q w) (front_at w i q) w refl
+    by_step (Deliver i q) _ = option_map_or-ind (λ v. images_in_force v ≡ images_in_force w) (with_delivered i q w) (front_at w i q) _
+        (option_map_or-ind (λ v. images_in_force v ≡ images_in_force w) (with_noticed i w) (notice_at w i q) w refl
+        (λ x _. images-changed_router i (router_at_home x) (changed_attachments i with_notice_taken w) (λ _. refl)))
         (λ item _. images-changed_router i (router_accepting q item) (changed_link i q with_front_taken w) (image-accepting q item) ∙ images-changed_link i q with_front_taken w)
     by_step (Publish i) other = absurd (other i refl)
     by_step (Release i) _ = option_map_or-ind (λ v. images_in_force v ≡ images_in_force w) (with_released i w) (release_at w i) w refl
         (λ h _. images-changed_router i router_releasing (changed_link i h.port (with_message h) w) (λ _. refl) ∙ images-changed_link i h.port (with_message h) w)
+    by_step (Attach i p cost) _ = refl
+    by_step (Detach i p) _ = refl
 
 -- it puts its router's in force
 images-published : (i : ℕ) (rs : List Router) (r : Router) → slice_get rs i ≡ Some r → set (map image_in_force rs) i (image_in_force (router_publishing r)) ≡ map image_in_force (changed_at i router_publishing rs)

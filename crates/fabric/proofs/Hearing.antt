@@ -7,13 +7,14 @@ use Rattle.ipv4_prefix.specs.Prefix.{Prefix, prefix_cmp, prefix_eq}
 use Rattle.ipv4_prefix.proofs.PrefixOrder.{prefix_cmp_total}
 use Rattle.network_model.specs.declared.machine.Event.{Event}
 use Rattle.network_model.specs.declared.item.Item.{Item}
+use Rattle.network_model.specs.declared.item.Notice.{Notice}
 use Rattle.network_model.specs.declared.network.End.{End}
 use Rattle.network_model.specs.declared.network.Port.{Port}
 use Rattle.network_model.specs.declared.step.Step.{Step}
-use Rattle.network_model.specs.declared.step.Step.TheVariants.{LinkUp, LinkDown, SetCost, Deliver, Publish, Release}
-use Rattle.network_model.specs.Machine.{Machine, Reaction, reaction, changed_at}
+use Rattle.network_model.specs.declared.step.Step.TheVariants.{LinkUp, LinkDown, SetCost, Deliver, Publish, Release, Attach, Detach}
+use Rattle.network_model.specs.Machine.{Machine, Reaction, reaction, changed_at, event_at_home}
 use Rattle.network_model.specs.World.{Link, Router, World, machine_of}
-use Rattle.network_model.specs.Step.{next, reactions, entry_of, chosen_rows, changed_link, with_cost, with_front_taken, with_message, with_delivered, with_released, front_at, release_at, router_noticing, router_accepting, router_publishing, router_releasing}
+use Rattle.network_model.specs.Step.{next, reactions, entry_of, chosen_rows, changed_link, with_cost, with_front_taken, with_message, with_delivered, with_noticed, with_notice_taken, with_released, front_at, notice_at, release_at, changed_attachments, router_noticing, router_accepting, router_at_home, router_publishing, router_releasing}
 use Rattle.network_model.proofs.ListLaws.{option_map_or-ind}
 use Rattle.network_model.proofs.RowLaws.{find-map}
 use Rattle.network_model.proofs.WorldLaws.{routers-changed_link}
@@ -50,6 +51,9 @@ module _ (p : Prefix) where
   has_accepted q (Item.Cost session cost) r has = has_noticed (Event.Cost q cost) (changed_at q (λ x. record x { session = session; cost = cost }) r.ports) r has
   has_accepted q (Item.Message m) r has = has-put m.prefix (reaction (machine_of r m.prefix) (Event.Message q m.kind m.value)).machine r.machines has
 
+  has_told : (x : Notice) (r : Router) → Has r → Has (router_at_home x r)
+  has_told x r has = has-put x.prefix (reaction (machine_of r x.prefix) (event_at_home x.cost)).machine r.machines has
+
   -- ---- the world
 
   -- the router of this number, of these, has
@@ -71,11 +75,15 @@ module _ (p : Prefix) where
   heard_next w (LinkUp l) i has = has
   heard_next w (LinkDown l) i has = has
   heard_next w (SetCost j q cost) i has = has-changed_link j q (with_cost cost) w i has
-  heard_next w (Deliver j q) i has = option_map_or-ind (λ v. IsHeard v i p) (with_delivered j q w) (front_at w j q) w has
+  heard_next w (Deliver j q) i has = option_map_or-ind (λ v. IsHeard v i p) (with_delivered j q w) (front_at w j q) _
+      (option_map_or-ind (λ v. IsHeard v i p) (with_noticed j w) (notice_at w j q) w has
+      (λ x _. has-changed_at (router_at_home x) (has_told x) j i (changed_attachments j with_notice_taken w).routers has))
       (λ item _. has-changed_at (router_accepting q item) (has_accepted q item) j i (changed_link j q with_front_taken w).routers (has-changed_link j q with_front_taken w i has))
   heard_next w (Publish j) i has = has-changed_at router_publishing (λ r h. h) j i w.routers has
   heard_next w (Release j) i has = option_map_or-ind (λ v. IsHeard v i p) (with_released j w) (release_at w j) w has
       (λ h _. has-changed_at router_releasing (λ r x. x) j i (changed_link j h.port (with_message h) w).routers (has-changed_link j h.port (with_message h) w i has))
+  heard_next w (Attach j k cost) i has = has
+  heard_next w (Detach j k) i has = has
 
 -- ---- chosen rows
 

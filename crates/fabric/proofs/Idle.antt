@@ -1,7 +1,7 @@
 -- Where no router has anything to do, the network is settled.
 use Rattle.std.specs.Prelude.{◌≡◌, ℕ, zero, suc, ◌+◌, ◌<◌, ◌≤◌, Bool, true, false, not, ◌&&◌, nat_lt, cond, List, [], ◌∷◌, length, Option, Some, None, is_some, is_ok, option_map, option_and_then, slice_get, if◌then◌else◌}
 use Rattle.std.specs.List.{list_all, position_from}
-use Rattle.std.specs.Option.{ok_or}
+use Rattle.std.specs.Option.{ok_or, option_map_or}
 use Rattle.std.proofs.Common.{refl, sym, ap, ◌∙◌, arith}
 use Rattle.std.proofs.lemmas.Bool.{true≢false, and_from, ltb-true}
 use Rattle.std.proofs.lemmas.List.FromFn.{length-map-range_with_len}
@@ -13,17 +13,17 @@ use Rattle.network_model.specs.declared.network.End.TheVariants.{A, B}
 use Rattle.network_model.specs.declared.network.Place.{Place}
 use Rattle.network_model.specs.declared.step.Step.{Step}
 use Rattle.network_model.specs.declared.step.Step.TheVariants.{Deliver, Publish, Release}
-use Rattle.network_model.specs.World.{Link, Router, World, Network, side, place_at, opening, opening_router_of}
+use Rattle.network_model.specs.World.{Link, Router, Attachments, World, Network, side, place_at, degree_of, opening, opening_router_of, places_from, costs_of}
 use Rattle.network_model.specs.Network.{IsNetwork}
 use Rattle.network_model.specs.Step.{is_due, ripe_front}
 use Rattle.network_model.specs.Run.{Runs}
-use Rattle.network_model.specs.Forwarding.{is_empty, is_quiet_link}
+use Rattle.network_model.specs.Forwarding.{is_empty, is_quiet_link, has_no_notice}
 use Rattle.network_model.specs.Turns.{next_step, is_settled}
 use Rattle.network_model.proofs.ListLaws.{None_not_Some, Some_injective, element_there}
 use Rattle.network_model.proofs.PortPlaces.{place_of}
 use Rattle.link_fifo.specs.declared.refusal.LinkRefusal.{LinkRefusal}
 use Rattle.link_fifo.specs.Refusals.{front_of}
-use Rattle.world.specs.Waiting.{is_waiting, waiting_port}
+use Rattle.world.specs.Waiting.{is_waiting, item_port, notice_port, waiting_port}
 use Rattle.world.proofs.Waiting.{next_step-known}
 use Rattle.packet_loops.proofs.WorldLaws.{Runs-shape}
 use Rattle.packet_loops.proofs.Wiring.{IsWired, wired}
@@ -42,22 +42,24 @@ all_hold test (x ∷ xs) each = and_from _ _ (each 0 x refl) (all_hold test xs (
 
 -- ---- a router that has nothing to do
 
--- it has no ripe front, nothing is due, and no item waits at any of its ports
+-- it has no ripe front, nothing is due, no item waits at any of its ports, and no notice waits
 record IsIdle (w : World) (i : ℕ) (r : Router) : Type 0 where
   no_front : is_some (ripe_front r) ≡ false
   not_due : is_due r ≡ false
-  none_waits : waiting_port w i ≡ None
+  none_waits : item_port w i ≡ None
+  no_notice : notice_port w i ≡ None
 
 idle : (w : World) (i : ℕ) (r : Router) → slice_get w.routers i ≡ Some r → next_step w i ≡ None → IsIdle w i r
 idle w i r there none = by_front (is_some (ripe_front r)) refl (sym (next_step-known w i r there) ∙ none)
   where
-    by_port : (o : Option ℕ) → waiting_port w i ≡ o → option_map (λ q. Deliver i q) o ≡ None → waiting_port w i ≡ None
-    by_port None is e = is
-    by_port (Some q) is e = absurd (None_not_Some (sym e))
+    by_port : (o u : Option ℕ) → option_map (λ q. Deliver i q) (option_map_or (λ q. Some q) o u) ≡ None → (o ≡ None) × (u ≡ None)
+    by_port None None e = (refl, refl)
+    by_port None (Some q) e = absurd (None_not_Some (sym e))
+    by_port (Some q) u e = absurd (None_not_Some (sym e))
 
     by_due : (b : Bool) → is_due r ≡ b → is_some (ripe_front r) ≡ false → cond b (Some (Publish i)) (option_map (λ q. Deliver i q) (waiting_port w i)) ≡ None → IsIdle w i r
     by_due true due front e = absurd (None_not_Some (sym e))
-    by_due false due front e = record { no_front = front; not_due = due; none_waits = by_port (waiting_port w i) refl e }
+    by_due false due front e = (let both = by_port (item_port w i) (notice_port w i) e in record { no_front = front; not_due = due; none_waits = both.0; no_notice = both.1 })
 
     by_front : (b : Bool) → is_some (ripe_front r) ≡ b → cond b (Some (Release i)) (cond (is_due r) (Some (Publish i)) (option_map (λ q. Deliver i q) (waiting_port w i))) ≡ None → IsIdle w i r
     by_front true front e = absurd (None_not_Some (sym e))
@@ -98,6 +100,18 @@ none_waiting e k o there none = by_inbox (side e k).inbox (sym (ap (λ x. is_ok 
     by_inbox : (items : List Item) → is_ok (ok_or (slice_get items 0) LinkRefusal.NothingToDeliver) ≡ false → is_empty items ≡ true
     by_inbox [] none = refl
     by_inbox (x ∷ items) none = absurd (true≢false none)
+
+-- ---- attachments
+
+-- a router that is there has taken all notices where none waits at its port for them
+no_notice_left : (w : World) (i d : ℕ) (a : Attachments) → slice_get w.attachments i ≡ Some a → degree_of w i ≡ Some d → notice_port w i ≡ None → has_no_notice a ≡ true
+no_notice_left w i d a there degree none = by_test (has_no_notice a) refl
+  where
+    by_test : (b : Bool) → has_no_notice a ≡ b → has_no_notice a ≡ true
+    by_test true is = is
+    by_test false is = absurd (None_not_Some (sym none
+        ∙ ap (λ o. if option_map_or (λ (x : Attachments). not (has_no_notice x)) o false then degree_of w i else None) there
+        ∙ ap (λ b. if not b then degree_of w i else None) is ∙ degree))
 
 -- ---- the whole
 
@@ -142,7 +156,20 @@ module _ (n : Network) (valid : IsNetwork n) (ss : List Step) (w : World) (runs 
       none_waiting e k (slice_get w.links l) at
       (placed w i (spot n x).port x (is_waiting w.links) (place_is n some_prefix w kept i (spot n x).port ∙ at_spot) nothing.none_waits)
 
+  -- a router has taken all its notices
+  told : (i : ℕ) (a : Attachments) → slice_get w.attachments i ≡ Some a → has_no_notice a ≡ true
+  told i a at =
+      let shape = Runs-shape (opening n) ss w runs in
+      let count = router_count n ss w runs in
+      let attachment_count : length w.attachments ≡ n.routers = shape.attachments ∙ length-map-range_with_len (λ j. record { costs = costs_of n j; notices = [] }) 0 n.routers in
+      let place_count : length w.places ≡ n.routers = ap length shape.places ∙ length-map-range_with_len (λ j. places_from 0 j n.links) 0 n.routers in
+      let listed = slice_get_within w.attachments i a at in
+      let within : i < n.routers = omega (arith, listed, attachment_count) in
+      let router = element_there w.routers i (omega (arith, within, count)) in
+      let ports = element_there w.places i (omega (arith, within, place_count)) in
+      no_notice_left w i (length ports.0) a at (ap (option_map (λ (ps : List Place). length ps)) ports.1) (idle w i router.0 router.1 (none i within)).no_notice
+
   pub idle-settled : is_settled w ≡ true
   idle-settled = and_from _ _
-      (all_hold is_quiet_link w.links (λ l k at. and_from _ _ (empty_end l k at A) (empty_end l k at B)))
+      (and_from _ _ (all_hold is_quiet_link w.links (λ l k at. and_from _ _ (empty_end l k at A) (empty_end l k at B))) (all_hold has_no_notice w.attachments told))
       (all_hold (λ r. not (is_due r) && not (nat_lt 0 (r.gate).ripe)) w.routers idle_router)

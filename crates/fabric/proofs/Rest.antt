@@ -17,19 +17,19 @@ use Rattle.network_model.specs.declared.route.Entry.TheVariants.{Local}
 use Rattle.network_model.specs.declared.network.End.{End}
 use Rattle.network_model.specs.declared.network.Place.{Place}
 use Rattle.network_model.specs.declared.step.Step.{Step}
-use Rattle.network_model.specs.declared.step.Step.TheVariants.{LinkUp, LinkDown, SetCost, Deliver, Publish, Release}
+use Rattle.network_model.specs.declared.step.Step.TheVariants.{LinkUp, LinkDown, SetCost, Deliver, Publish, Release, Attach, Detach}
 use Rattle.network_model.specs.Machine.{changed_at}
-use Rattle.network_model.specs.World.{Link, Router, World, Network, place_at, opening, opening_link, opening_router_of, owned, rows_of}
-use Rattle.network_model.specs.Step.{next, link_come_up, link_gone_down, with_cost, with_front_taken, with_message, with_delivered, with_released, changed_link, changed_router, router_accepting, router_publishing, router_releasing, front_at, release_at, is_due, changed_rows, has_row, entry_eq}
-use Rattle.network_model.specs.Forwarding.{is_quiet_link}
+use Rattle.network_model.specs.World.{Link, Router, Attachments, World, Network, place_at, opening, opening_link, opening_router_of, costs_of}
+use Rattle.network_model.specs.Step.{next, link_come_up, link_gone_down, with_cost, with_front_taken, with_message, with_delivered, with_noticed, with_released, with_attachment, without_attachment, with_notice_taken, changed_link, changed_router, changed_attachments, router_accepting, router_at_home, router_publishing, router_releasing, front_at, notice_at, release_at, is_due, changed_rows, has_row, entry_eq}
+use Rattle.network_model.specs.Forwarding.{is_quiet_link, has_no_notice}
 use Rattle.network_model.specs.Turns.{is_settled}
 use Rattle.network_model.proofs.ListLaws.{option_map_or-ind}
 use Rattle.network_model.proofs.EntryLaws.{entry_eq-refl}
-use Rattle.network_model.proofs.RowLaws.{sorted-rows_of}
+use Rattle.network_model.proofs.RowLaws.{sorted-map, sorted-rows_of}
 use Rattle.network_model.proofs.WorldLaws.{routers-changed_link}
 use Rattle.packet_loops.proofs.WorldLaws.{SameShape, next-shape}
 use Rattle.fabric.specs.declared.watched.Touched.{Touched}
-use Rattle.fabric.specs.Rest.{is_busy, is_restless, count, unrest, link_number, passes_at, one_if, IsWatched}
+use Rattle.fabric.specs.Rest.{has_notice, is_busy, is_restless, count, unrest, link_number, passes_at, one_if, IsWatched}
 use Rattle.fabric.specs.Touched.{touched_by, unrest_at}
 
 -- ---- counts
@@ -105,9 +105,11 @@ sum-zero (suc a) b = ne_eqb (suc a + b) 0 (λ e. omega (arith, e)) ∙ ap (λ x.
 -- nothing is left to do where nothing is counted
 pub settled : (w : World) → (unrest w == 0) ≡ is_settled w
 settled w =
-    sum-zero (count is_busy w.links) (count is_restless w.routers)
-    ∙ ap (λ b. b && (count is_restless w.routers == 0)) (count-all is_busy is_quiet_link (λ k. refl) w.links)
-    ∙ ap (λ b. list_all is_quiet_link w.links && b) (count-all is_restless (λ r. not (is_due r) && not (nat_lt 0 (r.gate).ripe)) (λ r. neither (is_due r) (nat_lt 0 (r.gate).ripe)) w.routers)
+    sum-zero (count is_busy w.links + count has_notice w.attachments) (count is_restless w.routers)
+    ∙ ap (λ b. b && (count is_restless w.routers == 0)) (sum-zero (count is_busy w.links) (count has_notice w.attachments))
+    ∙ ap (λ b. (b && (count has_notice w.attachments == 0)) && (count is_restless w.routers == 0)) (count-all is_busy is_quiet_link (λ k. refl) w.links)
+    ∙ ap (λ b. (list_all is_quiet_link w.links && b) && (count is_restless w.routers == 0)) (count-all has_notice has_no_notice (λ a. refl) w.attachments)
+    ∙ ap (λ b. list_all is_quiet_link w.links && list_all has_no_notice w.attachments && b) (count-all is_restless (λ r. not (is_due r) && not (nat_lt 0 (r.gate).ripe)) (λ r. neither (is_due r) (nat_lt 0 (r.gate).ripe)) w.routers)
   where
     neither : (a b : Bool) → (a || b) ≡ not (not a && not b)
     neither true b = refl
@@ -126,14 +128,15 @@ none_changed rows sorted = filter-none (λ r. not (has_row rows r)) rows (λ r h
     ap (λ o. not (option_map_or (λ e. entry_eq e r.1) o false)) (row_of-row rows r (distinct_from_sorted rows sorted) h) ∙ ap not (entry_eq-refl r.1))
 
 opening_router-rests : (n : Network) (i : ℕ) → is_restless (opening_router_of n i) ≡ false
-opening_router-rests n i = ap (λ xs. (nat_lt 0 (length xs) || nat_lt 0 0) || nat_lt 0 0) (none_changed (rows_of Local (owned n i)) (sorted-rows_of Local (owned n i)))
+opening_router-rests n i = ap (λ xs. (nat_lt 0 (length xs) || nat_lt 0 0) || nat_lt 0 0) (none_changed (map (λ a. (a.0, Local)) (costs_of n i)) (sorted-map prefix_cmp (λ (c : ℕ). Local) (costs_of n i) ∙ sorted-rows_of (map (λ a. (a.0, a.2)) (filter (λ a. a.1 == i) n.attachments))))
 
 -- a network that opens is at rest
 opening-rests : (n : Network) → unrest (opening n) ≡ 0
 opening-rests n =
     let links = count-none is_busy opening_link n.links (λ s. refl) in
+    let notices = count-none has_notice (λ i. record { costs = costs_of n i; notices = [] }) (range_with_len 0 n.routers) (λ i. refl) in
     let routers = count-none is_restless (opening_router_of n) (range_with_len 0 n.routers) (opening_router-rests n) in
-    omega (arith, links, routers)
+    omega (arith, links, notices, routers)
 
 -- a change of the link at a place, if there is one
 changed_place : (f : End → Link → Link) (w : World) (o : Option Place)
@@ -143,16 +146,20 @@ changed_place : (f : End → Link → Link) (w : World) (o : Option Place)
 changed_place f w None = refl
 changed_place f w (Some p) = count-changed is_busy (f p.end) p.link w.links
 
--- the link and the router of a port
-abbrev at_port : World → ℕ → ℕ → Touched
-at_port w i q = record { link = link_number w i q; router = Some i }
+-- the link and the router of a port, and the attachments of a router, if of any
+abbrev at_port : World → ℕ → ℕ → Option ℕ → Touched
+at_port w i q o = record { link = link_number w i q; attachments = o; router = Some i }
+
+-- a change of the link at a port leaves all attachments
+attachments-changed_link : (i q : ℕ) (f : End → Link → Link) (w : World) → (changed_link i q f w).attachments ≡ w.attachments
+attachments-changed_link i q f w = option_map_or-ind (λ v. v.attachments ≡ w.attachments) (λ p. record w { links = changed_at p.link (f p.end) w.links }) (place_at w i q) w refl (λ p _. refl)
 
 -- what it is that the counts before and after differ by
 abbrev IsCounted : Touched → World → World → Type 0
 IsCounted t w v = unrest v + unrest_at t w ≡ unrest w + unrest_at t v
 
-both-changed : (i q : ℕ) (f : End → Link → Link) (g : Router → Router) (w : World) → IsCounted (at_port w i q) w (changed_router i g (changed_link i q f w))
-both-changed i q f g w =
+both-changed : (i q : ℕ) (o : Option ℕ) (f : End → Link → Link) (g : Router → Router) (w : World) → IsCounted (at_port w i q o) w (changed_router i g (changed_link i q f w))
+both-changed i q o f g w =
     let c = changed_link i q f w in
     let links = changed_place f w (place_at w i q) in
     let routers = count-changed is_restless g i c.routers in
@@ -160,31 +167,46 @@ both-changed i q f g w =
     let counted : count is_restless c.routers ≡ count is_restless w.routers = ap (count is_restless) same in
     let here : one_if (option_map_or is_restless (slice_get c.routers i) false) ≡ one_if (option_map_or is_restless (slice_get w.routers i) false)
     = ap (λ rs. one_if (option_map_or is_restless (slice_get rs i) false)) same in
-    omega (arith, links, routers, counted, here)
+    let notices : count has_notice c.attachments ≡ count has_notice w.attachments = ap (count has_notice) (attachments-changed_link i q f w) in
+    let told : one_if (passes_at has_notice c.attachments o) ≡ one_if (passes_at has_notice w.attachments o) = ap (λ xs. one_if (passes_at has_notice xs o)) (attachments-changed_link i q f w) in
+    omega (arith, links, routers, counted, here, notices, told)
 
--- a step changes the count by the link and the router that it touches
+-- a router takes a notice
+noticed-changed : (i q : ℕ) (f : Attachments → Attachments) (g : Router → Router) (w : World) → IsCounted (at_port w i q (Some i)) w (changed_router i g (changed_attachments i f w))
+noticed-changed i q f g w =
+    let notices = count-changed has_notice f i w.attachments in
+    let routers = count-changed is_restless g i w.routers in
+    omega (arith, notices, routers)
+
+-- a step changes the count by the link, the attachments and the router that it touches
 pub unrest-next : (s : Step) (w : World) → IsCounted (touched_by s w) w (next w s)
 unrest-next (LinkUp l) w = let links = count-changed is_busy link_come_up l w.links in omega (arith, links)
 unrest-next (LinkDown l) w = let links = count-changed is_busy link_gone_down l w.links in omega (arith, links)
 unrest-next (SetCost i q cost) w =
     let links = changed_place (with_cost cost) w (place_at w i q) in
     let same : count is_restless (changed_link i q (with_cost cost) w).routers ≡ count is_restless w.routers = ap (count is_restless) (routers-changed_link i q (with_cost cost) w) in
-    omega (arith, links, same)
+    let notices : count has_notice (changed_link i q (with_cost cost) w).attachments ≡ count has_notice w.attachments = ap (count has_notice) (attachments-changed_link i q (with_cost cost) w) in
+    omega (arith, links, same, notices)
 unrest-next (Deliver i q) w =
-    option_map_or-ind (IsCounted (at_port w i q) w) (with_delivered i q w) (front_at w i q) w refl (λ item _. both-changed i q with_front_taken (router_accepting q item) w)
+    option_map_or-ind (IsCounted (at_port w i q (Some i)) w) (with_delivered i q w) (front_at w i q) _
+    (option_map_or-ind (IsCounted (at_port w i q (Some i)) w) (with_noticed i w) (notice_at w i q) w refl (λ x _. noticed-changed i q with_notice_taken (router_at_home x) w))
+    (λ item _. both-changed i q (Some i) with_front_taken (router_accepting q item) w)
 unrest-next (Publish i) w = let routers = count-changed is_restless router_publishing i w.routers in omega (arith, routers)
 unrest-next (Release i) w = by_front (release_at w i)
   where
-    by_front : (o : Option Held) → IsCounted (record { link = option_and_then (λ h. link_number w i h.port) o; router = Some i }) w (option_map_or (with_released i w) o w)
+    by_front : (o : Option Held) → IsCounted (record { link = option_and_then (λ h. link_number w i h.port) o; attachments = None; router = Some i }) w (option_map_or (with_released i w) o w)
     by_front None = refl
-    by_front (Some h) = both-changed i h.port (with_message h) router_releasing w
+    by_front (Some h) = both-changed i h.port None (with_message h) router_releasing w
+unrest-next (Attach i p cost) w = let notices = count-changed has_notice (with_attachment p cost) i w.attachments in omega (arith, notices)
+unrest-next (Detach i p) w = let notices = count-changed has_notice (without_attachment p) i w.attachments in omega (arith, notices)
 
 -- what it touches was counted
 pub touched-counted : (t : Touched) (w : World) → unrest_at t w ≤ unrest w
 touched-counted t w =
     let link = passing-few is_busy w.links t.link in
+    let told = passing-few has_notice w.attachments t.attachments in
     let router = passing-few is_restless w.routers t.router in
-    omega (arith, link, router)
+    omega (arith, link, told, router)
 
 -- a number that counts what is not at rest counts it after the step, and is small
 pub watched-next : (w : World) (s : Step) (n m : ℕ) → IsWatched w n → m + unrest_at (touched_by s w) w ≡ n + unrest_at (touched_by s w) (next w s) → IsWatched (next w s) m
@@ -194,17 +216,18 @@ watched-next w s n m watched sum =
     let before : n ≡ unrest w = watched.counts in
     record {
       counts = omega (arith, counted, sum, before);
-      few = (let links : length (next w s).links ≡ length w.links = shape.links in let routers : length (next w s).routers ≡ length w.routers = shape.routers in let few = watched.few in omega (arith, links, routers, few));
+      few = (let links : length (next w s).links ≡ length w.links = shape.links in let attachments : length (next w s).attachments ≡ length w.attachments = shape.attachments in let routers : length (next w s).routers ≡ length w.routers = shape.routers in let few = watched.few in omega (arith, links, attachments, routers, few));
     }
 
 -- such a number is small
-pub unrest-few : (w : World) (n : ℕ) → IsWatched w n → n ≤ 1280
+pub unrest-few : (w : World) (n : ℕ) → IsWatched w n → n ≤ 1536
 unrest-few w n watched =
     let links = count-few is_busy w.links in
+    let notices = count-few has_notice w.attachments in
     let routers = count-few is_restless w.routers in
     let counts : n ≡ unrest w = watched.counts in
     let few = watched.few in
-    omega (arith, links, routers, counts, few)
+    omega (arith, links, notices, routers, counts, few)
 
 -- nothing is counted in a world that opens
 pub watched-opening : (n : Network) (w : World) → w ≡ opening n → length n.links ≤ 1024 → n.routers ≤ 256 → IsWatched w 0
@@ -212,7 +235,8 @@ watched-opening n w opened links routers =
     let none : unrest w ≡ 0 = ap unrest opened ∙ opening-rests n in
     let link_count : length w.links ≡ length n.links = ap (λ (v : World). length v.links) opened ∙ length-map n.links opening_link in
     let router_count : length w.routers ≡ n.routers = ap (λ (v : World). length v.routers) opened ∙ length-map-range_with_len (opening_router_of n) 0 n.routers in
+    let attachment_count : length w.attachments ≡ n.routers = ap (λ (v : World). length v.attachments) opened ∙ length-map-range_with_len (λ i. record { costs = costs_of n i; notices = [] }) 0 n.routers in
     record {
       counts = sym none;
-      few = omega (arith, link_count, router_count, links, routers);
+      few = omega (arith, link_count, attachment_count, router_count, links, routers);
     }

@@ -5,7 +5,7 @@ use Rattle.network_model.specs.declared.route.Entry.{Entry}
 use Rattle.network_model.specs.Publication.{image_answer}
 use Rattle.network_model.specs.Forwarding.{entry_leads, is_quiet}
 use Rattle.loop_freedom.specs.Network.{meets_twice}
-use Rattle.quiet_routes.specs.Routes.{Owns, HasBestRow}
+use Rattle.quiet_routes.specs.Routes.{HasBestRow}
 use Rattle.fabric.specs.Fabric.{Fabric}
 
 -- the row that the image in force at router i gives for an address
@@ -26,6 +26,6 @@ IsImageWalk f addr p (i ∷ k ∷ ks) = IsSentOn f addr p i k × IsImageWalk f a
 abbrev pub NeverMeetsTwice : Fabric → Type 0
 NeverMeetsTwice f = (addr : ℕ) (p : Prefix) (walk : List ℕ) → IsImageWalk f addr p walk → meets_twice walk ≡ false
 
--- where all is quiet, each router's row for each prefix that is owned is the best: it begins a least-cost walk to the owner, or says that there is none
+-- where all is quiet, each router's row for each prefix is the best: it begins a least-cost walk to an attached router, the cost of its attachment included, or says that there is none
 abbrev pub LeadsAtLeastCost : Fabric → Type 0
-LeadsAtLeastCost f = is_quiet f.world ≡ true → (p : Prefix) (o : ℕ) → Owns f.network p o → (i : ℕ) → i < f.network.routers → HasBestRow f.world p i o
+LeadsAtLeastCost f = is_quiet f.world ≡ true → (p : Prefix) (i : ℕ) → i < f.network.routers → HasBestRow f.world p i

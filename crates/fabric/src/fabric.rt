@@ -56,8 +56,8 @@ impl<B: Naming> Model for Fabric<B> {
 }
 
 impl<B: Naming> Fabric<B> {
-    /// Opens a network: every link is down, each prefix is known at its owner alone, whose image in
-    /// force has it, and the journal is empty. It makes the room for a full journal, and gives a reader
+    /// Opens a network: every link is down, each prefix is known at the routers attached to it alone,
+    /// whose images in force have it, and the journal is empty. It makes the room for a full journal, and gives a reader
     /// of each router's image, by the routers' numbers, to each of at most 16 workers. Refused with
     /// `NoMemory`, or with `NoReaderPlace` where an image has no place for a reader.
     pub fn open<R: Wait>(
@@ -132,15 +132,16 @@ impl<B: Naming> Fabric<B> {
     }
 
     /// What a router has to do next: the first of a release, a publication, and a delivery by ascending
-    /// port that is lawful; none where nothing is, or where there is no such router.
+    /// port that is lawful, the notices of its attachments last; none where nothing is, or where there
+    /// is no such router.
     pub fn next_step(&self, router: u16) -> Option<Step>
         ensures { result ≡ turns.next_step (self.now).world router }
     {
         self.world().next_step(router)
     }
 
-    /// Whether nothing is left to do: no item is queued on any link, nothing is due, and nothing is
-    /// ripe. Where it is not so, some router has something to do. It is known without going through
+    /// Whether nothing is left to do: no item is queued on any link, no notice waits, nothing is due,
+    /// and nothing is ripe. Where it is not so, some router has something to do. It is known without going through
     /// the network.
     pub fn is_settled(&self) -> bool
         ensures settled { result ≡ turns.is_settled (self.now).world }

@@ -6,7 +6,7 @@ ghost use Rattle.network_model.specs.World as model;
 ghost use Rattle.network_model.specs.Step as steps;
 ghost use Rattle.network_model.specs.Turns as turns;
 ghost use Rattle.world.specs.Steps.{DiscardsStale, IsDoneOr, HasRoomForSteps};
-ghost use Rattle.fabric.specs.Rest.{is_busy, is_restless, link_number};
+ghost use Rattle.fabric.specs.Rest.{has_notice, is_busy, is_restless, link_number};
 
 use link_fifo::Links;
 use network_model::{End, NoMemory, Refusal, Step};
@@ -15,9 +15,9 @@ use std::alloc::Global;
 use std::marker::Model;
 use world::{Network, World};
 
-/// A world, and how many of its links and routers are not at rest: links with something on them, and
-/// routers with something to publish or to release. So it is known whether anything is left to do
-/// without going through the network.
+/// A world, and how much of it is not at rest: how many links have something on them, how many routers
+/// have notices of their attachments to take, and how many have something to publish or to release. So
+/// it is known whether anything is left to do without going through the network.
 #[derive(Drop)]
 pub struct WatchedWorld {
     world: World,
@@ -53,7 +53,7 @@ impl WatchedWorld {
         &self.world
     }
 
-    /// Whether no item is queued on any link, nothing is due, and nothing is ripe.
+    /// Whether no item is queued on any link, no notice waits, nothing is due, and nothing is ripe.
     pub fn is_settled(&self) -> bool
         ensures { result ≡ turns.is_settled self.now }
     {
@@ -78,10 +78,11 @@ impl WatchedWorld {
     }
 }
 
-// What a step can change: at most one link and one router.
+// What a step can change: at most one link, one router's attachments, and one router.
 #[derive(Clone, Copy)]
 struct Touched {
     link: Option<u16>,
+    attachments: Option<u16>,
     router: Option<u16>,
 }
 
@@ -94,6 +95,7 @@ impl Touched {
         match *step {
             Step::LinkUp { link } | Step::LinkDown { link } => Touched {
                 link: Some(link),
+                attachments: None,
                 router: None,
             },
             Step::SetCost {
@@ -102,19 +104,33 @@ impl Touched {
                 cost: _,
             } => Touched {
                 link: link_at(world, router, port),
+                attachments: None,
                 router: None,
             },
             Step::Deliver { router, port } => Touched {
                 link: link_at(world, router, port),
+                attachments: Some(router),
                 router: Some(router),
             },
             Step::Publish { router } => Touched {
                 link: None,
+                attachments: None,
                 router: Some(router),
             },
             Step::Release { router } => Touched {
                 link: released_to(world, router),
+                attachments: None,
                 router: Some(router),
+            },
+            Step::Attach {
+                router,
+                prefix: _,
+                cost: _,
+            }
+            | Step::Detach { router, prefix: _ } => Touched {
+                link: None,
+                attachments: Some(router),
+                router: None,
             },
         }
     }
@@ -122,17 +138,21 @@ impl Touched {
     // How much of these is not at rest.
     fn unrest(self, world: &World) -> usize
         ensures unrest { result ≡ unrest_at self world.now }
-        ensures few { result ≤ 2 }
+        ensures few { result ≤ 3 }
     {
         let busy = match self.link {
             Some(link) => is_busy(world.links(), link),
+            None => false,
+        };
+        let told = match self.attachments {
+            Some(router) => has_notice_at(world, router),
             None => false,
         };
         let restless = match self.router {
             Some(router) => is_restless_at(world.routers(), router),
             None => false,
         };
-        usize::from(busy) + usize::from(restless)
+        usize::from(busy) + usize::from(told) + usize::from(restless)
     }
 }
 
@@ -156,6 +176,13 @@ fn is_busy(links: &Links, link: u16) -> bool
     ensures { result ≡ option_map_or is_busy (slice_get links.now.links link) false }
 {
     links.front(link, End::A).is_ok() || links.front(link, End::B).is_ok()
+}
+
+// Whether a router has yet to take a notice of its attachments.
+fn has_notice_at(world: &World, router: u16) -> bool
+    ensures { result ≡ option_map_or has_notice (slice_get world.now.attachments router) false }
+{
+    usize::from(router) < world.routers().len() && world.notices(router) > 0
 }
 
 fn is_restless(router: &Router) -> bool

@@ -144,7 +144,7 @@ where
     (shares, done)
 }
 
-// The owner answers by its opening table, and the other router by the first that it published.
+// The attached router answers by its opening table, and the other router by the first that it published.
 fn are_right<R: Abort>(rt: &R, first: Option<Answer>, second: Option<Answer>) -> Result<(), Fail> {
     let via = Entry::Via {
         port: 0,

@@ -18,11 +18,11 @@ pub fn link(a: u16, b: u16, cost: u32) -> Result<LinkSpec, Fail> {
     })
 }
 
-// Routers 0 and 1 with one link at cost 5 each way; router 0 owns 10.0.0.0/8.
+// Routers 0 and 1 with one link at cost 5 each way; router 0 is attached to 10.0.0.0/8 at cost 1.
 pub fn two_routers(alloc: Global) -> Result<Network, Fail> {
     let links = vec![in alloc; link(0, 1, 5)?]?;
-    let prefixes = vec![in alloc; (Prefix::parse("10.0.0.0/8")?, 0)]?;
-    Ok(Network::new(2, links, prefixes)?)
+    let attachments = vec![in alloc; (Prefix::parse("10.0.0.0/8")?, 0, Cost::new(1)?)]?;
+    Ok(Network::new(2, links, attachments)?)
 }
 
 // A port of the two routers.

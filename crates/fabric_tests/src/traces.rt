@@ -5,6 +5,7 @@ ghost use Rattle.fabric.specs.Writers.{opening_tables};
 
 use crate::networks::link;
 use fabric::{Network, Prefix, Unnamed};
+use network_model::Cost;
 use std::alloc::Global;
 use std::marker::Brand;
 use std::process::Abort;
@@ -24,13 +25,13 @@ const ADDR: u32 = 0x0A00_0001;
 
 const LONGER: u32 = 0x0A01_0001;
 
-// In a line: a owns 10.0.0.0/8, and b 10.1.0.0/16.
+// In a line: a is attached to 10.0.0.0/8, and b to 10.1.0.0/16.
 fn line(alloc: Global) -> Result<Network, Fail> {
     let links = vec![in alloc; link(A, B, 1)?, link(B, C, 1)?]?;
-    let short = (Prefix::parse("10.0.0.0/8")?, A);
-    let long = (Prefix::parse("10.1.0.0/16")?, B);
-    let prefixes = vec![in alloc; short, long]?;
-    Ok(Network::new(3, links, prefixes)?)
+    let short = (Prefix::parse("10.0.0.0/8")?, A, Cost::new(1)?);
+    let long = (Prefix::parse("10.1.0.0/16")?, B, Cost::new(1)?);
+    let attachments = vec![in alloc; short, long]?;
+    Ok(Network::new(3, links, attachments)?)
 }
 
 // Opens it, does this, and closes it.

@@ -10,6 +10,6 @@ mod write;
 
 pub use compare::first_difference;
 pub use fault::JournalFault;
-pub use read::{Journal, read_journal};
+pub use read::{Journal, Version, read_journal};
 pub use step_text::StepText;
 pub use write::write_steps;

@@ -9,8 +9,8 @@ use std::fmt;
 use std::marker::Model;
 
 /// The text of a step, as a script and a journal say it: `up A B`, `down A B`, `cost A B C`,
-/// `deliver A B`, `publish A` or `release A`. The routers of `up` and `down` come in the order of their
-/// link.
+/// `deliver A B`, `publish A`, `release A`, `attach A PREFIX COST` or `detach A PREFIX`. The routers of
+/// `up` and `down` come in the order of their link.
 #[derive(Drop)]
 pub struct StepText<'a> {
     directory: &'a Directory,
@@ -79,9 +79,9 @@ impl fmt::Display for StepText<'_> {
             }
             Step::Deliver { router, port } => {
                 let name = self.directory.name(Some(router));
-                let neighbour = self.directory.neighbour(router, port);
-                let across = self.directory.name(neighbour);
-                write!(f, "deliver {name} {across}")
+                let source = self.directory.source(router, port);
+                let source = self.directory.name(source);
+                write!(f, "deliver {name} {source}")
             }
             Step::Publish { router } => {
                 let name = self.directory.name(Some(router));
@@ -90,6 +90,18 @@ impl fmt::Display for StepText<'_> {
             Step::Release { router } => {
                 let name = self.directory.name(Some(router));
                 write!(f, "release {name}")
+            }
+            Step::Attach {
+                router,
+                prefix,
+                cost,
+            } => {
+                let name = self.directory.name(Some(router));
+                write!(f, "attach {name} {prefix} {cost}")
+            }
+            Step::Detach { router, prefix } => {
+                let name = self.directory.name(Some(router));
+                write!(f, "detach {name} {prefix}")
             }
         }
     }

@@ -1,15 +1,18 @@
--- The law at rest: in a quiet network each router's successors lead along a cheapest way to an owner.
+-- The law at rest: in a quiet network each router's successors lead along a cheapest way to an attached router.
 use Rattle.std.proofs.Common.{◌≡◌, ◌⊎◌, ℕ, zero, suc, ◌+◌, ◌*◌, ◌<◌, ◌≤◌, Bool, true, false, List, [], ◌∷◌, Option, Some, None, length, refl, ap, sym, inl, inr, arith, ◌∙◌, eq-eqb, lt-ltb}
-use Rattle.std.specs.Prelude.{slice_get, nat_lt, if◌then◌else◌}
+use Rattle.std.specs.Prelude.{slice_get, is_some, nat_lt, if◌then◌else◌}
 use Rattle.std.proofs.lemmas.Bool.{both_ways, cases_lt, false≢true}
 use Rattle.network_model.specs.declared.machine.Neighbour.{Neighbour}
-use Rattle.network_model.specs.Machine.{Machine, distance}
+use Rattle.network_model.specs.Machine.{Machine, distance, least, ways, degree, at_home, home_ways}
+use Rattle.network_model.proofs.MachineLaws.{least-append}
 use Rattle.metric.specs.Distance.{infinity, plus}
 use Rattle.machine_laws.specs.Laws.{is_up_at, reported_at}
 use Rattle.loop_freedom.specs.Network.{LinkEnd, Topology, State, IsWalk, NextHop, next_hop_of, at_port}
 use Rattle.loop_freedom.proofs.Walks.{walk_map}
-use Rattle.least_cost.specs.Quiet.{LeadsHome, Follows, IsQuiet, IsRouted, IsCutOff, IsOptimal, OptimalAtQuiet, walk_end, walk_cost}
+use Rattle.least_cost.specs.Quiet.{LeadsHome, Follows, IsQuiet, IsHome, IsRouted, IsCutOff, IsOptimal, OptimalAtQuiet, walk_end, walk_cost}
 use Rattle.machine_laws.proofs.Distances.{distance_cases, least_below}
+use Rattle.machine_laws.proofs.Successors.{port_successor_is, port_successor_none, port_successor_home}
+use Rattle.machine_laws.proofs.Lists.{append_within, append_last}
 use Rattle.least_cost.proofs.Replay.{replay, cost_of}
 use Rattle.least_cost.proofs.Told.{last_held}
 use Rattle.least_cost.proofs.Kept.{pending, port_at, line, held, Kept}
@@ -45,7 +48,7 @@ up_port m p u = go (slice_get m.ports p) refl
     go (Some n) h = record { neighbour = n; at = h; is_up = rw h at u; reported = rw h refl; costs = rw h refl }
 
 -- ---- a quiet network in a state that is kept: n routers, at most 256, and costs of 16 bits
-module _ (t : Topology) (n : ℕ) (s : State) (k : Kept t s) (q : IsQuiet t n s) (few : n ≤ 256) (placed : (e : LinkEnd) → t.valid e ≡ true → e.router < n) (cheap : (e : LinkEnd) → t.valid e ≡ true → s.cost e ≤ 65535) where
+module _ (t : Topology) (n : ℕ) (s : State) (k : Kept t s) (q : IsQuiet t n s) (few : n ≤ 256) (placed : (e : LinkEnd) → t.valid e ≡ true → e.router < n) (cheap : (e : LinkEnd) → t.valid e ≡ true → s.cost e ≤ 65535) (cheap_home : (i c : ℕ) → i < n → (s.machine i).attachment ≡ Some c → c ≤ 65535) where
   -- nothing waits, so each port is what it will be
   pending_now : (e : LinkEnd) → t.valid e ≡ true → pending (line s e) ≡ port_at s e
   pending_now e v = ap (λ x. replay x (port_at s e)) (q.inbox_empty e v)
@@ -86,34 +89,39 @@ module _ (t : Topology) (n : ℕ) (s : State) (k : Kept t s) (q : IsQuiet t n s)
   -- no router is further away than by way of a neighbour
   rd_under : (e : LinkEnd) → t.valid e ≡ true → s.up e ≡ true → rd e.router ≤ s.cost e + rd (t.far e).router
   unfolding rd
-  rd_under e v u = go (s.machine e.router).local refl
+  rd_under e v u =
+      let by : distance port.neighbour ≡ plus port.neighbour.reported port.neighbour.cost = rw port.is_up refl in
+      omega (
+        arith,
+        (k.sound e.router).passive_least (q.passive e.router (placed e v)),
+        least-append (s.machine e.router).ports (home_ways (s.machine e.router).attachment),
+        least_below (s.machine e.router).ports e.port port.neighbour port.at,
+        by,
+        plus_under port.neighbour.reported port.neighbour.cost,
+        port.reported,
+        port.costs,
+        reported_now e v u,
+        cost_now e v u,
+      )
     where
       port : UpPort (s.machine e.router) e.port
       port = up_port (s.machine e.router) e.port (up_now e v ∙ u)
 
-      go : (b : Bool) → (s.machine e.router).local ≡ b → rd e.router ≤ s.cost e + rd (t.far e).router
-      go true h = omega (arith, (k.sound e.router).local_rd h)
-      go false h =
-          let by : distance port.neighbour ≡ plus port.neighbour.reported port.neighbour.cost = rw port.is_up refl in
-          omega (
-            arith,
-            (k.sound e.router).passive_least h (q.passive e.router (placed e v)),
-            least_below (s.machine e.router).ports e.port port.neighbour port.at,
-            by,
-            plus_under port.neighbour.reported port.neighbour.cost,
-            port.reported,
-            port.costs,
-            reported_now e v u,
-            cost_now e v u,
-          )
-
-  -- no walk to an owner costs less than the distance
-  walk_under : (i : ℕ) (es : List LinkEnd) → LeadsHome t s i es → rd i ≤ walk_cost s es
+  -- nor than its attachment
+  home_under : (i c : ℕ) → i < n → (s.machine i).attachment ≡ Some c → rd i ≤ c
   unfolding rd
-  walk_under i [] w = omega (arith, (k.sound i).local_rd w.home)
-  walk_under i (e ∷ es) w =
-      let rest = walk_under (t.far e).router es (record { live = w.live.3; home = w.home }) in
-      omega (arith, rd_under e w.live.1 w.live.2, rest, ap (λ j. (s.machine j).rd) w.live.0)
+  home_under i c l h =
+      let here : least (home_ways (s.machine i).attachment) ≡ least (home_ways (Some c)) = ap (λ a. least (home_ways a)) h in
+      omega (arith, (k.sound i).passive_least (q.passive i l), least-append (s.machine i).ports (home_ways (s.machine i).attachment), here, plus_under 0 c)
+
+  -- no walk to an attached router costs less than the distance
+  walk_under : (i : ℕ) → i < n → (es : List LinkEnd) (w : LeadsHome t s i es) → rd i ≤ walk_cost s es + w.cost
+  unfolding rd
+  walk_under i l [] w = omega (arith, home_under i w.cost l w.home)
+  walk_under i l (e ∷ es) w =
+      let v = w.live.1 in
+      let rest = walk_under (t.far e).router (placed (t.far e) (t.far_valid e v)) es (record { live = w.live.3; cost = w.cost; home = w.home }) in
+      omega (arith, rd_under e v w.live.2, rest, ap (λ j. (s.machine j).rd) w.live.0)
 
   -- a link that router i follows, at whose other end its distance is less by the cost
   record Hop (i : ℕ) : Type 0 where
@@ -123,22 +131,22 @@ module _ (t : Topology) (n : ℕ) (s : State) (k : Kept t s) (q : IsQuiet t n s)
     follows : Follows s place
     adds : rd i ≡ s.cost place + rd (t.far place).router
 
-  -- a router that is not the owner, and not out of reach, hops to its successor
-  hop_by : (i p : ℕ) → i < n → (s.machine i).local ≡ false → rd i < infinity → (s.machine i).successor ≡ Some p → Hop i
+  -- a router that is not out of reach, whose successor is a port, hops to it
+  hop_by : (i p : ℕ) → i < n → p < degree (s.machine i) → rd i < infinity → (s.machine i).successor ≡ Some p → Hop i
   unfolding rd
   hop_by i p l far b h = record {
     place = at_port i p;
     from = refl;
     there = v;
     follows = record {
-      sends = record { linked = up; chosen = q.published_is i l ∙ ap (next_hop_of (λ x. s.seen (at_port i x))) h ∙ ap (λ x. Some (let o : NextHop = record { port = p; session = x } in o)) (seen_now (at_port i p) v) };
+      sends = record { linked = up; chosen = q.published_is i l ∙ ap (next_hop_of (λ x. s.seen (at_port i x))) (port_successor_is (s.machine i) p h far) ∙ ap (λ x. Some (let o : NextHop = record { port = p; session = x } in o)) (seen_now (at_port i p) v) };
       chooses = record { linked = up; port_up = on; present = seen_now (at_port i p) v; chosen = h };
     };
     adds = go (distance_cases port.neighbour);
   }
     where
       on : is_up_at (s.machine i) p ≡ true
-      on = (k.sound i).successor_up p h
+      on = (k.sound i).successor_up p h far
 
       v : t.valid (at_port i p) ≡ true
       v = k.up_valid (at_port i p) on
@@ -150,35 +158,72 @@ module _ (t : Topology) (n : ℕ) (s : State) (k : Kept t s) (q : IsQuiet t n s)
       port = up_port (s.machine i) p on
 
       attains : distance port.neighbour ≡ (s.machine i).rd
-      attains = (k.sound i).passive_attains p port.neighbour (q.passive i l) h port.at ∙ sym ((k.sound i).passive_least far (q.passive i l))
+      attains = (k.sound i).passive_attains p port.neighbour (q.passive i l) h (append_within (s.machine i).ports (home_ways (s.machine i).attachment) p far ∙ port.at) ∙ sym ((k.sound i).passive_least (q.passive i l))
 
       go : ((port.neighbour.up ≡ true) × (distance port.neighbour ≡ port.neighbour.reported + port.neighbour.cost) × (distance port.neighbour < infinity)) ⊎ (distance port.neighbour ≡ infinity)
           → (s.machine i).rd ≡ s.cost (at_port i p) + (s.machine (t.far (at_port i p)).router).rd
       go (inl (u, d, f)) = omega (arith, attains, d, port.reported, port.costs, reported_now (at_port i p) v up, cost_now (at_port i p) v up)
       go (inr f) = absurd (omega (arith, attains, f, b))
 
-  -- a router that is not the owner, and not out of reach, has a hop
-  hop : (i : ℕ) → i < n → (s.machine i).local ≡ false → rd i < infinity → Hop i
-  unfolding rd
-  hop i l far b = go (s.machine i).successor refl
-    where
-      go : (o : Option ℕ) → (s.machine i).successor ≡ o → Hop i
-      go None h = absurd (omega (arith, ((k.sound i).passive_none far (q.passive i l) h).0, b))
-      go (Some p) h = hop_by i p l far b h
+  -- the attachment of router i is its successor, and its distance
+  record Home (i : ℕ) : Type 0 where
+    cost : ℕ
+    is_home : IsHome s i cost
+    at : rd i ≡ cost
 
-  -- links followed from router i lead to an owner, at its distance, past no more routers than are nearer
+  -- a router that is not out of reach, whose successor is no port, is at its attachment
+  home_by : (i p : ℕ) → i < n → degree (s.machine i) ≤ p → rd i < infinity → (s.machine i).successor ≡ Some p → Home i
+  unfolding rd
+  home_by i p l past b h = go (s.machine i).attachment refl ((k.sound i).successor_attached chosen)
+    where
+      last : p ≡ degree (s.machine i)
+      last = omega (arith, past, (k.sound i).successor_within p h)
+
+      chosen : (s.machine i).successor ≡ Some (degree (s.machine i))
+      chosen = h ∙ ap (λ (x : ℕ). Some x) last
+
+      at_cost : (c : ℕ) → ((◌≡◌ {A = Bool} true true) × (distance (at_home c) ≡ 0 + c) × (distance (at_home c) < infinity)) ⊎ (distance (at_home c) ≡ infinity)
+          → distance (at_home c) ≡ (s.machine i).rd → (s.machine i).rd ≡ c
+      at_cost c (inl (u, d, f)) e = omega (arith, d, e)
+      at_cost c (inr f) e = absurd (omega (arith, f, e, b))
+
+      go : (a : Option ℕ) → (s.machine i).attachment ≡ a → is_some (s.machine i).attachment ≡ true → Home i
+      go None e some = absurd (false≢true (rw e at some))
+      go (Some c) e some =
+          let here : slice_get (ways (s.machine i)) (degree (s.machine i)) ≡ Some (at_home c) = rw e (append_last (s.machine i).ports (at_home c)) in
+          let attains = (k.sound i).passive_attains (degree (s.machine i)) (at_home c) (q.passive i l) chosen here ∙ sym ((k.sound i).passive_least (q.passive i l)) in
+          record { cost = c; is_home = record { attached = e; chosen = chosen; no_next_hop = q.published_is i l ∙ ap (next_hop_of (λ x. s.seen (at_port i x))) (port_successor_home (s.machine i) chosen) }; at = at_cost c (distance_cases (at_home c)) attains }
+
+  -- a router with a successor that is not out of reach hops to it, or is at its attachment
+  hop_or_home : (i p : ℕ) → i < n → rd i < infinity → (s.machine i).successor ≡ Some p → (Hop i) ⊎ (Home i)
+  hop_or_home i p l b h = go (cases_lt p (degree (s.machine i)))
+    where
+      go : (p < degree (s.machine i)) ⊎ (degree (s.machine i) ≤ p) → (Hop i) ⊎ (Home i)
+      go (inl f) = inl (hop_by i p l f b h)
+      go (inr f) = inr (home_by i p l f b h)
+
+  -- a router that is not out of reach has a hop, or its attachment is its successor
+  hop : (i : ℕ) → i < n → rd i < infinity → (Hop i) ⊎ (Home i)
+  unfolding rd
+  hop i l b = go (s.machine i).successor refl
+    where
+      go : (o : Option ℕ) → (s.machine i).successor ≡ o → (Hop i) ⊎ (Home i)
+      go None h = absurd (omega (arith, ((k.sound i).passive_none (q.passive i l) h).0, b))
+      go (Some p) h = hop_or_home i p l b h
+
+  -- links followed from router i lead to a router at its attachment, at the distance of i, past no more routers than are nearer
   record Chain (i : ℕ) : Type 0 where
     places : List LinkEnd
     follows : IsWalk t (Follows s) i places
-    reaches : (s.machine (walk_end t i places)).local ≡ true
-    cost_is : walk_cost s places ≡ rd i
+    cost : ℕ
+    reaches : IsHome s (walk_end t i places) cost
+    cost_is : walk_cost s places + cost ≡ rd i
     few_hops : length places ≤ count_below rd (rd i) n
-    near : rd i ≤ 65535 * count_below rd (rd i) n
+    near : rd i ≤ 65535 + 65535 * count_below rd (rd i) n
 
-  -- the owner is where the chain ends
-  chain_here : (i : ℕ) → (s.machine i).local ≡ true → Chain i
-  unfolding rd
-  chain_here i h = record { places = []; follows = tt; reaches = h; cost_is = sym ((k.sound i).local_rd h); few_hops = omega arith; near = omega (arith, (k.sound i).local_rd h) }
+  -- where the successor is the attachment the chain ends
+  chain_here : (i : ℕ) → i < n → Home i → Chain i
+  chain_here i l h = record { places = []; follows = tt; cost = h.cost; reaches = h.is_home; cost_is = omega (arith, h.at); few_hops = omega arith; near = omega (arith, h.at, cheap_home i h.cost l h.is_home.attached) }
 
   -- a hop and the chain from its other end are a chain
   chain_on : (i : ℕ) (h : Hop i) → Chain (t.far h.place).router → Chain i
@@ -190,6 +235,7 @@ module _ (t : Topology) (n : ℕ) (s : State) (k : Kept t s) (q : IsQuiet t n s)
       record {
         places = e ∷ c.places;
         follows = (h.from, h.there, h.follows, c.follows);
+        cost = c.cost;
         reaches = c.reaches;
         cost_is = omega (arith, h.adds, c.cost_is);
         few_hops = omega (arith, c.few_hops, gains);
@@ -199,12 +245,11 @@ module _ (t : Topology) (n : ℕ) (s : State) (k : Kept t s) (q : IsQuiet t n s)
   -- a router at a distance below d has a chain, if it is not out of reach
   chain_by : (d i : ℕ) → rd i < d → i < n → rd i < infinity → Chain i
   chain_by zero i b l f = absurd (omega (arith, b))
-  chain_by (suc d) i b l f = go (s.machine i).local refl (chain_by d)
+  chain_by (suc d) i b l f = go (hop i l f) (chain_by d)
     where
-      go : (c : Bool) → (s.machine i).local ≡ c → ((j : ℕ) → rd j < d → j < n → rd j < infinity → Chain j) → Chain i
-      go true h rest = chain_here i h
-      go false h rest =
-          let first = hop i l h f in
+      go : (Hop i) ⊎ (Home i) → ((j : ℕ) → rd j < d → j < n → rd j < infinity → Chain j) → Chain i
+      go (inr h) rest = chain_here i l h
+      go (inl first) rest =
           let v = first.there in
           let e = first.place in
           let rises : rd (t.far e).router < rd i = omega (arith, first.adds, (k.lines e v).positive) in
@@ -218,57 +263,63 @@ module _ (t : Topology) (n : ℕ) (s : State) (k : Kept t s) (q : IsQuiet t n s)
   fewer : (i : ℕ) → i < n → count_below rd (rd i) n < n
   fewer i l = omega (arith, below_gains rd (rd i) (suc (rd i)) n i l (omega arith) (omega arith), below_at_most rd (suc (rd i)) n)
 
-  -- a router that is not out of reach is no further than 255 links of the greatest cost
-  near_by : (i : ℕ) → i < n → rd i < infinity → rd i ≤ 16711425
+  -- a router that is not out of reach is no further than 255 links and an attachment of the greatest cost
+  near_by : (i : ℕ) → i < n → rd i < infinity → rd i ≤ 16776960
   near_by i l f = omega (arith, (chain i l f).near, fewer i l, few)
 
   -- a neighbour of a router that is not out of reach is not out of reach
   reached_one : (e : LinkEnd) → t.valid e ≡ true → s.up e ≡ true → rd (t.far e).router < infinity → rd e.router < infinity
   reached_one e v u f = omega (arith, rd_under e v u, cheap e v, near_by (t.far e).router (placed (t.far e) (t.far_valid e v)) f)
 
-  -- a router from which a walk leads to an owner is not out of reach
-  reached : (i : ℕ) (es : List LinkEnd) → LeadsHome t s i es → rd i < infinity
+  -- a router from which a walk leads to an attached router is not out of reach
+  reached : (i : ℕ) → i < n → (es : List LinkEnd) → LeadsHome t s i es → rd i < infinity
   unfolding rd
-  reached i [] w = omega (arith, (k.sound i).local_rd w.home)
-  reached i (e ∷ es) w =
-      let rest = reached (t.far e).router es (record { live = w.live.3; home = w.home }) in
-      omega (arith, reached_one e w.live.1 w.live.2 rest, ap (λ j. (s.machine j).rd) w.live.0)
+  reached i l [] w = omega (arith, home_under i w.cost l w.home, cheap_home i w.cost l w.home)
+  reached i l (e ∷ es) w =
+      let v = w.live.1 in
+      let rest = reached (t.far e).router (placed (t.far e) (t.far_valid e v)) es (record { live = w.live.3; cost = w.cost; home = w.home }) in
+      omega (arith, reached_one e v w.live.2 rest, ap (λ j. (s.machine j).rd) w.live.0)
 
   -- a router that is not out of reach is routed
   routed : (i : ℕ) → i < n → rd i < infinity → IsRouted t n s i
   unfolding rd
   routed i l f = record {
-    here_or_on = go (s.machine i).local refl;
     chain = (chain i l f).places;
     follows = (chain i l f).follows;
+    cost = (chain i l f).cost;
     reaches = (chain i l f).reaches;
     hops = omega (arith, (chain i l f).few_hops, fewer i l);
     cost_is = (chain i l f).cost_is;
-    least_cost = walk_under i;
+    least_cost = walk_under i l;
   }
-    where
-      on : (o : Option ℕ) → (s.machine i).successor ≡ o → (s.machine i).local ≡ false → (p : ℕ) × ((s.machine i).successor ≡ Some p)
-      on None h far = absurd (omega (arith, ((k.sound i).passive_none far (q.passive i l) h).0, f))
-      on (Some p) h far = (p, h)
-
-      go : (b : Bool) → (s.machine i).local ≡ b → (((s.machine i).local ≡ true) × ((s.machine i).rd ≡ 0)) ⊎ (((s.machine i).local ≡ false) × ((p : ℕ) × ((s.machine i).successor ≡ Some p)))
-      go true h = inl (h, (k.sound i).local_rd h)
-      go false h = inr (h, on (s.machine i).successor refl h)
 
   -- a router with a successor is not out of reach
   successor_reached : (i p : ℕ) → i < n → (s.machine i).successor ≡ Some p → rd i < infinity
   unfolding rd
-  successor_reached i p l h =
-      let on = (k.sound i).successor_up p h in
-      let v = k.up_valid (at_port i p) on in
-      let up : s.up (at_port i p) ≡ true = sym (up_now (at_port i p) v) ∙ on in
-      let nearer : rd (t.far (at_port i p)).router < infinity = omega (arith, (k.sound i).passive_feasible p (q.passive i l) h, (k.sound i).fd_below, (k.sound i).rd_bounded, reported_now (at_port i p) v up) in
-      reached_one (at_port i p) v up nearer
+  successor_reached i p l h = go (cases_lt p (degree (s.machine i)))
+    where
+      by_port : p < degree (s.machine i) → (s.machine i).rd < infinity
+      by_port f =
+          let on = (k.sound i).successor_up p h f in
+          let v = k.up_valid (at_port i p) on in
+          let up : s.up (at_port i p) ≡ true = sym (up_now (at_port i p) v) ∙ on in
+          let nearer : (s.machine (t.far (at_port i p)).router).rd < infinity = omega (arith, (k.sound i).passive_feasible p (q.passive i l) h on, (k.sound i).fd_below, (k.sound i).rd_bounded, reported_now (at_port i p) v up) in
+          reached_one (at_port i p) v up nearer
+
+      by_home : (a : Option ℕ) → (s.machine i).attachment ≡ a → is_some (s.machine i).attachment ≡ true → (s.machine i).rd < infinity
+      by_home None e some = absurd (false≢true (rw e at some))
+      by_home (Some c) e some = omega (arith, home_under i c l e, cheap_home i c l e)
+
+      go : (p < degree (s.machine i)) ⊎ (degree (s.machine i) ≤ p) → (s.machine i).rd < infinity
+      go (inl f) = by_port f
+      go (inr f) =
+          let last : p ≡ degree (s.machine i) = omega (arith, f, (k.sound i).successor_within p h) in
+          by_home (s.machine i).attachment refl ((k.sound i).successor_attached (h ∙ ap (λ (x : ℕ). Some x) last))
 
   -- a router that is out of reach is cut off
   cut_off : (i : ℕ) → i < n → infinity ≤ rd i → IsCutOff s i
   unfolding rd
-  cut_off i l f = record { no_successor = none; no_next_hop = q.published_is i l ∙ ap (next_hop_of (λ x. s.seen (at_port i x))) none; far_away = omega (arith, f, (k.sound i).rd_bounded) }
+  cut_off i l f = record { no_successor = none; no_next_hop = q.published_is i l ∙ ap (next_hop_of (λ x. s.seen (at_port i x))) (port_successor_none (s.machine i) none); far_away = omega (arith, f, (k.sound i).rd_bounded) }
     where
       go : (o : Option ℕ) → (s.machine i).successor ≡ o → (s.machine i).successor ≡ None
       go None h = h
@@ -277,13 +328,13 @@ module _ (t : Topology) (n : ℕ) (s : State) (k : Kept t s) (q : IsQuiet t n s)
       none : (s.machine i).successor ≡ None
       none = go (s.machine i).successor refl
 
-  -- a chain is a walk of links that are up, to an owner
+  -- a chain is a walk of links that are up, to an attached router
   leads : (i : ℕ) (c : Chain i) → LeadsHome t s i c.places
-  leads i c = record { live = walk_map t (Follows s) (λ e. s.up e ≡ true) (λ e f. f.sends.linked) i c.places c.follows; home = c.reaches }
+  leads i c = record { live = walk_map t (Follows s) (λ e. s.up e ≡ true) (λ e f. f.sends.linked) i c.places c.follows; cost = c.cost; home = c.reaches.attached }
 
-  -- each router is routed where a walk leads to an owner, and else cut off
+  -- each router is routed where a walk leads to an attached router, and else cut off
   optimal_here : (i : ℕ) → i < n → IsOptimal t n s i
-  optimal_here i l = record { connected = λ es w. routed i l (reached i es w); disconnected = λ none. go none (cases_lt (rd i) infinity) }
+  optimal_here i l = record { connected = λ es w. routed i l (reached i l es w); disconnected = λ none. go none (cases_lt (rd i) infinity) }
     where
       go : ((es : List LinkEnd) → LeadsHome t s i es → ⊥) → (rd i < infinity) ⊎ (infinity ≤ rd i) → IsCutOff s i
       go none (inl f) = absurd (none (chain i l f).places (leads i (chain i l f)))
@@ -291,4 +342,4 @@ module _ (t : Topology) (n : ℕ) (s : State) (k : Kept t s) (q : IsQuiet t n s)
 
 -- after every run, each router of a quiet network is routed or cut off
 pub optimal_at_quiet : OptimalAtQuiet
-optimal_at_quiet t first last o run n few placed cheap q i l = optimal_here t n last (kept_run t first last o run) q few placed cheap i l
+optimal_at_quiet t first last o run n few placed cheap cheap_home q i l = optimal_here t n last (kept_run t first last o run) q few placed cheap cheap_home i l

@@ -2,6 +2,7 @@ pub mod Replay
 pub mod Told
 pub mod Kept
 pub mod Takes
+pub mod TakesAtHome
 pub mod Releases
 pub mod Links
 pub mod Runs

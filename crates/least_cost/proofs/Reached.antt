@@ -1,12 +1,12 @@
 -- Two routers and a link of cost 7 between them, in a run that comes to rest.
-use Rattle.std.proofs.Common.{◌≡◌, ℕ, zero, suc, ◌<◌, ◌≤◌, Bool, true, false, List, [], ◌∷◌, Some, None, refl, arith, subst}
+use Rattle.std.proofs.Common.{◌≡◌, ℕ, zero, suc, ◌<◌, ◌≤◌, Bool, true, false, List, [], ◌∷◌, Option, Some, None, refl, arith, subst}
 use Rattle.std.specs.Prelude.{slice_get, ◌==◌}
 use Rattle.std.proofs.lemmas.Bool.{false≢true}
 use Rattle.std.proofs.lemmas.Option.{same_Some, none-some}
 use Rattle.network_model.specs.declared.machine.Neighbour.{Neighbour}
 use Rattle.metric.specs.declared.kind.Kind.TheVariants.{Update}
 use Rattle.metric.specs.Distance.{infinity}
-use Rattle.network_model.specs.Machine.{opening_machine}
+use Rattle.network_model.specs.Machine.{opening_machine, port_successor}
 use Rattle.machine_laws.specs.Laws.{is_active}
 use Rattle.loop_freedom.specs.Network.{LinkEnd, Topology, UpNotice, Reported, Report, Held, State, Opening, Run, Start, Then, Takes, Publishes, Releases, LinkComes, next_hop_of, at_port}
 use Rattle.least_cost.specs.Reached.{QuietRun}
@@ -49,9 +49,9 @@ pair = record {
   far_far = λ e v. other_other e.router e.port v;
 }
 
--- the place at the owner
-abbrev owner_end : LinkEnd
-owner_end = at_port 0 0
+-- the place at the attached router
+abbrev home_end : LinkEnd
+home_end = at_port 0 0
 
 -- the place at the other router
 abbrev other_end : LinkEnd
@@ -68,10 +68,25 @@ one_port_is P h (suc p) n e = absurd (none-some n e)
 
 -- ---- the run
 
--- the opening: router 0 owns the destination
+-- router 0 is attached, at cost 1
+abbrev home : Bool → Option ℕ
+home true = Some 1
+home false = None
+
+-- that is a cost
+home_range : (b : Bool) (c : ℕ) → home b ≡ Some c → (0 < c) × (c < infinity)
+home_range true c e = (omega (arith, same_Some 1 c e), omega (arith, same_Some 1 c e))
+home_range false c e = absurd (none-some c e)
+
+-- no greater one than costs may be
+home_cheap : (b : Bool) (c : ℕ) → home b ≡ Some c → c ≤ 65535
+home_cheap true c e = omega (arith, same_Some 1 c e)
+home_cheap false c e = absurd (none-some c e)
+
+-- the opening: router 0 is attached to the destination
 abbrev s0 : State
 s0 = record {
-  machine = λ i. opening_machine (i == 0) one_port;
+  machine = λ i. opening_machine (home (i == 0)) one_port;
   seen = λ e. 0;
   up = λ e. false;
   session = λ e. 0;
@@ -80,7 +95,7 @@ s0 = record {
   ripe = λ e. [];
   unripe = λ e. [];
   published = λ i. None;
-  published_fd = λ i. (opening_machine (i == 0) one_port).fd;
+  published_fd = λ i. (opening_machine (home (i == 0)) one_port).fd;
 }
 
 -- each place has a port
@@ -94,7 +109,8 @@ port_there (suc (suc r)) p h = absurd (false≢true h)
 -- the first state is an opening
 starts : Opening pair s0
 starts = record {
-  owns = λ i. i == 0;
+  attachment = λ i. home (i == 0);
+  attachment_range = λ i. home_range (i == 0);
   ports = λ i. one_port;
   opening_ports = λ i. record { ports_down = one_port_is (λ n. n.up ≡ false) refl; ports_cost = one_port_is (λ n. 0 < n.cost) (omega arith); ports_report = one_port_is (λ n. n.reported ≡ infinity) refl };
   ports_there = λ e v. port_there e.router e.port v;
@@ -120,27 +136,27 @@ held_update v = record { session = 1; message = update v }
 
 -- the link has come up
 abbrev s1 : State
-s1 = do_link_up pair s0 owner_end
+s1 = do_link_up pair s0 home_end
 
--- the owner knows of it
+-- the attached router knows of it
 abbrev s2 : State
-s2 = do_take s1 owner_end (UpNotice 1 7) []
+s2 = do_take s1 home_end (UpNotice 1 7) []
 
 -- the other router knows of it
 abbrev s3 : State
 s3 = do_take s2 other_end (UpNotice 1 7) []
 
--- the owner has published, and may tell its distance
+-- the attached router has published, and may tell its distance
 abbrev s4 : State
 s4 = do_publish s3 0
 
--- the owner's distance is on the link
+-- the attached router's distance is on the link
 abbrev s5 : State
-s5 = do_release pair s4 owner_end (held_update 0) []
+s5 = do_release pair s4 home_end (held_update 1) []
 
--- the other router has chosen the owner
+-- the other router has chosen the attached router
 abbrev s6 : State
-s6 = do_take s5 other_end (Reported (update 0)) []
+s6 = do_take s5 other_end (Reported (update 1)) []
 
 -- the other router has published its successor
 abbrev s7 : State
@@ -148,25 +164,25 @@ s7 = do_publish s6 1
 
 -- its distance is on the link
 abbrev s8 : State
-s8 = do_release pair s7 other_end (held_update 7) []
+s8 = do_release pair s7 other_end (held_update 8) []
 
--- the owner has taken it, and all is at rest
+-- the attached router has taken it, and all is at rest
 abbrev s9 : State
-s9 = do_take s8 owner_end (Reported (update 7)) []
+s9 = do_take s8 home_end (Reported (update 8)) []
 
 -- the steps lead from the opening to rest
 runs : Run pair s0 s9
 runs =
     Then (Then (Then (Then (Then (Then (Then (Then (Then Start
-    (LinkComes (comes_up pair s0 owner_end refl refl)))
-    (Takes (takes pair s1 owner_end (UpNotice 1 7) [] refl refl)))
+    (LinkComes (comes_up pair s0 home_end refl refl)))
+    (Takes (takes pair s1 home_end (UpNotice 1 7) [] refl refl)))
     (Takes (takes pair s2 other_end (UpNotice 1 7) [] refl refl)))
     (Publishes (publishes pair s3 0)))
-    (Releases (releases pair s4 owner_end (held_update 0) [] refl refl)))
-    (Takes (takes pair s5 other_end (Reported (update 0)) [] refl refl)))
+    (Releases (releases pair s4 home_end (held_update 1) [] refl refl)))
+    (Takes (takes pair s5 other_end (Reported (update 1)) [] refl refl)))
     (Publishes (publishes pair s6 1)))
-    (Releases (releases pair s7 other_end (held_update 7) [] refl refl)))
-    (Takes (takes pair s8 owner_end (Reported (update 7)) [] refl refl))
+    (Releases (releases pair s7 other_end (held_update 8) [] refl refl)))
+    (Takes (takes pair s8 home_end (Reported (update 8)) [] refl refl))
 
 -- what holds of both routers holds of each
 each_router : (P : ℕ → Type 0) → P 0 → P 1 → (i : ℕ) → i < 2 → P i
@@ -175,7 +191,7 @@ each_router P f g (suc zero) l = g
 each_router P f g (suc (suc i)) l = absurd (omega (arith, l))
 
 -- what holds of both places holds of each
-each_place : (P : LinkEnd → Type 0) → P owner_end → P other_end → (e : LinkEnd) → pair.valid e ≡ true → P e
+each_place : (P : LinkEnd → Type 0) → P home_end → P other_end → (e : LinkEnd) → pair.valid e ≡ true → P e
 each_place P f g e v = go e.router e.port v
   where
     go : (r p : ℕ) → valid_at r p ≡ true → P (at_port r p)
@@ -185,7 +201,7 @@ each_place P f g e v = go e.router e.port v
     go (suc zero) (suc p) h = absurd (false≢true h)
     go (suc (suc r)) p h = absurd (false≢true h)
 
--- the run ends quiet, with the other router at distance 7 by way of its port 0
+-- the run ends quiet, with the other router at distance 8 by way of its port 0
 pub quiet_run : QuietRun
 quiet_run = record {
   topology = pair;
@@ -195,12 +211,13 @@ quiet_run = record {
   run = runs;
   placed = each_place (λ e. e.router < 2) (omega arith) (omega arith);
   cheap = each_place (λ e. s9.cost e ≤ 65535) (omega arith) (omega arith);
+  cheap_home = λ i c l e. each_router (λ i. (c : ℕ) → (s9.machine i).attachment ≡ Some c → c ≤ 65535) (home_cheap true) (home_cheap false) i l c e;
   quiet = record {
     passive = each_router (λ i. is_active (s9.machine i) ≡ false) refl refl;
     inbox_empty = each_place (λ e. s9.inbox e ≡ []) refl refl;
     ripe_empty = each_place (λ e. s9.ripe e ≡ []) refl refl;
     unripe_empty = each_place (λ e. s9.unripe e ≡ []) refl refl;
-    published_is = each_router (λ i. s9.published i ≡ next_hop_of (λ q. s9.seen (at_port i q)) (s9.machine i).successor) refl refl;
+    published_is = each_router (λ i. s9.published i ≡ next_hop_of (λ q. s9.seen (at_port i q)) (port_successor (s9.machine i))) refl refl;
   };
   distance = refl;
   successor = refl;

@@ -5,11 +5,12 @@ use Rattle.std.proofs.lemmas.Bool.{both_ways, cases_eq}
 use Rattle.std.proofs.lemmas.List.{append-nil}
 use Rattle.network_model.specs.declared.machine.Neighbour.{Neighbour}
 use Rattle.machine_laws.specs.Laws.{test_at, is_up_at}
-use Rattle.loop_freedom.specs.Network.{LinkEnd, Topology, State, Publish, Skip, Step, Takes, Publishes, Releases, LinkComes, LinkGoes, CostChanges, Skips, Run, Start, Then, OpeningPorts, Opening}
+use Rattle.loop_freedom.specs.Network.{LinkEnd, Topology, State, Publish, Skip, Step, Takes, TakesAtHome, Publishes, Releases, LinkComes, LinkGoes, CostChanges, Skips, Run, Start, Then, OpeningPorts, Opening}
 use Rattle.machine_laws.proofs.Distances.{AllSound}
 use Rattle.machine_laws.proofs.Opened.{opened_sound}
 use Rattle.least_cost.proofs.Kept.{held, Kept, kept_same}
 use Rattle.least_cost.proofs.Takes.{kept_take}
+use Rattle.least_cost.proofs.TakesAtHome.{kept_take_at_home}
 use Rattle.least_cost.proofs.Releases.{kept_release}
 use Rattle.least_cost.proofs.Links.{kept_up, kept_down, kept_cost}
 
@@ -31,6 +32,7 @@ kept_skip t old new k s = kept_same t old new s.machines s.inboxes s.links s.cos
 -- every step keeps the state
 kept_step : (t : Topology) (old new : State) → Kept t old → Step t old new → Kept t new
 kept_step t old new k (Takes s) = kept_take t old new k s
+kept_step t old new k (TakesAtHome s) = kept_take_at_home t old new k s
 kept_step t old new k (Publishes s) = kept_publish t old new k s
 kept_step t old new k (Releases s) = kept_release t old new k s
 kept_step t old new k (LinkComes s) = kept_up t old new k s
@@ -53,7 +55,7 @@ ports_sound ns o p n h = record { costs = o.ports_cost p n h; bounded = omega (a
 -- the opening is kept
 kept_opening : (t : Topology) (s : State) → Opening t s → Kept t s
 kept_opening t s o = record {
-  sound = λ i. rw (o.machines i) (opened_sound (o.owns i) (o.ports i) (ports_sound (o.ports i) (o.opening_ports i)) (o.opening_ports i).ports_report);
+  sound = λ i. rw (o.machines i) (opened_sound (o.attachment i) (o.ports i) (o.attachment_range i) (ports_sound (o.ports i) (o.opening_ports i)) (o.opening_ports i).ports_report);
   there = λ e v. rw (o.machines e.router) (o.ports_there e v);
   up_valid = λ e u. absurd (both_ways (is_up_at (s.machine e.router) e.port) (down e) u);
   lines = λ e v. record {

@@ -1,6 +1,7 @@
--- What holds of a network that has come to rest: successors lead along cheapest ways to an owner.
-use Rattle.std.specs.Prelude.{◌≡◌, ◌⊎◌, ℕ, ◌+◌, ◌<◌, ◌≤◌, true, false, List, [], ◌∷◌, Some, None, length}
+-- What holds of a network that has come to rest: successors lead along cheapest ways to an attached router.
+use Rattle.std.specs.Prelude.{◌≡◌, ℕ, ◌+◌, ◌<◌, ◌≤◌, true, false, List, [], ◌∷◌, Some, None, length}
 use Rattle.metric.specs.Distance.{infinity}
+use Rattle.network_model.specs.Machine.{degree, port_successor}
 use Rattle.machine_laws.specs.Laws.{is_active}
 use Rattle.loop_freedom.specs.Network.{LinkEnd, Topology, State, PublishedEdge, ControlEdge, IsWalk, AlwaysHolds, next_hop_of, at_port}
 
@@ -14,10 +15,11 @@ abbrev pub walk_cost : State → List LinkEnd → ℕ
 walk_cost s [] = 0
 walk_cost s (e ∷ es) = s.cost e + walk_cost s es
 
--- a walk of links that are up, from router i to an owner
+-- a walk of links that are up, from router i to a router that is attached, and the cost of its attachment
 pub record LeadsHome (t : Topology) (s : State) (i : ℕ) (es : List LinkEnd) : Type 0 where
   pub live : IsWalk t (λ e. s.up e ≡ true) i es
-  pub home : (s.machine (walk_end t i es)).local ≡ true
+  pub cost : ℕ
+  pub home : (s.machine (walk_end t i es)).attachment ≡ Some cost
 
 -- the router's machine has chosen this way, and its traffic takes it
 pub record Follows (s : State) (e : LinkEnd) : Type 0 where
@@ -30,17 +32,24 @@ pub record IsQuiet (t : Topology) (n : ℕ) (s : State) : Type 0 where
   pub inbox_empty : (e : LinkEnd) → t.valid e ≡ true → s.inbox e ≡ []
   pub ripe_empty : (e : LinkEnd) → t.valid e ≡ true → s.ripe e ≡ []
   pub unripe_empty : (e : LinkEnd) → t.valid e ≡ true → s.unripe e ≡ []
-  pub published_is : (i : ℕ) → i < n → s.published i ≡ next_hop_of (λ q. s.seen (at_port i q)) (s.machine i).successor
+  pub published_is : (i : ℕ) → i < n → s.published i ≡ next_hop_of (λ q. s.seen (at_port i q)) (port_successor (s.machine i))
 
--- the successors from router i lead to an owner in fewer than n hops, at its distance, and no walk to one costs less
+-- router i is attached at this cost, its successor is its attachment, and it sends no traffic on
+pub record IsHome (s : State) (i cost : ℕ) : Type 0 where
+  pub attached : (s.machine i).attachment ≡ Some cost
+  pub chosen : (s.machine i).successor ≡ Some (degree (s.machine i))
+  pub no_next_hop : s.published i ≡ None
+
+-- the successors from router i lead to a router at its attachment in fewer than n hops, at the distance of i, the cost of
+-- the attachment included, and no walk to an attached router costs less
 pub record IsRouted (t : Topology) (n : ℕ) (s : State) (i : ℕ) : Type 0 where
-  pub here_or_on : (((s.machine i).local ≡ true) × ((s.machine i).rd ≡ 0)) ⊎ (((s.machine i).local ≡ false) × ((q : ℕ) × ((s.machine i).successor ≡ Some q)))
   pub chain : List LinkEnd
   pub follows : IsWalk t (Follows s) i chain
-  pub reaches : (s.machine (walk_end t i chain)).local ≡ true
+  pub cost : ℕ
+  pub reaches : IsHome s (walk_end t i chain) cost
   pub hops : length chain < n
-  pub cost_is : walk_cost s chain ≡ (s.machine i).rd
-  pub least_cost : (es : List LinkEnd) → LeadsHome t s i es → (s.machine i).rd ≤ walk_cost s es
+  pub cost_is : walk_cost s chain + cost ≡ (s.machine i).rd
+  pub least_cost : (es : List LinkEnd) (w : LeadsHome t s i es) → (s.machine i).rd ≤ walk_cost s es + w.cost
 
 -- router i has no successor, sends no traffic on, and is at distance infinity
 pub record IsCutOff (s : State) (i : ℕ) : Type 0 where
@@ -48,14 +57,15 @@ pub record IsCutOff (s : State) (i : ℕ) : Type 0 where
   pub no_next_hop : s.published i ≡ None
   pub far_away : (s.machine i).rd ≡ infinity
 
--- router i is routed where a walk leads to an owner, and cut off where none does
+-- router i is routed where a walk leads to an attached router, and cut off where none does
 pub record IsOptimal (t : Topology) (n : ℕ) (s : State) (i : ℕ) : Type 0 where
   pub connected : (es : List LinkEnd) → LeadsHome t s i es → IsRouted t n s i
   pub disconnected : ((es : List LinkEnd) → LeadsHome t s i es → ⊥) → IsCutOff s i
 
 -- in a quiet network of at most 256 routers, whose costs have 16 bits, every router is routed or cut off
 abbrev pub QuietIsOptimal : Topology → State → Type 0
-QuietIsOptimal t s = (n : ℕ) → n ≤ 256 → ((e : LinkEnd) → t.valid e ≡ true → e.router < n) → ((e : LinkEnd) → t.valid e ≡ true → s.cost e ≤ 65535) → IsQuiet t n s
+QuietIsOptimal t s = (n : ℕ) → n ≤ 256 → ((e : LinkEnd) → t.valid e ≡ true → e.router < n) → ((e : LinkEnd) → t.valid e ≡ true → s.cost e ≤ 65535)
+    → ((i c : ℕ) → i < n → (s.machine i).attachment ≡ Some c → c ≤ 65535) → IsQuiet t n s
     → (i : ℕ) → i < n → IsOptimal t n s i
 
 -- after every run from an opening, each router of a quiet network is routed or cut off

@@ -1,10 +1,10 @@
 -- Each kind of step can be done, and a run of two routers at the end of which traffic goes out.
-use Rattle.std.specs.Prelude.{◌≡◌, ℕ, zero, suc, ◌<◌, Bool, true, false, ◌&&◌, ◌||◌, ◌==◌, if◌then◌else◌, List, [], ◌∷◌, ◌++◌, Some, None, slice_get}
+use Rattle.std.specs.Prelude.{◌≡◌, ℕ, zero, suc, ◌<◌, Bool, true, false, ◌&&◌, ◌||◌, ◌==◌, if◌then◌else◌, List, [], ◌∷◌, ◌++◌, Some, None, slice_get, Option}
 use Rattle.std.proofs.Common.{refl, sym, ◌∙◌, ap, subst, arith, inl, inr}
 use Rattle.std.proofs.lemmas.Bool.{and_parts, and_from, eqb-true, eq-eqb, ne_eqb, false_from_ne_true, or_left, or_right, or_from, or_cases}
 use Rattle.network_model.specs.declared.machine.Neighbour.{Neighbour}
 use Rattle.metric.specs.declared.kind.Kind.TheVariants.{Update}
-use Rattle.network_model.specs.Machine.{reaction, opening_machine}
+use Rattle.network_model.specs.Machine.{reaction, opening_machine, port_successor}
 use Rattle.metric.specs.Distance.{infinity}
 use Rattle.machine_laws.specs.Laws.{sent_to}
 use Rattle.loop_freedom.specs.Network.{Report, Held, Item, UpNotice, DownNotice, CostNotice, Reported, LinkEnd, Topology, State, Take, Publish, Release, LinkUp, LinkDown, SetCost, Takes, Publishes, Releases, LinkComes, Run, Start, Then, Opening, OpeningPorts, PublishedEdge, SomeRouteIsPublished, IsEnd, event_of, seen_after, held_for, next_hop_of, at_port, arriving, notices}
@@ -70,7 +70,7 @@ takes t s a item rest v h = record {
 -- the state after router j publishes
 abbrev pub do_publish : State → ℕ → State
 do_publish s j = record s {
-  published = λ i. if i == j then next_hop_of (λ q. s.seen (at_port j q)) (s.machine j).successor else s.published i;
+  published = λ i. if i == j then next_hop_of (λ q. s.seen (at_port j q)) (port_successor (s.machine j)) else s.published i;
   published_fd = λ i. if i == j then (s.machine j).fd else s.published_fd i;
   ripe = λ e. if e.router == j then s.ripe e ++ s.unripe e else s.ripe e;
   unripe = λ e. if e.router == j then [] else s.unripe e;
@@ -254,10 +254,23 @@ down_ports = record { ports_down = downs; ports_cost = costs; ports_report = rep
     reports zero n e = let f : down_port ≡ n = cc in ap (λ (x : Neighbour). x.reported) (sym f)
     reports (suc p) n e = cc
 
+-- router 0 alone is attached, at cost 1
+abbrev pub home_if : Bool → Option ℕ
+home_if true = Some 1
+home_if false = None
+
+abbrev pub home : ℕ → Option ℕ
+home i = home_if (i == 0)
+
+-- that is a cost
+home_range : (b : Bool) (c : ℕ) → home_if b ≡ Some c → (0 < c) × (c < infinity)
+home_range true c e = let f : 1 ≡ c = cc in (omega (arith, f), omega (arith, f))
+home_range false c e = cc
+
 -- the opening of the two routers
 abbrev s0 : State
 s0 = record {
-  machine = λ i. opening_machine (i == 0) (down_port ∷ []);
+  machine = λ i. opening_machine (home i) (down_port ∷ []);
   seen = λ e. 0;
   up = λ e. false;
   session = λ e. 0;
@@ -266,13 +279,14 @@ s0 = record {
   ripe = λ e. [];
   unripe = λ e. [];
   published = λ i. None;
-  published_fd = λ i. (opening_machine (i == 0) (down_port ∷ [])).fd;
+  published_fd = λ i. (opening_machine (home i) (down_port ∷ [])).fd;
 }
 
 -- it is an opening
 opens : Opening pair s0
 opens = record {
-  owns = λ i. i == 0;
+  attachment = home;
+  attachment_range = λ i. home_range (i == 0);
   ports = λ i. down_port ∷ [];
   opening_ports = λ i. down_ports;
   ports_there = λ e v. (let p = port_zero e v in omega (arith, p));
@@ -288,7 +302,7 @@ opens = record {
   opening_fd = λ i. refl;
 }
 
--- the owner's end of the link
+-- the attached router's end of the link
 abbrev here : LinkEnd
 here = at_port 0 0
 
@@ -296,15 +310,15 @@ here = at_port 0 0
 abbrev beyond : LinkEnd
 beyond = at_port 1 0
 
--- the owner's message: it is at distance 0
-abbrev zero_away : Report
-zero_away = record { kind = Update; value = 0 }
+-- the attached router's message: it is at distance 1
+abbrev one_away : Report
+one_away = record { kind = Update; value = 1 }
 
 -- the link has come up
 abbrev s1 : State
 s1 = do_link_up pair s0 here
 
--- the owner has taken the notice
+-- the attached router has taken the notice
 abbrev s2 : State
 s2 = do_take s1 here (UpNotice 1 1) []
 
@@ -312,17 +326,17 @@ s2 = do_take s1 here (UpNotice 1 1) []
 abbrev s3 : State
 s3 = do_take s2 beyond (UpNotice 1 1) []
 
--- the owner has published
+-- the attached router has published
 abbrev s4 : State
 s4 = do_publish s3 0
 
--- the owner has released its message
+-- the attached router has released its message
 abbrev s5 : State
-s5 = do_release pair s4 here (record { session = 1; message = zero_away }) []
+s5 = do_release pair s4 here (record { session = 1; message = one_away }) []
 
 -- the other router has taken the message
 abbrev s6 : State
-s6 = do_take s5 beyond (Reported zero_away) []
+s6 = do_take s5 beyond (Reported one_away) []
 
 -- the other router has published
 abbrev pub s7 : State
@@ -335,11 +349,11 @@ reaches = Then (Then (Then (Then (Then (Then (Then Start
     (Takes (takes pair s1 here (UpNotice 1 1) [] refl refl)))
     (Takes (takes pair s2 beyond (UpNotice 1 1) [] refl refl)))
     (Publishes (publishes pair s3 0)))
-    (Releases (releases pair s4 here (record { session = 1; message = zero_away }) [] refl refl)))
-    (Takes (takes pair s5 beyond (Reported zero_away) [] refl refl)))
+    (Releases (releases pair s4 here (record { session = 1; message = one_away }) [] refl refl)))
+    (Takes (takes pair s5 beyond (Reported one_away) [] refl refl)))
     (Publishes (publishes pair s6 1))
 
--- the other router sends traffic to the owner
+-- the other router sends traffic to the attached router
 pub routes : PublishedEdge s7 beyond
 routes = record { linked = refl; chosen = refl }
 

@@ -9,6 +9,7 @@ pub mod Notices
 pub mod Ports
 pub mod Invariant
 pub mod Taking
+pub mod TakingAtHome
 pub mod StillMachines
 pub mod Publishing
 pub mod Linking

@@ -1,5 +1,6 @@
 -- The invariant holds at the opening.
-use Rattle.std.specs.Prelude.{◌≡◌, ℕ, ◌≤◌, Bool, true, false, if◌then◌else◌, List, Option, Some, None, slice_get}
+use Rattle.std.specs.Prelude.{◌≡◌, ℕ, ◌≤◌, ◌<◌, false, List, Option, Some, None, slice_get}
+use Rattle.std.specs.Option.{option_map_or}
 use Rattle.std.proofs.Common.{refl, sym, ◌∙◌, arith}
 use Rattle.std.proofs.lemmas.Bool.{false≢true, both_ways}
 use Rattle.network_model.specs.declared.machine.Neighbour.{Neighbour}
@@ -20,19 +21,19 @@ opening_ports_down : (ns : List Neighbour) → OpeningPorts ns → (p : ℕ) →
 opening_ports_down ns P p = down_or_absent (slice_get ns p) (λ n e. P.ports_down p n e)
 
 -- the distance of a machine at the opening is at most infinity
-opening_distance_bounded : (b : Bool) → (if b then 0 else infinity) ≤ infinity
-opening_distance_bounded true = omega arith
-opening_distance_bounded false = omega arith
+opening_distance_bounded : (a : Option ℕ) → ((c : ℕ) → a ≡ Some c → (0 < c) × (c < infinity)) → option_map_or (λ c. c) a infinity ≤ infinity
+opening_distance_bounded None range = omega arith
+opening_distance_bounded (Some c) range = omega (arith, (range c refl).1)
 
 -- a machine at the opening is sound
-sound_at_opening : (b : Bool) (ns : List Neighbour) → OpeningPorts ns → IsSound (opening_machine b ns)
-sound_at_opening b ns P = opened_sound b ns (λ p n e. record { costs = P.ports_cost p n e; bounded = let r = P.ports_report p n e in omega (arith, r) }) P.ports_report
+sound_at_opening : (a : Option ℕ) (ns : List Neighbour) → ((c : ℕ) → a ≡ Some c → (0 < c) × (c < infinity)) → OpeningPorts ns → IsSound (opening_machine a ns)
+sound_at_opening a ns range P = opened_sound a ns range (λ p n e. record { costs = P.ports_cost p n e; bounded = let r = P.ports_report p n e in omega (arith, r) }) P.ports_report
 
 -- the invariant holds of an opening
 pub opening_keeps : (t : Topology) (s : State) → Opening t s → Invariant t s
 opening_keeps t s O = record {
-  sound = λ i. rw (O.machines i) (sound_at_opening (O.owns i) (O.ports i) (O.opening_ports i));
-  pfd_bounded = λ i. rw (O.opening_fd i, O.machines i) (opening_distance_bounded (O.owns i));
+  sound = λ i. rw (O.machines i) (sound_at_opening (O.attachment i) (O.ports i) (O.attachment_range i) (O.opening_ports i));
+  pfd_bounded = λ i. rw (O.opening_fd i, O.machines i) (opening_distance_bounded (O.attachment i) (O.attachment_range i));
   there = λ e v. rw (O.machines e.router) (O.ports_there e v);
   up_far = λ e v. O.all_down (t.far e) ∙ sym (O.all_down e);
   session_far = λ e v. O.session_none (t.far e) ∙ sym (O.session_none e);

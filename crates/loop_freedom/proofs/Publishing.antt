@@ -3,9 +3,10 @@ use Rattle.std.specs.Prelude.{◌≡◌, ℕ, ◌≤◌, true, ◌&&◌, ◌==�
 use Rattle.std.proofs.Common.{refl, sym, ◌∙◌, ap, subst, arith, append_assoc, inl, inr}
 use Rattle.std.proofs.lemmas.Bool.{cases_eq, false≢true, and_parts, eqb-true, eq-eqb, ne_eqb}
 use Rattle.std.proofs.Math.Bool.{and-true, and-false}
-use Rattle.network_model.specs.Machine.{Machine, is_port}
+use Rattle.network_model.specs.Machine.{Machine, is_port, port_successor}
 use Rattle.metric.specs.Distance.{infinity}
 use Rattle.machine_laws.specs.Laws.{is_up_at}
+use Rattle.machine_laws.proofs.Successors.{port_successor_from, is_port_successor}
 use Rattle.loop_freedom.specs.Network.{Held, Item, NextHop, LinkEnd, Topology, State, Publish, next_hop_of, at_port}
 use Rattle.loop_freedom.proofs.Link.{EndInvariant}
 use Rattle.loop_freedom.proofs.Published.{shown_as_chosen, publish_here, publish_there}
@@ -42,16 +43,16 @@ published_end q o o' pfd items items' ripe ripe' unripe unripe' a b c d e f g = 
 
 module _ (t : Topology) (old new : State) (I : Invariant t old) (P : Publish t old new) where
   -- an end of the router that publishes is the old end, as published
-  here : (e : LinkEnd) → e.router ≡ P.j → end_at t new e ≡ shown_as_chosen (end_at t old e)
-  here e r =
+  here : (e : LinkEnd) → t.valid e ≡ true → e.router ≡ P.j → end_at t new e ≡ shown_as_chosen (end_at t old e)
+  here e v r =
       let m = old.machine e.router in
       let M : new.machine e.router ≡ old.machine e.router = P.machines.machine_same e.router in
       let ses : new.session e ≡ old.session e = P.links.session_same e in
-      let mj : (old.machine P.j).successor ≡ (old.machine e.router).successor = ap (λ (i : ℕ). (old.machine i).successor) (sym r) in
-      let out_is : new.published e.router ≡ next_hop_of (λ q. old.seen (at_port e.router q)) (old.machine e.router).successor =
-      subst (λ (i : ℕ). new.published i ≡ next_hop_of (λ q. old.seen (at_port i q)) (old.machine i).successor) (sym r) P.published_at in
+      let out_is : new.published e.router ≡ next_hop_of (λ q. old.seen (at_port e.router q)) (port_successor (old.machine e.router)) =
+      subst (λ (i : ℕ). new.published i ≡ next_hop_of (λ q. old.seen (at_port i q)) (port_successor (old.machine i))) (sym r) P.published_at in
       let shown : is_next_hop e.port (new.session e) (new.published e.router) ≡ (is_current m e.port (old.seen e) (old.session e) && is_port e.port m.successor) =
-      rw (out_is, ses) (next_hop_seen m e.port (old.session e) (λ q. old.seen (at_port e.router q)) m.successor ((I.sound e.router).successor_up e.port)) in
+      rw (out_is, ses) (next_hop_seen m e.port (old.session e) (λ q. old.seen (at_port e.router q)) (port_successor m) (λ k. (I.sound e.router).successor_up e.port (port_successor_from m e.port k) (I.there e v))
+      ∙ ap (λ b. is_current m e.port (old.seen e) (old.session e) && b) (is_port_successor m e.port (I.there e v))) in
       let pfd_is : new.published_fd e.router ≡ m.fd = subst (λ (i : ℕ). new.published_fd i ≡ (old.machine i).fd) (sym r) P.published_fd_at in
       let outs : messages (new.inbox (t.far e)) ++ live (new.session e) (new.ripe e) ≡ (messages (old.inbox (t.far e)) ++ live (old.session e) (old.ripe e)) ++ live (old.session e) (old.unripe e) =
       rw (P.inboxes.inbox_same (t.far e), ses, P.ripe_at e r, live-append (old.session e) (old.ripe e) (old.unripe e)) (sym (append_assoc (messages (old.inbox (t.far e))) (live (old.session e) (old.ripe e)) (live (old.session e) (old.unripe e)))) in
@@ -84,11 +85,11 @@ module _ (t : Topology) (old new : State) (I : Invariant t old) (P : Publish t o
       let both : EndInvariant (shown_as_chosen x) (shown_as_chosen y) = publish_there (shown_as_chosen x) y only_x in
       elim (cases_eq e.router P.j) [
         | inl re ↦ elim (cases_eq f.router P.j) [
-          | inl rf ↦ end_invariant_same (here e re) (here f rf) both
-          | inr df ↦ end_invariant_same (here e re) (elsewhere f df) only_x
+          | inl rf ↦ end_invariant_same (here e v re) (here f (t.far_valid e v) rf) both
+          | inr df ↦ end_invariant_same (here e v re) (elsewhere f df) only_x
         ]
         | inr de ↦ elim (cases_eq f.router P.j) [
-          | inl rf ↦ end_invariant_same (elsewhere e de) (here f rf) only_y
+          | inl rf ↦ end_invariant_same (elsewhere e de) (here f (t.far_valid e v) rf) only_y
           | inr df ↦ end_invariant_same (elsewhere e de) (elsewhere f df) one
         ]
       ]
@@ -97,9 +98,9 @@ module _ (t : Topology) (old new : State) (I : Invariant t old) (P : Publish t o
   next_hops : (e : LinkEnd) → t.valid e ≡ true → (k : ℕ) → is_next_hop e.port k (new.published e.router) ≡ true → k ≤ new.session e
   next_hops e v k h = elim (cases_eq e.router P.j) [
     | inl r ↦
-        let out_is : new.published e.router ≡ next_hop_of (λ q. old.seen (at_port e.router q)) (old.machine e.router).successor =
-        subst (λ (i : ℕ). new.published i ≡ next_hop_of (λ q. old.seen (at_port i q)) (old.machine i).successor) (sym r) P.published_at in
-        let k_is : k ≡ old.seen e = next_hop_session e.port k (λ q. old.seen (at_port e.router q)) (old.machine e.router).successor (rw out_is at h) in
+        let out_is : new.published e.router ≡ next_hop_of (λ q. old.seen (at_port e.router q)) (port_successor (old.machine e.router)) =
+        subst (λ (i : ℕ). new.published i ≡ next_hop_of (λ q. old.seen (at_port i q)) (port_successor (old.machine i))) (sym r) P.published_at in
+        let k_is : k ≡ old.seen e = next_hop_session e.port k (λ q. old.seen (at_port e.router q)) (port_successor (old.machine e.router)) (rw out_is at h) in
         let le : old.seen e ≤ old.session e = lawful_seen (is_up_at (old.machine e.router) e.port) (old.seen e) (old.up e) (old.session e) (old.inbox e) (I.lawful e v) in
         let ses : new.session e ≡ old.session e = P.links.session_same e in
         omega (arith, k_is, le, ses)

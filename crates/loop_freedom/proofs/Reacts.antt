@@ -6,7 +6,7 @@ use Rattle.std.proofs.lemmas.Bool.{cases_Bool, both_ways, eqb-true, eq-eqb, case
 use Rattle.metric.specs.declared.kind.Kind.{Kind}
 use Rattle.metric.specs.declared.kind.Kind.TheVariants.{Query, Reply}
 use Rattle.metric.specs.Distance.{infinity}
-use Rattle.network_model.specs.Machine.{Machine, is_port, reaction}
+use Rattle.network_model.specs.Machine.{Machine, degree, is_port, reaction}
 use Rattle.network_model.specs.declared.machine.Event.{Event}
 use Rattle.network_model.specs.declared.machine.Outgoing.{Outgoing}
 use Rattle.machine_laws.specs.Laws.{released, one_if, is_up_at, reported_at, awaits, owes, is_active, sent_to, count_kind, is_message, is_down, IsSound, Meets, MachineLaws}
@@ -56,7 +56,7 @@ counts_last : (ss : List Outgoing) (s : Outgoing) → s.kind ≡ Query → 1 ≤
 counts_last [] s e = rw e (omega arith)
 counts_last (x ∷ ss) s e = omega (arith, counts_last ss s e)
 
-module _ (laws : MachineLaws) (m : Machine) (ev : Event) (sound : IsSound m) (meets : Meets m ev) (q seen seen' n : ℕ) (taken : Option Report) (P : PortStep m ev q seen seen' n taken) where
+module _ (laws : MachineLaws) (m : Machine) (ev : Event) (sound : IsSound m) (meets : Meets m ev) (q seen seen' n : ℕ) (taken : Option Report) (P : PortStep m ev q seen seen' n taken) (there : q < degree m) where
   -- the machine after the event
   abbrev after : Machine
   after = (reaction m ev).machine
@@ -124,11 +124,11 @@ module _ (laws : MachineLaws) (m : Machine) (ev : Event) (sound : IsSound m) (me
 
   -- a port that is down is not the successor
   not_successor : is_up_at m q ≡ false → m.successor ≡ Some q → ⊥
-  not_successor e s = both_ways (is_up_at m q) e (sound.successor_up q s)
+  not_successor e s = both_ways (is_up_at m q) e (sound.successor_up q s there)
 
   -- no reply is owed to a port that is down
   not_owed : is_up_at m q ≡ false → owes m q ≡ false
-  not_owed e = false_from_ne_true (owes m q) (λ a. not_successor e (sound.owes_successor q a))
+  not_owed e = false_from_ne_true (owes m q) (λ a. both_ways (is_up_at m q) e (sound.owes_up q a))
 
   -- what is false of a port that is down counts the same with the session's test as without
   counts_same : (a : Bool) → (is_up_at m q ≡ false → a ≡ false) → current' ≡ true → one_if (current && a) ≡ one_if a
@@ -204,7 +204,7 @@ module _ (laws : MachineLaws) (m : Machine) (ev : Event) (sound : IsSound m) (me
   chooses o pfd items items' ripe unripe e =
       let parts = and_parts current' (is_port q after.successor) e in
       let succ' : after.successor ≡ Some q = is_port-Some q after.successor parts.1 in
-      elim (laws.keeps_or_chooses m ev sound meets q succ') [
+      elim (laws.keeps_or_chooses m ev sound meets q succ' (up_now parts.0)) [
         | inl less ↦ inl less
         | inr k ↦
             let on : current ≡ true = true_from_ne_false current (λ off. not_successor (P.comes off parts.0).1 k.0) in
@@ -265,4 +265,6 @@ rests m sound q seen n o pfd items items' ripe unripe = record {
     still : (is_current m q seen n && is_port q m.successor) ≡ true → (is_active m ≡ true) ⊎ (is_active m ≡ false)
         → (reported_at m q < m.fd) ⊎ Keeps (end_of m q seen n o pfd items ripe unripe) (end_of m q seen n o pfd items' ripe unripe) []
     still e (inl act) = inr (record { was = e; goes_on = act; grows = omega arith; silent = refl })
-    still e (inr pas) = inl (sound.passive_feasible q pas (is_port-Some q m.successor ((and_parts (is_current m q seen n) (is_port q m.successor) e).1)))
+    still e (inr pas) =
+        let parts = and_parts (is_current m q seen n) (is_port q m.successor) e in
+        inl (sound.passive_feasible q pas (is_port-Some q m.successor parts.1) (and_parts (is_up_at m q) (seen == n) parts.0).0)

@@ -20,7 +20,7 @@ use Rattle.loop_freedom.proofs.Ends.{place_cases}
 use Rattle.loop_freedom.proofs.Invariant.{Invariant, IsLawfulAt, end_cong}
 
 -- what a machine sends is lawfully held, where its session is not later than n and its values are not above infinity
-lawfully_held_for : (k n q : ℕ) (ss : List Outgoing) → k ≤ n → ((s : Outgoing) (i : ℕ) → slice_get ss i ≡ Some s → s.value ≤ infinity) → IsLawfullyHeld n (held_for k (sent_to q ss))
+pub lawfully_held_for : (k n q : ℕ) (ss : List Outgoing) → k ≤ n → ((s : Outgoing) (i : ℕ) → slice_get ss i ≡ Some s → s.value ≤ infinity) → IsLawfullyHeld n (held_for k (sent_to q ss))
 lawfully_held_for k n q [] le f = tt
 lawfully_held_for k n q (s ∷ ss) le f = by_port (s.port == q) (lawfully_held_for k n q ss le (λ x i e. f x (suc i) e))
   where
@@ -36,14 +36,14 @@ front_item (CostNotice s c) rest = refl
 front_item (Reported m) rest = refl
 
 -- what a step does at one end: an end step, with the message that leaves its inbox
-record Stepped (t : Topology) (old new : State) (e : LinkEnd) : Type 0 where
-  taken : Option Report
-  added : List Report
-  step : EndStep (end_at t old e) (end_at t new e) taken added
-  took : messages (old.inbox e) ≡ front taken ++ messages (new.inbox e)
+pub record Stepped (t : Topology) (old new : State) (e : LinkEnd) : Type 0 where
+  pub taken : Option Report
+  pub added : List Report
+  pub step : EndStep (end_at t old e) (end_at t new e) taken added
+  pub took : messages (old.inbox e) ≡ front taken ++ messages (new.inbox e)
 
 -- an end step between two ends is one between ends that equal them
-end_step_along : {x y x' y' : End} {taken : Option Report} {added : List Report} → x ≡ y → x' ≡ y' → EndStep x x' taken added → EndStep y y' taken added
+pub end_step_along : {x y x' y' : End} {taken : Option Report} {added : List Report} → x ≡ y → x' ≡ y' → EndStep x x' taken added → EndStep y y' taken added
 end_step_along {x} {y} {x'} {y'} {taken} {added} p q h = subst (λ (z : End). EndStep z y' taken added) p (subst (λ (z : End). EndStep x z taken added) q h)
 
 module _ (laws : MachineLaws) (t : Topology) (old new : State) (I : Invariant t old) (T : Take t old new) where
@@ -80,10 +80,11 @@ module _ (laws : MachineLaws) (t : Topology) (old new : State) (I : Invariant t 
   sent_from e = live (old.session e) (held_for (new.seen e) (sent_to e.port (reaction m ev).sends))
 
   -- the reaction makes an end step at each port of the router that reacts
-  acts : (e : LinkEnd) → e.router ≡ T.a.router → (taken : Option Report) → PortStep m ev e.port (old.seen e) (new.seen e) (old.session e) taken
+  acts : (e : LinkEnd) → t.valid e ≡ true → e.router ≡ T.a.router → (taken : Option Report) → PortStep m ev e.port (old.seen e) (new.seen e) (old.session e) taken
       → EndStep (end_at t old e) (end_at t new e) taken (sent_from e)
   unfolding sent_from
-  acts e r taken P =
+  acts e v r taken P =
+      let there : e.port < length m.ports = subst (λ (i : ℕ). e.port < length (old.machine i).ports) r (I.there e v) in
       let was : m ≡ old.machine e.router = sym (ap old.machine r) in
       let is : (reaction m ev).machine ≡ new.machine e.router = sym (ap new.machine r ∙ T.machine_at) in
       let ses : old.session e ≡ new.session e = sym (T.links.session_same e) in
@@ -97,7 +98,7 @@ module _ (laws : MachineLaws) (t : Topology) (old new : State) (I : Invariant t 
       end_cong e.port items items (old.ripe e) (old.ripe e) (old.unripe e) (old.unripe e) was refl refl refl refl refl refl in
       let now : end_of (reaction m ev).machine e.port (new.seen e) (old.session e) (old.published e.router) (old.published_fd e.router) items' (old.ripe e) (old.unripe e ++ held_for (new.seen e) (sent_to e.port (reaction m ev).sends)) ≡ end_at t new e =
       end_cong e.port items' items' (new.ripe e) (old.ripe e) (new.unripe e) (old.unripe e ++ held_for (new.seen e) (sent_to e.port (reaction m ev).sends)) is refl ses pub_is pfd_is (cc) (cc) in
-      end_step_along before now (reacts laws m ev sound_a meets e.port (old.seen e) (new.seen e) (old.session e) taken P (old.published e.router) (old.published_fd e.router) items items' (old.ripe e) (old.unripe e))
+      end_step_along before now (reacts laws m ev sound_a meets e.port (old.seen e) (new.seen e) (old.session e) taken P there (old.published e.router) (old.published_fd e.router) items items' (old.ripe e) (old.unripe e))
 
   -- the end at which the item is taken makes an end step
   stepped_at : old.up T.a ≡ true → Stepped t old new T.a
@@ -108,19 +109,19 @@ module _ (laws : MachineLaws) (t : Topology) (old new : State) (I : Invariant t 
       record {
         taken = message_of T.item;
         added = sent_from T.a;
-        step = acts T.a refl (message_of T.item) P;
+        step = acts T.a T.valid_place refl (message_of T.item) P;
         took = ap messages T.inbox_at ∙ front_item T.item (new.inbox T.a);
       }
 
   -- the other ends of the same router make an end step that takes nothing
-  stepped_beside : (e : LinkEnd) → (e ≡ T.a → ⊥) → e.router ≡ T.a.router → Stepped t old new e
-  stepped_beside e d r =
+  stepped_beside : (e : LinkEnd) → t.valid e ≡ true → (e ≡ T.a → ⊥) → e.router ≡ T.a.router → Stepped t old new e
+  stepped_beside e v d r =
       let P : PortStep m ev e.port (old.seen e) (new.seen e) (old.session e) None =
       rw (T.seen_elsewhere e d) (port_step_other laws m T.a.port e.port T.item (old.seen e) (old.session e) (other_port e d r)) in
       record {
         taken = None;
         added = sent_from e;
-        step = acts e r None P;
+        step = acts e v r None P;
         took = ap messages (sym (T.inbox_elsewhere e d));
       }
 
@@ -147,10 +148,10 @@ module _ (laws : MachineLaws) (t : Topology) (old new : State) (I : Invariant t 
       }
 
   -- every end of a live link makes an end step
-  stepped : (e : LinkEnd) → old.up e ≡ true → Stepped t old new e
-  stepped e live_link = elim (place_cases e T.a) [
+  stepped : (e : LinkEnd) → t.valid e ≡ true → old.up e ≡ true → Stepped t old new e
+  stepped e v live_link = elim (place_cases e T.a) [
     | inl p ↦ subst (λ (w : LinkEnd). Stepped t old new w) (sym p) (stepped_at (subst (λ (w : LinkEnd). old.up w ≡ true) p live_link))
-    | inr d ↦ elim (cases_eq e.router T.a.router) [ inl r ↦ stepped_beside e d r | inr f ↦ stepped_away e f ]
+    | inr d ↦ elim (cases_eq e.router T.a.router) [ inl r ↦ stepped_beside e v d r | inr f ↦ stepped_away e f ]
   ]
 
   -- what was released from e is what is taken across the link, then what is released from e after the step
@@ -169,8 +170,8 @@ module _ (laws : MachineLaws) (t : Topology) (old new : State) (I : Invariant t 
       let f = t.far e in
       let up_f : old.up f ≡ true = I.up_far e v ∙ up_e in
       let back : t.far f ≡ e = t.far_far e v in
-      let X = stepped e up_e in
-      let Y = stepped f up_f in
+      let X = stepped e v up_e in
+      let Y = stepped f (t.far_valid e v) up_f in
       let two : EndInvariant (end_at t old f) (end_at t old e) = subst (λ (w : LinkEnd). EndInvariant (end_at t old f) (end_at t old w)) back (I.links f (t.far_valid e v) up_f) in
       let took_e : messages (old.inbox (t.far f)) ≡ front X.taken ++ messages (new.inbox (t.far f)) = subst (λ (w : LinkEnd). messages (old.inbox w) ≡ front X.taken ++ messages (new.inbox w)) (sym back) X.took in
       let J : LinkStep (end_at t old e) (end_at t old f) (end_at t new e) (end_at t new f) X.taken Y.taken X.added Y.added =

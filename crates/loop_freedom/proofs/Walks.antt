@@ -4,10 +4,11 @@ use Rattle.std.proofs.Common.{refl, ap, arith, inl, inr}
 use Rattle.std.proofs.lemmas.Bool.{and_from, ne_eqb, eq-eqb, or_from}
 use Rattle.network_model.specs.Machine.{is_port}
 use Rattle.machine_laws.specs.Laws.{MachineLaws, is_up_at}
-use Rattle.loop_freedom.specs.Network.{LinkEnd, Topology, State, Step, Takes, Publishes, Releases, LinkComes, LinkGoes, CostChanges, Skips, Run, Start, Then, PublishedEdge, ControlEdge, IsWalk, met, is_met, meets_twice, AlwaysHolds, PublishedLoopFree, MixedLoopFree}
+use Rattle.loop_freedom.specs.Network.{LinkEnd, Topology, State, Step, Takes, TakesAtHome, Publishes, Releases, LinkComes, LinkGoes, CostChanges, Skips, Run, Start, Then, PublishedEdge, ControlEdge, IsWalk, met, is_met, meets_twice, AlwaysHolds, PublishedLoopFree, MixedLoopFree}
 use Rattle.loop_freedom.specs.Facts.{is_current, is_next_hop}
 use Rattle.loop_freedom.proofs.Invariant.{Invariant}
 use Rattle.loop_freedom.proofs.Taking.{take_keeps}
+use Rattle.loop_freedom.proofs.TakingAtHome.{take_at_home_keeps}
 use Rattle.loop_freedom.proofs.Publishing.{publish_keeps}
 use Rattle.loop_freedom.proofs.StillMachines.{release_keeps, set_cost_keeps, skip_keeps}
 use Rattle.loop_freedom.proofs.Linking.{link_up_keeps, link_down_keeps}
@@ -16,6 +17,7 @@ use Rattle.loop_freedom.proofs.Opened.{opening_keeps}
 -- every step keeps the invariant
 pub steps_keep : MachineLaws → (t : Topology) (old new : State) → Invariant t old → Step t old new → Invariant t new
 steps_keep laws t old new I (Takes s) = take_keeps laws t old new I s
+steps_keep laws t old new I (TakesAtHome s) = take_at_home_keeps laws t old new I s
 steps_keep laws t old new I (Publishes s) = publish_keeps t old new I s
 steps_keep laws t old new I (Releases s) = release_keeps t old new I s
 steps_keep laws t old new I (LinkComes s) = link_up_keeps t old new I s

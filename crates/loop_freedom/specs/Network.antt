@@ -4,7 +4,7 @@ use Rattle.network_model.specs.declared.machine.Neighbour.{Neighbour}
 use Rattle.network_model.specs.declared.machine.Event.{Event}
 use Rattle.network_model.specs.declared.machine.Event.TheVariants.{Message, Up, Down, Cost}
 use Rattle.metric.specs.declared.kind.Kind.{Kind}
-use Rattle.network_model.specs.Machine.{Machine, reaction, opening_machine}
+use Rattle.network_model.specs.Machine.{Machine, reaction, opening_machine, port_successor, event_at_home}
 use Rattle.network_model.specs.declared.machine.Outgoing.{Outgoing}
 use Rattle.metric.specs.Distance.{infinity}
 use Rattle.machine_laws.specs.Laws.{sent_to, is_up_at}
@@ -86,7 +86,7 @@ abbrev pub held_for : ℕ → List Outgoing → List Held
 held_for n [] = []
 held_for n (s ∷ ss) = record { session = n; message = record { kind = s.kind; value = s.value } } ∷ held_for n ss
 
--- the next hop that a successor makes: its port, with the session seen there
+-- the next hop that a port makes that is the successor: the port, with the session seen there
 abbrev pub next_hop_of : (ℕ → ℕ) → Option ℕ → Option NextHop
 next_hop_of seen None = None
 next_hop_of seen (Some q) = Some (record { port = q; session = seen q })
@@ -145,10 +145,26 @@ pub record Take (t : Topology) (old new : State) : Type 0 where
   pub costs : SameCosts old new
   pub publications : SamePublished old new
 
--- router j publishes its successor and its feasible distance, and all that it holds is ripe
+-- router i takes a notice of its attachment, which is its cost, or none where it is gone: its machine reacts, and what it sends is held, unripe
+pub record TakeAtHome (t : Topology) (old new : State) : Type 0 where
+  pub i : ℕ
+  pub notice : Option ℕ
+  pub positive : (c : ℕ) → notice ≡ Some c → 0 < c
+  pub machine_at : new.machine i ≡ (reaction (old.machine i) (event_at_home notice)).machine
+  pub machine_elsewhere : (j : ℕ) → (j ≡ i → ⊥) → new.machine j ≡ old.machine j
+  pub unripe_at : (e : LinkEnd) → e.router ≡ i → new.unripe e ≡ old.unripe e ++ held_for (old.seen e) (sent_to e.port (reaction (old.machine i) (event_at_home notice)).sends)
+  pub unripe_elsewhere : (e : LinkEnd) → (e.router ≡ i → ⊥) → new.unripe e ≡ old.unripe e
+  pub seen_same : (e : LinkEnd) → new.seen e ≡ old.seen e
+  pub ripe_same : (e : LinkEnd) → new.ripe e ≡ old.ripe e
+  pub inboxes : SameInboxes old new
+  pub links : SameLinks old new
+  pub costs : SameCosts old new
+  pub publications : SamePublished old new
+
+-- router j publishes its successor, where that is a port, and its feasible distance, and all that it holds is ripe
 pub record Publish (t : Topology) (old new : State) : Type 0 where
   pub j : ℕ
-  pub published_at : new.published j ≡ next_hop_of (λ q. old.seen (at_port j q)) (old.machine j).successor
+  pub published_at : new.published j ≡ next_hop_of (λ q. old.seen (at_port j q)) (port_successor (old.machine j))
   pub published_fd_at : new.published_fd j ≡ (old.machine j).fd
   pub published_elsewhere : (i : ℕ) → (i ≡ j → ⊥) → new.published i ≡ old.published i
   pub published_fd_elsewhere : (i : ℕ) → (i ≡ j → ⊥) → new.published_fd i ≡ old.published_fd i
@@ -241,6 +257,7 @@ pub record Skip (t : Topology) (old new : State) : Type 0 where
 -- one step of a network, as one destination sees it
 pub data Step (t : Topology) (old new : State) : Type 0 where
   Takes : Take t old new → Step t old new
+  TakesAtHome : TakeAtHome t old new → Step t old new
   Publishes : Publish t old new → Step t old new
   Releases : Release t old new → Step t old new
   LinkComes : LinkUp t old new → Step t old new
@@ -263,11 +280,12 @@ pub record OpeningPorts (ns : List Neighbour) : Type 0 where
 
 -- the state before the first step: all links are down, nothing is queued or held, and no successor is published
 pub record Opening (t : Topology) (s : State) : Type 0 where
-  pub owns : ℕ → Bool
+  pub attachment : ℕ → Option ℕ
+  pub attachment_range : (i : ℕ) (c : ℕ) → attachment i ≡ Some c → (0 < c) × (c < infinity)
   pub ports : ℕ → List Neighbour
   pub opening_ports : (i : ℕ) → OpeningPorts (ports i)
   pub ports_there : (e : LinkEnd) → t.valid e ≡ true → e.port < length (ports e.router)
-  pub machines : (i : ℕ) → s.machine i ≡ opening_machine (owns i) (ports i)
+  pub machines : (i : ℕ) → s.machine i ≡ opening_machine (attachment i) (ports i)
   pub seen_none : (e : LinkEnd) → s.seen e ≡ 0
   pub all_down : (e : LinkEnd) → s.up e ≡ false
   pub session_none : (e : LinkEnd) → s.session e ≡ 0

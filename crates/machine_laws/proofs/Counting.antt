@@ -9,13 +9,13 @@ use Rattle.network_model.specs.declared.machine.Neighbour.{Neighbour}
 use Rattle.network_model.specs.declared.machine.Event.{Event}
 use Rattle.metric.specs.declared.kind.Kind.{Kind}
 use Rattle.metric.specs.declared.kind.Kind.TheVariants.{Update, Query, Reply}
-use Rattle.network_model.specs.Machine.{Machine, Computation, Reaction, is_port, via_successor, records_after, successor_after, with_records, asker, one_to, all_from, changed_at, news_to_others, least, awaited_after, greeting, reaction}
+use Rattle.network_model.specs.Machine.{Machine, Computation, Reaction, is_port, via_successor, ways, records_after, with_records, one_to, all_from, changed_at, news_to_others, least, awaited_after, greeting, reaction}
 use Rattle.network_model.specs.declared.machine.Outgoing.{Outgoing}
 use Rattle.metric.specs.Distance.{infinity}
 use Rattle.machine_laws.specs.Laws.{released, one_if, is_kind, sent_to, count_kind, test_at, is_up_at, awaits, owes, is_active, is_message, is_down, IsSound, CountsQueries, CountsReplies}
 use Rattle.machine_laws.proofs.Sends.{sent_append, count_append, count_one, count_all}
-use Rattle.machine_laws.proofs.Events.{is_port-Some, asked_by, replied_by, released_by}
-use Rattle.machine_laws.proofs.Outcomes.{Account, Outcome, came_up, at_home, goes_on, settles, asks, is_alone, outcome, active_awaits, awaited_kept, test_nowhere, waiting, successor_up_after, awaited_after_is}
+use Rattle.machine_laws.proofs.Events.{is_port-Some, replied_by, released_by}
+use Rattle.machine_laws.proofs.Outcomes.{Account, Outcome, came_up, goes_on, settles, asks, is_alone, outcome, active_awaits, awaited_kept, test_nowhere, waiting, awaited_after_is}
 
 -- two truth values that follow from each other are the same
 same_truth : (a b : Bool) → (a ≡ true → b ≡ true) → (b ≡ true → a ≡ true) → a ≡ b
@@ -109,16 +109,12 @@ waiting_queries m e c debt answer p h d fair = go (is_message Reply p e) refl
 -- every outcome counts its queries
 queries_of : (m : Machine) (e : Event) (r : Reaction) → IsSound m → Outcome m e r → (p : ℕ) → is_down p e ≡ false → (is_message Reply p e ≡ true → awaits m p ≡ true) → QueriesCount m e r p
 queries_of m e r sound (came_up q cost) p d fair = rw (greeting_count Query m p q refl) refl
-queries_of m e r sound (at_home _ h) p d fair =
-    let nothing = (passive_nothing m p (sound.local_passive h)).0 in
-    let replied = same_truth (is_message Reply p e) (awaits m p) fair (λ a. absurd (both_ways (awaits m p) nothing a)) in
-    rw (replied, nothing, count_one Query Reply p (asker e) 0) refl
-queries_of m e r sound (goes_on _ c debt answer far h some a) p d fair = waiting_queries m e c debt answer p h d fair
-queries_of m e r sound (settles _ fd owed dec a f) p d fair = rw (settled_queries p owed m.rd (least (records_after e m.ports)) (records_after e m.ports), replied_all m e p dec.over d fair) (omega arith)
+queries_of m e r sound (goes_on _ c debt answer h some a) p d fair = waiting_queries m e c debt answer p h d fair
+queries_of m e r sound (settles _ fd owed dec a f) p d fair = rw (settled_queries p owed m.rd (least (ways (with_records m e))) (records_after e m.ports), replied_all m e p dec.over d fair) (omega arith)
 queries_of m e r sound (asks _ fd debt answer dec a f some) p d fair =
-    let v = via_successor (records_after e m.ports) (successor_after e m.successor) in
+    let v = via_successor (ways (with_records m e)) (with_records m e).successor in
     rw (asked_queries p answer v (records_after e m.ports), awaited_up p (records_after e m.ports), replied_all m e p dec.over d fair) (omega arith)
-queries_of m e r sound (is_alone _ fd debt answer dec a none) p d fair = rw (replied_all m e p dec.over d fair) (omega arith)
+queries_of m e r sound (is_alone _ fd debt answer dec a f none) p d fair = rw (replied_all m e p dec.over d fair) (omega arith)
 
 -- what is awaited grows by the queries sent and falls by the reply taken
 pub counts_queries : CountsQueries
@@ -132,19 +128,18 @@ RepliesCount m e r p = one_if (owes r.machine p) + count_kind Reply (sent_to p r
 alone_account : (m : Machine) (e : Event) (debt answer : Option ℕ) (p : ℕ) → IsSound m → Account m e debt answer → list_any (λ n. n.up) (records_after e m.ports) ≡ false → (is_port p debt ≡ false) × (is_port p answer ≡ false)
 alone_account m e debt answer p sound a none =
     let down : is_up_at (with_records m e) p ≡ false = test_nowhere (λ n. n.up) (records_after e m.ports) p none in (
-      false_from_ne_true (is_port p debt) (λ t. both_ways (is_up_at (with_records m e) p) down (successor_up_after m e sound p (a.debt_successor p (is_port-Some p debt t)))),
+      false_from_ne_true (is_port p debt) (λ t. both_ways (is_up_at (with_records m e) p) down (a.debt_up p (is_port-Some p debt t))),
       false_from_ne_true (is_port p answer) (λ t. both_ways (is_up_at (with_records m e) p) down (a.answer_up p (is_port-Some p answer t))),
     )
 
 -- every outcome counts its replies
 replies_of : (m : Machine) (e : Event) (r : Reaction) → IsSound m → Outcome m e r → (p : ℕ) → is_down p e ≡ false → (is_message Query p e ≡ true → owes m p ≡ false) → RepliesCount m e r p
 replies_of m e r sound (came_up q cost) p d fair = rw (greeting_count Reply m p q refl) refl
-replies_of m e r sound (at_home _ h) p d fair = rw (count_one Reply Reply p (asker e) 0, asked_by p e) refl
-replies_of m e r sound (goes_on _ c debt answer far h some a) p d fair = rw (count_one Reply Reply p answer m.rd) (a.balance p d fair)
-replies_of m e r sound (settles _ fd owed dec a f) p d fair = rw (settled_replies p owed m.rd (least (records_after e m.ports)) (records_after e m.ports)) (a.balance p d fair)
+replies_of m e r sound (goes_on _ c debt answer h some a) p d fair = rw (count_one Reply Reply p answer m.rd) (a.balance p d fair)
+replies_of m e r sound (settles _ fd owed dec a f) p d fair = rw (settled_replies p owed m.rd (least (ways (with_records m e))) (records_after e m.ports)) (a.balance p d fair)
 replies_of m e r sound (asks _ fd debt answer dec a f some) p d fair =
-    rw (asked_replies p answer (via_successor (records_after e m.ports) (successor_after e m.successor)) (records_after e m.ports)) (a.balance p d fair)
-replies_of m e r sound (is_alone _ fd debt answer dec a none) p d fair =
+    rw (asked_replies p answer (via_successor (ways (with_records m e)) (with_records m e).successor) (records_after e m.ports)) (a.balance p d fair)
+replies_of m e r sound (is_alone _ fd debt answer dec a f none) p d fair =
     let parts = alone_account m e debt answer p sound a none in
     let balance = a.balance p d fair in
     rw (parts.0, parts.1) at balance

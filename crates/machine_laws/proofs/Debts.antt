@@ -6,8 +6,8 @@ use Rattle.std.proofs.lemmas.Bool.{cases_Bool, false≢true, ne_eqb, eqb-false}
 use Rattle.metric.specs.declared.kind.Kind.TheVariants.{Update, Query, Reply}
 use Rattle.network_model.specs.declared.machine.Neighbour.{Neighbour}
 use Rattle.network_model.specs.declared.machine.Event.{Event}
-use Rattle.network_model.specs.declared.machine.Event.TheVariants.{Message, Up, Down, Cost}
-use Rattle.network_model.specs.Machine.{Machine, Computation, Reaction, decision, with_records, new_computation, started_computation, completion, passive_result, with_first, one_to, answers_at_once, asker, awaited_after, debt_after, condition_holds, passive_reaction, active_reaction, is_port, via_successor}
+use Rattle.network_model.specs.declared.machine.Event.TheVariants.{Message, Up, Down, Cost, Attached, Detached}
+use Rattle.network_model.specs.Machine.{Machine, Computation, Reaction, decision, with_records, new_computation, started_computation, completion, passive_result, with_first, one_to, answers_at_once, asker, awaited_after, debt_after, condition_holds, passive_reaction, active_reaction, is_port, via_successor, ways}
 use Rattle.network_model.specs.declared.machine.Outgoing.{Outgoing}
 use Rattle.machine_laws.specs.Laws.{is_active, sent_to, count_kind, KeepsDebt}
 use Rattle.machine_laws.proofs.Sends.{count_all}
@@ -46,7 +46,7 @@ begun_keeps m fd debt p = keeps_if (list_any (λ n. n.up) m.ports) _ _ p m.succe
 
 -- a computation that begins is quiet
 quiet_begun : (m : Machine) (fd : ℕ) (debt : Option ℕ) (p : ℕ) → Quiet p (new_computation m fd debt)
-quiet_begun m fd debt p = quiet_if (list_any (λ n. n.up) m.ports) _ _ p (λ b e a. count_all Reply Query p None (via_successor m.ports m.successor) m.ports) (λ b e a. refl)
+quiet_begun m fd debt p = quiet_if (list_any (λ n. n.up) m.ports) _ _ p (λ b e a. count_all Reply Query p None (via_successor (ways m) m.successor) m.ports) (λ b e a. refl)
 
 -- a machine that is passive after the event is quiet
 quiet_settled : (m : Machine) (fd : ℕ) (owed : Option ℕ) (p : ℕ) → Quiet p (passive_result m fd owed)
@@ -54,7 +54,7 @@ quiet_settled m fd owed p e a = absurd (false≢true a)
 
 -- a computation that is over is quiet
 quiet_completed : (m : Machine) (debt : Option ℕ) (p : ℕ) → Quiet p (completion m debt)
-quiet_completed m debt p = quiet_if (condition_holds m.rd m.ports) (passive_result m m.rd debt) (new_computation m m.rd debt) p (λ b. quiet_settled m m.rd debt p) (λ b. quiet_begun m m.rd debt p)
+quiet_completed m debt p = quiet_if (condition_holds m.rd (ways m)) (passive_result m m.rd debt) (new_computation m m.rd debt) p (λ b. quiet_settled m m.rd debt p) (λ b. quiet_begun m m.rd debt p)
 
 -- a port that fails the test for the successor is another port
 not_this : (q p : ℕ) (s : Option ℕ) → s ≡ Some p → is_port q s ≡ false → q ≡ p → ⊥
@@ -65,12 +65,12 @@ not_this q p (Some k) e b d = let g : q ≡ k = (let f : k ≡ p = cc in d ∙ s
 quiet_started : (m : Machine) (a : Option ℕ) (p : ℕ) → Quiet p (started_computation m a)
 quiet_started m None p = quiet_begun m m.fd None p
 quiet_started m (Some q) p = quiet_if (is_port q m.successor) _ _ p (λ b. quiet_begun m m.fd (Some q) p)
-    (λ b e a. silent_append p (one_to (Some q) Reply (via_successor m.ports m.successor)) (new_computation m m.fd None).sends
-    (silent_one p q (via_successor m.ports m.successor) (not_this q p m.successor (begun_keeps m m.fd None p e) b)) (quiet_begun m m.fd None p e a))
+    (λ b e a. silent_append p (one_to (Some q) Reply (via_successor (ways m) m.successor)) (new_computation m m.fd None).sends
+    (silent_one p q (via_successor (ways m) m.successor) (not_this q p m.successor (begun_keeps m m.fd None p e) b)) (quiet_begun m m.fd None p e a))
 
 -- a passive machine's reaction is quiet
 quiet_passive : (m : Machine) (e : Event) (p : ℕ) → Quiet p (passive_reaction m e)
-quiet_passive m e p = quiet_if (condition_holds m.fd m.ports) (passive_result m m.fd (asker e)) (started_computation m (asker e)) p (λ b. quiet_settled m m.fd (asker e) p) (λ b. quiet_started m (asker e) p)
+quiet_passive m e p = quiet_if (condition_holds m.fd (ways m)) (passive_result m m.fd (asker e)) (started_computation m (asker e)) p (λ b. quiet_settled m m.fd (asker e) p) (λ b. quiet_started m (asker e) p)
 
 -- an active machine does not answer its successor at once
 silent_answered : (m : Machine) (e : Event) (p : ℕ) → m.successor ≡ Some p → Silent p (answers_at_once m e)
@@ -83,10 +83,12 @@ silent_answered m (Message q Reply v) p s = refl
 silent_answered m (Up q c) p s = refl
 silent_answered m (Down q) p s = refl
 silent_answered m (Cost q c) p s = refl
+silent_answered m (Attached c) p s = refl
+silent_answered m Detached p s = refl
 
 -- where the machine is active after a computation that is over, its successor was the successor before
 completed_keeps : (m : Machine) (debt : Option ℕ) (p : ℕ) → is_active (completion m debt).machine ≡ true → (completion m debt).machine.successor ≡ Some p → m.successor ≡ Some p
-completed_keeps m debt p = by_test (condition_holds m.rd m.ports)
+completed_keeps m debt p = by_test (condition_holds m.rd (ways m))
   where
     by_test : (b : Bool) → is_active (if b then passive_result m m.rd debt else new_computation m m.rd debt).machine ≡ true → (if b then passive_result m m.rd debt else new_computation m m.rd debt).machine.successor ≡ Some p → m.successor ≡ Some p
     by_test true a e = absurd (false≢true a)
@@ -99,20 +101,21 @@ quiet_active m e c p = quiet_if (list_any (λ b. b) (awaited_after e c.awaited))
     (λ b s a. silent_append p (answers_at_once m e) (completion m (debt_after m.successor e c.debt)).sends
     (silent_answered m e p (completed_keeps m (debt_after m.successor e c.debt) p a s)) (quiet_completed m (debt_after m.successor e c.debt) p s a))
 
--- what a machine given by its parts decides is quiet, if it is no owner
-quiet_decision_of : (l : Bool) (ns : List Neighbour) (rd fd : ℕ) (s : Option ℕ) (c : Option Computation) (e : Event) (p : ℕ) → (l ≡ true → ⊥)
-    → Quiet p (decision (record { local = l; ports = ns; rd = rd; fd = fd; successor = s; computation = c }) e)
-quiet_decision_of true ns rd fd s c e p f = absurd (f refl)
-quiet_decision_of false ns rd fd s None e p f = quiet_passive (record { local = false; ports = ns; rd = rd; fd = fd; successor = s; computation = None }) e p
-quiet_decision_of false ns rd fd s (Some c) e p f = quiet_active (record { local = false; ports = ns; rd = rd; fd = fd; successor = s; computation = Some c }) e c p
+-- what a machine given by its parts decides is quiet
+quiet_decision_of : (a : Option ℕ) (ns : List Neighbour) (rd fd : ℕ) (s : Option ℕ) (c : Option Computation) (e : Event) (p : ℕ)
+    → Quiet p (decision (record { attachment = a; ports = ns; rd = rd; fd = fd; successor = s; computation = c }) e)
+quiet_decision_of a ns rd fd s None e p = quiet_passive (record { attachment = a; ports = ns; rd = rd; fd = fd; successor = s; computation = None }) e p
+quiet_decision_of a ns rd fd s (Some c) e p = quiet_active (record { attachment = a; ports = ns; rd = rd; fd = fd; successor = s; computation = Some c }) e c p
 
--- what a machine decides once its records have changed is quiet, if it is no owner
-quiet_decision : (m : Machine) (e : Event) (p : ℕ) → (m.local ≡ true → ⊥) → Quiet p (decision (with_records m e) e)
-quiet_decision m e p f = quiet_decision_of m.local (with_records m e).ports m.rd m.fd (with_records m e).successor m.computation e p f
+-- what a machine decides once its records have changed is quiet
+quiet_decision : (m : Machine) (e : Event) (p : ℕ) → Quiet p (decision (with_records m e) e)
+quiet_decision m e p = quiet_decision_of (with_records m e).attachment (with_records m e).ports m.rd m.fd (with_records m e).successor m.computation e p
 
 -- a machine that is active after an event, and has kept its successor, sent no reply to it
 pub keeps_debt : KeepsDebt
 keeps_debt m (Up q c) sound p s s' a = greeting_count Reply m p q refl
-keeps_debt m (Message q k v) sound p s s' a = quiet_decision m (Message q k v) p (λ l. cc (sound.local_successor l)) s' a
-keeps_debt m (Down q) sound p s s' a = quiet_decision m (Down q) p (λ l. cc (sound.local_successor l)) s' a
-keeps_debt m (Cost q c) sound p s s' a = quiet_decision m (Cost q c) p (λ l. cc (sound.local_successor l)) s' a
+keeps_debt m (Message q k v) sound p s s' a = quiet_decision m (Message q k v) p s' a
+keeps_debt m (Down q) sound p s s' a = quiet_decision m (Down q) p s' a
+keeps_debt m (Cost q c) sound p s s' a = quiet_decision m (Cost q c) p s' a
+keeps_debt m (Attached c) sound p s s' a = quiet_decision m (Attached c) p s' a
+keeps_debt m Detached sound p s s' a = quiet_decision m Detached p s' a

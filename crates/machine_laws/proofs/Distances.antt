@@ -1,15 +1,15 @@
 -- Distances by way of neighbours: the least of them, and who may be taken at it.
-use Rattle.std.proofs.Common.{◌≡◌, ◌≢◌, ◌⊎◌, ℕ, zero, suc, ◌+◌, ◌<◌, ◌≤◌, min, Bool, true, false, ◌&&◌, List, [], ◌∷◌, Option, Some, None, refl, ap, sym, inl, inr, arith, subst, ◌∙◌, eqb-true, eq-eqb, ltb-true, lt-ltb}
+use Rattle.std.proofs.Common.{◌≡◌, ◌≢◌, ◌⊎◌, ℕ, zero, suc, ◌+◌, ◌<◌, ◌≤◌, min, Bool, true, false, ◌&&◌, List, [], ◌∷◌, ◌++◌, length, is_some, Option, Some, None, refl, ap, sym, inl, inr, arith, subst, ◌∙◌, eqb-true, eq-eqb, ltb-true, lt-ltb}
 use Rattle.std.specs.Prelude.{slice_get, ◌==◌, nat_lt, if◌then◌else◌}
 use Rattle.std.specs.List.{list_any, position_from}
 use Rattle.std.proofs.lemmas.Bool.{and_parts, eqb-false, cases_lt, and_from, both_ways, false≢true}
 use Rattle.std.proofs.lemmas.Option.{same_Some, none-some}
 use Rattle.network_model.specs.declared.machine.Neighbour.{Neighbour}
 use Rattle.metric.specs.Distance.{infinity, plus}
-use Rattle.network_model.specs.Machine.{distance, least, is_feasible, condition_holds, is_feasible_at, kept_or_first, chosen_successor, via_successor, changed_at}
+use Rattle.network_model.specs.Machine.{distance, least, is_feasible, condition_holds, is_feasible_at, kept_or_first, chosen_successor, via_successor, changed_at, at_home, home_ways}
 use Rattle.network_model.proofs.MachineLaws.{least_bounded}
 use Rattle.machine_laws.specs.Laws.{IsSoundPort, test_at}
-use Rattle.machine_laws.proofs.Lists.{list_any_nowhere, position_passes, position_found}
+use Rattle.machine_laws.proofs.Lists.{list_any_nowhere, position_passes, position_found, append_each}
 
 -- a sum is below infinity, or infinity
 plus_cases : (a c : ℕ) → ((plus a c ≡ a + c) × (a + c < infinity)) ⊎ (plus a c ≡ infinity)
@@ -198,3 +198,38 @@ pub least_came_up : (q cost : ℕ) (ns : List Neighbour) → test_at (λ n. n.up
 least_came_up q cost [] down = refl
 least_came_up zero cost (n ∷ ns) down = ap (λ d. min d (least ns)) (plus_far cost ∙ sym (rw down))
 least_came_up (suc q) cost (n ∷ ns) down = ap (λ d. min (distance n) d) (least_came_up q cost ns down)
+
+-- ---- the ports and the attachment
+
+-- an attachment is a sound way
+at_home_sound : (a : Option ℕ) → ((c : ℕ) → a ≡ Some c → 0 < c) → AllSound (home_ways a)
+at_home_sound None f p n e = absurd (none-some n e)
+at_home_sound (Some c) f zero n e = subst IsSoundPort (same_Some (at_home c) n e) (record { costs = f c refl; bounded = omega arith })
+at_home_sound (Some c) f (suc p) n e = absurd (none-some n e)
+
+-- so all ways are sound
+pub ways_sound : (ns : List Neighbour) (a : Option ℕ) → AllSound ns → ((c : ℕ) → a ≡ Some c → 0 < c) → AllSound (ns ++ home_ways a)
+ways_sound ns a sound f = append_each IsSoundPort ns (home_ways a) sound (at_home_sound a f)
+
+-- a way is a port, or has the number of the attachment
+pub way_within : (ns : List Neighbour) (a : Option ℕ) (p : ℕ) (n : Neighbour) → slice_get (ns ++ home_ways a) p ≡ Some n → p ≤ length ns
+way_within [] None p n e = absurd (none-some n e)
+way_within [] (Some c) zero n e = omega arith
+way_within [] (Some c) (suc p) n e = absurd (none-some n e)
+way_within (x ∷ ns) a zero n e = omega arith
+way_within (x ∷ ns) a (suc p) n e = omega (arith, way_within ns a p n e)
+
+-- a way of that number is the attachment, which is there
+pub way_last : (ns : List Neighbour) (a : Option ℕ) (n : Neighbour) → slice_get (ns ++ home_ways a) (length ns) ≡ Some n → is_some a ≡ true
+way_last [] None n e = absurd (none-some n e)
+way_last [] (Some c) n e = refl
+way_last (x ∷ ns) a n e = way_last ns a n e
+
+-- no way is free
+pub least_positive : (ns : List Neighbour) → AllSound ns → 0 < least ns
+least_positive [] sound = omega arith
+least_positive (n ∷ ns) sound = go (distance_cases n) (least_positive ns (λ p. sound (suc p)))
+  where
+    go : ((n.up ≡ true) × (distance n ≡ n.reported + n.cost) × (distance n < infinity)) ⊎ (distance n ≡ infinity) → 0 < least ns → 0 < least (n ∷ ns)
+    go (inl (u, d, l)) rest = omega (arith, rest, d, (sound 0 n refl).costs)
+    go (inr e) rest = omega (arith, rest, e)

@@ -1,18 +1,17 @@
 -- Events: whom each one asks for, releases or takes away, and what it leaves of ports and successor.
-use Rattle.std.proofs.Common.{◌≡◌, ℕ, zero, suc, ◌<◌, Bool, true, false, List, [], ◌∷◌, Option, Some, None, length, refl, ap, sym, arith, subst, ◌∙◌, eqb-true, eq-eqb}
+use Rattle.std.proofs.Common.{◌≡◌, ℕ, zero, suc, ◌<◌, Bool, true, false, List, [], ◌∷◌, Option, Some, None, length, refl, ap, sym, arith, subst, ◌∙◌, eqb-true, eq-eqb, ne_eqb, is_some}
 use Rattle.std.specs.Prelude.{slice_get, ◌==◌, if◌then◌else◌}
 use Rattle.std.proofs.Math.Bool.{and-true, and-false}
 use Rattle.std.proofs.lemmas.Bool.{and_parts, both_ways, false≢true, eqb-false}
 use Rattle.std.proofs.lemmas.Option.{same_Some, none-some}
 use Rattle.network_model.specs.declared.machine.Neighbour.{Neighbour}
 use Rattle.network_model.specs.declared.machine.Event.{Event}
-use Rattle.network_model.specs.declared.machine.Event.TheVariants.{Message, Up, Down, Cost}
+use Rattle.network_model.specs.declared.machine.Event.TheVariants.{Message, Up, Down, Cost, Attached, Detached}
 use Rattle.metric.specs.declared.kind.Kind.TheVariants.{Update, Query, Reply}
-use Rattle.network_model.specs.Machine.{Machine, changed_at, is_port, records_after, successor_after, with_records, asker}
+use Rattle.network_model.specs.Machine.{Machine, changed_at, is_port, records_after, attachment_after, successor_after, with_records, asker}
 use Rattle.metric.specs.Distance.{infinity}
 use Rattle.machine_laws.specs.Laws.{released, test_at, is_up_at, is_message, is_down, Meets, IsSoundPort}
-use Rattle.network_model.proofs.ListLaws.{slice_get-changed_at_other}
-use Rattle.network_model.proofs.ListLaws.{changed_keeps}
+use Rattle.network_model.proofs.ListLaws.{slice_get-changed_at_other, length-changed_at, changed_keeps}
 use Rattle.machine_laws.proofs.Distances.{AllSound}
 use Rattle.machine_laws.proofs.Sends.{eqb_sym, eqb_same}
 
@@ -33,6 +32,8 @@ asked_by p (Message q Reply v) = and-false (q == p)
 asked_by p (Up q c) = refl
 asked_by p (Down q) = refl
 asked_by p (Cost q c) = refl
+asked_by p (Attached c) = refl
+asked_by p Detached = refl
 
 -- a reply from port p releases p
 pub replied_by : (p : ℕ) (e : Event) → is_message Reply p e ≡ true → released e ≡ Some p
@@ -42,6 +43,8 @@ replied_by p (Message q Reply v) h = ap Some (eqb-true q p (and_parts (q == p) t
 replied_by p (Up q c) h = absurd (false≢true h)
 replied_by p (Down q) h = absurd (false≢true h)
 replied_by p (Cost q c) h = absurd (false≢true h)
+replied_by p (Attached c) h = absurd (false≢true h)
+replied_by p Detached h = absurd (false≢true h)
 
 -- where port p is released and its link is not lost, the event is its reply
 pub released_by : (p : ℕ) (e : Event) → is_down p e ≡ false → released e ≡ Some p → is_message Reply p e ≡ true
@@ -51,6 +54,8 @@ released_by p (Message q Reply v) d h = and-true (q == p) ∙ eq-eqb q p (same_S
 released_by p (Up q c) d h = absurd (none-some p h)
 released_by p (Down q) d h = absurd (both_ways (q == p) d (eq-eqb q p (same_Some q p h)))
 released_by p (Cost q c) d h = absurd (none-some p h)
+released_by p (Attached c) d h = absurd (none-some p h)
+released_by p Detached d h = absurd (none-some p h)
 
 -- the loss of a link releases its port
 pub down_released : (p : ℕ) (e : Event) → is_down p e ≡ true → released e ≡ Some p
@@ -58,21 +63,25 @@ down_released p (Message q k v) h = absurd (false≢true h)
 down_released p (Up q c) h = absurd (false≢true h)
 down_released p (Down q) h = ap Some (eqb-true q p h)
 down_released p (Cost q c) h = absurd (false≢true h)
+down_released p (Attached c) h = absurd (false≢true h)
+down_released p Detached h = absurd (false≢true h)
 
 -- an event in which some port asks takes no link away, releases nobody and leaves the successor
 pub record IsAsked (e : Event) : Type 0 where
   pub none_down : (k : ℕ) → is_down k e ≡ false
   pub none_released : released e ≡ None
-  pub successor_same : (s : Option ℕ) → successor_after e s ≡ s
+  pub successor_same : (d : ℕ) (s : Option ℕ) → successor_after d e s ≡ s
 
 -- an event in which port p asks is such an event
 pub asked_event : (p : ℕ) (e : Event) → asker e ≡ Some p → IsAsked e
-asked_event p (Message q Query v) h = record { none_down = λ k. refl; none_released = refl; successor_same = λ s. refl }
+asked_event p (Message q Query v) h = record { none_down = λ k. refl; none_released = refl; successor_same = λ d s. refl }
 asked_event p (Message q Update v) h = absurd (none-some p h)
 asked_event p (Message q Reply v) h = absurd (none-some p h)
 asked_event p (Up q c) h = absurd (none-some p h)
 asked_event p (Down q) h = absurd (none-some p h)
 asked_event p (Cost q c) h = absurd (none-some p h)
+asked_event p (Attached c) h = absurd (none-some p h)
+asked_event p Detached h = absurd (none-some p h)
 
 -- an event that releases a port is no query
 pub released_alone : (p : ℕ) (e : Event) → released e ≡ Some p → asker e ≡ None
@@ -82,6 +91,8 @@ released_alone p (Message q Reply v) h = refl
 released_alone p (Up q c) h = absurd (none-some p h)
 released_alone p (Down q) h = refl
 released_alone p (Cost q c) h = absurd (none-some p h)
+released_alone p (Attached c) h = absurd (none-some p h)
+released_alone p Detached h = absurd (none-some p h)
 
 -- a port that asks is up
 pub asker_up : (m : Machine) (p : ℕ) (e : Event) → Meets m e → asker e ≡ Some p → is_up_at m p ≡ true
@@ -91,31 +102,65 @@ asker_up m p (Message q Reply v) meets h = absurd (none-some p h)
 asker_up m p (Up q c) meets h = absurd (none-some p h)
 asker_up m p (Down q) meets h = absurd (none-some p h)
 asker_up m p (Cost q c) meets h = absurd (none-some p h)
+asker_up m p (Attached c) meets h = absurd (none-some p h)
+asker_up m p Detached meets h = absurd (none-some p h)
 
 -- the successor after an event was the successor before, and its link is not lost
-pub successor_kept : (e : Event) (s : Option ℕ) (p : ℕ) → successor_after e s ≡ Some p → (s ≡ Some p) × (is_down p e ≡ false)
-successor_kept (Message q k v) s p h = (h, refl)
-successor_kept (Up q c) s p h = (h, refl)
-successor_kept (Down q) s p h = go (is_port q s) refl h
+pub successor_kept : (d : ℕ) (e : Event) (s : Option ℕ) (p : ℕ) → successor_after d e s ≡ Some p → (s ≡ Some p) × (is_down p e ≡ false)
+successor_kept d (Message q k v) s p h = (h, refl)
+successor_kept d (Up q c) s p h = (h, refl)
+successor_kept d (Down q) s p h = go (is_port q s) refl h
   where
     go : (b : Bool) → is_port q s ≡ b → (if b then None else s) ≡ Some p → (s ≡ Some p) × ((q == p) ≡ false)
     go true t e = absurd (none-some p e)
     go false t e = (e, rw e at t)
-successor_kept (Cost q c) s p h = (h, refl)
+successor_kept d (Cost q c) s p h = (h, refl)
+successor_kept d (Attached c) s p h = (h, refl)
+successor_kept d Detached s p h = go (is_port d s) h
+  where
+    go : (b : Bool) → (if b then None else s) ≡ Some p → (s ≡ Some p) × (◌≡◌ {A = Bool} false false)
+    go true e = absurd (none-some p e)
+    go false e = (e, refl)
 
--- a successor whose link is not lost stays
-pub successor_stays : (e : Event) (s : Option ℕ) (p : ℕ) → s ≡ Some p → is_down p e ≡ false → successor_after e s ≡ Some p
-successor_stays (Message q k v) s p h d = h
-successor_stays (Up q c) s p h d = h
-successor_stays (Down q) s p h d = rw h (rw d refl)
-successor_stays (Cost q c) s p h d = h
+-- a successor that is a port, whose link is not lost, stays
+pub successor_stays : (d : ℕ) (e : Event) (s : Option ℕ) (p : ℕ) → s ≡ Some p → is_down p e ≡ false → p < d → successor_after d e s ≡ Some p
+successor_stays d (Message q k v) s p h f l = h
+successor_stays d (Up q c) s p h f l = h
+successor_stays d (Down q) s p h f l = rw h (rw f refl)
+successor_stays d (Cost q c) s p h f l = h
+successor_stays d (Attached c) s p h f l = h
+successor_stays d Detached s p h f l = rw h (rw (ne_eqb d p (λ e. omega (arith, e, l))) refl)
 
--- a machine without a successor has none after the event
-pub successor_none : (e : Event) (s : Option ℕ) → s ≡ None → successor_after e s ≡ None
-successor_none (Message q k v) s h = h
-successor_none (Up q c) s h = h
-successor_none (Down q) s h = rw h
-successor_none (Cost q c) s h = h
+-- the attachment is still there after an event where it still is the successor
+pub attachment_kept : (d : ℕ) (e : Event) (s a : Option ℕ) → successor_after d e s ≡ Some d → is_some a ≡ true → is_some (attachment_after e a) ≡ true
+attachment_kept d (Message q k v) s a h t = t
+attachment_kept d (Up q c) s a h t = t
+attachment_kept d (Down q) s a h t = t
+attachment_kept d (Cost q c) s a h t = t
+attachment_kept d (Attached c) s a h t = refl
+attachment_kept d Detached s a h t = go (is_port d s) refl h
+  where
+    go : (b : Bool) → is_port d s ≡ b → (if b then None else s) ≡ Some d → ◌≡◌ {A = Bool} false true
+    go true k e = absurd (none-some d e)
+    go false k e = absurd (both_ways (is_port d s) k (is_port_same d s e))
+
+-- an attachment costs something after an event that the machine meets
+pub attachment_sound_after : (m : Machine) (e : Event) → ((c : ℕ) → m.attachment ≡ Some c → 0 < c) → Meets m e → (c : ℕ) → attachment_after e m.attachment ≡ Some c → 0 < c
+attachment_sound_after m (Message q k v) sound meets c h = sound c h
+attachment_sound_after m (Up q d) sound meets c h = sound c h
+attachment_sound_after m (Down q) sound meets c h = sound c h
+attachment_sound_after m (Cost q d) sound meets c h = sound c h
+attachment_sound_after m (Attached d) sound meets c h = omega (arith, meets, same_Some d c h)
+attachment_sound_after m Detached sound meets c h = absurd (none-some c h)
+
+-- no event changes how many ports there are
+pub ports_length : (e : Event) (ns : List Neighbour) → length (records_after e ns) ≡ length ns
+ports_length (Message q k v) ns = length-changed_at _ q ns
+ports_length (Up q c) ns = length-changed_at _ q ns
+ports_length (Down q) ns = length-changed_at _ q ns
+ports_length (Cost q c) ns = length-changed_at _ q ns
+ports_length (Attached c) ns = refl
+ports_length Detached ns = refl
 
 -- a change that leaves whether a neighbour is up leaves who is up
 up_of_changed : (q p : ℕ) (f : Neighbour → Neighbour) (ns : List Neighbour) → ((n : Neighbour) → (f n).up ≡ n.up) → test_at (λ n. n.up) (slice_get (changed_at q f ns) p) ≡ test_at (λ n. n.up) (slice_get ns p)
@@ -139,6 +184,8 @@ stays_up m (Message q k v) p d u = up_of_changed q p (λ n. record { up = n.up; 
 stays_up m (Up q c) p d u = up_of_raised q p (λ n. record { up = true; cost = c; reported = infinity }) m.ports (λ n. refl) u
 stays_up m (Down q) p d u = ap (test_at (λ n. n.up)) (slice_get-changed_at_other (λ n. record { up = false; cost = n.cost; reported = n.reported }) q p m.ports (λ s. eqb-false q p d (sym s))) ∙ u
 stays_up m (Cost q c) p d u = up_of_changed q p (λ n. record { up = n.up; cost = c; reported = n.reported }) m.ports (λ n. refl) ∙ u
+stays_up m (Attached c) p d u = u
+stays_up m Detached p d u = u
 
 -- the ports are sound after an event that the machine meets
 pub sound_after : (m : Machine) (e : Event) → AllSound m.ports → Meets m e → AllSound (records_after e m.ports)
@@ -146,6 +193,8 @@ sound_after m (Message q k v) sound meets = changed_keeps IsSoundPort q (λ n. r
 sound_after m (Up q c) sound meets = changed_keeps IsSoundPort q (λ n. record { up = true; cost = c; reported = infinity }) m.ports (λ n s. record { costs = meets.2; bounded = omega arith }) sound
 sound_after m (Down q) sound meets = changed_keeps IsSoundPort q (λ n. record { up = false; cost = n.cost; reported = n.reported }) m.ports (λ n s. record { costs = s.costs; bounded = s.bounded }) sound
 sound_after m (Cost q c) sound meets = changed_keeps IsSoundPort q (λ n. record { up = n.up; cost = c; reported = n.reported }) m.ports (λ n s. record { costs = meets.1; bounded = s.bounded }) sound
+sound_after m (Attached c) sound meets = sound
+sound_after m Detached sound meets = sound
 
 -- the port that comes up is up
 pub up_at_up : (m : Machine) (q cost : ℕ) → q < length m.ports → is_up_at (with_records m (Up q cost)) q ≡ true

@@ -11,3 +11,4 @@ pub mod Choosing
 pub mod Soundness
 pub mod MachineLaws
 pub mod Opened
+pub mod Successors

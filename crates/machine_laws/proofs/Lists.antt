@@ -1,9 +1,11 @@
--- Lists: where a test passes.
-use Rattle.std.proofs.Common.{◌≡◌, ◌⊎◌, ℕ, zero, suc, ◌+◌, Bool, true, false, cond, ◌||◌, List, [], ◌∷◌, Some, None, refl, sym, inl, inr, arith, subst}
+-- Lists: where a test passes, and two lists in a row.
+use Rattle.std.proofs.Common.{◌≡◌, ◌⊎◌, ℕ, zero, suc, ◌+◌, ◌<◌, Bool, true, false, cond, ◌||◌, List, [], ◌∷◌, ◌++◌, length, Some, None, refl, ap, sym, inl, inr, arith, subst}
 use Rattle.std.specs.Prelude.{slice_get}
 use Rattle.std.specs.List.{list_any, position_from}
 use Rattle.std.proofs.lemmas.Bool.{or_cases, or_parts}
 use Rattle.std.proofs.lemmas.Option.{same_Some, none-some}
+use Rattle.network_model.specs.Machine.{changed_at}
+use Rattle.machine_laws.specs.Laws.{test_at}
 
 -- some element passes the test
 abbrev pub Passes : {A : Type 0} → (A → Bool) → List A → Type 0
@@ -44,3 +46,37 @@ position_found test k (x ∷ xs) h e = go (test x) h e (position_found test (k +
         → (list_any test xs ≡ true → position_from test (k + 1) xs ≡ None → ⊥) → ⊥
     go true t e rest = none-some k (sym e)
     go false t e rest = rest t e
+
+-- ---- two lists in a row
+
+-- a place in the first
+pub append_within : {A : Type 0} (xs ys : List A) (p : ℕ) → p < length xs → slice_get (xs ++ ys) p ≡ slice_get xs p
+append_within [] ys p l = absurd (omega (arith, l))
+append_within (x ∷ xs) ys zero l = refl
+append_within (x ∷ xs) ys (suc p) l = append_within xs ys p (omega (arith, l))
+
+-- the element after the first
+pub append_last : {A : Type 0} (xs : List A) (y : A) → slice_get (xs ++ y ∷ []) (length xs) ≡ Some y
+append_last [] y = refl
+append_last (x ∷ xs) y = append_last xs y
+
+-- what holds of each element of both holds of each in a row
+pub append_each : {A : Type 0} (P : A → Type 0) (xs ys : List A) → ((p : ℕ) (x : A) → slice_get xs p ≡ Some x → P x) → ((p : ℕ) (x : A) → slice_get ys p ≡ Some x → P x)
+    → (p : ℕ) (x : A) → slice_get (xs ++ ys) p ≡ Some x → P x
+append_each P [] ys f g p x e = g p x e
+append_each P (y ∷ xs) ys f g zero x e = f zero x e
+append_each P (y ∷ xs) ys f g (suc p) x e = append_each P xs ys (λ k. f (suc k)) g p x e
+
+-- a change in the first leaves the other places
+pub changed_append_other : {A : Type 0} (p q : ℕ) (f : A → A) (xs ys : List A) → (p ≡ q → ⊥) → slice_get (changed_at q f xs ++ ys) p ≡ slice_get (xs ++ ys) p
+changed_append_other p q f [] ys ne = refl
+changed_append_other zero zero f (x ∷ xs) ys ne = absurd (ne refl)
+changed_append_other zero (suc q) f (x ∷ xs) ys ne = refl
+changed_append_other (suc p) zero f (x ∷ xs) ys ne = refl
+changed_append_other (suc p) (suc q) f (x ∷ xs) ys ne = changed_append_other p q f xs ys (λ e. ne (ap suc e))
+
+-- a place at which a test passes is in the list
+pub test_within : {A : Type 0} (test : A → Bool) (xs : List A) (p : ℕ) → test_at test (slice_get xs p) ≡ true → p < length xs
+test_within test [] p h = cc
+test_within test (x ∷ xs) zero h = omega arith
+test_within test (x ∷ xs) (suc p) h = omega (arith, test_within test xs p h)

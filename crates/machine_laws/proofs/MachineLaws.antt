@@ -1,6 +1,6 @@
 -- All laws of a machine, together.
 use Rattle.machine_laws.specs.Laws.{MachineLaws}
-use Rattle.machine_laws.proofs.Keeping.{keeps_records, stays_local}
+use Rattle.machine_laws.proofs.Keeping.{keeps_records, keeps_attachment}
 use Rattle.machine_laws.proofs.Counting.{counts_queries, counts_replies}
 use Rattle.machine_laws.proofs.Sending.{sends_distance, goes_on_or_asks, tells_all}
 use Rattle.machine_laws.proofs.Debts.{keeps_debt}
@@ -19,6 +19,6 @@ machine_laws = record {
   keeps_debt = keeps_debt;
   tells_all = tells_all;
   keeps_records = keeps_records;
+  keeps_attachment = keeps_attachment;
   stays_sound = stays_sound;
-  stays_local = stays_local;
 }

@@ -1,11 +1,14 @@
 -- A machine that has heard nothing is sound, so the laws speak of some machine.
-use Rattle.std.proofs.Common.{◌≡◌, ◌⊎◌, zero, suc, ◌+◌, ◌<◌, true, false, List, [], ◌∷◌, refl, sym, inl, inr, arith}
-use Rattle.std.proofs.lemmas.Bool.{true≢false, false≢true}
-use Rattle.std.proofs.lemmas.Option.{none-some}
+use Rattle.std.proofs.Common.{◌≡◌, ◌⊎◌, ℕ, zero, suc, ◌+◌, ◌<◌, min, Bool, true, false, List, [], ◌∷◌, ◌++◌, length, Some, None, refl, ap, sym, inl, inr, arith, subst, ◌∙◌, lt-ltb}
+use Rattle.std.specs.Prelude.{slice_get, nat_lt, if◌then◌else◌}
+use Rattle.std.proofs.lemmas.Bool.{false≢true}
+use Rattle.std.proofs.lemmas.Option.{same_Some, none-some}
 use Rattle.network_model.specs.declared.machine.Neighbour.{Neighbour}
 use Rattle.metric.specs.Distance.{infinity}
-use Rattle.network_model.specs.Machine.{distance, least}
+use Rattle.network_model.specs.Machine.{distance, least, at_home, home_ways}
+use Rattle.network_model.proofs.MachineLaws.{least-append, distance-bounded}
 use Rattle.machine_laws.specs.Laws.{NothingHeard, OpensSound}
+use Rattle.machine_laws.proofs.Lists.{append_last, test_within}
 use Rattle.machine_laws.proofs.Distances.{distance_cases}
 
 -- the distance by way of a neighbour that has reported nothing is infinity
@@ -21,39 +24,59 @@ pub least_unheard : (ns : List Neighbour) → NothingHeard ns → least ns ≡ i
 least_unheard [] h = refl
 least_unheard (n ∷ ns) h = omega (arith, distance_unheard n (h zero n refl), least_unheard ns (λ p. h (suc p)))
 
+-- the distance of an attachment is its cost
+pub least_at_home : (c : ℕ) → c < infinity → least (home_ways (Some c)) ≡ c
+least_at_home c l = go (nat_lt (0 + c) infinity) (lt-ltb (0 + c) infinity (omega (arith, l)))
+  where
+    go : (b : Bool) → b ≡ true → min (if b then 0 + c else infinity) infinity ≡ c
+    go true t = omega (arith, l)
+    go false t = absurd (false≢true t)
+
 -- a machine that has heard nothing is sound
 pub opened_sound : OpensSound
-opened_sound true ns sound h = record {
+opened_sound (Some c) ns costs sound h = record {
   ports_sound = sound;
-  rd_bounded = omega arith;
+  attachment_sound = λ d e. (costs d e).0;
+  rd_bounded = omega (arith, (costs c refl).1);
   fd_below = omega arith;
-  local_rd = λ l. refl;
-  local_successor = λ l. refl;
-  local_passive = λ l. refl;
-  successor_up = λ p s. absurd (none-some p s);
-  passive_least = λ far. absurd (true≢false far);
-  passive_feasible = λ p k s. absurd (none-some p s);
-  passive_attains = λ p n k s. absurd (none-some p s);
-  passive_none = λ far. absurd (true≢false far);
+  fd_positive = (costs c refl).0;
+  successor_up = λ p s l. absurd (omega (arith, same_Some (length ns) p s, l));
+  successor_within = λ p s. omega (arith, same_Some (length ns) p s);
+  successor_attached = λ s. refl;
+  passive_least = λ k. sym here;
+  passive_feasible = λ p k s up. absurd (omega (arith, same_Some (length ns) p s, test_within (λ n. n.up) ns p up));
+  passive_attains = λ p n k s at.
+      let is_home : at_home c ≡ n = same_Some (at_home c) n (sym (append_last ns (at_home c)) ∙ ap (slice_get (ns ++ home_ways (Some c))) (same_Some (length ns) p s) ∙ at) in
+      subst (λ x. distance x ≡ least (ns ++ home_ways (Some c))) is_home (omega (arith, here, least_at_home c (costs c refl).1, distance-bounded (at_home c)));
+  passive_none = λ k s. absurd (none-some (length ns) (sym s));
   active_above = λ k. absurd (false≢true k);
   awaits_some = λ k. absurd (false≢true k);
   awaits_up = λ p k. absurd (false≢true k);
   owes_successor = λ p k. absurd (false≢true k);
+  owes_up = λ p k. absurd (false≢true k);
 }
-opened_sound false ns sound h = record {
+  where
+    here : least (ns ++ home_ways (Some c)) ≡ c
+    here = omega (arith, least-append ns (home_ways (Some c)), least_unheard ns h, least_at_home c (costs c refl).1, (costs c refl).1)
+opened_sound None ns costs sound h = record {
   ports_sound = sound;
+  attachment_sound = λ d e. (costs d e).0;
   rd_bounded = omega arith;
   fd_below = omega arith;
-  local_rd = λ l. absurd (false≢true l);
-  local_successor = λ l. refl;
-  local_passive = λ l. refl;
+  fd_positive = omega arith;
   successor_up = λ p s. absurd (none-some p s);
-  passive_least = λ far k. sym (least_unheard ns h);
+  successor_within = λ p s. absurd (none-some p s);
+  successor_attached = λ s. absurd (none-some (length ns) s);
+  passive_least = λ k. sym here;
   passive_feasible = λ p k s. absurd (none-some p s);
   passive_attains = λ p n k s. absurd (none-some p s);
-  passive_none = λ far k s. (refl, refl);
+  passive_none = λ k s. (refl, refl);
   active_above = λ k. absurd (false≢true k);
   awaits_some = λ k. absurd (false≢true k);
   awaits_up = λ p k. absurd (false≢true k);
   owes_successor = λ p k. absurd (false≢true k);
+  owes_up = λ p k. absurd (false≢true k);
 }
+  where
+    here : least (ns ++ home_ways None) ≡ infinity
+    here = omega (arith, least-append ns [], least_unheard ns h)

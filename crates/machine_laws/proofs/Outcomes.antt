@@ -3,30 +3,30 @@ use Rattle.std.proofs.Common.{◌≡◌, ◌⊎◌, ℕ, ◌+◌, ◌<◌, ◌�
 use Rattle.std.specs.Option.{option_map_or}
 use Rattle.std.specs.Prelude.{slice_get, if◌then◌else◌}
 use Rattle.std.specs.List.{list_any}
-use Rattle.std.proofs.lemmas.Bool.{cases_eq, both_ways, true≢false, false_from_ne_true}
+use Rattle.std.proofs.lemmas.Bool.{cases_eq, both_ways, false_from_ne_true}
 use Rattle.std.proofs.lemmas.Option.{same_Some, none-some}
 use Rattle.network_model.specs.declared.machine.Neighbour.{Neighbour}
 use Rattle.network_model.specs.declared.machine.Event.{Event}
-use Rattle.network_model.specs.declared.machine.Event.TheVariants.{Message, Up, Down, Cost}
+use Rattle.network_model.specs.declared.machine.Event.TheVariants.{Message, Up, Down, Cost, Attached, Detached}
 use Rattle.metric.specs.declared.kind.Kind.TheVariants.{Update, Query, Reply}
-use Rattle.network_model.specs.Machine.{Machine, Computation, Reaction, is_port, condition_holds, via_successor, records_after, successor_after, with_records, asker, one_to, all_from, passive_result, new_computation, with_first, started_computation, passive_reaction, completion, awaited_after, debt_after, answers_at_once, active_reaction, greeting, owner_reaction, decision, reaction, changed_at}
+use Rattle.network_model.specs.Machine.{Machine, Computation, Reaction, ways, degree, is_port, condition_holds, via_successor, records_after, with_records, asker, one_to, all_from, passive_result, new_computation, with_first, started_computation, passive_reaction, completion, awaited_after, debt_after, answers_at_once, active_reaction, greeting, decision, reaction, changed_at}
 use Rattle.metric.specs.Distance.{infinity}
 use Rattle.machine_laws.specs.Laws.{released, one_if, test_at, is_up_at, awaits, owes, is_active, is_message, is_down, Meets, IsSound}
 use Rattle.network_model.proofs.ListLaws.{slice_get-changed_at_other}
-use Rattle.machine_laws.proofs.Lists.{list_any_nowhere}
+use Rattle.machine_laws.proofs.Lists.{list_any_nowhere, test_within}
 use Rattle.machine_laws.proofs.Sends.{eqb_same}
-use Rattle.machine_laws.proofs.Events.{is_port-Some, is_port_same, asked_by, asked_event, asker_up, released_alone, successor_kept, successor_stays, stays_up}
+use Rattle.machine_laws.proofs.Events.{is_port-Some, is_port_same, asked_by, asked_event, asker_up, released_alone, successor_stays, stays_up}
 
 -- what is owed after an event and what it answers are, together, what was owed and what the event asks
 pub record Account (m : Machine) (e : Event) (debt answer : Option ℕ) : Type 0 where
   pub balance : (p : ℕ) → is_down p e ≡ false → (is_message Query p e ≡ true → owes m p ≡ false)
       → one_if (is_port p debt) + one_if (is_port p answer) ≡ one_if (owes m p) + one_if (is_message Query p e)
   pub debt_successor : (p : ℕ) → debt ≡ Some p → (with_records m e).successor ≡ Some p
+  pub debt_up : (p : ℕ) → debt ≡ Some p → is_up_at (with_records m e) p ≡ true
   pub answer_up : (p : ℕ) → answer ≡ Some p → is_up_at (with_records m e) p ≡ true
 
 -- the machine may choose anew with feasible distance fd: nobody is awaited after the event
 pub record Decision (m : Machine) (e : Event) (fd : ℕ) : Type 0 where
-  pub distant : m.local ≡ false
   pub over : (p : ℕ) → awaits m p ≡ true → released e ≡ Some p
   pub above : m.fd ≤ fd
   pub below : fd ≤ m.rd
@@ -35,8 +35,8 @@ pub record Decision (m : Machine) (e : Event) (fd : ℕ) : Type 0 where
 -- a computation that begins, with someone up: everyone who is up is asked, after an answer, if there is one
 abbrev pub asked : Machine → ℕ → Option ℕ → Option ℕ → Reaction
 asked n fd debt answer = record {
-  machine = record n { rd = via_successor n.ports n.successor; fd = fd; computation = Some (record { awaited = map (λ x. x.up) n.ports; debt = debt }) };
-  sends = one_to answer Reply (via_successor n.ports n.successor) ++ all_from 0 None Query (via_successor n.ports n.successor) n.ports;
+  machine = record n { rd = via_successor (ways n) n.successor; fd = fd; computation = Some (record { awaited = map (λ x. x.up) n.ports; debt = debt }) };
+  sends = one_to answer Reply (via_successor (ways n) n.successor) ++ all_from 0 None Query (via_successor (ways n) n.successor) n.ports;
 }
 
 -- a computation that begins with no one up: the machine is passive without a route
@@ -50,40 +50,33 @@ waiting n e awaited debt answer = record { machine = record n { computation = So
 -- the ways that a reaction can go, each with the facts that lead to it
 pub data Outcome (m : Machine) : Event → Reaction → Type 0 where
   came_up : (q cost : ℕ) → Outcome m (Up q cost) (record { machine = with_records m (Up q cost); sends = greeting m q })
-  at_home : (e : Event) → m.local ≡ true → Outcome m e (owner_reaction (with_records m e) e)
-  goes_on : (e : Event) (c : Computation) (debt answer : Option ℕ) → m.local ≡ false → m.computation ≡ Some c → list_any (λ b. b) (awaited_after e c.awaited) ≡ true
+  goes_on : (e : Event) (c : Computation) (debt answer : Option ℕ) → m.computation ≡ Some c → list_any (λ b. b) (awaited_after e c.awaited) ≡ true
       → Account m e debt answer → Outcome m e (waiting (with_records m e) e c.awaited debt answer)
-  settles : (e : Event) (fd : ℕ) (owed : Option ℕ) → Decision m e fd → Account m e None owed → condition_holds fd (records_after e m.ports) ≡ true → Outcome m e (passive_result (with_records m e) fd owed)
-  asks : (e : Event) (fd : ℕ) (debt answer : Option ℕ) → Decision m e fd → Account m e debt answer → condition_holds fd (records_after e m.ports) ≡ false
+  settles : (e : Event) (fd : ℕ) (owed : Option ℕ) → Decision m e fd → Account m e None owed → condition_holds fd (ways (with_records m e)) ≡ true → Outcome m e (passive_result (with_records m e) fd owed)
+  asks : (e : Event) (fd : ℕ) (debt answer : Option ℕ) → Decision m e fd → Account m e debt answer → condition_holds fd (ways (with_records m e)) ≡ false
       → list_any (λ n. n.up) (records_after e m.ports) ≡ true → Outcome m e (asked (with_records m e) fd debt answer)
-  is_alone : (e : Event) (fd : ℕ) (debt answer : Option ℕ) → Decision m e fd → Account m e debt answer
+  is_alone : (e : Event) (fd : ℕ) (debt answer : Option ℕ) → Decision m e fd → Account m e debt answer → condition_holds fd (ways (with_records m e)) ≡ false
       → list_any (λ n. n.up) (records_after e m.ports) ≡ false → Outcome m e (alone (with_records m e))
 
--- a machine given by its parts decides as a passive one where it is no owner and no computation is under way
-passive_at : (b : Bool) (ns : List Neighbour) (rd fd : ℕ) (s : Option ℕ) (o : Option Computation) (e : Event) → b ≡ false → o ≡ None
-    → decision (record { local = b; ports = ns; rd = rd; fd = fd; successor = s; computation = o }) e ≡ passive_reaction (record { local = b; ports = ns; rd = rd; fd = fd; successor = s; computation = o }) e
-passive_at true ns rd fd s o e h k = absurd (true≢false h)
-passive_at false ns rd fd s None e h k = refl
-passive_at false ns rd fd s (Some c) e h k = absurd (none-some c (sym k))
+-- a machine given by its parts decides as a passive one where no computation is under way
+passive_at : (a : Option ℕ) (ns : List Neighbour) (rd fd : ℕ) (s : Option ℕ) (o : Option Computation) (e : Event) → o ≡ None
+    → decision (record { attachment = a; ports = ns; rd = rd; fd = fd; successor = s; computation = o }) e ≡ passive_reaction (record { attachment = a; ports = ns; rd = rd; fd = fd; successor = s; computation = o }) e
+passive_at a ns rd fd s None e k = refl
+passive_at a ns rd fd s (Some c) e k = absurd (none-some c (sym k))
 
--- a machine given by its parts decides as an active one where it is no owner and a computation is under way
-active_at : (b : Bool) (ns : List Neighbour) (rd fd : ℕ) (s : Option ℕ) (o : Option Computation) (e : Event) (c : Computation) → b ≡ false → o ≡ Some c
-    → decision (record { local = b; ports = ns; rd = rd; fd = fd; successor = s; computation = o }) e ≡ active_reaction (record { local = b; ports = ns; rd = rd; fd = fd; successor = s; computation = o }) e c
-active_at true ns rd fd s o e c h k = absurd (true≢false h)
-active_at false ns rd fd s None e c h k = absurd (none-some c k)
-active_at false ns rd fd s (Some d) e c h k = ap (active_reaction (record { local = false; ports = ns; rd = rd; fd = fd; successor = s; computation = Some d }) e) (same_Some d c k)
+-- a machine given by its parts decides as an active one where a computation is under way
+active_at : (a : Option ℕ) (ns : List Neighbour) (rd fd : ℕ) (s : Option ℕ) (o : Option Computation) (e : Event) (c : Computation) → o ≡ Some c
+    → decision (record { attachment = a; ports = ns; rd = rd; fd = fd; successor = s; computation = o }) e ≡ active_reaction (record { attachment = a; ports = ns; rd = rd; fd = fd; successor = s; computation = o }) e c
+active_at a ns rd fd s None e c k = absurd (none-some c k)
+active_at a ns rd fd s (Some d) e c k = ap (active_reaction (record { attachment = a; ports = ns; rd = rd; fd = fd; successor = s; computation = Some d }) e) (same_Some d c k)
 
--- a passive machine that is no owner decides as a passive one
-pub at_passive : (n : Machine) (e : Event) → n.local ≡ false → n.computation ≡ None → decision n e ≡ passive_reaction n e
-at_passive n e h k = passive_at n.local n.ports n.rd n.fd n.successor n.computation e h k
+-- a passive machine decides as a passive one
+pub at_passive : (n : Machine) (e : Event) → n.computation ≡ None → decision n e ≡ passive_reaction n e
+at_passive n e k = passive_at n.attachment n.ports n.rd n.fd n.successor n.computation e k
 
--- an active machine that is no owner decides as an active one
-pub at_active : (n : Machine) (e : Event) (c : Computation) → n.local ≡ false → n.computation ≡ Some c → decision n e ≡ active_reaction n e c
-at_active n e c h k = active_at n.local n.ports n.rd n.fd n.successor n.computation e c h k
-
--- the owner decides as the owner
-pub at_local : (n : Machine) (e : Event) → n.local ≡ true → decision n e ≡ owner_reaction n e
-at_local n e h = rw h
+-- an active machine decides as an active one
+pub at_active : (n : Machine) (e : Event) (c : Computation) → n.computation ≡ Some c → decision n e ≡ active_reaction n e c
+at_active n e c k = active_at n.attachment n.ports n.rd n.fd n.successor n.computation e c k
 
 -- ---- what is owed
 
@@ -95,39 +88,39 @@ passive_owes m p h = rw h
 active_owes : (m : Machine) (c : Computation) (p : ℕ) → m.computation ≡ Some c → owes m p ≡ is_port p c.debt
 active_owes m c p h = rw h
 
--- the successor after an event is up
-pub successor_up_after : (m : Machine) (e : Event) → IsSound m → (p : ℕ) → successor_after e m.successor ≡ Some p → is_up_at (with_records m e) p ≡ true
-successor_up_after m e sound p h = let kept = successor_kept e m.successor p h in stays_up m e p kept.1 (sound.successor_up p kept.0)
-
 -- a passive machine owes nothing, and answers whoever asks
 account_answer : (m : Machine) (e : Event) → Meets m e → m.computation ≡ None → Account m e None (asker e)
 account_answer m e meets h = record {
   balance = λ p d ask. rw (passive_owes m p h, asked_by p e) (omega arith);
   debt_successor = λ p k. absurd (none-some p k);
+  debt_up = λ p k. absurd (none-some p k);
   answer_up = λ p k. stays_up m e p ((asked_event p e k).none_down p) (asker_up m p e meets k);
 }
 
 -- a passive machine that is asked by its successor may owe the answer
-account_debt : (m : Machine) (e : Event) (q : ℕ) → m.computation ≡ None → asker e ≡ Some q → (with_records m e).successor ≡ Some q → Account m e (Some q) None
-account_debt m e q h a s = record {
+account_debt : (m : Machine) (e : Event) (q : ℕ) → Meets m e → m.computation ≡ None → asker e ≡ Some q → (with_records m e).successor ≡ Some q → Account m e (Some q) None
+account_debt m e q meets h a s = record {
   balance = λ p d ask. rw (passive_owes m p h, asked_by p e, a) (omega arith);
   debt_successor = λ p k. s ∙ k;
+  debt_up = λ p k. let by : asker e ≡ Some p = a ∙ k in stays_up m e p ((asked_event p e by).none_down p) (asker_up m p e meets by);
   answer_up = λ p k. absurd (none-some p k);
 }
 
 -- what is owed may be paid at once
-account_paid : (m : Machine) (e : Event) (debt : Option ℕ) → IsSound m → Account m e debt None → Account m e None debt
-account_paid m e debt sound a = record {
+account_paid : (m : Machine) (e : Event) (debt : Option ℕ) → Account m e debt None → Account m e None debt
+account_paid m e debt a = record {
   balance = λ p d ask. omega (arith, a.balance p d ask);
   debt_successor = λ p k. absurd (none-some p k);
-  answer_up = λ p k. successor_up_after m e sound p (a.debt_successor p k);
+  debt_up = λ p k. absurd (none-some p k);
+  answer_up = a.debt_up;
 }
 
 -- an active machine that nobody asks owes what it owed, if that link is not lost
 account_same : (m : Machine) (e : Event) (c : Computation) → IsSound m → m.computation ≡ Some c → asker e ≡ None → ((p : ℕ) → c.debt ≡ Some p → is_down p e ≡ false) → Account m e c.debt None
 account_same m e c sound h a stays = record {
   balance = λ p d ask. rw (active_owes m c p h, asked_by p e, a) (omega arith);
-  debt_successor = λ p k. successor_stays e m.successor p (sound.owes_successor p (active_owes m c p h ∙ is_port_same p c.debt k)) (stays p k);
+  debt_successor = λ p k. let o = active_owes m c p h ∙ is_port_same p c.debt k in successor_stays (degree m) e m.successor p (sound.owes_successor p o) (stays p k) (test_within (λ n. n.up) m.ports p (sound.owes_up p o));
+  debt_up = λ p k. stays_up m e p (stays p k) (sound.owes_up p (active_owes m c p h ∙ is_port_same p c.debt k));
   answer_up = λ p k. absurd (none-some p k);
 }
 
@@ -138,17 +131,19 @@ account_lost m e c q h a l k = record {
       let other : is_port p c.debt ≡ false = false_from_ne_true (is_port p c.debt) (λ t. both_ways (is_down p e) d (subst (λ x. is_down x e ≡ true) (same_Some q p (sym k ∙ is_port-Some p c.debt t)) l)) in
       rw (active_owes m c p h, asked_by p e, a, other) (omega arith);
   debt_successor = λ p j. absurd (none-some p j);
+  debt_up = λ p j. absurd (none-some p j);
   answer_up = λ p j. absurd (none-some p j);
 }
 
 -- an active machine that its successor asks owes it a reply
-account_asked : (m : Machine) (e : Event) (c : Computation) (q : ℕ) → IsSound m → m.computation ≡ Some c → asker e ≡ Some q → m.successor ≡ Some q → Account m e (Some q) None
-account_asked m e c q sound h a s = record {
+account_asked : (m : Machine) (e : Event) (c : Computation) (q : ℕ) → IsSound m → Meets m e → m.computation ≡ Some c → asker e ≡ Some q → m.successor ≡ Some q → Account m e (Some q) None
+account_asked m e c q sound meets h a s = record {
   balance = λ p d ask.
       let owed_to_asker : owes m p ≡ true → is_message Query p e ≡ true = λ t. asked_by p e ∙ is_port_same p (asker e) (a ∙ sym s ∙ sound.owes_successor p t) in
       let none : owes m p ≡ false = false_from_ne_true (owes m p) (λ t. both_ways (owes m p) (ask (owed_to_asker t)) t) in
       rw (none, asked_by p e, a) (omega arith);
-  debt_successor = λ p k. (asked_event q e a).successor_same m.successor ∙ s ∙ k;
+  debt_successor = λ p k. (asked_event q e a).successor_same (degree m) m.successor ∙ s ∙ k;
+  debt_up = λ p k. let by : asker e ≡ Some p = a ∙ k in stays_up m e p ((asked_event p e by).none_down p) (asker_up m p e meets by);
   answer_up = λ p k. absurd (none-some p k);
 }
 
@@ -156,7 +151,8 @@ account_asked m e c q sound h a s = record {
 account_other : (m : Machine) (e : Event) (c : Computation) (q : ℕ) → IsSound m → Meets m e → m.computation ≡ Some c → asker e ≡ Some q → Account m e c.debt (Some q)
 account_other m e c q sound meets h a = record {
   balance = λ p d ask. rw (active_owes m c p h, asked_by p e, a) (omega arith);
-  debt_successor = λ p k. successor_stays e m.successor p (sound.owes_successor p (active_owes m c p h ∙ is_port_same p c.debt k)) ((asked_event q e a).none_down p);
+  debt_successor = λ p k. let o = active_owes m c p h ∙ is_port_same p c.debt k in successor_stays (degree m) e m.successor p (sound.owes_successor p o) ((asked_event q e a).none_down p) (test_within (λ n. n.up) m.ports p (sound.owes_up p o));
+  debt_up = λ p k. stays_up m e p ((asked_event q e a).none_down p) (sound.owes_up p (active_owes m c p h ∙ is_port_same p c.debt k));
   answer_up = λ p k. let by : asker e ≡ Some p = a ∙ k in stays_up m e p ((asked_event p e by).none_down p) (asker_up m p e meets by);
 }
 
@@ -174,12 +170,14 @@ accounted : (m : Machine) (e : Event) (c : Computation) → IsSound m → Meets 
 accounted m (Message q Query v) c sound meets h = go (is_port q m.successor) refl
   where
     go : (b : Bool) → is_port q m.successor ≡ b → Accounted m (Message q Query v) c
-    go true t = record { debt = Some q; answer = None; debt_is = rw t; answer_is = rw t; account = account_asked m (Message q Query v) c q sound h refl (is_port-Some q m.successor t); unasked = λ k. refl }
+    go true t = record { debt = Some q; answer = None; debt_is = rw t; answer_is = rw t; account = account_asked m (Message q Query v) c q sound meets h refl (is_port-Some q m.successor t); unasked = λ k. refl }
     go false t = record { debt = c.debt; answer = Some q; debt_is = rw t; answer_is = rw t; account = account_other m (Message q Query v) c q sound meets h refl; unasked = λ k. absurd (none-some q (sym k)) }
 accounted m (Message q Update v) c sound meets h = record { debt = c.debt; answer = None; debt_is = refl; answer_is = refl; account = account_same m (Message q Update v) c sound h refl (λ p k. refl); unasked = λ k. refl }
 accounted m (Message q Reply v) c sound meets h = record { debt = c.debt; answer = None; debt_is = refl; answer_is = refl; account = account_same m (Message q Reply v) c sound h refl (λ p k. refl); unasked = λ k. refl }
 accounted m (Up q cost) c sound meets h = record { debt = c.debt; answer = None; debt_is = refl; answer_is = refl; account = account_same m (Up q cost) c sound h refl (λ p k. refl); unasked = λ k. refl }
 accounted m (Cost q cost) c sound meets h = record { debt = c.debt; answer = None; debt_is = refl; answer_is = refl; account = account_same m (Cost q cost) c sound h refl (λ p k. refl); unasked = λ k. refl }
+accounted m (Attached cost) c sound meets h = record { debt = c.debt; answer = None; debt_is = refl; answer_is = refl; account = account_same m (Attached cost) c sound h refl (λ p k. refl); unasked = λ k. refl }
+accounted m Detached c sound meets h = record { debt = c.debt; answer = None; debt_is = refl; answer_is = refl; account = account_same m Detached c sound h refl (λ p k. refl); unasked = λ k. refl }
 accounted m (Down q) c sound meets h = go (is_port q c.debt) refl
   where
     go : (b : Bool) → is_port q c.debt ≡ b → Accounted m (Down q) c
@@ -204,6 +202,8 @@ awaited_after_is (Message q Reply value) bs = refl
 awaited_after_is (Up q cost) bs = refl
 awaited_after_is (Down q) bs = refl
 awaited_after_is (Cost q cost) bs = refl
+awaited_after_is (Attached cost) bs = refl
+awaited_after_is Detached bs = refl
 
 -- who is not released is awaited as before
 pub awaited_kept : (e : Event) (p : ℕ) (bs : List Bool) → (released e ≡ Some p → ⊥) → slice_get (awaited_after e bs) p ≡ slice_get bs p
@@ -242,9 +242,8 @@ completed_over m e c p h none a = go (released e) refl
 -- ---- decisions
 
 -- a passive machine may choose anew with its feasible distance
-decision_passive : (m : Machine) (e : Event) → IsSound m → m.local ≡ false → m.computation ≡ None → Decision m e m.fd
-decision_passive m e sound far h = record {
-  distant = far;
+decision_passive : (m : Machine) (e : Event) → IsSound m → m.computation ≡ None → Decision m e m.fd
+decision_passive m e sound h = record {
   over = λ p a. absurd (both_ways (awaits m p) (passive_awaits m p h) a);
   above = omega arith;
   below = sound.fd_below;
@@ -252,9 +251,8 @@ decision_passive m e sound far h = record {
 }
 
 -- an active machine may choose anew with its distance once nobody is awaited
-decision_active : (m : Machine) (e : Event) (c : Computation) → IsSound m → m.local ≡ false → m.computation ≡ Some c → list_any (λ b. b) (awaited_after e c.awaited) ≡ false → Decision m e m.rd
-decision_active m e c sound far h none = record {
-  distant = far;
+decision_active : (m : Machine) (e : Event) (c : Computation) → IsSound m → m.computation ≡ Some c → list_any (λ b. b) (awaited_after e c.awaited) ≡ false → Decision m e m.rd
+decision_active m e c sound h none = record {
   over = λ p a. completed_over m e c p h none a;
   above = sound.fd_below;
   below = omega arith;
@@ -264,65 +262,65 @@ decision_active m e c sound far h none = record {
 -- ---- outcomes
 
 -- a computation that begins where the condition fails is one of the outcomes
-outcome_begun : (m : Machine) (e : Event) (fd : ℕ) (debt : Option ℕ) → Decision m e fd → Account m e debt None → condition_holds fd (records_after e m.ports) ≡ false → Outcome m e (new_computation (with_records m e) fd debt)
+outcome_begun : (m : Machine) (e : Event) (fd : ℕ) (debt : Option ℕ) → Decision m e fd → Account m e debt None → condition_holds fd (ways (with_records m e)) ≡ false → Outcome m e (new_computation (with_records m e) fd debt)
 outcome_begun m e fd debt d a f = go (list_any (λ n. n.up) (records_after e m.ports)) refl
   where
     go : (b : Bool) → list_any (λ n. n.up) (records_after e m.ports) ≡ b → Outcome m e (if b then asked (with_records m e) fd debt None else alone (with_records m e))
     go true t = asks e fd debt None d a f t
-    go false t = is_alone e fd debt None d a t
+    go false t = is_alone e fd debt None d a f t
 
 -- a computation that begins where the condition fails, after an answer, is one of the outcomes
-outcome_begun_after : (m : Machine) (e : Event) (fd q : ℕ) (debt : Option ℕ) → Decision m e fd → Account m e debt (Some q) → condition_holds fd (records_after e m.ports) ≡ false
-    → Outcome m e (with_first (one_to (Some q) Reply (via_successor (records_after e m.ports) (successor_after e m.successor))) (new_computation (with_records m e) fd debt))
+outcome_begun_after : (m : Machine) (e : Event) (fd q : ℕ) (debt : Option ℕ) → Decision m e fd → Account m e debt (Some q) → condition_holds fd (ways (with_records m e)) ≡ false
+    → Outcome m e (with_first (one_to (Some q) Reply (via_successor (ways (with_records m e)) (with_records m e).successor)) (new_computation (with_records m e) fd debt))
 outcome_begun_after m e fd q debt d a f = go (list_any (λ n. n.up) (records_after e m.ports)) refl
   where
     go : (b : Bool) → list_any (λ n. n.up) (records_after e m.ports) ≡ b
-        → Outcome m e (with_first (one_to (Some q) Reply (via_successor (records_after e m.ports) (successor_after e m.successor))) (if b then asked (with_records m e) fd debt None else alone (with_records m e)))
+        → Outcome m e (with_first (one_to (Some q) Reply (via_successor (ways (with_records m e)) (with_records m e).successor)) (if b then asked (with_records m e) fd debt None else alone (with_records m e)))
     go true t = asks e fd debt (Some q) d a f t
     go false t = absurd (both_ways _ (test_nowhere (λ n. n.up) (records_after e m.ports) q t) (a.answer_up q refl))
 
 -- a passive machine whose condition fails has an outcome
-outcome_started : (m : Machine) (e : Event) → IsSound m → Meets m e → m.local ≡ false → m.computation ≡ None → condition_holds m.fd (records_after e m.ports) ≡ false → Outcome m e (started_computation (with_records m e) (asker e))
-outcome_started m e sound meets far h f = go (asker e) refl
+outcome_started : (m : Machine) (e : Event) → IsSound m → Meets m e → m.computation ≡ None → condition_holds m.fd (ways (with_records m e)) ≡ false → Outcome m e (started_computation (with_records m e) (asker e))
+outcome_started m e sound meets h f = go (asker e) refl
   where
     d : Decision m e m.fd
-    d = decision_passive m e sound far h
+    d = decision_passive m e sound h
 
     go : (o : Option ℕ) → asker e ≡ o → Outcome m e (started_computation (with_records m e) o)
     go None k = outcome_begun m e m.fd None d (subst (λ o. Account m e None o) k (account_answer m e meets h)) f
-    go (Some q) k = by_successor (is_port q (successor_after e m.successor)) refl
+    go (Some q) k = by_successor (is_port q (with_records m e).successor) refl
       where
-        by_successor : (b : Bool) → is_port q (successor_after e m.successor) ≡ b
-            → Outcome m e (if b then new_computation (with_records m e) m.fd (Some q) else with_first (one_to (Some q) Reply (via_successor (records_after e m.ports) (successor_after e m.successor))) (new_computation (with_records m e) m.fd None))
-        by_successor true t = outcome_begun m e m.fd (Some q) d (account_debt m e q h k (is_port-Some q (successor_after e m.successor) t)) f
+        by_successor : (b : Bool) → is_port q (with_records m e).successor ≡ b
+            → Outcome m e (if b then new_computation (with_records m e) m.fd (Some q) else with_first (one_to (Some q) Reply (via_successor (ways (with_records m e)) (with_records m e).successor)) (new_computation (with_records m e) m.fd None))
+        by_successor true t = outcome_begun m e m.fd (Some q) d (account_debt m e q meets h k (is_port-Some q (with_records m e).successor t)) f
         by_successor false t = outcome_begun_after m e m.fd q None d (subst (λ o. Account m e None o) k (account_answer m e meets h)) f
 
 -- a passive machine has an outcome
-outcome_passive : (m : Machine) (e : Event) → IsSound m → Meets m e → m.local ≡ false → m.computation ≡ None → Outcome m e (passive_reaction (with_records m e) e)
-outcome_passive m e sound meets far h = go (condition_holds m.fd (records_after e m.ports)) refl
+outcome_passive : (m : Machine) (e : Event) → IsSound m → Meets m e → m.computation ≡ None → Outcome m e (passive_reaction (with_records m e) e)
+outcome_passive m e sound meets h = go (condition_holds m.fd (ways (with_records m e))) refl
   where
-    go : (b : Bool) → condition_holds m.fd (records_after e m.ports) ≡ b → Outcome m e (if b then passive_result (with_records m e) m.fd (asker e) else started_computation (with_records m e) (asker e))
-    go true t = settles e m.fd (asker e) (decision_passive m e sound far h) (account_answer m e meets h) t
-    go false t = outcome_started m e sound meets far h t
+    go : (b : Bool) → condition_holds m.fd (ways (with_records m e)) ≡ b → Outcome m e (if b then passive_result (with_records m e) m.fd (asker e) else started_computation (with_records m e) (asker e))
+    go true t = settles e m.fd (asker e) (decision_passive m e sound h) (account_answer m e meets h) t
+    go false t = outcome_started m e sound meets h t
 
 -- a computation that is over has an outcome
 outcome_completed : (m : Machine) (e : Event) (debt : Option ℕ) → IsSound m → Decision m e m.rd → Account m e debt None → Outcome m e (completion (with_records m e) debt)
-outcome_completed m e debt sound d a = go (condition_holds m.rd (records_after e m.ports)) refl
+outcome_completed m e debt sound d a = go (condition_holds m.rd (ways (with_records m e))) refl
   where
-    go : (b : Bool) → condition_holds m.rd (records_after e m.ports) ≡ b → Outcome m e (if b then passive_result (with_records m e) m.rd debt else new_computation (with_records m e) m.rd debt)
-    go true t = settles e m.rd debt d (account_paid m e debt sound a) t
+    go : (b : Bool) → condition_holds m.rd (ways (with_records m e)) ≡ b → Outcome m e (if b then passive_result (with_records m e) m.rd debt else new_computation (with_records m e) m.rd debt)
+    go true t = settles e m.rd debt d (account_paid m e debt a) t
     go false t = outcome_begun m e m.rd debt d a t
 
 -- an active machine has an outcome
-outcome_active : (m : Machine) (e : Event) (c : Computation) → IsSound m → Meets m e → m.local ≡ false → m.computation ≡ Some c → Outcome m e (active_reaction (with_records m e) e c)
-outcome_active m e c sound meets far h = go (list_any (λ b. b) (awaited_after e c.awaited)) refl
+outcome_active : (m : Machine) (e : Event) (c : Computation) → IsSound m → Meets m e → m.computation ≡ Some c → Outcome m e (active_reaction (with_records m e) e c)
+outcome_active m e c sound meets h = go (list_any (λ b. b) (awaited_after e c.awaited)) refl
   where
     a : Accounted m e c
     a = accounted m e c sound meets h
 
     over : list_any (λ b. b) (awaited_after e c.awaited) ≡ false → Outcome m e (with_first (answers_at_once (with_records m e) e) (completion (with_records m e) (debt_after (with_records m e).successor e c.debt)))
     over t =
-        let d = decision_active m e c sound far h t in
+        let d = decision_active m e c sound h t in
         let some = sound.awaits_some (rw h) in
         let none = a.unasked (released_alone some.0 e (d.over some.0 some.1)) in
         let silent = a.answer_is ∙ ap (λ o. one_to o Reply m.rd) none in
@@ -331,20 +329,16 @@ outcome_active m e c sound meets far h = go (list_any (λ b. b) (awaited_after e
     go : (b : Bool) → list_any (λ b. b) (awaited_after e c.awaited) ≡ b
         → Outcome m e (if b then record { machine = record (with_records m e) { computation = Some (record { awaited = awaited_after e c.awaited; debt = debt_after (with_records m e).successor e c.debt }) }; sends = answers_at_once (with_records m e) e }
         else with_first (answers_at_once (with_records m e) e) (completion (with_records m e) (debt_after (with_records m e).successor e c.debt)))
-    go true t = rw (a.debt_is, a.answer_is) (goes_on e c a.debt a.answer far h t a.account)
+    go true t = rw (a.debt_is, a.answer_is) (goes_on e c a.debt a.answer h t a.account)
     go false t = over t
 
 -- what a machine decides once its records have changed is an outcome
 outcome_decision : (m : Machine) (e : Event) → IsSound m → Meets m e → Outcome m e (decision (with_records m e) e)
-outcome_decision m e sound meets = by_owner m.local refl
+outcome_decision m e sound meets = by_mode m.computation refl
   where
-    by_mode : (o : Option Computation) → m.computation ≡ o → m.local ≡ false → Outcome m e (decision (with_records m e) e)
-    by_mode None h far = rw (at_passive (with_records m e) e far h) (outcome_passive m e sound meets far h)
-    by_mode (Some c) h far = rw (at_active (with_records m e) e c far h) (outcome_active m e c sound meets far h)
-
-    by_owner : (b : Bool) → m.local ≡ b → Outcome m e (decision (with_records m e) e)
-    by_owner true h = rw (at_local (with_records m e) e h) (at_home e h)
-    by_owner false h = by_mode m.computation refl h
+    by_mode : (o : Option Computation) → m.computation ≡ o → Outcome m e (decision (with_records m e) e)
+    by_mode None h = rw (at_passive (with_records m e) e h) (outcome_passive m e sound meets h)
+    by_mode (Some c) h = rw (at_active (with_records m e) e c h) (outcome_active m e c sound meets h)
 
 -- the reaction of a sound machine to an event that it meets is one of the outcomes
 pub outcome : (m : Machine) (e : Event) → IsSound m → Meets m e → Outcome m e (reaction m e)
@@ -352,3 +346,5 @@ outcome m (Message q k v) sound meets = outcome_decision m (Message q k v) sound
 outcome m (Up q cost) sound meets = came_up q cost
 outcome m (Down q) sound meets = outcome_decision m (Down q) sound meets
 outcome m (Cost q cost) sound meets = outcome_decision m (Cost q cost) sound meets
+outcome m (Attached cost) sound meets = outcome_decision m (Attached cost) sound meets
+outcome m Detached sound meets = outcome_decision m Detached sound meets

@@ -7,13 +7,13 @@ use Rattle.network_model.specs.declared.machine.Neighbour.{Neighbour}
 use Rattle.network_model.specs.declared.machine.Event.{Event}
 use Rattle.network_model.specs.declared.machine.Event.TheVariants.{Up}
 use Rattle.metric.specs.declared.kind.Kind.TheVariants.{Update, Query, Reply}
-use Rattle.network_model.specs.Machine.{Machine, Reaction, is_port, via_successor, least, records_after, successor_after, with_records, asker, one_to, all_from, news_to_others, reaction}
+use Rattle.network_model.specs.Machine.{Machine, Reaction, is_port, via_successor, least, ways, records_after, with_records, one_to, all_from, news_to_others, reaction}
 use Rattle.network_model.specs.declared.machine.Outgoing.{Outgoing}
 use Rattle.metric.specs.Distance.{infinity}
 use Rattle.machine_laws.specs.Laws.{sent_to, count_kind, test_at, is_up_at, is_active, Meets, IsSound, SendsDistance, GoesOnOrAsks, TellsAll}
 use Rattle.machine_laws.proofs.Sends.{EachSend, each_append, each_one, each_all, sent_append, sent_one, sent_all, count_one}
-use Rattle.machine_laws.proofs.Events.{asked_event, asker_up, stays_up, up_at_up}
-use Rattle.machine_laws.proofs.Outcomes.{Outcome, came_up, at_home, goes_on, settles, asks, is_alone, outcome, test_nowhere}
+use Rattle.machine_laws.proofs.Events.{up_at_up}
+use Rattle.machine_laws.proofs.Outcomes.{Outcome, came_up, goes_on, settles, asks, is_alone, outcome, test_nowhere}
 use Rattle.machine_laws.proofs.Counting.{greeting_count}
 
 -- a message with the machine's distance, to a port that is up
@@ -35,20 +35,18 @@ right_of m e r sound meets (came_up q cost) =
     let P = IsRight (with_records m (Up q cost)) in
     each_either P (m.rd == infinity) [] (one_to (Some q) Update m.rd) (each_none P)
     (each_one P (Some q) Update m.rd (λ p k. (refl, subst (λ x. is_up_at (with_records m (Up q cost)) x ≡ true) (same_Some q p k) (up_at_up m q cost meets.0))))
-right_of m e r sound meets (at_home _ h) =
-    each_one (IsRight (with_records m e)) (asker e) Reply 0 (λ p k. (sym (sound.local_rd h), stays_up m e p ((asked_event p e k).none_down p) (asker_up m p e meets k)))
-right_of m e r sound meets (goes_on _ c debt answer far h some a) = each_one (IsRight r.machine) answer Reply m.rd (λ p k. (refl, a.answer_up p k))
+right_of m e r sound meets (goes_on _ c debt answer h some a) = each_one (IsRight r.machine) answer Reply m.rd (λ p k. (refl, a.answer_up p k))
 right_of m e r sound meets (settles _ fd owed dec a f) =
-    let v = least (records_after e m.ports) in
+    let v = least (ways (with_records m e)) in
     let P = IsRight r.machine in
     each_append P (one_to owed Reply v) (news_to_others owed m.rd v (records_after e m.ports)) (each_one P owed Reply v (λ p k. (refl, a.answer_up p k)))
     (each_either P (m.rd == v) [] (all_from 0 owed Update v (records_after e m.ports)) (each_none P) (each_all P owed Update v (records_after e m.ports) (λ p u. (refl, u))))
 right_of m e r sound meets (asks _ fd debt answer dec a f some) =
-    let v = via_successor (records_after e m.ports) (successor_after e m.successor) in
+    let v = via_successor (ways (with_records m e)) (with_records m e).successor in
     let P = IsRight r.machine in
     each_append P (one_to answer Reply v) (all_from 0 None Query v (records_after e m.ports)) (each_one P answer Reply v (λ p k. (refl, a.answer_up p k)))
     (each_all P None Query v (records_after e m.ports) (λ p u. (refl, u)))
-right_of m e r sound meets (is_alone _ fd debt answer dec a none) = each_none (IsRight r.machine)
+right_of m e r sound meets (is_alone _ fd debt answer dec a f none) = each_none (IsRight r.machine)
 
 -- every message that an event sends carries the distance after it, to a port that is up
 pub sends_distance : SendsDistance
@@ -74,11 +72,10 @@ asked_last p answer v ns up = (
 -- every outcome in which the machine is active goes on or asks
 goes_of : (m : Machine) (e : Event) (r : Reaction) → IsSound m → Outcome m e r → is_active r.machine ≡ true → GoesOrAsks m r
 goes_of m e r sound (came_up q cost) act = inl (act, refl, λ p. greeting_count Query m p q refl)
-goes_of m e r sound (at_home _ h) act = absurd (both_ways (is_active m) (sound.local_passive h) act)
-goes_of m e r sound (goes_on _ c debt answer far h some a) act = inl (rw h, refl, λ p. count_one Query Reply p answer m.rd)
+goes_of m e r sound (goes_on _ c debt answer h some a) act = inl (rw h, refl, λ p. count_one Query Reply p answer m.rd)
 goes_of m e r sound (settles _ fd owed dec a f) act = absurd (false≢true act)
-goes_of m e r sound (asks _ fd debt answer dec a f some) act = inr (λ p up. asked_last p answer (via_successor (records_after e m.ports) (successor_after e m.successor)) (records_after e m.ports) up)
-goes_of m e r sound (is_alone _ fd debt answer dec a none) act = absurd (false≢true act)
+goes_of m e r sound (asks _ fd debt answer dec a f some) act = inr (λ p up. asked_last p answer (via_successor (ways (with_records m e)) (with_records m e).successor) (records_after e m.ports) up)
+goes_of m e r sound (is_alone _ fd debt answer dec a f none) act = absurd (false≢true act)
 
 -- a machine that is active after an event goes on with its distance, or asks everyone who is up
 pub goes_on_or_asks : GoesOnOrAsks
@@ -126,11 +123,10 @@ changed_told owed old v ns = go (old == v) refl
 -- every outcome has the old distance, or sends something to everyone who is up
 tells_of : (m : Machine) (e : Event) (r : Reaction) → Outcome m e r → (r.machine.rd ≡ m.rd) ⊎ ((p : ℕ) → is_up_at r.machine p ≡ true → sent_to p r.sends ≢ [])
 tells_of m e r (came_up q cost) = inl refl
-tells_of m e r (at_home _ h) = inl refl
-tells_of m e r (goes_on _ c debt answer far h some a) = inl refl
-tells_of m e r (settles _ fd owed dec a f) = changed_told owed m.rd (least (records_after e m.ports)) (records_after e m.ports)
-tells_of m e r (asks _ fd debt answer dec a f some) = inr (λ p up silent. asked_told p answer (via_successor (records_after e m.ports) (successor_after e m.successor)) (records_after e m.ports) up silent)
-tells_of m e r (is_alone _ fd debt answer dec a none) = inr (λ p up. absurd (both_ways _ (test_nowhere (λ n. n.up) (records_after e m.ports) p none) up))
+tells_of m e r (goes_on _ c debt answer h some a) = inl refl
+tells_of m e r (settles _ fd owed dec a f) = changed_told owed m.rd (least (ways (with_records m e))) (records_after e m.ports)
+tells_of m e r (asks _ fd debt answer dec a f some) = inr (λ p up silent. asked_told p answer (via_successor (ways (with_records m e)) (with_records m e).successor) (records_after e m.ports) up silent)
+tells_of m e r (is_alone _ fd debt answer dec a f none) = inr (λ p up. absurd (both_ways _ (test_nowhere (λ n. n.up) (records_after e m.ports) p none) up))
 
 -- where the distance changes, everyone who is up is sent something
 pub tells_all : TellsAll

@@ -2,10 +2,10 @@
 use Rattle.std.specs.Prelude.{◌≡◌, ◌≢◌, ◌⊎◌, ℕ, ◌+◌, ◌<◌, ◌≤◌, Bool, true, false, ◌&&◌, ◌==◌, if◌then◌else◌, List, [], ◌∷◌, ◌++◌, Option, Some, None, is_some, slice_get, length}
 use Rattle.network_model.specs.declared.machine.Neighbour.{Neighbour}
 use Rattle.network_model.specs.declared.machine.Event.{Event}
-use Rattle.network_model.specs.declared.machine.Event.TheVariants.{Message, Up, Down, Cost}
+use Rattle.network_model.specs.declared.machine.Event.TheVariants.{Message, Up, Down, Cost, Attached, Detached}
 use Rattle.metric.specs.declared.kind.Kind.{Kind}
 use Rattle.metric.specs.declared.kind.Kind.TheVariants.{Update, Query, Reply}
-use Rattle.network_model.specs.Machine.{Machine, Computation, opening_machine, reaction, distance, least, records_after, is_port}
+use Rattle.network_model.specs.Machine.{Machine, Computation, opening_machine, reaction, distance, least, ways, degree, records_after, attachment_after, is_port}
 use Rattle.network_model.specs.declared.machine.Outgoing.{Outgoing}
 use Rattle.metric.specs.Distance.{infinity}
 
@@ -88,6 +88,8 @@ is_message k p (Message q kind value) = (q == p) && is_kind k kind
 is_message k p (Up q cost) = false
 is_message k p (Down q) = false
 is_message k p (Cost q cost) = false
+is_message k p (Attached cost) = false
+is_message k p Detached = false
 
 -- whether an event is the loss of the link at port p
 abbrev pub is_down : ℕ → Event → Bool
@@ -95,6 +97,8 @@ is_down p (Message q kind value) = false
 is_down p (Up q cost) = false
 is_down p (Down q) = q == p
 is_down p (Cost q cost) = false
+is_down p (Attached cost) = false
+is_down p Detached = false
 
 -- an event that the machine may meet: its port is there, up or down as it should be, and its numbers are in range
 abbrev pub Meets : Machine → Event → Type 0
@@ -102,6 +106,8 @@ Meets m (Message q kind value) = (is_up_at m q ≡ true) × (value ≤ infinity)
 Meets m (Up q cost) = (q < length m.ports) × (is_up_at m q ≡ false) × (0 < cost)
 Meets m (Down q) = is_up_at m q ≡ true
 Meets m (Cost q cost) = (is_up_at m q ≡ true) × (0 < cost)
+Meets m (Attached cost) = 0 < cost
+Meets m Detached = Unit {0}
 
 -- a port that is there: costs are at least 1, and nothing reported is above infinity
 pub record IsSoundPort (n : Neighbour) : Type 0 where
@@ -111,22 +117,25 @@ pub record IsSoundPort (n : Neighbour) : Type 0 where
 -- what every machine keeps
 pub record IsSound (m : Machine) : Type 0 where
   pub ports_sound : (p : ℕ) (n : Neighbour) → slice_get m.ports p ≡ Some n → IsSoundPort n
+  pub attachment_sound : (c : ℕ) → m.attachment ≡ Some c → 0 < c
   pub rd_bounded : m.rd ≤ infinity
   pub fd_below : m.fd ≤ m.rd
-  pub local_rd : m.local ≡ true → m.rd ≡ 0
-  pub local_successor : m.local ≡ true → m.successor ≡ None
-  pub local_passive : m.local ≡ true → is_active m ≡ false
-  pub successor_up : (p : ℕ) → m.successor ≡ Some p → is_up_at m p ≡ true
-  -- passive: at the least distance, by way of a neighbour that reported less than the feasible distance
-  pub passive_least : m.local ≡ false → is_active m ≡ false → m.rd ≡ least m.ports
-  pub passive_feasible : (p : ℕ) → is_active m ≡ false → m.successor ≡ Some p → reported_at m p < m.fd
-  pub passive_attains : (p : ℕ) (n : Neighbour) → is_active m ≡ false → m.successor ≡ Some p → slice_get m.ports p ≡ Some n → distance n ≡ least m.ports
-  pub passive_none : m.local ≡ false → is_active m ≡ false → m.successor ≡ None → (m.rd ≡ infinity) × (m.fd ≡ infinity)
+  pub fd_positive : 0 < m.fd
+  -- the successor is a port that is up, or the attachment, which is there
+  pub successor_up : (p : ℕ) → m.successor ≡ Some p → p < degree m → is_up_at m p ≡ true
+  pub successor_within : (p : ℕ) → m.successor ≡ Some p → p ≤ degree m
+  pub successor_attached : m.successor ≡ Some (degree m) → is_some m.attachment ≡ true
+  -- passive: at the least distance, by way of the attachment, or of a neighbour that reported less than the feasible distance
+  pub passive_least : is_active m ≡ false → m.rd ≡ least (ways m)
+  pub passive_feasible : (p : ℕ) → is_active m ≡ false → m.successor ≡ Some p → is_up_at m p ≡ true → reported_at m p < m.fd
+  pub passive_attains : (p : ℕ) (n : Neighbour) → is_active m ≡ false → m.successor ≡ Some p → slice_get (ways m) p ≡ Some n → distance n ≡ least (ways m)
+  pub passive_none : is_active m ≡ false → m.successor ≡ None → (m.rd ≡ infinity) × (m.fd ≡ infinity)
   -- active: the distance is above the feasible one, someone is awaited, only those who are up are, and a reply is owed to the successor alone
   pub active_above : is_active m ≡ true → m.fd < m.rd
   pub awaits_some : is_active m ≡ true → (p : ℕ) × (awaits m p ≡ true)
   pub awaits_up : (p : ℕ) → awaits m p ≡ true → is_up_at m p ≡ true
   pub owes_successor : (p : ℕ) → owes m p ≡ true → m.successor ≡ Some p
+  pub owes_up : (p : ℕ) → owes m p ≡ true → is_up_at m p ≡ true
 
 -- every message that an event sends carries the distance after it, to a port that is up
 abbrev pub SendsDistance : Type 0
@@ -137,9 +146,9 @@ abbrev pub RisesAtCompletion : Type 0
 RisesAtCompletion = (m : Machine) (e : Event) → IsSound m → Meets m e → m.fd < (reaction m e).machine.fd → (p : ℕ) → is_up_at (reaction m e).machine p ≡ true
     → (is_active m ≡ true) × ((reaction m e).machine.fd ≤ m.rd) × (awaits m p ≡ true → released e ≡ Some p)
 
--- a successor after an event reported less than the feasible distance; or it was kept, by a machine that is active, at no lower feasible distance
+-- a neighbour that is the successor after an event reported less than the feasible distance; or it was kept, by a machine that is active, at no lower feasible distance
 abbrev pub KeepsOrChooses : Type 0
-KeepsOrChooses = (m : Machine) (e : Event) → IsSound m → Meets m e → (p : ℕ) → (reaction m e).machine.successor ≡ Some p
+KeepsOrChooses = (m : Machine) (e : Event) → IsSound m → Meets m e → (p : ℕ) → (reaction m e).machine.successor ≡ Some p → is_up_at (reaction m e).machine p ≡ true
     → (reported_at (reaction m e).machine p < (reaction m e).machine.fd)
     ⊎ ((m.successor ≡ Some p) × (is_active (reaction m e).machine ≡ true) × (m.fd ≤ (reaction m e).machine.fd))
 
@@ -176,17 +185,18 @@ KeepsRecords = (m : Machine) (e : Event) → (reaction m e).machine.ports ≡ re
 abbrev pub NothingHeard : List Neighbour → Type 0
 NothingHeard ns = (p : ℕ) (n : Neighbour) → slice_get ns p ≡ Some n → n.reported ≡ infinity
 
--- a machine that opens over sound ports which reported nothing is sound, at the owner and elsewhere
+-- a machine that opens over sound ports which reported nothing is sound, with an attachment and without one
 abbrev pub OpensSound : Type 0
-OpensSound = (local : Bool) (ns : List Neighbour) → ((p : ℕ) (n : Neighbour) → slice_get ns p ≡ Some n → IsSoundPort n) → NothingHeard ns → IsSound (opening_machine local ns)
+OpensSound = (attachment : Option ℕ) (ns : List Neighbour) → ((c : ℕ) → attachment ≡ Some c → (0 < c) × (c < infinity)) → ((p : ℕ) (n : Neighbour) → slice_get ns p ≡ Some n → IsSoundPort n) → NothingHeard ns
+    → IsSound (opening_machine attachment ns)
 
 -- a sound machine stays sound
 abbrev pub StaysSound : Type 0
 StaysSound = (m : Machine) (e : Event) → IsSound m → Meets m e → IsSound (reaction m e).machine
 
--- no event changes who owns the destination
-abbrev pub StaysLocal : Type 0
-StaysLocal = (m : Machine) (e : Event) → (reaction m e).machine.local ≡ m.local
+-- the attachment is as it was told last
+abbrev pub KeepsAttachment : Type 0
+KeepsAttachment = (m : Machine) (e : Event) → (reaction m e).machine.attachment ≡ attachment_after e m.attachment
 
 -- all that a network of machines rests on
 pub record MachineLaws : Type 0 where
@@ -200,4 +210,4 @@ pub record MachineLaws : Type 0 where
   pub tells_all : TellsAll
   pub keeps_records : KeepsRecords
   pub stays_sound : StaysSound
-  pub stays_local : StaysLocal
+  pub keeps_attachment : KeepsAttachment

@@ -4,9 +4,9 @@
 
 ghost use Rattle.machine_laws.specs.Laws as laws;
 
-/// A machine opens sound. A sound machine stays sound, keeps the records of its neighbours, and sends its distance alone; its
-/// feasible distance rises only where nobody is awaited; a successor that it chooses reported less
-/// than the feasible distance; queries and replies are counted exactly, and a reply to the successor
+/// A machine opens sound. A sound machine stays sound, keeps the records of its neighbours and of its
+/// attachment, and sends its distance alone; its feasible distance rises only where nobody is awaited;
+/// a neighbour that it chooses reported less than the feasible distance; queries and replies are counted exactly, and a reply to the successor
 /// waits for completion; whoever is up is told of a new distance.
 pub fn machine_laws()
     ensures sends_distance { laws.SendsDistance }
@@ -18,7 +18,7 @@ pub fn machine_laws()
     ensures keeps_debt { laws.KeepsDebt }
     ensures tells_all { laws.TellsAll }
     ensures keeps_records { laws.KeepsRecords }
+    ensures keeps_attachment { laws.KeepsAttachment }
     ensures opens_sound { laws.OpensSound }
     ensures stays_sound { laws.StaysSound }
-    ensures stays_local { laws.StaysLocal }
 {}

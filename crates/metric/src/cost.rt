@@ -32,6 +32,9 @@ impl Model for Cost {
 pub struct BadCost;
 
 impl Cost {
+    /// The least cost.
+    pub const ONE: Cost = Cost { value: 1 };
+
     /// The cost of this number, where there is one.
     pub fn new(value: u32) -> Result<Cost, BadCost>
         ensures ok { IfOk result (λ c. c ≡ value) }

@@ -3,7 +3,7 @@ use Rattle.std.specs.Prelude.{◌≡◌, ℕ, ◌+◌, ◌*◌, ◌/◌, ◌^◌
 use Rattle.std.specs.List.{AllByRecursion}
 use Rattle.std.proofs.Common.{refl, sym, ap, ◌∙◌, arith}
 use Rattle.network_model.specs.declared.step.Step.{Step}
-use Rattle.network_model.specs.declared.step.Step.TheVariants.{LinkUp, LinkDown, SetCost, Deliver, Publish, Release}
+use Rattle.network_model.specs.declared.step.Step.TheVariants.{LinkUp, LinkDown, SetCost, Deliver, Publish, Release, Attach, Detach}
 use Rattle.network_model.specs.Journal.{Code, IsCode, Fits, packed, step_code, step_number, journal_sum, steps_in_sum, most_steps}
 use Rattle.std.proofs.lemmas.List.Sums.{sum_by-cons}
 use Rattle.std.proofs.lemmas.Nat.{div-mul-add}
@@ -38,7 +38,9 @@ step_of_code c =
     else if c.kind == 2 then SetCost c.subject c.port c.cost
     else if c.kind == 3 then Deliver c.subject c.port
     else if c.kind == 4 then Publish c.subject
-    else Release c.subject
+    else if c.kind == 5 then Release c.subject
+    else if c.kind == 6 then Attach c.subject (record { addr = c.addr; len = c.len }) c.cost
+    else Detach c.subject (record { addr = c.addr; len = c.len })
 
 step_of_code-step_code : (s : Step) → step_of_code (step_code s) ≡ s
 step_of_code-step_code (LinkUp l) = refl
@@ -47,6 +49,8 @@ step_of_code-step_code (SetCost i q cost) = refl
 step_of_code-step_code (Deliver i q) = refl
 step_of_code-step_code (Publish i) = refl
 step_of_code-step_code (Release i) = refl
+step_of_code-step_code (Attach i p cost) = refl
+step_of_code-step_code (Detach i p) = refl
 
 -- distinct steps have distinct numbers
 pub step_number_injective : (s t : Step) → Fits s → Fits t → step_number s ≡ step_number t → s ≡ t

@@ -1,17 +1,20 @@
 -- Lawful steps are those that can be asked and are not refused, and a run that nothing stops is lawful at each step.
-use Rattle.std.specs.Prelude.{◌≡◌, Bool, true, false, cond, not, nat_lt, List, [], ◌∷◌, length, Option, Some, None, is_none, slice_get, option_map, option_and_then}
+use Rattle.std.specs.Prelude.{◌≡◌, ◌⊎◌, Bool, true, false, cond, not, ◌&&◌, if◌then◌else◌, nat_lt, List, [], ◌∷◌, length, Option, Some, None, is_none, slice_get, option_map, option_and_then}
 use Rattle.std.specs.List.{AllByRecursion}
 use Rattle.std.specs.Option.{option_map_or}
-use Rattle.std.proofs.Common.{refl, sym, ap, ◌∙◌, arith}
+use Rattle.std.proofs.Common.{refl, sym, ap, ◌∙◌, arith, inl, inr}
+use Rattle.std.proofs.Math.Bool.{and-false}
 use Rattle.std.proofs.lemmas.Bool.{not-false, ltb-true, lt-ltb, true≢false}
 use Rattle.network_model.specs.declared.item.Item.{Item}
+use Rattle.network_model.specs.declared.item.Notice.{Notice}
 use Rattle.network_model.specs.declared.network.Place.{Place}
 use Rattle.network_model.specs.declared.step.Step.{Step}
-use Rattle.network_model.specs.declared.step.Step.TheVariants.{LinkUp, LinkDown, SetCost, Deliver, Publish, Release}
+use Rattle.network_model.specs.declared.step.Step.TheVariants.{LinkUp, LinkDown, SetCost, Deliver, Publish, Release, Attach, Detach}
 use Rattle.network_model.specs.declared.step.Refusal.{Refusal}
-use Rattle.network_model.specs.World.{Link, World, link_at, place_at, side}
+use Rattle.network_model.specs.declared.step.Refusal.TheVariants.{UnknownLink, NothingToDeliver}
+use Rattle.network_model.specs.World.{Link, World, link_at, place_at, side, attachment_at}
 use Rattle.network_model.specs.Network.{first_cause}
-use Rattle.network_model.specs.Step.{Lawful, CanBeAsked, next, refusal, causes, is_up, is_due, last_session, front_at, release_at}
+use Rattle.network_model.specs.Step.{Lawful, CanBeAsked, next, refusal, causes, is_up, is_due, last_session, front_at, release_at, is_at_home, notice_at}
 use Rattle.network_model.specs.Run.{Runs, Ran, run, stopped_at, one_more}
 use Rattle.network_model.proofs.ListLaws.{None_not_Some}
 
@@ -34,6 +37,12 @@ some_there : {A : Type 0} (o : Option A) → is_none o ≡ false → (x : A) × 
 some_there None e = absurd (true≢false e)
 some_there (Some x) e = (x, refl)
 
+-- of two that are not both missing one is there
+some_of_both : {A B : Type 0} (o : Option A) (p : Option B) → (is_none o && is_none p) ≡ false → ((x : A) × (o ≡ Some x)) ⊎ ((y : B) × (p ≡ Some y))
+some_of_both None None e = absurd (true≢false e)
+some_of_both None (Some y) e = inr (y, refl)
+some_of_both (Some x) p e = inl (x, refl)
+
 -- where the test fails, it holds of what is there
 holds_of : {A : Type 0} (f : A → Bool) {o : Option A} {x : A} → o ≡ Some x → not (option_map_or f o false) ≡ false → f x ≡ true
 holds_of f there fails = sym (ap (λ o. option_map_or f o false) there) ∙ not-false _ fails
@@ -55,14 +64,20 @@ refusal_to_Lawful w s asked is = by_step s asked (none_there (causes w s) is)
         (r.0, k.0, r.1, k.1, holds_of (λ x. x.up) k.1 none.1.1.0, costs)
     by_step (Deliver i q) _ none =
         let r : _ = some_there (slice_get w.routers i) none.0 in
-        let item : _ = some_there (front_at w i q) none.1.1.0 in
-        (r.0, item.0, r.1, item.1)
+        (r.0, r.1, some_of_both (front_at w i q) (notice_at w i q) none.1.1.0)
     by_step (Publish i) _ none =
         let r : _ = some_there (slice_get w.routers i) none.0 in
         (r.0, r.1, holds_of is_due r.1 none.1.0)
     by_step (Release i) _ none =
         let h : _ = some_there (release_at w i) none.1.0 in
         (h.0, h.1)
+    by_step (Attach i p cost) costs none =
+        let r : _ = some_there (slice_get w.routers i) none.0 in
+        (r.0, r.1, not-false _ none.1.0, costs)
+    by_step (Detach i p) _ none =
+        let r : _ = some_there (slice_get w.routers i) none.0 in
+        let cost : _ = some_there (attachment_at w i p) none.1.1.0 in
+        (r.0, cost.0, r.1, not-false _ none.1.0, cost.1)
 
 -- a part of an option that is there
 there_before : {A B : Type 0} (f : A → Option B) (o : Option A) {y : B} → option_and_then f o ≡ Some y → is_none o ≡ false
@@ -78,6 +93,11 @@ link_there w (Some p) {item} e = by_link (slice_get w.links p.link) e
     by_link None none = absurd (None_not_Some none)
     by_link (Some k) some = refl
 
+-- a notice is taken at the port numbered by the degree alone
+pub at_home_there : {A : Type 0} (b : Bool) (o : Option A) {x : A} → (if b then o else None) ≡ Some x → b ≡ true
+at_home_there true o e = refl
+at_home_there false o e = absurd (None_not_Some e)
+
 -- a lawful step is not refused
 pub Lawful_to_refusal : (w : World) (s : Step) → Lawful w s → refusal w s ≡ None
 Lawful_to_refusal w s lawful = none_first (causes w s) (by_step s lawful)
@@ -86,9 +106,15 @@ Lawful_to_refusal w s lawful = none_first (causes w s) (by_step s lawful)
     by_step (LinkUp l) h = (ap is_none h.1, (ap is_up h.1 ∙ h.2, (ap (λ o. not (option_map_or (λ x. nat_lt x.session last_session) o false)) h.1 ∙ ap not (lt-ltb _ _ h.3), tt)))
     by_step (LinkDown l) h = (ap is_none h.1, (ap (λ o. not (is_up o)) h.1 ∙ ap not h.2, tt))
     by_step (SetCost i q cost) h = (ap is_none h.2, (ap is_none h.3, (ap (λ o. not (is_up o)) h.3 ∙ ap not h.4, tt)))
-    by_step (Deliver i q) h = (ap is_none h.2, (link_there w (place_at w i q) h.3, (ap is_none h.3, tt)))
+    by_step (Deliver i q) h = (ap is_none h.1, by_front h.2)
+      where
+        by_front : ((item : Item) × (front_at w i q ≡ Some item)) ⊎ ((n : Notice) × (notice_at w i q ≡ Some n)) → NoneThere ((is_none (link_at w i q) && not (is_at_home w i q), UnknownLink) ∷ (is_none (front_at w i q) && is_none (notice_at w i q), NothingToDeliver) ∷ [])
+        by_front (inl (item, at)) = (ap (λ b. b && not (is_at_home w i q)) (link_there w (place_at w i q) at), (ap (λ o. is_none o && is_none (notice_at w i q)) at, tt))
+        by_front (inr (n, at)) = (ap (λ b. is_none (link_at w i q) && not b) (at_home_there (is_at_home w i q) _ at) ∙ and-false (is_none (link_at w i q)), (ap (λ o. is_none (front_at w i q) && is_none o) at ∙ and-false (is_none (front_at w i q)), tt))
     by_step (Publish i) h = (ap is_none h.1, (ap (λ o. not (option_map_or is_due o false)) h.1 ∙ ap not h.2, tt))
     by_step (Release i) h = (there_before _ (slice_get w.routers i) h.1, (ap is_none h.1, tt))
+    by_step (Attach i p cost) h = (ap is_none h.1, (ap not h.2, tt))
+    by_step (Detach i p) h = (ap is_none h.2, (ap not h.3, (ap is_none h.4, tt)))
 
 -- steps that can be asked
 abbrev pub AllCanBeAsked : List Step → Type 0
@@ -102,6 +128,8 @@ Lawful_to_CanBeAsked w (SetCost i q cost) h = h.5
 Lawful_to_CanBeAsked w (Deliver i q) h = tt
 Lawful_to_CanBeAsked w (Publish i) h = tt
 Lawful_to_CanBeAsked w (Release i) h = tt
+Lawful_to_CanBeAsked w (Attach i p cost) h = h.3
+Lawful_to_CanBeAsked w (Detach i p) h = tt
 
 -- a run that nothing stopped is lawful at each step
 pub run-Runs : (w : World) (ss : List Step) → AllCanBeAsked ss → (run w ss).refused ≡ None → Runs w ss (run w ss).world

@@ -1,6 +1,6 @@
 -- The least distance, and two choices of the machine's definition that lose nothing: to choose again where a link comes up
 -- would give the same, and a computation with no one to ask is over by the rule of completion for a machine that owes nothing.
-use Rattle.std.specs.Prelude.{◌≡◌, ℕ, zero, suc, ◌+◌, ◌≤◌, min, Bool, true, false, cond, not, ◌&&◌, ◌||◌, ◌==◌, nat_lt, if◌then◌else◌, List, [], ◌∷◌, Option, Some, None, slice_get}
+use Rattle.std.specs.Prelude.{◌≡◌, ℕ, zero, suc, ◌+◌, ◌≤◌, min, Bool, true, false, cond, not, ◌&&◌, ◌||◌, ◌==◌, nat_lt, if◌then◌else◌, List, [], ◌∷◌, ◌++◌, Option, Some, None, slice_get, ◌<◌}
 use Rattle.std.specs.List.{list_any, position_from}
 use Rattle.std.specs.Option.{option_map_or}
 use Rattle.std.proofs.Common.{refl, sym, ap, subst, ◌∙◌, arith}
@@ -9,14 +9,23 @@ use Rattle.network_model.specs.declared.machine.Neighbour.{Neighbour}
 use Rattle.network_model.specs.declared.machine.Outgoing.{Outgoing}
 use Rattle.metric.specs.declared.kind.Kind.{Kind}
 use Rattle.metric.specs.declared.kind.Kind.TheVariants.{Update}
-use Rattle.network_model.specs.Machine.{Machine, Reaction, distance, least, via_successor, chosen_successor, condition_holds, new_computation, passive_result, kept_or_first, is_feasible, is_port, all_from, news_to_others, changed_at}
+use Rattle.network_model.specs.Machine.{Machine, Reaction, at_home, home_ways, ways, distance, least, via_successor, chosen_successor, condition_holds, new_computation, passive_result, kept_or_first, is_feasible, is_port, all_from, news_to_others, changed_at}
 use Rattle.network_model.proofs.ListLaws.{Some_injective, None_not_Some}
-use Rattle.std.proofs.lemmas.Bool.{true≢false, eq-eqb, ne_eqb, ltb-true, or_parts}
+use Rattle.std.proofs.lemmas.Bool.{true≢false, eq-eqb, eqb-true, ne_eqb, ltb-true, lt-ltb, or_parts, and_from}
 
 -- the least distance is not above infinity
 pub least_bounded : (ns : List Neighbour) → least ns ≤ infinity
 least_bounded [] = omega arith
 least_bounded (n ∷ ns) = omega (arith, least_bounded ns)
+
+-- no distance is above infinity
+pub distance-bounded : (n : Neighbour) → distance n ≤ infinity
+distance-bounded n = by_up n.up (nat_lt (n.reported + n.cost) infinity) refl
+  where
+    by_up : (b less : Bool) → nat_lt (n.reported + n.cost) infinity ≡ less → (if b then (if less then n.reported + n.cost else infinity) else infinity) ≤ infinity
+    by_up true true t = omega (arith, ltb-true _ _ t)
+    by_up true false t = omega arith
+    by_up false less t = omega arith
 
 -- ---- nobody is up
 
@@ -35,20 +44,6 @@ least-none_up (n ∷ ns) none =
     let onward : least ns ≡ infinity = least-none_up ns (or_parts n.up (list_any (λ m. m.up) ns) none).1 in
     omega (arith, here, onward)
 
--- so is the distance by way of any successor
-neighbour_down : (ns : List Neighbour) (q : ℕ) (n : Neighbour) → IsNoneUp ns → slice_get ns q ≡ Some n → n.up ≡ false
-neighbour_down [] q n none at = absurd (None_not_Some at)
-neighbour_down (m ∷ ms) zero n none at = sym (ap (λ x. x.up) (Some_injective at)) ∙ (or_parts m.up (list_any (λ x. x.up) ms) none).0
-neighbour_down (m ∷ ms) (suc q) n none at = neighbour_down ms q n (or_parts m.up (list_any (λ x. x.up) ms) none).1 at
-
-pub via_successor-none_up : (ns : List Neighbour) (s : Option ℕ) → IsNoneUp ns → via_successor ns s ≡ infinity
-via_successor-none_up ns None none = refl
-via_successor-none_up ns (Some q) none = by_neighbour (slice_get ns q) refl
-  where
-    by_neighbour : (o : Option Neighbour) → slice_get ns q ≡ o → option_map_or (λ n. distance n) o infinity ≡ infinity
-    by_neighbour None at = refl
-    by_neighbour (Some n) at = distance-down n (neighbour_down ns q n none at)
-
 -- and nobody is told anything
 all_from-none_up : (q : ℕ) (but : Option ℕ) (kind : Kind) (value : ℕ) (ns : List Neighbour) → IsNoneUp ns → all_from q but kind value ns ≡ []
 all_from-none_up q but kind value [] none = refl
@@ -64,13 +59,65 @@ news_to_others-none_up but old new ns none = by_test (old == new)
     by_test true = refl
     by_test false = all_from-none_up 0 but Update new ns none
 
--- a computation that would begin with nobody up: its distance is infinity, the condition holds for that, and its result is that of the rule of completion
--- where nothing is owed; a debt, which no machine has with nobody up, is dropped without a reply
-pub condition_holds-none_up : (ns : List Neighbour) (s : Option ℕ) → IsNoneUp ns → condition_holds (via_successor ns s) ns ≡ true
-condition_holds-none_up ns s none = rw (least-none_up ns none, via_successor-none_up ns s none) refl
+-- ---- an attachment besides
 
-chosen_successor-none_up : (fd : ℕ) (ns : List Neighbour) (s : Option ℕ) → IsNoneUp ns → chosen_successor fd ns s ≡ None
-chosen_successor-none_up fd ns s none = ap (λ d. if d == infinity then None else kept_or_first fd ns s) (least-none_up ns none)
+-- the least distance of neighbours and of more of them
+pub least-append : (ns ms : List Neighbour) → least (ns ++ ms) ≡ min (least ns) (least ms)
+least-append [] ms = omega (arith, least_bounded ms)
+least-append (n ∷ ns) ms = omega (arith, least-append ns ms)
+
+-- a test that fails in a list fails in its second part
+fails_in_second : {A : Type 0} (test : A → Bool) (xs ys : List A) → list_any test (xs ++ ys) ≡ false → list_any test ys ≡ false
+fails_in_second test [] ys none = none
+fails_in_second test (x ∷ xs) ys none = fails_in_second test xs ys (or_parts (test x) (list_any test (xs ++ ys)) none).1
+
+-- an attachment at the least distance may always be taken, where the feasible distance is not 0
+home_feasible : (fd d cost : ℕ) → 0 < fd → distance (at_home cost) ≡ d → is_feasible fd d (at_home cost) ≡ true
+home_feasible fd d cost positive attains = and_from _ _ (eq-eqb (distance (at_home cost)) d attains) (lt-ltb 0 fd positive)
+
+-- so where nobody is up and no way may be taken, every distance is infinity
+pub least_ways-none_up : (m : Machine) (fd : ℕ) → 0 < fd → IsNoneUp m.ports → condition_holds fd (ways m) ≡ false → least (ways m) ≡ infinity
+least_ways-none_up m fd positive none fails = by_attachment m.attachment fails
+  where
+    ports_far : least m.ports ≡ infinity
+    ports_far = least-none_up m.ports none
+
+    by_attachment : (a : Option ℕ) → condition_holds fd (m.ports ++ home_ways a) ≡ false → least (m.ports ++ home_ways a) ≡ infinity
+    by_attachment None f = omega (arith, least-append m.ports [], ports_far)
+    by_attachment (Some cost) f = by_test (least (m.ports ++ home_ways (Some cost)) == infinity) refl f
+      where
+        attains : distance (at_home cost) ≡ least (m.ports ++ home_ways (Some cost))
+        attains = omega (arith, least-append m.ports (home_ways (Some cost)), ports_far, distance-bounded (at_home cost))
+
+        by_test : (b : Bool) → (least (m.ports ++ home_ways (Some cost)) == infinity) ≡ b
+            → (if b then fd == infinity else list_any (is_feasible fd (least (m.ports ++ home_ways (Some cost)))) (m.ports ++ home_ways (Some cost))) ≡ false
+            → least (m.ports ++ home_ways (Some cost)) ≡ infinity
+        by_test true t g = eqb-true _ _ t
+        by_test false t g =
+            let test : Neighbour → Bool = is_feasible fd (least (m.ports ++ home_ways (Some cost))) in
+            let not_home : test (at_home cost) ≡ false = (or_parts (test (at_home cost)) false (fails_in_second test m.ports (home_ways (Some cost)) g)).0 in
+            absurd (true≢false (sym (home_feasible fd _ cost positive attains) ∙ not_home))
+
+-- a computation that would begin with nobody to ask, where every distance is infinity: the condition holds for that distance, and its result is that of the
+-- rule of completion where nothing is owed; a debt, which no machine has with nobody up, is dropped without a reply
+least_below : (ns : List Neighbour) (q : ℕ) (n : Neighbour) → slice_get ns q ≡ Some n → least ns ≤ distance n
+least_below [] q n at = absurd (None_not_Some at)
+least_below (m ∷ ms) zero n at = subst (λ x. least (m ∷ ms) ≤ distance x) (Some_injective at) (omega arith)
+least_below (m ∷ ms) (suc q) n at = omega (arith, least_below ms q n at)
+
+pub via_successor-far : (ns : List Neighbour) (s : Option ℕ) → least ns ≡ infinity → via_successor ns s ≡ infinity
+via_successor-far ns None far = refl
+via_successor-far ns (Some q) far = by_neighbour (slice_get ns q) refl
+  where
+    by_neighbour : (o : Option Neighbour) → slice_get ns q ≡ o → option_map_or (λ n. distance n) o infinity ≡ infinity
+    by_neighbour None at = refl
+    by_neighbour (Some n) at = omega (arith, far, least_below ns q n at, distance-bounded n)
+
+pub condition_holds-far : (ns : List Neighbour) (s : Option ℕ) → least ns ≡ infinity → condition_holds (via_successor ns s) ns ≡ true
+condition_holds-far ns s far = rw (far, via_successor-far ns s far) refl
+
+chosen_successor-far : (fd : ℕ) (ns : List Neighbour) (s : Option ℕ) → least ns ≡ infinity → chosen_successor fd ns s ≡ None
+chosen_successor-far fd ns s far = ap (λ d. if d == infinity then None else kept_or_first fd ns s) far
 
 -- a machine without a route, that sent this
 without_route : Machine → List Outgoing → Reaction
@@ -80,21 +127,20 @@ new_computation-still : (m : Machine) (fd : ℕ) (debt : Option ℕ) → IsNoneU
 unfolding without_route
 new_computation-still m fd debt none = rw none refl
 
-passive_result-still : (m : Machine) → IsNoneUp m.ports → passive_result m (via_successor m.ports m.successor) None ≡ without_route m []
+passive_result-still : (m : Machine) → IsNoneUp m.ports → least (ways m) ≡ infinity → passive_result m (via_successor (ways m) m.successor) None ≡ without_route m []
 unfolding without_route
-passive_result-still m none =
-    let far : least m.ports ≡ infinity = least-none_up m.ports none in
-    let via : via_successor m.ports m.successor ≡ infinity = via_successor-none_up m.ports m.successor none in
-    let least_fd : min (via_successor m.ports m.successor) (least m.ports) ≡ infinity = omega (arith, far, via) in
-    let nowhere : chosen_successor (via_successor m.ports m.successor) m.ports m.successor ≡ None = chosen_successor-none_up (via_successor m.ports m.successor) m.ports m.successor none in
-    let silent : news_to_others None m.rd (least m.ports) m.ports ≡ [] = news_to_others-none_up None m.rd (least m.ports) m.ports none in
+passive_result-still m none far =
+    let via : via_successor (ways m) m.successor ≡ infinity = via_successor-far (ways m) m.successor far in
+    let least_fd : min (via_successor (ways m) m.successor) (least (ways m)) ≡ infinity = omega (arith, far, via) in
+    let nowhere : chosen_successor (via_successor (ways m) m.successor) (ways m) m.successor ≡ None = chosen_successor-far (via_successor (ways m) m.successor) (ways m) m.successor far in
+    let silent : news_to_others None m.rd (least (ways m)) m.ports ≡ [] = news_to_others-none_up None m.rd (least (ways m)) m.ports none in
     λ i. record {
       machine = record m { rd = far i; fd = least_fd i; successor = nowhere i; computation = None };
       sends = silent i;
     }
 
-pub new_computation-none_up : (m : Machine) (fd : ℕ) (debt : Option ℕ) → IsNoneUp m.ports → new_computation m fd debt ≡ passive_result m (via_successor m.ports m.successor) None
-new_computation-none_up m fd debt none = new_computation-still m fd debt none ∙ sym (passive_result-still m none)
+pub new_computation-none_up : (m : Machine) (fd : ℕ) (debt : Option ℕ) → IsNoneUp m.ports → least (ways m) ≡ infinity → new_computation m fd debt ≡ passive_result m (via_successor (ways m) m.successor) None
+new_computation-none_up m fd debt none far = new_computation-still m fd debt none ∙ sym (passive_result-still m none far)
 
 -- ---- a link that comes up
 

@@ -6,7 +6,7 @@ use Rattle.metric.specs.Distance.{infinity}
 use Rattle.metric.specs.declared.kind.Kind.{Kind}
 use Rattle.metric.specs.declared.kind.Kind.TheVariants.{Update, Query, Reply}
 use Rattle.network_model.specs.declared.machine.Event.{Event}
-use Rattle.network_model.specs.declared.machine.Event.TheVariants.{Message, Up, Down, Cost}
+use Rattle.network_model.specs.declared.machine.Event.TheVariants.{Message, Up, Down, Cost, Attached, Detached}
 use Rattle.network_model.specs.Machine.{Machine, Reaction, reaction, opening_machine, machine_after}
 
 -- what is seen of a machine after an event: its distances, its successor, whom it awaits, to whom it owes a reply, and what it sent
@@ -39,7 +39,7 @@ active : ℕ → ℕ → List Bool → Option ℕ → List (Kind × ℕ × ℕ) 
 active rd fd awaited debt sends = record { rd = rd; fd = fd; successor = Some 0; awaited = awaited; debt = debt; sends = sends }
 
 fresh : Machine
-fresh = opening_machine false (record { up = true; cost = 1; reported = infinity } ∷ record { up = true; cost = 1; reported = infinity } ∷ [])
+fresh = opening_machine None (record { up = true; cost = 1; reported = infinity } ∷ record { up = true; cost = 1; reported = infinity } ∷ [])
 
 -- a cost that rises, and rises again while the machine asks
 dearer : lines fresh (Message 0 Update 0 ∷ Message 1 Update 2 ∷ Cost 0 10 ∷ Message 0 Reply 0 ∷ Cost 0 20 ∷ Message 1 Reply 11 ∷ Message 0 Reply 0 ∷ Message 1 Reply 12 ∷ [])
@@ -114,3 +114,53 @@ greeted : ((line (reaction (machine_after fresh (Message 0 Update 0 ∷ Down 1 �
     × ((line (reaction (machine_after fresh (Down 1 ∷ [])) (Up 1 1))).sends ≡ [])
 unfolding line fresh
 greeted = (refl, refl)
+
+-- ---- an attachment
+
+-- attached at cost 5, with one port up at cost 1: a dearer attachment is kept while nothing nearer is known, and one that is
+-- dearer than the neighbour's report allows is asked about; when it is lost, the neighbour's way is kept
+attached_once : Machine
+attached_once = opening_machine (Some 5) (record { up = true; cost = 1; reported = infinity } ∷ [])
+
+dearer_at_home : lines attached_once (Message 0 Update 9 ∷ Attached 7 ∷ Attached 12 ∷ Message 0 Reply 9 ∷ Detached ∷ Message 0 Update 20 ∷ Attached 1 ∷ Message 0 Reply 20 ∷ [])
+    ≡ passive 5 5 1 []
+    ∷ passive 7 5 1 ((Update, 7, 0) ∷ [])
+    ∷ record { rd = 12; fd = 5; successor = Some 1; awaited = true ∷ []; debt = None; sends = (Query, 12, 0) ∷ [] }
+    ∷ passive 10 10 0 ((Update, 10, 0) ∷ [])
+    ∷ passive 10 10 0 []
+    ∷ active 21 10 (true ∷ []) None ((Query, 21, 0) ∷ [])
+    ∷ active 21 10 (true ∷ []) None []
+    ∷ passive 1 1 1 ((Update, 1, 0) ∷ [])
+    ∷ []
+unfolding lines line passive active attached_once
+dearer_at_home = refl
+
+-- a way by a neighbour that is nearer than the attachment, and the attachment again where that way is asked about
+home_again : lines (opening_machine (Some 10) (record { up = true; cost = 1; reported = infinity } ∷ [])) (Message 0 Update 2 ∷ Message 0 Query 4294967295 ∷ [])
+    ≡ passive 3 3 0 ((Update, 3, 0) ∷ [])
+    ∷ passive 10 3 1 ((Reply, 10, 0) ∷ [])
+    ∷ []
+unfolding lines line passive
+home_again = refl
+
+-- an attachment that is lost while it is the successor: the neighbours are asked, and with none of them up the route is lost at once
+home_lost : lines attached_once (Detached ∷ Message 0 Reply infinity ∷ [])
+    ≡ record { rd = infinity; fd = 5; successor = None; awaited = true ∷ []; debt = None; sends = (Query, infinity, 0) ∷ [] }
+    ∷ record { rd = infinity; fd = infinity; successor = None; awaited = []; debt = None; sends = [] }
+    ∷ []
+unfolding lines line attached_once
+home_lost = refl
+
+alone_and_lost : lines (opening_machine (Some 5) []) (Detached ∷ Attached 9 ∷ [])
+    ≡ record { rd = infinity; fd = infinity; successor = None; awaited = []; debt = None; sends = [] }
+    ∷ passive 9 9 0 []
+    ∷ []
+unfolding lines line passive
+alone_and_lost = refl
+
+-- of a port and the attachment at the same distance the present successor is kept
+tied_at_home : lines (opening_machine (Some 5) (record { up = true; cost = 1; reported = infinity } ∷ [])) (Message 0 Update 4 ∷ [])
+    ≡ passive 5 5 1 []
+    ∷ []
+unfolding lines line passive
+tied_at_home = refl

@@ -12,16 +12,16 @@ use Rattle.network_model.specs.declared.network.End.TheVariants.{A, B}
 use Rattle.network_model.specs.declared.network.LinkSpec.{LinkSpec}
 use Rattle.network_model.specs.declared.network.NetworkFault.TheVariants.{BadRouters, BadLink, TooManyLinks, BadOwner}
 use Rattle.network_model.specs.declared.step.Step.{Step}
-use Rattle.network_model.specs.declared.step.Step.TheVariants.{LinkUp, LinkDown, SetCost, Deliver, Publish, Release}
+use Rattle.network_model.specs.declared.step.Step.TheVariants.{LinkUp, LinkDown, SetCost, Deliver, Publish, Release, Attach, Detach}
 use Rattle.network_model.specs.declared.step.Refusal.{Refusal}
-use Rattle.network_model.specs.declared.step.Refusal.TheVariants.{AlreadyUp, IsDown, NothingToDeliver, NothingDue, NothingRipe, UnknownRouter, UnknownLink}
+use Rattle.network_model.specs.declared.step.Refusal.TheVariants.{AlreadyUp, IsDown, NothingToDeliver, NothingDue, NothingRipe, UnknownRouter, UnknownLink, UnknownPrefix, NotAttached}
 use Rattle.network_model.specs.Machine.{Machine}
-use Rattle.network_model.specs.World.{World, Network, Link, Router, opening}
+use Rattle.network_model.specs.World.{World, Network, Link, Router, opening, attachment_at}
 use Rattle.network_model.specs.Network.{network_fault}
 use Rattle.network_model.specs.Step.{entry_of, refusal, next}
 use Rattle.network_model.specs.Run.{History, history, run}
 use Rattle.network_model.specs.Turns.{settling_steps, is_settled}
-use Rattle.network_model.specs.Forwarding.{Trace, Ending, Delivered, DeadLink, Crossed, trace, row_for, hop, is_quiet, walk_cost}
+use Rattle.network_model.specs.Forwarding.{Trace, Ending, Delivered, DeadLink, Crossed, trace, row_for, hop, is_quiet, walk_cost, IsWalkHome}
 use Rattle.network_model.specs.View.{destination_view, machine_at, published_hop, published_fd, inbox_at, far_router, pipe}
 use Rattle.network_model.specs.Journal.{step_number, journal_sum, steps_in_sum}
 
@@ -109,13 +109,13 @@ address = 0x0a000001
 link : ℕ → ℕ → ℕ → ℕ → LinkSpec
 link a b from_a from_b = record { a = a; b = b; from_a = from_a; from_b = from_b }
 
-network : ℕ → List LinkSpec → List (Prefix × ℕ) → Network
-network routers links owners = record { routers = routers; links = links; owners = owners }
+network : ℕ → List LinkSpec → List (Prefix × ℕ × ℕ) → Network
+network routers links attachments = record { routers = routers; links = links; attachments = attachments }
 
 -- ---- two routers
 
 two : Network
-two = network 2 (link 0 1 5 5 ∷ []) ((ten, 0) ∷ [])
+two = network 2 (link 0 1 5 5 ∷ []) ((ten, 0, 1) ∷ [])
 
 abbrev report_of_link : Link → Bool × ℕ × ℕ × ℕ × ℕ × ℕ
 report_of_link k = (k.up, k.session, (k.a).cost, (k.b).cost, length (k.a).inbox, length (k.b).inbox)
@@ -141,8 +141,8 @@ two_seen : (steps_of two two_settled ≡ LinkUp 0 ∷ Deliver 0 0 ∷ Deliver 1 
     × (refused_in two two_settled ≡ None)
     × (map report_of_link (world_of two two_settled).links ≡ (true, 1, 5, 5, 0, 0) ∷ [])
     × (map report_of_router (world_of two two_settled).routers ≡ (1, 0, 0) ∷ (1, 0, 0) ∷ [])
-    × (line (world_of two two_settled) 0 ten ≡ Some (passive 0 0 Local))
-    × (line (world_of two two_settled) 1 ten ≡ Some (passive 5 5 (Via 0 1)))
+    × (line (world_of two two_settled) 0 ten ≡ Some (passive 1 1 Local))
+    × (line (world_of two two_settled) 1 ten ≡ Some (passive 6 6 (Via 0 1)))
     × (is_settled (world_of two two_settled) ≡ true)
     × (is_quiet (world_of two two_settled) ≡ true)
 unfolding two_settled refused_in world_of played steps_of script_steps world_after two network link ten line line_of passive
@@ -159,8 +159,8 @@ unfolding tried two network link ten
 two_tried = refl
 
 -- at the opening nothing can be delivered, published or released, and what is not there is named first
-two_refused : map (refusal (opening two)) (Publish 0 ∷ Deliver 0 0 ∷ Release 0 ∷ SetCost 0 0 9 ∷ Publish 2 ∷ Deliver 2 0 ∷ Deliver 0 1 ∷ LinkUp 1 ∷ LinkDown 0 ∷ [])
-    ≡ Some NothingDue ∷ Some NothingToDeliver ∷ Some NothingRipe ∷ Some IsDown ∷ Some UnknownRouter ∷ Some UnknownRouter ∷ Some UnknownLink ∷ Some UnknownLink ∷ Some IsDown ∷ []
+two_refused : map (refusal (opening two)) (Publish 0 ∷ Deliver 0 0 ∷ Release 0 ∷ SetCost 0 0 9 ∷ Publish 2 ∷ Deliver 2 0 ∷ Deliver 0 1 ∷ Deliver 0 2 ∷ LinkUp 1 ∷ LinkDown 0 ∷ [])
+    ≡ Some NothingDue ∷ Some NothingToDeliver ∷ Some NothingRipe ∷ Some IsDown ∷ Some UnknownRouter ∷ Some UnknownRouter ∷ Some NothingToDeliver ∷ Some UnknownLink ∷ Some UnknownLink ∷ Some IsDown ∷ []
 unfolding two network link ten
 two_refused = refl
 
@@ -188,7 +188,7 @@ two_lost_seen = (refl, refl)
 
 -- routers a, b and c; the link of a and c costs x each way
 triangle : ℕ → Network
-triangle x = network 3 (link 0 1 1 1 ∷ link 1 2 1 1 ∷ link 0 2 x x ∷ []) ((ten, 0) ∷ [])
+triangle x = network 3 (link 0 1 1 1 ∷ link 1 2 1 1 ∷ link 0 2 x x ∷ []) ((ten, 0, 1) ∷ [])
 
 triangle_settled : List Command
 triangle_settled = Do (LinkUp 0) ∷ Do (LinkUp 1) ∷ Do (LinkUp 2) ∷ Settle ∷ []
@@ -213,16 +213,16 @@ lost_settled : List Command
 lost_settled = lost_turned ++ Settle ∷ []
 
 lost_seen : (refused_in (triangle 5) lost_settled ≡ None)
-    × (line (world_of (triangle 5) triangle_settled) 1 ten ≡ Some (passive 1 1 (Via 0 1)))
-    × (line (world_of (triangle 5) triangle_settled) 2 ten ≡ Some (passive 2 2 (Via 0 1)))
+    × (line (world_of (triangle 5) triangle_settled) 1 ten ≡ Some (passive 2 2 (Via 0 1)))
+    × (line (world_of (triangle 5) triangle_settled) 2 ten ≡ Some (passive 3 3 (Via 0 1)))
     × (trace (world_of (triangle 5) lost) 2 address ≡ trace_is (2 ∷ 1 ∷ []) DeadLink)
-    × (line (world_of (triangle 5) lost_noticed) 1 ten ≡ Some (active None infinity 1 Entry.Unreachable))
+    × (line (world_of (triangle 5) lost_noticed) 1 ten ≡ Some (active None infinity 2 Entry.Unreachable))
     × (trace (world_of (triangle 5) lost_published) 2 address ≡ trace_is (2 ∷ 1 ∷ []) Ending.Unreachable)
     × (trace (world_of (triangle 5) lost_told) 2 address ≡ trace_is (2 ∷ 1 ∷ []) Ending.Unreachable)
     × (trace (world_of (triangle 5) lost_turned) 2 address ≡ trace_is (2 ∷ 0 ∷ []) Delivered)
     × (trace (world_of (triangle 5) lost_settled) 1 address ≡ trace_is (1 ∷ 2 ∷ 0 ∷ []) Delivered)
-    × (line (world_of (triangle 5) lost_settled) 1 ten ≡ Some (passive 6 6 (Via 1 1)))
-    × (line (world_of (triangle 5) lost_settled) 2 ten ≡ Some (passive 5 2 (Via 1 1)))
+    × (line (world_of (triangle 5) lost_settled) 1 ten ≡ Some (passive 7 7 (Via 1 1)))
+    × (line (world_of (triangle 5) lost_settled) 2 ten ≡ Some (passive 6 3 (Via 1 1)))
 unfolding lost lost_noticed lost_published lost_told lost_turned lost_settled triangle_settled triangle refused_in world_of played steps_of script_steps world_after network link ten address line line_of passive active trace_is
 lost_seen = (refl, refl, refl, refl, refl, refl, refl, refl, refl, refl, refl)
 
@@ -246,10 +246,10 @@ dearer_settled : List Command
 dearer_settled = dearer_still ++ Settle ∷ []
 
 dearer_seen : (refused_in (triangle 12) dearer_settled ≡ None)
-    × (line (world_of (triangle 12) dearer) 1 ten ≡ Some (active None 10 1 (Via 0 1)))
-    × (line (world_of (triangle 12) dearer_still) 1 ten ≡ Some (active None 10 1 (Via 0 1)))
-    × (line (world_of (triangle 12) dearer_settled) 1 ten ≡ Some (passive 13 13 (Via 1 1)))
-    × (line (world_of (triangle 12) dearer_settled) 2 ten ≡ Some (passive 12 11 (Via 1 1)))
+    × (line (world_of (triangle 12) dearer) 1 ten ≡ Some (active None 11 2 (Via 0 1)))
+    × (line (world_of (triangle 12) dearer_still) 1 ten ≡ Some (active None 11 2 (Via 0 1)))
+    × (line (world_of (triangle 12) dearer_settled) 1 ten ≡ Some (passive 14 14 (Via 1 1)))
+    × (line (world_of (triangle 12) dearer_settled) 2 ten ≡ Some (passive 13 12 (Via 1 1)))
 unfolding dearer dearer_still dearer_settled triangle_settled triangle refused_in world_of played steps_of script_steps world_after network link ten line line_of passive active
 dearer_seen = (refl, refl, refl, refl, refl)
 
@@ -260,7 +260,7 @@ flapped = triangle_settled ++ Do (LinkDown 0) ∷ Do (LinkUp 0) ∷ []
 flapped_seen : (refused_in (triangle 5) (flapped ++ Settle ∷ []) ≡ None)
     × (trace (world_of (triangle 5) flapped) 1 address ≡ trace_is (1 ∷ []) DeadLink)
     × (trace (world_of (triangle 5) (flapped ++ Settle ∷ [])) 1 address ≡ trace_is (1 ∷ 0 ∷ []) Delivered)
-    × (line (world_of (triangle 5) (flapped ++ Settle ∷ [])) 1 ten ≡ Some (passive 1 1 (Via 0 2)))
+    × (line (world_of (triangle 5) (flapped ++ Settle ∷ [])) 1 ten ≡ Some (passive 2 2 (Via 0 2)))
 unfolding flapped triangle_settled triangle refused_in world_of played steps_of script_steps world_after network link ten address line line_of passive trace_is
 flapped_seen = (refl, refl, refl, refl)
 
@@ -269,16 +269,16 @@ flapping : List Command
 flapping = triangle_settled ++ Do (LinkDown 0) ∷ Do (LinkUp 0) ∷ Do (LinkDown 0) ∷ Do (LinkUp 0) ∷ Do (LinkDown 0) ∷ Do (LinkUp 0) ∷ Settle ∷ []
 
 flapping_seen : (refused_in (triangle 5) flapping ≡ None)
-    × (line (world_of (triangle 5) flapping) 1 ten ≡ Some (passive 1 1 (Via 0 4)))
-    × (line (world_of (triangle 5) flapping) 2 ten ≡ Some (passive 2 2 (Via 0 1)))
+    × (line (world_of (triangle 5) flapping) 1 ten ≡ Some (passive 2 2 (Via 0 4)))
+    × (line (world_of (triangle 5) flapping) 2 ten ≡ Some (passive 3 3 (Via 0 1)))
 unfolding flapping triangle_settled triangle refused_in world_of played steps_of script_steps world_after network link ten line line_of passive
 flapping_seen = (refl, refl, refl)
 
 -- ---- lines of routers
 
--- three routers in a line, each link at cost 1; the last owns the default route
+-- three routers in a line, each link at cost 1; the last is attached to the default route
 three : Network
-three = network 3 (link 0 1 1 1 ∷ link 1 2 1 1 ∷ []) ((ten, 0) ∷ (everything, 2) ∷ [])
+three = network 3 (link 0 1 1 1 ∷ link 1 2 1 1 ∷ []) ((ten, 0, 1) ∷ (everything, 2, 1) ∷ [])
 
 three_asked : List Command
 three_asked = Do (LinkUp 0) ∷ Do (LinkUp 1) ∷ Settle ∷ Do (LinkDown 0) ∷ Do (Deliver 1 0) ∷ Do (Publish 1) ∷ Do (Release 1) ∷ Do (Deliver 2 0) ∷ []
@@ -287,7 +287,7 @@ three_settled : List Command
 three_settled = three_asked ++ Settle ∷ []
 
 three_seen : (refused_in three three_settled ≡ None)
-    × (line (world_of three three_asked) 2 ten ≡ Some (active (Some 0) infinity 2 (Via 0 1)))
+    × (line (world_of three three_asked) 2 ten ≡ Some (active (Some 0) infinity 3 (Via 0 1)))
     × (row_for (world_of three three_settled) 1 address ≡ Some (ten, Entry.Unreachable))
     × (row_for (world_of three three_settled) 1 0x0b000001 ≡ Some (everything, Via 1 1))
     × (line (world_of three three_settled) 2 ten ≡ Some (passive infinity infinity Entry.Unreachable))
@@ -296,7 +296,7 @@ unfolding three three_asked three_settled refused_in world_of played steps_of sc
 three_seen = (refl, refl, refl, refl, refl, refl)
 
 four : Network
-four = network 4 (link 0 1 1 1 ∷ link 1 2 1 1 ∷ link 2 3 1 1 ∷ []) ((ten, 0) ∷ [])
+four = network 4 (link 0 1 1 1 ∷ link 1 2 1 1 ∷ link 2 3 1 1 ∷ []) ((ten, 0, 1) ∷ [])
 
 four_asked : List Command
 four_asked = Do (LinkUp 0) ∷ Do (LinkUp 1) ∷ Do (LinkUp 2) ∷ Settle ∷ Do (LinkDown 0) ∷ Do (Deliver 1 0) ∷ Do (Publish 1) ∷ Do (Release 1) ∷ Do (Deliver 2 0) ∷ []
@@ -306,15 +306,15 @@ four_cut : List Command
 four_cut = four_asked ++ Do (LinkDown 1) ∷ Do (Deliver 2 0) ∷ []
 
 four_seen : (refused_in four (four_cut ++ Settle ∷ []) ≡ None)
-    × (line (world_of four four_asked) 2 ten ≡ Some (active (Some 0) infinity 2 (Via 0 1)))
-    × (line (world_of four four_cut) 2 ten ≡ Some (active None infinity 2 Entry.Unreachable))
+    × (line (world_of four four_asked) 2 ten ≡ Some (active (Some 0) infinity 3 (Via 0 1)))
+    × (line (world_of four four_cut) 2 ten ≡ Some (active None infinity 3 Entry.Unreachable))
     × (line (world_of four (four_cut ++ Settle ∷ [])) 3 ten ≡ Some (passive infinity infinity Entry.Unreachable))
 unfolding four four_asked four_cut refused_in world_of played steps_of script_steps world_after network link ten line line_of passive active
 four_seen = (refl, refl, refl, refl)
 
 -- a packet that another prefix matches on its way
 crossing : Network
-crossing = network 3 (link 0 1 1 1 ∷ link 1 2 1 1 ∷ []) ((ten, 0) ∷ (ten_one, 1) ∷ [])
+crossing = network 3 (link 0 1 1 1 ∷ link 1 2 1 1 ∷ []) ((ten, 0, 1) ∷ (ten_one, 1, 1) ∷ [])
 
 crossed : List Command
 crossed = Do (LinkUp 0) ∷ Settle ∷ Do (LinkUp 1) ∷ Do (Deliver 1 1) ∷ Do (Publish 1) ∷ Do (Release 1) ∷ Do (Deliver 2 0) ∷ Do (Deliver 2 0) ∷ Do (Publish 2) ∷ []
@@ -326,20 +326,79 @@ crossed_seen = (refl, refl)
 -- ---- least costs
 
 uneven : Network
-uneven = network 3 (link 0 1 1 10 ∷ link 1 2 2 1 ∷ link 0 2 9 3 ∷ []) ((ten, 0) ∷ [])
+uneven = network 3 (link 0 1 1 10 ∷ link 1 2 2 1 ∷ link 0 2 9 3 ∷ []) ((ten, 0, 1) ∷ [])
 
 uneven_dearer : List Command
 uneven_dearer = triangle_settled ++ Do (SetCost 2 1 20) ∷ Settle ∷ []
 
 uneven_seen : (refused_in uneven uneven_dearer ≡ None)
-    × (line (world_of uneven triangle_settled) 1 ten ≡ Some (passive 5 5 (Via 1 1)))
-    × (line (world_of uneven triangle_settled) 2 ten ≡ Some (passive 3 3 (Via 1 1)))
+    × (line (world_of uneven triangle_settled) 1 ten ≡ Some (passive 6 6 (Via 1 1)))
+    × (line (world_of uneven triangle_settled) 2 ten ≡ Some (passive 4 4 (Via 1 1)))
     × (trace (world_of uneven triangle_settled) 1 address ≡ trace_is (1 ∷ 2 ∷ 0 ∷ []) Delivered)
-    × (line (world_of uneven uneven_dearer) 1 ten ≡ Some (passive 10 5 (Via 0 1)))
-    × (line (world_of uneven uneven_dearer) 2 ten ≡ Some (passive 11 11 (Via 0 1)))
+    × (line (world_of uneven uneven_dearer) 1 ten ≡ Some (passive 11 6 (Via 0 1)))
+    × (line (world_of uneven uneven_dearer) 2 ten ≡ Some (passive 12 12 (Via 0 1)))
     × (trace (world_of uneven uneven_dearer) 2 address ≡ trace_is (2 ∷ 1 ∷ 0 ∷ []) Delivered)
 unfolding uneven uneven_dearer triangle_settled refused_in world_of played steps_of script_steps world_after network link ten address line line_of passive trace_is
 uneven_seen = (refl, refl, refl, refl, refl, refl, refl)
+
+-- ---- attachments
+
+-- three routers in a line, two of which are attached to the prefix: a at cost 1, c at cost 10
+both_ends : Network
+both_ends = network 3 (link 0 1 1 1 ∷ link 1 2 1 1 ∷ []) ((ten, 0, 1) ∷ (ten, 2, 10) ∷ [])
+
+ends_settled : List Command
+ends_settled = Do (LinkUp 0) ∷ Do (LinkUp 1) ∷ Settle ∷ []
+
+ends_detached : List Command
+ends_detached = ends_settled ++ Do (Detach 0 ten) ∷ Settle ∷ []
+
+ends_attached : List Command
+ends_attached = ends_detached ++ Do (Attach 0 ten 1) ∷ Settle ∷ []
+
+-- the notices that each router has yet to take
+notices_left : World → List ℕ
+notices_left w = map (λ a. length a.notices) w.attachments
+
+ends_seen : (refused_in both_ends ends_attached ≡ None)
+    × (line (world_of both_ends ends_settled) 2 ten ≡ Some (passive 3 3 (Via 0 1)))
+    × (line (world_of both_ends ends_detached) 0 ten ≡ Some (passive 12 12 (Via 0 1)))
+    × (line (world_of both_ends ends_detached) 1 ten ≡ Some (passive 11 11 (Via 1 1)))
+    × (line (world_of both_ends ends_detached) 2 ten ≡ Some (passive 10 3 Local))
+    × (trace (world_of both_ends ends_detached) 0 address ≡ trace_is (0 ∷ 1 ∷ 2 ∷ []) Delivered)
+    × (refusal (world_of both_ends ends_detached) (Detach 0 ten) ≡ Some NotAttached)
+    × (line (world_of both_ends ends_attached) 0 ten ≡ Some (passive 1 1 Local))
+    × (is_quiet (world_of both_ends ends_attached) ≡ true)
+unfolding both_ends ends_settled ends_detached ends_attached refused_in world_of played steps_of script_steps world_after network link ten address line line_of passive trace_is
+ends_seen = (refl, refl, refl, refl, refl, refl, refl, refl, refl)
+
+-- once a is no longer attached, the walk from a to c costs 12, the cost of c's attachment included
+ends_walk : IsWalkHome (world_of both_ends ends_detached) ten 0 (record { link = 0; end = A } ∷ record { link = 1; end = A } ∷ []) 2 12
+unfolding both_ends ends_settled ends_detached world_of played steps_of script_steps world_after network link ten
+ends_walk = record { walk = (_, refl, refl, refl, (_, refl, refl, refl, refl)); attachment = 10; attached = refl; cost_is = refl }
+
+-- a notice is taken at the port numbered by the degree, and waits there until then: the machine is as it was, and the network neither settled nor quiet
+told_home : List Command
+told_home = ends_settled ++ Do (Attach 1 ten 1) ∷ Do (Attach 1 ten 7) ∷ []
+
+told_home_seen : (refused_in both_ends (told_home ++ Do (Deliver 1 2) ∷ Do (Deliver 1 2) ∷ Settle ∷ []) ≡ None)
+    × (notices_left (world_of both_ends told_home) ≡ 0 ∷ 2 ∷ 0 ∷ [])
+    × (attachment_at (world_of both_ends told_home) 1 ten ≡ Some 7)
+    × (line (world_of both_ends told_home) 1 ten ≡ Some (passive 2 2 (Via 0 1)))
+    × (is_settled (world_of both_ends told_home) ≡ false)
+    × (is_quiet (world_of both_ends told_home) ≡ false)
+    × (line (world_of both_ends (told_home ++ Do (Deliver 1 2) ∷ [])) 1 ten ≡ Some (passive 1 1 Local))
+    × (notices_left (world_of both_ends (told_home ++ Do (Deliver 1 2) ∷ [])) ≡ 0 ∷ 1 ∷ 0 ∷ [])
+    × (line (world_of both_ends (told_home ++ Do (Deliver 1 2) ∷ Do (Deliver 1 2) ∷ Settle ∷ [])) 1 ten ≡ Some (passive 2 2 (Via 0 1)))
+    × (line (world_of both_ends (told_home ++ Do (Deliver 1 2) ∷ Do (Deliver 1 2) ∷ Settle ∷ [])) 0 ten ≡ Some (passive 1 1 Local))
+unfolding told_home notices_left both_ends ends_settled refused_in world_of played steps_of script_steps world_after network link ten line line_of passive
+told_home_seen = (refl, refl, refl, refl, refl, refl, refl, refl, refl, refl)
+
+-- a prefix that is none of the network's, an attachment that is not there, a port past that of the attachments, and an empty list of notices
+home_refused : map (refusal (opening both_ends)) (Attach 3 ten 1 ∷ Attach 0 everything 1 ∷ Detach 3 ten ∷ Detach 0 everything ∷ Detach 1 ten ∷ Detach 2 ten ∷ Attach 1 ten 65535 ∷ Deliver 0 1 ∷ Deliver 1 2 ∷ Deliver 1 3 ∷ Deliver 3 0 ∷ [])
+    ≡ Some UnknownRouter ∷ Some UnknownPrefix ∷ Some UnknownRouter ∷ Some UnknownPrefix ∷ Some NotAttached ∷ None ∷ None ∷ Some NothingToDeliver ∷ Some NothingToDeliver ∷ Some UnknownLink ∷ Some UnknownRouter ∷ []
+unfolding both_ends network link ten everything
+home_refused = refl
 
 -- ---- what one prefix sees
 
@@ -347,26 +406,26 @@ uneven_seen = (refl, refl, refl, refl, refl, refl, refl)
 half_way : List Command
 half_way = Do (LinkUp 0) ∷ Do (Deliver 0 0) ∷ Do (Deliver 1 0) ∷ Do (Publish 0) ∷ Do (Release 0) ∷ []
 
-told_zero : Item
-told_zero = Item.Message (record { kind = Update; prefix = ten; value = 0 })
+told_one : Item
+told_one = Item.Message (record { kind = Update; prefix = ten; value = 1 })
 
 half_way_seen : (refused_in two half_way ≡ None)
-    × (inbox_at (destination_view ten (played two half_way)).world 1 0 ≡ told_zero ∷ [])
-    × (pipe (destination_view ten (played two half_way)).world 0 0 ≡ told_zero ∷ [])
+    × (inbox_at (destination_view ten (played two half_way)).world 1 0 ≡ told_one ∷ [])
+    × (pipe (destination_view ten (played two half_way)).world 0 0 ≡ told_one ∷ [])
     × (inbox_at (destination_view everything (played two half_way)).world 1 0 ≡ [])
     × ((machine_at (destination_view ten (played two half_way)).world 1).fd ≡ infinity)
-    × (published_fd (destination_view ten (played two half_way)) 0 ≡ 0)
+    × (published_fd (destination_view ten (played two half_way)) 0 ≡ 1)
     × (far_router (destination_view ten (played two half_way)).world 0 0 ≡ Some 1)
-unfolding half_way told_zero refused_in played steps_of script_steps two network link ten everything
+unfolding half_way told_one refused_in played steps_of script_steps two network link ten everything
 half_way_seen = (refl, refl, refl, refl, refl, refl, refl)
 
--- b published its row at distance 5; its machine has none once the link is lost
+-- b published its row at distance 6; its machine has none once the link is lost
 cut_off : List Command
 cut_off = two_settled ++ Do (LinkDown 0) ∷ Do (Deliver 1 0) ∷ []
 
 cut_off_seen : (refused_in two cut_off ≡ None)
     × (published_hop (destination_view ten (played two cut_off)).world 1 ≡ Some (record { port = 0; session = 1 }))
-    × (published_fd (destination_view ten (played two cut_off)) 1 ≡ 5)
+    × (published_fd (destination_view ten (played two cut_off)) 1 ≡ 6)
     × ((machine_at (destination_view ten (played two cut_off)).world 1).fd ≡ infinity)
     × (hop (world_of two cut_off) address 1 ≡ None)
     × (hop (world_of two two_settled) address 1 ≡ Some 0)
@@ -392,8 +451,10 @@ uneven_walk = refl
 
 -- ---- numbers of steps
 
-numbers : map step_number (LinkUp 3 ∷ SetCost 1 2 5 ∷ Release 7 ∷ [])
-    ≡ (2 ^ 104 + 3 * 2 ^ 64) ∷ (2 ^ 104 + 2 * 2 ^ 80 + 2 ^ 64 + 2 * 2 ^ 56 + 5 * 2 ^ 40) ∷ (2 ^ 104 + 5 * 2 ^ 80 + 7 * 2 ^ 64) ∷ []
+numbers : map step_number (LinkUp 3 ∷ SetCost 1 2 5 ∷ Release 7 ∷ Attach 1 ten_one 5 ∷ Detach 2 ten ∷ [])
+    ≡ (2 ^ 104 + 3 * 2 ^ 64) ∷ (2 ^ 104 + 2 * 2 ^ 80 + 2 ^ 64 + 2 * 2 ^ 56 + 5 * 2 ^ 40) ∷ (2 ^ 104 + 5 * 2 ^ 80 + 7 * 2 ^ 64)
+    ∷ (2 ^ 104 + 6 * 2 ^ 80 + 2 ^ 64 + 5 * 2 ^ 40 + 0x0a010000 * 2 ^ 8 + 16) ∷ (2 ^ 104 + 7 * 2 ^ 80 + 2 * 2 ^ 64 + 0x0a000000 * 2 ^ 8 + 8) ∷ []
+unfolding ten ten_one
 numbers = refl
 
 sum_of_nine : steps_in_sum (journal_sum (steps_of two two_settled)) ≡ 9
@@ -408,10 +469,11 @@ faults : map network_fault (
     ∷ network 1 (link 0 0 1 1 ∷ []) []
     ∷ network 2 (link 0 1 5 5 ∷ link 1 0 1 1 ∷ []) []
     ∷ network 2 (link 0 2 1 1 ∷ []) []
-    ∷ network 2 (link 0 1 1 1 ∷ []) ((ten, 0) ∷ (ten, 1) ∷ [])
-    ∷ network 2 (link 0 1 1 1 ∷ []) ((ten, 2) ∷ [])
+    ∷ network 2 (link 0 1 1 1 ∷ []) ((ten, 0, 1) ∷ (ten, 0, 2) ∷ [])
+    ∷ network 2 (link 0 1 1 1 ∷ []) ((ten, 0, 1) ∷ (ten, 1, 1) ∷ [])
+    ∷ network 2 (link 0 1 1 1 ∷ []) ((ten, 2, 1) ∷ [])
     ∷ two ∷ [])
-    ≡ Some BadRouters ∷ Some BadRouters ∷ Some (BadLink 0) ∷ Some (BadLink 1) ∷ Some (BadLink 0) ∷ Some (BadOwner 1) ∷ Some (BadOwner 0) ∷ None ∷ []
+    ≡ Some BadRouters ∷ Some BadRouters ∷ Some (BadLink 0) ∷ Some (BadLink 1) ∷ Some (BadLink 0) ∷ Some (BadOwner 1) ∷ None ∷ Some (BadOwner 0) ∷ None ∷ []
 unfolding network link ten two
 faults = refl
 
@@ -423,6 +485,16 @@ star (suc n) i = link 0 i 1 1 ∷ star n (i + 1)
 star_faults : map network_fault (network 33 (star 32 1) [] ∷ network 34 (star 33 1) [] ∷ []) ≡ None ∷ Some (TooManyLinks 32) ∷ []
 unfolding network link star
 star_faults = refl
+
+-- attachments: routers 0 to 255 to each of n prefixes
+at_all : Prefix → ℕ → ℕ → List (Prefix × ℕ × ℕ)
+at_all p zero i = []
+at_all p (suc n) i = (p, i, 1) ∷ at_all p n (i + 1)
+
+-- every router may be attached to one prefix, and no router twice
+attachments_seen : map network_fault (network 20 [] (at_all ten 20 0) ∷ network 20 [] (at_all ten 20 0 ++ (ten, 7, 2) ∷ []) ∷ []) ≡ None ∷ Some (BadOwner 20) ∷ []
+unfolding network ten at_all
+attachments_seen = refl
 
 -- ---- a long line
 
@@ -436,8 +508,8 @@ all_up (suc n) i = Do (LinkUp i) ∷ all_up n (i + 1)
 
 -- twenty links in a line, each at the greatest cost
 long : Network
-long = network 21 (long_links 20 0) ((ten, 0) ∷ [])
+long = network 21 (long_links 20 0) ((ten, 0, 1) ∷ [])
 
-long_seen : (refused_in long (all_up 20 0) ≡ None) × (line (world_of long (all_up 20 0)) 20 ten ≡ Some (passive 1310700 1310700 (Via 0 1)))
+long_seen : (refused_in long (all_up 20 0) ≡ None) × (line (world_of long (all_up 20 0)) 20 ten ≡ Some (passive 1310701 1310701 (Via 0 1)))
 unfolding long long_links all_up refused_in world_of played steps_of script_steps world_after network link ten line line_of passive
 long_seen = (refl, refl)

@@ -58,15 +58,15 @@ module _ {K X Y : Type 0} (R : K → K → Ordering) (f : X → Y) where
 pub sorted-put : {X : Type 0} (rows : List (Prefix × X)) (p : Prefix) (v : X) → is_sorted prefix_cmp rows ≡ true → is_sorted prefix_cmp (put prefix_cmp p v rows) ≡ true
 sorted-put rows p v s = from_T _ (is_sorted-put prefix_cmp prefix_cmp_total p v rows (to_T _ s))
 
--- rows with one value at some prefixes are sorted
-pub sorted-rows_of : {X : Type 0} (x : X) (ps : List Prefix) → is_sorted prefix_cmp (rows_of x ps) ≡ true
-sorted-rows_of x [] = refl
-sorted-rows_of x (p ∷ ps) = sorted-put (rows_of x ps) p x (sorted-rows_of x ps)
+-- values at their prefixes are sorted
+pub sorted-rows_of : {X : Type 0} (rs : List (Prefix × X)) → is_sorted prefix_cmp (rows_of rs) ≡ true
+sorted-rows_of [] = refl
+sorted-rows_of (r ∷ rs) = sorted-put (rows_of rs) r.0 r.1 (sorted-rows_of rs)
 
--- changed, they are rows with the changed value at these prefixes
-pub map-rows_of : {X Y : Type 0} (f : X → Y) (x : X) (ps : List Prefix) → map (λ e. (e.0, f e.1)) (rows_of x ps) ≡ rows_of (f x) ps
-map-rows_of f x [] = refl
-map-rows_of f x (p ∷ ps) = map-put prefix_cmp f p x (rows_of x ps) ∙ ap (put prefix_cmp p (f x)) (map-rows_of f x ps)
+-- changed, they are the changed values at their prefixes
+pub map-rows_of : {X Y : Type 0} (f : X → Y) (rs : List (Prefix × X)) → map (λ e. (e.0, f e.1)) (rows_of rs) ≡ rows_of (map (λ e. (e.0, f e.1)) rs)
+map-rows_of f [] = refl
+map-rows_of f (r ∷ rs) = map-put prefix_cmp f r.0 r.1 (rows_of rs) ∙ ap (put prefix_cmp r.0 (f r.1)) (map-rows_of f rs)
 
 -- ---- rows set in order
 

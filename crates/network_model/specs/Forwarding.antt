@@ -6,7 +6,7 @@ use Rattle.ipv4_prefix.specs.Prefix.{Prefix, prefix_eq}
 use Rattle.ipv4_prefix.specs.LongestMatch.{longest_match}
 use Rattle.network_model.specs.declared.route.Entry.{Entry}
 use Rattle.network_model.specs.declared.network.Place.{Place}
-use Rattle.network_model.specs.World.{Link, Router, World, other, side, link_at, far_side_at}
+use Rattle.network_model.specs.World.{Link, Router, Attachments, World, other, side, link_at, far_side_at, attachment_at}
 use Rattle.network_model.specs.Step.{is_up_in, changed_rows}
 
 -- ---- packets
@@ -113,10 +113,17 @@ abbrev pub walk_cost : World → List Place → ℕ
 walk_cost w [] = 0
 walk_cost w (p ∷ ps) = option_map_or (λ l. (side p.end l).cost) (slice_get w.links p.link) 0 + walk_cost w ps
 
--- a walk than which none between the same routers costs less
-pub record IsLeastWalk (w : World) (i : ℕ) (ps : List Place) (k : ℕ) : Type 0 where
+-- a walk from the router to one that is attached to the prefix, which costs so much, the cost of the attachment included
+pub record IsWalkHome (w : World) (p : Prefix) (i : ℕ) (ps : List Place) (k cost : ℕ) : Type 0 where
   pub walk : IsWalk w i ps k
-  pub least : (others : List Place) → IsWalk w i others k → walk_cost w ps ≤ walk_cost w others
+  pub attachment : ℕ
+  pub attached : attachment_at w k p ≡ Some attachment
+  pub cost_is : walk_cost w ps + attachment ≡ cost
+
+-- such a walk than which none to any attached router costs less
+pub record IsLeastWalk (w : World) (p : Prefix) (i : ℕ) (ps : List Place) (k cost : ℕ) : Type 0 where
+  pub walk : IsWalkHome w p i ps k cost
+  pub least : (others : List Place) (o other_cost : ℕ) → IsWalkHome w p i others o other_cost → cost ≤ other_cost
 
 -- ---- quiet
 
@@ -133,6 +140,10 @@ is_quiet_router r = list_all (λ m. is_none (m.1).computation) r.machines && is_
 abbrev pub is_quiet_link : Link → Bool
 is_quiet_link l = is_empty (l.a).inbox && is_empty (l.b).inbox
 
--- every router and every link is quiet
+-- no notice of a router's attachments waits to be taken
+abbrev pub has_no_notice : Attachments → Bool
+has_no_notice a = is_empty a.notices
+
+-- every router and every link is quiet, and no notice waits
 abbrev pub is_quiet : World → Bool
-is_quiet w = list_all is_quiet_router w.routers && list_all is_quiet_link w.links
+is_quiet w = list_all is_quiet_router w.routers && list_all is_quiet_link w.links && list_all has_no_notice w.attachments

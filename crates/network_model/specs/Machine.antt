@@ -1,14 +1,14 @@
 -- The machine of one router for one prefix: what each event makes of it, and what it sends.
 -- (DUAL, as in Garcia-Luna-Aceves, Loop-Free Routing Using Diffusing Computations, 1993, in this project's profile:
 -- docs/2-model.md says where the two differ.)
-use Rattle.std.specs.Prelude.{ℕ, zero, suc, min, Bool, true, false, not, ◌&&◌, nat_lt, ◌==◌, if◌then◌else◌, List, [], ◌∷◌, ◌++◌, Option, Some, None, map, slice_get, option_and_then}
+use Rattle.std.specs.Prelude.{ℕ, zero, suc, min, Bool, true, false, not, ◌&&◌, nat_lt, ◌==◌, if◌then◌else◌, List, [], ◌∷◌, ◌++◌, Option, Some, None, map, slice_get, option_and_then, length}
 use Rattle.std.specs.List.{list_any, position_from}
 use Rattle.std.specs.Option.{option_map_or}
 use Rattle.metric.specs.Distance.{infinity, plus}
 use Rattle.metric.specs.declared.kind.Kind.{Kind}
 use Rattle.metric.specs.declared.kind.Kind.TheVariants.{Update, Query, Reply}
 use Rattle.network_model.specs.declared.machine.Event.{Event}
-use Rattle.network_model.specs.declared.machine.Event.TheVariants.{Message, Up, Down, Cost}
+use Rattle.network_model.specs.declared.machine.Event.TheVariants.{Message, Up, Down, Cost, Attached, Detached}
 use Rattle.network_model.specs.declared.machine.Neighbour.{Neighbour}
 use Rattle.network_model.specs.declared.machine.Outgoing.{Outgoing}
 
@@ -19,20 +19,28 @@ pub record Computation : Type 0 where
   pub awaited : List Bool
   pub debt : Option ℕ
 
--- the state of a machine: whether the router owns the prefix, what it keeps of the neighbour at each port, its reported
--- distance, its feasible distance, its successor, and the computation under way. Without one it is passive. While a
--- computation runs, the reported distance is the distance with which it began
+-- the state of a machine: the cost of the router's own attachment to the prefix, if it has one, what it keeps of the
+-- neighbour at each port, its reported distance, its feasible distance, its successor (a port, or the attachment), and the
+-- computation under way. Without one it is passive. While a computation runs, the reported distance is the distance with
+-- which it began
 pub record Machine : Type 0 where
-  pub local : Bool
+  pub attachment : Option ℕ
   pub ports : List Neighbour
   pub rd : ℕ
   pub fd : ℕ
   pub successor : Option ℕ
   pub computation : Option Computation
 
--- a machine that has heard nothing over these ports: at distance 0 where the router owns the prefix, else without a route
-abbrev pub opening_machine : Bool → List Neighbour → Machine
-opening_machine local ns = record { local = local; ports = ns; rd = if local then 0 else infinity; fd = if local then 0 else infinity; successor = None; computation = None }
+-- a machine that has heard nothing over these ports: at the cost of its attachment, by way of it, where there is one; else without a route
+abbrev pub opening_machine : Option ℕ → List Neighbour → Machine
+opening_machine attachment ns = record {
+  attachment = attachment;
+  ports = ns;
+  rd = option_map_or (λ cost. cost) attachment infinity;
+  fd = option_map_or (λ cost. cost) attachment infinity;
+  successor = option_map_or (λ cost. Some (length ns)) attachment None;
+  computation = None;
+}
 
 -- what an event did to a machine: the state after it, and what it sent, in order
 pub record Reaction : Type 0 where
@@ -41,9 +49,25 @@ pub record Reaction : Type 0 where
 
 -- ---- distances
 
--- the ways out of a router, over which it decides
+-- an attachment, as a neighbour that is up and reported 0
+abbrev pub at_home : ℕ → Neighbour
+at_home cost = record { up = true; cost = cost; reported = 0 }
+
+-- an attachment as a list of such neighbours, of one or of none
+abbrev pub home_ways : Option ℕ → List Neighbour
+home_ways attachment = option_map_or (λ cost. at_home cost ∷ []) attachment []
+
+-- the ways out of a router, over which it decides: its ports, and after them its attachment, as one more port
 abbrev pub ways : Machine → List Neighbour
-ways m = m.ports
+ways m = m.ports ++ home_ways m.attachment
+
+-- how many ports a router has: the number that its attachment has among the ways
+abbrev pub degree : Machine → ℕ
+degree m = length m.ports
+
+-- the successor where it is a port of a link; none where it is the attachment
+abbrev pub port_successor : Machine → Option ℕ
+port_successor m = option_and_then (λ q. if q == degree m then None else Some q) m.successor
 
 -- the distance by way of a neighbour; infinity while its link is down, whatever it reported before
 abbrev pub distance : Neighbour → ℕ
@@ -118,21 +142,30 @@ changed_at k f [] = []
 changed_at zero f (x ∷ xs) = f x ∷ xs
 changed_at (suc k) f (x ∷ xs) = x ∷ changed_at k f xs
 
--- a message changes what was reported; Up makes the port up with its cost and nothing reported; Down makes it down; Cost changes its cost
+-- a message changes what was reported; Up makes the port up with its cost and nothing reported; Down makes it down; Cost changes its cost. An event of the attachment leaves the ports
 abbrev pub records_after : Event → List Neighbour → List Neighbour
 records_after (Message q kind value) ns = changed_at q (λ n. record { up = n.up; cost = n.cost; reported = value }) ns
 records_after (Up q cost) ns = changed_at q (λ n. record { up = true; cost = cost; reported = infinity }) ns
 records_after (Down q) ns = changed_at q (λ n. record { up = false; cost = n.cost; reported = n.reported }) ns
 records_after (Cost q cost) ns = changed_at q (λ n. record { up = n.up; cost = cost; reported = n.reported }) ns
+records_after (Attached cost) ns = ns
+records_after Detached ns = ns
 
--- a successor whose link is lost is none
-abbrev pub successor_after : Event → Option ℕ → Option ℕ
-successor_after (Down q) successor = if is_port q successor then None else successor
-successor_after _ successor = successor
+-- the attachment is as it was told last
+abbrev pub attachment_after : Event → Option ℕ → Option ℕ
+attachment_after (Attached cost) attachment = Some cost
+attachment_after Detached attachment = None
+attachment_after _ attachment = attachment
+
+-- a successor whose link is lost is none, and so is a lost attachment, whose number is the degree
+abbrev pub successor_after : ℕ → Event → Option ℕ → Option ℕ
+successor_after degree (Down q) successor = if is_port q successor then None else successor
+successor_after degree Detached successor = if is_port degree successor then None else successor
+successor_after degree _ successor = successor
 
 -- the machine with its records after an event, before it decides
 abbrev pub with_records : Machine → Event → Machine
-with_records m e = record m { ports = records_after e m.ports; successor = successor_after e m.successor }
+with_records m e = record m { attachment = attachment_after e m.attachment; ports = records_after e m.ports; successor = successor_after (degree m) e m.successor }
 
 -- the port whose query the event is
 abbrev pub asker : Event → Option ℕ
@@ -153,8 +186,10 @@ passive_result m fd owed = record {
   sends = one_to owed Reply (least (ways m)) ++ news_to_others owed m.rd (least (ways m)) m.ports;
 }
 
--- a computation that begins, at the distance by way of the successor: everyone who is up is asked, and awaited. With
--- no one up it completes at once: every distance is infinity then, so the condition holds, and the machine is passive without a route
+-- a computation that begins, at the distance by way of the successor: everyone who is up is asked, and awaited, but never
+-- the attachment. With no one to ask it completes at once. It began because no way may be taken, and an attachment, which
+-- reported 0, may always be taken where it is the least; so every distance is infinity then, the condition holds, and the
+-- machine is passive without a route
 abbrev pub new_computation : Machine → ℕ → Option ℕ → Reaction
 new_computation m fd debt =
     let v = via_successor (ways m) m.successor in
@@ -217,13 +252,13 @@ active_reaction m e c =
 abbrev pub greeting : Machine → ℕ → List Outgoing
 greeting m q = if m.rd == infinity then [] else one_to (Some q) Update m.rd
 
--- the owner answers queries, and stays as it is
-abbrev pub owner_reaction : Machine → Event → Reaction
-owner_reaction m e = record { machine = m; sends = one_to (asker e) Reply 0 }
-
 -- what a machine decides once its records have changed
 abbrev pub decision : Machine → Event → Reaction
-decision m e = if m.local then owner_reaction m e else option_map_or (active_reaction m e) m.computation (passive_reaction m e)
+decision m e = option_map_or (active_reaction m e) m.computation (passive_reaction m e)
+
+-- the event that the machine of a prefix meets where its router is told of its attachment: at this cost, or at none
+abbrev pub event_at_home : Option ℕ → Event
+event_at_home cost = option_map_or (λ c. Attached c) cost Detached
 
 -- the state after an event, and what it sends. Where a link comes up, only the record changes and the neighbour is told:
 -- a computation under way does not await it, and a passive machine would choose as before

@@ -6,9 +6,9 @@ use Rattle.ipv4_prefix.specs.Prefix.{Prefix, IsPrefix, prefix_eq}
 use Rattle.network_model.specs.declared.network.LinkSpec.{LinkSpec}
 use Rattle.network_model.specs.declared.network.NetworkFault.{NetworkFault}
 use Rattle.network_model.specs.declared.network.NetworkFault.TheVariants.{BadRouters, BadLink, TooManyLinks, BadOwner}
-use Rattle.network_model.specs.World.{Network}
+use Rattle.network_model.specs.World.{Network, prefixes_of}
 
--- the greatest numbers of routers, links, links of one router, and prefixes
+-- the greatest numbers of routers, links, links of one router, prefixes, and attachments
 abbrev pub most_routers : ℕ
 most_routers = 256
 
@@ -20,6 +20,9 @@ most_ports = 32
 
 abbrev pub most_prefixes : ℕ
 most_prefixes = 4096
+
+abbrev pub most_attachments : ℕ
+most_attachments = 16384
 
 -- of tests with causes, in order, the cause of the first that passes
 abbrev pub first_cause : {X : Type 0} → List (Bool × X) → Option X
@@ -46,9 +49,17 @@ is_bad_link routers before s = not (nat_lt s.a routers && nat_lt s.b routers) ||
 abbrev pub is_link_too_many : List LinkSpec → LinkSpec → Bool
 is_link_too_many before s = not (nat_lt (length before) most_links && nat_lt (degree s.a before) most_ports && nat_lt (degree s.b before) most_ports)
 
--- a prefix that cannot be owned: an unknown owner, a prefix given before, or past the greatest number of prefixes
-abbrev pub is_bad_owner : ℕ → List (Prefix × ℕ) → Prefix × ℕ → Bool
-is_bad_owner routers before o = not (nat_lt o.1 routers && nat_lt (length before) most_prefixes) || list_any (λ b. prefix_eq b.0 o.0) before
+-- whether both attachments are of one prefix
+abbrev pub has_same_prefix : Prefix × ℕ × ℕ → Prefix × ℕ × ℕ → Bool
+has_same_prefix a b = prefix_eq b.0 a.0
+
+-- an attachment that cannot be: an unknown router, one past the greatest number of attachments, a prefix given before at
+-- the same router, or a prefix that was not given before, past the greatest number of prefixes
+abbrev pub is_bad_attachment : ℕ → List (Prefix × ℕ × ℕ) → Prefix × ℕ × ℕ → Bool
+is_bad_attachment routers before a =
+    not (nat_lt a.1 routers && nat_lt (length before) most_attachments)
+    || list_any (λ b. has_same_prefix a b && (b.1 == a.1)) before
+    || not (list_any (has_same_prefix a) before || nat_lt (length (prefixes_of before)) most_prefixes)
 
 -- the faults of these links, which come after others
 abbrev pub link_causes : ℕ → List LinkSpec → List LinkSpec → List (Bool × NetworkFault)
@@ -58,19 +69,19 @@ link_causes routers before (s ∷ ss) =
     ∷ (is_link_too_many before s, TooManyLinks (length before))
     ∷ link_causes routers (before ++ s ∷ []) ss
 
--- the faults of these owners, which come after others
-abbrev pub owner_causes : ℕ → List (Prefix × ℕ) → List (Prefix × ℕ) → List (Bool × NetworkFault)
-owner_causes routers before [] = []
-owner_causes routers before (o ∷ os) =
-    (is_bad_owner routers before o, BadOwner (length before))
-    ∷ owner_causes routers (before ++ o ∷ []) os
+-- the faults of these attachments, which come after others
+abbrev pub attachment_causes : ℕ → List (Prefix × ℕ × ℕ) → List (Prefix × ℕ × ℕ) → List (Bool × NetworkFault)
+attachment_causes routers before [] = []
+attachment_causes routers before (a ∷ rest) =
+    (is_bad_attachment routers before a, BadOwner (length before))
+    ∷ attachment_causes routers (before ++ a ∷ []) rest
 
--- the first fault of a network, in the order of the tests: the routers, each link, each prefix; none where it may be opened
+-- the first fault of a network, in the order of the tests: the routers, each link, each attachment; none where it may be opened
 abbrev pub network_fault : Network → Option NetworkFault
 network_fault n = first_cause (
     (not (nat_lt 0 n.routers && nat_le n.routers most_routers), BadRouters)
     ∷ link_causes n.routers [] n.links
-    ++ owner_causes n.routers [] n.owners)
+    ++ attachment_causes n.routers [] n.attachments)
 
 -- the costs of a link that can be: each is the cost of a link
 pub record HasCosts (s : LinkSpec) : Type 0 where
@@ -81,4 +92,5 @@ pub record HasCosts (s : LinkSpec) : Type 0 where
 pub record IsNetwork (n : Network) : Type 0 where
   pub no_fault : network_fault n ≡ None
   pub costs : All HasCosts n.links
-  pub prefixes : All (λ o. IsPrefix o.0) n.owners
+  pub prefixes : All (λ a. IsPrefix a.0) n.attachments
+  pub attachment_costs : All (λ a. IsCost a.2) n.attachments

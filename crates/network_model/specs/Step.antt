@@ -1,25 +1,27 @@
 -- The steps of a network: which are lawful, why another is refused, and what a lawful one makes.
-use Rattle.std.specs.Prelude.{◌≡◌, ℕ, ◌+◌, ◌-◌, ◌<◌, Bool, true, false, not, ◌&&◌, ◌||◌, ◌==◌, nat_lt, if◌then◌else◌, List, [], ◌∷◌, ◌++◌, map, length, drop, Option, Some, None, slice_get, filter, option_and_then, is_none}
+use Rattle.std.specs.Prelude.{◌≡◌, ℕ, ◌+◌, ◌-◌, ◌<◌, Bool, true, false, not, ◌&&◌, ◌||◌, ◌==◌, nat_lt, if◌then◌else◌, List, [], ◌∷◌, ◌++◌, map, length, drop, Option, Some, None, slice_get, filter, option_and_then, is_none, ◌⊎◌}
 use Rattle.std.specs.List.{flat_map}
 use Rattle.std.specs.Option.{option_map_or}
 use Rattle.std.specs.FinMap.{find as row_of, put}
+use Rattle.std.specs.FinMap.Entries.{where_key}
 use Rattle.metric.specs.Distance.{IsCost}
-use Rattle.ipv4_prefix.specs.Prefix.{Prefix, prefix_cmp}
+use Rattle.ipv4_prefix.specs.Prefix.{Prefix, prefix_cmp, prefix_eq}
 use Rattle.network_model.specs.declared.machine.Event.{Event}
 use Rattle.network_model.specs.declared.machine.Outgoing.{Outgoing}
 use Rattle.network_model.specs.declared.item.Message.{Message}
 use Rattle.network_model.specs.declared.item.Item.{Item}
 use Rattle.network_model.specs.declared.item.Held.{Held}
+use Rattle.network_model.specs.declared.item.Notice.{Notice}
 use Rattle.network_model.specs.declared.route.Entry.{Entry}
 use Rattle.network_model.specs.declared.route.Entry.TheVariants.{Local, Via, Unreachable}
 use Rattle.network_model.specs.declared.network.End.{End}
 use Rattle.network_model.specs.declared.network.Port.{Port}
 use Rattle.network_model.specs.declared.step.Step.{Step}
-use Rattle.network_model.specs.declared.step.Step.TheVariants.{LinkUp, LinkDown, SetCost, Deliver, Publish, Release}
+use Rattle.network_model.specs.declared.step.Step.TheVariants.{LinkUp, LinkDown, SetCost, Deliver, Publish, Release, Attach, Detach}
 use Rattle.network_model.specs.declared.step.Refusal.{Refusal}
-use Rattle.network_model.specs.declared.step.Refusal.TheVariants.{UnknownRouter, UnknownLink, AlreadyUp, IsDown, SessionsSpent, NothingToDeliver, NothingDue, NothingRipe}
-use Rattle.network_model.specs.Machine.{Machine, Reaction, reaction, changed_at}
-use Rattle.network_model.specs.World.{Side, Link, Table, Router, World, other, place_at, link_at, side_at, machine_of}
+use Rattle.network_model.specs.declared.step.Refusal.TheVariants.{UnknownRouter, UnknownLink, AlreadyUp, IsDown, SessionsSpent, NothingToDeliver, NothingDue, NothingRipe, UnknownPrefix, NotAttached}
+use Rattle.network_model.specs.Machine.{Machine, Reaction, reaction, changed_at, degree, event_at_home}
+use Rattle.network_model.specs.World.{Side, Link, Table, Router, Attachments, World, other, place_at, link_at, side_at, degree_of, attachment_at, is_known, machine_of}
 use Rattle.network_model.specs.Network.{first_cause}
 
 -- ---- links
@@ -79,9 +81,10 @@ with_message h e k = if is_up_in h.session k then changed_side (other e) (with_i
 abbrev pub session_at : List Port → ℕ → ℕ
 session_at ports q = option_map_or (λ p. p.session) (slice_get ports q) 0
 
--- the entry of a machine: local at the owner, by way of the successor where there is one, also while a computation runs, else unreachable
+-- the entry of a machine: local where the successor is its attachment, else by way of the successor where there is one,
+-- also while a computation runs, else unreachable
 abbrev pub entry_of : List Port → Machine → Entry
-entry_of ports m = if m.local then Local else option_map_or (λ q. Via q (session_at ports q)) m.successor Unreachable
+entry_of ports m = option_map_or (λ q. if q == degree m then Local else Via q (session_at ports q)) m.successor Unreachable
 
 -- what a machine sends becomes held for the session of its port
 abbrev pub held_of : List Port → Prefix → Outgoing → Held
@@ -114,11 +117,19 @@ router_noticing e ports r =
     let all = reactions e r.machines in
     with_machines ports (map (λ x. (x.0, (x.1).machine)) all) (flat_map (λ x. map (held_of ports x.0) (x.1).sends) all) r
 
--- a router that took a message: the machine of its prefix meets it. A prefix that was unheard is heard of from now on
+-- a router where the machine of one prefix meets an event. A prefix that was unheard is heard of from now on
+abbrev pub router_meeting : Prefix → Event → Router → Router
+router_meeting p e r =
+    let x = reaction (machine_of r p) e in
+    with_machines r.ports (put prefix_cmp p x.machine r.machines) (map (held_of r.ports p) x.sends) r
+
+-- a router that took a message: the machine of its prefix meets it
 abbrev pub router_told : ℕ → Message → Router → Router
-router_told q m r =
-    let x = reaction (machine_of r m.prefix) (Event.Message q m.kind m.value) in
-    with_machines r.ports (put prefix_cmp m.prefix x.machine r.machines) (map (held_of r.ports m.prefix) x.sends) r
+router_told q m r = router_meeting m.prefix (Event.Message q m.kind m.value) r
+
+-- a router that took a notice of its attachment to a prefix: the machine of that prefix meets it
+abbrev pub router_at_home : Notice → Router → Router
+router_at_home n r = router_meeting n.prefix (event_at_home n.cost) r
 
 -- a router that took an item from its port q
 abbrev pub router_accepting : ℕ → Item → Router → Router
@@ -162,6 +173,20 @@ changed_rows t = filter (λ r. not (has_row t.published r)) t.control
 abbrev pub is_due : Router → Bool
 is_due r = nat_lt 0 (length (changed_rows r.table)) || nat_lt (r.gate).ripe (length (r.gate).held)
 
+-- ---- attachments
+
+-- a router that is attached to the prefix at this cost, and has yet to take the notice of it
+abbrev pub with_attachment : Prefix → ℕ → Attachments → Attachments
+with_attachment p cost a = record { costs = put prefix_cmp p cost a.costs; notices = a.notices ++ record { prefix = p; cost = Some cost } ∷ [] }
+
+-- a router that is no longer attached to the prefix, and has yet to take the notice of it
+abbrev pub without_attachment : Prefix → Attachments → Attachments
+without_attachment p a = record { costs = where_key prefix_cmp (λ x. not (prefix_eq x p)) a.costs; notices = a.notices ++ record { prefix = p; cost = None } ∷ [] }
+
+-- a router that took the oldest notice
+abbrev pub with_notice_taken : Attachments → Attachments
+with_notice_taken a = record a { notices = drop 1 a.notices }
+
 -- ---- the world
 
 -- the world with one router changed
@@ -172,9 +197,21 @@ changed_router i f w = record w { routers = changed_at i f w.routers }
 abbrev pub changed_link : ℕ → ℕ → (End → Link → Link) → World → World
 changed_link i q f w = option_map_or (λ p. record w { links = changed_at p.link (f p.end) w.links }) (place_at w i q) w
 
+-- the world with one router's attachments changed
+abbrev pub changed_attachments : ℕ → (Attachments → Attachments) → World → World
+changed_attachments i f w = record w { attachments = changed_at i f w.attachments }
+
 -- the item that a port takes next
 abbrev pub front_at : World → ℕ → ℕ → Option Item
 front_at w i q = option_and_then (λ s. slice_get s.inbox 0) (side_at w i q)
+
+-- whether this port of a router is the one numbered by its degree, at which it takes the notices of its attachments
+abbrev pub is_at_home : World → ℕ → ℕ → Bool
+is_at_home w i q = option_map_or (λ d. q == d) (degree_of w i) false
+
+-- the notice that a router takes next at this port: none at a port of a link
+abbrev pub notice_at : World → ℕ → ℕ → Option Notice
+notice_at w i q = if is_at_home w i q then option_and_then (λ a. slice_get a.notices 0) (slice_get w.attachments i) else None
 
 -- the message that a router releases next
 abbrev pub release_at : World → ℕ → Option Held
@@ -183,6 +220,10 @@ release_at w i = option_and_then ripe_front (slice_get w.routers i)
 -- router i took this item from its port q
 abbrev pub with_delivered : ℕ → ℕ → World → Item → World
 with_delivered i q w item = changed_router i (router_accepting q item) (changed_link i q with_front_taken w)
+
+-- router i took this notice of its attachment
+abbrev pub with_noticed : ℕ → World → Notice → World
+with_noticed i w n = changed_router i (router_at_home n) (changed_attachments i with_notice_taken w)
 
 -- router i released this message
 abbrev pub with_released : ℕ → World → Held → World
@@ -193,9 +234,11 @@ abbrev pub next : World → Step → World
 next w (LinkUp l) = record w { links = changed_at l link_come_up w.links }
 next w (LinkDown l) = record w { links = changed_at l link_gone_down w.links }
 next w (SetCost i q cost) = changed_link i q (with_cost cost) w
-next w (Deliver i q) = option_map_or (with_delivered i q w) (front_at w i q) w
+next w (Deliver i q) = option_map_or (with_delivered i q w) (front_at w i q) (option_map_or (with_noticed i w) (notice_at w i q) w)
 next w (Publish i) = changed_router i router_publishing w
 next w (Release i) = option_map_or (with_released i w) (release_at w i) w
+next w (Attach i p cost) = changed_attachments i (with_attachment p cost) w
+next w (Detach i p) = changed_attachments i (without_attachment p) w
 
 -- ---- lawful steps
 
@@ -208,11 +251,13 @@ abbrev pub Lawful : World → Step → Type 0
 Lawful w (LinkUp l) = (k : Link) × (slice_get w.links l ≡ Some k) × (k.up ≡ false) × (k.session < last_session)
 Lawful w (LinkDown l) = (k : Link) × (slice_get w.links l ≡ Some k) × (k.up ≡ true)
 Lawful w (SetCost i q cost) = (r : Router) × (k : Link) × (slice_get w.routers i ≡ Some r) × (link_at w i q ≡ Some k) × (k.up ≡ true) × IsCost cost
-Lawful w (Deliver i q) = (r : Router) × (item : Item) × (slice_get w.routers i ≡ Some r) × (front_at w i q ≡ Some item)
+Lawful w (Deliver i q) = (r : Router) × (slice_get w.routers i ≡ Some r) × (((item : Item) × (front_at w i q ≡ Some item)) ⊎ ((n : Notice) × (notice_at w i q ≡ Some n)))
 Lawful w (Publish i) = (r : Router) × (slice_get w.routers i ≡ Some r) × (is_due r ≡ true)
 Lawful w (Release i) = (h : Held) × (release_at w i ≡ Some h)
+Lawful w (Attach i p cost) = (r : Router) × (slice_get w.routers i ≡ Some r) × (is_known w p ≡ true) × IsCost cost
+Lawful w (Detach i p) = (r : Router) × (cost : ℕ) × (slice_get w.routers i ≡ Some r) × (is_known w p ≡ true) × (attachment_at w i p ≡ Some cost)
 
--- a step that can be asked: a cost that is set is the cost of a link
+-- a step that can be asked: a cost that is set is a cost
 abbrev pub CanBeAsked : Step → Type 0
 CanBeAsked (LinkUp l) = Unit {0}
 CanBeAsked (LinkDown l) = Unit {0}
@@ -220,6 +265,8 @@ CanBeAsked (SetCost i q cost) = IsCost cost
 CanBeAsked (Deliver i q) = Unit {0}
 CanBeAsked (Publish i) = Unit {0}
 CanBeAsked (Release i) = Unit {0}
+CanBeAsked (Attach i p cost) = IsCost cost
+CanBeAsked (Detach i p) = Unit {0}
 
 -- ---- refusals
 
@@ -242,14 +289,21 @@ causes w (SetCost i q cost) =
     ∷ (not (is_up (link_at w i q)), IsDown) ∷ []
 causes w (Deliver i q) =
     (is_none (slice_get w.routers i), UnknownRouter)
-    ∷ (is_none (link_at w i q), UnknownLink)
-    ∷ (is_none (front_at w i q), NothingToDeliver) ∷ []
+    ∷ (is_none (link_at w i q) && not (is_at_home w i q), UnknownLink)
+    ∷ (is_none (front_at w i q) && is_none (notice_at w i q), NothingToDeliver) ∷ []
 causes w (Publish i) =
     (is_none (slice_get w.routers i), UnknownRouter)
     ∷ (not (option_map_or is_due (slice_get w.routers i) false), NothingDue) ∷ []
 causes w (Release i) =
     (is_none (slice_get w.routers i), UnknownRouter)
     ∷ (is_none (release_at w i), NothingRipe) ∷ []
+causes w (Attach i p cost) =
+    (is_none (slice_get w.routers i), UnknownRouter)
+    ∷ (not (is_known w p), UnknownPrefix) ∷ []
+causes w (Detach i p) =
+    (is_none (slice_get w.routers i), UnknownRouter)
+    ∷ (not (is_known w p), UnknownPrefix)
+    ∷ (is_none (attachment_at w i p), NotAttached) ∷ []
 
 -- why a step that can be asked is refused; none where it is lawful
 abbrev pub refusal : World → Step → Option Refusal

@@ -87,7 +87,7 @@ destination_view p h = record { world = seen_world p h.world; published_fds = ma
 
 -- the machine of a router; of one that is not there, a machine with no ports
 abbrev pub machine_at : SeenWorld → ℕ → Machine
-machine_at v i = option_map_or (λ r. r.machine) (slice_get v.routers i) (opening_machine false [])
+machine_at v i = option_map_or (λ r. r.machine) (slice_get v.routers i) (opening_machine None [])
 
 -- the next hop that a router published
 abbrev pub published_hop : SeenWorld → ℕ → Option Hop
@@ -95,7 +95,7 @@ published_hop v i = option_and_then (λ r. r.published) (slice_get v.routers i)
 
 -- the feasible distance of a router when it published last
 abbrev pub published_fd : DestinationView → ℕ → ℕ
-published_fd v i = option_map_or (λ d. d) (slice_get v.published_fds i) (opening_machine false []).fd
+published_fd v i = option_map_or (λ d. d) (slice_get v.published_fds i) (opening_machine None []).fd
 
 -- ---- by place: a router and one of its ports
 

@@ -1,13 +1,14 @@
 -- A network of routers and links as one value, and the value with which it opens.
-use Rattle.std.specs.Prelude.{ℕ, ◌+◌, Bool, true, false, ◌==◌, if◌then◌else◌, List, [], ◌∷◌, ◌++◌, map, Option, slice_get, filter, option_and_then, option_map, unwrap_or}
-use Rattle.std.specs.List.{range_with_len}
+use Rattle.std.specs.Prelude.{ℕ, ◌+◌, Bool, false, ◌==◌, if◌then◌else◌, List, [], ◌∷◌, ◌++◌, map, length, Option, Some, None, slice_get, filter, option_and_then, option_map, unwrap_or}
+use Rattle.std.specs.List.{range_with_len, list_any}
 use Rattle.std.specs.Option.{option_map_or}
 use Rattle.std.specs.FinMap.{find as row_of, put}
 use Rattle.metric.specs.Distance.{infinity}
-use Rattle.ipv4_prefix.specs.Prefix.{Prefix, prefix_cmp}
+use Rattle.ipv4_prefix.specs.Prefix.{Prefix, prefix_cmp, prefix_eq}
 use Rattle.network_model.specs.declared.machine.Neighbour.{Neighbour}
 use Rattle.network_model.specs.declared.item.Item.{Item}
 use Rattle.network_model.specs.declared.item.Held.{Held}
+use Rattle.network_model.specs.declared.item.Notice.{Notice}
 use Rattle.network_model.specs.declared.route.Entry.{Entry}
 use Rattle.network_model.specs.declared.route.Entry.TheVariants.{Local}
 use Rattle.network_model.specs.declared.network.End.{End}
@@ -53,12 +54,23 @@ pub record Router : Type 0 where
   pub gate : Gate
   pub generation : ℕ
 
+-- ---- attachments
+
+-- what one router is attached to: the cost of each attachment in the order of the prefixes, and the notices of them that the
+-- router has yet to take, oldest first
+pub record Attachments : Type 0 where
+  pub costs : List (Prefix × ℕ)
+  pub notices : List Notice
+
 -- ---- the whole
 
--- a world: routers by number, the places of each router's ports, and links by number
+-- a world: routers by number, the places of each router's ports, links by number, the prefixes of the network, and the
+-- attachments of each router
 pub record World : Type 0 where
   pub places : List (List Place)
   pub links : List Link
+  pub prefixes : List Prefix
+  pub attachments : List Attachments
   pub routers : List Router
 
 -- ---- parts
@@ -89,21 +101,34 @@ side_at w i q = option_and_then (λ p. option_map (side p.end) (slice_get w.link
 abbrev pub far_side_at : World → ℕ → ℕ → Option Side
 far_side_at w i q = option_and_then (λ p. option_map (side (other p.end)) (slice_get w.links p.link)) (place_at w i q)
 
+-- the number of a router's ports, by which its attachments go as one more port; none where there is no such router
+abbrev pub degree_of : World → ℕ → Option ℕ
+degree_of w i = option_map (λ ps. length ps) (slice_get w.places i)
+
+-- the cost of a router's attachment to a prefix, where it is attached
+abbrev pub attachment_at : World → ℕ → Prefix → Option ℕ
+attachment_at w i p = option_and_then (λ a. row_of prefix_cmp p a.costs) (slice_get w.attachments i)
+
+-- whether the prefix is one of the network's
+abbrev pub is_known : World → Prefix → Bool
+is_known w p = list_any (prefix_eq p) w.prefixes
+
 -- ports as a machine meets them first: nothing reported
 abbrev pub neighbours : List Port → List Neighbour
 neighbours ports = map (λ p. record { up = p.up; cost = p.cost; reported = infinity }) ports
 
 -- the machine of a prefix; of one that was not heard of, the machine that would be opened
 abbrev pub machine_of : Router → Prefix → Machine
-machine_of r p = unwrap_or (row_of prefix_cmp p r.machines) (opening_machine false (neighbours r.ports))
+machine_of r p = unwrap_or (row_of prefix_cmp p r.machines) (opening_machine None (neighbours r.ports))
 
 -- ---- the opening
 
--- a network that was not opened: its number of routers, its links, and the owner of each prefix
+-- a network that was not opened: its number of routers, its links, and its attachments, each a prefix, the router that is
+-- attached to it, and the cost
 pub record Network : Type 0 where
   pub routers : ℕ
   pub links : List LinkSpec
-  pub owners : List (Prefix × ℕ)
+  pub attachments : List (Prefix × ℕ × ℕ)
 
 -- the places of router i's ports on the links from number l on: its ports follow the order of the links that touch it
 abbrev pub places_from : ℕ → ℕ → List LinkSpec → List Place
@@ -125,35 +150,46 @@ opening_link s = record {
 abbrev pub opening_port : List Link → Place → Port
 opening_port links p = record { up = false; session = 0; cost = option_map_or (λ k. (side p.end k).cost) (slice_get links p.link) 0 }
 
--- one value at each of these prefixes, in the order of the prefixes
-abbrev pub rows_of : {X : Type 0} → X → List Prefix → List (Prefix × X)
-rows_of x [] = []
-rows_of x (p ∷ ps) = put prefix_cmp p x (rows_of x ps)
+-- these values at their prefixes, in the order of the prefixes
+abbrev pub rows_of : {X : Type 0} → List (Prefix × X) → List (Prefix × X)
+rows_of [] = []
+rows_of (r ∷ rs) = put prefix_cmp r.0 r.1 (rows_of rs)
 
--- a router at the opening: it has heard of its own prefixes alone, and has published them
-abbrev pub opening_router : List Port → List Prefix → Router
-opening_router ports own =
-    let rows = rows_of Local own in
+-- a router at the opening, with these attachments: it has heard of their prefixes alone, is local to them, and has published that
+abbrev pub opening_router : List Port → List (Prefix × ℕ) → Router
+opening_router ports costs =
+    let rows = map (λ a. (a.0, Local)) costs in
     record {
       ports = ports;
-      machines = rows_of (opening_machine true (neighbours ports)) own;
+      machines = map (λ a. (a.0, opening_machine (Some a.1) (neighbours ports))) costs;
       table = record { control = rows; published = rows };
       gate = record { held = []; ripe = 0 };
       generation = 0;
     }
 
--- the prefixes that router i owns
-abbrev pub owned : Network → ℕ → List Prefix
-owned n i = map (λ o. o.0) (filter (λ o. o.1 == i) n.owners)
+-- the costs of router i's attachments, in the order of the prefixes
+abbrev pub costs_of : Network → ℕ → List (Prefix × ℕ)
+costs_of n i = rows_of (map (λ a. (a.0, a.2)) (filter (λ a. a.1 == i) n.attachments))
 
 -- router i of a network at the opening
 abbrev pub opening_router_of : Network → ℕ → Router
-opening_router_of n i = opening_router (map (opening_port (map opening_link n.links)) (places_from 0 i n.links)) (owned n i)
+opening_router_of n i = opening_router (map (opening_port (map opening_link n.links)) (places_from 0 i n.links)) (costs_of n i)
 
--- every link is down, nothing is queued or held, and each prefix is known at its owner alone
+-- these prefixes, each once
+abbrev pub distinct : List Prefix → List Prefix
+distinct [] = []
+distinct (p ∷ ps) = if list_any (prefix_eq p) ps then distinct ps else p ∷ distinct ps
+
+-- the prefixes to which some router is attached
+abbrev pub prefixes_of : List (Prefix × ℕ × ℕ) → List Prefix
+prefixes_of attachments = distinct (map (λ a. a.0) attachments)
+
+-- every link is down, nothing is queued or held, no notice waits, and each prefix is known at the routers attached to it alone
 abbrev pub opening : Network → World
 opening n = record {
   places = map (λ i. places_from 0 i n.links) (range_with_len 0 n.routers);
   links = map opening_link n.links;
+  prefixes = prefixes_of n.attachments;
+  attachments = map (λ i. record { costs = costs_of n i; notices = [] }) (range_with_len 0 n.routers);
   routers = map (opening_router_of n) (range_with_len 0 n.routers);
 }

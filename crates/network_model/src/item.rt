@@ -25,6 +25,14 @@ pub enum Item {
     Message(Message),
 }
 
+/// What a router is told of its own attachment to a prefix: its cost, new or changed, or that it is
+/// gone.
+#[derive(Clone, Copy, Debug, PartialEq, Eq)]
+pub struct Notice {
+    pub prefix: Prefix,
+    pub cost: Option<Cost>,
+}
+
 /// A message that its router has not yet put on the link, with the port that it leaves by and the
 /// session of that port when it was sent.
 #[derive(Clone, Copy, Debug, PartialEq, Eq)]

@@ -10,7 +10,7 @@ mod route;
 mod step;
 
 pub use ipv4_prefix::Prefix;
-pub use item::{Held, Item, Message};
+pub use item::{Held, Item, Message, Notice};
 pub use machine::{Event, Neighbour, Outgoing, PortInfo};
 pub use memory::NoMemory;
 pub use metric::{BadCost, Cost, Distance, Kind};

@@ -1,5 +1,8 @@
 //! What the machine of one router for one prefix is told, keeps of its neighbours, and sends.
 
+ghost use Rattle.std.specs.Prelude.{◌≡◌, false};
+ghost use Rattle.metric.specs.Distance.{infinity};
+
 use metric::{Cost, Distance, Kind};
 
 /// What a machine is told. Ports are the router's, numbered from 0.
@@ -25,6 +28,12 @@ pub enum Event {
         port: u8,
         cost: Cost,
     },
+    /// The router is attached to the prefix at this cost, for the first time or at another cost than before.
+    Attached {
+        cost: Cost,
+    },
+    /// The router is no longer attached to the prefix.
+    Detached,
 }
 
 /// What a machine keeps of the neighbour at one port.
@@ -36,6 +45,19 @@ pub struct Neighbour {
     pub cost: Cost,
     /// What the neighbour reported last since the link came up; `INF` where it reported nothing.
     pub reported: Distance,
+}
+
+/// Nothing is known of a neighbour over a link that is down.
+impl Default for Neighbour {
+    ghost is_default = { λ n. (n.up ≡ false) × (n.reported ≡ infinity) };
+
+    fn default() -> Neighbour {
+        Neighbour {
+            up: false,
+            cost: Cost::ONE,
+            reported: Distance::INF,
+        }
+    }
 }
 
 /// A port as a machine meets it first: nothing is reported there yet.

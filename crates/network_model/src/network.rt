@@ -39,8 +39,8 @@ pub struct Port {
     pub cost: Cost,
 }
 
-/// Why a network cannot be opened. A fault of a link or a prefix has its position in the list that
-/// was given, from 0. Its text is its number and name.
+/// Why a network cannot be opened. A fault of a link or an attachment has its position in the list
+/// that was given, from 0. Its text is its number and name.
 #[derive(Clone, Copy, Debug, PartialEq, Eq, Drop, Error)]
 pub enum NetworkFault {
     /// There is no router, or there are more than 256.
@@ -53,7 +53,8 @@ pub enum NetworkFault {
     /// It is the 1025th link, or the 33rd of one of its routers.
     #[error("26 TooManyLinks")]
     TooManyLinks { link: usize },
-    /// The owner is no router of the network, the prefix was given before, or it is the 4097th.
+    /// The attached router is no router of the network, the prefix was given before at that router, it
+    /// is the 4097th prefix, or this is the 16,385th attachment.
     #[error("27 BadOwner")]
     BadOwner { prefix: usize },
     /// A growth was refused.

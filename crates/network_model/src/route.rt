@@ -5,7 +5,7 @@ use ipv4_prefix::Prefix;
 /// Where packets that a prefix matches go.
 #[derive(Clone, Copy, Debug, PartialEq, Eq)]
 pub enum Entry {
-    /// The router owns the prefix.
+    /// To the router's own attachment to the prefix.
     Local,
     /// To the neighbour at a port, while its link is up in this session.
     Via { port: u8, session: u16 },

@@ -1,10 +1,11 @@
 //! The atomic steps of a network, and why one is refused.
 
 ghost use Rattle.std.specs.Prelude.{◌≡◌, ◌+◌, ◌<◌, ◌^◌};
-ghost use Rattle.network_model.specs.Journal.{Fits, IsCode, code_of, packed, step_number};
+ghost use Rattle.network_model.specs.Journal.{Fits, IsCode, code_of, code_with_prefix, packed, step_number};
 ghost use Rattle.network_model.specs.declared.step.Refusal.TheVariants.{NoMemory as OutOfMemory};
 
 use crate::memory::NoMemory;
+use ipv4_prefix::Prefix;
 use metric::Cost;
 use std::alloc::{AllocError, AllocFailed};
 use thiserror::Error;
@@ -13,17 +14,44 @@ use thiserror::Error;
 #[derive(Clone, Copy, Debug, PartialEq, Eq)]
 pub enum Step {
     /// The link comes up, in its next session.
-    LinkUp { link: u16 },
+    LinkUp {
+        link: u16,
+    },
     /// The link goes down, and the messages on it are lost.
-    LinkDown { link: u16 },
+    LinkDown {
+        link: u16,
+    },
     /// The cost from the router on the link at its port changes.
-    SetCost { router: u16, port: u8, cost: Cost },
-    /// The router takes the front item from its port.
-    Deliver { router: u16, port: u8 },
+    SetCost {
+        router: u16,
+        port: u8,
+        cost: Cost,
+    },
+    /// The router takes the front item from its port; at the port numbered by its degree, the front of
+    /// the notices of its own attachments.
+    Deliver {
+        router: u16,
+        port: u8,
+    },
     /// The router puts its chosen rows in force, and what it holds may leave.
-    Publish { router: u16 },
+    Publish {
+        router: u16,
+    },
     /// The router puts the front message that it holds on its link.
-    Release { router: u16 },
+    Release {
+        router: u16,
+    },
+    /// The router is attached to the prefix at this cost, which may be another than before.
+    Attach {
+        router: u16,
+        prefix: Prefix,
+        cost: Cost,
+    },
+    /// The router is no longer attached to the prefix.
+    Detach {
+        router: u16,
+        prefix: Prefix,
+    },
 }
 
 // What a step's number counts it by, and the places of its parts.
@@ -36,6 +64,8 @@ const SUBJECT: u128 = 1 << 64;
 const PORT: u128 = 1 << 56;
 
 const COST: u128 = 1 << 40;
+
+const ADDRESS: u128 = 1 << 8;
 
 impl Step {
     /// Its number, which no other step has: a journal's sum adds up those of its steps.
@@ -51,11 +81,30 @@ impl Step {
             Step::Deliver { router, port } => number_of(3, router, port, 0),
             Step::Publish { router } => number_of(4, router, 0, 0),
             Step::Release { router } => number_of(5, router, 0, 0),
+            Step::Attach {
+                router,
+                prefix,
+                cost,
+            } => number_with_prefix(6, router, cost.value(), prefix),
+            Step::Detach { router, prefix } => number_with_prefix(7, router, 0, prefix),
         }
     }
 }
 
-// The number of a step of these parts.
+// The number of a step of these parts, that names a prefix.
+fn number_with_prefix(kind: u8, subject: u16, cost: u32, prefix: Prefix) -> u128
+    requires kind { kind < 2 ^ 4 }
+    requires cost { cost < 2 ^ 16 }
+    ensures number { result ≡ 2 ^ 104 + packed (code_with_prefix kind subject cost prefix) }
+    ensures below { result < 2 ^ 105 }
+    ensures fits { IsCode (code_with_prefix kind subject cost prefix) }
+{
+    number_of(kind, subject, 0, cost)
+        + u128::from(prefix.addr()) * ADDRESS
+        + u128::from(prefix.len())
+}
+
+// The number of a step of these parts, that names no prefix.
 fn number_of(kind: u8, subject: u16, port: u8, cost: u32) -> u128
     requires kind { kind < 2 ^ 4 }
     requires cost { cost < 2 ^ 16 }
@@ -103,15 +152,27 @@ pub enum Refusal {
     /// A growth was refused.
     #[error("20 NoMemory")]
     NoMemory,
+    /// The router's image is being published: its writer is out.
+    #[error("21 Busy")]
+    Busy,
     /// A reader showed a later image than the one in force.
     #[error("22 Stale")]
     Stale,
     /// There is no place for a reader of an image.
     #[error("23 NoReaderPlace")]
     NoReaderPlace,
+    /// The prefix is none of the network's.
+    #[error("28 UnknownPrefix")]
+    UnknownPrefix,
+    /// The router is not attached to the prefix.
+    #[error("29 NotAttached")]
+    NotAttached,
     /// A reader was given no image.
     #[error("34 NoImage")]
     NoImage,
+    /// The ticket is not the one that is out for its router.
+    #[error("35 WrongTicket")]
+    WrongTicket,
 }
 
 impl From<NoMemory> for Refusal {

@@ -4,7 +4,7 @@ use std::alloc::Global;
 use std::test::Fail;
 
 // A router with one port, at cost 5, that is down.
-fn one_port(alloc: Global, own: &[Prefix]) -> Result<Router, Fail> {
+fn one_port(alloc: Global, attachments: &[(Prefix, Cost)]) -> Result<Router, Fail> {
     let cost = Cost::new(5)?;
     let port = Port {
         up: false,
@@ -12,7 +12,7 @@ fn one_port(alloc: Global, own: &[Prefix]) -> Result<Router, Fail> {
         cost,
     };
     let ports = vec![in alloc; port]?;
-    Ok(Router::new(alloc, ports, own)?)
+    Ok(Router::new(alloc, ports, attachments)?)
 }
 
 // Takes the item, where it may be taken.
@@ -56,10 +56,32 @@ fn learns_a_prefix(rt: HostRuntime) -> Result<(), Fail> {
 }
 
 #[test]
-fn owns_a_prefix(rt: HostRuntime) -> Result<(), Fail> {
+fn is_attached_to_a_prefix(rt: HostRuntime) -> Result<(), Fail> {
     let ten = Prefix::parse("10.0.0.0/8")?;
-    let router = one_port(rt.alloc(), &[ten])?;
+    let router = one_port(rt.alloc(), &[(ten, Cost::new(3)?)])?;
     assert_eq!(rt; router.table().published(ten), Some(Entry::Local));
     assert!(rt; !router.due());
+    Ok(())
+}
+
+// What the router has chosen for 10.0.0.0/8, and its distance there.
+fn chosen(router: &Router) -> Result<(Entry, Distance), Fail> {
+    let ten = Prefix::parse("10.0.0.0/8")?;
+    let entry = router.table().get(ten).ok_or("no row")?;
+    let machine = router.machine(ten).ok_or("no machine")?;
+    Ok((entry, machine.rd()))
+}
+
+#[test]
+fn is_told_of_its_attachment(rt: HostRuntime) -> Result<(), Fail> {
+    let ten = Prefix::parse("10.0.0.0/8")?;
+    let mut router = one_port(rt.alloc(), &[])?;
+    router.notice(ten, Some(Cost::new(7)?))?;
+    assert_eq!(rt; chosen(&router)?, (Entry::Local, Distance::new(7)));
+    router.notice(ten, Some(Cost::new(2)?))?;
+    assert_eq!(rt; chosen(&router)?, (Entry::Local, Distance::new(2)));
+    router.notice(ten, None)?;
+    assert_eq!(rt; chosen(&router)?, (Entry::Unreachable, Distance::INF));
+    assert!(rt; router.is_passive() && router.due());
     Ok(())
 }

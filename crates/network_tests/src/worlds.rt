@@ -4,7 +4,7 @@ use std::process::Abort;
 use std::test::Fail;
 use world::{LinkSpec, Network, NetworkFault, Prefix, Refusal, Step, World};
 
-// Routers 0 and 1 with one link at cost 5 each way; router 0 owns 10.0.0.0/8.
+// Routers 0 and 1 with one link at cost 5 each way; router 0 is attached to 10.0.0.0/8 at cost 1.
 fn two_routers(alloc: Global) -> Result<Network, Fail> {
     let link = LinkSpec {
         a: 0,
@@ -13,8 +13,8 @@ fn two_routers(alloc: Global) -> Result<Network, Fail> {
         from_b: Cost::new(5)?,
     };
     let links = vec![in alloc; link]?;
-    let prefixes = vec![in alloc; (Prefix::parse("10.0.0.0/8")?, 0)]?;
-    Ok(Network::new(2, links, prefixes)?)
+    let attachments = vec![in alloc; (Prefix::parse("10.0.0.0/8")?, 0, Cost::new(1)?)]?;
+    Ok(Network::new(2, links, attachments)?)
 }
 
 // Does the step, where it is done.
@@ -102,8 +102,62 @@ fn spec(a: u16, b: u16) -> Result<LinkSpec, Fail> {
     })
 }
 
-// As much as a network can have: 256 routers and 1024 links, 32 of them at router 0, which owns 4096
-// prefixes. Link 0 joins routers 0 and 1.
+// How many notices a router has yet to take.
+fn waits(rt: &impl Abort, world: &World, router: u16, notices: usize) {
+    assert!(rt; usize::from(router) < world.routers().len());
+    if usize::from(router) < world.routers().len() {
+        assert_eq!(rt; world.notices(router), notices);
+    }
+}
+
+// Router 1 is attached, and no longer so; its notices wait at the port past that of its link.
+fn comes_and_goes(rt: &impl Abort, world: &mut World) -> Result<(), Fail> {
+    let (router, prefix) = (1, Prefix::parse("10.0.0.0/8")?);
+    let cost = Cost::new(3)?;
+    let taken = Step::Deliver { router, port: 1 };
+    refused(rt, world, taken, Refusal::NothingToDeliver);
+    let detach = Step::Detach { router, prefix };
+    refused(rt, world, detach, Refusal::NotAttached);
+    let attach = Step::Attach {
+        router,
+        prefix,
+        cost,
+    };
+    for lawful in [attach, detach] {
+        step(world, lawful)?;
+    }
+    waits(rt, world, router, 2);
+    step(world, taken)?;
+    waits(rt, world, router, 1);
+    if world.routers().len() > 1 {
+        let chosen = world.router(router).table().get(prefix);
+        assert_eq!(rt; chosen, Some(Entry::Local));
+    }
+    step(world, taken)?;
+    waits(rt, world, router, 0);
+    let unknown = Step::Detach {
+        router,
+        prefix: Prefix::parse("0.0.0.0/0")?,
+    };
+    refused(rt, world, unknown, Refusal::UnknownPrefix);
+    refused(
+        rt,
+        world,
+        Step::Deliver { router, port: 2 },
+        Refusal::UnknownLink,
+    );
+    Ok(())
+}
+
+#[test]
+fn an_attachment_comes_and_goes(rt: HostRuntime) -> Result<(), Fail> {
+    let network = two_routers(rt.alloc())?;
+    let mut world = World::open(rt.alloc(), &network)?;
+    comes_and_goes(&rt, &mut world)
+}
+
+// As much as a network can have: 256 routers and 1024 links, 32 of them at router 0, and 16384
+// attachments, 4096 of them its own. Link 0 joins routers 0 and 1.
 fn largest(alloc: Global) -> Result<Network, Fail> {
     let mut links = Vec::new(alloc);
     for b in 1..33 {
@@ -114,11 +168,14 @@ fn largest(alloc: Global) -> Result<Network, Fail> {
             links.push(spec(a, a + apart)?)?;
         }
     }
-    let mut prefixes = Vec::new(alloc);
-    for block in 0..4096 {
-        prefixes.push((Prefix::new(0x0A00_0000 + block * 0x100, 24)?, 0))?;
+    let mut attachments = Vec::new(alloc);
+    for router in [0, 253, 254, 255] {
+        for block in 0..4096 {
+            let prefix = Prefix::new(0x0A00_0000 + block * 0x100, 24)?;
+            attachments.push((prefix, router, Cost::new(1)?))?;
+        }
     }
-    Ok(Network::new(256, links, prefixes)?)
+    Ok(Network::new(256, links, attachments)?)
 }
 
 // A router takes so many items at its first port.
@@ -137,7 +194,7 @@ fn release(world: &mut World, router: u16, count: usize) -> Result<(), Fail> {
     Ok(())
 }
 
-// Link 0 comes up, and router 0 sends all that it owns.
+// Link 0 comes up, and router 0 sends all that it is attached to.
 fn comes_up(world: &mut World) -> Result<(), Fail> {
     step(world, Step::LinkUp { link: 0 })?;
     deliver(world, 0, 1)?;
@@ -145,7 +202,7 @@ fn comes_up(world: &mut World) -> Result<(), Fail> {
     release(world, 0, 4096)
 }
 
-// Router 1 learns all that router 0 owns, and publishes it at another cost.
+// Router 1 learns all that router 0 is attached to, and publishes it at another cost.
 fn learns_all(rt: &impl Abort, world: &mut World) -> Result<(), Fail> {
     let cost = Cost::new(2)?;
     comes_up(world)?;

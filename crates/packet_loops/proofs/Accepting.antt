@@ -15,12 +15,13 @@ use Rattle.network_model.specs.declared.item.Message.{Message}
 use Rattle.network_model.specs.declared.item.Held.{Held}
 use Rattle.network_model.specs.declared.network.Port.{Port}
 use Rattle.network_model.specs.World.{Router, Network, neighbours, machine_of}
-use Rattle.network_model.specs.Step.{session_at, held_of, with_machines, reactions, router_noticing, router_told}
+use Rattle.network_model.specs.Step.{session_at, held_of, with_machines, reactions, router_noticing, router_meeting, router_told}
 use Rattle.network_model.proofs.ListLaws.{length-changed_at, slice_get-changed_at, slice_get-changed_at_other}
 use Rattle.ipv4_prefix.proofs.PrefixOrder.{prefix_cmp_total}
 use Rattle.packet_loops.proofs.WorldLaws.{row_of-put_other}
 use Rattle.machine_laws.specs.Laws.{sent_to}
 use Rattle.machine_laws.proofs.MachineLaws.{machine_laws}
+use Rattle.machine_laws.proofs.Events.{ports_length as records_length}
 use Rattle.loop_freedom.specs.Network.{Item as NetItem, Reported, event_of, seen_after, held_for, at_port}
 use Rattle.loop_freedom.proofs.Ports.{ports_length}
 use Rattle.packet_loops.proofs.Places.{lay}
@@ -112,10 +113,10 @@ module _ (n : Network) (p : Prefix) (i : ℕ) (r : Router) (R : RouterKept n p i
   -- its machine for the prefix is the old one after the notice, also where the prefix is unheard
   machine_noticed : machine_of after p ≡ (reaction (machine_of r p) (event_of q item)).machine
   machine_noticed =
-      ap (λ o. unwrap_or o (opening_machine false (neighbours ports'))) (find-map prefix_cmp (λ (x : Reaction). x.machine) p all ∙ ap (option_map (λ (x : Reaction). x.machine)) (find-map prefix_cmp (λ (m : Machine). reaction m (event_of q item)) p r.machines))
+      ap (λ o. unwrap_or o (opening_machine None (neighbours ports'))) (find-map prefix_cmp (λ (x : Reaction). x.machine) p all ∙ ap (option_map (λ (x : Reaction). x.machine)) (find-map prefix_cmp (λ (m : Machine). reaction m (event_of q item)) p r.machines))
       ∙ by_row (row_of prefix_cmp p r.machines)
     where
-      by_row : (o : Option Machine) → unwrap_or (option_map (λ x. x.machine) (option_map (λ m. reaction m (event_of q item)) o)) (opening_machine false (neighbours ports')) ≡ (reaction (unwrap_or o (opening_machine false (neighbours r.ports))) (event_of q item)).machine
+      by_row : (o : Option Machine) → unwrap_or (option_map (λ x. x.machine) (option_map (λ m. reaction m (event_of q item)) o)) (opening_machine None (neighbours ports')) ≡ (reaction (unwrap_or o (opening_machine None (neighbours r.ports))) (event_of q item)).machine
       by_row None = sym S.machine_is
       by_row (Some m) = refl
 
@@ -125,7 +126,7 @@ module _ (n : Network) (p : Prefix) (i : ℕ) (r : Router) (R : RouterKept n p i
       kept_reactions p j ports' all (sorted-map prefix_cmp (λ (m : Machine). reaction m (event_of q item)) r.machines ∙ R.sorted)
       ∙ ap (λ ss. held_for (session_at ports' j) (sent_to j ss)) (ap (λ o. option_map_or (λ (x : Reaction). x.sends) o []) (find-map prefix_cmp (λ (m : Machine). reaction m (event_of q item)) p r.machines) ∙ by_row (row_of prefix_cmp p r.machines))
     where
-      by_row : (o : Option Machine) → option_map_or (λ (x : Reaction). x.sends) (option_map (λ m. reaction m (event_of q item)) o) [] ≡ (reaction (unwrap_or o (opening_machine false (neighbours r.ports))) (event_of q item)).sends
+      by_row : (o : Option Machine) → option_map_or (λ (x : Reaction). x.sends) (option_map (λ m. reaction m (event_of q item)) o) [] ≡ (reaction (unwrap_or o (opening_machine None (neighbours r.ports))) (event_of q item)).sends
       by_row None = sym S.sends_none
       by_row (Some m) = refl
 
@@ -163,58 +164,87 @@ module _ (n : Network) (p : Prefix) (i : ℕ) (r : Router) (R : RouterKept n p i
         (λ j out. sends_noticed j ∙ held_none (session_at ports' j) (sent_to j (reaction (machine_of r p) (event_of q item)).sends) (silent j out));
   }
 
--- ---- messages
+-- ---- an event of one prefix
 
-module _ (n : Network) (p : Prefix) (i : ℕ) (r : Router) (R : RouterKept n p i r) (q : ℕ) (m : Message) where
-  -- what the machine of the message does
+-- from r to the next state the machine of the prefix meets the event, what it sends is held unripe, and all else stays
+pub record Met (n : Network) (p : Prefix) (i : ℕ) (e : Event) (r r' : Router) : Type 0 where
+  pub machine_is : machine_of r' p ≡ (reaction (machine_of r p) e).machine
+  pub published_is : (r'.table).published ≡ (r.table).published
+  pub seen_is : (j : ℕ) → session_at r'.ports j ≡ session_at r.ports j
+  pub ripe_is : (j : ℕ) → kept p j (ripe_of r') ≡ kept p j (ripe_of r)
+  pub unripe_is : (j : ℕ) → kept p j (unripe_of r') ≡ kept p j (unripe_of r) ++ held_for (session_at r.ports j) (sent_to j (reaction (machine_of r p) e).sends)
+  pub keeps : Silent n i (reaction (machine_of r p) e).sends → RouterKept n p i r'
+
+module _ (n : Network) (p : Prefix) (i : ℕ) (r : Router) (R : RouterKept n p i r) (k : Prefix) (e : Event) where
+  -- what the machine of the prefix of the event does
   abbrev x : Reaction
-  x = reaction (machine_of r m.prefix) (Event.Message q m.kind m.value)
+  x = reaction (machine_of r k) e
 
-  -- the machines after the message
+  -- the machines after the event
   abbrev rows : List (Prefix × Machine)
-  rows = put prefix_cmp m.prefix x.machine r.machines
+  rows = put prefix_cmp k x.machine r.machines
 
   -- they stay in the order of the prefixes
   sorted_rows : is_sorted prefix_cmp rows ≡ true
-  sorted_rows = sorted-put r.machines m.prefix x.machine R.sorted
+  sorted_rows = sorted-put r.machines k x.machine R.sorted
 
-  -- a router that takes a message of the prefix reacts to it
-  pub reacts_to_message : prefix_eq p m.prefix ≡ true → Reacted n p i q (Reported (msg_of m)) r (router_told q m r)
-  reacts_to_message same =
-      let is : p ≡ m.prefix = prefix_same p m.prefix same in
-      let row : machine_of (router_told q m r) p ≡ x.machine =
-      ap (λ o. unwrap_or o (opening_machine false (neighbours r.ports))) (find-put prefix_cmp prefix_cmp_total p m.prefix x.machine r.machines ∙ ap (λ b. cond b (Some x.machine) (row_of prefix_cmp p r.machines)) same) in
-      let machine_told : machine_of (router_told q m r) p ≡ (reaction (machine_of r p) (Event.Message q m.kind m.value)).machine =
-      row ∙ ap (λ (k : Prefix). (reaction (machine_of r k) (Event.Message q m.kind m.value)).machine) (sym is) in
-      let more : List Held = map (held_of r.ports m.prefix) x.sends in
-      let sends_told : (j : ℕ) → kept p j (map (held_of r.ports m.prefix) x.sends) ≡ held_for (session_at r.ports j) (sent_to j (reaction (machine_of r p) (Event.Message q m.kind m.value)).sends) =
-      λ j. kept-sent p j r.ports m.prefix same x.sends ∙ ap (λ (k : Prefix). held_for (session_at r.ports j) (sent_to j (reaction (machine_of r k) (Event.Message q m.kind m.value)).sends)) (sym is) in
-      let counts : length (machine_of (router_told q m r) p).ports ≡ length r.ports =
-      ap (λ (k : Machine). length k.ports) machine_told
-      ∙ ap (λ (ns : List Neighbour). length ns) (machine_laws.keeps_records (machine_of r p) (Event.Message q m.kind m.value))
-      ∙ ports_length q (Reported (msg_of m)) (machine_of r p).ports ∙ R.machine_ports in
+  -- a router where the machine of this prefix meets the event
+  pub meets_here : prefix_eq p k ≡ true → Met n p i e r (router_meeting k e r)
+  meets_here same =
+      let is : p ≡ k = prefix_same p k same in
+      let row : machine_of (router_meeting k e r) p ≡ x.machine =
+      ap (λ o. unwrap_or o (opening_machine None (neighbours r.ports))) (find-put prefix_cmp prefix_cmp_total p k x.machine r.machines ∙ ap (λ b. cond b (Some x.machine) (row_of prefix_cmp p r.machines)) same) in
+      let machine_met : machine_of (router_meeting k e r) p ≡ (reaction (machine_of r p) e).machine =
+      row ∙ ap (λ (y : Prefix). (reaction (machine_of r y) e).machine) (sym is) in
+      let more : List Held = map (held_of r.ports k) x.sends in
+      let sends_met : (j : ℕ) → kept p j (map (held_of r.ports k) x.sends) ≡ held_for (session_at r.ports j) (sent_to j (reaction (machine_of r p) e).sends) =
+      λ j. kept-sent p j r.ports k same x.sends ∙ ap (λ (y : Prefix). held_for (session_at r.ports j) (sent_to j (reaction (machine_of r y) e).sends)) (sym is) in
+      let counts : length (machine_of (router_meeting k e r) p).ports ≡ length r.ports =
+      ap (λ (y : Machine). length y.ports) machine_met
+      ∙ ap (λ (ns : List Neighbour). length ns) (machine_laws.keeps_records (machine_of r p) e)
+      ∙ records_length e (machine_of r p).ports ∙ R.machine_ports in
       record {
-        machine_is = machine_told;
+        machine_is = machine_met;
         published_is = refl;
-        seen_here = refl;
-        seen_beside = λ j apart. refl;
+        seen_is = λ j. refl;
         ripe_is = λ j. ap (kept p j) (ripe_new n p i r R r.ports rows more);
-        unripe_is = λ j. kept_fresh n p i r R r.ports rows more j ∙ ap (λ xs. kept p j (unripe_of r) ++ xs) (sends_told j);
+        unripe_is = λ j. kept_fresh n p i r R r.ports rows more j ∙ ap (λ xs. kept p j (unripe_of r) ++ xs) (sends_met j);
         keeps = λ silent. keeps_new n p i r R r.ports rows more sorted_rows refl counts
-            (λ j out. sends_told j ∙ held_none (session_at r.ports j) (sent_to j (reaction (machine_of r p) (Event.Message q m.kind m.value)).sends) (silent j out));
+            (λ j out. sends_met j ∙ held_none (session_at r.ports j) (sent_to j (reaction (machine_of r p) e).sends) (silent j out));
       }
 
-  -- a router that takes a message of another prefix changes nothing of this one
-  pub unmoved_by_message : prefix_eq p m.prefix ≡ false → Unmoved n p i r (router_told q m r)
-  unmoved_by_message apart =
-      let more : List Held = map (held_of r.ports m.prefix) x.sends in
-      let none : (j : ℕ) → kept p j (map (held_of r.ports m.prefix) x.sends) ≡ [] = λ j. kept-other p j r.ports m.prefix apart x.sends in
-      let same : machine_of (router_told q m r) p ≡ machine_of r p = ap (λ o. unwrap_or o (opening_machine false (neighbours r.ports))) (row_of-put_other p m.prefix x.machine r.machines apart) in
+  -- a router where the machine of another prefix meets the event changes nothing of this one
+  pub unmoved_elsewhere : prefix_eq p k ≡ false → Unmoved n p i r (router_meeting k e r)
+  unmoved_elsewhere apart =
+      let more : List Held = map (held_of r.ports k) x.sends in
+      let none : (j : ℕ) → kept p j (map (held_of r.ports k) x.sends) ≡ [] = λ j. kept-other p j r.ports k apart x.sends in
+      let same : machine_of (router_meeting k e r) p ≡ machine_of r p = ap (λ o. unwrap_or o (opening_machine None (neighbours r.ports))) (row_of-put_other p k x.machine r.machines apart) in
       record {
         machine_is = same;
         published_is = refl;
         seen_is = λ j. refl;
         ripe_is = λ j. ap (kept p j) (ripe_new n p i r R r.ports rows more);
         unripe_is = λ j. kept_fresh n p i r R r.ports rows more j ∙ ap (λ xs. kept p j (unripe_of r) ++ xs) (none j) ∙ append-nil (kept p j (unripe_of r));
-        keeps = keeps_new n p i r R r.ports rows more sorted_rows refl (ap (λ (k : Machine). length k.ports) same ∙ R.machine_ports) (λ j out. none j);
+        keeps = keeps_new n p i r R r.ports rows more sorted_rows refl (ap (λ (y : Machine). length y.ports) same ∙ R.machine_ports) (λ j out. none j);
       }
+
+-- ---- messages
+
+module _ (n : Network) (p : Prefix) (i : ℕ) (r : Router) (R : RouterKept n p i r) (q : ℕ) (m : Message) where
+  -- a router that takes a message of the prefix reacts to it
+  pub reacts_to_message : prefix_eq p m.prefix ≡ true → Reacted n p i q (Reported (msg_of m)) r (router_told q m r)
+  reacts_to_message same =
+      let M = meets_here n p i r R m.prefix (Event.Message q m.kind m.value) same in
+      record {
+        machine_is = M.machine_is;
+        published_is = refl;
+        seen_here = refl;
+        seen_beside = λ j apart. refl;
+        ripe_is = M.ripe_is;
+        unripe_is = M.unripe_is;
+        keeps = M.keeps;
+      }
+
+  -- a router that takes a message of another prefix changes nothing of this one
+  pub unmoved_by_message : prefix_eq p m.prefix ≡ false → Unmoved n p i r (router_told q m r)
+  unmoved_by_message apart = unmoved_elsewhere n p i r R m.prefix (Event.Message q m.kind m.value) apart

@@ -1,7 +1,8 @@
--- Two routers and the link between them: the one that owns all addresses tells the other, which sends its packets there.
+-- Two routers and the link between them: the one that is attached to all addresses tells the other, which sends its packets there.
 use Rattle.std.specs.Prelude.{ℕ, zero, suc, List, [], ◌∷◌, slice_get, unwrap_or, All}
-use Rattle.std.proofs.Common.{refl, arith}
+use Rattle.std.proofs.Common.{refl, arith, inl}
 use Rattle.ipv4_prefix.specs.Prefix.{Prefix, IsPrefix}
+use Rattle.metric.specs.Distance.{IsCost}
 use Rattle.metric.specs.declared.kind.Kind.TheVariants.{Update}
 use Rattle.network_model.specs.declared.route.Entry.TheVariants.{Via}
 use Rattle.network_model.specs.World.{Link, Router, World, Network, opening, opening_link, opening_router}
@@ -25,7 +26,7 @@ everything = record { addr = 0; len = 0 }
 
 -- two routers, the link between them, and all addresses at router 0
 abbrev pub pair : Network
-pair = record { routers = 2; links = link ∷ []; owners = (everything, 0) ∷ [] }
+pair = record { routers = 2; links = link ∷ []; attachments = (everything, 0, 1) ∷ [] }
 
 -- what holds of the one element holds of all
 pub all_of_one : {A : Type 0} (P : A → Type 0) (x : A) → P x → All P (x ∷ [])
@@ -37,7 +38,8 @@ pub pair_good : IsNetwork pair
 pair_good = record {
   no_fault = refl;
   costs = all_of_one HasCosts link (record { from_a = record { positive = omega arith; small = omega arith }; from_b = record { positive = omega arith; small = omega arith } });
-  prefixes = all_of_one (λ o. IsPrefix o.0) (everything, 0) (record { short = omega arith; fits = omega arith; no_host_bits = refl });
+  attachment_costs = all_of_one (λ a. IsCost a.2) (everything, 0, 1) (record { positive = omega arith; small = omega arith });
+  prefixes = all_of_one (λ a. IsPrefix a.0) (everything, 0, 1) (record { short = omega arith; fits = omega arith; no_host_bits = refl });
 }
 
 -- link 0 of a world
@@ -97,15 +99,15 @@ pub runs : Runs (opening pair) steps w7
 runs = (
   (the_link w0, refl, refl, omega arith),
   (
-    (the_router w1 0, the_item w1 0, refl, refl),
+    (the_router w1 0, refl, inl (the_item w1 0, refl)),
     (
-      (the_router w2 1, the_item w2 1, refl, refl),
+      (the_router w2 1, refl, inl (the_item w2 1, refl)),
       (
         (the_router w3 0, refl, refl),
         (
           (unwrap_or (release_at w4 0) nothing_held, refl),
           (
-            (the_router w5 1, the_item w5 1, refl, refl),
+            (the_router w5 1, refl, inl (the_item w5 1, refl)),
             (
               (the_router w6 1, refl, refl),
               refl,

@@ -13,23 +13,21 @@ use Rattle.network_model.specs.declared.network.Place.{Place}
 use Rattle.network_model.specs.declared.network.Port.{Port}
 use Rattle.network_model.specs.declared.route.Entry.{Entry}
 use Rattle.network_model.specs.declared.route.Entry.TheVariants.{Local, Via, Unreachable}
-use Rattle.network_model.specs.declared.step.Step.{Step}
 use Rattle.network_model.specs.Machine.{Machine, opening_machine, is_port}
-use Rattle.network_model.specs.Network.{IsNetwork}
-use Rattle.network_model.specs.World.{Link, Router, World, Network, other, side, opening, machine_of}
+use Rattle.network_model.specs.World.{Link, Router, World, Network, other, side, machine_of}
 use Rattle.network_model.specs.Step.{session_at}
-use Rattle.network_model.specs.Run.{Runs, history}
-use Rattle.network_model.specs.View.{DestinationView, SeenRouter, Hop, concerns, is_held_for, seen_router, seen_link, seen_world, hop_of, destination_view, machine_at, published_hop, published_fd, seen_port, place_of, link_of, far_side, link_session, is_link_up, outbox_at, ripe_at, unripe_at, still_valid}
+use Rattle.network_model.specs.Run.{history}
+use Rattle.network_model.specs.View.{DestinationView, SeenRouter, concerns, is_held_for, seen_router, seen_link, seen_world, hop_of, machine_at, published_hop, published_fd, seen_port, place_of, link_of, link_session, is_link_up, outbox_at, ripe_at, unripe_at, still_valid}
 use Rattle.machine_laws.specs.Laws.{reported_at, awaits, owes, is_active}
-use Rattle.loop_freedom.specs.Network.{LinkEnd, Report, Held as NetHeld, Reported, NextHop, State, at_port}
+use Rattle.loop_freedom.specs.Network.{LinkEnd, Report, State, at_port}
 use Rattle.loop_freedom.specs.Facts.{End as EndSeen, LinkFacts, messages, live, is_current, is_next_hop, end_at}
 use Rattle.loop_freedom.proofs.FourFacts.{facts_kept}
 use Rattle.packet_loops.specs.LinkEnds.{reports, goes_over, end_seen, across, HasFourFacts, FourFactsAlwaysHold}
 use Rattle.packet_loops.specs.Packets.{fd_in}
 use Rattle.packet_loops.proofs.Wiring.{IsWired, wired}
 use Rattle.packet_loops.proofs.Places.{lay, far, spot, laid, far_laid, topology}
-use Rattle.packet_loops.proofs.View.{view, heard, kept, msg_of, held_as, ripe_of, unripe_of, next_hop, next_hop_at, inbox_of, on_link, on_link-there}
-use Rattle.packet_loops.proofs.Kept.{WorldKept, linked}
+use Rattle.packet_loops.proofs.View.{view, heard, kept, msg_of, ripe_of, unripe_of, next_hop, next_hop_at, inbox_of, on_link-there}
+use Rattle.packet_loops.proofs.Kept.{linked}
 use Rattle.packet_loops.proofs.Runs.{Reached, reached, history_world, place_is}
 
 -- ---- items
@@ -129,10 +127,10 @@ unripe_seen p w i q n = ap (λ hs. reports (map (λ h. Item.Message h.message) (
     by_router (Some r) = reports-valid p q n (unripe_of r)
 
 -- the feasible distance of a router when it published last
-fd_seen : (p : Prefix) (rs : List Router) (i : ℕ) → option_map_or (λ d. d) (slice_get (map (λ r. (machine_of r p).fd) rs) i) (opening_machine false []).fd ≡ fd_in rs p i
-fd_seen p rs i = ap (λ o. option_map_or (λ d. d) o (opening_machine false []).fd) (slice_get-map (λ r. (machine_of r p).fd) rs i) ∙ by_router (slice_get rs i)
+fd_seen : (p : Prefix) (rs : List Router) (i : ℕ) → option_map_or (λ d. d) (slice_get (map (λ r. (machine_of r p).fd) rs) i) (opening_machine None []).fd ≡ fd_in rs p i
+fd_seen p rs i = ap (λ o. option_map_or (λ d. d) o (opening_machine None []).fd) (slice_get-map (λ r. (machine_of r p).fd) rs i) ∙ by_router (slice_get rs i)
   where
-    by_router : (o : Option Router) → option_map_or (λ d. d) (option_map (λ (r : Router). (machine_of r p).fd) o) (opening_machine false []).fd ≡ option_map_or (λ (r : Router). (machine_of r p).fd) o (opening_machine false []).fd
+    by_router : (o : Option Router) → option_map_or (λ d. d) (option_map (λ (r : Router). (machine_of r p).fd) o) (opening_machine None []).fd ≡ option_map_or (λ (r : Router). (machine_of r p).fd) o (opening_machine None []).fd
     by_router None = refl
     by_router (Some r) = refl
 
@@ -214,7 +212,7 @@ module _ (n : Network) (N : IsWired n) (p : Prefix) (w : World) (rs : List Route
         (goes_over q (link_session (seen_world p w) i q) (published_hop (seen_world p w) i)) (is_next_hop q (at_view.session e) (at_view.published i)) (published_fd seen i) (R.published_fd i)
         (reports (outbox_at (seen_world p w) i q ++ still_valid (seen_world p w) i q (ripe_at (seen_world p w) i q))) (messages (at_view.inbox (far n e)) ++ live (at_view.session e) (at_view.ripe e))
         (reports (still_valid (seen_world p w) i q (unripe_at (seen_world p w) i q))) (live (at_view.session e) (at_view.unripe e))
-        (seen_there p (λ r. r.machine) (opening_machine false []) w.routers i)
+        (seen_there p (λ r. r.machine) (opening_machine None []) w.routers i)
         (session_seen p w i q)
         session_is
         (ap (λ s. goes_over q s (published_hop (seen_world p w) i)) session_is ∙ hop_seen p w i q (at_view.session e))

@@ -1,15 +1,18 @@
 -- What every world of a run keeps, for one prefix.
-use Rattle.std.specs.Prelude.{◌≡◌, ◌≢◌, ◌⊎◌, ℕ, ◌≤◌, true, List, [], map, length, Option, Some, None, slice_get, option_map}
+use Rattle.std.specs.Prelude.{◌≡◌, ◌≢◌, ◌⊎◌, ℕ, ◌≤◌, true, if◌then◌else◌, List, [], ◌∷◌, map, length, Option, Some, None, slice_get, option_map}
 use Rattle.std.specs.Option.{option_map_or}
+use Rattle.std.specs.FinMap.{find as row_of}
 use Rattle.std.specs.FinMap.Entries.{is_sorted}
 use Rattle.std.proofs.Common.{refl, sym, ap, subst, ◌∙◌, inl, inr}
 use Rattle.std.proofs.lemmas.Bool.{cases_eq}
 use Rattle.std.proofs.lemmas.Option.{slice_get-map}
-use Rattle.ipv4_prefix.specs.Prefix.{Prefix, prefix_cmp}
+use Rattle.ipv4_prefix.specs.Prefix.{Prefix, prefix_cmp, prefix_eq}
+use Rattle.metric.specs.Distance.{IsCost}
+use Rattle.network_model.specs.declared.item.Notice.{Notice}
 use Rattle.network_model.specs.Machine.{changed_at}
 use Rattle.network_model.specs.declared.network.End.{End}
 use Rattle.network_model.specs.declared.network.End.TheVariants.{A, B}
-use Rattle.network_model.specs.World.{Side, Link, Router, World, Network, other, side, machine_of, places_from, opening}
+use Rattle.network_model.specs.World.{Side, Link, Router, Attachments, World, Network, other, side, machine_of, places_from, opening}
 use Rattle.network_model.specs.declared.network.Place.{Place}
 use Rattle.network_model.specs.declared.network.LinkSpec.{LinkSpec}
 use Rattle.network_model.specs.Step.{chosen_rows, changed_side}
@@ -40,11 +43,35 @@ pub record RouterKept (n : Network) (p : Prefix) (i : ℕ) (r : Router) : Type 0
   -- nothing is held for a port that is not there
   pub placed : (q : ℕ) → lay n (at_port i q) ≡ None → kept p q (r.gate).held ≡ []
 
--- what a world keeps for the prefix: the places, the ends of its links, and what each router keeps
+-- the attachment that a machine has once these notices are taken, as far as they are of the prefix
+abbrev pub attachment_then : Prefix → Option ℕ → List Notice → Option ℕ
+attachment_then p attachment [] = attachment
+attachment_then p attachment (x ∷ xs) = attachment_then p (if prefix_eq p x.prefix then x.cost else attachment) xs
+
+-- once router r has taken the notices of its attachments, its machine for the prefix has the attachment of the record; costs are costs
+pub record AttachmentsKept (p : Prefix) (r : Router) (a : Attachments) : Type 0 where
+  pub leads : attachment_then p (machine_of r p).attachment a.notices ≡ row_of prefix_cmp p a.costs
+  pub costs : (c : ℕ) → row_of prefix_cmp p a.costs ≡ Some c → IsCost c
+  pub notice_costs : (k : ℕ) (x : Notice) → slice_get a.notices k ≡ Some x → (c : ℕ) → x.cost ≡ Some c → IsCost c
+
+-- so it is at each router of a world
+abbrev pub AllAttachmentsKept : Prefix → World → Type 0
+AllAttachmentsKept p w = (i : ℕ) (r : Router) (a : Attachments) → slice_get w.routers i ≡ Some r → slice_get w.attachments i ≡ Some a → AttachmentsKept p r a
+
+-- a router whose machine has the attachment as before is led to the same record
+pub attachments_same : (p : Prefix) (r r' : Router) (a : Attachments) → (machine_of r' p).attachment ≡ (machine_of r p).attachment → AttachmentsKept p r a → AttachmentsKept p r' a
+attachments_same p r r' a same K = record {
+  leads = ap (λ o. attachment_then p o a.notices) same ∙ K.leads;
+  costs = K.costs;
+  notice_costs = K.notice_costs;
+}
+
+-- what a world keeps for the prefix: the places, the ends of its links, what each router keeps, and what of its attachments
 pub record WorldKept (n : Network) (p : Prefix) (w : World) : Type 0 where
   pub places_same : w.places ≡ (opening n).places
   pub ends_same : map ends w.links ≡ map spec_ends n.links
   pub routers_kept : (i : ℕ) (r : Router) → slice_get w.routers i ≡ Some r → RouterKept n p i r
+  pub attachments_kept : AllAttachmentsKept p w
 
 -- a step from w to v is one of the view, and v keeps what a world keeps
 pub record StepKept (n : Network) (N : IsWired n) (p : Prefix) (w : World) (pfd : ℕ → ℕ) (v : World) (pfd' : ℕ → ℕ) : Type 0 where
@@ -59,22 +86,31 @@ with_links n p w l g same K = record {
   places_same = K.places_same;
   ends_same = map-changed_at g ends l w.links (λ k at. same k) ∙ K.ends_same;
   routers_kept = K.routers_kept;
+  attachments_kept = K.attachments_kept;
 }
 
--- a change of a router keeps what a world keeps, if the router does
-pub with_router : (n : Network) (p : Prefix) (w : World) (i : ℕ) (g : Router → Router) → ((r : Router) → slice_get w.routers i ≡ Some r → RouterKept n p i (g r)) → WorldKept n p w → WorldKept n p (record w { routers = changed_at i g w.routers })
+-- what holds of each router, and of the one at i once it is changed, holds of each after that
+pub each_changed : {A : Type 0} (P : ℕ → A → Type 0) (i : ℕ) (g : A → A) (xs : List A) → ((x : A) → slice_get xs i ≡ Some x → P i (g x)) → ((j : ℕ) (x : A) → j ≢ i → slice_get xs j ≡ Some x → P j x)
+    → (j : ℕ) (x : A) → slice_get (changed_at i g xs) j ≡ Some x → P j x
+each_changed {A} P i g xs here beside j x at = elim (cases_eq j i) [
+  | inl e ↦ subst (λ (m : ℕ). P m x) (sym e) (by_old (slice_get xs i) refl (sym (slice_get-changed_at g i xs) ∙ ap (slice_get (changed_at i g xs)) (sym e) ∙ at))
+  | inr d ↦ beside j x d (sym (slice_get-changed_at_other g i j xs d) ∙ at)
+]
+  where
+    by_old : (o : Option A) → slice_get xs i ≡ o → option_map g o ≡ Some x → P i x
+    by_old None there e = absurd (None_not_Some e)
+    by_old (Some old) there e = subst (λ (y : A). P i y) (Some_injective e) (here old there)
+
+-- a change of a router keeps what a world keeps, if the router does, and its machine has the attachment as before
+pub with_router : (n : Network) (p : Prefix) (w : World) (i : ℕ) (g : Router → Router) → ((r : Router) → slice_get w.routers i ≡ Some r → RouterKept n p i (g r) × ((machine_of (g r) p).attachment ≡ (machine_of r p).attachment))
+    → WorldKept n p w → WorldKept n p (record w { routers = changed_at i g w.routers })
 with_router n p w i g good K = record {
   places_same = K.places_same;
   ends_same = K.ends_same;
-  routers_kept = λ j r at. elim (cases_eq j i) [
-    | inl e ↦ subst (λ (m : ℕ). RouterKept n p m r) (sym e) (by_old r (slice_get w.routers i) refl (sym (slice_get-changed_at g i w.routers) ∙ ap (slice_get (changed_at i g w.routers)) (sym e) ∙ at))
-    | inr d ↦ K.routers_kept j r (sym (slice_get-changed_at_other g i j w.routers d) ∙ at)
-  ];
+  routers_kept = each_changed (RouterKept n p) i g w.routers (λ r at. (good r at).0) (λ j r d at. K.routers_kept j r at);
+  attachments_kept = λ j r a at has. each_changed (λ m x. (y : Attachments) → slice_get w.attachments m ≡ Some y → AttachmentsKept p x y) i g w.routers
+      (λ x there y owns. attachments_same p x (g x) y (good x there).1 (K.attachments_kept i x y there owns)) (λ m x d there y owns. K.attachments_kept m x y there owns) j r at a has;
 }
-  where
-    by_old : (r : Router) (o : Option Router) → slice_get w.routers i ≡ o → option_map g o ≡ Some r → RouterKept n p i r
-    by_old r None at e = absurd (None_not_Some e)
-    by_old r (Some old) at e = subst (λ (x : Router). RouterKept n p i x) (Some_injective e) (good old at)
 
 -- a change of one side that leaves its router leaves both routers of the link
 pub changed_side-ends : (e : End) (f : Side → Side) (k : Link) → ((s : Side) → (f s).router ≡ s.router) → ends (changed_side e f k) ≡ ends k

@@ -8,6 +8,8 @@ pub mod Kept
 pub mod Linking
 pub mod Accepting
 pub mod Taking
+pub mod TakingAtHome
+pub mod Attaching
 pub mod Publishing
 pub mod Releasing
 pub mod Opened

@@ -1,5 +1,5 @@
 -- Machines by prefix: one that was not heard of stays as it was opened, and what all of them send.
-use Rattle.std.specs.Prelude.{◌≡◌, ℕ, zero, suc, ◌+◌, Bool, true, false, cond, List, [], ◌∷◌, ◌++◌, map, Some}
+use Rattle.std.specs.Prelude.{◌≡◌, ℕ, zero, suc, Bool, true, false, cond, List, [], ◌∷◌, ◌++◌, map, Some, None}
 use Rattle.std.specs.List.{flat_map}
 use Rattle.std.specs.Option.{option_map_or}
 use Rattle.std.specs.Ordering.{is_eq, is_lt}
@@ -35,39 +35,39 @@ unreported (x ∷ xs) (suc q) n e = unreported xs q n e
 
 -- a notice makes of a machine that heard nothing the one that would be opened after it, and sends nothing
 pub record StaysOpened (e : Event) (q : ℕ) (change : Port → Port) (ports : List Port) : Type 0 where
-  pub machine_is : (reaction (opening_machine false (neighbours ports)) e).machine ≡ opening_machine false (neighbours (changed_at q change ports))
-  pub sends_none : (reaction (opening_machine false (neighbours ports)) e).sends ≡ []
+  pub machine_is : (reaction (opening_machine None (neighbours ports)) e).machine ≡ opening_machine None (neighbours (changed_at q change ports))
+  pub sends_none : (reaction (opening_machine None (neighbours ports)) e).sends ≡ []
 
 module _ (ports : List Port) (q : ℕ) where
   -- a link that comes up leaves a machine that heard nothing as opened
   pub up_opened : (session cost : ℕ) → StaysOpened (Up q cost) q (λ p. record { up = true; session = session; cost = cost }) ports
-  up_opened session cost = record { machine_is = ap (opening_machine false) (changed_at-map _ (λ p. record { up = true; session = session; cost = cost }) _ (λ x. refl) q ports); sends_none = refl }
+  up_opened session cost = record { machine_is = ap (opening_machine None) (changed_at-map _ (λ p. record { up = true; session = session; cost = cost }) _ (λ x. refl) q ports); sends_none = refl }
 
   -- so does a link that goes down, by the records after it
-  quiet_down : least (records_after (Down q) (neighbours ports)) ≡ infinity → (ports' : List Port) → records_after (Down q) (neighbours ports) ≡ neighbours ports'
-      → ((reaction (opening_machine false (neighbours ports)) (Down q)).machine ≡ opening_machine false (neighbours ports')) × ((reaction (opening_machine false (neighbours ports)) (Down q)).sends ≡ [])
-  quiet_down l ports' same = (rw l (ap (opening_machine false) same), rw l refl)
+  quiet_down : least (records_after (Down q) (neighbours ports) ++ []) ≡ infinity → (ports' : List Port) → records_after (Down q) (neighbours ports) ≡ neighbours ports'
+      → ((reaction (opening_machine None (neighbours ports)) (Down q)).machine ≡ opening_machine None (neighbours ports')) × ((reaction (opening_machine None (neighbours ports)) (Down q)).sends ≡ [])
+  quiet_down l ports' same = (rw l (ap (opening_machine None) same), rw l refl)
 
   -- a link that goes down leaves a machine that heard nothing as opened
   pub down_opened : (session : ℕ) → StaysOpened (Down q) q (λ p. record p { up = false; session = session }) ports
   down_opened session =
       let ports' = changed_at q (λ (p : Port). record p { up = false; session = session }) ports in
       let same : records_after (Down q) (neighbours ports) ≡ neighbours ports' = changed_at-map _ (λ p. record p { up = false; session = session }) _ (λ x. refl) q ports in
-      let l : least (records_after (Down q) (neighbours ports)) ≡ infinity = ap least same ∙ least_unheard (neighbours ports') (unreported ports') in
+      let l : least (records_after (Down q) (neighbours ports) ++ []) ≡ infinity = ap least (append-nil (records_after (Down q) (neighbours ports))) ∙ ap least same ∙ least_unheard (neighbours ports') (unreported ports') in
       let r = quiet_down l ports' same in
       record { machine_is = r.0; sends_none = r.1 }
 
   -- so does a cost that changes, by the records after it
-  quiet_cost : (cost : ℕ) → least (records_after (Cost q cost) (neighbours ports)) ≡ infinity → (ports' : List Port) → records_after (Cost q cost) (neighbours ports) ≡ neighbours ports'
-      → ((reaction (opening_machine false (neighbours ports)) (Cost q cost)).machine ≡ opening_machine false (neighbours ports')) × ((reaction (opening_machine false (neighbours ports)) (Cost q cost)).sends ≡ [])
-  quiet_cost cost l ports' same = (rw l (ap (opening_machine false) same), rw l refl)
+  quiet_cost : (cost : ℕ) → least (records_after (Cost q cost) (neighbours ports) ++ []) ≡ infinity → (ports' : List Port) → records_after (Cost q cost) (neighbours ports) ≡ neighbours ports'
+      → ((reaction (opening_machine None (neighbours ports)) (Cost q cost)).machine ≡ opening_machine None (neighbours ports')) × ((reaction (opening_machine None (neighbours ports)) (Cost q cost)).sends ≡ [])
+  quiet_cost cost l ports' same = (rw l (ap (opening_machine None) same), rw l refl)
 
   -- a cost that changes leaves a machine that heard nothing as opened
   pub cost_opened : (session cost : ℕ) → StaysOpened (Cost q cost) q (λ p. record p { session = session; cost = cost }) ports
   cost_opened session cost =
       let ports' = changed_at q (λ (p : Port). record p { session = session; cost = cost }) ports in
       let same : records_after (Cost q cost) (neighbours ports) ≡ neighbours ports' = changed_at-map _ (λ p. record p { session = session; cost = cost }) _ (λ x. refl) q ports in
-      let l : least (records_after (Cost q cost) (neighbours ports)) ≡ infinity = ap least same ∙ least_unheard (neighbours ports') (unreported ports') in
+      let l : least (records_after (Cost q cost) (neighbours ports) ++ []) ≡ infinity = ap least (append-nil (records_after (Cost q cost) (neighbours ports))) ∙ ap least same ∙ least_unheard (neighbours ports') (unreported ports') in
       let r = quiet_cost cost l ports' same in
       record { machine_is = r.0; sends_none = r.1 }
 

@@ -1,43 +1,50 @@
 -- The view of the opening of a network is an opening.
-use Rattle.std.specs.Prelude.{◌≡◌, ◌⊎◌, ℕ, ◌<◌, Bool, true, false, cond, List, [], ◌∷◌, map, length, Option, Some, None, is_some, slice_get, option_map, option_and_then, unwrap_or}
+use Rattle.std.specs.Prelude.{◌≡◌, ℕ, suc, ◌<◌, ◌==◌, if◌then◌else◌, filter, Bool, true, false, cond, List, [], ◌∷◌, map, length, Option, Some, None, is_some, slice_get, option_map, option_and_then, unwrap_or}
 use Rattle.std.specs.List.{range_with_len}
 use Rattle.std.specs.Option.{option_map_or}
 use Rattle.std.specs.FinMap.{find as row_of}
 use Rattle.std.specs.FinMap.Entries.{find-put}
-use Rattle.std.proofs.Common.{refl, sym, ap, subst, ◌∙◌, arith, inl, inr}
+use Rattle.std.proofs.Common.{refl, sym, ap, subst, ◌∙◌, arith}
 use Rattle.std.proofs.lemmas.List.{length-map}
-use Rattle.std.proofs.lemmas.Bool.{false≢true}
+use Rattle.std.proofs.lemmas.Bool.{false≢true, eq-eqb}
 use Rattle.std.proofs.lemmas.Option.{slice_get-map, slice_get_within}
 use Rattle.ipv4_prefix.specs.Prefix.{Prefix, prefix_cmp, prefix_eq}
 use Rattle.network_model.specs.Machine.{Machine, opening_machine}
 use Rattle.network_model.specs.declared.machine.Neighbour.{Neighbour}
-use Rattle.metric.specs.Distance.{infinity}
+use Rattle.metric.specs.Distance.{infinity, IsCost}
 use Rattle.network_model.specs.declared.route.Entry.{Entry}
 use Rattle.network_model.specs.declared.network.End.{End}
 use Rattle.network_model.specs.declared.network.End.TheVariants.{A, B}
-use Rattle.network_model.specs.World.{Link, Router, Network, side, neighbours, machine_of, places_from, opening_link, opening_port, rows_of, opening_router, owned, opening}
+use Rattle.network_model.specs.World.{Link, Router, Attachments, Network, side, neighbours, machine_of, places_from, opening_link, opening_port, rows_of, opening_router, costs_of, opening}
 use Rattle.network_model.specs.declared.network.Place.{Place}
 use Rattle.network_model.specs.declared.network.Port.{Port}
 use Rattle.network_model.specs.declared.network.LinkSpec.{LinkSpec}
-use Rattle.network_model.specs.Step.{session_at, entry_of}
+use Rattle.network_model.specs.Step.{session_at, entry_of, chosen_rows}
 use Rattle.network_model.proofs.ListLaws.{Some_injective, None_not_Some, listed_at, listed_within}
 use Rattle.ipv4_prefix.proofs.PrefixOrder.{prefix_cmp_total}
 use Rattle.loop_freedom.specs.Network.{LinkEnd, State, Opening, OpeningPorts, at_port}
-use Rattle.network_model.proofs.RowLaws.{sorted-rows_of, map-rows_of}
+use Rattle.network_model.proofs.RowLaws.{find-map, sorted-map, sorted-rows_of}
 use Rattle.packet_loops.proofs.Wiring.{IsWiredLink, IsWired}
 use Rattle.packet_loops.proofs.Places.{lay, laid, topology}
 use Rattle.packet_loops.proofs.View.{next_hop, on_link, inbox_of, kept, ripe_of, unripe_of, next_hop_at, view, on_link-there, on_router-there}
-use Rattle.packet_loops.proofs.Kept.{ends, spec_ends, RouterKept, WorldKept}
+use Rattle.packet_loops.proofs.Kept.{ends, spec_ends, RouterKept, AttachmentsKept, WorldKept}
 
--- ---- one value at each of these prefixes
+-- ---- the attachments of one router at the start
 
--- a prefix has no row among those with one value at some prefixes, or has that value
-found_row : {X : Type 0} (p : Prefix) (x : X) (ps : List Prefix) → (row_of prefix_cmp p (rows_of x ps) ≡ None) ⊎ (row_of prefix_cmp p (rows_of x ps) ≡ Some x)
-found_row p x [] = inl refl
-found_row p x (k ∷ ks) = elim (prefix_eq p k) as (λ b. prefix_eq p k ≡ b → (row_of prefix_cmp p (rows_of x (k ∷ ks)) ≡ None) ⊎ (row_of prefix_cmp p (rows_of x (k ∷ ks)) ≡ Some x)) [
-  | true ↦ λ is. inr (find-put prefix_cmp prefix_cmp_total p k x (rows_of x ks) ∙ ap (λ b. cond b (Some x) (row_of prefix_cmp p (rows_of x ks))) is)
-  | false ↦ λ is. let e = find-put prefix_cmp prefix_cmp_total p k x (rows_of x ks) ∙ ap (λ b. cond b (Some x) (row_of prefix_cmp p (rows_of x ks))) is in elim (found_row p x ks) [ inl h ↦ inl (e ∙ h) | inr h ↦ inr (e ∙ h) ]
-] refl
+-- a cost among those of a router's attachments is that of an attachment of the list
+cost_listed : (P : ℕ → Type 0) (p : Prefix) (i : ℕ) (xs : List (Prefix × ℕ × ℕ)) → ((k : ℕ) (x : Prefix × ℕ × ℕ) → slice_get xs k ≡ Some x → P x.2)
+    → (c : ℕ) → row_of prefix_cmp p (rows_of (map (λ x. (x.0, x.2)) (filter (λ x. x.1 == i) xs))) ≡ Some c → P c
+cost_listed P p i [] all c is = absurd (None_not_Some is)
+cost_listed P p i (x ∷ xs) all c is = by_router (cost_listed P p i xs (λ k. all (suc k)) c) (x.1 == i) is
+  where
+    by_key : (row_of prefix_cmp p (rows_of (map (λ y. (y.0, y.2)) (filter (λ y. y.1 == i) xs))) ≡ Some c → P c) → (b : Bool) → cond b (Some x.2) (row_of prefix_cmp p (rows_of (map (λ y. (y.0, y.2)) (filter (λ y. y.1 == i) xs)))) ≡ Some c → P c
+    by_key rest true e = subst P (Some_injective e) (all 0 x refl)
+    by_key rest false e = rest e
+
+    by_router : (row_of prefix_cmp p (rows_of (map (λ y. (y.0, y.2)) (filter (λ y. y.1 == i) xs))) ≡ Some c → P c)
+        → (b : Bool) → row_of prefix_cmp p (rows_of (map (λ y. (y.0, y.2)) (cond b (x ∷ filter (λ y. y.1 == i) xs) (filter (λ y. y.1 == i) xs)))) ≡ Some c → P c
+    by_router rest true e = by_key rest (prefix_eq p x.0) (sym (find-put prefix_cmp prefix_cmp_total p x.0 x.2 (rows_of (map (λ y. (y.0, y.2)) (filter (λ y. y.1 == i) xs)))) ∙ e)
+    by_router rest false e = rest e
 
 module _ (n : Network) (N : IsWired n) (p : Prefix) where
   -- the links of the world at the start
@@ -50,21 +57,25 @@ module _ (n : Network) (N : IsWired n) (p : Prefix) where
 
   -- router i at the start
   abbrev first : ℕ → Router
-  first i = opening_router (ports_of i) (owned n i)
+  first i = opening_router (ports_of i) (costs_of n i)
 
   -- ---- machines
 
-  -- the machine is as opened over the ports of router i
-  record Opens (i : ℕ) (m : Machine) : Type 0 where
-    owns : Bool
-    is : m ≡ opening_machine owns (neighbours (ports_of i))
+  -- the cost of router i's attachment at the start
+  abbrev home_of : ℕ → Option ℕ
+  home_of i = row_of prefix_cmp p (costs_of n i)
 
-  -- each machine at the start is as opened over the ports of its router
-  opens : (i : ℕ) → Opens i (machine_of (first i) p)
-  opens i = elim (found_row p (opening_machine true (neighbours (ports_of i))) (owned n i)) [
-    | inl h ↦ record { owns = false; is = ap (λ o. unwrap_or o (opening_machine false (neighbours (ports_of i)))) h }
-    | inr h ↦ record { owns = true; is = ap (λ o. unwrap_or o (opening_machine false (neighbours (ports_of i)))) h }
-  ]
+  -- it is a cost
+  home_cost : (i c : ℕ) → home_of i ≡ Some c → IsCost c
+  home_cost i c is = cost_listed IsCost p i n.attachments N.attachment_costs c is
+
+  -- each machine at the start is as opened with its attachment over the ports of its router
+  opens : (i : ℕ) → machine_of (first i) p ≡ opening_machine (home_of i) (neighbours (ports_of i))
+  opens i = ap (λ o. unwrap_or o (opening_machine None (neighbours (ports_of i)))) (find-map prefix_cmp (λ (c : ℕ). opening_machine (Some c) (neighbours (ports_of i))) p (costs_of n i)) ∙ by_row (home_of i)
+    where
+      by_row : (o : Option ℕ) → unwrap_or (option_map (λ c. opening_machine (Some c) (neighbours (ports_of i))) o) (opening_machine None (neighbours (ports_of i))) ≡ opening_machine o (neighbours (ports_of i))
+      by_row None = refl
+      by_row (Some c) = refl
 
   -- router i has as many ports as the network has places for it
   count_of : (i : ℕ) → length (ports_of i) ≡ length (places_from 0 i n.links)
@@ -72,24 +83,40 @@ module _ (n : Network) (N : IsWired n) (p : Prefix) where
 
   -- each machine has as many neighbours as its router has ports
   machine_count : (i : ℕ) → length (machine_of (first i) p).ports ≡ length (ports_of i)
-  machine_count i = ap (λ (m : Machine). length m.ports) (opens i).is ∙ length-map (ports_of i) (λ (x : Port). record { up = x.up; cost = x.cost; reported = infinity })
+  machine_count i = ap (λ (m : Machine). length m.ports) (opens i) ∙ length-map (ports_of i) (λ (x : Port). record { up = x.up; cost = x.cost; reported = infinity })
+
+  -- the entry of a machine as opened with an attachment is Local
+  entry_local : (i c : ℕ) → entry_of (ports_of i) (opening_machine (Some c) (neighbours (ports_of i))) ≡ Entry.Local
+  entry_local i c = ap (λ b. if b then Entry.Local else Entry.Via (length (neighbours (ports_of i))) (session_at (ports_of i) (length (neighbours (ports_of i))))) (eq-eqb (length (neighbours (ports_of i))) (length (neighbours (ports_of i))) refl)
 
   -- router i at the start keeps what a router keeps
   first_kept : (i : ℕ) → RouterKept n p i (first i)
   first_kept i = record {
     ripe_within = omega arith;
-    sorted = sorted-rows_of (opening_machine true (neighbours (ports_of i))) (owned n i);
-    published_sorted = sorted-rows_of Entry.Local (owned n i);
-    control_is = sym (map-rows_of (λ (m : Machine). entry_of (ports_of i) m) (opening_machine true (neighbours (ports_of i))) (owned n i));
+    sorted = sorted-map prefix_cmp (λ (c : ℕ). opening_machine (Some c) (neighbours (ports_of i))) (costs_of n i) ∙ sorted-rows_of (map (λ a. (a.0, a.2)) (filter (λ a. a.1 == i) n.attachments));
+    published_sorted = sorted-map prefix_cmp (λ (c : ℕ). Entry.Local) (costs_of n i) ∙ sorted-rows_of (map (λ a. (a.0, a.2)) (filter (λ a. a.1 == i) n.attachments));
+    control_is = entries_local (costs_of n i);
     port_count = count_of i;
     machine_ports = machine_count i;
     placed = λ q out. refl;
   }
+    where
+      entries_local : (rows : List (Prefix × ℕ)) → map (λ a. (a.0, Entry.Local)) rows ≡ chosen_rows (ports_of i) (map (λ a. (a.0, opening_machine (Some a.1) (neighbours (ports_of i)))) rows)
+      entries_local [] = refl
+      entries_local (a ∷ rest) = λ z. (a.0, sym (entry_local i a.1) z) ∷ entries_local rest z
 
   -- the links at the start end at the routers of the links of the network
   ends_first : (ss : List LinkSpec) → map ends (map opening_link ss) ≡ map spec_ends ss
   ends_first [] = refl
   ends_first (s ∷ ss) = ap (λ xs. (s.a, s.b) ∷ xs) (ends_first ss)
+
+  -- the attachment of each machine at the start is that of the record, and no notice waits
+  first_attached : (i : ℕ) → AttachmentsKept p (first i) (record { costs = costs_of n i; notices = [] })
+  first_attached i = record {
+    leads = ap (λ (m : Machine). m.attachment) (opens i);
+    costs = home_cost i;
+    notice_costs = λ k x at. absurd (None_not_Some at);
+  }
 
   -- the world at the start keeps what a world keeps
   pub opening_kept : WorldKept n p (opening n)
@@ -97,6 +124,10 @@ module _ (n : Network) (N : IsWired n) (p : Prefix) where
     places_same = refl;
     ends_same = ends_first n.links;
     routers_kept = λ i r at. (let e = listed_within first n.routers i r at in subst (λ (x : Router). RouterKept n p i x) e.1 (first_kept i));
+    attachments_kept = λ i r a at has.
+        let e = listed_within first n.routers i r at in
+        let f = listed_within (λ (j : ℕ). record { costs = costs_of n j; notices = [] }) n.routers i a has in
+        subst (λ (x : Router). AttachmentsKept p x a) e.1 (subst (λ (x : Attachments). AttachmentsKept p (first i) x) f.1 (first_attached i));
   }
 
   -- ---- ports
@@ -134,7 +165,7 @@ module _ (n : Network) (N : IsWired n) (p : Prefix) where
 
   -- the feasible distance of each router at the start, which counts as published
   abbrev pub first_fd : ℕ → ℕ
-  first_fd i = (option_map_or (λ (r : Router). machine_of r p) (slice_get (opening n).routers i) (opening_machine false [])).fd
+  first_fd i = (option_map_or (λ (r : Router). machine_of r p) (slice_get (opening n).routers i) (opening_machine None [])).fd
 
   -- the view at the start
   abbrev s : State
@@ -172,19 +203,21 @@ module _ (n : Network) (N : IsWired n) (p : Prefix) where
 
   -- no router has published a next hop at the start
   first_hop : (i : ℕ) → next_hop_at p (first i) ≡ None
-  first_hop i = elim (found_row p Entry.Local (owned n i)) [
-    | inl h ↦ ap (option_and_then next_hop) h
-    | inr h ↦ ap (option_and_then next_hop) h
-  ]
+  first_hop i = ap (option_and_then next_hop) (find-map prefix_cmp (λ (c : ℕ). Entry.Local) p (costs_of n i)) ∙ by_row (home_of i)
+    where
+      by_row : (o : Option ℕ) → option_and_then next_hop (option_map (λ c. Entry.Local) o) ≡ None
+      by_row None = refl
+      by_row (Some c) = refl
 
-  -- the machine is as opened over its ports, which are those of an opening
+  -- the machine is as opened with its attachment over its ports, which are those of an opening
   record First (m : Machine) : Type 0 where
-    is : m ≡ opening_machine m.local m.ports
+    is : m ≡ opening_machine m.attachment m.ports
+    range : (c : ℕ) → m.attachment ≡ Some c → (0 < c) × (c < infinity)
     ports : OpeningPorts m.ports
 
-  -- a machine as opened over ports of an opening is such a machine
-  first_of : (m : Machine) (b : Bool) (ns : List Neighbour) → m ≡ opening_machine b ns → OpeningPorts ns → First m
-  first_of m b ns is P = subst First (sym is) (record { is = refl; ports = P })
+  -- a machine as opened with an attachment over ports of an opening is such a machine
+  first_of : (m : Machine) (a : Option ℕ) (ns : List Neighbour) → m ≡ opening_machine a ns → ((c : ℕ) → a ≡ Some c → IsCost c) → OpeningPorts ns → First m
+  first_of m a ns is costs P = subst First (sym is) (record { is = refl; range = λ c e. (let k : IsCost c = costs c e in (k.positive, (let small = k.small in omega (arith, small)))); ports = P })
 
   -- no ports at all are ports of an opening
   no_ports : OpeningPorts []
@@ -202,11 +235,11 @@ module _ (n : Network) (N : IsWired n) (p : Prefix) where
   first_machine : (i : ℕ) → First (s.machine i)
   first_machine i = by_router (slice_get (opening n).routers i) refl
     where
-      by_router : (o : Option Router) → slice_get (opening n).routers i ≡ o → First (option_map_or (λ (r : Router). machine_of r p) o (opening_machine false []))
-      by_router None at = record { is = refl; ports = no_ports }
+      by_router : (o : Option Router) → slice_get (opening n).routers i ≡ o → First (option_map_or (λ (r : Router). machine_of r p) o (opening_machine None []))
+      by_router None at = record { is = refl; range = λ c e. absurd (None_not_Some e); ports = no_ports }
       by_router (Some r) at =
           let e = listed_within first n.routers i r at in
-          subst (λ (x : Router). First (machine_of x p)) e.1 (first_of (machine_of (first i) p) (opens i).owns (neighbours (ports_of i)) (opens i).is (some_ports i e.0))
+          subst (λ (x : Router). First (machine_of x p)) e.1 (first_of (machine_of (first i) p) (home_of i) (neighbours (ports_of i)) (opens i) (home_cost i) (some_ports i e.0))
 
   -- a port that is there is a port of its machine, and costs something
   valid_there : (e : LinkEnd) → is_some (lay n e) ≡ true → (e.port < length (s.machine e.router).ports) × (0 < s.cost e)
@@ -217,7 +250,7 @@ module _ (n : Network) (N : IsWired n) (p : Prefix) where
       by_place (Some x) is h =
           let L = laid n e x is in
           let lt : e.port < length (places_from 0 e.router n.links) = slice_get_within (places_from 0 e.router n.links) e.port x L.listed in
-          let m : s.machine e.router ≡ machine_of (first e.router) p = on_router-there (λ (r : Router). machine_of r p) (opening_machine false []) (opening n).routers e.router (first e.router) (listed_at first n.routers e.router L.known) in
+          let m : s.machine e.router ≡ machine_of (first e.router) p = on_router-there (λ (r : Router). machine_of r p) (opening_machine None []) (opening n).routers e.router (first e.router) (listed_at first n.routers e.router L.known) in
           let count : length (s.machine e.router).ports ≡ length (places_from 0 e.router n.links) = ap (λ (y : Machine). length y.ports) m ∙ machine_count e.router ∙ count_of e.router in
           let cost : s.cost e ≡ (side x.end (opening_link L.spec)).cost = on_link-there (λ en k. (side en k).cost) 0 links (lay n e) x (opening_link L.spec) is (link_there x.link L.spec L.is_link) in
           let positive : 0 < (side x.end (opening_link L.spec)).cost = cost_at L.spec (N.are_links x.link L.spec L.is_link) x.end in
@@ -226,7 +259,8 @@ module _ (n : Network) (N : IsWired n) (p : Prefix) where
   -- the view at the start is an opening
   pub opening_view : Opening (topology n N) (view n p (opening n) first_fd)
   opening_view = record {
-    owns = λ i. (s.machine i).local;
+    attachment = λ i. (s.machine i).attachment;
+    attachment_range = λ i. (first_machine i).range;
     ports = λ i. (s.machine i).ports;
     opening_ports = λ i. (first_machine i).ports;
     ports_there = λ e v. (valid_there e v).0;

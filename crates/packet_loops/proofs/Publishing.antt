@@ -7,14 +7,13 @@ use Rattle.std.proofs.Common.{refl, sym, ap, subst, ◌∙◌, arith, take_all, 
 use Rattle.std.proofs.lemmas.Bool.{eq-eqb, ne_eqb}
 use Rattle.std.proofs.lemmas.List.{drop_all}
 use Rattle.ipv4_prefix.specs.Prefix.{Prefix, prefix_cmp}
-use Rattle.network_model.specs.Machine.{Machine, opening_machine}
+use Rattle.network_model.specs.Machine.{Machine, opening_machine, degree, port_successor}
 use Rattle.network_model.specs.declared.route.Entry.{Entry}
 use Rattle.network_model.specs.declared.network.Port.{Port}
 use Rattle.network_model.specs.World.{Router, World, Network, machine_of, neighbours}
 use Rattle.network_model.specs.declared.step.Step.TheVariants.{Publish}
 use Rattle.network_model.specs.Step.{next, router_publishing, entry_of, session_at, chosen_rows}
 use Rattle.network_model.proofs.ListLaws.{Some_injective, slice_get-changed_at}
-use Rattle.machine_laws.specs.Laws.{IsSound}
 use Rattle.loop_freedom.specs.Network.{LinkEnd, State, Publish as NetPublish, Publishes, next_hop_of, at_port}
 use Rattle.loop_freedom.proofs.Invariant.{Invariant}
 use Rattle.packet_loops.proofs.Wiring.{IsWired}
@@ -23,30 +22,29 @@ use Rattle.packet_loops.proofs.View.{next_hop, kept, ripe_of, unripe_of, next_ho
 use Rattle.network_model.proofs.RowLaws.{find-map, sorted-map}
 use Rattle.packet_loops.proofs.Kept.{RouterKept, WorldKept, StepKept, with_router}
 
--- the next hop of a machine's entry is its successor, in the session seen there
-next_hop_entry : (ports : List Port) (m : Machine) (seen : ℕ → ℕ) → (m.local ≡ true → m.successor ≡ None) → ((q : ℕ) → seen q ≡ session_at ports q) → next_hop (entry_of ports m) ≡ next_hop_of seen m.successor
-next_hop_entry ports m seen none same = by_owner m.local refl
+-- the next hop of a machine's entry is its successor, where that is a port, in the session seen there
+next_hop_entry : (ports : List Port) (m : Machine) (seen : ℕ → ℕ) → ((q : ℕ) → seen q ≡ session_at ports q) → next_hop (entry_of ports m) ≡ next_hop_of seen (port_successor m)
+next_hop_entry ports m seen same = by_successor m.successor
   where
-    by_port : (s : Option ℕ) → next_hop (option_map_or (λ q. Entry.Via q (session_at ports q)) s Entry.Unreachable) ≡ next_hop_of seen s
-    by_port None = refl
-    by_port (Some q) = ap (λ (n : ℕ). Some (record { port = q; session = n })) (sym (same q))
+    by_port : (b : Bool) (q : ℕ) → next_hop (if b then Entry.Local else Entry.Via q (session_at ports q)) ≡ next_hop_of seen (if b then None else Some q)
+    by_port true q = refl
+    by_port false q = ap (λ (n : ℕ). Some (record { port = q; session = n })) (sym (same q))
 
-    by_owner : (b : Bool) → m.local ≡ b → next_hop (if b then Entry.Local else option_map_or (λ q. Entry.Via q (session_at ports q)) m.successor Entry.Unreachable) ≡ next_hop_of seen m.successor
-    by_owner true is = ap (next_hop_of seen) (sym (none is))
-    by_owner false is = by_port m.successor
+    by_successor : (s : Option ℕ) → next_hop (option_map_or (λ q. if q == degree m then Entry.Local else Entry.Via q (session_at ports q)) s Entry.Unreachable) ≡ next_hop_of seen (option_and_then (λ q. if q == degree m then None else Some q) s)
+    by_successor None = refl
+    by_successor (Some q) = by_port (q == degree m) q
 
--- the next hop of the row that a router has chosen is its machine's successor, in the session seen there
-pub control_hop : (p : Prefix) (r : Router) (seen : ℕ → ℕ) → (r.table).control ≡ chosen_rows r.ports r.machines → ((machine_of r p).local ≡ true → (machine_of r p).successor ≡ None) → ((q : ℕ) → seen q ≡ session_at r.ports q)
-    → option_and_then next_hop (row_of prefix_cmp p (r.table).control) ≡ next_hop_of seen (machine_of r p).successor
-control_hop p r seen is none same =
+-- the next hop of the row that a router has chosen is its machine's successor, where that is a port, in the session seen there
+pub control_hop : (p : Prefix) (r : Router) (seen : ℕ → ℕ) → (r.table).control ≡ chosen_rows r.ports r.machines → ((q : ℕ) → seen q ≡ session_at r.ports q)
+    → option_and_then next_hop (row_of prefix_cmp p (r.table).control) ≡ next_hop_of seen (port_successor (machine_of r p))
+control_hop p r seen is same =
     ap (λ (rows : List (Prefix × Entry)). option_and_then next_hop (row_of prefix_cmp p rows)) is
     ∙ ap (option_and_then next_hop) (find-map prefix_cmp (λ (m : Machine). entry_of r.ports m) p r.machines)
-    ∙ by_row (row_of prefix_cmp p r.machines) none
+    ∙ by_row (row_of prefix_cmp p r.machines)
   where
-    by_row : (o : Option Machine) → ((unwrap_or o (opening_machine false (neighbours r.ports))).local ≡ true → (unwrap_or o (opening_machine false (neighbours r.ports))).successor ≡ None)
-        → option_and_then next_hop (option_map (λ m. entry_of r.ports m) o) ≡ next_hop_of seen (unwrap_or o (opening_machine false (neighbours r.ports))).successor
-    by_row None none = refl
-    by_row (Some m) none = next_hop_entry r.ports m seen none same
+    by_row : (o : Option Machine) → option_and_then next_hop (option_map (λ m. entry_of r.ports m) o) ≡ next_hop_of seen (port_successor (unwrap_or o (opening_machine None (neighbours r.ports))))
+    by_row None = refl
+    by_row (Some m) = next_hop_entry r.ports m seen same
 
 module _ (n : Network) (N : IsWired n) (p : Prefix) (w : World) (pfd : ℕ → ℕ) (K : WorldKept n p w) (I : Invariant (topology n N) (view n p w pfd)) (i : ℕ) (r : Router) (router_at : slice_get w.routers i ≡ Some r) where
   -- the view before
@@ -79,7 +77,7 @@ module _ (n : Network) (N : IsWired n) (p : Prefix) (w : World) (pfd : ℕ → �
 
   -- the view shows the machine of router i
   machine_was : old.machine i ≡ machine_of r p
-  machine_was = on_router-there (λ y. machine_of y p) (opening_machine false []) w.routers i r router_at
+  machine_was = on_router-there (λ y. machine_of y p) (opening_machine None []) w.routers i r router_at
 
   -- the router that published keeps what a router keeps
   router_kept : RouterKept n p i (router_publishing r)
@@ -94,12 +92,11 @@ module _ (n : Network) (N : IsWired n) (p : Prefix) (w : World) (pfd : ℕ → �
   }
 
   -- the published next hop is the successor, in the session seen there
-  published_is : new.published i ≡ next_hop_of (λ q. old.seen (at_port i q)) (old.machine i).successor
+  published_is : new.published i ≡ next_hop_of (λ q. old.seen (at_port i q)) (port_successor (old.machine i))
   published_is =
-      let sound : IsSound (machine_of r p) = subst IsSound machine_was (I.sound i) in
       on_router-there (next_hop_at p) None v.routers i (router_publishing r) (new_at i refl)
-      ∙ control_hop p r (λ q. old.seen (at_port i q)) R.control_is sound.local_successor (λ q. on_router-there (λ y. session_at y.ports q) 0 w.routers i r router_at)
-      ∙ ap (λ (m : Machine). next_hop_of (λ q. old.seen (at_port i q)) m.successor) (sym machine_was)
+      ∙ control_hop p r (λ q. old.seen (at_port i q)) R.control_is (λ q. on_router-there (λ y. session_at y.ports q) 0 w.routers i r router_at)
+      ∙ ap (λ (m : Machine). next_hop_of (λ q. old.seen (at_port i q)) (port_successor m)) (sym machine_was)
 
   -- all that the router held may be released
   ripe_is : (e : LinkEnd) → e.router ≡ i → new.ripe e ≡ old.ripe e ++ old.unripe e
@@ -129,7 +126,7 @@ module _ (n : Network) (N : IsWired n) (p : Prefix) (w : World) (pfd : ℕ → �
     ripe_elsewhere = λ e apart. on_router-miss (λ y. kept p e.port (ripe_of y)) [] w.routers router_publishing i e.router apart;
     unripe_elsewhere = λ e apart. on_router-miss (λ y. kept p e.port (unripe_of y)) [] w.routers router_publishing i e.router apart;
     machines = record {
-      machine_same = λ j. on_router-same (λ y. machine_of y p) (opening_machine false []) w.routers router_publishing i j (λ y there. refl);
+      machine_same = λ j. on_router-same (λ y. machine_of y p) (opening_machine None []) w.routers router_publishing i j (λ y there. refl);
       seen_same = λ e. on_router-same (λ y. session_at y.ports e.port) 0 w.routers router_publishing i e.router (λ y there. refl);
     };
     inboxes = record { inbox_same = λ e. refl };
@@ -140,6 +137,6 @@ module _ (n : Network) (N : IsWired n) (p : Prefix) (w : World) (pfd : ℕ → �
   -- the step Publish is one of the view, and keeps what a world keeps
   pub publishes : StepKept n N p w pfd (next w (Publish i)) pfd'
   publishes = record {
-    kept = with_router n p w i router_publishing (λ y there. subst (λ (z : Router). RouterKept n p i (router_publishing z)) (Some_injective (sym router_at ∙ there)) router_kept) K;
+    kept = with_router n p w i router_publishing (λ y there. (subst (λ (z : Router). RouterKept n p i (router_publishing z)) (Some_injective (sym router_at ∙ there)) router_kept, refl)) K;
     step = Publishes net;
   }

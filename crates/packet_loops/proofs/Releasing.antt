@@ -193,12 +193,12 @@ module _ (n : Network) (p : Prefix) (w : World) (pfd : ℕ → ℕ) (K : WorldKe
 
   -- the world after keeps what a world keeps, if the links do
   world_kept : WorldKept n p (record w { links = links }) → WorldKept n p v
-  world_kept L = with_router n p (record w { links = links }) i router_releasing (λ y there. released_kept n p i y (L.routers_kept i y there)) L
+  world_kept L = with_router n p (record w { links = links }) i router_releasing (λ y there. (released_kept n p i y (L.routers_kept i y there), refl)) L
 
   -- a release leaves all machines of the view
   machines_same : SameMachines old new
   machines_same = record {
-    machine_same = λ j. on_router-same (λ y. machine_of y p) (opening_machine false []) w.routers router_releasing i j (λ y there. refl);
+    machine_same = λ j. on_router-same (λ y. machine_of y p) (opening_machine None []) w.routers router_releasing i j (λ y there. refl);
     seen_same = λ e. on_router-same (λ y. session_at y.ports e.port) 0 w.routers router_releasing i e.router (λ y there. refl);
   }
 

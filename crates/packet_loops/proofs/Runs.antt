@@ -1,22 +1,24 @@
 -- Every run of a network is a run of the view, which shows the feasible distances that were published last.
-use Rattle.std.specs.Prelude.{◌<◌, zero, suc, length, slice_set, if◌then◌else◌, ◌==◌, false, ◌≡◌, ℕ, ◌≤◌, true, List, [], ◌∷◌, Option, Some, None, slice_get, option_map, option_and_then}
+use Rattle.std.specs.Prelude.{◌<◌, zero, suc, length, slice_set, if◌then◌else◌, ◌==◌, false, ◌≡◌, ℕ, ◌≤◌, true, List, [], ◌∷◌, Option, Some, None, slice_get, option_map, option_and_then, ◌⊎◌}
 use Rattle.std.specs.Option.{option_map_or}
 use Rattle.std.proofs.Common.{refl, sym, ap, subst, ◌∙◌, arith, inl, inr, length-set}
-use Rattle.std.proofs.lemmas.Bool.{cases_eq, eq-eqb, ne_eqb}
+use Rattle.std.proofs.lemmas.Bool.{cases_eq, eq-eqb, eqb-true, ne_eqb, false≢true}
 use Rattle.std.proofs.lemmas.Option.{slice_get_within}
 use Rattle.ipv4_prefix.specs.Prefix.{Prefix}
 use Rattle.network_model.specs.Machine.{Machine, opening_machine, changed_at}
 use Rattle.metric.specs.Distance.{infinity}
-use Rattle.network_model.specs.World.{machine_of, Link, Router, World, Network, side, place_at, link_at, opening}
+use Rattle.network_model.specs.World.{machine_of, Link, Router, Attachments, World, Network, side, place_at, places_from, link_at, opening}
 use Rattle.network_model.specs.declared.item.Item.{Item}
 use Rattle.network_model.specs.declared.item.Held.{Held}
+use Rattle.network_model.specs.declared.item.Notice.{Notice}
 use Rattle.network_model.specs.declared.network.Place.{Place}
 use Rattle.network_model.specs.declared.step.Step.{Step}
-use Rattle.network_model.specs.declared.step.Step.TheVariants.{LinkUp, LinkDown, SetCost, Deliver, Publish, Release}
-use Rattle.network_model.specs.Step.{Lawful, next, with_cost, with_front_taken, with_message, router_releasing, with_delivered, with_released, router_accepting, front_at, release_at, ripe_front, changed_router}
+use Rattle.network_model.specs.declared.step.Step.TheVariants.{LinkUp, LinkDown, SetCost, Deliver, Publish, Release, Attach, Detach}
+use Rattle.network_model.specs.Step.{Lawful, next, with_cost, with_front_taken, with_message, router_releasing, with_delivered, with_noticed, with_released, router_accepting, front_at, notice_at, is_at_home, release_at, ripe_front, changed_router}
 use Rattle.network_model.specs.Run.{Runs, History, history_from, published_after, with_step, with_steps, history}
 use Rattle.packet_loops.proofs.WorldLaws.{next-shape}
-use Rattle.network_model.proofs.ListLaws.{option_map_or-ind, None_not_Some}
+use Rattle.network_model.proofs.ListLaws.{option_map_or-ind, None_not_Some, listed_within}
+use Rattle.network_model.proofs.Lawful.{at_home_there}
 use Rattle.machine_laws.proofs.MachineLaws.{machine_laws}
 use Rattle.loop_freedom.specs.Network.{Run, Start, Then, at_port}
 use Rattle.loop_freedom.proofs.Invariant.{Invariant}
@@ -29,6 +31,8 @@ use Rattle.packet_loops.proofs.View.{view, on_router-there}
 use Rattle.packet_loops.proofs.Kept.{WorldKept, StepKept, linked}
 use Rattle.packet_loops.proofs.Linking.{link_up, link_down, cost_set_at}
 use Rattle.packet_loops.proofs.Taking.{takes_item}
+use Rattle.packet_loops.proofs.TakingAtHome.{takes_notice}
+use Rattle.packet_loops.proofs.Attaching.{attaches, detaches}
 use Rattle.packet_loops.proofs.Publishing.{publishes}
 use Rattle.packet_loops.proofs.Releasing.{front_of, releases_there, releases_nowhere}
 use Rattle.packet_loops.proofs.Opened.{first_fd, opening_kept, opening_view}
@@ -74,13 +78,49 @@ module _ (n : Network) (N : IsWired n) (p : Prefix) (w : World) (pfd : ℕ → �
       by_link : (x : Place) → lay n (at_port i q) ≡ Some x → (o : Option Link) → slice_get w.links x.link ≡ o → option_and_then (λ s. slice_get s.inbox 0) (option_map (side x.end) o) ≡ Some item → Kept (next w (Deliver i q))
       by_link x is None at h = absurd (None_not_Some h)
       by_link x is (Some k) at h = subst Kept
-          (sym (ap (λ o. option_map_or (with_delivered i q w) o w) front
+          (sym (ap (λ o. option_map_or (with_delivered i q w) o (option_map_or (with_noticed i w) (notice_at w i q) w)) front
           ∙ ap (λ o. changed_router i (router_accepting q item) (option_map_or (λ (y : Place). record w { links = changed_at y.link (with_front_taken y.end) w.links }) o w)) (place_is n p w K i q ∙ is)))
           (takes_item n N p w pfd K I i q x is k at r router_at item h)
 
       by_place : (o : Option Place) → lay n (at_port i q) ≡ o → option_and_then (λ s. slice_get s.inbox 0) (option_and_then (λ (x : Place). option_map (side x.end) (slice_get w.links x.link)) o) ≡ Some item → Kept (next w (Deliver i q))
       by_place None is h = absurd (None_not_Some h)
       by_place (Some x) is h = by_link x is (slice_get w.links x.link) refl h
+
+  -- a notice is taken at the port numbered by the degree, where no item of a link is
+  home_port : (i q : ℕ) (x : Notice) → notice_at w i q ≡ Some x → (i < n.routers) × (front_at w i q ≡ None)
+  home_port i q x at =
+      let there : is_at_home w i q ≡ true = at_home_there (is_at_home w i q) _ at in
+      by_places (slice_get (opening n).places i) refl (sym (ap (λ (ps : List (List Place)). option_map_or (λ d. q == d) (option_map (λ (xs : List Place). length xs) (slice_get ps i)) false) K.places_same) ∙ there)
+    where
+      past_end : (xs : List Place) (j : ℕ) → j ≡ length xs → slice_get xs j ≡ None
+      past_end [] j e = refl
+      past_end (y ∷ ys) zero e = absurd (omega (arith, e))
+      past_end (y ∷ ys) (suc j) e = past_end ys j (omega (arith, e))
+
+      by_places : (o : Option (List Place)) → slice_get (opening n).places i ≡ o → option_map_or (λ d. q == d) (option_map (λ (xs : List Place). length xs) o) false ≡ true → (i < n.routers) × (front_at w i q ≡ None)
+      by_places None is h = absurd (false≢true h)
+      by_places (Some xs) is h = (
+        (listed_within (λ j. places_from 0 j n.links) n.routers i xs is).0,
+        ap (λ (ps : List (List Place)). option_and_then (λ s. slice_get s.inbox 0) (option_and_then (λ (y : Place). option_map (side y.end) (slice_get w.links y.link)) (option_and_then (λ (ys : List Place). slice_get ys q) (slice_get ps i)))) K.places_same
+            ∙ ap (λ o. option_and_then (λ s. slice_get s.inbox 0) (option_and_then (λ (y : Place). option_map (side y.end) (slice_get w.links y.link)) o)) (ap (option_and_then (λ (ys : List Place). slice_get ys q)) is ∙ past_end xs q (eqb-true q (length xs) h)),
+      )
+
+  -- the step Deliver at the attachments is one of the view
+  deliver_home : (i q : ℕ) (r : Router) (x : Notice) → slice_get w.routers i ≡ Some r → notice_at w i q ≡ Some x → Kept (next w (Deliver i q))
+  deliver_home i q r x router_at at = by_attachments (slice_get w.attachments i) refl front
+    where
+      there : is_at_home w i q ≡ true
+      there = at_home_there (is_at_home w i q) _ at
+
+      front : option_and_then (λ (a : Attachments). slice_get a.notices 0) (slice_get w.attachments i) ≡ Some x
+      front = sym (ap (λ b. if b then option_and_then (λ (a : Attachments). slice_get a.notices 0) (slice_get w.attachments i) else None) there) ∙ at
+
+      world_is : next w (Deliver i q) ≡ with_noticed i w x
+      world_is = ap (λ o. option_map_or (with_delivered i q w) o (option_map_or (with_noticed i w) (notice_at w i q) w)) (home_port i q x at).1 ∙ ap (λ o. option_map_or (with_noticed i w) o w) at
+
+      by_attachments : (o : Option Attachments) → slice_get w.attachments i ≡ o → option_and_then (λ (a : Attachments). slice_get a.notices 0) o ≡ Some x → Kept (next w (Deliver i q))
+      by_attachments None owns h = absurd (None_not_Some h)
+      by_attachments (Some a) owns h = subst Kept (sym world_is) (takes_notice n N p w pfd K I i (home_port i q x at).0 r router_at a owns x h)
 
   -- the step Release is one of the view
   release : (i : ℕ) (h : Held) → release_at w i ≡ Some h → Kept (next w (Release i))
@@ -121,7 +161,7 @@ module _ (n : Network) (N : IsWired n) (p : Prefix) (w : World) (pfd : ℕ → �
       fds : (rs : List Router) → ((j : ℕ) → pfd j ≡ fd_in rs p j) → length rs ≡ length w.routers → (j : ℕ) → (if j == i then ((view n p w pfd).machine i).fd else pfd j) ≡ fd_in (published_after w rs (Publish i)) p j
       fds rs F c j = elim (cases_eq j i) [
         | inl e ↦ rw (eq-eqb j i e) (
-            ap (λ (m : Machine). m.fd) (on_router-there (λ y. machine_of y p) (opening_machine false []) w.routers i r at)
+            ap (λ (m : Machine). m.fd) (on_router-there (λ y. machine_of y p) (opening_machine None []) w.routers i r at)
             ∙ sym (ap (λ o. option_map_or (λ (y : Router). (machine_of y p).fd) o infinity)
             (ap (λ (xs : List Router). slice_get xs j) (is_set rs) ∙ ap (slice_get (slice_set rs i r)) e ∙ set_here rs i r (let lt = slice_get_within w.routers i r at in omega (arith, lt, c)))))
         | inr d ↦ rw (ne_eqb j i d) (
@@ -133,9 +173,15 @@ module _ (n : Network) (N : IsWired n) (p : Prefix) (w : World) (pfd : ℕ → �
   stepped (LinkUp l) L = record { fd_then = pfd; is_kept = link_up n N p w pfd K l L.0 L.1 L.2; fds_then = same_fds }
   stepped (LinkDown l) L = record { fd_then = pfd; is_kept = link_down n N p w pfd K l L.0 L.1 L.2; fds_then = same_fds }
   stepped (SetCost i q cost) L = record { fd_then = pfd; is_kept = set_cost i q cost L.1 L.3 L.4 (L.5).positive; fds_then = same_fds }
-  stepped (Deliver i q) L = record { fd_then = pfd; is_kept = deliver i q L.0 L.1 L.2 L.3; fds_then = same_fds }
+  stepped (Deliver i q) L = record { fd_then = pfd; is_kept = by_front L.2; fds_then = same_fds }
+    where
+      by_front : ((item : Item) × (front_at w i q ≡ Some item)) ⊎ ((x : Notice) × (notice_at w i q ≡ Some x)) → Kept (next w (Deliver i q))
+      by_front (inl (item, at)) = deliver i q L.0 item L.1 at
+      by_front (inr (x, at)) = deliver_home i q L.0 x L.1 at
   stepped (Publish i) L = publish i L.0 L.1
   stepped (Release i) L = record { fd_then = pfd; is_kept = release i L.0 L.1; fds_then = same_fds }
+  stepped (Attach i k cost) L = record { fd_then = pfd; is_kept = attaches n N p w pfd K i k cost L.3; fds_then = same_fds }
+  stepped (Detach i k) L = record { fd_then = pfd; is_kept = detaches n N p w pfd K i k; fds_then = same_fds }
 
 -- a step leaves the length of the list of routers as they published last
 published_count : (w : World) (rs : List Router) (s : Step) → length (published_after w rs s) ≡ length rs
@@ -145,6 +191,8 @@ published_count w rs (SetCost i q cost) = refl
 published_count w rs (Deliver i q) = refl
 published_count w rs (Publish i) = option_map_or-ind (λ (xs : List Router). length xs ≡ length rs) (λ r. slice_set rs i r) (slice_get w.routers i) rs refl (λ r at. length-set rs i r)
 published_count w rs (Release i) = refl
+published_count w rs (Attach i k cost) = refl
+published_count w rs (Detach i k) = refl
 
 -- a run of the view leads to the view of w, with rs as the routers when they published last; w keeps what worlds keep
 pub record Reached (n : Network) (N : IsWired n) (p : Prefix) (w : World) (rs : List Router) : Type 0 where
@@ -156,7 +204,7 @@ pub record Reached (n : Network) (N : IsWired n) (p : Prefix) (w : World) (rs : 
   pub inv : Invariant (topology n N) (view n p w published_fd)
 
 -- the feasible distance of a machine that the view shows is that of its router, if it is there, else infinity
-pub fd_is : (p : Prefix) (o : Option Router) → (option_map_or (λ r. machine_of r p) o (opening_machine false [])).fd ≡ option_map_or (λ r. (machine_of r p).fd) o infinity
+pub fd_is : (p : Prefix) (o : Option Router) → (option_map_or (λ r. machine_of r p) o (opening_machine None [])).fd ≡ option_map_or (λ r. (machine_of r p).fd) o infinity
 fd_is p None = refl
 fd_is p (Some r) = refl
 

@@ -6,8 +6,9 @@ use Rattle.std.proofs.Common.{refl, sym, ap, subst, ◌∙◌, arith, inl, inr}
 use Rattle.std.proofs.lemmas.Bool.{cases_eq, false≢true}
 use Rattle.std.proofs.lemmas.Option.{slice_get_within}
 use Rattle.ipv4_prefix.specs.Prefix.{Prefix, prefix_cmp, prefix_eq}
-use Rattle.network_model.specs.Machine.{Machine, reaction, changed_at, opening_machine}
+use Rattle.network_model.specs.Machine.{Machine, reaction, changed_at, opening_machine, attachment_after}
 use Rattle.network_model.specs.declared.machine.Neighbour.{Neighbour}
+use Rattle.network_model.specs.declared.machine.Event.{Event}
 use Rattle.network_model.specs.declared.item.Item.{Item}
 use Rattle.network_model.specs.declared.route.Entry.{Entry}
 use Rattle.network_model.specs.declared.network.End.{End}
@@ -18,10 +19,11 @@ use Rattle.network_model.specs.Step.{router_accepting, with_front_taken, session
 use Rattle.network_model.proofs.ListLaws.{Some_injective, None_not_Some, slice_get-changed_at, listed_at}
 use Rattle.machine_laws.specs.Laws.{Meets, IsSound, is_up_at, test_at, sent_to}
 use Rattle.machine_laws.proofs.MachineLaws.{machine_laws}
+use Rattle.machine_laws.proofs.Events.{ports_length as records_length}
 use Rattle.loop_freedom.specs.Network.{LinkEnd, State, Item as NetItem, UpNotice, DownNotice, CostNotice, Reported, Takes, Skips, event_of, seen_after, held_for, at_port, SameLinks, SameCosts}
 use Rattle.loop_freedom.proofs.OnTheWay.{none_sent}
 use Rattle.loop_freedom.proofs.Notices.{IsLawfulInbox}
-use Rattle.loop_freedom.proofs.Ports.{ports_length, meets_item}
+use Rattle.loop_freedom.proofs.Ports.{meets_item}
 use Rattle.loop_freedom.proofs.Ends.{place_cases}
 use Rattle.loop_freedom.proofs.Invariant.{Invariant}
 use Rattle.packet_loops.proofs.Wiring.{IsWired}
@@ -49,6 +51,25 @@ not_listed : (places : List Place) (j : ℕ) → slice_get places j ≡ None →
 not_listed [] j none lt = omega arith
 not_listed (x ∷ xs) zero none lt = None_not_Some (sym none)
 not_listed (x ∷ xs) (suc j) none lt = not_listed xs j none (omega (arith, lt))
+
+-- at an event that it meets, the machine of the prefix sends nothing to a port that is not there
+pub silent_to_none : (n : Network) (p : Prefix) (i : ℕ) (r : Router) → RouterKept n p i r → i < n.routers → (e : Event) → IsSound (machine_of r p) → Meets (machine_of r p) e → Silent n i (reaction (machine_of r p) e).sends
+silent_to_none n p i r R known e sound meets j out =
+    let m = machine_of r p in
+    let unlisted : slice_get (places_from 0 i n.links) j ≡ None = sym (ap (option_and_then (λ (ps : List Place). slice_get ps j)) (listed_at (λ y. places_from 0 y n.links) n.routers i known)) ∙ out in
+    let lengths : length (reaction m e).machine.ports ≡ length (places_from 0 i n.links) =
+    ap (λ (ns : List Neighbour). length ns) (machine_laws.keeps_records m e) ∙ records_length e m.ports ∙ R.machine_ports ∙ R.port_count in
+    none_sent j (reaction m e).sends (λ s c g same.
+    not_listed (places_from 0 i n.links) j unlisted
+    (let lt : s.port < length (reaction m e).machine.ports = port_within (reaction m e).machine.ports s.port ((machine_laws.sends_distance m e sound meets s c g).1) in
+    omega (arith, lt, same, lengths)))
+
+-- no item of a link changes an attachment
+item_leaves : (q : ℕ) (item : NetItem) (a : Option ℕ) → attachment_after (event_of q item) a ≡ a
+item_leaves q (UpNotice s c) a = refl
+item_leaves q (DownNotice s) a = refl
+item_leaves q (CostNotice s c) a = refl
+item_leaves q (Reported m) a = refl
 
 module _ (n : Network) (N : IsWired n) (p : Prefix) (w : World) (pfd : ℕ → ℕ) (K : WorldKept n p w) (I : Invariant (topology n N) (view n p w pfd))
     (i q : ℕ) (x0 : Place) (laid_a : lay n (at_port i q) ≡ Some x0) (k : Link) (at : slice_get w.links x0.link ≡ Some k) (r : Router) (router_at : slice_get w.routers i ≡ Some r)
@@ -127,10 +148,10 @@ module _ (n : Network) (N : IsWired n) (p : Prefix) (w : World) (pfd : ℕ → �
   router_same : {X : Type 0} (f : Router → X) (d : X) → f r' ≡ f r → (j : ℕ) → option_map_or f (slice_get v.routers j) d ≡ option_map_or f (slice_get w.routers j) d
   router_same f d same j = on_router-same f d w.routers (router_accepting q item) i j (λ y there. subst (λ (z : Router). f (router_accepting q item z) ≡ f z) (Some_injective (sym router_at ∙ there)) same)
 
-  -- the world after keeps what a world keeps, if the router does
-  world_kept : RouterKept n p i r' → WorldKept n p v
-  world_kept R' = with_router n p (record w { links = changed_at x0.link (with_front_taken x0.end) w.links }) i (router_accepting q item)
-      (λ y there. subst (λ (z : Router). RouterKept n p i (router_accepting q item z)) (Some_injective (sym router_at ∙ there)) R')
+  -- the world after keeps what a world keeps, if the router does, and its machine has the attachment as before
+  world_kept : RouterKept n p i r' → (machine_of r' p).attachment ≡ (machine_of r p).attachment → WorldKept n p v
+  world_kept R' same = with_router n p (record w { links = changed_at x0.link (with_front_taken x0.end) w.links }) i (router_accepting q item)
+      (λ y there. subst (λ (z : Router). RouterKept n p i (router_accepting q item z) × ((machine_of (router_accepting q item z) p).attachment ≡ (machine_of z p).attachment)) (Some_injective (sym router_at ∙ there)) (R', same))
       (with_links n p w x0.link (with_front_taken x0.end) (λ j. changed_side-ends x0.end (λ s. record s { inbox = drop 1 s.inbox }) j (λ s. refl)) K)
 
   -- what is published stays where the router leaves its published rows
@@ -149,9 +170,9 @@ module _ (n : Network) (N : IsWired n) (p : Prefix) (w : World) (pfd : ℕ → �
   -- an item of which the prefix hears nothing leaves the view as it was
   pub skips : heard_item p item ≡ [] → Unmoved n p i r r' → StepKept n N p w pfd v pfd
   skips silent U = record {
-    kept = world_kept U.keeps;
+    kept = world_kept U.keeps (ap (λ (m : Machine). m.attachment) U.machine_is);
     step = Skips (record {
-      machines = record { machine_same = router_same (λ y. machine_of y p) (opening_machine false []) U.machine_is; seen_same = λ e. router_same (λ y. session_at y.ports e.port) 0 (U.seen_is e.port) e.router };
+      machines = record { machine_same = router_same (λ y. machine_of y p) (opening_machine None []) U.machine_is; seen_same = λ e. router_same (λ y. session_at y.ports e.port) 0 (U.seen_is e.port) e.router };
       inboxes = record { inbox_same = inboxes_same silent };
       holdings = record { ripe_same = λ e. router_same (λ y. kept p e.port (ripe_of y)) [] (U.ripe_is e.port) e.router; unripe_same = λ e. router_same (λ y. kept p e.port (unripe_of y)) [] (U.unripe_is e.port) e.router };
       links = links_same;
@@ -164,7 +185,7 @@ module _ (n : Network) (N : IsWired n) (p : Prefix) (w : World) (pfd : ℕ → �
 
   -- the view shows the machine of router i
   machine_was : old.machine i ≡ machine_of r p
-  machine_was = on_router-there (λ y. machine_of y p) (opening_machine false []) w.routers i r router_at
+  machine_was = on_router-there (λ y. machine_of y p) (opening_machine None []) w.routers i r router_at
 
   -- the view shows the session that router i saw at port a
   seen_was : old.seen a ≡ session_at r.ports q
@@ -193,33 +214,25 @@ module _ (n : Network) (N : IsWired n) (p : Prefix) (w : World) (pfd : ℕ → �
 
     -- the machine sends nothing to a port that is not there
     silent_beyond : Silent n i (reaction (machine_of r p) (event_of q hears)).sends
-    silent_beyond j out =
+    silent_beyond =
         let m = machine_of r p in
-        let ev = event_of q hears in
         let sound : IsSound m = subst IsSound machine_was (I.sound i) in
         let ports : length m.ports ≡ length r.ports = kept_r.machine_ports in
         let there : q < length m.ports = (let t = port_there in omega (arith, ports, t)) in
-        let meets : Meets m ev = meets_item machine_laws m q hears (new.inbox a) (session_at r.ports q) (old.session a) (old.up a) there lawful_front in
-        let unlisted : slice_get (places_from 0 i n.links) j ≡ None = sym (ap (option_and_then (λ (ps : List Place). slice_get ps j)) (listed_at (λ y. places_from 0 y n.links) n.routers i (laid n a x0 laid_a).known)) ∙ out in
-        let lengths : length (reaction m ev).machine.ports ≡ length (places_from 0 i n.links) =
-        ap (λ (ns : List Neighbour). length ns) (machine_laws.keeps_records m ev) ∙ ports_length q hears m.ports ∙ ports ∙ kept_r.port_count in
-        none_sent j (reaction m ev).sends (λ s c g same.
-        not_listed (places_from 0 i n.links) j unlisted
-        (let lt : s.port < length (reaction m ev).machine.ports = port_within (reaction m ev).machine.ports s.port ((machine_laws.sends_distance m ev sound meets s c g).1) in
-        omega (arith, lt, same, lengths)))
+        silent_to_none n p i r kept_r (laid n a x0 laid_a).known (event_of q hears) sound (meets_item machine_laws m q hears (new.inbox a) (session_at r.ports q) (old.session a) (old.up a) there lawful_front)
 
     -- an item that the prefix hears is taken in the view
     pub takes : Reacted n p i q hears r r' → StepKept n N p w pfd v pfd
     takes Q = record {
-      kept = world_kept (Q.keeps silent_beyond);
+      kept = world_kept (Q.keeps silent_beyond) (ap (λ (m : Machine). m.attachment) Q.machine_is ∙ machine_laws.keeps_attachment (machine_of r p) (event_of q hears) ∙ item_leaves q hears (machine_of r p).attachment);
       step = Takes (record {
         a = a;
         item = hears;
         valid_place = ap is_some laid_a;
         inbox_at = inbox_front;
         inbox_elsewhere = inbox_elsewhere;
-        machine_at = on_router-there (λ y. machine_of y p) (opening_machine false []) v.routers i r' (new_at i refl) ∙ Q.machine_is ∙ ap (λ (m : Machine). (reaction m (event_of q hears)).machine) (sym machine_was);
-        machine_elsewhere = λ j apart. on_router-miss (λ y. machine_of y p) (opening_machine false []) w.routers (router_accepting q item) i j apart;
+        machine_at = on_router-there (λ y. machine_of y p) (opening_machine None []) v.routers i r' (new_at i refl) ∙ Q.machine_is ∙ ap (λ (m : Machine). (reaction m (event_of q hears)).machine) (sym machine_was);
+        machine_elsewhere = λ j apart. on_router-miss (λ y. machine_of y p) (opening_machine None []) w.routers (router_accepting q item) i j apart;
         seen_at = on_router-there (λ y. session_at y.ports q) 0 v.routers i r' (new_at i refl) ∙ Q.seen_here ∙ ap (seen_after hears) (sym seen_was);
         seen_elsewhere = seen_beside;
         unripe_at = unripe_here;

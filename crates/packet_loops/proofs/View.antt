@@ -87,7 +87,7 @@ inbox_of p e k = heard p (side e k).inbox
 -- the world as the prefix sees it, with the feasible distance of each router when it published last
 abbrev pub view : Network → Prefix → World → (ℕ → ℕ) → State
 view n p w pfd = record {
-  machine = λ i. option_map_or (λ r. machine_of r p) (slice_get w.routers i) (opening_machine false []);
+  machine = λ i. option_map_or (λ r. machine_of r p) (slice_get w.routers i) (opening_machine None []);
   seen = λ e. option_map_or (λ r. session_at r.ports e.port) (slice_get w.routers e.router) 0;
   up = λ e. on_link (λ en k. k.up) false (lay n e) w.links;
   session = λ e. on_link (λ en k. k.session) 0 (lay n e) w.links;

@@ -7,7 +7,8 @@ use Rattle.std.proofs.Common.{refl, sym, ap, subst, ◌∙◌, inl, inr, arith}
 use Rattle.std.proofs.lemmas.Bool.{and_parts, eqb-true, false≢true, and_from, eq-eqb}
 use Rattle.ipv4_prefix.specs.Prefix.{Prefix, prefix_cmp, prefix_eq, covers}
 use Rattle.ipv4_prefix.specs.LongestMatch.{longer_row, longest_match}
-use Rattle.network_model.specs.Machine.{Machine, opening_machine, is_port}
+use Rattle.network_model.specs.Machine.{Machine, opening_machine, port_successor, is_port}
+use Rattle.machine_laws.proofs.Successors.{port_successor_from}
 use Rattle.network_model.specs.declared.route.Entry.{Entry}
 use Rattle.network_model.specs.declared.route.Entry.TheVariants.{Local, Via, Unreachable}
 use Rattle.network_model.specs.World.{Link, Side, Router, World, Network, other, side, machine_of, opening}
@@ -15,7 +16,7 @@ use Rattle.network_model.specs.declared.network.Place.{Place}
 use Rattle.network_model.specs.Step.{session_at, entry_of}
 use Rattle.network_model.specs.Forwarding.{entry_leads, IsForwarded, IsPacketWalk}
 use Rattle.network_model.proofs.ListLaws.{Some_injective, None_not_Some}
-use Rattle.machine_laws.specs.Laws.{is_up_at, IsSound}
+use Rattle.machine_laws.specs.Laws.{is_up_at}
 use Rattle.machine_laws.proofs.MachineLaws.{machine_laws}
 use Rattle.loop_freedom.specs.Network.{LinkEnd, State, Topology, NextHop, PublishedEdge, ControlEdge, IsWalk, met, meets_twice, next_hop_of, at_port}
 use Rattle.loop_freedom.proofs.Walks.{always_mixed}
@@ -175,24 +176,23 @@ module _ (n : Network) (N : IsWired n) (p : Prefix) (w : World) (rs : List Route
       see : ℕ → ℕ
       see j = s.seen (at_port i j)
 
-      by_successor : (o : Option ℕ) → (s.machine i).successor ≡ o → next_hop_of (λ j. s.seen (at_port i j)) o ≡ Some (record { port = q; session = session }) → Chosen i q session
+      by_successor : (o : Option ℕ) → port_successor (s.machine i) ≡ o → next_hop_of (λ j. s.seen (at_port i j)) o ≡ Some (record { port = q; session = session }) → Chosen i q session
       by_successor None is g = absurd (None_not_Some g)
       by_successor (Some j) is g =
           let e = Some_injective g in
           let port : j ≡ q = ap (λ (o : NextHop). o.port) e in
           record {
-            successor = is ∙ ap Some port;
+            successor = port_successor_from (s.machine i) q (is ∙ ap Some port);
             seen = ap (λ (m : ℕ). s.seen (at_port i m)) (sym port) ∙ ap (λ (o : NextHop). o.session) e;
           }
 
       by_router : (o : Option Router) → slice_get w.routers i ≡ o → option_and_then (λ (r : Router). row_of prefix_cmp p (r.table).control) o ≡ Some (Via q session) → Chosen i q session
       by_router None at g = absurd (None_not_Some g)
       by_router (Some r) at g =
-          let machine_is : s.machine i ≡ machine_of r p = on_router-there (λ y. machine_of y p) (opening_machine false []) w.routers i r at in
-          let sound : IsSound (machine_of r p) = subst IsSound machine_is (R.inv.sound i) in
-          by_successor (s.machine i).successor refl
-          (ap (λ (m : Machine). next_hop_of (λ j. s.seen (at_port i j)) m.successor) machine_is
-          ∙ sym (control_hop p r (λ j. s.seen (at_port i j)) (R.kept.routers_kept i r at).control_is sound.local_successor (λ j. on_router-there (λ y. session_at y.ports j) 0 w.routers i r at))
+          let machine_is : s.machine i ≡ machine_of r p = on_router-there (λ y. machine_of y p) (opening_machine None []) w.routers i r at in
+          by_successor (port_successor (s.machine i)) refl
+          (ap (λ (m : Machine). next_hop_of (λ j. s.seen (at_port i j)) (port_successor m)) machine_is
+          ∙ sym (control_hop p r (λ j. s.seen (at_port i j)) (R.kept.routers_kept i r at).control_is (λ j. on_router-there (λ y. session_at y.ports j) 0 w.routers i r at))
           ∙ ap (option_and_then next_hop) g)
 
   -- an edge of the view leads from router i to router k
@@ -224,7 +224,7 @@ module _ (n : Network) (N : IsWired n) (p : Prefix) (w : World) (rs : List Route
           let C = control_chosen i L.port L.session (h ∙ ap Some L.is_via) in
           inr (record {
             linked = L.up;
-            port_up = (R.inv.sound i).successor_up L.port C.successor;
+            port_up = (R.inv.sound i).successor_up L.port C.successor (R.inv.there (at_port i L.port) L.valid);
             present = C.seen ∙ sym L.present;
             chosen = C.successor;
           })
@@ -339,7 +339,7 @@ module _ (n : Network) (N : IsWired n) (p : Prefix) (w : World) (rs : List Route
         let C = control_chosen n N p w rs R i L.port L.session (row ∙ ap Some L.is_via) in
         let m = at_view.machine i in
         let current : is_current m L.port (at_view.seen spot_here) (at_view.session spot_here) ≡ true =
-        and_from (is_up_at m L.port) (at_view.seen spot_here == at_view.session spot_here) ((R.inv.sound i).successor_up L.port C.successor) (eq-eqb (at_view.seen spot_here) (at_view.session spot_here) (C.seen ∙ sym L.present)) in
+        and_from (is_up_at m L.port) (at_view.seen spot_here == at_view.session spot_here) ((R.inv.sound i).successor_up L.port C.successor (R.inv.there spot_here L.valid)) (eq-eqb (at_view.seen spot_here) (at_view.session spot_here) (C.seen ∙ sym L.present)) in
         let port : is_port L.port m.successor ≡ true = subst (λ (o : Option ℕ). is_port L.port o ≡ true) (sym C.successor) (eq-eqb L.port L.port refl) in
         let h = (R.inv.links spot_here L.valid L.up).control_edge_falls (and_from (is_current m L.port (at_view.seen spot_here) (at_view.session spot_here)) (is_port L.port m.successor) current port) in
         let own : m.fd ≡ fd_in w.routers p i = fd_is p (slice_get w.routers i) in

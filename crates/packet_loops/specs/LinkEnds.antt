@@ -2,7 +2,6 @@
 use Rattle.std.specs.Prelude.{◌≡◌, ℕ, Bool, true, false, ◌&&◌, ◌==◌, List, [], ◌∷◌, ◌++◌, Option, Some, None}
 use Rattle.ipv4_prefix.specs.Prefix.{Prefix}
 use Rattle.network_model.specs.declared.item.Item.{Item}
-use Rattle.network_model.specs.declared.network.End.{End}
 use Rattle.network_model.specs.declared.network.Place.{Place}
 use Rattle.network_model.specs.declared.step.Step.{Step}
 use Rattle.network_model.specs.Machine.{is_port}

@@ -27,9 +27,15 @@ link_line k = record {
   queued_b = length k.b.inbox;
 }
 
--- what is told of a router
-abbrev pub router_line : ℕ → Router → RouterLine
-router_line number r = record { router = number; generation = r.generation; held = length (r.gate).held; ripe = (r.gate).ripe }
+-- what is told of a router that has yet to take so many notices of its attachments
+abbrev pub router_line : ℕ → Router → ℕ → RouterLine
+router_line number r notices = record {
+  router = number;
+  generation = r.generation;
+  held = length (r.gate).held;
+  ripe = (r.gate).ripe;
+  notices = notices;
+}
 
 -- the number of the origin state of the computation under way, if one is
 abbrev pub IsOriginNumber : State → Option ℕ → Type 0

@@ -30,7 +30,7 @@ lists_of d = record { routers = d.routers; links = d.links; prefixes = d.prefixe
 
 -- the network of what was read
 abbrev pub network_read : Parts → Network
-network_read parts = network_of (min no_router (length parts.names)) parts.links parts.owners
+network_read parts = network_of (min no_router (length parts.names)) parts.links parts.attachments
 
 -- what was read of a text, up to the first fault of a line
 pub record IsRead (text : Text) (parts : Parts) (stop : Option Located) : Type 0 where

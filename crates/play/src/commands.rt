@@ -10,6 +10,7 @@ ghost use Rattle.play.specs.Commands.{IsDone, IsRefused, IsStepDone, IsStepRefus
 use crate::dispatch::{Dispatcher, print_replies};
 use crate::fault::{Cause, Fault};
 use crate::host::Host;
+use crate::options::Options;
 use crate::report::{print_report, print_state};
 use control::{TurnGate, one_step, settle};
 use fabric::{Fabric, Naming, Refusal, Step};
@@ -21,8 +22,7 @@ use std::io::Write;
 use std::sync::Wait;
 use tracer::trace;
 
-/// Does the commands in order, up to the first that is refused; so many threads settle the network.
-/// Their steps make a run of lawful steps.
+/// Does the commands in order, up to the first that is refused. Their steps make a run of lawful steps.
 pub fn do_commands<B, H, W>(
     rt: &H,
     alloc: Global,
@@ -30,7 +30,7 @@ pub fn do_commands<B, H, W>(
     dispatcher: &mut Dispatcher<B>,
     directory: &Directory,
     commands: &[Command],
-    threads: u8,
+    options: Options,
     out: &mut W,
 ) -> (Fabric<B>, Result<(), Fault>)
 where
@@ -43,7 +43,7 @@ where
     let mut fabric = fabric;
     for (position, &command) in commands.iter().enumerate() {
         let (next, done) = do_command(
-            rt, alloc, fabric, dispatcher, directory, command, threads, out,
+            rt, alloc, fabric, dispatcher, directory, command, options, out,
         );
         fabric = next;
         match done {
@@ -69,7 +69,7 @@ pub fn do_command<B, H, W>(
     dispatcher: &mut Dispatcher<B>,
     directory: &Directory,
     command: Command,
-    threads: u8,
+    options: Options,
     out: &mut W,
 ) -> (Fabric<B>, Result<(), Cause>)
 where
@@ -86,11 +86,11 @@ where
         }
         Command::Try(step) => (try_step(rt, alloc, fabric, step, out), Ok(())),
         Command::Settle => {
-            let (fabric, done) = settle(rt, alloc, fabric, threads.max(1), &Unwatched);
+            let (fabric, done) = settle(rt, alloc, fabric, options.threads.max(1), &Unwatched);
             (fabric, caused(done))
         }
         Command::State { router, prefix } => {
-            let done = print_state(&fabric, directory, router, prefix, out);
+            let done = print_state(&fabric, directory, router, prefix, options.explain, out);
             (fabric, caused(done))
         }
         Command::Table { router } => {

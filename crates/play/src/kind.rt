@@ -77,9 +77,13 @@ fn refusal_kind(refusal: Refusal) -> Kind {
         Refusal::NothingRipe => Kind::NothingRipe,
         Refusal::JournalFull => Kind::JournalFull,
         Refusal::NoMemory => Kind::NoMemory,
+        Refusal::Busy => Kind::Busy,
         Refusal::Stale => Kind::Stale,
         Refusal::NoReaderPlace => Kind::NoReaderPlace,
+        Refusal::UnknownPrefix => Kind::UnknownPrefix,
+        Refusal::NotAttached => Kind::NotAttached,
         Refusal::NoImage => Kind::NoImage,
+        Refusal::WrongTicket => Kind::WrongTicket,
     }
 }
 

@@ -52,10 +52,10 @@ fn plan_of(alloc: Global, reading: Reading) -> Result<Plan, Fault>
     let Script {
         names,
         links,
-        owners,
+        attachments,
         commands,
     } = script;
-    let network = Network::new(names.count(), links, owners)?;
+    let network = Network::new(names.count(), links, attachments)?;
     if let Some(at) = fault {
         return Err(Fault::from(at));
     }

@@ -13,6 +13,7 @@ use crate::dispatch::{Dispatcher, ports_of};
 use crate::fault::{Cause, Fault};
 use crate::host::Host;
 use crate::keep::keep;
+use crate::options::Options;
 use crate::plan::{Plan, read_plan};
 use crate::read::read_text;
 use crate::replay::replay;
@@ -118,8 +119,15 @@ where
             threads,
             workers,
             journal: _,
-            explain: _,
-        } => run(rt, alloc, scenario, threads, workers, out, kept),
+            explain,
+        } => {
+            let options = Options {
+                threads,
+                workers,
+                explain,
+            };
+            run(rt, alloc, scenario, options, out, kept)
+        }
         Words::Replay {
             file: _,
             journal: _,
@@ -132,8 +140,8 @@ where
         Words::Shell {
             file: _,
             journal: _,
-            explain: _,
-        } => shell(rt, alloc, scenario, journal, out, err, kept),
+            explain,
+        } => shell(rt, alloc, scenario, journal, explain, out, err, kept),
     }
 }
 
@@ -151,7 +159,7 @@ fn check<R: Read + Drop, W: Write>(alloc: Global, scenario: R, out: &mut W) -> R
     } = read_plan(alloc, text.as_str())?;
     let routers = network.routers();
     let links = network.links().len();
-    let prefixes = network.owners().len();
+    let prefixes = network.prefixes();
     let commands = commands.len();
     let _ = writeln!(
         out,
@@ -166,8 +174,7 @@ fn run<H, R, W>(
     rt: &H,
     alloc: Global,
     scenario: R,
-    threads: u8,
-    workers: u8,
+    options: Options,
     out: &mut W,
     kept: &mut Vec<u8>,
 ) -> Result<End, Fault>
@@ -182,7 +189,7 @@ where
     let text = read_text(alloc, scenario)?;
     let plan = read_plan(alloc, text.as_str())?;
     let unnamed = Unnamed::many(alloc, usize::from(plan.network.routers()))?;
-    run_plan::<Brand, H, W>(rt, alloc, plan, unnamed, threads, workers, out, kept)?;
+    run_plan::<Brand, H, W>(rt, alloc, plan, unnamed, options, out, kept)?;
     Ok(End::Done)
 }
 
@@ -192,8 +199,7 @@ fn run_plan<B, H, W>(
     alloc: Global,
     plan: Plan,
     unnamed: Vec<Unnamed>,
-    threads: u8,
-    workers: u8,
+    options: Options,
     out: &mut W,
     kept: &mut Vec<u8>,
 ) -> Result<(), Fault>
@@ -212,10 +218,10 @@ where
         directory,
         commands,
     } = plan;
-    let workers = workers.max(1).min(16);
+    let workers = options.workers.max(1).min(16);
     let (fabric, readers) = Fabric::<B>::open(rt, alloc, network, unnamed, workers)?;
     let (fabric, ended) = run_commands(
-        rt, alloc, fabric, readers, &directory, &commands, threads, out, kept,
+        rt, alloc, fabric, readers, &directory, &commands, options, out, kept,
     );
     fabric.close(rt);
     ended
@@ -229,7 +235,7 @@ fn run_commands<B, H, W>(
     readers: Vec<Vec<ImageReader<B>>>,
     directory: &Directory,
     commands: &[Command],
-    threads: u8,
+    options: Options,
     out: &mut W,
     kept: &mut Vec<u8>,
 ) -> (Fabric<B>, Result<(), Fault>)
@@ -254,7 +260,7 @@ where
         &mut dispatcher,
         directory,
         commands,
-        threads,
+        options,
         out,
     );
     // No worker is left running, whatever became of the commands.

@@ -4,6 +4,7 @@ ghost use Rattle.std.specs.Prelude.{◌≡◌, ◌<◌, Err, IsOk, IfSome, OnOk,
 ghost use Rattle.play.specs.Commands.{unknown_router};
 ghost use Rattle.play.specs.Report.{link_line as line_of_link, router_line as line_of_router, IsMachineLine, IsOriginNumber, Prints, PrintsMachine};
 
+use crate::reasons::print_reasons;
 use dual_machine::{Machine, Mode};
 use fabric::{Fabric, Naming, Refusal};
 use ipv4_prefix::Prefix;
@@ -13,14 +14,16 @@ use router_core::Router;
 use script::{Directory, LinkLine, MachineLine, RouterLine};
 use std::io;
 use std::io::Write;
+use world::World;
 
-/// Prints what a router's machine for a prefix is at, on a line. Refused with `UnknownRouter`. A write
-/// that fails is lost.
+/// Prints what a router's machine for a prefix is at, on a line, and why, where more is to be told.
+/// Refused with `UnknownRouter`. A write that fails is lost.
 pub fn print_state<B: Naming, W: Write>(
     fabric: &Fabric<B>,
     directory: &Directory,
     router: u16,
     prefix: Prefix,
+    explain: bool,
     out: &mut W,
 ) -> Result<(), Refusal>
     ensures cause { MatchOption (unknown_router fabric.now router) (IsOk result) (λ e. result ≡ Err e) }
@@ -30,7 +33,11 @@ pub fn print_state<B: Naming, W: Write>(
     let found = routers
         .get(usize::from(router))
         .ok_or(Refusal::UnknownRouter)?;
+    let again = prefix;
     let _ = print_machine(directory, router, found, prefix, out);
+    if explain {
+        let _ = print_reasons(directory, router, found, again, out);
+    }
     Ok(())
 }
 
@@ -45,7 +52,7 @@ pub fn print_report<B: Naming, W: Write>(
 {
     let world = fabric.world();
     print_links(directory, world.links(), out)?;
-    print_routers(directory, world.routers(), out)
+    print_routers(directory, world, out)
 }
 
 // Prints each link. A network has fewer than 65535.
@@ -60,12 +67,13 @@ fn print_links<W: Write>(directory: &Directory, links: &Links, out: &mut W) -> i
 }
 
 // Prints each router, with its machines. A network has fewer than 65535 routers.
-fn print_routers<W: Write>(directory: &Directory, routers: &[Router], out: &mut W) -> io::Result<()>
+fn print_routers<W: Write>(directory: &Directory, world: &World, out: &mut W) -> io::Result<()>
     ensures { OnOk result (Prints (W.contents out.old) (W.contents out.new)) }
 {
-    let count = u16::try_from(routers.len()).unwrap_or(u16::MAX);
+    let count = u16::try_from(world.routers().len()).unwrap_or(u16::MAX);
     for number in 0..count {
-        print_router(directory, number, &routers[usize::from(number)], out)?;
+        let notices = world.notices(number);
+        print_router(directory, number, world.router(number), notices, out)?;
     }
     Ok(())
 }
@@ -75,11 +83,16 @@ fn print_router<W: Write>(
     directory: &Directory,
     number: u16,
     router: &Router,
+    notices: usize,
     out: &mut W,
 ) -> io::Result<()>
     ensures { OnOk result (Prints (W.contents out.old) (W.contents out.new)) }
 {
-    writeln!(out, "{}", directory.router(router_line(number, router)))?;
+    writeln!(
+        out,
+        "{}",
+        directory.router(router_line(number, router, notices))
+    )?;
     for (prefix, _) in router.table().rows() {
         print_machine(directory, number, router, prefix, out)?;
     }
@@ -120,15 +133,16 @@ fn link_line(links: &Links, link: u16) -> LinkLine
     }
 }
 
-// What is told of a router.
-fn router_line(number: u16, router: &Router) -> RouterLine
-    ensures { result ≡ line_of_router number router.now }
+// What is told of a router that has yet to take so many notices of its attachments.
+fn router_line(number: u16, router: &Router, notices: usize) -> RouterLine
+    ensures { result ≡ line_of_router number router.now notices }
 {
     RouterLine {
         router: number,
         generation: router.generation(),
         held: router.held(),
         ripe: router.ripe(),
+        notices,
     }
 }
 

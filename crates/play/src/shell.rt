@@ -12,6 +12,7 @@ use crate::dispatch::{Dispatcher, ports_of};
 use crate::fault::{Cause, Fault};
 use crate::host::Host;
 use crate::keep::keep;
+use crate::options::Options;
 use crate::plan::{Plan, read_plan};
 use crate::program::{End, refuse};
 use crate::read::{read_failure, read_text};
@@ -30,6 +31,7 @@ pub fn shell<H, R, J, W, E>(
     alloc: Global,
     scenario: R,
     input: J,
+    explain: bool,
     out: &mut W,
     err: &mut E,
     kept: &mut Vec<u8>,
@@ -47,7 +49,7 @@ where
     let text = read_text(alloc, scenario)?;
     let plan = read_plan(alloc, text.as_str())?;
     let unnamed = Unnamed::many(alloc, usize::from(plan.network.routers()))?;
-    open_shell::<Brand, H, J, W, E>(rt, alloc, plan, unnamed, input, out, err, kept)?;
+    open_shell::<Brand, H, J, W, E>(rt, alloc, plan, unnamed, input, explain, out, err, kept)?;
     Ok(End::Done)
 }
 
@@ -58,6 +60,7 @@ fn open_shell<B, H, J, W, E>(
     plan: Plan,
     unnamed: Vec<Unnamed>,
     input: J,
+    explain: bool,
     out: &mut W,
     err: &mut E,
     kept: &mut Vec<u8>,
@@ -81,7 +84,7 @@ where
     } = plan;
     let (fabric, readers) = Fabric::<B>::open(rt, alloc, network, unnamed, 1)?;
     let (fabric, ended) = run_lines(
-        rt, alloc, fabric, readers, &directory, input, out, err, kept,
+        rt, alloc, fabric, readers, &directory, input, explain, out, err, kept,
     );
     fabric.close(rt);
     ended
@@ -96,6 +99,7 @@ fn run_lines<B, H, J, W, E>(
     readers: Vec<Vec<ImageReader<B>>>,
     directory: &Directory,
     input: J,
+    explain: bool,
     out: &mut W,
     err: &mut E,
     kept: &mut Vec<u8>,
@@ -123,6 +127,7 @@ where
         &mut dispatcher,
         directory,
         input,
+        explain,
         out,
         err,
     );
@@ -149,6 +154,7 @@ fn do_lines<B, H, J, W, E>(
     dispatcher: &mut Dispatcher<B>,
     directory: &Directory,
     input: J,
+    explain: bool,
     out: &mut W,
     err: &mut E,
 ) -> (Fabric<B>, Result<(), Fault>)
@@ -176,6 +182,7 @@ where
                     dispatcher,
                     directory,
                     line.as_str(),
+                    explain,
                     out,
                     err,
                 );
@@ -196,6 +203,7 @@ fn do_line<B, H, W, E>(
     dispatcher: &mut Dispatcher<B>,
     directory: &Directory,
     line: &str,
+    explain: bool,
     out: &mut W,
     err: &mut E,
 ) -> Fabric<B>
@@ -210,25 +218,40 @@ where
         return fabric;
     }
     let network = fabric.network();
-    match read_command(directory.names(), network.links(), network.owners(), line) {
+    match read_command(
+        directory.names(),
+        network.links(),
+        network.attachments(),
+        line,
+    ) {
         Ok(command) => {
+            let options = Options {
+                threads: 1,
+                workers: 1,
+                explain,
+            };
             let (fabric, done) = do_command(
-                rt, alloc, fabric, dispatcher, directory, command, 1, out,
+                rt, alloc, fabric, dispatcher, directory, command, options, out,
             );
             if let Err(cause) = done {
-                tell(cause, out, err);
+                tell(cause, explain, out, err);
             }
             fabric
         }
         Err(fault) => {
-            tell(Cause::Lines(fault), out, err);
+            tell(Cause::Lines(fault), explain, out, err);
             fabric
         }
     }
 }
 
-// Tells of a command that was not done, after all that was printed before.
-fn tell<W: Write, E: Write>(cause: Cause, out: &mut W, err: &mut E) {
+// Tells of a command that was not done, after all that was printed before; and when that comes, and
+// what to do, where more is to be told.
+fn tell<W: Write, E: Write>(cause: Cause, explain: bool, out: &mut W, err: &mut E) {
     let _ = out.flush();
-    let _ = refuse(Fault::from(cause), err);
+    let fault = Fault::from(cause);
+    let _ = refuse(fault, err);
+    if explain {
+        let _ = write!(err, "{}", fault.kind().page().brief());
+    }
 }

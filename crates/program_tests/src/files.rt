@@ -85,7 +85,7 @@ fn journal_cannot_be_read(rt: HostRuntime) {
     tells(&rt, &got, "dualnet: 47 Unreadable\n");
     let got = played(&rt, alloc, &REPLAY, SCENARIO, BROKEN);
     tells(&rt, &got, "dualnet: 47 Unreadable\n");
-    let bytes = b"dualnet journal 1\nend\n\xff\n".as_slice();
+    let bytes = b"dualnet journal 2\nend\n\xff\n".as_slice();
     let got = played(&rt, alloc, &REPLAY, SCENARIO, bytes);
     tells(&rt, &got, "dualnet: 48 BadJournal\n");
 }
@@ -94,7 +94,7 @@ fn journal_cannot_be_read(rt: HostRuntime) {
 #[test]
 fn journal_without_its_last_line_feed(rt: HostRuntime) {
     let journal =
-        b"dualnet journal 1\nend\na gen 0 held 0 ripe 0\na 0.0.0.0/0 passive RD 0 FD 0 local";
+        b"dualnet journal 2\nend\na gen 0 held 0 ripe 0 attach 0\na 0.0.0.0/0 passive RD 1 FD 1 local";
     let got = played(&rt, rt.alloc(), &REPLAY, SCENARIO, journal.as_slice());
     assert_eq!(rt; got.out.as_slice(), b"replay agrees: 0 steps\n".as_slice());
     assert_eq!(rt; got.status, 0);

@@ -47,11 +47,19 @@ fn push_links(text: &mut String, count: u16) -> Result<(), AllocError> {
     text.push_str("]\n")
 }
 
-fn push_prefixes(text: &mut String, count: u16) -> Result<(), AllocError> {
+// So many attachments of so many prefixes in turn, each time to another router, and at another cost.
+fn push_attachments(text: &mut String, count: u16, prefixes: u16) -> Result<(), AllocError> {
+    let prefixes = prefixes.max(1);
     text.push_str("prefixes = [")?;
-    for prefix in 0..count {
-        let owner = prefix % 256;
-        write!(text, "\"10.{owner}.{}.0/24 r{owner}\",", prefix / 256)?;
+    for attachment in 0..count {
+        let (round, prefix) = (attachment / prefixes, attachment % prefixes);
+        let router = prefix.wrapping_add(round) % 256;
+        let (block, part) = (prefix % 256, prefix / 256);
+        write!(
+            text,
+            "\"10.{block}.{part}.0/24 r{router} {}\",",
+            attachment + 1
+        )?;
     }
     text.push_str("]\n")
 }
@@ -84,21 +92,44 @@ fn push_tables(text: &mut String, count: u16) -> Result<(), AllocError> {
     Ok(())
 }
 
-// A network of so many routers, links and prefixes, and the beginning of its script.
-fn network(rt: &impl Abort, alloc: Global, routers: u16, links: u16, prefixes: u16) -> String {
+// How many routers, links, attachments and prefixes a network has.
+#[derive(Clone, Copy)]
+struct Counts {
+    routers: u16,
+    links: u16,
+    attachments: u16,
+    prefixes: u16,
+}
+
+const ONE: Counts = Counts {
+    routers: 1,
+    links: 0,
+    attachments: 0,
+    prefixes: 0,
+};
+
+// As much as a network can have.
+const MOST: Counts = Counts {
+    routers: 256,
+    links: 1024,
+    attachments: 16384,
+    prefixes: 4096,
+};
+
+// A network of so many, and the beginning of its script.
+fn network(rt: &impl Abort, alloc: Global, counts: Counts) -> String {
     let mut text = String::new(alloc);
-    push_routers(&mut text, routers).expect(rt, "memory");
-    push_links(&mut text, links).expect(rt, "memory");
-    push_prefixes(&mut text, prefixes).expect(rt, "memory");
+    push_routers(&mut text, counts.routers).expect(rt, "memory");
+    push_links(&mut text, counts.links).expect(rt, "memory");
+    push_attachments(&mut text, counts.attachments, counts.prefixes).expect(rt, "memory");
     text.push_str("script = [").expect(rt, "memory");
     text
 }
 
-// As many routers, links and prefixes as a network can have: all links come up, and each router
-// publishes and releases a message.
+// In the largest network all links come up, and each router publishes and releases a message.
 #[test]
 fn largest_network(rt: HostRuntime) {
-    let mut text = network(&rt, rt.alloc(), 256, 1024, 4096);
+    let mut text = network(&rt, rt.alloc(), MOST);
     push_ups(&mut text, 1024).expect(&rt, "memory");
     push_publications(&mut text, 256).expect(&rt, "memory");
     text.push_str("]\n").expect(&rt, "memory");
@@ -109,12 +140,29 @@ fn largest_network(rt: HostRuntime) {
 
 #[test]
 fn too_large_networks(rt: HostRuntime) {
-    for (routers, links, prefixes, fault) in [
-        (257, 0, 0, "dualnet: 24 BadRouters\n"),
-        (256, 1025, 0, "dualnet: 26 TooManyLinks at links 1024\n"),
-        (256, 0, 4097, "dualnet: 27 BadOwner at prefixes 4096\n"),
+    let routers = Counts {
+        routers: 257,
+        ..MOST
+    };
+    let links = Counts {
+        links: 1025,
+        ..MOST
+    };
+    let prefixes = Counts {
+        prefixes: 4097,
+        ..MOST
+    };
+    let attachments = Counts {
+        attachments: 16385,
+        ..MOST
+    };
+    for (counts, fault) in [
+        (routers, "dualnet: 24 BadRouters\n"),
+        (links, "dualnet: 26 TooManyLinks at links 1024\n"),
+        (prefixes, "dualnet: 27 BadOwner at prefixes 4096\n"),
+        (attachments, "dualnet: 27 BadOwner at prefixes 16384\n"),
     ] {
-        let mut text = network(&rt, rt.alloc(), routers, links, prefixes);
+        let mut text = network(&rt, rt.alloc(), counts);
         text.push_str("]\n").expect(&rt, "memory");
         tells(&rt, &asked(&rt, rt.alloc(), &CHECK, text.as_bytes()), fault);
     }
@@ -122,7 +170,7 @@ fn too_large_networks(rt: HostRuntime) {
 
 #[test]
 fn longest_script(rt: HostRuntime) {
-    let mut text = network(&rt, rt.alloc(), 1, 0, 0);
+    let mut text = network(&rt, rt.alloc(), ONE);
     push_tables(&mut text, 10_000).expect(&rt, "memory");
     text.push_str("]\n").expect(&rt, "memory");
     let got = asked(&rt, rt.alloc(), &RUN, text.as_bytes());
@@ -132,7 +180,7 @@ fn longest_script(rt: HostRuntime) {
 
 #[test]
 fn too_long_script(rt: HostRuntime) {
-    let mut text = network(&rt, rt.alloc(), 1, 0, 0);
+    let mut text = network(&rt, rt.alloc(), ONE);
     push_tables(&mut text, 10_001).expect(&rt, "memory");
     text.push_str("]\n").expect(&rt, "memory");
     tells(

@@ -49,9 +49,10 @@ fn router(rt: HostRuntime) {
         generation: u64::MAX,
         held: 3,
         ripe: 2,
+        notices: 70_000,
     };
     let directory = directory(&rt, rt.alloc());
-    let want = "b gen 18446744073709551615 held 3 ripe 2";
+    let want = "b gen 18446744073709551615 held 3 ripe 2 attach 70000";
     is_written(&rt, rt.alloc(), &directory.router(line), want);
 }
 

@@ -5,12 +5,15 @@ use ipv4_prefix::PrefixFault;
 use link_fifo::LinkRefusal;
 use metric::{BadCost, Cost, Distance};
 use network_model::{NoMemory, Refusal};
+use play::{Fault, refuse};
 use publication::{NoImage, OpenFault};
 use std::alloc::Global;
 use std::fmt::Display;
 use std::process::Abort;
 use tracer::TraceFault;
 use worker_pool::PoolFault;
+
+const FULL: &str = "dualnet: 19 JournalFull\ndualnet: 1000000 steps were done\n";
 
 pub fn is_written<T: Display>(rt: &impl Abort, alloc: Global, value: &T, want: &str) {
     let text = value.to_string(alloc).expect(rt, "memory");
@@ -23,7 +26,7 @@ fn costs_and_distances(rt: HostRuntime) {
     is_written(&rt, rt.alloc(), &most, "65535");
     is_written(&rt, rt.alloc(), &BadCost, "5 BadCost");
     is_written(&rt, rt.alloc(), &Distance::INF, "inf");
-    is_written(&rt, rt.alloc(), &Distance::new(16711425), "16711425");
+    is_written(&rt, rt.alloc(), &Distance::new(16776960), "16776960");
 }
 
 #[test]
@@ -61,12 +64,25 @@ fn refusals(rt: HostRuntime) {
         (Refusal::NothingDue, "17 NothingDue"),
         (Refusal::NothingRipe, "18 NothingRipe"),
         (Refusal::JournalFull, "19 JournalFull"),
+        (Refusal::Busy, "21 Busy"),
         (Refusal::Stale, "22 Stale"),
         (Refusal::NoReaderPlace, "23 NoReaderPlace"),
+        (Refusal::UnknownPrefix, "28 UnknownPrefix"),
+        (Refusal::NotAttached, "29 NotAttached"),
         (Refusal::NoImage, "34 NoImage"),
+        (Refusal::WrongTicket, "35 WrongTicket"),
     ] {
         is_written(&rt, rt.alloc(), &refusal, text);
     }
+}
+
+// What is told where a run ends since its journal is full.
+#[test]
+fn full_journal(rt: HostRuntime) {
+    let mut told = Vec::new(rt.alloc());
+    let status = refuse(Fault::from(Refusal::JournalFull), &mut told);
+    assert_eq!(rt; status, 2);
+    assert_eq!(rt; told.as_slice(), FULL.as_bytes());
 }
 
 #[test]

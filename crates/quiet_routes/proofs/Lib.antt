@@ -1,7 +1,7 @@
 -- The lemmas of the law about networks at rest.
 pub mod Worlds
-pub mod Owners
 pub mod Still
+pub mod Homes
 pub mod Ways
 pub mod Routes
 pub mod Example

@@ -1,19 +1,22 @@
 -- At a quiet world each router has its best row.
-use Rattle.std.specs.Prelude.{◌≡◌, ◌⊎◌, ℕ, ◌<◌, ◌≤◌, Bool, true, false, if◌then◌else◌, List, [], map, Option, Some, None, is_some, slice_get, option_map, option_and_then, unwrap_or}
+use Rattle.std.specs.Prelude.{◌≡◌, ◌⊎◌, ℕ, ◌+◌, ◌<◌, ◌≤◌, true, ◌==◌, if◌then◌else◌, List, [], map, length, Option, Some, None, is_some, slice_get, option_map, option_and_then, unwrap_or}
+use Rattle.std.specs.List.{range_with_len}
 use Rattle.std.specs.Option.{option_map_or}
 use Rattle.std.specs.FinMap.{find as row_of}
-use Rattle.std.proofs.Common.{refl, sym, ap, subst, ◌∙◌, inl, inr, arith}
-use Rattle.std.proofs.lemmas.Bool.{false≢true, both_ways}
+use Rattle.std.proofs.Common.{refl, sym, ap, ◌∙◌, inl, inr, arith}
+use Rattle.std.proofs.lemmas.Bool.{false≢true, eq-eqb}
+use Rattle.std.proofs.lemmas.List.{length-map}
 use Rattle.ipv4_prefix.specs.Prefix.{Prefix, prefix_cmp}
-use Rattle.network_model.specs.Machine.{Machine, opening_machine}
+use Rattle.network_model.specs.Machine.{Machine, opening_machine, degree}
 use Rattle.network_model.specs.declared.route.Entry.TheVariants.{Local, Via, Unreachable}
 use Rattle.network_model.specs.declared.network.End.{End}
 use Rattle.network_model.specs.declared.network.End.TheVariants.{A, B}
-use Rattle.network_model.specs.World.{Link, Router, World, Network, side, machine_of, neighbours, opening}
+use Rattle.network_model.specs.World.{Link, Router, World, Network, side, machine_of, neighbours, costs_of, opening_router_of, opening}
 use Rattle.network_model.specs.declared.network.Place.{Place}
 use Rattle.network_model.specs.declared.network.Port.{Port}
 use Rattle.network_model.specs.Step.{entry_of, session_at}
-use Rattle.network_model.specs.Forwarding.{IsWalk as IsWay, walk_cost as way_cost, is_quiet}
+use Rattle.network_model.specs.Forwarding.{IsWalkHome, walk_cost as way_cost, is_quiet}
+use Rattle.network_model.proofs.ListLaws.{None_not_Some}
 use Rattle.loop_freedom.specs.Network.{LinkEnd, State, Topology, IsWalk as NetWalk}
 use Rattle.network_model.specs.Network.{IsNetwork}
 use Rattle.packet_loops.specs.Packets.{published_entry}
@@ -23,17 +26,18 @@ use Rattle.packet_loops.proofs.Places.{lay, laid, spot, topology}
 use Rattle.packet_loops.proofs.Opened.{first_fd, opening_view}
 use Rattle.packet_loops.proofs.View.{on_link, view}
 use Rattle.packet_loops.proofs.Runs.{Reached, reached}
+use Rattle.packet_loops.proofs.WorldLaws.{SameShape, Runs-shape}
 use Rattle.network_model.specs.Run.{history}
 use Rattle.least_cost.specs.Quiet.{LeadsHome, Follows, IsRouted as IsNetRouted, IsOptimal, walk_end, walk_cost}
 use Rattle.least_cost.proofs.AtQuiet.{optimal_at_quiet}
-use Rattle.quiet_routes.specs.Routes.{Owns, IsRouted, IsChain, IsUnheard, HasBestRow, QuietRoutes}
+use Rattle.quiet_routes.specs.Routes.{IsRouted, IsUnheard, HasBestRow, QuietRoutes}
 use Rattle.quiet_routes.proofs.Worlds.{CheapLink, Good, good}
-use Rattle.quiet_routes.proofs.Owners.{run_local, owner_local, local_owner, one_owner}
+use Rattle.quiet_routes.proofs.Homes.{home_is, home_cost}
 use Rattle.quiet_routes.proofs.Still.{row_now, quiet_now}
 use Rattle.loop_freedom.proofs.Walks.{walk_map}
 use Rattle.quiet_routes.proofs.Ways.{IsUp, place_for, to_walk, to_cost, from_walk, from_cost, from_chain}
 
-module _ (n : Network) (V : IsNetwork n) (p : Prefix) (w : World) (rs : List Router) (R : Reached n (wired n V) p w rs) (G : Good p w) (quiet : is_quiet w ≡ true) (o : ℕ) (owner : Owns n p o) where
+module _ (n : Network) (V : IsNetwork n) (p : Prefix) (w : World) (rs : List Router) (R : Reached n (wired n V) p w rs) (G : Good p w) (quiet : is_quiet w ≡ true) (count : length w.attachments ≡ length w.routers) where
   -- the network is wired
   abbrev N : IsWired n
   N = wired n V
@@ -69,27 +73,14 @@ module _ (n : Network) (V : IsNetwork n) (p : Prefix) (w : World) (rs : List Rou
 
   -- the view has a least way, or none, at each router
   optimal : (i : ℕ) → i < n.routers → IsOptimal t n.routers s i
-  optimal = optimal_at_quiet t (view n p (opening n) (first_fd n N p)) s (opening_view n N p) R.run n.routers (few_routers n V) placed (λ e v. costs_fit (lay n e)) (quiet_now n N p w rs R G quiet)
-
-  -- ---- owners
-
-  -- a machine is local where it was so at the start
-  local_is : (i : ℕ) → (s.machine i).local ≡ ((view n p (opening n) (first_fd n N p)).machine i).local
-  local_is i = run_local t (view n p (opening n) (first_fd n N p)) s R.run i
-
-  -- the machine of the owner is local
-  at_home : (s.machine o).local ≡ true
-  at_home = local_is o ∙ owner_local n N p (first_fd n N p) o owner
-
-  -- a machine that is local is the owner's
-  home : (i : ℕ) → (s.machine i).local ≡ true → i ≡ o
-  home i h = one_owner n N p (first_fd n N p) i o (local_owner n N p (first_fd n N p) i (sym (local_is i) ∙ h)) owner
+  optimal = optimal_at_quiet t (view n p (opening n) (first_fd n N p)) s (opening_view n N p) R.run n.routers (few_routers n V) placed (λ e v. costs_fit (lay n e))
+      (λ i c lt is. (home_cost n N p w rs R G quiet count i c is).small) (quiet_now n N p w rs R G quiet)
 
   -- ---- rows
 
   -- router i has not heard of the prefix, or its published row is the entry of its machine
   data Shows (i : ℕ) : Type 0 where
-    Silent : (s.machine i).local ≡ false → IsUnheard w p i → Shows i
+    Silent : (s.machine i).successor ≡ None → IsUnheard w p i → Shows i
     Row : (ports : List Port) → published_entry w i p ≡ Some (entry_of ports (s.machine i)) → Shows i
 
   -- so it is at each router
@@ -98,9 +89,9 @@ module _ (n : Network) (V : IsNetwork n) (p : Prefix) (w : World) (rs : List Rou
     where
       by_row : (r : Router) → slice_get w.routers i ≡ Some r → (x : Option Machine) → row_of prefix_cmp p r.machines ≡ x → Shows i
       by_row r at None is =
-          let machine : s.machine i ≡ opening_machine false (neighbours r.ports) =
-          ap (λ y. option_map_or (λ (z : Router). machine_of z p) y (opening_machine false [])) at ∙ ap (λ y. unwrap_or y (opening_machine false (neighbours r.ports))) is in
-          Silent (ap (λ (m : Machine). m.local) machine) (record {
+          let machine : s.machine i ≡ opening_machine None (neighbours r.ports) =
+          ap (λ y. option_map_or (λ (z : Router). machine_of z p) y (opening_machine None [])) at ∙ ap (λ y. unwrap_or y (opening_machine None (neighbours r.ports))) is in
+          Silent (ap (λ (m : Machine). m.successor) machine) (record {
             no_machine = ap (option_and_then (λ (y : Router). row_of prefix_cmp p y.machines)) at ∙ is;
             not_published = ap (option_and_then (λ (y : Router). row_of prefix_cmp p (y.table).published)) at ∙ row_now n N p w rs R G quiet i r at ∙ ap (option_map (λ m. entry_of r.ports m)) is;
             not_chosen = ap (option_and_then (λ (y : Router). row_of prefix_cmp p (y.table).control)) at
@@ -110,7 +101,7 @@ module _ (n : Network) (V : IsNetwork n) (p : Prefix) (w : World) (rs : List Rou
           })
       by_row r at (Some m) is =
           let machine : s.machine i ≡ m =
-          ap (λ y. option_map_or (λ (z : Router). machine_of z p) y (opening_machine false [])) at ∙ ap (λ y. unwrap_or y (opening_machine false (neighbours r.ports))) is in
+          ap (λ y. option_map_or (λ (z : Router). machine_of z p) y (opening_machine None [])) at ∙ ap (λ y. unwrap_or y (opening_machine None (neighbours r.ports))) is in
           Row r.ports (
           ap (option_and_then (λ (y : Router). row_of prefix_cmp p (y.table).published)) at
           ∙ row_now n N p w rs R G quiet i r at
@@ -119,86 +110,97 @@ module _ (n : Network) (V : IsNetwork n) (p : Prefix) (w : World) (rs : List Rou
           )
 
       by_router : (x : Option Router) → slice_get w.routers i ≡ x → Shows i
-      by_router None at = Silent (ap (λ y. (option_map_or (λ (z : Router). machine_of z p) y (opening_machine false [])).local) at) (record {
+      by_router None at = Silent (ap (λ y. (option_map_or (λ (z : Router). machine_of z p) y (opening_machine None [])).successor) at) (record {
         no_machine = ap (option_and_then (λ (y : Router). row_of prefix_cmp p y.machines)) at;
         not_published = ap (option_and_then (λ (y : Router). row_of prefix_cmp p (y.table).published)) at;
         not_chosen = ap (option_and_then (λ (y : Router). row_of prefix_cmp p (y.table).control)) at;
       })
       by_router (Some r) at = by_row r at (row_of prefix_cmp p r.machines) refl
 
-  -- the entry of a local machine is Local
-  entry_local : (ports : List Port) (m : Machine) → m.local ≡ true → entry_of ports m ≡ Local
-  entry_local ports m h = ap (λ b. if b then Local else option_map_or (λ q. Via q (session_at ports q)) m.successor Unreachable) h
+  -- the entry of a machine whose successor is its attachment is Local
+  entry_local : (ports : List Port) (m : Machine) → m.successor ≡ Some (degree m) → entry_of ports m ≡ Local
+  entry_local ports m h =
+      ap (λ x. option_map_or (λ q. if q == degree m then Local else Via q (session_at ports q)) x Unreachable) h
+      ∙ ap (λ b. if b then Local else Via (degree m) (session_at ports (degree m))) (eq-eqb (degree m) (degree m) refl)
 
-  -- the entry of a machine that is not local and has no successor is Unreachable
-  entry_lost : (ports : List Port) (m : Machine) → m.local ≡ false → m.successor ≡ None → entry_of ports m ≡ Unreachable
-  entry_lost ports m h none =
-      ap (λ b. if b then Local else option_map_or (λ q. Via q (session_at ports q)) m.successor Unreachable) h
-      ∙ ap (λ x. option_map_or (λ q. Via q (session_at ports q)) x Unreachable) none
+  -- the entry of a machine without a successor is Unreachable
+  entry_lost : (ports : List Port) (m : Machine) → m.successor ≡ None → entry_of ports m ≡ Unreachable
+  entry_lost ports m none = ap (λ x. option_map_or (λ q. if q == degree m then Local else Via q (session_at ports q)) x Unreachable) none
 
-  -- the row of the owner is Local
-  local_row : published_entry w o p ≡ Some Local
-  local_row = by_shows (shows o)
+  -- the row of a router whose successor is its attachment is Local
+  local_row : (o : ℕ) → (s.machine o).successor ≡ Some (degree (s.machine o)) → published_entry w o p ≡ Some Local
+  local_row o h = by_shows (shows o)
     where
       by_shows : Shows o → published_entry w o p ≡ Some Local
-      by_shows (Silent h u) = absurd (both_ways (s.machine o).local h at_home)
-      by_shows (Row ports row) = row ∙ ap Some (entry_local ports (s.machine o) at_home)
+      by_shows (Silent none u) = absurd (None_not_Some (sym none ∙ h))
+      by_shows (Row ports row) = row ∙ ap Some (entry_local ports (s.machine o) h)
 
   -- ---- the two cases
 
-  -- a walk of the world to the owner is one of the view to a local machine
-  leads_home : (i : ℕ) (ps : List Place) → IsWay w i ps o → LeadsHome t s i (map (spot n) ps)
-  leads_home i ps h =
-      let W = to_walk n N p w rs R i ps o h in
-      record { live = W.0; home = ap (λ (j : ℕ). (s.machine j).local) W.1 ∙ at_home }
+  -- a walk of the world to an attached router is one of the view
+  leads_home : (i : ℕ) (ps : List Place) (o cost : ℕ) → IsWalkHome w p i ps o cost → LeadsHome t s i (map (spot n) ps)
+  leads_home i ps o cost h =
+      let W = to_walk n N p w rs R i ps o h.walk in
+      record { live = W.0; cost = h.attachment; home = ap (λ (j : ℕ). (s.machine j).attachment) W.1 ∙ home_is n N p w rs R G quiet count o ∙ h.attached }
 
   -- a router that has a least way in the view is routed in the world
-  routed : (i : ℕ) → IsNetRouted t n.routers s i → IsRouted w p i o
+  routed : (i : ℕ) → IsNetRouted t n.routers s i → IsRouted w p i
+  unfolding leads_home
   routed i Q =
-      let ends : walk_end t i Q.chain ≡ o = home (walk_end t i Q.chain) Q.reaches in
+      let o : ℕ = walk_end t i Q.chain in
       let up : NetWalk t (IsUp n N p w rs R) i Q.chain = walk_map t (Follows s) (IsUp n N p w rs R) (λ e f. f.sends.linked) i Q.chain Q.follows in
-      let cost : way_cost w (map (place_for n N p w rs R) Q.chain) ≡ (s.machine i).rd = from_cost n N p w rs R i Q.chain up ∙ Q.cost_is in
+      let cost : way_cost w (map (place_for n N p w rs R) Q.chain) ≡ walk_cost s Q.chain = from_cost n N p w rs R i Q.chain up in
       record {
-        local_at_owner = λ e. ap (λ (j : ℕ). published_entry w j p) e ∙ local_row;
+        home = o;
         chain = map (place_for n N p w rs R) Q.chain;
-        leads = subst (λ (j : ℕ). IsChain w p i (map (place_for n N p w rs R) Q.chain) j) ends
-            (from_chain n N p w rs R i Q.chain Q.follows (ap (λ (j : ℕ). published_entry w j p) ends ∙ local_row));
-        cost_is = cost;
+        leads = from_chain n N p w rs R i Q.chain Q.follows (local_row o Q.reaches.chosen);
         least = record {
-          walk = subst (λ (j : ℕ). IsWay w i (map (place_for n N p w rs R) Q.chain) j) ends (from_walk n N p w rs R i Q.chain up);
-          least = λ others h. (
-              let under : (s.machine i).rd ≤ walk_cost s (map (spot n) others) = Q.least_cost (map (spot n) others) (leads_home i others h) in
-              let same : walk_cost s (map (spot n) others) ≡ way_cost w others = to_cost n N p w rs R i others o h in
-              omega (arith, cost, under, same)
+          walk = record {
+            walk = from_walk n N p w rs R i Q.chain up;
+            attachment = Q.cost;
+            attached = sym (home_is n N p w rs R G quiet count o) ∙ Q.reaches.attached;
+            cost_is = (let e = Q.cost_is in omega (arith, cost, e));
+          };
+          least = λ others end other_cost h. (
+              let under : (s.machine i).rd ≤ walk_cost s (map (spot n) others) + h.attachment = Q.least_cost (map (spot n) others) (leads_home i others end other_cost h) in
+              let same : walk_cost s (map (spot n) others) ≡ way_cost w others = to_cost n N p w rs R i others end h.walk in
+              let all : way_cost w others + h.attachment ≡ other_cost = h.cost_is in
+              omega (arith, under, same, all)
               );
         };
       }
 
-  -- where no walk of the world leads to the owner, none of the view does
-  no_way : (i : ℕ) → ((ps : List Place) → IsWay w i ps o → ⊥) → (es : List LinkEnd) → LeadsHome t s i es → ⊥
+  -- where no walk of the world leads to an attached router, none of the view does
+  no_way : (i : ℕ) → ((ps : List Place) (o cost : ℕ) → IsWalkHome w p i ps o cost → ⊥) → (es : List LinkEnd) → LeadsHome t s i es → ⊥
   no_way i none es h =
-      none (map (place_for n N p w rs R) es) (subst (λ (j : ℕ). IsWay w i (map (place_for n N p w rs R) es) j) (home (walk_end t i es) h.home) (from_walk n N p w rs R i es h.live))
+      none (map (place_for n N p w rs R) es) (walk_end t i es) (way_cost w (map (place_for n N p w rs R) es) + h.cost) (record {
+        walk = from_walk n N p w rs R i es h.live;
+        attachment = h.cost;
+        attached = sym (home_is n N p w rs R G quiet count (walk_end t i es)) ∙ h.home;
+        cost_is = refl;
+      })
 
-  -- without a walk to the owner and a successor, the row is Unreachable or the prefix unheard
-  lost : (i : ℕ) → ((ps : List Place) → IsWay w i ps o → ⊥) → (s.machine i).successor ≡ None → (published_entry w i p ≡ Some Unreachable) ⊎ IsUnheard w p i
-  lost i none gone = by_shows (shows i)
+  -- without a successor, the row is Unreachable or the prefix unheard
+  lost : (i : ℕ) → (s.machine i).successor ≡ None → (published_entry w i p ≡ Some Unreachable) ⊎ IsUnheard w p i
+  lost i gone = by_shows (shows i)
     where
-      by_local : (ports : List Port) → published_entry w i p ≡ Some (entry_of ports (s.machine i)) → (b : Bool) → (s.machine i).local ≡ b → published_entry w i p ≡ Some Unreachable
-      by_local ports row true h = absurd (none [] (home i h))
-      by_local ports row false h = row ∙ ap Some (entry_lost ports (s.machine i) h gone)
-
       by_shows : Shows i → (published_entry w i p ≡ Some Unreachable) ⊎ IsUnheard w p i
-      by_shows (Silent h u) = inr u
-      by_shows (Row ports row) = inl (by_local ports row (s.machine i).local refl)
+      by_shows (Silent none u) = inr u
+      by_shows (Row ports row) = inl (row ∙ ap Some (entry_lost ports (s.machine i) gone))
 
   -- each router of a quiet world has its best row
-  pub best : (i : ℕ) → i < n.routers → HasBestRow w p i o
+  pub best : (i : ℕ) → i < n.routers → HasBestRow w p i
   best i lt = record {
-    connected = λ ps h. routed i ((optimal i lt).connected (map (spot n) ps) (leads_home i ps h));
-    cut_off = λ none. lost i none ((optimal i lt).disconnected (no_way i none)).no_successor;
+    connected = λ ps o cost h. routed i ((optimal i lt).connected (map (spot n) ps) (leads_home i ps o cost h));
+    cut_off = λ none. lost i ((optimal i lt).disconnected (no_way i none)).no_successor;
   }
 
--- in every quiet world to which a run leads, each router has its best row for each prefix that is owned
+-- in every quiet world to which a run leads, each router has its best row for each prefix
 pub quiet_routes : QuietRoutes
-quiet_routes n ss w V r quiet p o owner i lt =
-    best n V p w (history n ss).published (reached n (wired n V) p ss w r) (good p n ss w V r) quiet o owner i lt
+quiet_routes n ss w V r quiet p i lt = best n V p w (history n ss).published (reached n (wired n V) p ss w r) (good p n ss w V r) quiet count i lt
+  where
+    shape : SameShape (opening n) w
+    shape = Runs-shape (opening n) ss w r
+
+    count : length w.attachments ≡ length w.routers
+    count = shape.attachments ∙ length-map (range_with_len 0 n.routers) (λ j. record { costs = costs_of n j; notices = [] }) ∙ sym (length-map (range_with_len 0 n.routers) (opening_router_of n)) ∙ sym shape.routers

@@ -3,22 +3,22 @@ use Rattle.std.specs.Prelude.{◌≡◌, ℕ, zero, suc, Bool, true, false, cond
 use Rattle.std.specs.List.{list_all}
 use Rattle.std.specs.Option.{option_map_or}
 use Rattle.std.specs.FinMap.{find as row_of}
-use Rattle.std.proofs.Common.{refl, sym, ap, subst, ◌∙◌}
+use Rattle.std.proofs.Common.{refl, sym, ap, ◌∙◌}
 use Rattle.std.proofs.Math.Seq.{take-nil, drop-nil}
 use Rattle.std.proofs.lemmas.Bool.{and_parts, false≢true}
 use Rattle.ipv4_prefix.specs.Prefix.{Prefix, prefix_cmp, prefix_eq}
-use Rattle.network_model.specs.Machine.{Machine, Computation, opening_machine}
+use Rattle.network_model.specs.Machine.{Machine, Computation, opening_machine, port_successor}
 use Rattle.network_model.specs.declared.item.Held.{Held}
 use Rattle.network_model.specs.declared.route.Entry.{Entry}
 use Rattle.network_model.specs.declared.network.End.{End}
 use Rattle.network_model.specs.declared.network.End.TheVariants.{A, B}
-use Rattle.network_model.specs.World.{Link, Router, World, Network, side, machine_of, neighbours}
+use Rattle.network_model.specs.World.{Link, Router, Attachments, World, Network, side, machine_of, neighbours}
 use Rattle.network_model.specs.declared.network.Place.{Place}
 use Rattle.network_model.specs.Step.{entry_eq, has_row, changed_rows, entry_of, session_at}
-use Rattle.network_model.specs.Forwarding.{is_empty, is_quiet_router, is_quiet_link, is_quiet}
+use Rattle.network_model.specs.Forwarding.{is_empty, is_quiet_router, is_quiet_link, has_no_notice, is_quiet}
 use Rattle.network_model.proofs.EntryLaws.{entry_from_eq}
 use Rattle.network_model.proofs.ListLaws.{Some_injective, None_not_Some}
-use Rattle.machine_laws.specs.Laws.{IsSound, is_active}
+use Rattle.machine_laws.specs.Laws.{is_active}
 use Rattle.loop_freedom.specs.Network.{State, next_hop_of, at_port}
 use Rattle.packet_loops.proofs.Wiring.{IsWired}
 use Rattle.network_model.proofs.RowLaws.{find-map}
@@ -78,13 +78,21 @@ module _ (n : Network) (N : IsWired n) (p : Prefix) (w : World) (rs : List Route
   abbrev s : State
   s = view n p w R.published_fd
 
+  -- a quiet world is so in its routers and links, and in its notices
+  routers_and_links : ((list_all is_quiet_router w.routers && list_all is_quiet_link w.links) ≡ true) × (list_all has_no_notice w.attachments ≡ true)
+  routers_and_links = and_parts (list_all is_quiet_router w.routers && list_all is_quiet_link w.links) (list_all has_no_notice w.attachments) quiet
+
   -- every router of a quiet world is quiet
   router_quiet : (i : ℕ) (r : Router) → slice_get w.routers i ≡ Some r → is_quiet_router r ≡ true
-  router_quiet i r at = all_at is_quiet_router w.routers (and_parts (list_all is_quiet_router w.routers) (list_all is_quiet_link w.links) quiet).0 i r at
+  router_quiet i r at = all_at is_quiet_router w.routers (and_parts (list_all is_quiet_router w.routers) (list_all is_quiet_link w.links) routers_and_links.0).0 i r at
 
   -- every link of a quiet world is quiet
   link_quiet : (l : ℕ) (k : Link) → slice_get w.links l ≡ Some k → is_quiet_link k ≡ true
-  link_quiet l k at = all_at is_quiet_link w.links (and_parts (list_all is_quiet_router w.routers) (list_all is_quiet_link w.links) quiet).1 l k at
+  link_quiet l k at = all_at is_quiet_link w.links (and_parts (list_all is_quiet_router w.routers) (list_all is_quiet_link w.links) routers_and_links.0).1 l k at
+
+  -- no router of a quiet world has a notice to take
+  pub no_notice : (i : ℕ) (a : Attachments) → slice_get w.attachments i ≡ Some a → a.notices ≡ []
+  no_notice i a at = empty_is a.notices (all_at has_no_notice w.attachments routers_and_links.1 i a at)
 
   -- every router of a quiet world is still
   pub still : (i : ℕ) (r : Router) → slice_get w.routers i ≡ Some r → Still p r
@@ -100,7 +108,7 @@ module _ (n : Network) (N : IsWired n) (p : Prefix) (w : World) (rs : List Route
       not_active None h = refl
       not_active (Some c) h = absurd (false≢true h)
 
-      passive : (o : Option Machine) → row_of prefix_cmp p r.machines ≡ o → is_active (unwrap_or o (opening_machine false (neighbours r.ports))) ≡ false
+      passive : (o : Option Machine) → row_of prefix_cmp p r.machines ≡ o → is_active (unwrap_or o (opening_machine None (neighbours r.ports))) ≡ false
       passive None is = refl
       passive (Some m) is = not_active m.computation (row_passes p (λ x. is_none (x.1).computation) r.machines first.0 m is)
 
@@ -142,7 +150,7 @@ module _ (n : Network) (N : IsWired n) (p : Prefix) (w : World) (rs : List Route
   passive_now : (i : ℕ) → is_active (s.machine i) ≡ false
   passive_now i = by_router (slice_get w.routers i) refl
     where
-      by_router : (o : Option Router) → slice_get w.routers i ≡ o → is_active (option_map_or (λ r. machine_of r p) o (opening_machine false [])) ≡ false
+      by_router : (o : Option Router) → slice_get w.routers i ≡ o → is_active (option_map_or (λ r. machine_of r p) o (opening_machine None [])) ≡ false
       by_router None at = refl
       by_router (Some r) at = (still i r at).passive
 
@@ -155,20 +163,19 @@ module _ (n : Network) (N : IsWired n) (p : Prefix) (w : World) (rs : List Route
       by_router (Some r) at = ap (kept p q) (none r (still i r at).held_none)
 
   -- every published next hop is the successor, in the session seen there
-  published_now : (i : ℕ) → s.published i ≡ next_hop_of (λ q. s.seen (at_port i q)) (s.machine i).successor
+  published_now : (i : ℕ) → s.published i ≡ next_hop_of (λ q. s.seen (at_port i q)) (port_successor (s.machine i))
   published_now i = by_router (slice_get w.routers i) refl
     where
-      by_router : (o : Option Router) → slice_get w.routers i ≡ o → s.published i ≡ next_hop_of (λ q. s.seen (at_port i q)) (s.machine i).successor
+      by_router : (o : Option Router) → slice_get w.routers i ≡ o → s.published i ≡ next_hop_of (λ q. s.seen (at_port i q)) (port_successor (s.machine i))
       by_router None at =
           ap (λ o. option_map_or (next_hop_at p) o None) at
-          ∙ sym (ap (λ o. next_hop_of (λ q. s.seen (at_port i q)) (option_map_or (λ r. machine_of r p) o (opening_machine false [])).successor) at)
+          ∙ sym (ap (λ o. next_hop_of (λ q. s.seen (at_port i q)) (port_successor (option_map_or (λ r. machine_of r p) o (opening_machine None [])))) at)
       by_router (Some r) at =
-          let was : s.machine i ≡ machine_of r p = on_router-there (λ y. machine_of y p) (opening_machine false []) w.routers i r at in
-          let sound : IsSound (machine_of r p) = subst IsSound was (R.inv.sound i) in
+          let was : s.machine i ≡ machine_of r p = on_router-there (λ y. machine_of y p) (opening_machine None []) w.routers i r at in
           on_router-there (next_hop_at p) None w.routers i r at
           ∙ ap (option_and_then next_hop) (still i r at).row_is
-          ∙ control_hop p r (λ q. s.seen (at_port i q)) (R.kept.routers_kept i r at).control_is sound.local_successor (λ q. on_router-there (λ y. session_at y.ports q) 0 w.routers i r at)
-          ∙ ap (λ (m : Machine). next_hop_of (λ q. s.seen (at_port i q)) m.successor) (sym was)
+          ∙ control_hop p r (λ q. s.seen (at_port i q)) (R.kept.routers_kept i r at).control_is (λ q. on_router-there (λ y. session_at y.ports q) 0 w.routers i r at)
+          ∙ ap (λ (m : Machine). next_hop_of (λ q. s.seen (at_port i q)) (port_successor m)) (sym was)
 
   -- the view of a quiet world is quiet
   pub quiet_now : IsQuiet (topology n N) n.routers s

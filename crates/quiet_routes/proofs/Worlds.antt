@@ -5,21 +5,20 @@ use Rattle.std.specs.FinMap.Entries.{find-put}
 use Rattle.std.proofs.Common.{refl, sym, ap, subst, ◌∙◌}
 use Rattle.std.proofs.lemmas.Option.{slice_get-map}
 use Rattle.ipv4_prefix.specs.Prefix.{Prefix, prefix_cmp, prefix_eq}
-use Rattle.network_model.specs.Machine.{Machine, Reaction, reaction, changed_at}
+use Rattle.network_model.specs.Machine.{Machine, Reaction, reaction, changed_at, event_at_home, opening_machine}
 use Rattle.network_model.specs.declared.machine.Event.{Event}
-use Rattle.network_model.specs.declared.item.Message.{Message}
 use Rattle.network_model.specs.declared.item.Item.{Item}
 use Rattle.network_model.specs.declared.item.Held.{Held}
 use Rattle.network_model.specs.declared.route.Entry.{Entry}
 use Rattle.network_model.specs.declared.network.End.{End}
 use Rattle.network_model.specs.declared.network.End.TheVariants.{A, B}
-use Rattle.network_model.specs.World.{Side, Link, Router, World, Network, other, place_at, machine_of, opening_link, owned, rows_of, opening_router_of, opening}
+use Rattle.network_model.specs.World.{Side, Link, Router, World, Network, other, place_at, neighbours, machine_of, opening_link, costs_of, opening_router_of, opening}
 use Rattle.network_model.specs.declared.network.Place.{Place}
 use Rattle.network_model.specs.declared.network.Port.{Port}
 use Rattle.network_model.specs.declared.network.LinkSpec.{LinkSpec}
 use Rattle.network_model.specs.declared.step.Step.{Step}
-use Rattle.network_model.specs.declared.step.Step.TheVariants.{LinkUp, LinkDown, SetCost, Deliver, Publish, Release}
-use Rattle.network_model.specs.Step.{Lawful, next, changed_side, with_item, link_come_up, link_gone_down, with_cost, with_front_taken, with_message, entry_of, reactions, router_noticing, router_told, router_accepting, router_publishing, router_releasing, changed_router, changed_link, front_at, release_at, with_delivered, with_released}
+use Rattle.network_model.specs.declared.step.Step.TheVariants.{LinkUp, LinkDown, SetCost, Deliver, Publish, Release, Attach, Detach}
+use Rattle.network_model.specs.Step.{Lawful, next, changed_side, with_item, link_come_up, link_gone_down, with_cost, with_front_taken, with_message, entry_of, reactions, router_noticing, router_meeting, router_at_home, router_accepting, router_publishing, router_releasing, changed_router, changed_link, changed_attachments, with_notice_taken, front_at, notice_at, release_at, with_delivered, with_noticed, with_released}
 use Rattle.network_model.specs.Run.{Runs}
 use Rattle.network_model.proofs.ListLaws.{option_map_or-ind, Some_injective, None_not_Some, listed_within, changed_keeps}
 use Rattle.ipv4_prefix.proofs.PrefixOrder.{prefix_cmp_total}
@@ -90,18 +89,18 @@ module _ (p : Prefix) where
       let was : NoRow p r.machines = no_row-from_map (λ (m : Machine). reaction m e) r.machines (no_row-from_map (λ (x : Reaction). x.machine) all none) in
       (no_row-map (λ (m : Machine). entry_of ports m) (map (λ x. (x.0, (x.1).machine)) all) none, (h was).1)
 
-  -- a router that takes a message still has no row of an unheard prefix
-  heard_told : (q : ℕ) (m : Message) (r : Router) → HeardRows p r → HeardRows p (router_told q m r)
-  heard_told q m r h none =
-      let x : Reaction = reaction (machine_of r m.prefix) (Event.Message q m.kind m.value) in
-      (no_row-map (λ (y : Machine). entry_of r.ports y) (put prefix_cmp m.prefix x.machine r.machines) none, (h (no_row-from_put m.prefix x.machine r.machines none)).1)
+  -- a router where the machine of one prefix meets an event still has no row of an unheard prefix
+  heard_meeting : (k : Prefix) (e : Event) (r : Router) → HeardRows p r → HeardRows p (router_meeting k e r)
+  heard_meeting k e r h none =
+      let x : Reaction = reaction (machine_of r k) e in
+      (no_row-map (λ (y : Machine). entry_of r.ports y) (put prefix_cmp k x.machine r.machines) none, (h (no_row-from_put k x.machine r.machines none)).1)
 
   -- a router that takes an item still has no row of an unheard prefix
   heard_accepted : (q : ℕ) (item : Item) (r : Router) → HeardRows p r → HeardRows p (router_accepting q item r)
   heard_accepted q (Item.Up session cost) r h = heard_noticed (Event.Up q cost) (changed_at q (λ x. record { up = true; session = session; cost = cost }) r.ports) r h
   heard_accepted q (Item.Down session) r h = heard_noticed (Event.Down q) (changed_at q (λ x. record x { up = false; session = session }) r.ports) r h
   heard_accepted q (Item.Cost session cost) r h = heard_noticed (Event.Cost q cost) (changed_at q (λ x. record x { session = session; cost = cost }) r.ports) r h
-  heard_accepted q (Item.Message m) r h = heard_told q m r h
+  heard_accepted q (Item.Message m) r h = heard_meeting m.prefix (Event.Message q m.kind m.value) r h
 
   -- a router that publishes still has no row of an unheard prefix
   heard_published : (r : Router) → HeardRows p r → HeardRows p (router_publishing r)
@@ -131,11 +130,15 @@ module _ (p : Prefix) where
   good_step w (LinkUp l) c g = good_links w l link_come_up (λ k h. h) g
   good_step w (LinkDown l) c g = good_links w l link_gone_down (λ k h. h) g
   good_step w (SetCost i q cost) c g = good_link w i q (with_cost cost) (λ e k h. cheap_side e _ k (c.5).small (c.5).small h) g
-  good_step w (Deliver i q) c g = option_map_or-ind Good (with_delivered i q w) (front_at w i q) w g
+  good_step w (Deliver i q) c g = option_map_or-ind Good (with_delivered i q w) (front_at w i q) _
+      (option_map_or-ind Good (with_noticed i w) (notice_at w i q) w g
+      (λ x at. good_router (changed_attachments i with_notice_taken w) i (router_at_home x) (λ r h. heard_meeting x.prefix (event_at_home x.cost) r h) (record { cheap = g.cheap; heard = g.heard })))
       (λ item at. good_router (changed_link i q with_front_taken w) i (router_accepting q item) (heard_accepted q item) (good_link w i q with_front_taken (λ e k h. cheap_side e _ k h.0 h.1 h) g))
   good_step w (Publish i) c g = good_router w i router_publishing heard_published g
   good_step w (Release i) c g = option_map_or-ind Good (with_released i w) (release_at w i) w g
       (λ h at. good_router (changed_link i h.port (with_message h) w) i router_releasing (λ r x. x) (good_link w i h.port (with_message h) (cheap_message h) g))
+  good_step w (Attach i k cost) c g = record { cheap = g.cheap; heard = g.heard }
+  good_step w (Detach i k) c g = record { cheap = g.cheap; heard = g.heard }
 
   -- the opening of a network is good
   good_opening : (n : Network) → IsNetwork n → Good (opening n)
@@ -148,17 +151,11 @@ module _ (p : Prefix) where
       cheap : Each CheapLink (opening n).links
       cheap l k at = cheap_spec l k (slice_get n.links l) refl (sym (slice_get-map opening_link n.links l) ∙ at)
 
-      no_row-other : {X Y : Type 0} (x : X) (y : Y) (ps : List Prefix) → NoRow p (rows_of x ps) → NoRow p (rows_of y ps)
-      no_row-other x y [] none = refl
-      no_row-other {X} {Y} x y (k ∷ ks) none = by_key (prefix_eq p k) (sym (find-put prefix_cmp prefix_cmp_total p k x (rows_of x ks)) ∙ none) (find-put prefix_cmp prefix_cmp_total p k y (rows_of y ks)) (no_row-other x y ks)
-        where
-          by_key : (b : Bool) → cond b (Some x) (row_of prefix_cmp p (rows_of x ks)) ≡ None → row_of prefix_cmp p (put prefix_cmp k y (rows_of y ks)) ≡ cond b (Some y) (row_of prefix_cmp p (rows_of y ks))
-              → (NoRow p (rows_of x ks) → NoRow p (rows_of y ks)) → NoRow p (rows_of y (k ∷ ks))
-          by_key true e f r = absurd (None_not_Some (sym e))
-          by_key false e f r = f ∙ r e
-
       heard_first : (i : ℕ) → HeardRows p (opening_router_of n i)
-      heard_first i none = let row = no_row-other _ Entry.Local (owned n i) none in (row, row)
+      heard_first i none =
+          let no_cost : NoRow p (costs_of n i) = no_row-from_map (λ c. opening_machine (Some c) (neighbours (opening_router_of n i).ports)) (costs_of n i) none in
+          let row : NoRow p (map (λ a. (a.0, Entry.Local)) (costs_of n i)) = no_row-map (λ c. Entry.Local) (costs_of n i) no_cost in
+          (row, row)
 
       heard : Each (HeardRows p) (opening n).routers
       heard i r at = let e = listed_within (opening_router_of n) n.routers i r at in subst (HeardRows p) e.1 (heard_first i)

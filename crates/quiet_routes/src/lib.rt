@@ -3,10 +3,11 @@
 
 ghost use Rattle.quiet_routes.specs.Routes.{QuietRoutes, SomeQuietRuns};
 
-/// Where a walk of up links leads from a router to the owner, its row for the prefix is Local (at
-/// the owner) or begins a chain of Via rows over up links in their present sessions to the owner;
-/// the chain's cost is the router's reported distance and is least. Where none leads there, the row
-/// is Unreachable or the prefix is unheard at that router.
+/// Where a walk of up links leads from a router to one that is attached to the prefix, its row for the
+/// prefix is Local (at an attached router) or begins a chain of Via rows over up links in their
+/// present sessions to a Local row; the chain's cost, that of the attachment included, is the router's
+/// reported distance and is least. Where none leads there, the row is Unreachable or the prefix is
+/// unheard at that router.
 pub fn quiet_routes()
     ensures { QuietRoutes }
 {}

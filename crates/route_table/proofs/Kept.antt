@@ -24,7 +24,7 @@ is_known p rows = ap is_some (find-map prefix_cmp (λ (r : Row). r.control) p ro
 pub length-put_known : (p : Prefix) (row : Row) (rows : List (Prefix × Row)) → is_sorted prefix_cmp rows ≡ true → IsSome (find prefix_cmp p (control_rows rows)) → length (put prefix_cmp p row rows) ≡ length rows
 length-put_known p row rows s known = length-put prefix_cmp prefix_cmp_total p row rows (to_T _ s) ∙ ap (λ b. cond b (length rows) (length rows + 1)) (sym (is_known p rows) ∙ known)
 
-pub length-put_at_most : (p : Prefix) (row : Row) (rows : List (Prefix × Row)) → is_sorted prefix_cmp rows ≡ true → length (put prefix_cmp p row rows) ≤ length rows + 1
+pub length-put_at_most : {X : Type 0} (p : Prefix) (row : X) (rows : List (Prefix × X)) → is_sorted prefix_cmp rows ≡ true → length (put prefix_cmp p row rows) ≤ length rows + 1
 length-put_at_most p row rows s =
     let is = length-put prefix_cmp prefix_cmp_total p row rows (to_T _ s) in
     elim (is_some (find prefix_cmp p rows)) as (λ b. length (put prefix_cmp p row rows) ≡ cond b (length rows) (length rows + 1) → length (put prefix_cmp p row rows) ≤ length rows + 1) [ true ↦ λ e. omega arith | false ↦ λ e. omega arith ] is

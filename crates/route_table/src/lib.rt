@@ -8,4 +8,5 @@ mod table;
 
 pub use iter::{ChangedRows, ControlRows, PublishedRows};
 pub use network_model::{Entry, NoMemory, Prefix};
+pub use prefix_map::PrefixMap;
 pub use table::RouteTable;

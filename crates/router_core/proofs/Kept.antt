@@ -1,5 +1,5 @@
 -- What every router keeps, whatever it takes, publishes or releases.
-use Rattle.std.specs.Prelude.{◌≡◌, ℕ, zero, suc, ◌<◌, ◌≤◌, Bool, true, false, cond, List, [], ◌∷◌, map, length, get_or, Some, unwrap_or}
+use Rattle.std.specs.Prelude.{◌≡◌, ℕ, zero, suc, ◌<◌, ◌≤◌, Bool, true, false, cond, if◌then◌else◌, List, [], ◌∷◌, map, length, get_or, Some, None, unwrap_or}
 use Rattle.std.specs.List.{AllByRecursion}
 use Rattle.std.specs.FinMap.{find as row_of, put, is_sorted}
 use Rattle.std.specs.FinMap.Entries.{by_order}
@@ -7,19 +7,21 @@ use Rattle.std.specs.declared.cmp.Ordering.{Ordering}
 use Rattle.std.specs.declared.cmp.Ordering.TheVariants.{Less, Equal, Greater}
 use Rattle.std.specs.Ordering.{eq_by_cmp}
 use Rattle.std.proofs.Common.{refl, sym, ap, ◌∙◌, arith}
+use Rattle.std.proofs.lemmas.Bool.{eq-eqb}
 use Rattle.ipv4_prefix.specs.Prefix.{Prefix, prefix_cmp}
 use Rattle.network_model.specs.declared.machine.Event.{Event}
-use Rattle.network_model.specs.declared.item.Message.{Message}
 use Rattle.network_model.specs.declared.network.Port.{Port}
+use Rattle.network_model.specs.declared.route.Entry.TheVariants.{Local, Via}
 use Rattle.network_model.specs.Machine.{Machine, reaction, opening_machine}
-use Rattle.network_model.specs.World.{Router, machine_of, neighbours, rows_of, opening_router}
-use Rattle.network_model.specs.Step.{chosen_rows, entry_of, reactions, router_noticing, router_told, router_publishing, router_releasing}
+use Rattle.network_model.specs.World.{Router, machine_of, neighbours, opening_router}
+use Rattle.network_model.specs.Step.{chosen_rows, entry_of, session_at, reactions, router_noticing, router_meeting, router_publishing, router_releasing}
 use Rattle.network_model.specs.Publication.{with_rows}
-use Rattle.network_model.proofs.RowLaws.{map-put, sorted-map, sorted-put, sorted-rows_of, map-rows_of}
+use Rattle.network_model.proofs.RowLaws.{map-put, sorted-map, sorted-put}
 use Rattle.router_core.specs.Parts.{HasPorts, IsKept, ups, port_ups, ups_after}
 use Rattle.router_core.proofs.Ports.{ups-reaction, ups-neighbours}
 use Rattle.router_core.proofs.ControlRows.{with_rows-rows_by}
 use Rattle.router_core.proofs.Meetings.{reacted, chosen}
+use Rattle.router_core.proofs.Opening.{opening_machines, local_rows}
 
 -- ---- each of a list
 
@@ -77,38 +79,46 @@ kept-noticing e ports r kept few moves = record {
   rows = refl;
 }
 
--- ---- a message
+-- ---- an event of one prefix
 
 machine_of-ports : (r : Router) (p : Prefix) → IsKept r → ups (machine_of r p).ports ≡ port_ups r.ports
-machine_of-ports r p kept = found_has (HasPorts r.ports) (λ m. ups m.ports ≡ port_ups r.ports) p r.machines (opening_machine false (neighbours r.ports)) (λ m h. h) kept.same_ports (ups-neighbours r.ports)
+machine_of-ports r p kept = found_has (HasPorts r.ports) (λ m. ups m.ports ≡ port_ups r.ports) p r.machines (opening_machine None (neighbours r.ports)) (λ m h. h) kept.same_ports (ups-neighbours r.ports)
 
-pub kept-told : (q : ℕ) (m : Message) (r : Router) → IsKept r → IsKept (router_told q m r)
-kept-told q m r kept = record {
+pub kept-meeting : (p : Prefix) (e : Event) (r : Router) → IsKept r → ups_after e (port_ups r.ports) ≡ port_ups r.ports → IsKept (router_meeting p e r)
+kept-meeting p e r kept still = record {
   few = kept.few;
-  sorted = sorted-put r.machines m.prefix _ kept.sorted;
-  same_ports = all-put (HasPorts r.ports) m.prefix _ r.machines (λ p. ups-reaction (machine_of r m.prefix) (Event.Message q m.kind m.value) ∙ machine_of-ports r m.prefix kept) kept.same_ports;
+  sorted = sorted-put r.machines p _ kept.sorted;
+  same_ports = all-put (HasPorts r.ports) p _ r.machines (λ q. ups-reaction (machine_of r p) e ∙ ap (ups_after e) (machine_of-ports r p kept) ∙ still) kept.same_ports;
   rows = refl;
 }
 
--- the rows that a message makes: that of its prefix is set
-pub control-told : (q : ℕ) (m : Message) (r : Router) → IsKept r
-    → put prefix_cmp m.prefix (entry_of r.ports (reaction (machine_of r m.prefix) (Event.Message q m.kind m.value)).machine) (r.table).control ≡ ((router_told q m r).table).control
-control-told q m r kept =
-    ap (put prefix_cmp m.prefix _) kept.rows
-    ∙ sym (map-put prefix_cmp (entry_of r.ports) m.prefix (reaction (machine_of r m.prefix) (Event.Message q m.kind m.value)).machine r.machines)
+-- the rows that it makes: that of its prefix is set
+pub control-meeting : (p : Prefix) (e : Event) (r : Router) → IsKept r → put prefix_cmp p (entry_of r.ports (reaction (machine_of r p) e).machine) (r.table).control ≡ ((router_meeting p e r).table).control
+control-meeting p e r kept =
+    ap (put prefix_cmp p _) kept.rows
+    ∙ sym (map-put prefix_cmp (entry_of r.ports) p (reaction (machine_of r p) e).machine r.machines)
 
 -- ---- the opening
 
-all-rows_of : {X : Type 0} (P : Prefix × X → Type 0) (x : X) (ps : List Prefix) → ((q : Prefix) → P (q, x)) → AllByRecursion P (rows_of x ps)
-all-rows_of P x [] each = tt
-all-rows_of P x (p ∷ ps) each = all-put P p x (rows_of x ps) each (all-rows_of P x ps each)
+-- machines that open with an attachment have the router's ports
+all-opening : (ports : List Port) (costs : List (Prefix × ℕ)) → AllByRecursion (HasPorts ports) (opening_machines ports costs)
+all-opening ports [] = tt
+all-opening ports (a ∷ rest) = (ups-neighbours ports, all-opening ports rest)
 
-pub kept-opening : (ports : List Port) (own : List Prefix) → length ports ≤ 32 → IsKept (opening_router ports own)
-kept-opening ports own few = record {
+-- and are local
+entries-opening : (ports : List Port) (costs : List (Prefix × ℕ)) → local_rows costs ≡ chosen_rows ports (opening_machines ports costs)
+entries-opening ports [] = refl
+entries-opening ports (a ∷ rest) = λ i. (a.0, local i) ∷ entries-opening ports rest i
+  where
+    local : Local ≡ entry_of ports (opening_machine (Some a.1) (neighbours ports))
+    local = sym (ap (λ b. if b then Local else Via (length (neighbours ports)) (session_at ports (length (neighbours ports)))) (eq-eqb (length (neighbours ports)) (length (neighbours ports)) refl))
+
+pub kept-opening : (ports : List Port) (costs : List (Prefix × ℕ)) → length ports ≤ 32 → is_sorted prefix_cmp costs ≡ true → IsKept (opening_router ports costs)
+kept-opening ports costs few sorted = record {
   few = few;
-  sorted = sorted-rows_of (opening_machine true (neighbours ports)) own;
-  same_ports = all-rows_of (HasPorts ports) (opening_machine true (neighbours ports)) own (λ q. ups-neighbours ports);
-  rows = sym (map-rows_of (entry_of ports) (opening_machine true (neighbours ports)) own);
+  sorted = sorted-map prefix_cmp (λ cost. opening_machine (Some cost) (neighbours ports)) costs ∙ sorted;
+  same_ports = all-opening ports costs;
+  rows = entries-opening ports costs;
 }
 
 -- ---- a publication, and a release

@@ -1,22 +1,21 @@
--- What a notice and a message make of the parts of a router.
+-- What a notice and an event of one prefix make of the parts of a router.
 use Rattle.std.specs.Prelude.{◌≡◌, ℕ, zero, suc, ◌+◌, ◌<◌, ◌≤◌, Bool, true, List, [], ◌∷◌, ◌++◌, map, length, take, drop, get_or, set, Some, None, option_map, is_some, IsSome, unwrap_or, count_by}
 use Rattle.std.specs.List.{AllByRecursion}
 use Rattle.std.specs.FinMap.{find as row_of, put, is_sorted}
-use Rattle.std.proofs.Common.{refl, sym, ap, ◌∙◌, arith}
+use Rattle.std.proofs.Common.{refl, sym, ap, subst, ◌∙◌, arith}
 use Rattle.std.proofs.lemmas.Cmp.{tied_itself}
 use Rattle.std.proofs.lemmas.List.Sums.{count_by-le-length}
 use Rattle.ipv4_prefix.specs.Prefix.{Prefix, prefix_cmp}
 use Rattle.network_model.specs.declared.machine.Event.{Event}
 use Rattle.network_model.specs.declared.machine.Neighbour.{Neighbour}
-use Rattle.network_model.specs.declared.item.Message.{Message}
 use Rattle.network_model.specs.declared.network.Port.{Port}
 use Rattle.network_model.specs.Machine.{Machine, reaction, changed_at}
 use Rattle.network_model.specs.World.{Table, Gate, Router, machine_of}
-use Rattle.network_model.specs.Step.{chosen_rows, entry_of, held_of, router_noticing, router_told}
+use Rattle.network_model.specs.Step.{chosen_rows, entry_of, held_of, router_noticing, router_meeting}
 use Rattle.network_model.specs.Publication.{with_rows}
 use Rattle.network_model.proofs.ListLaws.{changed_at_written, map-changed_at, changed_at-map}
 use Rattle.dual_machine.specs.State.{State}
-use Rattle.dual_machine.specs.Event.{IsTimely}
+use Rattle.dual_machine.specs.Event.{IsKnown, IsTimely}
 use Rattle.dual_machine.specs.Outbox.{most_sent}
 use Rattle.network_model.proofs.RowLaws.{sorted-map, find-map}
 use Rattle.route_table.proofs.Places.{find-at}
@@ -25,7 +24,7 @@ use Rattle.router_core.specs.Parts.{machines_of, router_of, HasPorts, IsKept, up
 use Rattle.router_core.specs.Router.{IsTimelyAt}
 use Rattle.router_core.proofs.Ports.{length-ups, up_at-ups}
 use Rattle.router_core.proofs.Meetings.{reacted, sent, chosen}
-use Rattle.router_core.proofs.Kept.{control-noticing, control-told}
+use Rattle.router_core.proofs.Kept.{control-noticing, control-meeting}
 
 -- ---- the machines of a router may meet the event
 
@@ -39,6 +38,11 @@ timely_over ns ports (Event.Message q kind value) same up = up_at-ups ns ports q
 timely_over ns ports (Event.Up q cost) same down = up_at-ups ns ports q same ∙ down
 timely_over ns ports (Event.Down q) same up = up_at-ups ns ports q same ∙ up
 timely_over ns ports (Event.Cost q cost) same up = up_at-ups ns ports q same ∙ up
+timely_over ns ports (Event.Attached cost) same tt = tt
+timely_over ns ports Event.Detached same tt = tt
+
+pub known_over : (ns : List Neighbour) (ports : List Port) (e : Event) → ups ns ≡ port_ups ports → IsKnown (length ports) e → IsKnown (length ns) e
+known_over ns ports e same known = subst (λ (n : ℕ). IsKnown n e) (sym (length-ups ns ports same)) known
 
 pub most_sent_over : (ns : List Neighbour) (ports : List Port) → ups ns ≡ port_ups ports → most_sent ns ≤ length ports + 1
 most_sent_over ns ports same =
@@ -80,15 +84,15 @@ noticing_parts e ports r machines table gate kept machines_are control published
       generation = r.generation;
     }
 
-pub told_parts : (q : ℕ) (m : Message) (r : Router) (machines : List (Prefix × State)) (state : Machine) (table : Table) (gate : Gate) → IsKept r
-    → state ≡ (reaction (machine_of r m.prefix) (Event.Message q m.kind m.value)).machine
-    → machines_of machines ≡ put prefix_cmp m.prefix state r.machines
-    → table.control ≡ put prefix_cmp m.prefix (entry_of r.ports state) (r.table).control → table.published ≡ (r.table).published
-    → gate.held ≡ (r.gate).held ++ map (held_of r.ports m.prefix) (reaction (machine_of r m.prefix) (Event.Message q m.kind m.value)).sends → gate.ripe ≡ (r.gate).ripe
-    → router_of r.ports machines table gate r.generation ≡ router_told q m r
-told_parts q m r machines state table gate kept state_is machines_are control published held ripe =
-    let all : machines_of machines ≡ (router_told q m r).machines = machines_are ∙ ap (λ x. put prefix_cmp m.prefix x r.machines) state_is in
-    let rows : table.control ≡ ((router_told q m r).table).control = control ∙ ap (λ x. put prefix_cmp m.prefix (entry_of r.ports x) (r.table).control) state_is ∙ control-told q m r kept in
+pub meeting_parts : (p : Prefix) (e : Event) (r : Router) (machines : List (Prefix × State)) (state : Machine) (table : Table) (gate : Gate) → IsKept r
+    → state ≡ (reaction (machine_of r p) e).machine
+    → machines_of machines ≡ put prefix_cmp p state r.machines
+    → table.control ≡ put prefix_cmp p (entry_of r.ports state) (r.table).control → table.published ≡ (r.table).published
+    → gate.held ≡ (r.gate).held ++ map (held_of r.ports p) (reaction (machine_of r p) e).sends → gate.ripe ≡ (r.gate).ripe
+    → router_of r.ports machines table gate r.generation ≡ router_meeting p e r
+meeting_parts p e r machines state table gate kept state_is machines_are control published held ripe =
+    let all : machines_of machines ≡ (router_meeting p e r).machines = machines_are ∙ ap (λ x. put prefix_cmp p x r.machines) state_is in
+    let rows : table.control ≡ ((router_meeting p e r).table).control = control ∙ ap (λ x. put prefix_cmp p (entry_of r.ports x) (r.table).control) state_is ∙ control-meeting p e r kept in
     λ i. record {
       ports = r.ports;
       machines = all i;
@@ -108,7 +112,7 @@ ups_kept f q ports was read same = ap port_ups (sym (changed_at_written f q port
 pub noticing_written : (e : Event) (f : Port → Port) (q : ℕ) (r : Router) (was : Port) → was ≡ get_or r.ports q was → router_noticing e (set r.ports q (f was)) r ≡ router_noticing e (changed_at q f r.ports) r
 noticing_written e f q r was read = ap (λ ports. router_noticing e ports r) (sym (changed_at_written f q r.ports was read))
 
--- ---- the machine of a message's prefix
+-- ---- the machine of one prefix
 
 pub machine_there : (p : Prefix) (ms : List (Prefix × State)) (s : State) (d : Machine) → row_of prefix_cmp p ms ≡ Some s → unwrap_or (row_of prefix_cmp p (machines_of ms)) d ≡ s.machine
 machine_there p ms s d there = ap (λ o. unwrap_or o d) (find-map prefix_cmp (λ x. x.machine) p ms ∙ ap (option_map (λ (x : State). x.machine)) there)

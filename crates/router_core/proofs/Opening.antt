@@ -1,12 +1,14 @@
--- A router that opens, one of its own prefixes after another, from the last to the first.
-use Rattle.std.specs.Prelude.{◌≡◌, ℕ, suc, ◌-◌, ◌<◌, ◌≤◌, true, List, [], ◌∷◌, map, drop, length, get_or}
+-- A router that opens, one of its attachments after another, from the last to the first.
+use Rattle.std.specs.Prelude.{◌≡◌, ℕ, suc, ◌-◌, ◌<◌, ◌≤◌, true, List, [], ◌∷◌, map, drop, length, get_or, Some}
 use Rattle.std.specs.FinMap.{put, is_sorted}
 use Rattle.std.proofs.Common.{refl, sym, ap, ◌∙◌, arith}
 use Rattle.std.proofs.Math.Seq.{drop-cons}
 use Rattle.metric.specs.Distance.{infinity}
 use Rattle.ipv4_prefix.specs.Prefix.{Prefix, prefix_cmp}
 use Rattle.network_model.specs.declared.network.Port.{Port}
-use Rattle.network_model.specs.Machine.{Machine}
+use Rattle.network_model.specs.declared.route.Entry.{Entry}
+use Rattle.network_model.specs.declared.route.Entry.TheVariants.{Local}
+use Rattle.network_model.specs.Machine.{Machine, opening_machine}
 use Rattle.network_model.specs.World.{neighbours, rows_of}
 use Rattle.dual_machine.specs.State.{State, opening_neighbours}
 use Rattle.network_model.proofs.RowLaws.{map-put, sorted-map}
@@ -17,11 +19,25 @@ pub neighbours-infos : (ports : List Port) → opening_neighbours (map (λ (p : 
 neighbours-infos [] = refl
 neighbours-infos (p ∷ ps) = ap (λ ns. record { up = p.up; cost = p.cost; reported = infinity } ∷ ns) (neighbours-infos ps)
 
--- one prefix more at the front
-pub rows_of-earlier : {X : Type 0} (x : X) (own : List Prefix) (i : ℕ) (p : Prefix) → 0 < i → i ≤ length own → p ≡ get_or own (i - 1) p → rows_of x (drop (i - 1) own) ≡ put prefix_cmp p x (rows_of x (drop i own))
-rows_of-earlier x own i p some within at =
+-- one attachment more at the front
+pub rows_of-earlier : {X : Type 0} (rows : List (Prefix × X)) (i : ℕ) (r : Prefix × X) → 0 < i → i ≤ length rows → r ≡ get_or rows (i - 1) r → rows_of (drop (i - 1) rows) ≡ put prefix_cmp r.0 r.1 (rows_of (drop i rows))
+rows_of-earlier rows i r some within at =
     let next : suc (i - 1) ≡ i = omega arith in
-    ap (rows_of x) (drop-cons own (i - 1) p (omega arith) ∙ ap (λ q. q ∷ drop (suc (i - 1)) own) (sym at) ∙ ap (λ n. p ∷ drop n own) next)
+    ap rows_of (drop-cons rows (i - 1) r (omega arith) ∙ ap (λ q. q ∷ drop (suc (i - 1)) rows) (sym at) ∙ ap (λ n. r ∷ drop n rows) next)
+
+-- the machines of a router that opens with these attachments, and its rows
+abbrev pub opening_machines : List Port → List (Prefix × ℕ) → List (Prefix × Machine)
+opening_machines ports costs = map (λ a. (a.0, opening_machine (Some a.1) (neighbours ports))) costs
+
+abbrev pub local_rows : List (Prefix × ℕ) → List (Prefix × Entry)
+local_rows costs = map (λ a. (a.0, Local)) costs
+
+pub opening_machines-put : (ports : List Port) (p : Prefix) (cost : ℕ) (costs : List (Prefix × ℕ))
+    → opening_machines ports (put prefix_cmp p cost costs) ≡ put prefix_cmp p (opening_machine (Some cost) (neighbours ports)) (opening_machines ports costs)
+opening_machines-put ports p cost costs = map-put prefix_cmp (λ (x : ℕ). opening_machine (Some x) (neighbours ports)) p cost costs
+
+pub local_rows-put : (p : Prefix) (cost : ℕ) (costs : List (Prefix × ℕ)) → local_rows (put prefix_cmp p cost costs) ≡ put prefix_cmp p Local (local_rows costs)
+local_rows-put p cost costs = map-put prefix_cmp (λ (x : ℕ). Local) p cost costs
 
 -- machines that are those of these prefixes are in order
 pub sorted-machines : (ms : List (Prefix × State)) (rows : List (Prefix × Machine)) → machines_of ms ≡ rows → is_sorted prefix_cmp rows ≡ true → is_sorted prefix_cmp ms ≡ true

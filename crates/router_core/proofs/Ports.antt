@@ -5,7 +5,7 @@ use Rattle.std.proofs.Common.{refl, sym, ap, ◌∙◌}
 use Rattle.std.proofs.lemmas.List.{length-map}
 use Rattle.std.proofs.lemmas.Option.{slice_get-map}
 use Rattle.network_model.specs.declared.machine.Event.{Event}
-use Rattle.network_model.specs.declared.machine.Event.TheVariants.{Message, Up, Down, Cost}
+use Rattle.network_model.specs.declared.machine.Event.TheVariants.{Message, Up, Down, Cost, Attached, Detached}
 use Rattle.network_model.specs.declared.machine.Neighbour.{Neighbour}
 use Rattle.network_model.specs.declared.network.Port.{Port}
 use Rattle.network_model.specs.Machine.{Machine, changed_at, records_after, reaction}
@@ -19,6 +19,8 @@ ups-records_after (Message q kind value) ns = map-changed_at _ (λ n. n.up) q ns
 ups-records_after (Up q cost) ns = sym (changed_at-map (λ (n : Neighbour). n.up) (λ n. record { up = true; cost = cost; reported = 4294967295 }) (λ _. true) (λ n. refl) q ns)
 ups-records_after (Down q) ns = sym (changed_at-map (λ (n : Neighbour). n.up) (λ n. record { up = false; cost = n.cost; reported = n.reported }) (λ _. false) (λ n. refl) q ns)
 ups-records_after (Cost q cost) ns = map-changed_at _ (λ n. n.up) q ns (λ n _. refl)
+ups-records_after (Attached cost) ns = refl
+ups-records_after Detached ns = refl
 
 pub ups-reaction : (m : Machine) (e : Event) → ups (reaction m e).machine.ports ≡ ups_after e (ups m.ports)
 ups-reaction m e = ap ups (reaction-keeps m e).ports ∙ ups-records_after e m.ports

@@ -16,9 +16,11 @@ CanTake ports q (Item.Down session) = is_port_up ports q ≡ true
 CanTake ports q (Item.Cost session cost) = is_port_up ports q ≡ true
 CanTake ports q (Item.Message message) = is_port_up ports q ≡ true
 
--- a router's port is as the event asks: down where its link comes up, else up
+-- a router's port is as the event asks: down where its link comes up, else up. An event of the attachment asks for nothing
 abbrev pub IsTimelyAt : List Port → Event → Type 0
 IsTimelyAt ports (Event.Message q kind value) = is_port_up ports q ≡ true
 IsTimelyAt ports (Event.Up q cost) = is_port_up ports q ≡ false
 IsTimelyAt ports (Event.Down q) = is_port_up ports q ≡ true
 IsTimelyAt ports (Event.Cost q cost) = is_port_up ports q ≡ true
+IsTimelyAt ports (Event.Attached cost) = Unit {0}
+IsTimelyAt ports Event.Detached = Unit {0}

@@ -4,9 +4,9 @@ ghost use Rattle.std.specs.Prelude.{◌≡◌, ◌≤◌, ◌<◌, ◌+◌, ◌*
 ghost use Rattle.std.specs.List.{flat_map};
 ghost use Rattle.std.specs.FinMap.{find as row_of, put};
 ghost use Rattle.ipv4_prefix.specs.Prefix.{prefix_cmp};
-ghost use Rattle.network_model.specs.Machine.{reaction};
+ghost use Rattle.network_model.specs.Machine.{reaction, degree};
 ghost use Rattle.network_model.specs.Step as step;
-ghost use Rattle.dual_machine.specs.Event.{port_of, IsTimely};
+ghost use Rattle.dual_machine.specs.Event.{IsKnown, IsTimely};
 ghost use Rattle.dual_machine.specs.Outbox.{most_sent};
 ghost use Rattle.network_model.specs.Publication.{with_rows};
 ghost use Rattle.router_core.specs.Effects.{HasRoomFor, KeepsRoom};
@@ -36,7 +36,7 @@ fn session_at(ports: &[Port], port: u8) -> u16
     }
 }
 
-// The entry that a machine chooses.
+// The entry that a machine chooses: local where its successor is the attachment.
 pub fn entry_of(ports: &[Port], machine: &Machine) -> Entry
     ensures { result ≡ step.entry_of ports.now machine.now.machine }
 {
@@ -95,7 +95,7 @@ impl Effects {
 
     /// A machine meets an event: its row is set, and what it sends is held.
     pub fn meet(&mut self, machine: &mut Machine, event: &Event, prefix: Prefix, ports: &[Port])
-        requires known { port_of event.now < length machine.old.machine.ports }
+        requires known { IsKnown (degree machine.old.machine) event.now }
         requires timely { IsTimely machine.old.machine.ports event.now }
         requires room { HasRoomFor (most_sent machine.old.machine.ports) prefix self.old }
         ensures machine { machine.new.machine ≡ (reaction machine.old.machine event.now).machine }
@@ -120,7 +120,7 @@ pub fn meet_all(
     effects: &mut Effects,
     each: usize,
 )
-    requires known { All (λ m. port_of event.now < length ((m.1).machine).ports) machines.old }
+    requires known { All (λ m. IsKnown (degree (m.1).machine) event.now) machines.old }
     requires timely { All (λ m. IsTimely ((m.1).machine).ports event.now) machines.old }
     requires each { All (λ m. most_sent ((m.1).machine).ports ≤ each) machines.old }
     requires sends { each ≤ effects.old.sends.capacity }

@@ -5,5 +5,5 @@
 mod effects;
 mod router;
 
-pub use network_model::{Entry, Held, Item, Message, NoMemory, Port, Prefix};
+pub use network_model::{Cost, Entry, Held, Item, Message, NoMemory, Port, Prefix};
 pub use router::Router;

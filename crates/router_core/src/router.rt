@@ -1,6 +1,6 @@
 //! The router.
 
-ghost use Rattle.std.specs.Prelude.{◌≡◌, ◌+◌, ◌^◌, ◌<◌, ◌≤◌, ◌↔◌, map, length, true, false, IsTrue, IfOk, IfSome, OnOk, OnErr, OnSome, IfNone, slice_set, is_none, option_map};
+ghost use Rattle.std.specs.Prelude.{◌≡◌, ◌+◌, ◌^◌, ◌<◌, ◌≤◌, ◌↔◌, map, length, true, Some, None, IsTrue, IfOk, IfSome, OnOk, OnErr, OnSome, IfNone, slice_set, is_none, option_map};
 ghost use Rattle.std.specs.List.{list_all};
 ghost use Rattle.std.specs.FinMap.{find as row_of, put, is_sorted};
 ghost use Rattle.std.specs.Option.{option_copied};
@@ -9,14 +9,14 @@ ghost use Rattle.network_model.specs.Machine.{opening_machine};
 ghost use Rattle.network_model.specs.Publication.{with_rows};
 ghost use Rattle.network_model.specs.World as world;
 ghost use Rattle.network_model.specs.Step as step;
-ghost use Rattle.dual_machine.specs.Event.{port_of};
+ghost use Rattle.dual_machine.specs.Event.{port_of, IsKnown};
 ghost use Rattle.route_table.specs.Place.{IsPlace};
 ghost use Rattle.router_core.specs.Parts.{ups_after, port_ups, IsKept};
-ghost use Rattle.router_core.specs.Router.{CanTake, IsTimelyAt, is_port_up};
+ghost use Rattle.router_core.specs.Router.{CanTake, IsTimelyAt};
 
 use crate::effects::{Effects, meet_all};
 use dual_machine::{Machine, Sends};
-use network_model::{Entry, Event, Held, Item, Message, NoMemory, Port, PortInfo, Prefix};
+use network_model::{Cost, Entry, Event, Held, Item, NoMemory, Port, PortInfo, Prefix};
 use release_gate::Gate;
 use route_table::RouteTable;
 use std::alloc::{AllocError, Global};
@@ -89,19 +89,24 @@ fn put_machine(
 }
 
 impl Router {
-    /// A router with these ports, at most 32, that owns these prefixes and has published them.
-    pub fn new(alloc: Global, ports: Vec<Port>, own: &[Prefix]) -> Result<Router, NoMemory>
+    /// A router with these ports, at most 32, that is attached to these prefixes at these costs and
+    /// has published them. Of a prefix that is named more than once the first cost counts.
+    pub fn new(
+        alloc: Global,
+        ports: Vec<Port>,
+        attachments: &[(Prefix, Cost)],
+    ) -> Result<Router, NoMemory>
         requires { length ports.items ≤ 32 }
-        ensures { IfOk result (λ r. r ≡ world.opening_router ports.items own.now) }
+        ensures { IfOk result (λ r. r ≡ world.opening_router ports.items (world.rows_of attachments.now)) }
     {
         let infos = port_infos(alloc, &ports)?;
         let mut machines = Vec::new(alloc);
         let mut table = RouteTable::new(alloc);
-        for i in (0..own.len()).rev() {
-            let prefix = own[i];
-            let machine = Machine::new(alloc, true, &infos)?;
-            put_machine(&mut machines, prefix, machine)?;
-            table.set(prefix, Entry::Local)?;
+        for i in (0..attachments.len()).rev() {
+            let attachment = attachments[i];
+            let machine = Machine::new(alloc, Some(attachment.1), &infos)?;
+            put_machine(&mut machines, attachment.0, machine)?;
+            table.set(attachment.0, Entry::Local)?;
         }
         table.mark_published();
         Ok(Router {
@@ -257,14 +262,36 @@ impl Router {
                 let up = was.up;
                 self.take_notice(port, Port { up, session, cost }, &event)
             }
-            Item::Message(message) => self.take_message(port, &message),
+            Item::Message(message) => {
+                let event = Event::Message {
+                    port,
+                    kind: message.kind,
+                    value: message.value,
+                };
+                self.tell(message.prefix, &event)
+            }
         }
+    }
+
+    /// Takes a notice of the router's own attachment to a prefix: it is attached at this cost, or not
+    /// any more. The machine of the prefix meets it, which is opened where the notice is the first to
+    /// name that prefix, whatever it says. All growth is made first: refused, the router stays as it
+    /// was.
+    pub fn notice(&mut self, prefix: Prefix, cost: Option<Cost>) -> Result<(), NoMemory>
+        ensures ok { OnOk result (self.new ≡ step.router_at_home (record { prefix = prefix; cost = cost }) self.old) }
+        ensures err { OnErr result (self.new ≡ self.old) }
+    {
+        let event = match cost {
+            Some(cost) => Event::Attached { cost },
+            None => Event::Detached,
+        };
+        self.tell(prefix, &event)
     }
 
     // Each machine meets the event of a port that changes.
     fn take_notice(&mut self, port: u8, changed: Port, event: &Event) -> Result<(), NoMemory>
         requires known { port < length (self.old).ports }
-        requires at_port { port_of event.now ≡ port }
+        requires at_port { port_of event.now ≡ Some port }
         requires timely { IsTimelyAt (self.old).ports event.now }
         requires moves { port_ups (slice_set (self.old).ports port changed) ≡ ups_after event.now (port_ups (self.old).ports) }
         ensures ok { OnOk result (self.new ≡ step.router_noticing event.now (slice_set (self.old).ports port changed) self.old) }
@@ -285,47 +312,41 @@ impl Router {
         Ok(())
     }
 
-    // The machine of a message's prefix meets it.
-    fn take_message(&mut self, port: u8, message: &Message) -> Result<(), NoMemory>
-        requires known { port < length (self.old).ports }
-        requires up { is_port_up (self.old).ports port ≡ true }
-        ensures ok { OnOk result (self.new ≡ step.router_told port message.now self.old) }
+    // The machine of one prefix meets the event, which leaves the router's ports as they are. It is
+    // opened where the router has not heard of the prefix.
+    fn tell(&mut self, prefix: Prefix, event: &Event) -> Result<(), NoMemory>
+        requires known { IsKnown (length (self.old).ports) event.now }
+        requires timely { IsTimelyAt (self.old).ports event.now }
+        requires still { ups_after event.now (port_ups (self.old).ports) ≡ port_ups (self.old).ports }
+        ensures ok { OnOk result (self.new ≡ step.router_meeting prefix event.now self.old) }
         ensures err { OnErr result (self.new ≡ self.old) }
     {
         let each = self.ports.len() + 1;
-        let event = Event::Message {
-            port,
-            kind: message.kind,
-            value: message.value,
-        };
-        match place_of(&self.machines, message.prefix) {
+        match place_of(&self.machines, prefix) {
             Ok(place) => {
                 self.effects.reserve(each, each)?;
                 let row = &mut self.machines[place];
-                self.effects
-                    .meet(&mut row.1, &event, message.prefix, &self.ports);
+                self.effects.meet(&mut row.1, event, prefix, &self.ports);
             }
             Err(place) => {
                 let mut machine = self.opened()?;
                 self.machines.reserve(1)?;
                 self.effects.table.reserve(1)?;
                 self.effects.reserve(each, each)?;
-                self.effects
-                    .meet(&mut machine, &event, message.prefix, &self.ports);
-                self.machines
-                    .insert(place, (message.prefix, machine))
-                    .unwrap();
+                self.effects.meet(&mut machine, event, prefix, &self.ports);
+                self.machines.insert(place, (prefix, machine)).unwrap();
             }
         }
         Ok(())
     }
 
-    // A machine over the router's ports that has heard nothing.
+    // A machine over the router's ports that has heard nothing, of a prefix to which the router is not
+    // attached.
     fn opened(&self) -> Result<Machine, NoMemory>
-        ensures { IfOk result (λ m. m.machine ≡ opening_machine false (world.neighbours (self.now).ports)) }
+        ensures { IfOk result (λ m. m.machine ≡ opening_machine None (world.neighbours (self.now).ports)) }
     {
         let alloc = *self.machines.allocator();
         let infos = port_infos(alloc, &self.ports)?;
-        Machine::new(alloc, false, &infos)
+        Machine::new(alloc, None, &infos)
     }
 }

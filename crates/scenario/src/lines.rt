@@ -17,7 +17,7 @@ pub struct Lines {
     pub routers: Vec<String>,
     /// The links.
     pub links: Vec<String>,
-    /// The prefixes and their owners.
+    /// The prefixes, and the routers attached to them.
     pub prefixes: Vec<String>,
     /// The commands.
     pub script: Vec<String>,

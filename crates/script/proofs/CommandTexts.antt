@@ -6,19 +6,13 @@ use Rattle.std.proofs.lemmas.Slice.Eq.{bytes_eq-Decides}
 use Rattle.std.proofs.lemmas.List.Elements.{All-nil, All-cons, All-contains}
 use Rattle.std.proofs.lemmas.List.Folds.{list_any_at}
 use Rattle.ipv4_prefix.specs.Prefix.{Prefix}
-use Rattle.ipv4_prefix.specs.Faults.{SpellsPrefix, IsFirstFault}
-use Rattle.ipv4_prefix.specs.declared.fault.PrefixFault.{PrefixFault}
 use Rattle.network_model.specs.declared.network.LinkSpec.{LinkSpec}
 use Rattle.script.specs.declared.command.Command.{Command}
 use Rattle.script.specs.declared.fault.Fault.{Fault}
 use Rattle.script.specs.declared.fault.Fault.TheVariants.{BadName, BadLine, BadCost, BadCommand, TooLarge, NoMemory, Prefix as OfPrefix}
 use Rattle.script.specs.Words.{Text}
-use Rattle.script.specs.Commands.{NamesRouter, NamesText, NamesNoAddress, IsOwned, AsksNoStep, Asks, address_verbs, HasBadValue, AsksNothing}
-use Rattle.script.proofs.StepTexts.{clash, first_same, rest_same, no_verb, other_router, other_text}
-
--- the text has no fault, but is that of no prefix that has an owner
-abbrev pub IsStrange : List (Prefix × ℕ) → Text → Type 0
-IsStrange owners text = ((p : Prefix) → SpellsPrefix text p → ¬ (IsOwned owners p)) × ((fault : PrefixFault) → ¬ (IsFirstFault text fault))
+use Rattle.script.specs.Commands.{NamesRouter, NamesText, NamesNoAddress, NamesNoPrefix, AsksNoStep, AsksBadQuestion, Asks, address_verbs, HasBadValue, AsksNothing}
+use Rattle.script.proofs.StepTexts.{clash, first_same, rest_same, no_prefix, no_verb, other_router, other_prefix}
 
 -- the words name no router and text after a verb that takes an address
 abbrev pub NamesNone : List Text → List Text → Type 0
@@ -46,25 +40,25 @@ own_verb names verb rest none word among router text h =
 
 -- ---- words that ask for no command
 
-module _ (names : List Text) (links : List LinkSpec) (owners : List (Prefix × ℕ)) where
+module _ (names : List Text) (links : List LinkSpec) (attachments : List (Prefix × ℕ × ℕ)) where
   -- two words or more that ask for no command of any kind, nor for one with a bad value
   no_command : (verb : Text) (rest : List Text) → rest ≢ []
-      → AsksNoStep names links (verb ∷ rest) BadCommand
-      → ((after : List Text) → verb ∷ rest ≡ codes "try" ∷ after → AsksNoStep names links after BadCommand)
-      → ((router : ℕ) (text : Text) → NamesText names (codes "state") (verb ∷ rest) router text → IsStrange owners text)
+      → AsksNoStep names links attachments (verb ∷ rest) BadCommand
+      → ((after : List Text) → verb ∷ rest ≡ codes "try" ∷ after → AsksNoStep names links attachments after BadCommand)
+      → NamesNoPrefix names attachments (codes "state") (verb ∷ rest) BadCommand
       → ((router : ℕ) → ¬ (NamesRouter names (codes "table") (verb ∷ rest) router))
       → NamesNone names (verb ∷ rest)
-      → AsksNothing names links owners (verb ∷ rest) BadCommand
+      → AsksNothing names links attachments (verb ∷ rest) BadCommand
   no_command verb rest some step tried state table address = (commands, faults)
     where
       single : (word : Text) → verb ∷ rest ≢ word ∷ []
       single word h = some (rest_same _ _ _ _ h)
 
-      commands : (command : Command) → ¬ (Asks names links owners (verb ∷ rest) command)
+      commands : (command : Command) → ¬ (Asks names links attachments (verb ∷ rest) command)
       commands (Command.Step s) h = step.0 s h
       commands (Command.Try s) h = (tried h.0 h.1).0 s h.2
       commands Command.Settle h = single _ h
-      commands (Command.State router prefix) h = (state router h.0 h.1).0 prefix h.2 h.3
+      commands (Command.State router prefix) h = state.0 router prefix h
       commands (Command.Table router) h = table router h
       commands (Command.Lookup router addr) h = address _ (0, omega arith, refl) router h.0 h.1
       commands (Command.Inject router addr) h = address _ (1, omega arith, refl) router h.0 h.1
@@ -72,66 +66,76 @@ module _ (names : List Text) (links : List LinkSpec) (owners : List (Prefix × �
       commands Command.Drain h = single _ h
       commands Command.Report h = single _ h
 
+      questions : (fault : Fault) → ¬ (AsksBadQuestion names (verb ∷ rest) fault)
+      questions BadName h = h
+      questions BadLine h = h
+      questions BadCost h = h
+      questions (OfPrefix fault) (inl h) = state.1 fault h
+      questions (OfPrefix fault) (inr h) = address h.1.0 h.1.1 h.1.2.0 h.1.2.1 h.1.2.2
+      questions BadCommand h = h
+      questions TooLarge h = h
+      questions NoMemory h = h
+
       faults : (fault : Fault) → ¬ (HasBadValue names links (verb ∷ rest) fault)
-      faults BadName h = h
-      faults BadLine h = h
-      faults BadCost (inl h) = step.1 h
-      faults BadCost (inr h) = (tried h.0 h.1).1 h.2
-      faults (OfPrefix fault) (inl h) = (state h.0 h.1 h.2).1 fault h.3
-      faults (OfPrefix fault) (inr h) = address h.1.0 h.1.1 h.1.2.0 h.1.2.1 h.1.2.2
-      faults BadCommand h = h
-      faults TooLarge h = h
-      faults NoMemory h = h
+      faults fault (inl h) = step.1 fault h
+      faults fault (inr (inl h)) = (tried h.0 h.1).1 fault h.2
+      faults fault (inr (inr h)) = questions fault h
 
   module _ (rest : List Text) (some : rest ≢ []) where
-    pub no_state : ((router : ℕ) (text : Text) → NamesText names (codes "state") (codes "state" ∷ rest) router text → IsStrange owners text)
-        → AsksNothing names links owners (codes "state" ∷ rest) BadCommand
-    no_state strange =
-        no_command _ rest some (no_verb names links _ rest refl refl refl refl refl refl) (λ after e. absurd (clash _ _ _ _ refl e))
-        strange (other_router names links _ _ _ refl) (other_verb names _ rest (apart_from _ address_verbs refl))
+    -- why words after `state` ask for nothing
+    pub state_fault : (fault : Fault) → NamesNoPrefix names attachments (codes "state") (codes "state" ∷ rest) fault → AsksNothing names links attachments (codes "state" ∷ rest) fault
+    state_fault BadName h = absurd h
+    state_fault BadLine h = absurd h
+    state_fault BadCost h = absurd h
+    state_fault (OfPrefix fault) h = inr (inr (inl h))
+    state_fault BadCommand h =
+        no_command _ rest some (no_verb names links attachments _ rest refl refl refl refl refl refl refl refl) (λ after e. absurd (clash _ _ _ _ refl e)) h
+        (other_router names links attachments _ _ _ refl) (other_verb names _ rest (apart_from _ address_verbs refl))
+    state_fault TooLarge h = absurd h
+    state_fault NoMemory h = absurd h
 
-    pub no_table : ((router : ℕ) → ¬ (NamesRouter names (codes "table") (codes "table" ∷ rest) router)) → AsksNothing names links owners (codes "table" ∷ rest) BadCommand
+    pub no_table : ((router : ℕ) → ¬ (NamesRouter names (codes "table") (codes "table" ∷ rest) router)) → AsksNothing names links attachments (codes "table" ∷ rest) BadCommand
     no_table none =
-        no_command _ rest some (no_verb names links _ rest refl refl refl refl refl refl) (λ after e. absurd (clash _ _ _ _ refl e))
-        (λ router text h. absurd (other_text names links _ _ _ refl router text h)) none (other_verb names _ rest (apart_from _ address_verbs refl))
+        no_command _ rest some (no_verb names links attachments _ rest refl refl refl refl refl refl refl refl) (λ after e. absurd (clash _ _ _ _ refl e))
+        (other_prefix names links attachments _ _ _ refl) none (other_verb names _ rest (apart_from _ address_verbs refl))
 
     -- why a verb that takes an address, and is no other, asks for nothing
-    address_fault : (verb : Text) → Contains address_verbs verb → AsksNoStep names links (verb ∷ rest) BadCommand
+    address_fault : (verb : Text) → Contains address_verbs verb → AsksNoStep names links attachments (verb ∷ rest) BadCommand
         → bytes_eq verb (codes "try") ≡ false → bytes_eq verb (codes "state") ≡ false → bytes_eq verb (codes "table") ≡ false
-        → (fault : Fault) → NamesNoAddress names verb (verb ∷ rest) fault → AsksNothing names links owners (verb ∷ rest) fault
-    address_fault verb among step tried state table BadName h = h
-    address_fault verb among step tried state table BadLine h = h
+        → (fault : Fault) → NamesNoAddress names verb (verb ∷ rest) fault → AsksNothing names links attachments (verb ∷ rest) fault
+    address_fault verb among step tried state table BadName h = absurd h
+    address_fault verb among step tried state table BadLine h = absurd h
     address_fault verb among step tried state table BadCost h = absurd h
-    address_fault verb among step tried state table (OfPrefix fault) h = inr (h.0, (verb, among, h.1))
+    address_fault verb among step tried state table (OfPrefix fault) h = inr (inr (inr (h.0, (verb, among, h.1))))
     address_fault verb among step tried state table BadCommand h =
-        no_command verb rest some step (λ after e. absurd (clash _ _ _ _ tried e)) (λ router text k. absurd (other_text names links _ _ _ state router text k))
-        (other_router names links _ _ _ table) (own_verb names verb rest h)
-    address_fault verb among step tried state table TooLarge h = h
-    address_fault verb among step tried state table NoMemory h = h
+        no_command verb rest some step (λ after e. absurd (clash _ _ _ _ tried e)) (other_prefix names links attachments _ _ _ state)
+        (other_router names links attachments _ _ _ table) (own_verb names verb rest h)
+    address_fault verb among step tried state table TooLarge h = absurd h
+    address_fault verb among step tried state table NoMemory h = absurd h
 
-    pub lookup_fault : (fault : Fault) → NamesNoAddress names (codes "lookup") (codes "lookup" ∷ rest) fault → AsksNothing names links owners (codes "lookup" ∷ rest) fault
-    lookup_fault = address_fault _ (0, omega arith, refl) (no_verb names links _ rest refl refl refl refl refl refl) refl refl refl
+    pub lookup_fault : (fault : Fault) → NamesNoAddress names (codes "lookup") (codes "lookup" ∷ rest) fault → AsksNothing names links attachments (codes "lookup" ∷ rest) fault
+    lookup_fault = address_fault _ (0, omega arith, refl) (no_verb names links attachments _ rest refl refl refl refl refl refl refl refl) refl refl refl
 
-    pub inject_fault : (fault : Fault) → NamesNoAddress names (codes "inject") (codes "inject" ∷ rest) fault → AsksNothing names links owners (codes "inject" ∷ rest) fault
-    inject_fault = address_fault _ (1, omega arith, refl) (no_verb names links _ rest refl refl refl refl refl refl) refl refl refl
+    pub inject_fault : (fault : Fault) → NamesNoAddress names (codes "inject") (codes "inject" ∷ rest) fault → AsksNothing names links attachments (codes "inject" ∷ rest) fault
+    inject_fault = address_fault _ (1, omega arith, refl) (no_verb names links attachments _ rest refl refl refl refl refl refl refl refl) refl refl refl
 
-    pub trace_fault : (fault : Fault) → NamesNoAddress names (codes "trace") (codes "trace" ∷ rest) fault → AsksNothing names links owners (codes "trace" ∷ rest) fault
-    trace_fault = address_fault _ (2, omega arith, refl) (no_verb names links _ rest refl refl refl refl refl refl) refl refl refl
+    pub trace_fault : (fault : Fault) → NamesNoAddress names (codes "trace") (codes "trace" ∷ rest) fault → AsksNothing names links attachments (codes "trace" ∷ rest) fault
+    trace_fault = address_fault _ (2, omega arith, refl) (no_verb names links attachments _ rest refl refl refl refl refl refl refl refl) refl refl refl
 
   -- a fault of the step that a line asks for, where its first word is the verb of no other command
   module _ (verb : Text) (rest : List Text) (some : rest ≢ [])
       (tried : verb ≢ codes "try") (state : verb ≢ codes "state") (table : verb ≢ codes "table") (lookup : verb ≢ codes "lookup") (inject : verb ≢ codes "inject") (trace : verb ≢ codes "trace") where
-    no_step_command : AsksNoStep names links (verb ∷ rest) BadCommand → AsksNothing names links owners (verb ∷ rest) BadCommand
+    no_step_command : AsksNoStep names links attachments (verb ∷ rest) BadCommand → AsksNothing names links attachments (verb ∷ rest) BadCommand
     no_step_command none =
         no_command verb rest some none (λ after e. absurd (tried (first_same _ _ _ _ e)))
-        (λ router text h. absurd (state (first_same _ _ _ _ h.spelled))) (λ router h. table (first_same _ _ _ _ h.spelled))
+        (no_prefix names attachments _ _ (λ router text h. absurd (state (first_same _ _ _ _ h.spelled)))) (λ router h. table (first_same _ _ _ _ h.spelled))
         (other_verb names verb rest (All-cons (λ w. verb ≢ w) _ (codes "inject" ∷ codes "trace" ∷ []) lookup (All-cons (λ w. verb ≢ w) _ (codes "trace" ∷ []) inject (All-cons (λ w. verb ≢ w) _ [] trace (All-nil (λ w. verb ≢ w))))))
 
-    pub step_fault : (fault : Fault) → AsksNoStep names links (verb ∷ rest) fault → AsksNothing names links owners (verb ∷ rest) fault
-    step_fault BadName h = h
-    step_fault BadLine h = h
+    pub step_fault : (fault : Fault) → AsksNoStep names links attachments (verb ∷ rest) fault → AsksNothing names links attachments (verb ∷ rest) fault
+    step_fault BadName h = inl h
+    step_fault BadLine h = inl h
     step_fault BadCost h = inl h
-    step_fault (OfPrefix fault) h = absurd h
+    step_fault (OfPrefix fault) h = inl h
     step_fault BadCommand h = no_step_command h
-    step_fault TooLarge h = h
-    step_fault NoMemory h = h
+    step_fault TooLarge h = inl h
+    step_fault NoMemory h = inl h

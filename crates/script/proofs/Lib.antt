@@ -4,7 +4,7 @@ pub mod NameNumbers
 pub mod ReadLines
 pub mod Ports
 pub mod LinkTexts
-pub mod OwnerTexts
+pub mod AttachmentTexts
 pub mod StepTexts
 pub mod CommandTexts
 pub mod Exits

@@ -3,7 +3,7 @@ use Rattle.std.specs.Prelude.{◌≡◌, ℕ, zero, suc, ◌+◌, ◌≤◌, ◌
 use Rattle.std.specs.List.{cons_option}
 use Rattle.std.proofs.Common.{refl, sym, ap, ◌∙◌, arith, append_assoc, length-append}
 use Rattle.std.proofs.lemmas.Bool.{true≢false}
-use Rattle.std.proofs.lemmas.List.{length-take, get_or-take}
+use Rattle.std.proofs.lemmas.List.{length-take, get_or-take, take_all}
 use Rattle.std.proofs.lemmas.List.Quantifiers.{position-Some}
 use Rattle.std.proofs.lemmas.List.Sums.{length-filter}
 use Rattle.std.proofs.lemmas.Option.{slice_get-get_or}
@@ -114,6 +114,10 @@ is_port i j l links is =
 
 pub port_is : (i l port : ℕ) (links : List LinkSpec) → IsPortOn links i l port → port ≡ port_on i l links
 port_is i l port links is = place_once i links 0 l port (is ∙ ap Some (omega arith))
+
+-- past all links: the port of the router's own attachments
+pub home_port : (i : ℕ) (links : List LinkSpec) → port_on i (length links) links ≡ degree i links
+home_port i links = ap (degree i) (take_all (length links) links (omega arith))
 
 -- ---- the routers across the ports
 

@@ -7,7 +7,7 @@ use Rattle.ipv4_prefix.specs.declared.fault.PrefixFault.TheVariants.{BadAddress}
 use Rattle.metric.specs.Distance.{IsCost}
 use Rattle.network_model.specs.declared.network.LinkSpec.{LinkSpec}
 use Rattle.network_model.specs.declared.step.Step.{Step}
-use Rattle.network_model.specs.declared.step.Step.TheVariants.{LinkUp, LinkDown, SetCost, Deliver, Publish, Release}
+use Rattle.network_model.specs.declared.step.Step.TheVariants.{LinkUp, LinkDown, SetCost, Deliver, Publish, Release, Attach, Detach}
 use Rattle.network_model.specs.Network.{most_links, degree}
 use Rattle.network_model.specs.World.{places_from}
 use Rattle.script.specs.declared.command.Command.{Command}
@@ -71,6 +71,41 @@ pub record NamesText (names : List Text) (verb : Text) (words : List Text) (rout
   pub has_text : text ≢ []
   pub known : number_of names name ≡ Some router
 
+-- the words name a router twice after the verb
+pub record NamesTwice (names : List Text) (verb : Text) (words : List Text) (router : ℕ) : Type 0 where
+  pub name : Text
+  pub spelled : words ≡ verb ∷ name ∷ name ∷ []
+  pub known : number_of names name ≡ Some router
+
+-- the words name a router, then a text that is not empty, and then the decimal text of a number of 32 bits, after the verb
+pub record NamesTextAndNumber (names : List Text) (verb : Text) (words : List Text) (router : ℕ) (text : Text) (number : ℕ) : Type 0 where
+  pub name : Text
+  pub spelled : words ≡ verb ∷ name ∷ text ∷ decimal number ∷ []
+  pub has_text : text ≢ []
+  pub known : number_of names name ≡ Some router
+  pub small : number < 2 ^ 32
+
+-- the prefix is one of the network's: some router is attached to it at the opening
+abbrev pub IsKnown : List (Prefix × ℕ × ℕ) → Prefix → Type 0
+IsKnown attachments prefix = (router cost : ℕ) × Contains attachments (prefix, router, cost)
+
+-- the words name a router, and then a prefix of the network, after the verb
+abbrev pub NamesPrefix : List Text → List (Prefix × ℕ × ℕ) → Text → List Text → ℕ → Prefix → Type 0
+NamesPrefix names attachments verb words router prefix =
+    (text : Text) × NamesText names verb words router text × SpellsPrefix text prefix × IsKnown attachments prefix
+
+-- the words name a router after the verb, and the text that follows has the fault of a prefix
+abbrev pub NamesBadPrefix : List Text → Text → List Text → PrefixFault → Type 0
+NamesBadPrefix names verb words fault = (router : ℕ) × (text : Text) × NamesText names verb words router text × IsFirstFault text fault
+
+-- why the words name no router and prefix after the verb: the fault of the prefix's text, or else that there is neither
+abbrev pub NamesNoPrefix : List Text → List (Prefix × ℕ × ℕ) → Text → List Text → Fault → Type 0
+NamesNoPrefix names attachments verb words BadCommand =
+    ((router : ℕ) (prefix : Prefix) → ¬ (NamesPrefix names attachments verb words router prefix))
+    × ((fault : PrefixFault) → ¬ (NamesBadPrefix names verb words fault))
+NamesNoPrefix names attachments verb words (OfPrefix fault) = NamesBadPrefix names verb words fault
+NamesNoPrefix names attachments verb words _ = ⊥
+
 -- the words name a router, and then an address, after the verb
 abbrev pub NamesAddress : List Text → Text → List Text → ℕ → ℕ → Type 0
 NamesAddress names verb words router addr = (text : Text) × NamesText names verb words router text × SpellsAddress text addr
@@ -89,10 +124,6 @@ NamesNoAddress names verb words _ = ⊥
 abbrev pub Tries : (List Text → Type 0) → List Text → Type 0
 Tries AskFor words = (after : List Text) × (words ≡ codes "try" ∷ after) × AskFor after
 
--- the prefix is one of those that have owners
-abbrev pub IsOwned : List (Prefix × ℕ) → Prefix → Type 0
-IsOwned owners prefix = (owner : ℕ) × Contains owners (prefix, owner)
-
 -- ---- steps
 
 -- the words ask to set the cost at a router's port to a number, which need not be a cost
@@ -100,49 +131,90 @@ abbrev pub AsksCost : List Text → List LinkSpec → List Text → ℕ → ℕ 
 AsksCost names links words router port number =
     (link : ℕ) × NamesNumber names links (codes "cost") words router link number × IsPortOn links router link port × (port < 256)
 
--- the words ask for the step
-abbrev pub AsksStep : List Text → List LinkSpec → List Text → Step → Type 0
-AsksStep names links words (LinkUp link) = (router : ℕ) × NamesLink names links (codes "up") words router link
-AsksStep names links words (LinkDown link) = (router : ℕ) × NamesLink names links (codes "down") words router link
-AsksStep names links words (SetCost router port cost) = AsksCost names links words router port cost × IsCost cost
-AsksStep names links words (Deliver router port) =
-    (link : ℕ) × NamesLink names links (codes "deliver") words router link × IsPortOn links router link port × (port < 256)
-AsksStep names links words (Publish router) = NamesRouter names (codes "publish") words router
-AsksStep names links words (Release router) = NamesRouter names (codes "release") words router
-
--- the words ask for a step whose number is no cost
+-- the words ask to set a number that is no cost
 abbrev pub AsksBadCost : List Text → List LinkSpec → List Text → Type 0
 AsksBadCost names links words = (router port number : ℕ) × AsksCost names links words router port number × ¬ (IsCost number)
 
--- why words ask for no step
-abbrev pub AsksNoStep : List Text → List LinkSpec → List Text → Fault → Type 0
-AsksNoStep names links words BadCommand = ((step : Step) → ¬ (AsksStep names links words step)) × ¬ (AsksBadCost names links words)
-AsksNoStep names links words BadCost = AsksBadCost names links words
-AsksNoStep names links words _ = ⊥
+-- why words ask to set no cost
+abbrev pub AsksNoCost : List Text → List LinkSpec → List Text → Fault → Type 0
+AsksNoCost names links words BadCommand = (router port number : ℕ) → ¬ (AsksCost names links words router port number)
+AsksNoCost names links words BadCost = AsksBadCost names links words
+AsksNoCost names links words _ = ⊥
+
+-- the words ask to take from a router's port on its link to another
+abbrev pub TakesFromLink : List Text → List LinkSpec → List Text → ℕ → ℕ → Type 0
+TakesFromLink names links words router port =
+    (link : ℕ) × (n : NamesLink names links (codes "deliver") words router link) × (n.name ≢ n.neighbour) × IsPortOn links router link port
+
+-- the words ask to take from the port of a router's own attachments, which its degree numbers
+abbrev pub TakesAtHome : List Text → List LinkSpec → List Text → ℕ → ℕ → Type 0
+TakesAtHome names links words router port = NamesTwice names (codes "deliver") words router × (port ≡ degree router links)
+
+-- the words ask to take from a router's port
+abbrev pub AsksDelivery : List Text → List LinkSpec → List Text → ℕ → ℕ → Type 0
+AsksDelivery names links words router port = (TakesFromLink names links words router port ⊎ TakesAtHome names links words router port) × (port < 256)
+
+-- the words ask to attach a router to a prefix of the network at a cost
+abbrev pub AsksAttachment : List Text → List (Prefix × ℕ × ℕ) → List Text → ℕ → Prefix → ℕ → Type 0
+AsksAttachment names attachments words router prefix cost =
+    (text : Text) × NamesTextAndNumber names (codes "attach") words router text cost × SpellsPrefix text prefix × IsCost cost × IsKnown attachments prefix
+
+-- the words ask to attach a router, but the text of the prefix has a fault, or, where it has none, the number is no cost
+abbrev pub AsksBadAttachment : List Text → List Text → Fault → Type 0
+AsksBadAttachment names words (OfPrefix fault) =
+    (router number : ℕ) × (text : Text) × NamesTextAndNumber names (codes "attach") words router text number × IsFirstFault text fault
+AsksBadAttachment names words BadCost =
+    (router number : ℕ) × (text : Text) × (prefix : Prefix) × NamesTextAndNumber names (codes "attach") words router text number × SpellsPrefix text prefix × ¬ (IsCost number)
+AsksBadAttachment names words _ = ⊥
+
+-- why words ask to attach no router: the fault of a value, or else that there is neither
+abbrev pub AsksNoAttachment : List Text → List (Prefix × ℕ × ℕ) → List Text → Fault → Type 0
+AsksNoAttachment names attachments words BadCommand =
+    ((router : ℕ) (prefix : Prefix) (cost : ℕ) → ¬ (AsksAttachment names attachments words router prefix cost))
+    × ((fault : Fault) → ¬ (AsksBadAttachment names words fault))
+AsksNoAttachment names attachments words fault = AsksBadAttachment names words fault
+
+-- the words ask for the step
+abbrev pub AsksStep : List Text → List LinkSpec → List (Prefix × ℕ × ℕ) → List Text → Step → Type 0
+AsksStep names links attachments words (LinkUp link) = (router : ℕ) × NamesLink names links (codes "up") words router link
+AsksStep names links attachments words (LinkDown link) = (router : ℕ) × NamesLink names links (codes "down") words router link
+AsksStep names links attachments words (SetCost router port cost) = AsksCost names links words router port cost × IsCost cost
+AsksStep names links attachments words (Deliver router port) = AsksDelivery names links words router port
+AsksStep names links attachments words (Publish router) = NamesRouter names (codes "publish") words router
+AsksStep names links attachments words (Release router) = NamesRouter names (codes "release") words router
+AsksStep names links attachments words (Attach router prefix cost) = AsksAttachment names attachments words router prefix cost
+AsksStep names links attachments words (Detach router prefix) = NamesPrefix names attachments (codes "detach") words router prefix
+
+-- the words ask for a step, but the cost or the prefix in it is none
+abbrev pub AsksBadStep : List Text → List LinkSpec → List Text → Fault → Type 0
+AsksBadStep names links words BadCost = AsksBadCost names links words ⊎ AsksBadAttachment names words BadCost
+AsksBadStep names links words (OfPrefix fault) = NamesBadPrefix names (codes "detach") words fault ⊎ AsksBadAttachment names words (OfPrefix fault)
+AsksBadStep names links words _ = ⊥
+
+-- why words ask for no step: the fault of a value, or else that there is neither a step nor such a fault
+abbrev pub AsksNoStep : List Text → List LinkSpec → List (Prefix × ℕ × ℕ) → List Text → Fault → Type 0
+AsksNoStep names links attachments words BadCommand =
+    ((step : Step) → ¬ (AsksStep names links attachments words step)) × ((fault : Fault) → ¬ (AsksBadStep names links words fault))
+AsksNoStep names links attachments words fault = AsksBadStep names links words fault
 
 -- ---- commands
 
 -- the words ask for the command
-abbrev pub Asks : List Text → List LinkSpec → List (Prefix × ℕ) → List Text → Command → Type 0
-Asks names links owners words (Command.Step step) = AsksStep names links words step
-Asks names links owners words (Command.Try step) = Tries (λ after. AsksStep names links after step) words
-Asks names links owners words Command.Settle = words ≡ codes "settle" ∷ []
-Asks names links owners words (Command.State router prefix) =
-    (text : Text) × NamesText names (codes "state") words router text × SpellsPrefix text prefix × IsOwned owners prefix
-Asks names links owners words (Command.Table router) = NamesRouter names (codes "table") words router
-Asks names links owners words (Command.Lookup router addr) = NamesAddress names (codes "lookup") words router addr
-Asks names links owners words (Command.Inject router addr) = NamesAddress names (codes "inject") words router addr
-Asks names links owners words (Command.Trace router addr) = NamesAddress names (codes "trace") words router addr
-Asks names links owners words Command.Drain = words ≡ codes "drain" ∷ []
-Asks names links owners words Command.Report = words ≡ codes "report" ∷ []
+abbrev pub Asks : List Text → List LinkSpec → List (Prefix × ℕ × ℕ) → List Text → Command → Type 0
+Asks names links attachments words (Command.Step step) = AsksStep names links attachments words step
+Asks names links attachments words (Command.Try step) = Tries (λ after. AsksStep names links attachments after step) words
+Asks names links attachments words Command.Settle = words ≡ codes "settle" ∷ []
+Asks names links attachments words (Command.State router prefix) = NamesPrefix names attachments (codes "state") words router prefix
+Asks names links attachments words (Command.Table router) = NamesRouter names (codes "table") words router
+Asks names links attachments words (Command.Lookup router addr) = NamesAddress names (codes "lookup") words router addr
+Asks names links attachments words (Command.Inject router addr) = NamesAddress names (codes "inject") words router addr
+Asks names links attachments words (Command.Trace router addr) = NamesAddress names (codes "trace") words router addr
+Asks names links attachments words Command.Drain = words ≡ codes "drain" ∷ []
+Asks names links attachments words Command.Report = words ≡ codes "report" ∷ []
 
 -- the command that a line says
-abbrev pub IsCommand : List Text → List LinkSpec → List (Prefix × ℕ) → Text → Command → Type 0
-IsCommand names links owners line command = Asks names links owners (words_of line) command
-
--- the words ask for a machine's state, and the text of its prefix has the fault
-abbrev pub AsksBadState : List Text → List Text → PrefixFault → Type 0
-AsksBadState names words fault = (router : ℕ) × (text : Text) × NamesText names (codes "state") words router text × IsFirstFault text fault
+abbrev pub IsCommand : List Text → List LinkSpec → List (Prefix × ℕ × ℕ) → Text → Command → Type 0
+IsCommand names links attachments line command = Asks names links attachments (words_of line) command
 
 -- the verbs of the commands that name a router and an address
 abbrev pub address_verbs : List Text
@@ -152,18 +224,23 @@ address_verbs = codes "lookup" ∷ codes "inject" ∷ codes "trace" ∷ []
 abbrev pub AsksBadAddress : List Text → List Text → Type 0
 AsksBadAddress names words = (verb : Text) × Contains address_verbs verb × NamesBadAddress names verb words
 
+-- the words ask for a machine's state, or for a command that names an address, but the prefix or the address in it is none
+abbrev pub AsksBadQuestion : List Text → List Text → Fault → Type 0
+AsksBadQuestion names words (OfPrefix fault) =
+    NamesBadPrefix names (codes "state") words fault ⊎ ((fault ≡ BadAddress) × AsksBadAddress names words)
+AsksBadQuestion names words _ = ⊥
+
 -- the words ask for a command, but the cost, the prefix or the address in it is none
 abbrev pub HasBadValue : List Text → List LinkSpec → List Text → Fault → Type 0
-HasBadValue names links words BadCost = AsksBadCost names links words ⊎ Tries (AsksBadCost names links) words
-HasBadValue names links words (OfPrefix fault) = AsksBadState names words fault ⊎ ((fault ≡ BadAddress) × AsksBadAddress names words)
-HasBadValue names links words _ = ⊥
+HasBadValue names links words fault =
+    AsksBadStep names links words fault ⊎ Tries (λ after. AsksBadStep names links after fault) words ⊎ AsksBadQuestion names words fault
 
 -- why words ask for no command: the fault of a value, or else that there is neither a command nor such a fault
-abbrev pub AsksNothing : List Text → List LinkSpec → List (Prefix × ℕ) → List Text → Fault → Type 0
-AsksNothing names links owners words BadCommand =
-    ((command : Command) → ¬ (Asks names links owners words command)) × ((fault : Fault) → ¬ (HasBadValue names links words fault))
-AsksNothing names links owners words fault = HasBadValue names links words fault
+abbrev pub AsksNothing : List Text → List LinkSpec → List (Prefix × ℕ × ℕ) → List Text → Fault → Type 0
+AsksNothing names links attachments words BadCommand =
+    ((command : Command) → ¬ (Asks names links attachments words command)) × ((fault : Fault) → ¬ (HasBadValue names links words fault))
+AsksNothing names links attachments words fault = HasBadValue names links words fault
 
 -- why a line says no command
-abbrev pub IsCommandFault : List Text → List LinkSpec → List (Prefix × ℕ) → Text → Fault → Type 0
-IsCommandFault names links owners line fault = AsksNothing names links owners (words_of line) fault
+abbrev pub IsCommandFault : List Text → List LinkSpec → List (Prefix × ℕ × ℕ) → Text → Fault → Type 0
+IsCommandFault names links attachments line fault = AsksNothing names links attachments (words_of line) fault

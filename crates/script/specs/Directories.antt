@@ -44,6 +44,10 @@ directory_of names links = record { names = names; neighbours = map (neighbours_
 abbrev pub neighbour_at : Directory → ℕ → ℕ → Option ℕ
 neighbour_at d router port = option_and_then (λ ns. slice_get ns port) (slice_get d.neighbours router)
 
+-- the router from which one takes at a port: the one across it, or itself at the port of its own attachments, which the number of its links numbers
+abbrev pub source_at : Directory → ℕ → ℕ → Option ℕ
+source_at d router port = option_and_then (λ ns. if port == length ns then Some router else slice_get ns port) (slice_get d.neighbours router)
+
 -- the name of a router, or `?` where there is no such router
 abbrev pub name_text : Directory → Option ℕ → Text
 name_text d router = unwrap_or (option_and_then (slice_get d.names) router) (codes "?")

@@ -1,7 +1,7 @@
 pub mod Words
 pub mod Routers
 pub mod Links
-pub mod Owners
+pub mod Attachments
 pub mod Commands
 pub mod Places
 pub mod Reading

@@ -35,11 +35,12 @@ link_state_text l =
 abbrev pub link_text : Directory → LinkLine → Text
 link_text d l = codes "link " ++ name_text d (Some l.a) ++ codes " " ++ name_text d (Some l.b) ++ codes " " ++ link_state_text l
 
--- a router: how often it published, how many messages it holds, and how many of them are ripe
+-- a router: how often it published, how many messages it holds, how many of them are ripe, and how many notices of its own attachments it has yet to take
 abbrev pub router_text : Directory → RouterLine → Text
 router_text d r =
     name_text d (Some r.router)
     ++ codes " gen " ++ decimal r.generation ++ codes " held " ++ decimal r.held ++ codes " ripe " ++ decimal r.ripe
+    ++ codes " attach " ++ decimal r.notices
 
 -- a router's machine for a prefix: its state, its reported and its feasible distance, and the entry that the router chose
 abbrev pub machine_text : Directory → MachineLine → Text

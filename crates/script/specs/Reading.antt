@@ -13,7 +13,7 @@ use Rattle.script.specs.declared.place.Located.{Located}
 use Rattle.script.specs.Words.{Text}
 use Rattle.script.specs.Routers.{AreNames, IsBadName}
 use Rattle.script.specs.Links.{IsLink, IsLinkFault}
-use Rattle.script.specs.Owners.{IsOwner, IsOwnerFault}
+use Rattle.script.specs.Attachments.{IsAttachment, IsAttachmentFault}
 use Rattle.script.specs.Commands.{IsCommand, IsCommandFault}
 
 -- the greatest number of commands
@@ -31,12 +31,12 @@ pub record Lists : Type 0 where
 pub record Parts : Type 0 where
   pub names : List Text
   pub links : List LinkSpec
-  pub owners : List (Prefix × ℕ)
+  pub attachments : List (Prefix × ℕ × ℕ)
   pub commands : List Command
 
 -- nothing
 abbrev pub no_parts : Parts
-no_parts = record { names = []; links = []; owners = []; commands = [] }
+no_parts = record { names = []; links = []; attachments = []; commands = [] }
 
 -- the items are what the first lines of a list say, in order
 abbrev pub ReadsFirst : {X : Type 0} → (Text → X → Type 0) → List Text → List X → Type 0
@@ -47,8 +47,8 @@ pub record AreParts (lists : Lists) (parts : Parts) : Type 0 where
   pub names : parts.names ≡ take (length parts.names) lists.routers
   pub valid : AreNames parts.names
   pub links : ReadsFirst (IsLink parts.names) lists.links parts.links
-  pub owners : ReadsFirst (IsOwner parts.names) lists.prefixes parts.owners
-  pub commands : ReadsFirst (IsCommand parts.names parts.links parts.owners) lists.script parts.commands
+  pub attachments : ReadsFirst (IsAttachment parts.names) lists.prefixes parts.attachments
+  pub commands : ReadsFirst (IsCommand parts.names parts.links parts.attachments) lists.script parts.commands
 
 -- a line for each item
 abbrev pub IsWhole : {X : Type 0} → List Text → List X → Type 0
@@ -75,31 +75,31 @@ IsNameFault names line fault = (fault ≡ BadName) × IsBadName names line
 abbrev pub StopsIn : Lists → Parts → Key → ℕ → Fault → Type 0
 StopsIn lists parts Routers position fault =
     IsStopped (IsNameFault parts.names) lists.routers parts.names position fault
-    × (parts.links ≡ []) × (parts.owners ≡ []) × (parts.commands ≡ [])
+    × (parts.links ≡ []) × (parts.attachments ≡ []) × (parts.commands ≡ [])
 StopsIn lists parts Links position fault =
     IsWhole lists.routers parts.names
     × IsStopped IsLinkFault lists.links parts.links position fault
-    × (parts.owners ≡ []) × (parts.commands ≡ [])
+    × (parts.attachments ≡ []) × (parts.commands ≡ [])
 StopsIn lists parts Prefixes position fault =
     IsWhole lists.routers parts.names × IsWhole lists.links parts.links
-    × IsStopped (IsOwnerFault parts.names) lists.prefixes parts.owners position fault
+    × IsStopped (IsAttachmentFault parts.names) lists.prefixes parts.attachments position fault
     × (parts.commands ≡ [])
 StopsIn lists parts Script position fault =
-    IsWhole lists.routers parts.names × IsWhole lists.links parts.links × IsWhole lists.prefixes parts.owners
+    IsWhole lists.routers parts.names × IsWhole lists.links parts.links × IsWhole lists.prefixes parts.attachments
     × (length lists.script ≤ most_commands)
-    × IsStopped (IsCommandFault parts.names parts.links parts.owners) lists.script parts.commands position fault
+    × IsStopped (IsCommandFault parts.names parts.links parts.attachments) lists.script parts.commands position fault
 
 -- reading stopped at the place, or, without one, before the script, which is too long
 abbrev pub StopsAt : Lists → Parts → Fault → Option Place → Type 0
 StopsAt lists parts fault (Some place) = StopsIn lists parts place.key place.position fault
 StopsAt lists parts fault None =
     (fault ≡ TooLarge) × (most_commands < length lists.script)
-    × IsWhole lists.routers parts.names × IsWhole lists.links parts.links × IsWhole lists.prefixes parts.owners
+    × IsWhole lists.routers parts.names × IsWhole lists.links parts.links × IsWhole lists.prefixes parts.attachments
     × (parts.commands ≡ [])
 
 -- reading came to the end, or stopped at the fault
 abbrev pub Stops : Lists → Parts → Option Located → Type 0
 Stops lists parts (Some at) = StopsAt lists parts at.fault at.place
 Stops lists parts None =
-    IsWhole lists.routers parts.names × IsWhole lists.links parts.links × IsWhole lists.prefixes parts.owners
+    IsWhole lists.routers parts.names × IsWhole lists.links parts.links × IsWhole lists.prefixes parts.attachments
     × IsWhole lists.script parts.commands × (length lists.script ≤ most_commands)

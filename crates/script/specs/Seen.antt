@@ -12,4 +12,4 @@ abbrev pub lists_of : {A : Type 0} → List (String A) → List (String A) → L
 lists_of routers links prefixes script = record { routers = texts routers; links = texts links; prefixes = texts prefixes; script = texts script }
 
 abbrev pub parts_of : Script → Parts
-parts_of s = record { names = s.names; links = s.links.items; owners = s.owners.items; commands = s.commands.items }
+parts_of s = record { names = s.names; links = s.links.items; attachments = s.attachments.items; commands = s.commands.items }

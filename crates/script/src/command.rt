@@ -1,19 +1,19 @@
 //! The lines of the script.
 
-ghost use Rattle.std.specs.Prelude.{◌≡◌, ◌≢◌, ℕ, [], ◌∷◌, ◌⊎◌, IfOk, IfErr, OnOk, codes};
-ghost use Rattle.std.specs.List.{list_any};
-ghost use Rattle.ipv4_prefix.specs.Prefix.{prefix_eq};
+ghost use Rattle.std.specs.Prelude.{◌≡◌, ◌≢◌, [], ◌∷◌, ◌⊎◌, IfOk, IfErr, OnOk, codes};
 ghost use Rattle.script.specs.Words.{Text, words_of};
-ghost use Rattle.script.specs.Commands.{Asks, AsksNothing, IsCommand, IsCommandFault, NamesText, NamesAddress, NamesNoAddress};
+ghost use Rattle.script.specs.Commands.{Asks, AsksNothing, IsCommand, IsCommandFault, NamesAddress, NamesNoAddress};
 ghost use Rattle.script.specs.Reading.{StopsHere, ReadsFirst, IsWhole};
 ghost use Rattle.script.specs.Seen.{texts};
 
 use crate::fault::Fault;
 use crate::names::Names;
+use crate::operand::{read_prefix, read_router, read_text};
 use crate::place::{Key, Located};
-use crate::step::{read_router, read_step};
-use crate::words::{first_word, two_words};
+use crate::step::read_step;
+use crate::words::first_word;
 use ipv4_prefix::{Prefix, parse_addr};
+use metric::Cost;
 use network_model::{LinkSpec, Step};
 
 /// One command of a script. Routers go by their numbers, from 0.
@@ -45,22 +45,22 @@ pub enum Command {
 pub(crate) fn read_commands(
     names: &Names,
     links: &[LinkSpec],
-    owners: &[(Prefix, u16)],
+    attachments: &[(Prefix, u16, Cost)],
     commands: &mut Vec<Command>,
     lines: &[String],
 ) -> Result<(), Located>
     requires { commands.old.items ≡ [] }
-    ensures read { ReadsFirst (IsCommand names.now links.now owners.now) (texts lines.now)
+    ensures read { ReadsFirst (IsCommand names.now links.now attachments.now) (texts lines.now)
         commands.new.items }
     ensures whole { OnOk result (IsWhole (texts lines.now) commands.new.items) }
     ensures stop { IfErr result (λ at. (at.fault ≡ Fault.NoMemory)
-        ⊎ StopsHere (IsCommandFault names.now links.now owners.now) Key.Script (texts lines.now)
+        ⊎ StopsHere (IsCommandFault names.now links.now attachments.now) Key.Script (texts lines.now)
         commands.new.items at) }
 {
     // Names the type of a command's step, without which the checker has no plan for the list.
     let _step: Option<Step> = None;
     for (position, line) in lines.iter().enumerate() {
-        match read_command(names, links, owners, line.as_str()) {
+        match read_command(names, links, attachments, line.as_str()) {
             Ok(command) => commands.push(command)?,
             Err(fault) => return Err(Located::at(fault, Key::Script, position)),
         }
@@ -75,14 +75,14 @@ pub(crate) fn read_commands(
 pub fn read_command(
     names: &Names,
     links: &[LinkSpec],
-    owners: &[(Prefix, u16)],
+    attachments: &[(Prefix, u16, Cost)],
     line: &str,
 ) -> Result<Command, Fault>
-    ensures ok { IfOk result (IsCommand names.now links.now owners.now line.now) }
-    ensures err { IfErr result (IsCommandFault names.now links.now owners.now line.now) }
+    ensures ok { IfOk result (IsCommand names.now links.now attachments.now line.now) }
+    ensures err { IfErr result (IsCommandFault names.now links.now attachments.now line.now) }
 {
     match first_word(line) {
-        Some((verb, operands)) => read_words(names, links, owners, verb, operands),
+        Some((verb, operands)) => read_words(names, links, attachments, verb, operands),
         None => read_word(line),
     }
 }
@@ -107,26 +107,22 @@ fn read_word(word: &str) -> Result<Command, Fault>
 fn read_words(
     names: &Names,
     links: &[LinkSpec],
-    owners: &[(Prefix, u16)],
+    attachments: &[(Prefix, u16, Cost)],
     verb: &str,
     operands: &str,
 ) -> Result<Command, Fault>
-    ensures ok { IfOk result (Asks names.now links.now owners.now (verb.now ∷ words_of operands.now)) }
+    ensures ok { IfOk result (Asks names.now links.now attachments.now (verb.now ∷ words_of operands.now)) }
     ensures err { IfErr result
-        (AsksNothing names.now links.now owners.now (verb.now ∷ words_of operands.now)) }
+        (AsksNothing names.now links.now attachments.now (verb.now ∷ words_of operands.now)) }
 {
     match verb {
         "try" => {
             let (verb, operands) = first_word(operands).ok_or(Fault::BadCommand)?;
-            let step = read_step(names, links, verb, operands)?;
+            let step = read_step(names, links, attachments, verb, operands)?;
             Ok(Command::Try(step))
         }
         "state" => {
-            let (router, prefix) = read_text(names, operands)?;
-            let prefix = Prefix::parse(prefix)?;
-            if !is_owned(owners, &prefix) {
-                return Err(Fault::BadCommand);
-            }
+            let (router, prefix) = read_prefix(names, attachments, operands)?;
             Ok(Command::State { router, prefix })
         }
         "table" => {
@@ -146,7 +142,7 @@ fn read_words(
             Ok(Command::Trace { router, addr })
         }
         _ => {
-            let step = read_step(names, links, verb, operands)?;
+            let step = read_step(names, links, attachments, verb, operands)?;
             Ok(Command::Step(step))
         }
     }
@@ -162,26 +158,4 @@ fn read_addr(names: &Names, operands: &str) -> Result<(u16, u32), Fault>
     let (router, text) = read_text(names, operands)?;
     let addr = parse_addr(text)?;
     Ok((router, addr))
-}
-
-// The router that the operands name, and the text after its name, which is not empty.
-fn read_text<'a>(names: &Names, operands: &'a str) -> Result<(u16, &'a str), Fault>
-    ensures ok { IfOk result (λ w. (verb : Text)
-        → NamesText names.now verb (verb ∷ words_of operands.now) w.0 w.1.now) }
-    ensures err { IfErr result (λ e. (e ≡ Fault.BadCommand) × ((verb : Text) (router : ℕ) (text : Text)
-        → ¬ (NamesText names.now verb (verb ∷ words_of operands.now) router text))) }
-{
-    let (name, text) = two_words(operands).ok_or(Fault::BadCommand)?;
-    if text.is_empty() {
-        return Err(Fault::BadCommand);
-    }
-    let router = read_router(names, name)?;
-    Ok((router, text))
-}
-
-// Whether the prefix is one of those that have owners.
-fn is_owned(owners: &[(Prefix, u16)], prefix: &Prefix) -> bool
-    ensures { result ≡ list_any (λ o. prefix_eq o.0 prefix.now) owners.now }
-{
-    owners.iter().any(|owner| owner.0 == *prefix)
 }

@@ -1,7 +1,7 @@
 //! Texts that name routers.
 
 ghost use Rattle.std.specs.Prelude.{◌≡◌, IfOk, Some, filter_map};
-ghost use Rattle.script.specs.Directories.{directory_of, far_end as other_end, neighbour_at, name_text, entry_text, row_text, found_text, answer_text, lookup_text, packet_text};
+ghost use Rattle.script.specs.Directories.{directory_of, far_end as other_end, neighbour_at, source_at, name_text, entry_text, row_text, found_text, answer_text, lookup_text, packet_text};
 
 use crate::names::Names;
 use ipv4_prefix::{Addr, Prefix};
@@ -51,6 +51,18 @@ impl Directory {
         ensures { result ≡ neighbour_at self.now router port }
     {
         let neighbours = self.neighbours.get(usize::from(router))?;
+        neighbours.get(usize::from(port)).copied()
+    }
+
+    /// The router from which a router takes at its port: the one at the other end of the link there, or
+    /// itself at the port of its own attachments, which the number of its links numbers.
+    pub fn source(&self, router: u16, port: u8) -> Option<u16>
+        ensures { result ≡ source_at self.now router port }
+    {
+        let neighbours = self.neighbours.get(usize::from(router))?;
+        if usize::from(port) == neighbours.len() {
+            return Some(router);
+        }
         neighbours.get(usize::from(port)).copied()
     }
 

@@ -14,8 +14,8 @@ pub enum Fault {
     /// A router's name is no name, or was given before.
     #[error("42 BadName")]
     BadName,
-    /// The line of a link or of a prefix has a wrong number of words, an unreadable number, or an
-    /// owner that is not known.
+    /// The line of a link or of a prefix has a wrong number of words, an unreadable number, or, of a
+    /// prefix, a router that is not known.
     #[error("43 BadLine")]
     BadLine,
     /// A cost is outside 1..=65535.

@@ -1,13 +1,14 @@
 //! Reads the lines of a scenario: the parts of a network, and the commands to do on it.
 #![tactic(auto)]
 
+mod attachment;
 mod command;
 mod directory;
 mod fault;
 mod lines;
 mod link;
 mod names;
-mod owner;
+mod operand;
 mod place;
 mod reading;
 mod step;

@@ -39,6 +39,8 @@ pub struct RouterLine {
     pub held: usize,
     /// How many of them are ripe.
     pub ripe: usize,
+    /// How many notices of its own attachments it has yet to take.
+    pub notices: usize,
 }
 
 /// What is told of a router's machine for a prefix.
@@ -97,7 +99,7 @@ impl Directory {
         }
     }
 
-    /// The text `A gen G held H ripe R`.
+    /// The text `A gen G held H ripe R attach Q`.
     pub fn router(&self, line: RouterLine) -> Line<'_>
         ensures { result ≡ router_text self.now line }
     {
@@ -213,7 +215,11 @@ impl fmt::Display for Line<'_> {
             Told::Router(line) => {
                 let name = self.directory.name(Some(line.router));
                 let (generation, held, ripe) = (line.generation, line.held, line.ripe);
-                write!(f, "{name} gen {generation} held {held} ripe {ripe}")
+                let notices = line.notices;
+                write!(
+                    f,
+                    "{name} gen {generation} held {held} ripe {ripe} attach {notices}"
+                )
             }
             Told::Machine(line) => {
                 let name = self.directory.name(Some(line.router));

@@ -4,13 +4,14 @@ ghost use Rattle.std.specs.Prelude.{◌≡◌, IfOk, IfErr, OnOk, ◌⊎◌, Non
 ghost use Rattle.script.specs.Reading.{AreParts, Stops, no_parts};
 ghost use Rattle.script.specs.Seen.{lists_of, parts_of};
 
+use crate::attachment::read_attachments;
 use crate::command::{Command, read_commands};
 use crate::fault::Fault;
 use crate::link::read_links;
 use crate::names::{Names, read_names};
-use crate::owner::read_owners;
 use crate::place::Located;
 use ipv4_prefix::Prefix;
+use metric::Cost;
 use network_model::{LinkSpec, NoMemory};
 use std::alloc::Global;
 
@@ -24,8 +25,8 @@ pub struct Script {
     pub names: Names,
     /// The links, in the order of their numbers. An end whose name is not known is router 65535.
     pub links: Vec<LinkSpec>,
-    /// The prefixes, each with the number of its owner.
-    pub owners: Vec<(Prefix, u16)>,
+    /// The attachments: each a prefix, the number of the router, and the cost.
+    pub attachments: Vec<(Prefix, u16, Cost)>,
     /// The commands, in the order in which to do them.
     pub commands: Vec<Command>,
 }
@@ -77,7 +78,7 @@ impl Script {
         Script {
             names: Names::new(alloc),
             links: Vec::new(alloc),
-            owners: Vec::new(alloc),
+            attachments: Vec::new(alloc),
             commands: Vec::new(alloc),
         }
     }
@@ -100,7 +101,7 @@ impl Script {
     {
         read_names(alloc, &mut self.names, routers)?;
         read_links(&self.names, &mut self.links, links)?;
-        read_owners(&self.names, &mut self.owners, prefixes)?;
+        read_attachments(&self.names, &mut self.attachments, prefixes)?;
         if script.len() > MOST_COMMANDS {
             return Err(Located {
                 fault: Fault::TooLarge,
@@ -110,7 +111,7 @@ impl Script {
         read_commands(
             &self.names,
             &self.links,
-            &self.owners,
+            &self.attachments,
             &mut self.commands,
             script,
         )

@@ -1,14 +1,16 @@
 //! The steps that a script asks for.
 
-ghost use Rattle.std.specs.Prelude.{◌≡◌, ◌≤◌, ℕ, ◌∷◌, IfOk, IfErr, IfSome, None, Some, ◌<◌, length, position, codes};
+ghost use Rattle.std.specs.Prelude.{◌≡◌, ◌≤◌, ℕ, ◌∷◌, IfOk, IfErr, IfSome, ◌<◌, length, position, codes};
+ghost use Rattle.metric.specs.Distance.{IsCost};
 ghost use Rattle.script.specs.Words.{Text, words_of};
-ghost use Rattle.script.specs.Routers.{IsName, number_of};
-ghost use Rattle.script.specs.Commands.{joins as joins_both, link_between as first_between, port_on as number_on, AsksStep, AsksNoStep, IsWay, NamesLink};
+ghost use Rattle.script.specs.Commands.{joins as joins_both, link_between as first_between, port_on as number_on, AsksStep, AsksNoStep, AsksCost, AsksNoCost, AsksDelivery, AsksAttachment, AsksNoAttachment, IsWay, NamesLink};
 
 use crate::fault::Fault;
 use crate::names::Names;
+use crate::operand::{is_known, read_prefix, read_router};
 use crate::words::{first_word, three_words, two_words};
 use decimal_text::read_number;
+use ipv4_prefix::Prefix;
 use metric::Cost;
 use network_model::{LinkSpec, Step};
 
@@ -23,24 +25,34 @@ struct Way {
 }
 
 /// The step that a line of a script or of a journal says: `up A B`, `down A B`, `cost A B C`,
-/// `deliver A B`, `publish A` or `release A`. A `BadCommand` comes before a `BadCost`.
-pub fn parse_step(names: &Names, links: &[LinkSpec], line: &str) -> Result<Step, Fault>
-    ensures ok { IfOk result (AsksStep names.now links.now (words_of line.now)) }
-    ensures err { IfErr result (AsksNoStep names.now links.now (words_of line.now)) }
+/// `deliver A B`, `publish A`, `release A`, `attach A PREFIX COST` or `detach A PREFIX`. A `BadCommand`
+/// comes before the fault of a prefix, and that before a `BadCost`, but a prefix that the network does
+/// not have is a `BadCommand` after all others.
+pub fn parse_step(
+    names: &Names,
+    links: &[LinkSpec],
+    attachments: &[(Prefix, u16, Cost)],
+    line: &str,
+) -> Result<Step, Fault>
+    ensures ok { IfOk result (AsksStep names.now links.now attachments.now (words_of line.now)) }
+    ensures err { IfErr result (AsksNoStep names.now links.now attachments.now (words_of line.now)) }
 {
     let (verb, operands) = first_word(line).ok_or(Fault::BadCommand)?;
-    read_step(names, links, verb, operands)
+    read_step(names, links, attachments, verb, operands)
 }
 
 /// The step that a verb and its operands ask for.
 pub(crate) fn read_step(
     names: &Names,
     links: &[LinkSpec],
+    attachments: &[(Prefix, u16, Cost)],
     verb: &str,
     operands: &str,
 ) -> Result<Step, Fault>
-    ensures ok { IfOk result (AsksStep names.now links.now (verb.now ∷ words_of operands.now)) }
-    ensures err { IfErr result (AsksNoStep names.now links.now (verb.now ∷ words_of operands.now)) }
+    ensures ok { IfOk result
+        (AsksStep names.now links.now attachments.now (verb.now ∷ words_of operands.now)) }
+    ensures err { IfErr result
+        (AsksNoStep names.now links.now attachments.now (verb.now ∷ words_of operands.now)) }
 {
     match verb {
         "up" => {
@@ -51,11 +63,12 @@ pub(crate) fn read_step(
             let way = read_way(names, links, operands)?;
             Ok(Step::LinkDown { link: way.link })
         }
-        "cost" => read_cost(names, links, operands),
+        "cost" => {
+            let (router, port, cost) = read_cost(names, links, operands)?;
+            Ok(Step::SetCost { router, port, cost })
+        }
         "deliver" => {
-            let way = read_way(names, links, operands)?;
-            let port = port_on(links, way)?;
-            let router = way.router;
+            let (router, port) = read_port(names, links, operands)?;
             Ok(Step::Deliver { router, port })
         }
         "publish" => {
@@ -66,30 +79,79 @@ pub(crate) fn read_step(
             let router = read_router(names, operands)?;
             Ok(Step::Release { router })
         }
+        "attach" => {
+            let (router, prefix, cost) = read_attach(names, attachments, operands)?;
+            Ok(Step::Attach {
+                router,
+                prefix,
+                cost,
+            })
+        }
+        "detach" => {
+            let (router, prefix) = read_prefix(names, attachments, operands)?;
+            Ok(Step::Detach { router, prefix })
+        }
         _ => Err(Fault::BadCommand),
     }
 }
 
-// The step that the operands of `cost` ask for: the cost from the first router on the link to the second.
-fn read_cost(names: &Names, links: &[LinkSpec], operands: &str) -> Result<Step, Fault>
-    ensures ok { IfOk result (AsksStep names.now links.now (codes "cost" ∷ words_of operands.now)) }
-    ensures err { IfErr result (AsksNoStep names.now links.now (codes "cost" ∷ words_of operands.now)) }
+// The router, its port and the cost that the operands of `cost` name: the cost from the first router on
+// the link to the second.
+fn read_cost(names: &Names, links: &[LinkSpec], operands: &str) -> Result<(u16, u8, Cost), Fault>
+    ensures ok { IfOk result (λ w.
+        AsksCost names.now links.now (codes "cost" ∷ words_of operands.now) w.0 w.1 w.2 × IsCost w.2) }
+    ensures err { IfErr result (AsksNoCost names.now links.now (codes "cost" ∷ words_of operands.now)) }
 {
     let (name, neighbour, number) = three_words(operands).ok_or(Fault::BadCommand)?;
     let way = way_between(names, links, name, neighbour)?;
-    let port = port_on(links, way)?;
+    let port = port_on(links, way.router, usize::from(way.link))?;
     let number = read_number(number).ok_or(Fault::BadCommand)?;
     let cost = Cost::new(number)?;
-    let router = way.router;
-    Ok(Step::SetCost { router, port, cost })
+    Ok((way.router, port, cost))
 }
 
-/// The number of the router of this name.
-pub(crate) fn read_router(names: &Names, name: &str) -> Result<u16, Fault>
-    ensures ok { IfOk result (λ router. (number_of names.now name.now ≡ Some router) × IsName name.now) }
-    ensures err { IfErr result (λ e. (e ≡ Fault.BadCommand) × (number_of names.now name.now ≡ None)) }
+// The router and its port that the operands of `deliver` name: the port on the link to the second
+// router, or that of its own attachments where the router is named twice.
+fn read_port(names: &Names, links: &[LinkSpec], operands: &str) -> Result<(u16, u8), Fault>
+    ensures ok { IfOk result (λ w.
+        AsksDelivery names.now links.now (codes "deliver" ∷ words_of operands.now) w.0 w.1) }
+    ensures err { IfErr result (λ e. (e ≡ Fault.BadCommand) × ((router port : ℕ)
+        → ¬ (AsksDelivery names.now links.now (codes "deliver" ∷ words_of operands.now) router port))) }
 {
-    names.number(name).ok_or(Fault::BadCommand)
+    let (name, neighbour) = two_words(operands).ok_or(Fault::BadCommand)?;
+    if name == neighbour {
+        let router = read_router(names, name)?;
+        let port = port_on(links, router, links.len())?;
+        return Ok((router, port));
+    }
+    let way = way_between(names, links, name, neighbour)?;
+    let port = port_on(links, way.router, usize::from(way.link))?;
+    Ok((way.router, port))
+}
+
+// The router, the prefix and the cost that the operands of `attach` name.
+fn read_attach(
+    names: &Names,
+    attachments: &[(Prefix, u16, Cost)],
+    operands: &str,
+) -> Result<(u16, Prefix, Cost), Fault>
+    ensures ok { IfOk result (λ w.
+        AsksAttachment names.now attachments.now (codes "attach" ∷ words_of operands.now) w.0 w.1 w.2) }
+    ensures err { IfErr result
+        (AsksNoAttachment names.now attachments.now (codes "attach" ∷ words_of operands.now)) }
+{
+    let (name, text, number) = three_words(operands).ok_or(Fault::BadCommand)?;
+    if text.is_empty() {
+        return Err(Fault::BadCommand);
+    }
+    let router = read_router(names, name)?;
+    let number = read_number(number).ok_or(Fault::BadCommand)?;
+    let prefix = Prefix::parse(text)?;
+    let cost = Cost::new(number)?;
+    if !is_known(attachments, &prefix) {
+        return Err(Fault::BadCommand);
+    }
+    Ok((router, prefix, cost))
 }
 
 // The first of the two routers that the operands name, and their link.
@@ -139,24 +201,25 @@ fn joins(link: &LinkSpec, a: u16, b: u16) -> bool
     (link.a == a && link.b == b) || (link.a == b && link.b == a)
 }
 
-// The router's port on the link: as many earlier links touch the router.
-fn port_on(links: &[LinkSpec], way: Way) -> Result<u8, Fault>
-    ensures ok { IfOk result (λ port. (port ≡ number_on way.router way.link links.now) × (port < 256)) }
-    ensures err { IfErr result (λ e. (e ≡ Fault.BadCommand) × (256 ≤ number_on way.router way.link links.now)) }
+// The router's port past those on so many first links: as many of them touch it. So it is the port on
+// the link of that number, and past all links that of the router's own attachments.
+fn port_on(links: &[LinkSpec], router: u16, link: usize) -> Result<u8, Fault>
+    ensures ok { IfOk result (λ port. (port ≡ number_on router link links.now) × (port < 256)) }
+    ensures err { IfErr result (λ e. (e ≡ Fault.BadCommand) × (256 ≤ number_on router link links.now)) }
 {
-    match u8::try_from(earlier_links(links, way)) {
+    match u8::try_from(earlier_links(links, router, link)) {
         Ok(port) => Ok(port),
         Err(_) => Err(Fault::BadCommand),
     }
 }
 
-// How many links before the way's touch its router.
-fn earlier_links(links: &[LinkSpec], way: Way) -> usize
-    ensures { result ≡ number_on way.router way.link links.now }
+// How many links before the one of this number touch the router.
+fn earlier_links(links: &[LinkSpec], router: u16, link: usize) -> usize
+    ensures { result ≡ number_on router link links.now }
 {
     links
         .iter()
-        .take(usize::from(way.link))
-        .filter(|link| link.a == way.router || link.b == way.router)
+        .take(link)
+        .filter(|link| link.a == router || link.b == router)
         .count()
 }

@@ -54,8 +54,8 @@ pub struct Scenario {
     ghost few: { routers ≤ 8 },
 }
 
-/// The scenario of this seed: 3 to 8 routers, links between half of all pairs, 2 to 5 prefixes, and
-/// 200 commands, none of which ends the run.
+/// The scenario of this seed: 3 to 8 routers, links between half of all pairs, 2 to 5 prefixes, to each
+/// of which one router or two are attached, and 200 commands, none of which ends the run.
 pub fn draw(alloc: Global, seed: u64) -> Result<Scenario, AllocError> {
     let mut dice = Dice { state: seed };
     let mut text = String::new(alloc);
@@ -67,13 +67,13 @@ pub fn draw(alloc: Global, seed: u64) -> Result<Scenario, AllocError> {
     text.push_str("]\nlinks = [")?;
     let links = link(alloc, &mut dice, routers, &mut text)?;
     text.push_str("]\nprefixes = [")?;
-    for prefix in 0..2 + dice.below(4) {
-        let owner = NAMES[dice.below(routers)];
-        write!(&mut text, "\"{} {owner}\", ", PREFIXES[prefix])?;
+    let prefixes = 2 + dice.below(4);
+    for prefix in 0..prefixes {
+        attach(&mut dice, routers, PREFIXES[prefix], &mut text)?;
     }
     text.push_str("]\nscript = [\n")?;
     for _ in 0..200u8 {
-        command(&mut dice, routers, &links, &mut text)?;
+        command(&mut dice, routers, prefixes, &links, &mut text)?;
     }
     text.push_str("]\n")?;
     Ok(Scenario {
@@ -108,17 +108,39 @@ fn link(
     Ok(links)
 }
 
-// One command. One that may be refused is tried.
-fn command(
+// One attachment of a prefix, or two at routers beside each other, at costs of 1 to 9.
+fn attach(
     dice: &mut Dice,
     routers: usize,
-    links: &[(&str, &str)],
+    prefix: &str,
     text: &mut String,
 ) -> Result<(), AllocError>
     requires { (0 < routers) × (routers ≤ 8) }
 {
+    let first = dice.below(routers);
+    let cost = 1 + dice.below(9);
+    write!(text, "\"{prefix} {} {cost}\", ", NAMES[first])?;
+    let second = (first + 1) % routers;
+    if second != first && dice.below(2) == 0 {
+        let cost = 1 + dice.below(9);
+        write!(text, "\"{prefix} {} {cost}\", ", NAMES[second])?;
+    }
+    Ok(())
+}
+
+// One command. One that may be refused is tried.
+fn command(
+    dice: &mut Dice,
+    routers: usize,
+    prefixes: usize,
+    links: &[(&str, &str)],
+    text: &mut String,
+) -> Result<(), AllocError>
+    requires routers { (0 < routers) × (routers ≤ 8) }
+    requires prefixes { (0 < prefixes) × (prefixes ≤ 5) }
+{
     let router = NAMES[dice.below(routers)];
-    let kind = dice.below(24);
+    let kind = dice.below(28);
     match kind {
         0..=2 => return writeln!(text, "\"settle\","),
         3 => return writeln!(text, "\"drain\","),
@@ -128,6 +150,16 @@ fn command(
         }
         8 | 9 => return writeln!(text, "\"try publish {router}\","),
         10 | 11 => return writeln!(text, "\"try release {router}\","),
+        24 | 25 => {
+            let prefix = PREFIXES[dice.below(prefixes)];
+            let cost = 1 + dice.below(9);
+            return writeln!(text, "\"try attach {router} {prefix} {cost}\",");
+        }
+        26 => {
+            let prefix = PREFIXES[dice.below(prefixes)];
+            return writeln!(text, "\"try detach {router} {prefix}\",");
+        }
+        27 => return writeln!(text, "\"try deliver {router} {router}\","),
         _ => {}
     }
     if links.is_empty() {

@@ -24,6 +24,9 @@ Commands of a script and of the shell:
   up A B, down A B       the link of A and B comes up, goes down
   cost A B C             the cost from A on the link to B becomes C
   deliver A B            A takes the front item from its port to B
+  deliver A A            A takes the front notice of its own attachments
+  attach A PREFIX COST   A is attached to the prefix, or at another cost
+  detach A PREFIX        A is attached to the prefix no longer
   publish A, release A   A puts its rows in force, sends its front message
   try STEP               does one of these steps, prints whether it was refused
   settle                 each router does what it has to do, until nothing is left

@@ -10,7 +10,7 @@ use Rattle.network_model.specs.declared.network.LinkSpec.{LinkSpec}
 use Rattle.network_model.specs.declared.network.NetworkFault.{NetworkFault}
 use Rattle.network_model.specs.declared.network.NetworkFault.TheVariants.{BadRouters, BadLink, TooManyLinks}
 use Rattle.network_model.specs.World.{Network, places_from}
-use Rattle.network_model.specs.Network.{first_cause, link_causes, owner_causes, most_routers, is_bad_link, is_link_too_many, touches, degree, most_ports, most_links, network_fault}
+use Rattle.network_model.specs.Network.{first_cause, link_causes, attachment_causes, most_routers, is_bad_link, is_link_too_many, touches, degree, most_ports, most_links, network_fault}
 use Rattle.network_model.proofs.Causes.{first_none, none_in_both}
 
 -- ---- a router has a port for each link that touches it
@@ -86,9 +86,9 @@ within_all routers i before (s ∷ ss) none within =
 -- so no router has more than 32 ports
 pub few_ports : (n : Network) (i : ℕ) → network_fault n ≡ None → length (places_from 0 i n.links) ≤ 32
 few_ports n i none =
-    let parts : (not (nat_lt 0 n.routers && nat_le n.routers most_routers) ≡ false) × (first_cause (link_causes n.routers [] n.links ++ owner_causes n.routers [] n.owners) ≡ None)
-    = first_none (not (nat_lt 0 n.routers && nat_le n.routers most_routers)) BadRouters (link_causes n.routers [] n.links ++ owner_causes n.routers [] n.owners) none in
-    let links : first_cause (link_causes n.routers [] n.links) ≡ None = (none_in_both (link_causes n.routers [] n.links) (owner_causes n.routers [] n.owners) parts.1).0 in
+    let parts : (not (nat_lt 0 n.routers && nat_le n.routers most_routers) ≡ false) × (first_cause (link_causes n.routers [] n.links ++ attachment_causes n.routers [] n.attachments) ≡ None)
+    = first_none (not (nat_lt 0 n.routers && nat_le n.routers most_routers)) BadRouters (link_causes n.routers [] n.links ++ attachment_causes n.routers [] n.attachments) none in
+    let links : first_cause (link_causes n.routers [] n.links) ≡ None = (none_in_both (link_causes n.routers [] n.links) (attachment_causes n.routers [] n.attachments) parts.1).0 in
     let degrees : degree i ([] ++ n.links) ≤ most_ports = within_all n.routers i [] n.links links (omega arith) in
     let ports : length (places_from 0 i n.links) ≡ degree i n.links = ports-degree i n.links in
     omega (arith, degrees, ports)
@@ -113,7 +113,7 @@ length_within routers before (s ∷ ss) none within =
 
 pub few_links : (n : Network) → network_fault n ≡ None → length n.links ≤ 1024
 few_links n none =
-    let parts : (not (nat_lt 0 n.routers && nat_le n.routers most_routers) ≡ false) × (first_cause (link_causes n.routers [] n.links ++ owner_causes n.routers [] n.owners) ≡ None)
-    = first_none (not (nat_lt 0 n.routers && nat_le n.routers most_routers)) BadRouters (link_causes n.routers [] n.links ++ owner_causes n.routers [] n.owners) none in
-    let within : 0 + length n.links ≤ most_links = length_within n.routers [] n.links (none_in_both (link_causes n.routers [] n.links) (owner_causes n.routers [] n.owners) parts.1).0 (omega arith) in
+    let parts : (not (nat_lt 0 n.routers && nat_le n.routers most_routers) ≡ false) × (first_cause (link_causes n.routers [] n.links ++ attachment_causes n.routers [] n.attachments) ≡ None)
+    = first_none (not (nat_lt 0 n.routers && nat_le n.routers most_routers)) BadRouters (link_causes n.routers [] n.links ++ attachment_causes n.routers [] n.attachments) none in
+    let within : 0 + length n.links ≤ most_links = length_within n.routers [] n.links (none_in_both (link_causes n.routers [] n.links) (attachment_causes n.routers [] n.attachments) parts.1).0 (omega arith) in
     omega (arith, within)

@@ -1,30 +1,34 @@
 -- What the answer of a call on a link, a port or a router says of the step that it is done for.
-use Rattle.std.specs.Prelude.{◌≡◌, ℕ, ◌<◌, Bool, true, false, not, nat_lt, List, [], ◌∷◌, length, Option, Some, None, Result, Ok, Err, slice_get, is_none, is_ok, option_and_then, option_map, MatchOption, IfOk, IfErr, OnOk, OnSome}
+use Rattle.std.specs.Prelude.{◌≡◌, ℕ, ◌<◌, Bool, true, false, not, ◌&&◌, ◌==◌, if◌then◌else◌, nat_lt, List, [], ◌∷◌, length, Option, Some, None, Result, Ok, Err, slice_get, is_none, is_ok, option_and_then, option_map, MatchOption, IfOk, IfErr, OnOk, OnSome}
 use Rattle.std.specs.Option.{option_map_or, ok_or}
-use Rattle.std.proofs.Common.{refl, sym, ap, subst, ◌∙◌}
-use Rattle.std.proofs.lemmas.Bool.{true≢false}
+use Rattle.std.proofs.Common.{refl, sym, ap, subst, ◌∙◌, arith, inl, inr}
+use Rattle.std.proofs.Math.Bool.{and-false}
+use Rattle.std.proofs.lemmas.Bool.{true≢false, eqb-true}
 use Rattle.std.proofs.lemmas.Option.{slice_get_within}
 use Rattle.metric.specs.Distance.{IsCost}
+use Rattle.std.specs.FinMap.{find as row_of}
+use Rattle.ipv4_prefix.specs.Prefix.{Prefix, prefix_cmp}
 use Rattle.network_model.specs.declared.item.Item.{Item}
+use Rattle.network_model.specs.declared.item.Notice.{Notice}
 use Rattle.network_model.specs.declared.item.Held.{Held}
 use Rattle.network_model.specs.declared.network.End.{End}
 use Rattle.network_model.specs.declared.network.Place.{Place}
 use Rattle.network_model.specs.declared.network.Port.{Port}
 use Rattle.network_model.specs.declared.step.Step.{Step}
-use Rattle.network_model.specs.declared.step.Step.TheVariants.{LinkUp, LinkDown, SetCost, Deliver, Release}
+use Rattle.network_model.specs.declared.step.Step.TheVariants.{LinkUp, LinkDown, SetCost, Deliver, Release, Detach}
 use Rattle.network_model.specs.declared.step.Refusal.{Refusal}
 use Rattle.network_model.specs.Machine.{changed_at}
-use Rattle.network_model.specs.World.{Side, Link, Router, World, place_at, link_at, side}
+use Rattle.network_model.specs.World.{Side, Link, Router, Attachments, World, place_at, link_at, is_known, side}
 use Rattle.network_model.specs.Network.{first_cause}
-use Rattle.network_model.specs.Step.{CanBeAsked, next, refusal, is_up, last_session, front_at, release_at, link_come_up, link_gone_down, with_cost, with_message, with_front_taken, with_delivered, with_released, changed_router, router_accepting, router_releasing}
+use Rattle.network_model.specs.Step.{CanBeAsked, Lawful, next, refusal, is_up, last_session, front_at, is_at_home, notice_at, release_at, link_come_up, link_gone_down, with_cost, with_message, with_front_taken, with_delivered, with_noticed, with_notice_taken, with_released, changed_router, router_accepting, router_at_home, router_releasing}
 use Rattle.network_model.proofs.ListLaws.{None_not_Some, Some_injective, element_there}
-use Rattle.network_model.proofs.Lawful.{refusal_to_Lawful}
+use Rattle.network_model.proofs.Lawful.{refusal_to_Lawful, Lawful_to_refusal}
 use Rattle.link_fifo.specs.declared.refusal.LinkRefusal.{LinkRefusal}
 use Rattle.link_fifo.specs.Refusals.{refusal_to_come_up, refusal_to_change, front_of, sent_in}
 use Rattle.link_fifo.proofs.Changes.{front_of-Some}
 use Rattle.router_core.specs.Router.{is_port_up, CanTake}
 use Rattle.world.specs.Kept.{LeadsTo, IsKept}
-use Rattle.world.specs.Steps.{IsDoneOr, IsPort, port_refusal}
+use Rattle.world.specs.Steps.{IsDoneOr, IsPort, port_refusal, prefix_refusal}
 use Rattle.world.proofs.Steps.{next-kept}
 
 -- ---- causes
@@ -68,8 +72,23 @@ refused o r e is answer = subst (λ c. IsDoneOr c r) (sym is) answer
 pub no_port-set_cost : (w : World) (i q cost : ℕ) (r : Result (Unit {0}) Refusal) (e : Refusal) → port_refusal w i q ≡ Some e → r ≡ Err e → IsDoneOr (refusal w (SetCost i q cost)) r
 no_port-set_cost w i q cost r e found answer = refused (refusal w (SetCost i q cost)) r e (first_of_two Refusal.UnknownRouter Refusal.UnknownLink (is_none (slice_get w.routers i)) (is_none (link_at w i q)) ((not (is_up (link_at w i q)), Refusal.IsDown) ∷ []) e found) answer
 
-pub no_port-deliver : (w : World) (i q : ℕ) (r : Result (Unit {0}) Refusal) (e : Refusal) → port_refusal w i q ≡ Some e → r ≡ Err e → IsDoneOr (refusal w (Deliver i q)) r
-no_port-deliver w i q r e found answer = refused (refusal w (Deliver i q)) r e (first_of_two Refusal.UnknownRouter Refusal.UnknownLink (is_none (slice_get w.routers i)) (is_none (link_at w i q)) ((is_none (front_at w i q), Refusal.NothingToDeliver) ∷ []) e found) answer
+-- a test of what is there fails with one that holds beside it
+beside_true : (a b : Bool) → b ≡ true → (a && b) ≡ a
+beside_true true b holds = holds
+beside_true false b holds = refl
+
+-- the tests of a delivery at a port that is not the one of the notices
+pub item_refusal : (w : World) (i q : ℕ) → is_at_home w i q ≡ false
+    → refusal w (Deliver i q) ≡ first_cause ((is_none (slice_get w.routers i), Refusal.UnknownRouter) ∷ (is_none (link_at w i q), Refusal.UnknownLink) ∷ (is_none (front_at w i q), Refusal.NothingToDeliver) ∷ [])
+item_refusal w i q away =
+    let no_notice : is_none (notice_at w i q) ≡ true = ap (λ b. is_none (if b then option_and_then (λ (a : Attachments). slice_get a.notices 0) (slice_get w.attachments i) else None)) away in
+    ap (λ b. first_cause ((is_none (slice_get w.routers i), Refusal.UnknownRouter) ∷ (b, Refusal.UnknownLink) ∷ (is_none (front_at w i q) && is_none (notice_at w i q), Refusal.NothingToDeliver) ∷ []))
+    (beside_true (is_none (link_at w i q)) (not (is_at_home w i q)) (ap not away))
+    ∙ ap (λ b. first_cause ((is_none (slice_get w.routers i), Refusal.UnknownRouter) ∷ (is_none (link_at w i q), Refusal.UnknownLink) ∷ (b, Refusal.NothingToDeliver) ∷ []))
+    (beside_true (is_none (front_at w i q)) (is_none (notice_at w i q)) no_notice)
+
+pub no_port-deliver : (w : World) (i q : ℕ) (r : Result (Unit {0}) Refusal) (e : Refusal) → is_at_home w i q ≡ false → port_refusal w i q ≡ Some e → r ≡ Err e → IsDoneOr (refusal w (Deliver i q)) r
+no_port-deliver w i q r e away found answer = refused (refusal w (Deliver i q)) r e (item_refusal w i q away ∙ first_of_two Refusal.UnknownRouter Refusal.UnknownLink (is_none (slice_get w.routers i)) (is_none (link_at w i q)) ((is_none (front_at w i q), Refusal.NothingToDeliver) ∷ []) e found) answer
 
 -- ---- what a step that was done keeps
 
@@ -174,11 +193,115 @@ pub delivered : (w : World) (i q : ℕ) (p : Place) (item : Item) (links : List 
 delivered w i q p item links routers port answer links_are routers_are =
     ap (λ ks. record w { links = ks; routers = routers }) links_are
     ∙ ap (λ rs. record w { links = changed_at p.link (with_front_taken p.end) w.links; routers = rs }) routers_are
-    ∙ sym (ap (λ o. option_map_or (with_delivered i q w) o w) (front_at_is w i q p item port answer)
+    ∙ sym (ap (λ o. option_map_or (with_delivered i q w) o (option_map_or (with_noticed i w) (notice_at w i q) w)) (front_at_is w i q p item port answer)
     ∙ ap (λ o. changed_router i (router_accepting q item) (option_map_or (λ (x : Place). record w { links = changed_at x.link (with_front_taken x.end) w.links }) o w)) port.is_place)
 
 pub delivered-keeps : (w : World) (i q : ℕ) (p : Place) (item : Item) (v : World) → IsPort w i q p → front_of p.end (slice_get w.links p.link) ≡ Ok item → v ≡ next w (Deliver i q) → IsKept w → IsKept v
-delivered-keeps w i q p item v port answer is h = subst IsKept (sym is) (next-kept w (Deliver i q) (port.router, item, port.is_router, front_at_is w i q p item port answer) h)
+delivered-keeps w i q p item v port answer is h = subst IsKept (sym is) (next-kept w (Deliver i q) (port.router, port.is_router, inl (item, front_at_is w i q p item port answer)) h)
+
+-- ---- a notice
+
+-- the places of the router, and the number of the port behind them
+home_is : (w : World) (i q : ℕ) → is_at_home w i q ≡ true → (ps : List Place) × (slice_get w.places i ≡ Some ps) × (q ≡ length ps)
+home_is w i q home = by_places (slice_get w.places i) refl home
+  where
+    by_places : (o : Option (List Place)) → slice_get w.places i ≡ o → option_map_or (λ d. q == d) (option_map (λ (ps : List Place). length ps) o) false ≡ true → (ps : List Place) × (slice_get w.places i ≡ Some ps) × (q ≡ length ps)
+    by_places None is away = absurd (true≢false (sym away))
+    by_places (Some ps) is same = (ps, is, eqb-true q (length ps) same)
+
+-- no link's end is at the port of the notices
+no_place : (w : World) (i q : ℕ) → is_at_home w i q ≡ true → place_at w i q ≡ None
+no_place w i q home =
+    let H = home_is w i q home in
+    ap (option_and_then (λ (ps : List Place). slice_get ps q)) H.1 ∙ by_place H.0 (slice_get H.0 q) refl H.2
+  where
+    by_place : (ps : List Place) (o : Option Place) → slice_get ps q ≡ o → q ≡ length ps → slice_get ps q ≡ None
+    by_place ps None is at = is
+    by_place ps (Some p) is at = (let within = slice_get_within ps q p is in absurd (omega (arith, within, at)))
+
+no_front : (w : World) (i q : ℕ) → is_at_home w i q ≡ true → front_at w i q ≡ None
+no_front w i q home = ap (λ o. option_and_then (λ (s : Side). slice_get s.inbox 0) (option_and_then (λ (p : Place). option_map (side p.end) (slice_get w.links p.link)) o)) (no_place w i q home)
+
+-- a router whose port it is is there, and so are its attachments
+pub router_within : (w : World) (i q : ℕ) → IsKept w → is_at_home w i q ≡ true → i < length w.routers
+router_within w i q h home =
+    let H = home_is w i q home in
+    let within = slice_get_within w.places i H.0 H.1 in
+    let as_many = h.routers_placed in
+    omega (arith, within, as_many)
+
+pub attachments_within : (w : World) (i q : ℕ) → IsKept w → is_at_home w i q ≡ true → i < length w.attachments
+attachments_within w i q h home =
+    let within = router_within w i q h home in
+    let as_many = h.attachments_placed in
+    omega (arith, within, as_many)
+
+-- the notice that it takes
+pub notice_is : (w : World) (i q : ℕ) (a : Attachments) → is_at_home w i q ≡ true → slice_get w.attachments i ≡ Some a → notice_at w i q ≡ slice_get a.notices 0
+notice_is w i q a home there =
+    ap (λ b. if b then option_and_then (λ (x : Attachments). slice_get x.notices 0) (slice_get w.attachments i) else None) home
+    ∙ ap (option_and_then (λ (x : Attachments). slice_get x.notices 0)) there
+
+-- there it is refused where no notice waits, and for no other cause
+pub notice_refusal : (w : World) (i q : ℕ) (r : Router) → slice_get w.routers i ≡ Some r → is_at_home w i q ≡ true → refusal w (Deliver i q) ≡ first_cause ((is_none (notice_at w i q), Refusal.NothingToDeliver) ∷ [])
+notice_refusal w i q r there home =
+    ap (λ b. first_cause ((b, Refusal.UnknownRouter) ∷ (is_none (link_at w i q) && not (is_at_home w i q), Refusal.UnknownLink) ∷ (is_none (front_at w i q) && is_none (notice_at w i q), Refusal.NothingToDeliver) ∷ []))
+    (ap is_none there)
+    ∙ ap (λ b. first_cause ((b, Refusal.UnknownLink) ∷ (is_none (front_at w i q) && is_none (notice_at w i q), Refusal.NothingToDeliver) ∷ [])) (ap (λ b. is_none (link_at w i q) && not b) home ∙ and-false (is_none (link_at w i q)))
+    ∙ ap (λ o. first_cause ((is_none o && is_none (notice_at w i q), Refusal.NothingToDeliver) ∷ [])) (no_front w i q home)
+
+-- router i took this notice
+pub noticed : (w : World) (i q : ℕ) (x : Notice) (attachments : List Attachments) (routers : List Router) → is_at_home w i q ≡ true → notice_at w i q ≡ Some x
+    → attachments ≡ changed_at i with_notice_taken w.attachments → routers ≡ changed_at i (router_at_home x) w.routers → record w { attachments = attachments; routers = routers } ≡ next w (Deliver i q)
+noticed w i q x attachments routers home waits attachments_are routers_are =
+    ap (λ as_then. record w { attachments = as_then; routers = routers }) attachments_are
+    ∙ ap (λ rs. record w { attachments = changed_at i with_notice_taken w.attachments; routers = rs }) routers_are
+    ∙ sym (ap (λ o. option_map_or (with_delivered i q w) o (option_map_or (with_noticed i w) (notice_at w i q) w)) (no_front w i q home)
+    ∙ ap (λ o. option_map_or (with_noticed i w) o w) waits)
+
+-- to take it is lawful
+pub notice_lawful : (w : World) (i q : ℕ) (x : Notice) → IsKept w → is_at_home w i q ≡ true → notice_at w i q ≡ Some x → Lawful w (Deliver i q)
+notice_lawful w i q x h home waits =
+    let r : _ = element_there w.routers i (router_within w i q h home) in
+    (r.0, r.1, inr (x, waits))
+
+pub noticed-keeps : (w : World) (i q : ℕ) (x : Notice) (v : World) → is_at_home w i q ≡ true → notice_at w i q ≡ Some x → v ≡ next w (Deliver i q) → IsKept w → IsKept v
+noticed-keeps w i q x v home waits is h = subst IsKept (sym is) (next-kept w (Deliver i q) (notice_lawful w i q x h home waits) h)
+
+-- ---- attachments
+
+-- a router and a prefix that are there
+known_there : (w : World) (i : ℕ) (p : Prefix) → prefix_refusal w i p ≡ None → ((r : Router) × (slice_get w.routers i ≡ Some r)) × (is_known w p ≡ true)
+known_there w i p none = by_tests (slice_get w.routers i) refl (is_known w p) refl none
+  where
+    by_tests : (o : Option Router) → slice_get w.routers i ≡ o → (b : Bool) → is_known w p ≡ b → first_cause ((is_none o, Refusal.UnknownRouter) ∷ (not b, Refusal.UnknownPrefix) ∷ []) ≡ None
+        → ((r : Router) × (slice_get w.routers i ≡ Some r)) × (is_known w p ≡ true)
+    by_tests None there b known e = absurd (None_not_Some (sym e))
+    by_tests (Some r) there true known e = ((r, there), known)
+    by_tests (Some r) there false known e = absurd (None_not_Some (sym e))
+
+-- the router has its attachments
+pub known_within : (w : World) (i : ℕ) (p : Prefix) → IsKept w → prefix_refusal w i p ≡ None → i < length w.attachments
+known_within w i p h none =
+    let K = (known_there w i p none).0 in
+    let within = slice_get_within w.routers i K.0 K.1 in
+    let as_many = h.attachments_placed in
+    omega (arith, within, as_many)
+
+-- a router that has an attachment may lose it
+pub detach_lawful : (w : World) (i : ℕ) (p : Prefix) (a : Attachments) → prefix_refusal w i p ≡ None → slice_get w.attachments i ≡ Some a → is_none (row_of prefix_cmp p a.costs) ≡ false → Lawful w (Detach i p)
+detach_lawful w i p a none there attached =
+    let K = known_there w i p none in
+    let C = some_there (row_of prefix_cmp p a.costs) attached in
+    ((K.0).0, C.0, (K.0).1, K.1, ap (option_and_then (λ (x : Attachments). row_of prefix_cmp p x.costs)) there ∙ C.1)
+  where
+    some_there : (o : Option ℕ) → is_none o ≡ false → (c : ℕ) × (o ≡ Some c)
+    some_there None e = absurd (true≢false e)
+    some_there (Some c) e = (c, refl)
+
+-- what is lawful is not refused
+pub is_done : (w : World) (s : Step) → Lawful w s → IsDoneOr (refusal w s) (Ok (tt {0}))
+is_done w s lawful = subst (λ c. IsDoneOr c (Ok (tt {0}))) (sym (Lawful_to_refusal w s lawful)) tt
 
 -- ---- a release
 

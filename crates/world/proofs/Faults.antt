@@ -1,4 +1,4 @@
--- The faults of a network, one link or prefix after another.
+-- The faults of a network, one link or attachment after another.
 use Rattle.std.specs.Prelude.{◌≡◌, ℕ, suc, ◌+◌, ◌<◌, ◌≤◌, Bool, true, false, not, ◌&&◌, ◌==◌, nat_le, List, [], ◌∷◌, ◌++◌, take, drop, length, get_or, Some, None, if◌then◌else◌}
 use Rattle.std.proofs.Common.{refl, sym, ap, subst, ◌∙◌, arith, add-one}
 use Rattle.std.proofs.lemmas.Bool.{eqb-true, eq-eqb, true≢false, lt-ltb, le-leb}
@@ -8,7 +8,7 @@ use Rattle.ipv4_prefix.specs.Prefix.{Prefix}
 use Rattle.network_model.specs.declared.network.LinkSpec.{LinkSpec}
 use Rattle.network_model.specs.declared.network.NetworkFault.{NetworkFault}
 use Rattle.network_model.specs.declared.network.NetworkFault.TheVariants.{BadRouters, BadLink, TooManyLinks, BadOwner}
-use Rattle.network_model.specs.Network.{first_cause, link_causes, owner_causes, is_bad_link, is_link_too_many, is_bad_owner, network_fault, most_routers}
+use Rattle.network_model.specs.Network.{first_cause, link_causes, attachment_causes, is_bad_link, is_link_too_many, is_bad_attachment, network_fault, most_routers}
 use Rattle.network_model.proofs.Causes.{first_cause-some, first_cause-none}
 use Rattle.world.specs.Parts.{network_of}
 
@@ -68,39 +68,39 @@ all_more {A} P xs i x below at here before k d h = by_test (k == i) refl
         let apart : k ≡ i → ⊥ = λ e. true≢false (sym (eq-eqb k i e) ∙ differ) in
         before k d (omega (arith, apart))
 
--- ---- prefixes
+-- ---- attachments
 
-abbrev pub owner_causes_from : ℕ → List (Prefix × ℕ) → ℕ → List (Bool × NetworkFault)
-owner_causes_from routers owners i = owner_causes routers (take i owners) (drop i owners)
+abbrev pub attachment_causes_from : ℕ → List (Prefix × ℕ × ℕ) → ℕ → List (Bool × NetworkFault)
+attachment_causes_from routers attachments i = attachment_causes routers (take i attachments) (drop i attachments)
 
-module _ (routers : ℕ) (owners : List (Prefix × ℕ)) (i : ℕ) (owner : Prefix × ℕ) (below : i < length owners) (at : owner ≡ get_or owners i owner) where
-  owner_causes_from-step : owner_causes_from routers owners i ≡ (is_bad_owner routers (take i owners) owner, BadOwner i) ∷ owner_causes_from routers owners (suc i)
-  owner_causes_from-step =
-      let number : length (take i owners) ≡ i = length-take-le i owners (omega arith) in
-      let more : take i owners ++ owner ∷ [] ≡ take (suc i) owners = ap (λ x. take i owners ++ x ∷ []) at ∙ sym (take-suc owners i owner below) in
-      ap (owner_causes routers (take i owners)) (drop-cons owners i owner below ∙ ap (λ x. x ∷ drop (suc i) owners) (sym at))
-      ∙ λ j. (is_bad_owner routers (take i owners) owner, BadOwner (number j)) ∷ owner_causes routers (more j) (drop (suc i) owners)
+module _ (routers : ℕ) (attachments : List (Prefix × ℕ × ℕ)) (i : ℕ) (attachment : Prefix × ℕ × ℕ) (below : i < length attachments) (at : attachment ≡ get_or attachments i attachment) where
+  attachment_causes_from-step : attachment_causes_from routers attachments i ≡ (is_bad_attachment routers (take i attachments) attachment, BadOwner i) ∷ attachment_causes_from routers attachments (suc i)
+  attachment_causes_from-step =
+      let number : length (take i attachments) ≡ i = length-take-le i attachments (omega arith) in
+      let more : take i attachments ++ attachment ∷ [] ≡ take (suc i) attachments = ap (λ x. take i attachments ++ x ∷ []) at ∙ sym (take-suc attachments i attachment below) in
+      ap (attachment_causes routers (take i attachments)) (drop-cons attachments i attachment below ∙ ap (λ x. x ∷ drop (suc i) attachments) (sym at))
+      ∙ λ j. (is_bad_attachment routers (take i attachments) attachment, BadOwner (number j)) ∷ attachment_causes routers (more j) (drop (suc i) attachments)
 
-  pub bad_owner_first : is_bad_owner routers (take i owners) owner ≡ true → first_cause (owner_causes_from routers owners i) ≡ Some (BadOwner i)
-  bad_owner_first bad = ap first_cause owner_causes_from-step ∙ ap (λ t. if t then Some (BadOwner i) else first_cause (owner_causes_from routers owners (suc i))) bad
+  pub bad_attachment_first : is_bad_attachment routers (take i attachments) attachment ≡ true → first_cause (attachment_causes_from routers attachments i) ≡ Some (BadOwner i)
+  bad_attachment_first bad = ap first_cause attachment_causes_from-step ∙ ap (λ t. if t then Some (BadOwner i) else first_cause (attachment_causes_from routers attachments (suc i))) bad
 
-  pub no_owner_fault : is_bad_owner routers (take i owners) owner ≡ false → first_cause (owner_causes_from routers owners i) ≡ first_cause (owner_causes_from routers owners (i + 1))
-  no_owner_fault fine = ap first_cause owner_causes_from-step ∙ ap (λ t. if t then Some (BadOwner i) else first_cause (owner_causes_from routers owners (suc i))) fine
-      ∙ ap (λ n. first_cause (owner_causes_from routers owners n)) (sym (add-one i))
+  pub no_attachment_fault : is_bad_attachment routers (take i attachments) attachment ≡ false → first_cause (attachment_causes_from routers attachments i) ≡ first_cause (attachment_causes_from routers attachments (i + 1))
+  no_attachment_fault fine = ap first_cause attachment_causes_from-step ∙ ap (λ t. if t then Some (BadOwner i) else first_cause (attachment_causes_from routers attachments (suc i))) fine
+      ∙ ap (λ n. first_cause (attachment_causes_from routers attachments n)) (sym (add-one i))
 
-pub owner_causes_from-end : (routers : ℕ) (owners : List (Prefix × ℕ)) (i : ℕ) → length owners ≤ i → first_cause (owner_causes_from routers owners i) ≡ None
-owner_causes_from-end routers owners i past = ap (λ xs. first_cause (owner_causes routers (take i owners) xs)) (drop_all i owners past)
+pub attachment_causes_from-end : (routers : ℕ) (attachments : List (Prefix × ℕ × ℕ)) (i : ℕ) → length attachments ≤ i → first_cause (attachment_causes_from routers attachments i) ≡ None
+attachment_causes_from-end routers attachments i past = ap (λ xs. first_cause (attachment_causes routers (take i attachments) xs)) (drop_all i attachments past)
 
 -- ---- the whole network
 
--- with a number of routers that can be, the first fault is that of the links or, after them, of the prefixes
-module _ (routers : ℕ) (links : List LinkSpec) (owners : List (Prefix × ℕ)) (some : 0 < routers) (few : routers ≤ most_routers) where
-  fault_of_parts : network_fault (network_of routers links owners) ≡ first_cause (link_causes routers [] links ++ owner_causes routers [] owners)
-  fault_of_parts = ap (λ b. if not b then Some BadRouters else first_cause (link_causes routers [] links ++ owner_causes routers [] owners))
+-- with a number of routers that can be, the first fault is that of the links or, after them, of the attachments
+module _ (routers : ℕ) (links : List LinkSpec) (attachments : List (Prefix × ℕ × ℕ)) (some : 0 < routers) (few : routers ≤ most_routers) where
+  fault_of_parts : network_fault (network_of routers links attachments) ≡ first_cause (link_causes routers [] links ++ attachment_causes routers [] attachments)
+  fault_of_parts = ap (λ b. if not b then Some BadRouters else first_cause (link_causes routers [] links ++ attachment_causes routers [] attachments))
       (ap (λ b. b && nat_le routers most_routers) (lt-ltb 0 routers some) ∙ le-leb routers most_routers few)
 
-  pub fault_of_link : (fault : NetworkFault) → first_cause (link_causes routers [] links) ≡ Some fault → network_fault (network_of routers links owners) ≡ Some fault
-  fault_of_link fault is = fault_of_parts ∙ first_cause-some (link_causes routers [] links) (owner_causes routers [] owners) fault is
+  pub fault_of_link : (fault : NetworkFault) → first_cause (link_causes routers [] links) ≡ Some fault → network_fault (network_of routers links attachments) ≡ Some fault
+  fault_of_link fault is = fault_of_parts ∙ first_cause-some (link_causes routers [] links) (attachment_causes routers [] attachments) fault is
 
-  pub fault_of_owners : first_cause (link_causes routers [] links) ≡ None → network_fault (network_of routers links owners) ≡ first_cause (owner_causes routers [] owners)
-  fault_of_owners none = fault_of_parts ∙ first_cause-none (link_causes routers [] links) (owner_causes routers [] owners) none
+  pub fault_of_attachments : first_cause (link_causes routers [] links) ≡ None → network_fault (network_of routers links attachments) ≡ first_cause (attachment_causes routers [] attachments)
+  fault_of_attachments none = fault_of_parts ∙ first_cause-none (link_causes routers [] links) (attachment_causes routers [] attachments) none

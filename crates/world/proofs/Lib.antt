@@ -8,3 +8,4 @@ pub mod Done
 pub mod Ranges
 pub mod Runs
 pub mod Waiting
+pub mod Prefixes

@@ -1,5 +1,5 @@
 -- A network that opens has ports and links that fit together.
-use Rattle.std.specs.Prelude.{◌≡◌, ℕ, ◌<◌, false, List, map, length, Option, Some, None, slice_get, option_and_then, option_map, get_or}
+use Rattle.std.specs.Prelude.{◌≡◌, ℕ, ◌<◌, false, List, [], map, length, Option, Some, None, slice_get, option_and_then, option_map, get_or}
 use Rattle.std.proofs.Common.{refl, sym, ap, subst, ◌∙◌, arith}
 use Rattle.std.proofs.lemmas.List.{length-map}
 use Rattle.std.proofs.lemmas.List.FromFn.{length-map-range_with_len}
@@ -9,7 +9,7 @@ use Rattle.network_model.specs.declared.network.End.TheVariants.{A, B}
 use Rattle.network_model.specs.declared.network.LinkSpec.{LinkSpec}
 use Rattle.network_model.specs.declared.network.Place.{Place}
 use Rattle.network_model.specs.declared.network.Port.{Port}
-use Rattle.network_model.specs.World.{Link, Router, Network, side, place_at, places_from, opening, opening_link, opening_port, opening_router_of}
+use Rattle.network_model.specs.World.{Link, Router, Network, side, place_at, places_from, opening, opening_link, opening_port, opening_router_of, costs_of}
 use Rattle.network_model.proofs.ListLaws.{Some_injective, None_not_Some, listed_within}
 use Rattle.network_model.proofs.PortPlaces.{router_end, ports_before, IsPort, place_to_IsPort}
 use Rattle.world.specs.Kept.{LeadsTo, IsKept}
@@ -48,6 +48,7 @@ opening-kept n = record {
       let routers : i ≡ j = sym x.router_is ∙ ap (router_end p.end) specs ∙ y.router_is in
       (routers, sym x.port_is ∙ ap (λ k. ports_before k i n.links) numbers ∙ ap (λ k. ports_before y.number k n.links) routers ∙ y.port_is);
   routers_placed = length-map-range_with_len (λ i. places_from 0 i n.links) 0 n.routers ∙ sym (length-map-range_with_len (opening_router_of n) 0 n.routers);
+  attachments_placed = length-map-range_with_len (λ i. record { costs = costs_of n i; notices = [] }) 0 n.routers ∙ sym (length-map-range_with_len (opening_router_of n) 0 n.routers);
   ports_placed = λ i r ps is_router is_placed.
       let placed : places_from 0 i n.links ≡ ps = (listed_within (λ j. places_from 0 j n.links) n.routers i ps is_placed).1 in
       ap (λ (x : Router). length x.ports) (opening_router_at n i r is_router)

@@ -5,10 +5,10 @@ use Rattle.std.proofs.Common.{refl, sym, subst, arith}
 use Rattle.network_model.specs.declared.item.Item.{Item}
 use Rattle.network_model.specs.declared.network.End.{End}
 use Rattle.network_model.specs.declared.step.Step.{Step}
-use Rattle.network_model.specs.declared.step.Step.TheVariants.{LinkUp, LinkDown, SetCost, Deliver, Publish, Release}
+use Rattle.network_model.specs.declared.step.Step.TheVariants.{LinkUp, LinkDown, SetCost, Deliver, Publish, Release, Attach, Detach}
 use Rattle.network_model.specs.Machine.{changed_at}
 use Rattle.network_model.specs.World.{Link, Router, Network, World, opening, opening_router_of}
-use Rattle.network_model.specs.Step.{Lawful, next, changed_router, changed_link, with_cost, with_front_taken, with_message, with_delivered, with_released, front_at, release_at, router_accepting, router_publishing, router_releasing}
+use Rattle.network_model.specs.Step.{Lawful, next, changed_router, changed_link, with_cost, with_front_taken, with_message, with_delivered, with_noticed, with_released, front_at, notice_at, release_at, changed_attachments, with_notice_taken, router_accepting, router_at_home, router_publishing, router_releasing}
 use Rattle.network_model.specs.Run.{Runs}
 use Rattle.network_model.proofs.ListLaws.{option_map_or-ind}
 use Rattle.network_model.proofs.WorldLaws.{routers-changed_link}
@@ -67,12 +67,16 @@ next-room n w s room = by_step s
     by_step (LinkUp l) = less
     by_step (LinkDown l) = less
     by_step (SetCost i q cost) = room-changed_link n i q (with_cost cost) w less
-    by_step (Deliver i q) = option_map_or-ind (HasRoomForSteps n) (with_delivered i q w) (front_at w i q) w less
+    by_step (Deliver i q) = option_map_or-ind (HasRoomForSteps n) (with_delivered i q w) (front_at w i q) _
+        (option_map_or-ind (HasRoomForSteps n) (with_noticed i w) (notice_at w i q) w less
+        (λ x _. room-changed_router n i (router_at_home x) (changed_attachments i with_notice_taken w) (λ _. refl) less))
         (λ item _. room-changed_router n i (router_accepting q item) (changed_link i q with_front_taken w) (generation-accepting q item) (room-changed_link n i q with_front_taken w less))
     by_step (Publish i) =
         all-changed_at (λ r. r.generation + suc n < 2 ^ 64) (λ r. r.generation + n < 2 ^ 64) router_publishing i w.routers (λ r h. omega (arith, h)) (λ r h. omega (arith, h)) room
     by_step (Release i) = option_map_or-ind (HasRoomForSteps n) (with_released i w) (release_at w i) w less
         (λ h _. room-changed_router n i router_releasing (changed_link i h.port (with_message h) w) (λ _. refl) (room-changed_link n i h.port (with_message h) w less))
+    by_step (Attach i p cost) = less
+    by_step (Detach i p) = less
 
 -- so a run takes room for as many as it has steps
 pub run-room : (ss : List Step) (n : ℕ) (w v : World) → Runs w ss v → HasRoomForSteps (length ss + n) w → HasRoomForSteps n v

@@ -8,10 +8,10 @@ use Rattle.network_model.specs.declared.network.End.{End}
 use Rattle.network_model.specs.declared.network.Place.{Place}
 use Rattle.network_model.specs.declared.network.Port.{Port}
 use Rattle.network_model.specs.declared.step.Step.{Step}
-use Rattle.network_model.specs.declared.step.Step.TheVariants.{LinkUp, LinkDown, SetCost, Deliver, Publish, Release}
+use Rattle.network_model.specs.declared.step.Step.TheVariants.{LinkUp, LinkDown, SetCost, Deliver, Publish, Release, Attach, Detach}
 use Rattle.network_model.specs.Machine.{changed_at}
-use Rattle.network_model.specs.World.{Side, Link, Router, World, place_at, link_at, side}
-use Rattle.network_model.specs.Step.{Lawful, next, link_come_up, link_gone_down, with_cost, with_message, with_front_taken, changed_link, changed_router, with_delivered, with_released, router_accepting, router_publishing, router_releasing, front_at, release_at}
+use Rattle.network_model.specs.World.{Side, Link, Router, Attachments, World, place_at, link_at, side}
+use Rattle.network_model.specs.Step.{Lawful, next, link_come_up, link_gone_down, with_cost, with_message, with_front_taken, changed_link, changed_router, changed_attachments, with_delivered, with_noticed, with_released, with_attachment, without_attachment, with_notice_taken, router_accepting, router_at_home, router_publishing, router_releasing, front_at, notice_at, release_at}
 use Rattle.network_model.proofs.ListLaws.{length-changed_at, slice_get-changed_at, slice_get-changed_at_other, option_map_or-ind, Some_injective, None_not_Some}
 use Rattle.world.specs.Kept.{LeadsTo, IsKept}
 use Rattle.world.proofs.Inboxes.{KeepsLeading, come_up-keeps, gone_down-keeps, with_cost-keeps, with_message-keeps}
@@ -53,6 +53,7 @@ with_link-kept l f w keeps h = record {
   links_known = λ i q p at. subst (λ n. p.link < n) (sym (length-changed_at f l w.links)) (h.links_known i q p at);
   places_apart = h.places_apart;
   routers_placed = h.routers_placed;
+  attachments_placed = h.attachments_placed;
   ports_placed = h.ports_placed;
   inboxes = λ i q r x p k is_router is_port at is_link. by_link i q r x p k is_router is_port at (changed_element f l p.link w.links k is_link);
 }
@@ -84,6 +85,7 @@ changed_router-kept i f w ports h = record {
   links_known = h.links_known;
   places_apart = h.places_apart;
   routers_placed = h.routers_placed ∙ sym (length-changed_at f i w.routers);
+  attachments_placed = h.attachments_placed ∙ sym (length-changed_at f i w.routers);
   ports_placed = λ j r ps is_router is_placed.
       let c : _ = changed_element f i j w.routers r is_router in
       ap length (same_ports j r c) ∙ h.ports_placed j c.old ps c.there is_placed;
@@ -98,6 +100,19 @@ changed_router-kept i f w ports h = record {
         by_test : (b : Bool) → (j == i) ≡ b → r.ports ≡ c.old.ports
         by_test true same = ap (λ (y : Router). y.ports) (c.here (eqb-true j i same)) ∙ ports c.old
         by_test false differ = ap (λ (y : Router). y.ports) (c.elsewhere (λ e. true≢false (sym (eq-eqb j i e) ∙ differ)))
+
+-- ---- a router's attachments change
+
+-- they are of no port and no link
+changed_attachments-kept : (i : ℕ) (f : Attachments → Attachments) (w : World) → IsKept w → IsKept (changed_attachments i f w)
+changed_attachments-kept i f w h = record {
+  links_known = h.links_known;
+  places_apart = h.places_apart;
+  routers_placed = h.routers_placed;
+  attachments_placed = length-changed_at f i w.attachments ∙ h.attachments_placed;
+  ports_placed = h.ports_placed;
+  inboxes = h.inboxes;
+}
 
 -- ---- a router takes an item
 
@@ -223,6 +238,7 @@ module _ (i q : ℕ) (p : Place) (item : Item) (w : World) (h : IsKept w) (at : 
     links_known = λ j t y at_y. subst (λ n. y.link < n) (sym (length-changed_at (with_front_taken p.end) p.link w.links)) (h.links_known j t y at_y);
     places_apart = h.places_apart;
     routers_placed = h.routers_placed ∙ sym (length-changed_at (router_accepting q item) i w.routers);
+    attachments_placed = h.attachments_placed ∙ sym (length-changed_at (router_accepting q item) i w.routers);
     ports_placed = λ j r ps is_router is_placed.
         let c : _ = changed_element (router_accepting q item) i j w.routers r is_router in
         ports_of j r c ∙ h.ports_placed j c.old ps c.there is_placed;
@@ -258,13 +274,18 @@ next-kept w (SetCost i q cost) lawful h = changed_link-kept i q (with_cost cost)
     up_at p k at is =
         let here : link_at w i q ≡ Some k = ap (option_and_then (λ (x : Place). slice_get w.links x.link)) at ∙ is in
         ap (λ (y : Link). y.up) (Some_injective (sym here ∙ lawful.3)) ∙ lawful.4
-next-kept w (Deliver i q) lawful h =
-    let f : _ = front_parts w i q lawful.1 lawful.3 in
-    subst IsKept (sym (taking_is f.0 f.1)) (taking-kept i q f.0 lawful.1 w h f.1 f.2)
+next-kept w (Deliver i q) lawful h = option_map_or-ind IsKept (with_delivered i q w) (front_at w i q) _
+    (option_map_or-ind IsKept (with_noticed i w) (notice_at w i q) w h
+    (λ x _. changed_router-kept i (router_at_home x) (changed_attachments i with_notice_taken w) (λ r. refl) (changed_attachments-kept i with_notice_taken w h)))
+    delivered-kept
   where
-    taking_is : (p : Place) → place_at w i q ≡ Some p → next w (Deliver i q) ≡ record w { links = changed_at p.link (with_front_taken p.end) w.links; routers = changed_at i (router_accepting q lawful.1) w.routers }
-    taking_is p at = ap (λ o. option_map_or (with_delivered i q w) o w) lawful.3
-        ∙ ap (λ o. changed_router i (router_accepting q lawful.1) (option_map_or (λ (x : Place). record w { links = changed_at x.link (with_front_taken x.end) w.links }) o w)) at
+    delivered-kept : (item : Item) → front_at w i q ≡ Some item → IsKept (with_delivered i q w item)
+    delivered-kept item is =
+        let f : _ = front_parts w i q item is in
+        subst IsKept (sym (ap (λ o. changed_router i (router_accepting q item) (option_map_or (λ (x : Place). record w { links = changed_at x.link (with_front_taken x.end) w.links }) o w)) f.1))
+        (taking-kept i q f.0 item w h f.1 f.2)
 next-kept w (Publish i) lawful h = changed_router-kept i router_publishing w (λ r. refl) h
 next-kept w (Release i) lawful h = option_map_or-ind IsKept (with_released i w) (release_at w i) w h
     (λ m e. changed_router-kept i router_releasing (changed_link i m.port (with_message m) w) (λ r. refl) (changed_link-kept i m.port (with_message m) w (λ p k at is. with_message-keeps m p.end k) h))
+next-kept w (Attach i p cost) lawful h = changed_attachments-kept i (with_attachment p cost) w h
+next-kept w (Detach i p) lawful h = changed_attachments-kept i (without_attachment p) w h

@@ -1,22 +1,27 @@
 -- What a router does next, by the tests of the code.
-use Rattle.std.specs.Prelude.{◌≡◌, ℕ, ◌+◌, suc, Bool, true, false, cond, not, List, [], ◌∷◌, map, length, Option, Some, None, is_some, is_ok, is_none, option_map, option_and_then, slice_get, find}
+use Rattle.std.specs.Prelude.{◌≡◌, ℕ, ◌+◌, suc, Bool, true, false, cond, not, ◌&&◌, ◌==◌, if◌then◌else◌, List, [], ◌∷◌, map, length, Option, Some, None, is_some, is_ok, is_none, option_map, option_and_then, slice_get, find}
 use Rattle.std.specs.List.{range_with_len, position_from}
 use Rattle.std.specs.Option.{option_map_or, ok_or}
 use Rattle.std.proofs.Common.{refl, ap, ◌∙◌, arith}
+use Rattle.std.proofs.lemmas.Bool.{ne_eqb, eq-eqb}
+use Rattle.std.proofs.lemmas.Option.{slice_get_within}
 use Rattle.network_model.specs.declared.item.Held.{Held}
 use Rattle.network_model.specs.declared.item.Item.{Item}
+use Rattle.network_model.specs.declared.item.Notice.{Notice}
 use Rattle.network_model.specs.declared.network.Place.{Place}
 use Rattle.network_model.specs.declared.step.Step.{Step}
 use Rattle.network_model.specs.declared.step.Step.TheVariants.{Deliver, Publish, Release}
 use Rattle.network_model.specs.declared.step.Refusal.{Refusal}
 use Rattle.network_model.specs.declared.step.Refusal.TheVariants.{UnknownRouter, UnknownLink, NothingToDeliver, NothingDue, NothingRipe}
-use Rattle.network_model.specs.World.{Link, Router, World, link_at, side}
+use Rattle.network_model.specs.World.{Link, Router, Attachments, World, link_at, degree_of, side}
 use Rattle.network_model.specs.Network.{first_cause}
-use Rattle.network_model.specs.Step.{is_due, ripe_front, front_at}
+use Rattle.network_model.specs.Step.{is_due, ripe_front, front_at, is_at_home, notice_at}
+use Rattle.network_model.specs.Forwarding.{has_no_notice}
 use Rattle.network_model.specs.Turns.{is_lawful, next_step}
 use Rattle.link_fifo.specs.declared.refusal.LinkRefusal.{LinkRefusal}
 use Rattle.link_fifo.specs.Refusals.{front_of}
 use Rattle.world.specs.Waiting.{is_waiting, waiting_port}
+use Rattle.world.proofs.Done.{item_refusal, notice_refusal}
 
 -- ---- which of a router's steps are lawful
 
@@ -44,11 +49,17 @@ publish-lawful w i r there =
 deliver-lawful : (w : World) (i q : ℕ) (r : Router) (ps : List Place) (p : Place) → slice_get w.routers i ≡ Some r → slice_get w.places i ≡ Some ps → slice_get ps q ≡ Some p
     → is_lawful w (Deliver i q) ≡ is_waiting w.links p
 deliver-lawful w i q r ps p there placed port =
-    ap (λ (o : Option Router). is_none (first_cause ((is_none o, UnknownRouter) ∷ at_place (option_and_then (λ xs. slice_get xs q) (slice_get w.places i))))) there
+    ap is_none (item_refusal w i q away)
+    ∙ ap (λ (o : Option Router). is_none (first_cause ((is_none o, UnknownRouter) ∷ at_place (option_and_then (λ xs. slice_get xs q) (slice_get w.places i))))) there
     ∙ ap (λ (o : Option (List Place)). is_none (first_cause (at_place (option_and_then (λ xs. slice_get xs q) o)))) placed
     ∙ ap (λ (o : Option Place). is_none (first_cause (at_place o))) port
     ∙ by_link (slice_get w.links p.link)
   where
+    away : is_at_home w i q ≡ false
+    away =
+        let within = slice_get_within ps q p port in
+        ap (λ (o : Option (List Place)). option_map_or (λ d. q == d) (option_map (λ (xs : List Place). length xs) o) false) placed ∙ ne_eqb q (length ps) (λ e. omega (arith, within, e))
+
     at_place : Option Place → List (Bool × Refusal)
     at_place o =
         (is_none (option_and_then (λ x. slice_get w.links x.link) o), UnknownLink)
@@ -64,6 +75,28 @@ deliver-lawful w i q r ps p there placed port =
     by_link None = refl
     by_link (Some k) = by_front (slice_get (side p.end k).inbox 0)
 
+-- whether notices wait with these attachments, if there are any
+abbrev some_wait : Option Attachments → Bool
+some_wait o = option_map_or (λ a. not (has_no_notice a)) o false
+
+-- at the port numbered by the degree, it is where a notice waits
+notice-lawful : (w : World) (i : ℕ) (r : Router) (ps : List Place) → slice_get w.routers i ≡ Some r → slice_get w.places i ≡ Some ps → is_lawful w (Deliver i (length ps)) ≡ some_wait (slice_get w.attachments i)
+notice-lawful w i r ps there placed =
+    ap is_none (notice_refusal w i (length ps) r there home)
+    ∙ ap (λ b. is_none (first_cause ((is_none (if b then option_and_then (λ (a : Attachments). slice_get a.notices 0) (slice_get w.attachments i) else None), NothingToDeliver) ∷ []))) home
+    ∙ by_attachments (slice_get w.attachments i)
+  where
+    home : is_at_home w i (length ps) ≡ true
+    home = ap (λ (o : Option (List Place)). option_map_or (λ d. length ps == d) (option_map (λ (xs : List Place). length xs) o) false) placed ∙ eq-eqb (length ps) (length ps) refl
+
+    by_notices : (xs : List Notice) → is_none (first_cause ((is_none (slice_get xs 0), NothingToDeliver) ∷ [])) ≡ not (has_no_notice (record { costs = []; notices = xs }))
+    by_notices [] = refl
+    by_notices (x ∷ xs) = refl
+
+    by_attachments : (o : Option Attachments) → is_none (first_cause ((is_none (option_and_then (λ (a : Attachments). slice_get a.notices 0) o), NothingToDeliver) ∷ [])) ≡ some_wait o
+    by_attachments None = refl
+    by_attachments (Some a) = by_notices a.notices
+
 -- ---- the first that is lawful
 
 -- where no element passes, none is found
@@ -71,40 +104,51 @@ find-none : {A B : Type 0} (test : B → Bool) (f : A → B) (xs : List A) → (
 find-none test f [] fails = refl
 find-none test f (x ∷ xs) fails = ap (λ b. cond b (Some (f x)) (find test (map f xs))) (fails x) ∙ find-none test f xs fails
 
--- of the deliveries at ports from a on, the first that is lawful is that at the first place that passes
-first_delivery : (lawful : Step → Bool) (test : Place → Bool) (i a : ℕ) (ps : List Place) → ((q : ℕ) (p : Place) → slice_get ps q ≡ Some p → lawful (Deliver i (a + q)) ≡ test p)
-    → find lawful (map (λ q. Deliver i q) (range_with_len a (length ps))) ≡ option_map (λ q. Deliver i q) (position_from test a ps)
-first_delivery lawful test i a [] each = refl
-first_delivery lawful test i a (p ∷ ps) each =
+-- the first place that passes; where none does, the number behind them, if that passes
+abbrev place_or_last : (Place → Bool) → Bool → ℕ → List Place → Option ℕ
+place_or_last test last a ps = option_map_or (λ q. Some q) (position_from test a ps) (if last then Some (a + length ps) else None)
+
+-- of the deliveries at ports from a on, the first that is lawful is that at the first place that passes, or at the port behind them
+first_delivery : (lawful : Step → Bool) (test : Place → Bool) (last : Bool) (i a : ℕ) (ps : List Place) → ((q : ℕ) (p : Place) → slice_get ps q ≡ Some p → lawful (Deliver i (a + q)) ≡ test p) → lawful (Deliver i (a + length ps)) ≡ last
+    → find lawful (map (λ q. Deliver i q) (range_with_len a (suc (length ps)))) ≡ option_map (λ q. Deliver i q) (place_or_last test last a ps)
+first_delivery lawful test last i a [] each behind =
+    let here : a ≡ a + 0 = omega arith in
+    ap (λ (k : ℕ). cond (lawful (Deliver i k)) (Some (Deliver i k)) None) here
+    ∙ ap (λ b. cond b (Some (Deliver i (a + 0))) None) behind ∙ by_last last
+  where
+    by_last : (b : Bool) → cond b (Some (Deliver i (a + 0))) None ≡ option_map (λ q. Deliver i q) (if b then Some (a + 0) else None)
+    by_last true = refl
+    by_last false = refl
+first_delivery lawful test last i a (p ∷ ps) each behind =
     let here : a ≡ a + 0 = omega arith in
     ap (λ b. cond b (Some (Deliver i a)) later) (ap (λ (k : ℕ). lawful (Deliver i k)) here ∙ each 0 p refl)
-    ∙ by_test (test p) (first_delivery lawful test i (a + 1) ps (λ q x at. ap (λ (k : ℕ). lawful (Deliver i k)) (next_port q) ∙ each (suc q) x at))
+    ∙ by_test (test p) (first_delivery lawful test last i (a + 1) ps (λ q x at. ap (λ (k : ℕ). lawful (Deliver i k)) (next_port q) ∙ each (suc q) x at) (ap (λ (k : ℕ). lawful (Deliver i k)) (next_port (length ps)) ∙ behind))
   where
     later : Option Step
-    later = find lawful (map (λ q. Deliver i q) (range_with_len (a + 1) (length ps)))
+    later = find lawful (map (λ q. Deliver i q) (range_with_len (a + 1) (suc (length ps))))
 
     next_port : (q : ℕ) → (a + 1) + q ≡ a + suc q
     next_port q = omega arith
 
-    by_test : (b : Bool) → later ≡ option_map (λ q. Deliver i q) (position_from test (a + 1) ps)
-        → cond b (Some (Deliver i a)) later ≡ option_map (λ q. Deliver i q) (cond b (Some a) (position_from test (a + 1) ps))
+    by_test : (b : Bool) → later ≡ option_map (λ q. Deliver i q) (place_or_last test last (a + 1) ps)
+        → cond b (Some (Deliver i a)) later ≡ option_map (λ q. Deliver i q) (option_map_or (λ q. Some q) (cond b (Some a) (position_from test (a + 1) ps)) (if last then Some (a + suc (length ps)) else None))
     by_test true rest = refl
-    by_test false rest = rest
+    by_test false rest = rest ∙ ap (λ n. option_map (λ q. Deliver i q) (option_map_or (λ q. Some q) (position_from test (a + 1) ps) (if last then Some n else None))) (next_port (length ps))
 
 -- a router that is not there does nothing
 pub next_step-unknown : (w : World) (i : ℕ) → slice_get w.routers i ≡ None → next_step w i ≡ None
 next_step-unknown w i none =
     ap (λ b. cond b (Some (Release i)) (cond (is_lawful w (Publish i)) (Some (Publish i)) (find (is_lawful w) ports))) (refused_with (is_none (option_and_then ripe_front (slice_get w.routers i)), NothingRipe) [])
     ∙ ap (λ b. cond b (Some (Publish i)) (find (is_lawful w) ports)) (refused_with (not (option_map_or is_due (slice_get w.routers i) false), NothingDue) [])
-    ∙ find-none (is_lawful w) (λ q. Deliver i q) _ (λ q. refused_with (is_none (link_at w i q), UnknownLink) ((is_none (front_at w i q), NothingToDeliver) ∷ []))
+    ∙ find-none (is_lawful w) (λ q. Deliver i q) _ (λ q. refused_with (is_none (link_at w i q) && not (is_at_home w i q), UnknownLink) ((is_none (front_at w i q) && is_none (notice_at w i q), NothingToDeliver) ∷ []))
   where
     ports : List Step
-    ports = map (λ q. Deliver i q) (range_with_len 0 (option_map_or (λ ps. length ps) (slice_get w.places i) 0))
+    ports = map (λ q. Deliver i q) (range_with_len 0 (option_map_or (λ d. d + 1) (degree_of w i) 0))
 
     refused_with : (c : Bool × Refusal) (cs : List (Bool × Refusal)) → is_none (first_cause ((is_none (slice_get w.routers i), UnknownRouter) ∷ c ∷ cs)) ≡ false
     refused_with c cs = ap (λ (o : Option Router). is_none (first_cause ((is_none o, UnknownRouter) ∷ c ∷ cs))) none
 
--- a router that is there releases where it can, else publishes where that is due, else takes an item from its lowest port that has one
+-- a router that is there releases where it can, else publishes where that is due, else takes an item or a notice from its lowest port that has one
 pub next_step-known : (w : World) (i : ℕ) (r : Router) → slice_get w.routers i ≡ Some r
     → next_step w i ≡ cond (is_some (ripe_front r)) (Some (Release i)) (cond (is_due r) (Some (Publish i)) (option_map (λ q. Deliver i q) (waiting_port w i)))
 next_step-known w i r there =
@@ -113,16 +157,26 @@ next_step-known w i r there =
     ∙ ap (λ o. cond (is_some (ripe_front r)) (Some (Release i)) (cond (is_due r) (Some (Publish i)) o)) (by_places (slice_get w.places i) refl)
   where
     deliveries : Option (List Place) → List Step
-    deliveries o = map (λ q. Deliver i q) (range_with_len 0 (option_map_or (λ ps. length ps) o 0))
+    deliveries o = map (λ q. Deliver i q) (range_with_len 0 (option_map_or (λ d. d + 1) (option_map (λ (ps : List Place). length ps) o) 0))
 
     plain : (q : ℕ) → 0 + q ≡ q
     plain q = omega arith
 
     by_places : (o : Option (List Place)) → slice_get w.places i ≡ o
-        → find (is_lawful w) (deliveries o) ≡ option_map (λ q. Deliver i q) (option_and_then (position_from (is_waiting w.links) 0) o)
-    by_places None at = refl
+        → find (is_lawful w) (deliveries o)
+        ≡ option_map (λ q. Deliver i q) (option_map_or (λ q. Some q) (option_and_then (position_from (is_waiting w.links) 0) o) (if some_wait (slice_get w.attachments i) then option_map (λ (ps : List Place). length ps) o else None))
+    by_places None at = by_wait (some_wait (slice_get w.attachments i))
+      where
+        by_wait : (b : Bool) → None ≡ option_map (λ q. Deliver i q) (if b then None else None)
+        by_wait true = refl
+        by_wait false = refl
     by_places (Some ps) at =
-        first_delivery (is_lawful w) (is_waiting w.links) i 0 ps (λ q p port. ap (λ (k : ℕ). is_lawful w (Deliver i k)) (plain q) ∙ deliver-lawful w i q r ps p there at port)
+        let ports : length ps + 1 ≡ suc (length ps) = omega arith in
+        ap (λ n. find (is_lawful w) (map (λ q. Deliver i q) (range_with_len 0 n))) ports
+        ∙ first_delivery (is_lawful w) (is_waiting w.links) (some_wait (slice_get w.attachments i)) i 0 ps
+        (λ q p port. ap (λ (k : ℕ). is_lawful w (Deliver i k)) (plain q) ∙ deliver-lawful w i q r ps p there at port)
+        (ap (λ (k : ℕ). is_lawful w (Deliver i k)) (plain (length ps)) ∙ notice-lawful w i r ps there at)
+        ∙ ap (λ n. option_map (λ q. Deliver i q) (option_map_or (λ q. Some q) (position_from (is_waiting w.links) 0 ps) (if some_wait (slice_get w.attachments i) then Some n else None))) (plain (length ps))
 
 -- one that can neither release nor publish
 pub next_step-port : (w : World) (i : ℕ) (r : Router) → slice_get w.routers i ≡ Some r → is_some (ripe_front r) ≡ false → is_due r ≡ false

@@ -7,7 +7,7 @@ use Rattle.network_model.specs.Network.{IsNetwork}
 use Rattle.network_model.specs.Run.{Runs}
 use Rattle.network_model.specs.Forwarding.{is_quiet}
 use Rattle.packet_loops.specs.Packets.{NoPacketLoops}
-use Rattle.quiet_routes.specs.Routes.{Owns, HasBestRow}
+use Rattle.quiet_routes.specs.Routes.{HasBestRow}
 
 -- some list of lawful steps leads from the opening of a network without faults to this world
 pub record IsReached (n : Network) (w : World) : Type 0 where
@@ -15,7 +15,7 @@ pub record IsReached (n : Network) (w : World) : Type 0 where
   pub steps : List Step
   pub runs : Runs (opening n) steps w
 
--- no packet that is matched by one prefix at every hop meets a router twice along the published rows; and where all is quiet, each router's row for each prefix that is owned is the best
+-- no packet that is matched by one prefix at every hop meets a router twice along the published rows; and where all is quiet, each router's row for each prefix is the best
 pub record IsSound (n : Network) (w : World) : Type 0 where
   pub no_loop : NoPacketLoops w
-  pub least_cost : is_quiet w ≡ true → (p : Prefix) (o : ℕ) → Owns n p o → (i : ℕ) → i < n.routers → HasBestRow w p i o
+  pub least_cost : is_quiet w ≡ true → (p : Prefix) (i : ℕ) → i < n.routers → HasBestRow w p i

@@ -5,11 +5,16 @@ use Rattle.network_model.specs.declared.network.LinkSpec.{LinkSpec}
 use Rattle.std.specs.Prelude.{map}
 use Rattle.std.specs.Global.{Vec}
 use Rattle.network_model.specs.declared.network.Place.{Place}
-use Rattle.network_model.specs.World.{Network, Link, Router, World}
+use Rattle.network_model.specs.declared.item.Notice.{Notice}
+use Rattle.network_model.specs.World.{Network, Link, Router, Attachments, World}
 
-abbrev pub network_of : ℕ → List LinkSpec → List (Prefix × ℕ) → Network
-network_of routers links owners = record { routers = routers; links = links; owners = owners }
+abbrev pub network_of : ℕ → List LinkSpec → List (Prefix × ℕ × ℕ) → Network
+network_of routers links attachments = record { routers = routers; links = links; attachments = attachments }
+
+-- the attachments of one router, of their parts
+abbrev pub attachments_of : List (Prefix × ℕ) → List Notice → Attachments
+attachments_of costs notices = record { costs = costs; notices = notices }
 
 -- a world of its parts
-abbrev pub world_of : List (Vec Place) → List Link → List Router → World
-world_of places links routers = record { places = map (λ v. v.items) places; links = links; routers = routers }
+abbrev pub world_of : List (Vec Place) → List Link → List Prefix → List Attachments → List Router → World
+world_of places links prefixes attachments routers = record { places = map (λ v. v.items) places; links = links; prefixes = prefixes; attachments = attachments; routers = routers }

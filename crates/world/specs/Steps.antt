@@ -4,10 +4,11 @@ use Rattle.std.specs.Option.{option_map_or}
 use Rattle.network_model.specs.declared.step.Step.{Step}
 use Rattle.network_model.specs.declared.step.Step.TheVariants.{Release}
 use Rattle.network_model.specs.declared.step.Refusal.{Refusal}
-use Rattle.network_model.specs.declared.step.Refusal.TheVariants.{UnknownRouter, UnknownLink}
+use Rattle.network_model.specs.declared.step.Refusal.TheVariants.{UnknownRouter, UnknownLink, UnknownPrefix}
 use Rattle.network_model.specs.declared.item.Held.{Held}
 use Rattle.network_model.specs.declared.network.Place.{Place}
-use Rattle.network_model.specs.World.{Link, Router, World, place_at, link_at}
+use Rattle.ipv4_prefix.specs.Prefix.{Prefix}
+use Rattle.network_model.specs.World.{Link, Router, World, place_at, link_at, is_known}
 use Rattle.network_model.specs.Network.{first_cause}
 use Rattle.network_model.specs.Step.{is_up_in, release_at}
 
@@ -46,3 +47,7 @@ pub record IsPort (w : World) (i q : ℕ) (p : Place) : Type 0 where
 -- why a step at a port that is not there is refused; none where the port is there
 abbrev pub port_refusal : World → ℕ → ℕ → Option Refusal
 port_refusal w i q = first_cause ((is_none (slice_get w.routers i), UnknownRouter) ∷ (is_none (link_at w i q), UnknownLink) ∷ [])
+
+-- why a step that names a prefix at a router is refused, where one of them is not there
+abbrev pub prefix_refusal : World → ℕ → Prefix → Option Refusal
+prefix_refusal w i p = first_cause ((is_none (slice_get w.routers i), UnknownRouter) ∷ (not (is_known w p), UnknownPrefix) ∷ [])

@@ -1,46 +1,51 @@
 //! What a network is made of, before it is opened.
 
-ghost use Rattle.std.specs.Prelude.{◌≡◌, ◌≤◌, [], length, IfOk, IsOk, MatchOption, Err, IsNone, All};
+ghost use Rattle.std.specs.Prelude.{◌≡◌, ◌≤◌, ◌&&◌, ◌==◌, if◌then◌else◌, [], length, IfOk, IsOk, OnOk, MatchOption, Err, IsNone, All};
 ghost use Rattle.std.specs.List.{list_any};
-ghost use Rattle.ipv4_prefix.specs.Prefix.{IsPrefix, prefix_eq};
+ghost use Rattle.ipv4_prefix.specs.Prefix.{IsPrefix};
+ghost use Rattle.metric.specs.Distance.{IsCost};
+ghost use Rattle.network_model.specs.World.{prefixes_of};
 ghost use Rattle.network_model.specs.Network as valid;
 ghost use Rattle.world.specs.Parts.{network_of};
 
-use network_model::{LinkSpec, NetworkFault, Prefix};
+use network_model::{Cost, LinkSpec, NetworkFault, Prefix};
 use std::marker::Model;
 
-/// The parts of a network that can be opened: its number of routers, its links, and the owner of
-/// each prefix.
+/// The parts of a network that can be opened: its number of routers, its links, and which routers
+/// are attached to which prefixes.
 #[derive(Drop)]
 pub struct Network {
     routers: u16,
     links: Vec<LinkSpec>,
-    owners: Vec<(Prefix, u16)>,
+    attachments: Vec<(Prefix, u16, Cost)>,
+    // How many prefixes these are of.
+    prefixes: usize,
 }
 
 impl Model for Network {
-    ghost use Rattle.network_model.specs.World.{Network as Parts};
+    ghost use Rattle.std.specs.Prelude.{◌≡◌, length};
+    ghost use Rattle.network_model.specs.World.{Network as Parts, prefixes_of};
     ghost use Rattle.network_model.specs.Network.{IsNetwork};
     ghost use Rattle.world.specs.Parts.{network_of};
 
     ghost Value = { Parts };
 
-    ghost view = { λ n. network_of n.routers n.links.items n.owners.items };
+    ghost view = { λ n. network_of n.routers n.links.items n.attachments.items };
 
-    ghost invariant = { λ n. IsNetwork (network_of n.routers n.links.items n.owners.items) };
+    ghost invariant = { λ n. IsNetwork (network_of n.routers n.links.items n.attachments.items) × (n.prefixes ≡ length (prefixes_of n.attachments.items)) };
 }
 
 impl Network {
-    /// The network of these parts: routers are numbered from 0, links and prefixes by their position,
-    /// and each prefix stands with the number of its owner. The faults are tested in the order of the
-    /// parts: the number of routers, each link, each prefix.
+    /// The network of these parts: routers are numbered from 0, links and attachments by their position,
+    /// and each attachment is a prefix with the number of the router that is attached to it and the cost.
+    /// The faults are tested in the order of the parts: the number of routers, each link, each attachment.
     pub fn new(
         routers: u16,
         links: Vec<LinkSpec>,
-        prefixes: Vec<(Prefix, u16)>,
+        attachments: Vec<(Prefix, u16, Cost)>,
     ) -> Result<Network, NetworkFault>
-        ensures made { IfOk result (λ n. n ≡ network_of routers links.items prefixes.items) }
-        ensures cause { MatchOption (valid.network_fault (network_of routers links.items prefixes.items)) (IsOk result) (λ fault. result ≡ Err fault) }
+        ensures made { IfOk result (λ n. n ≡ network_of routers links.items attachments.items) }
+        ensures cause { MatchOption (valid.network_fault (network_of routers links.items attachments.items)) (IsOk result) (λ fault. result ≡ Err fault) }
     {
         if routers == 0 || routers > MOST_ROUTERS {
             return Err(NetworkFault::BadRouters);
@@ -48,13 +53,12 @@ impl Network {
         if let Some(fault) = link_fault(routers, &links) {
             return Err(fault);
         }
-        if let Some(fault) = owner_fault(routers, &prefixes) {
-            return Err(fault);
-        }
+        let prefixes = prefix_count(routers, &attachments)?;
         Ok(Network {
             routers,
             links,
-            owners: prefixes,
+            attachments,
+            prefixes,
         })
     }
 
@@ -75,11 +79,18 @@ impl Network {
         &self.links
     }
 
-    /// The prefixes with their owners.
-    pub fn owners(&self) -> &[(Prefix, u16)]
-        ensures { result.now ≡ (self.now).owners }
+    /// The prefixes with the routers that are attached to them, and the costs.
+    pub fn attachments(&self) -> &[(Prefix, u16, Cost)]
+        ensures { result.now ≡ (self.now).attachments }
     {
-        &self.owners
+        &self.attachments
+    }
+
+    /// How many prefixes there are, each counted once.
+    pub fn prefixes(&self) -> usize
+        ensures { result ≡ length (prefixes_of (self.now).attachments) }
+    {
+        self.prefixes
     }
 }
 
@@ -94,6 +105,9 @@ pub const MOST_PORTS: usize = 32;
 
 /// The most prefixes that a network can have.
 pub const MOST_PREFIXES: usize = 4096;
+
+/// The most attachments of routers to prefixes that a network can have.
+pub const MOST_ATTACHMENTS: usize = 16_384;
 
 fn touches(router: u16, link: &LinkSpec) -> bool
     ensures { result ≡ valid.touches router link.now }
@@ -133,16 +147,43 @@ fn is_link_too_many(before: &[LinkSpec], link: &LinkSpec) -> bool
         && degree(link.b, before) < MOST_PORTS)
 }
 
-fn is_owned(before: &[(Prefix, u16)], prefix: Prefix) -> bool
-    ensures { result ≡ list_any (λ b. prefix_eq b.0 prefix) before.now }
+// Whether the prefix of an attachment is given by one of these.
+pub fn is_given(before: &[(Prefix, u16, Cost)], attachment: &(Prefix, u16, Cost)) -> bool
+    ensures { result ≡ list_any (valid.has_same_prefix attachment.now) before.now }
 {
-    before.iter().any(|other| other.0 == prefix)
+    before.iter().any(|other| other.0 == attachment.0)
 }
 
-fn is_bad_owner(routers: u16, before: &[(Prefix, u16)], owner: &(Prefix, u16)) -> bool
-    ensures { result ≡ valid.is_bad_owner routers before.now owner.now }
+// How many prefixes more there are by an attachment after others.
+fn prefixes_more(before: &[(Prefix, u16, Cost)], attachment: &(Prefix, u16, Cost)) -> usize
+    ensures more { result ≡ (if list_any (valid.has_same_prefix attachment.now) before.now then 0 else 1) }
+    ensures one { result ≤ 1 }
 {
-    !(owner.1 < routers && before.len() < MOST_PREFIXES) || is_owned(before, owner.0)
+    usize::from(!is_given(before, attachment))
+}
+
+// Whether the prefix was given before at the same router.
+fn is_given_there(before: &[(Prefix, u16, Cost)], attachment: &(Prefix, u16, Cost)) -> bool
+    ensures { result ≡ list_any (λ b. valid.has_same_prefix attachment.now b && (b.1 == attachment.now.1)) before.now }
+{
+    before
+        .iter()
+        .any(|other| other.0 == attachment.0 && other.1 == attachment.1)
+}
+
+// Whether an attachment cannot be, after others of so many prefixes.
+fn is_bad_attachment(
+    routers: u16,
+    before: &[(Prefix, u16, Cost)],
+    prefixes: usize,
+    attachment: &(Prefix, u16, Cost),
+) -> bool
+    requires { prefixes ≡ length (prefixes_of before.now) }
+    ensures { result ≡ valid.is_bad_attachment routers before.now attachment.now }
+{
+    !(attachment.1 < routers && before.len() < MOST_ATTACHMENTS)
+        || is_given_there(before, attachment)
+        || !(is_given(before, attachment) || prefixes < MOST_PREFIXES)
 }
 
 // The first fault of the links.
@@ -164,17 +205,22 @@ fn link_fault(routers: u16, links: &[LinkSpec]) -> Option<NetworkFault>
     None
 }
 
-// The first fault of the prefixes.
-fn owner_fault(routers: u16, owners: &[(Prefix, u16)]) -> Option<NetworkFault>
-    ensures fault { result ≡ valid.first_cause (valid.owner_causes routers [] owners.now) }
-    ensures prefixes { IsNone result → All (λ o. IsPrefix o.0) owners.now }
+// How many prefixes these attachments are of, or the first fault of theirs.
+fn prefix_count(routers: u16, attachments: &[(Prefix, u16, Cost)]) -> Result<usize, NetworkFault>
+    ensures count { IfOk result (λ n. n ≡ length (prefixes_of attachments.now)) }
+    ensures cause { MatchOption (valid.first_cause (valid.attachment_causes routers [] attachments.now)) (IsOk result) (λ fault. result ≡ Err fault) }
+    ensures prefixes { OnOk result (All (λ a. IsPrefix a.0) attachments.now) }
+    ensures costs { OnOk result (All (λ a. IsCost a.2) attachments.now) }
 {
-    for (i, owner) in owners.iter().enumerate() {
-        // What is read of a prefix is known to be one.
-        let _len = owner.0.len();
-        if is_bad_owner(routers, &owners[..i], owner) {
-            return Some(NetworkFault::BadOwner { prefix: i });
+    let mut prefixes = 0;
+    for (i, attachment) in attachments.iter().enumerate() {
+        // What is read of a prefix or a cost is known to be one.
+        let _read = (attachment.0.len(), attachment.2.value());
+        let before = &attachments[..i];
+        if is_bad_attachment(routers, before, prefixes, attachment) {
+            return Err(NetworkFault::BadOwner { prefix: i });
         }
+        prefixes += prefixes_more(before, attachment);
     }
-    None
+    Ok(prefixes)
 }

@@ -1,11 +1,13 @@
 //! The parts of a network that opens.
 
-ghost use Rattle.std.specs.Prelude.{◌≡◌, ◌<◌, ◌^◌, map, length, filter, ◌==◌, IfOk, All};
+ghost use Rattle.std.specs.Prelude.{◌≡◌, ◌<◌, ◌^◌, [], map, length, filter, ◌==◌, IfOk, All};
 ghost use Rattle.std.specs.List.{range_with_len};
 ghost use Rattle.network_model.specs.World as model;
+ghost use Rattle.world.specs.Parts.{attachments_of};
 
-use crate::network::Network;
-use network_model::{End, LinkSpec, NoMemory, Place, Port, Prefix};
+use crate::attachments::Attachments;
+use crate::network::{Network, is_given};
+use network_model::{Cost, End, LinkSpec, NoMemory, Place, Port, Prefix};
 use router_core::Router;
 use std::alloc::{AllocError, Global};
 
@@ -64,19 +66,45 @@ pub fn opening_ports(
     Ok(ports)
 }
 
-// The prefixes that one router owns, in the order in which they were given.
-pub fn owned(
+// The attachments of one router, in the order in which they were given.
+fn own(
     alloc: Global,
     router: u16,
-    owners: &[(Prefix, u16)],
-) -> Result<Vec<Prefix>, AllocError>
-    ensures { IfOk result (λ own. own.items ≡ map (λ o. o.0) (filter (λ o. o.1 == router) owners.now)) }
+    attachments: &[(Prefix, u16, Cost)],
+) -> Result<Vec<(Prefix, Cost)>, AllocError>
+    ensures { IfOk result (λ own. own.items ≡ map (λ a. (a.0, a.2)) (filter (λ a. a.1 == router) attachments.now)) }
 {
-    owners
+    attachments
         .iter()
-        .filter(|owner| owner.1 == router)
-        .map(|owner| owner.0)
+        .filter(|attachment| attachment.1 == router)
+        .map(|attachment| (attachment.0, attachment.2))
         .collect(alloc)
+}
+
+// The prefixes to which some router is attached, each once.
+pub fn opening_prefixes(alloc: Global, network: &Network) -> Result<Vec<Prefix>, AllocError>
+    ensures { IfOk result (λ prefixes. prefixes.items ≡ model.prefixes_of (network.now).attachments) }
+{
+    let attachments = network.attachments();
+    let mut prefixes = Vec::new(alloc);
+    for (i, attachment) in attachments.iter().enumerate() {
+        if !is_given(&attachments[i + 1..], attachment) {
+            prefixes.push(attachment.0)?;
+        }
+    }
+    Ok(prefixes)
+}
+
+// What each router is attached to.
+pub fn opening_attachments(alloc: Global, network: &Network) -> Result<Vec<Attachments>, NoMemory>
+    ensures { IfOk result (λ attachments. attachments.items ≡ map (λ i. attachments_of (model.costs_of network.now i) []) (range_with_len 0 (network.now).routers)) }
+{
+    let mut attachments = Vec::new(alloc);
+    for router in 0..network.routers() {
+        let own = own(alloc, router, network.attachments())?;
+        attachments.push(Attachments::new(alloc, &own)?)?;
+    }
+    Ok(attachments)
 }
 
 // The places of each router's ports.
@@ -97,7 +125,7 @@ fn opening_router(alloc: Global, network: &Network, router: u16) -> Result<Route
     let links = network.links();
     let places = places_of(alloc, router, links)?;
     let ports = opening_ports(alloc, links, &places)?;
-    let own = owned(alloc, router, network.owners())?;
+    let own = own(alloc, router, network.attachments())?;
     Router::new(alloc, ports, &own)
 }
 

@@ -1,6 +1,6 @@
 //! The world: routers and links, and the steps that change them.
 
-ghost use Rattle.std.specs.Prelude.{ℕ, ◌≡◌, ◌+◌, ◌^◌, ◌<◌, ◌≤◌, ◌↔◌, true, length, map, take, slice_get, is_none, None, Some, Err, IfOk, IfErr, IfSome, IsOk, OnOk, OnErr, MatchOption, IsOkUnless, IsTrue, All};
+ghost use Rattle.std.specs.Prelude.{ℕ, ◌≡◌, ◌+◌, ◌^◌, ◌<◌, ◌≤◌, ◌↔◌, true, false, length, map, take, slice_get, is_none, None, Some, Err, IfOk, IfErr, IfSome, IsOk, OnOk, OnErr, MatchOption, IsOkUnless, IsTrue, All, option_map};
 ghost use Rattle.std.specs.List.{position_from};
 ghost use Rattle.std.specs.Option.{option_copied};
 ghost use Rattle.network_model.specs.World as model;
@@ -9,14 +9,15 @@ ghost use Rattle.network_model.specs.Step.{refusal};
 ghost use Rattle.network_model.specs.Run.{Runs};
 ghost use Rattle.network_model.specs.Turns as turns;
 ghost use Rattle.network_model.specs.declared.item.Held.{Held};
-ghost use Rattle.world.specs.Steps.{DiscardsStale, IsDoneOr, HasRoomForSteps, IsPort, is_stale, port_refusal, StopsAt};
+ghost use Rattle.world.specs.Steps.{DiscardsStale, IsDoneOr, HasRoomForSteps, IsPort, is_stale, port_refusal, prefix_refusal, StopsAt};
 ghost use Rattle.world.specs.Headline.{IsReached, IsSound};
 ghost use Rattle.world.specs.Waiting.{is_waiting, waiting_port};
 
+use crate::attachments::Attachments;
 use crate::network::Network;
-use crate::opening::{opening_places, opening_routers};
+use crate::opening::{opening_attachments, opening_places, opening_prefixes, opening_routers};
 use link_fifo::Links;
-use network_model::{Cost, NoMemory, Place, Refusal, Step};
+use network_model::{Cost, NoMemory, Place, Prefix, Refusal, Step};
 use router_core::Router;
 use std::alloc::Global;
 use std::marker::Model;
@@ -30,11 +31,14 @@ pub struct Ran {
     pub refusal: Option<Refusal>,
 }
 
-/// A network that runs: its links, its routers, and the place of each router's ports on the links.
+/// A network that runs: its links, its routers, the place of each router's ports on the links, its
+/// prefixes, and what each router is attached to.
 #[derive(Drop)]
 pub struct World {
     places: Vec<Vec<Place>>,
     links: Links,
+    prefixes: Vec<Prefix>,
+    attachments: Vec<Attachments>,
     routers: Vec<Router>,
 }
 
@@ -45,23 +49,27 @@ impl Model for World {
 
     ghost Value = { NetworkWorld };
 
-    ghost view = { λ w. world_of w.places.items w.links.links w.routers.items };
+    ghost view = { λ w. world_of w.places.items w.links.links w.prefixes.items w.attachments.items w.routers.items };
 
-    ghost invariant = { λ w. IsKept (world_of w.places.items w.links.links w.routers.items) };
+    ghost invariant = { λ w. IsKept (world_of w.places.items w.links.links w.prefixes.items w.attachments.items w.routers.items) };
 }
 
 impl World {
-    /// The world of a network that opens: every link is down, nothing is queued or held, and each
-    /// prefix is known at its owner alone.
+    /// The world of a network that opens: every link is down, nothing is queued or held, no notice
+    /// waits, and each prefix is known at the routers attached to it alone.
     pub fn open(alloc: Global, network: &Network) -> Result<World, NoMemory>
         ensures { IfOk result (λ w. w ≡ model.opening network.now) }
     {
         let links = Links::new(alloc, network.links())?;
         let places = opening_places(alloc, network)?;
+        let prefixes = opening_prefixes(alloc, network)?;
+        let attachments = opening_attachments(alloc, network)?;
         let routers = opening_routers(alloc, network)?;
         Ok(World {
             places,
             links,
+            prefixes,
+            attachments,
             routers,
         })
     }
@@ -75,7 +83,8 @@ impl World {
 
     /// The routers, by number.
     pub fn routers(&self) -> &[Router]
-        ensures { result.now ≡ (self.now).routers }
+        ensures routers { result.now ≡ (self.now).routers }
+        ensures attachments { length (self.now).attachments ≡ length result.now }
     {
         &self.routers
     }
@@ -96,8 +105,17 @@ impl World {
         places.get(usize::from(port)).copied()
     }
 
+    /// How many notices of its attachments a router has yet to take.
+    pub fn notices(&self, router: u16) -> usize
+        requires { router < length (self.now).routers }
+        ensures { option_map (λ a. length a.notices) (slice_get (self.now).attachments router) ≡ Some result }
+    {
+        self.attachments[usize::from(router)].notices()
+    }
+
     /// What a router has to do next: the first of a release, a publication, and a delivery by ascending
-    /// port that is lawful; none where nothing is, or where there is no such router.
+    /// port that is lawful, the notices of its attachments last; none where nothing is, or where there
+    /// is no such router.
     pub fn next_step(&self, router: u16) -> Option<Step>
         ensures { result ≡ turns.next_step self.now router }
     {
@@ -112,15 +130,19 @@ impl World {
         Some(Step::Deliver { router, port })
     }
 
-    // The lowest port of a router that has an item to take.
+    // The lowest port of a router that has an item or a notice to take.
     fn waiting_port(&self, router: u16) -> Option<u8>
         requires known { router < length (self.now).routers }
         ensures { result ≡ waiting_port self.now router }
     {
         // A router has at most 32 ports.
         let _few = self.router(router).port_count();
-        let port = self.place_waiting(&self.places[usize::from(router)])?;
-        Some(port as u8)
+        let places = &self.places[usize::from(router)];
+        match self.place_waiting(places) {
+            Some(port) => Some(port as u8),
+            None if self.notices(router) > 0 => Some(places.len() as u8),
+            None => None,
+        }
     }
 
     // The first of these places at which an item waits to be taken.
@@ -160,6 +182,12 @@ impl World {
             Step::Deliver { router, port } => self.deliver(router, port),
             Step::Publish { router } => self.publish(router),
             Step::Release { router } => self.release(router),
+            Step::Attach {
+                router,
+                prefix,
+                cost,
+            } => self.attach(router, prefix, cost),
+            Step::Detach { router, prefix } => self.detach(router, prefix),
         }
     }
 
@@ -221,6 +249,43 @@ impl World {
         ensures err { OnErr result (self.new ≡ self.old) }
         ensures cause { IsDoneOr (steps.refusal self.old (Step.Deliver router port)) result }
     {
+        if self.is_at_home(router, port) {
+            return self.deliver_notice(router, port);
+        }
+        self.deliver_item(router, port)
+    }
+
+    // Whether the port is the one at which the router takes the notices of its attachments.
+    fn is_at_home(&self, router: u16, port: u8) -> bool
+        ensures { result ≡ steps.is_at_home self.now router port }
+    {
+        match self.places.get(usize::from(router)) {
+            Some(places) => usize::from(port) == places.len(),
+            None => false,
+        }
+    }
+
+    fn deliver_notice(&mut self, router: u16, port: u8) -> Result<(), Refusal>
+        requires home { steps.is_at_home self.old router port ≡ true }
+        ensures ok { OnOk result (self.new ≡ steps.next self.old (Step.Deliver router port)) }
+        ensures err { OnErr result (self.new ≡ self.old) }
+        ensures cause { IsDoneOr (steps.refusal self.old (Step.Deliver router port)) result }
+    {
+        let number = usize::from(router);
+        let Some(notice) = self.attachments[number].front() else {
+            return Err(Refusal::NothingToDeliver);
+        };
+        self.routers[number].notice(notice.prefix, notice.cost)?;
+        self.attachments[number].take();
+        Ok(())
+    }
+
+    fn deliver_item(&mut self, router: u16, port: u8) -> Result<(), Refusal>
+        requires link { steps.is_at_home self.old router port ≡ false }
+        ensures ok { OnOk result (self.new ≡ steps.next self.old (Step.Deliver router port)) }
+        ensures err { OnErr result (self.new ≡ self.old) }
+        ensures cause { IsDoneOr (steps.refusal self.old (Step.Deliver router port)) result }
+    {
         let place = self.known_port(router, port)?;
         let item = self.links.front(place.link, place.end)?;
         let taker = &mut self.routers[usize::from(router)];
@@ -263,6 +328,51 @@ impl World {
         }
         let _released = self.routers[usize::from(router)].release();
         Ok(())
+    }
+
+    fn attach(&mut self, router: u16, prefix: Prefix, cost: Cost) -> Result<(), Refusal>
+        ensures ok { OnOk result (self.new ≡ steps.next self.old (Step.Attach router prefix cost)) }
+        ensures err { OnErr result (self.new ≡ self.old) }
+        ensures cause { IsDoneOr (steps.refusal self.old (Step.Attach router prefix cost)) result }
+    {
+        self.known_prefix(router, prefix)?;
+        self.attachments[usize::from(router)].attach(prefix, cost)?;
+        Ok(())
+    }
+
+    fn detach(&mut self, router: u16, prefix: Prefix) -> Result<(), Refusal>
+        ensures ok { OnOk result (self.new ≡ steps.next self.old (Step.Detach router prefix)) }
+        ensures err { OnErr result (self.new ≡ self.old) }
+        ensures cause { IsDoneOr (steps.refusal self.old (Step.Detach router prefix)) result }
+    {
+        self.known_prefix(router, prefix)?;
+        let attachments = &mut self.attachments[usize::from(router)];
+        if attachments.cost(prefix).is_none() {
+            return Err(Refusal::NotAttached);
+        }
+        attachments.detach(prefix)?;
+        Ok(())
+    }
+
+    // Whether there are such a router and such a prefix.
+    fn known_prefix(&self, router: u16, prefix: Prefix) -> Result<(), Refusal>
+        ensures ok { OnOk result (prefix_refusal self.now router prefix ≡ None) }
+        ensures cause { IfErr result (λ e. prefix_refusal self.now router prefix ≡ Some e) }
+    {
+        if usize::from(router) >= self.routers.len() {
+            return Err(Refusal::UnknownRouter);
+        }
+        if !self.is_known(prefix) {
+            return Err(Refusal::UnknownPrefix);
+        }
+        Ok(())
+    }
+
+    // Whether the prefix is one of the network's.
+    fn is_known(&self, prefix: Prefix) -> bool
+        ensures { result ≡ model.is_known self.now prefix }
+    {
+        self.prefixes.iter().any(|known| prefix == *known)
     }
 
     // The place of a port that is asked for.

@@ -13,7 +13,7 @@ returns c = record {
   keeps_debt = machine_laws.keeps_debt;
   tells_all = machine_laws.tells_all;
   keeps_records = machine_laws.keeps_records;
+  keeps_attachment = machine_laws.keeps_attachment;
   opens_sound = opened_sound;
   stays_sound = machine_laws.stays_sound;
-  stays_local = machine_laws.stays_local;
 }

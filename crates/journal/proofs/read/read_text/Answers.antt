@@ -11,7 +11,7 @@ use Rattle.journal.proofs.read.read_text.Goals as goal
 pub loop-line-preserved : goal.loop-line-preserved
 loop-line-preserved c = (
   search,
-  steps_more c.args.names.now c.args.links.now c.args.text.now c.loop-line.steps.items c.push.new.self.items (lines_of c.loop-line.rest.now) (lines_of c.in-Some-next_line.after.now)
+  steps_more c.args.names.now c.args.links.now c.args.attachments.now c.args.text.now c.in-Some.version c.loop-line.steps.items c.push.new.self.items (lines_of c.loop-line.rest.now) (lines_of c.in-Some-next_line.after.now)
       c.in-Some-next_line.line.now c.in-Ok.step c.loop-line.invariant.1 c.in-Some-next_line.ensures.some c.in-Ok.ensures.ok c.in_ok-push.ensures.items,
 )
 
@@ -24,10 +24,10 @@ returns-clause-err c =
           let apart : line ≢ ending = λ is. true≢false (sym ((bytes_eq-Decides line ending).1 is) ∙ sym w.eq.ensures ∙ w.if-eq.false) in
           inr (
             c.requires,
-            stops_at_line c.args.names.now c.args.links.now c.args.text.now c.loop-line.steps.items (lines_of c.loop-line.rest.now) (lines_of w.in-Some-next_line.after.now) line (c.len.result + 2)
+            stops_at_line c.args.names.now c.args.links.now c.args.attachments.now c.args.text.now c.in-Some.version c.loop-line.steps.items (lines_of c.loop-line.rest.now) (lines_of w.in-Some-next_line.after.now) line (c.len.result + 2)
                 c.loop-line.invariant.1 w.in-Some-next_line.ensures.some apart
-                (says_no_step w.in_default-parse_step.field-0 c.args.names.now c.args.links.now (words_of line) w.in_default-parse_step.ensures.err) number,
+                (says_no_step c.args.names.now c.args.links.now c.args.attachments.now (words_of line) w.in_default-parse_step.field-0 w.in_default-parse_step.ensures.err) number,
           )
       | in_default-next_line w ↦
-          inr (c.requires, stops_missing c.args.names.now c.args.links.now c.args.text.now c.loop-line.steps.items (lines_of c.loop-line.rest.now) (c.len.result + 2) c.loop-line.invariant.1 w.in_default-next_line.ensures.none number)
+          inr (c.requires, stops_missing c.args.names.now c.args.links.now c.args.attachments.now c.args.text.now c.in-Some.version c.loop-line.steps.items (lines_of c.loop-line.rest.now) (c.len.result + 2) c.loop-line.invariant.1 w.in_default-next_line.ensures.none number)
     ]

@@ -4,4 +4,4 @@ use Rattle.script.proofs.command.read_command.Goals as goal
 
 pub returns-in-Some-clause-err : goal.returns-in-Some-clause-err
 returns-in-Some-clause-err c =
-    subst (λ words. IfErr c.read_words.result (AsksNothing c.args.names.now c.args.links.now c.args.owners.now words)) (sym c.in-Some.ensures.some) c.read_words.ensures.err
+    subst (λ words. IfErr c.read_words.result (AsksNothing c.args.names.now c.args.links.now c.args.attachments.now words)) (sym c.in-Some.ensures.some) c.read_words.ensures.err

@@ -1,67 +1,50 @@
-use Rattle.std.proofs.Common.{◌∷◌, inl, codes, sym, subst, ◌∙◌}
-use Rattle.script.specs.declared.fault.Fault.TheVariants.{Prefix as OfPrefix}
+use Rattle.std.proofs.Common.{◌∷◌, codes}
 use Rattle.script.specs.Words.{words_of}
 use Rattle.script.specs.Commands.{AsksNothing}
 use Rattle.script.proofs.Exits.{at_err}
 use Rattle.script.proofs.Splits.{words-some}
-use Rattle.script.proofs.StepTexts.{names_router, names_no_router, text_unique}
-use Rattle.script.proofs.OwnerTexts.{owned_by_test, strange}
-use Rattle.script.proofs.CommandTexts.{IsStrange, no_state, no_table, lookup_fault, inject_fault, trace_fault, step_fault}
+use Rattle.script.proofs.StepTexts.{names_router, names_no_router}
+use Rattle.script.proofs.CommandTexts.{state_fault, no_table, lookup_fault, inject_fault, trace_fault, step_fault}
 use Rattle.script.proofs.command.read_words.Goals as goal
 
 pub returns-in_err-router-in-state-clause-err : goal.returns-in_err-router-in-state-clause-err
 returns-in_err-router-in-state-clause-err c =
-    let none = c.in_err-router-in-state.ensures.err in
-    at_err c.from_residual-in_err-router-in-state.result (AsksNothing c.args.names.now c.args.links.now c.args.owners.now (c.args.verb.now ∷ words_of c.args.operands.now)) c.in_err-router-in-state.field-0.0 c.from_residual-in_err-router-in-state.ensures.1
-    (rw (none.0, c.in-state.is) (no_state c.args.names.now c.args.links.now c.args.owners.now (words_of c.args.operands.now) (words-some c.args.operands.now) (λ router text h. absurd (none.1 (codes "state") router text h))))
+    at_err c.from_residual-in_err-router-in-state.result (AsksNothing c.args.names.now c.args.links.now c.args.attachments.now (c.args.verb.now ∷ words_of c.args.operands.now)) c.in_err-router-in-state.field-0.0 c.from_residual-in_err-router-in-state.ensures.1
+    (rw c.in-state.is (state_fault c.args.names.now c.args.links.now c.args.attachments.now (words_of c.args.operands.now) (words-some c.args.operands.now)
+    c.in_err-router-in-state.field-0.0 (c.in_err-router-in-state.ensures.err (codes "state"))))
 
 pub returns-in_err-router-in-lookup-clause-err : goal.returns-in_err-router-in-lookup-clause-err
 returns-in_err-router-in-lookup-clause-err c =
-    at_err c.from_residual-in_err-router-in-lookup.result (AsksNothing c.args.names.now c.args.links.now c.args.owners.now (c.args.verb.now ∷ words_of c.args.operands.now)) c.in_err-router-in-lookup.field-0.0 c.from_residual-in_err-router-in-lookup.ensures.1
-    (rw c.in-lookup.is (lookup_fault c.args.names.now c.args.links.now c.args.owners.now (words_of c.args.operands.now) (words-some c.args.operands.now)
+    at_err c.from_residual-in_err-router-in-lookup.result (AsksNothing c.args.names.now c.args.links.now c.args.attachments.now (c.args.verb.now ∷ words_of c.args.operands.now)) c.in_err-router-in-lookup.field-0.0 c.from_residual-in_err-router-in-lookup.ensures.1
+    (rw c.in-lookup.is (lookup_fault c.args.names.now c.args.links.now c.args.attachments.now (words_of c.args.operands.now) (words-some c.args.operands.now)
     c.in_err-router-in-lookup.field-0.0 (c.in_err-router-in-lookup.ensures.err (codes "lookup"))))
 
 pub returns-in_err-router-in-inject-clause-err : goal.returns-in_err-router-in-inject-clause-err
 returns-in_err-router-in-inject-clause-err c =
-    at_err c.from_residual-in_err-router-in-inject.result (AsksNothing c.args.names.now c.args.links.now c.args.owners.now (c.args.verb.now ∷ words_of c.args.operands.now)) c.in_err-router-in-inject.field-0.0 c.from_residual-in_err-router-in-inject.ensures.1
-    (rw c.in-inject.is (inject_fault c.args.names.now c.args.links.now c.args.owners.now (words_of c.args.operands.now) (words-some c.args.operands.now)
+    at_err c.from_residual-in_err-router-in-inject.result (AsksNothing c.args.names.now c.args.links.now c.args.attachments.now (c.args.verb.now ∷ words_of c.args.operands.now)) c.in_err-router-in-inject.field-0.0 c.from_residual-in_err-router-in-inject.ensures.1
+    (rw c.in-inject.is (inject_fault c.args.names.now c.args.links.now c.args.attachments.now (words_of c.args.operands.now) (words-some c.args.operands.now)
     c.in_err-router-in-inject.field-0.0 (c.in_err-router-in-inject.ensures.err (codes "inject"))))
 
 pub returns-in_err-router-in-trace-clause-err : goal.returns-in_err-router-in-trace-clause-err
 returns-in_err-router-in-trace-clause-err c =
-    at_err c.from_residual-in_err-router-in-trace.result (AsksNothing c.args.names.now c.args.links.now c.args.owners.now (c.args.verb.now ∷ words_of c.args.operands.now)) c.in_err-router-in-trace.field-0.0 c.from_residual-in_err-router-in-trace.ensures.1
-    (rw c.in-trace.is (trace_fault c.args.names.now c.args.links.now c.args.owners.now (words_of c.args.operands.now) (words-some c.args.operands.now)
+    at_err c.from_residual-in_err-router-in-trace.result (AsksNothing c.args.names.now c.args.links.now c.args.attachments.now (c.args.verb.now ∷ words_of c.args.operands.now)) c.in_err-router-in-trace.field-0.0 c.from_residual-in_err-router-in-trace.ensures.1
+    (rw c.in-trace.is (trace_fault c.args.names.now c.args.links.now c.args.attachments.now (words_of c.args.operands.now) (words-some c.args.operands.now)
     c.in_err-router-in-trace.field-0.0 (c.in_err-router-in-trace.ensures.err (codes "trace"))))
-
-pub returns-in_err-prefix-in-state-clause-err : goal.returns-in_err-prefix-in-state-clause-err
-returns-in_err-prefix-in-state-clause-err c =
-    at_err c.from_residual-in_err-prefix-in-state.result (AsksNothing c.args.names.now c.args.links.now c.args.owners.now (c.args.verb.now ∷ words_of c.args.operands.now)) (OfPrefix c.in_err-prefix-in-state.field-0.0) c.from_residual-in_err-prefix-in-state.ensures.1
-    (rw c.in-state.is (inl (c.in_ok-router-in-state.router, c.in_ok-router-in-state.prefix.now, c.in_ok-router-in-state.ensures.ok (codes "state"), c.in_err-prefix-in-state.ensures.fault)))
-
-pub returns-then-not-is_owned-clause-err : goal.returns-then-not-is_owned-clause-err
-returns-then-not-is_owned-clause-err c =
-    let named = c.in_ok-router-in-state.ensures.ok (codes "state") in
-    let fails = sym c.is_owned.ensures ∙ c.if-not-is_owned.true in
-    let none = strange c.args.owners.now c.in_ok-prefix-in-state.prefix c.in_ok-router-in-state.prefix.now c.parse.result c.in_ok-prefix-in-state.was c.parse.ensures.every_prefix c.parse.ensures.every_fault fails in
-    rw c.in-state.is (no_state c.args.names.now c.args.links.now c.args.owners.now (words_of c.args.operands.now) (words-some c.args.operands.now) (λ router text h.
-    subst (IsStrange c.args.owners.now) (text_unique c.args.names.now (codes "state") _ c.in_ok-router-in-state.router router c.in_ok-router-in-state.prefix.now text named h) none))
 
 pub returns-in_err-router-in-table-clause-err : goal.returns-in_err-router-in-table-clause-err
 returns-in_err-router-in-table-clause-err c =
     let none = c.in_err-router-in-table.ensures.err in
-    at_err c.from_residual-in_err-router-in-table.result (AsksNothing c.args.names.now c.args.links.now c.args.owners.now (c.args.verb.now ∷ words_of c.args.operands.now)) c.in_err-router-in-table.field-0.0 c.from_residual-in_err-router-in-table.ensures.1
-    (rw (none.0, c.in-table.is) (no_table c.args.names.now c.args.links.now c.args.owners.now (words_of c.args.operands.now) (words-some c.args.operands.now) (λ router h. names_no_router c.args.names.now (codes "table") c.args.operands.now router none.1 h)))
+    at_err c.from_residual-in_err-router-in-table.result (AsksNothing c.args.names.now c.args.links.now c.args.attachments.now (c.args.verb.now ∷ words_of c.args.operands.now)) c.in_err-router-in-table.field-0.0 c.from_residual-in_err-router-in-table.ensures.1
+    (rw (none.0, c.in-table.is) (no_table c.args.names.now c.args.links.now c.args.attachments.now (words_of c.args.operands.now) (words-some c.args.operands.now) (λ router h. names_no_router c.args.names.now (codes "table") c.args.operands.now router none.1 h)))
 
 pub returns-in_err-step-in_default-clause-err : goal.returns-in_err-step-in_default-clause-err
 returns-in_err-step-in_default-clause-err c =
-    at_err c.from_residual-in_err-step-in_default.result (AsksNothing c.args.names.now c.args.links.now c.args.owners.now (c.args.verb.now ∷ words_of c.args.operands.now)) c.in_err-step-in_default.field-0.0 c.from_residual-in_err-step-in_default.ensures.1
-    (step_fault c.args.names.now c.args.links.now c.args.owners.now c.args.verb.now (words_of c.args.operands.now) (words-some c.args.operands.now)
+    at_err c.from_residual-in_err-step-in_default.result (AsksNothing c.args.names.now c.args.links.now c.args.attachments.now (c.args.verb.now ∷ words_of c.args.operands.now)) c.in_err-step-in_default.field-0.0 c.from_residual-in_err-step-in_default.ensures.1
+    (step_fault c.args.names.now c.args.links.now c.args.attachments.now c.args.verb.now (words_of c.args.operands.now) (words-some c.args.operands.now)
     c.in_default.not-try c.in_default.not-state c.in_default.not-table c.in_default.not-lookup c.in_default.not-inject c.in_default.not-trace c.in_err-step-in_default.field-0.0 c.in_err-step-in_default.ensures.err)
 
-pub returns-else-not-is_owned-clause-ok : goal.returns-else-not-is_owned-clause-ok
-returns-else-not-is_owned-clause-ok c =
-    let owned = owned_by_test c.args.owners.now c.in_ok-prefix-in-state.prefix (sym c.is_owned.ensures ∙ c.if-not-is_owned.false) in
-    (c.in_ok-router-in-state.prefix.now, rw c.in-state.is (c.in_ok-router-in-state.ensures.ok (codes "state")), c.in_ok-prefix-in-state.ensures.read, owned)
+pub returns-in_ok-router-in-state-clause-ok : goal.returns-in_ok-router-in-state-clause-ok
+returns-in_ok-router-in-state-clause-ok c = rw c.in-state.is (c.in_ok-router-in-state.ensures.ok (codes "state"))
 
 pub returns-in_ok-router-in-table-clause-ok : goal.returns-in_ok-router-in-table-clause-ok
 returns-in_ok-router-in-table-clause-ok c =

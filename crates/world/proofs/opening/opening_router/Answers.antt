@@ -4,7 +4,7 @@ use Rattle.std.proofs.lemmas.List.{length-map}
 use Rattle.network_model.specs.declared.network.LinkSpec.{LinkSpec}
 use Rattle.network_model.specs.declared.network.Place.{Place}
 use Rattle.network_model.specs.declared.network.Port.{Port}
-use Rattle.network_model.specs.World.{Network, places_from, opening_port, opening_link, opening_router, owned}
+use Rattle.network_model.specs.World.{Network, places_from, opening_port, opening_link, opening_router, rows_of, costs_of}
 use Rattle.world.proofs.Degrees.{few_ports}
 use Rattle.world.proofs.Openings.{place_known}
 use Rattle.world.proofs.opening.opening_router.Goals as goal
@@ -30,10 +30,10 @@ new-requires c =
 
 pub returns : goal.returns
 returns c =
-    let own : c.deref-2.result.now ≡ owned c.args.network.now c.args.router
-    = c.deref-2.ensures.value ∙ c.in_ok-own.ensures ∙ ap (λ os. map (λ o. o.0) (filter (λ o. o.1 == c.args.router) os)) c.owners.ensures in
+    let own : rows_of c.deref-2.result.now ≡ costs_of c.args.network.now c.args.router
+    = ap rows_of (c.deref-2.ensures.value ∙ c.in_ok-own.ensures ∙ ap (λ xs. map (λ a. (a.0, a.2)) (filter (λ a. a.1 == c.args.router) xs)) c.attachments.ensures) in
     let ports : _ = ports_are c.args.network.now c.args.router c.links-links.result.now c.deref.result.now (c.in_ok-ports.ports).items c.in_ok-ports.ensures (c.deref.ensures.value ∙ c.in_ok-places.ensures) c.links-links.ensures.links in
     subst (λ x. IfOk c.new.result (λ r. r ≡ x))
-    (ap (λ ps. opening_router ps c.deref-2.result.now) ports
+    (ap (λ ps. opening_router ps (rows_of c.deref-2.result.now)) ports
     ∙ ap (opening_router (map (opening_port (map opening_link (c.args.network.now).links)) (places_from 0 c.args.router (c.args.network.now).links))) own)
     c.new.ensures

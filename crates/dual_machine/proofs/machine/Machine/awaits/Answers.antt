@@ -11,7 +11,7 @@ pub returns-in-Some : goal.returns-in-Some
 returns-in-Some c =
     let i = c.self.inside in
     let n = length (i.ports).items in
-    let under_way = subst (λ (a : Option Active). IfSome a (IsUnderWay i.local n i.successor)) c.in-Some.is c.self.invariant.under_way in
+    let under_way = subst (λ (a : Option Active). IfSome a (IsUnderWay n i.successor)) c.in-Some.is c.self.invariant.under_way in
     c.has.ensures.value ∙ ap (λ (s : Ports). contains s c.args.port) c.awaited.ensures
     ∙ sym (awaited_of-at c.in-Some.active.replies n c.args.port under_way.known)
     ∙ ap (λ (a : Option Active). awaits_at (computation_of n a) c.args.port) (sym c.in-Some.is)

@@ -3,6 +3,7 @@ use Rattle.std.specs.List.{list_any}
 use Rattle.std.specs.FinSet.{contains}
 use Rattle.std.proofs.lemmas.Grind.{common_steps}
 use Rattle.network_model.specs.declared.machine.Neighbour.{Neighbour}
+use Rattle.network_model.specs.Machine.{degree}
 use Rattle.diffusing_replies.specs.Ports.{Ports}
 use Rattle.dual_machine.specs.State.{State}
 use Rattle.dual_machine.specs.Parts.{IsDebtOf}
@@ -20,9 +21,8 @@ invariant_of-self c =
     λ q. ap (λ (s : Ports). contains s q) c.begin-replies.ensures ∙ c.up_ports.ensures q ∙ ap (λ (ns : List Neighbour). is_up_at ns q) c.deref-then-is_any_up-3.ensures.value in
     let any : up ports ≡ true = ap up (sym c.deref.ensures.value) ∙ sym c.is_any_up.ensures ∙ c.if-is_any_up.true in
     let asking = ap (λ (bs : List Bool). list_any (λ b. b) bs) (awaited_of-up _ ports asked) ∙ list_any-map ports ∙ any in
-    let remote = ap (λ (s : State). (s.machine).local) c.self.view_is ∙ c.requires.remote in
-    let debt = subst (λ (s : State). IsDebtOf c.args.origin (s.machine).successor c.args.debt) (sym c.self.view_is) c.requires.debt in
-    record { few = c.self.invariant.few; costs = c.self.invariant.costs; under_way = record { remote = remote; asking = asking; known = AwaitsBelow-up _ ports asked; debt = debt } }
+    let debt = subst (λ (s : State). IsDebtOf (degree s.machine) c.args.origin (s.machine).successor c.args.debt) (sym c.self.view_is) c.requires.debt in
+    record { few = c.self.invariant.few; costs = c.self.invariant.costs; attached = c.self.invariant.attached; under_way = record { asking = asking; known = AwaitsBelow-up _ ports asked; debt = debt } }
 
 pub returns-then-is_any_up-clause-machine : goal.returns-then-is_any_up-clause-machine
 returns-then-is_any_up-clause-machine c =

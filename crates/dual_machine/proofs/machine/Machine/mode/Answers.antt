@@ -11,7 +11,7 @@ pub returns-in-Some-clause-awaited : goal.returns-in-Some-clause-awaited
 returns-in-Some-clause-awaited c = λ q.
     let i = c.self.inside in
     let n = length (i.ports).items in
-    let under_way = subst (λ (a : Option Active). IfSome a (IsUnderWay i.local n i.successor)) c.in-Some.is c.self.invariant.under_way in
+    let under_way = subst (λ (a : Option Active). IfSome a (IsUnderWay n i.successor)) c.in-Some.is c.self.invariant.under_way in
     ap (λ (s : Ports). contains s q) c.awaited.ensures
     ∙ sym (awaited_of-at c.in-Some.active.replies n q under_way.known)
     ∙ ap (λ (a : Option Active). awaits_at (computation_of n a) q) (sym c.in-Some.is)

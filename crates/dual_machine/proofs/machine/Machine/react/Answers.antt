@@ -1,112 +1,200 @@
-use Rattle.std.proofs.Common.{◌≡◌, ◌≤◌, false, not, Option, List, length, IfSome, arith, ap, subst, sym, ◌∙◌}
+use Rattle.std.proofs.Common.{◌≡◌, ◌≤◌, ℕ, false, not, Option, Some, None, List, ◌++◌, length, take, drop, append_assoc, IfSome, arith, refl, ap, subst, sym, ◌∙◌}
+use Rattle.std.specs.List.{list_any}
 use Rattle.std.proofs.lemmas.Grind.{common_steps}
+use Rattle.metric.specs.Distance.{IsCost}
 use Rattle.network_model.specs.declared.machine.Neighbour.{Neighbour}
-use Rattle.network_model.specs.Machine.{via_successor}
+use Rattle.network_model.specs.declared.machine.Outgoing.{Outgoing}
+use Rattle.network_model.specs.Machine.{Machine, Computation, Reaction, home_ways, degree, via_successor, with_records, answers_at_once, completion, awaited_after, debt_after, successor_after, passive_reaction, decision}
 use Rattle.diffusing_replies.specs.declared.origin.Origin.{Origin}
 use Rattle.dual_machine.specs.declared.mode.Active.{Active}
 use Rattle.diffusing_replies.specs.Origin.{needs_test}
-use Rattle.dual_machine.specs.Parts.{IsUnderWay}
-use Rattle.dual_machine.proofs.Closing.{costs_after, IsSound_after, IsUnderWay-owner, asking_after}
+use Rattle.dual_machine.specs.Event.{IsKnown}
+use Rattle.dual_machine.specs.Awaited.{awaited_of}
+use Rattle.dual_machine.specs.Parts.{IsUnderWay, IsDebtOf, computation_of}
+use Rattle.dual_machine.specs.State.{State, moved}
+use Rattle.dual_machine.proofs.Changes.{refilled}
+use Rattle.dual_machine.proofs.Closing.{costs_after, IsSound_after, asking_after}
 use Rattle.dual_machine.proofs.Awaiting.{asking-done}
-use Rattle.dual_machine.proofs.Costs.{condition_holds_near, not_above}
+use Rattle.dual_machine.proofs.Costs.{condition_holds_near, not_above, HasCost-attachment_after, HasCost-ways}
 use Rattle.dual_machine.proofs.Debts.{not_risen, IsDebtOf_after}
+use Rattle.dual_machine.proofs.Deciding.{then, recorded, decision-passive, decision-done}
 use Rattle.dual_machine.proofs.machine.Machine.react.Goals as goal
 
 pub invariant_of-self : goal.invariant_of-self
 invariant_of-self c =
     let i = c.self.inside in
-    IsSound_after c.args.event.now i.local (i.ports).items c.deref_mut.result.now c.change_record.new.ports _ _ i.active (i.ports).len
-    (omega arith) (omega arith) (omega arith) c.deref_mut.ensures.value c.change_record.ensures.records c.change_record.ensures.cost c.self.invariant.costs
-    (IsUnderWay-owner i.local _ i.successor _ i.active c.if-self.true c.self.invariant.under_way)
-
-pub invariant_of-self-in_default : goal.invariant_of-self-in_default
-invariant_of-self-in_default c =
-    let i = c.self.inside in
-    IsSound_after c.args.event.now i.local (i.ports).items c.deref_mut.result.now c.change_record.new.ports _ c.successor_after-self-inside.result i.active (i.ports).len
-    (omega arith) (omega arith) (omega arith) c.deref_mut.ensures.value c.change_record.ensures.records c.change_record.ensures.cost c.self.invariant.costs
+    IsSound_after c.args.event.now i.attachment _ (i.ports).items c.deref_mut.result.now c.change_record.new.ports _ c.successor_after-self-inside.result i.active (i.ports).len
+    (omega arith) (omega arith) (omega arith) c.deref_mut.ensures.value c.change_record.ensures.records c.attachment_after-self-inside.ensures c.change_record.ensures.cost c.self.invariant.costs c.self.invariant.attached
     (rw c.in_default.is tt)
 
 pub invariant_of-self-then-is_done : goal.invariant_of-self-then-is_done
 invariant_of-self-then-is_done c =
     let i = c.self.inside in
-    IsSound_after c.args.event.now i.local (i.ports).items c.deref_mut.result.now c.change_record.new.ports _ c.successor_after-self-inside.result _ (i.ports).len
-    (omega arith) (omega arith) (omega arith) c.deref_mut.ensures.value c.change_record.ensures.records c.change_record.ensures.cost c.self.invariant.costs
+    IsSound_after c.args.event.now i.attachment _ (i.ports).items c.deref_mut.result.now c.change_record.new.ports _ c.successor_after-self-inside.result _ (i.ports).len
+    (omega arith) (omega arith) (omega arith) c.deref_mut.ensures.value c.change_record.ensures.records c.attachment_after-self-inside.ensures c.change_record.ensures.cost c.self.invariant.costs c.self.invariant.attached
     tt
 
 pub invariant_of-self-else-is_done : goal.invariant_of-self-else-is_done
 invariant_of-self-else-is_done c =
     let i = c.self.inside in
     let n = length (i.ports).items in
-    let before = subst (λ (a : Option Active). IfSome a (IsUnderWay i.local n i.successor)) c.in-Some.is c.self.invariant.under_way in
-    IsSound_after c.args.event.now i.local (i.ports).items c.deref_mut.result.now c.change_record.new.ports _ c.successor_after-self-inside.result _ (i.ports).len
-    (omega arith) (omega arith) (omega arith) c.deref_mut.ensures.value c.change_record.ensures.records c.change_record.ensures.cost c.self.invariant.costs
+    let count : c.len-degree.result ≡ length (i.ports).items = omega arith in
+    let known : IsKnown (length (i.ports).items) c.args.event.now = subst (λ (s : State). IsKnown (degree s.machine) c.args.event.now) (sym c.self.view_is) c.requires.known in
+    let before = subst (λ (a : Option Active). IfSome a (IsUnderWay n i.successor)) c.in-Some.is c.self.invariant.under_way in
+    IsSound_after c.args.event.now i.attachment _ (i.ports).items c.deref_mut.result.now c.change_record.new.ports _ c.successor_after-self-inside.result _ (i.ports).len
+    (omega arith) (omega arith) (omega arith) c.deref_mut.ensures.value c.change_record.ensures.records c.attachment_after-self-inside.ensures c.change_record.ensures.cost c.self.invariant.costs c.self.invariant.attached
     (record {
-      remote = c.if-self.false;
       asking = asking-done c.is_done.result c.end_wait.new.replies n (c.end_wait.ensures.no_more n before.known) c.is_done.ensures ∙ ap not c.if-is_done.false;
       known = c.end_wait.ensures.no_more n before.known;
-      debt = IsDebtOf_after c.args.event.now i.successor _ c.has_risen-risen.result _ _ _ _ c.moved-origin.ensures c.successor_after-self-inside.ensures c.debt_after-debt.ensures before.debt;
+      debt = IsDebtOf_after (length (i.ports).items) c.args.event.now i.successor _ c.has_risen-risen.result _ _ _ _ known (c.moved-origin.ensures ∙ ap (λ (n : ℕ). moved n i.successor c.args.event.now c.has_risen-risen.result c.in-Some.active.origin) count) (c.successor_after-self-inside.ensures ∙ ap (λ (n : ℕ). successor_after n c.args.event.now i.successor) count) c.debt_after-debt.ensures before.debt;
     })
 
 pub returns-else-is_done-clause-machine : goal.returns-else-is_done-clause-machine
 returns-else-is_done-clause-machine c =
     let i = c.self.inside in
     let awaited = c.end_wait.ensures.awaited (length (i.ports).items) in
-    let asking = asking_after i.local (length (i.ports).items) i.successor i.active c.in-Some.active c.end_wait.new.replies c.is_done.result c.in-Some.is c.self.invariant.under_way c.end_wait.ensures.no_more c.is_done.ensures in
-    grind (arith, common_steps)
-
-pub returns-then-is_done-clause-machine : goal.returns-then-is_done-clause-machine
-returns-then-is_done-clause-machine c =
-    let i = c.self.inside in
-    let awaited = c.end_wait.ensures.awaited (length (i.ports).items) in
-    let asking = asking_after i.local (length (i.ports).items) i.successor i.active c.in-Some.active c.end_wait.new.replies c.is_done.result c.in-Some.is c.self.invariant.under_way c.end_wait.ensures.no_more c.is_done.ensures in
+    let asking = asking_after (length (i.ports).items) i.successor i.active c.in-Some.active c.end_wait.new.replies c.is_done.result c.in-Some.is c.self.invariant.under_way c.end_wait.ensures.no_more c.is_done.ensures in
     grind (arith, common_steps)
 
 pub returns-else-is_done-clause-origin : goal.returns-else-is_done-clause-origin
 returns-else-is_done-clause-origin c =
     let i = c.self.inside in
     let awaited = c.end_wait.ensures.awaited (length (i.ports).items) in
-    let asking = asking_after i.local (length (i.ports).items) i.successor i.active c.in-Some.active c.end_wait.new.replies c.is_done.result c.in-Some.is c.self.invariant.under_way c.end_wait.ensures.no_more c.is_done.ensures in
+    let asking = asking_after (length (i.ports).items) i.successor i.active c.in-Some.active c.end_wait.new.replies c.is_done.result c.in-Some.is c.self.invariant.under_way c.end_wait.ensures.no_more c.is_done.ensures in
     grind (arith, common_steps)
 
 pub returns-then-is_done-clause-origin : goal.returns-then-is_done-clause-origin
 returns-then-is_done-clause-origin c =
     let i = c.self.inside in
     let awaited = c.end_wait.ensures.awaited (length (i.ports).items) in
-    let asking = asking_after i.local (length (i.ports).items) i.successor i.active c.in-Some.active c.end_wait.new.replies c.is_done.result c.in-Some.is c.self.invariant.under_way c.end_wait.ensures.no_more c.is_done.ensures in
+    let asking = asking_after (length (i.ports).items) i.successor i.active c.in-Some.active c.end_wait.new.replies c.is_done.result c.in-Some.is c.self.invariant.under_way c.end_wait.ensures.no_more c.is_done.ensures in
     grind (arith, common_steps)
 
 pub returns-else-is_done-clause-sent : goal.returns-else-is_done-clause-sent
 returns-else-is_done-clause-sent c =
     let i = c.self.inside in
     let awaited = c.end_wait.ensures.awaited (length (i.ports).items) in
-    let asking = asking_after i.local (length (i.ports).items) i.successor i.active c.in-Some.active c.end_wait.new.replies c.is_done.result c.in-Some.is c.self.invariant.under_way c.end_wait.ensures.no_more c.is_done.ensures in
-    grind (arith, common_steps)
-
-pub returns-then-is_done-clause-sent : goal.returns-then-is_done-clause-sent
-returns-then-is_done-clause-sent c =
-    let i = c.self.inside in
-    let awaited = c.end_wait.ensures.awaited (length (i.ports).items) in
-    let asking = asking_after i.local (length (i.ports).items) i.successor i.active c.in-Some.active c.end_wait.new.replies c.is_done.result c.in-Some.is c.self.invariant.under_way c.end_wait.ensures.no_more c.is_done.ensures in
+    let asking = asking_after (length (i.ports).items) i.successor i.active c.in-Some.active c.end_wait.new.replies c.is_done.result c.in-Some.is c.self.invariant.under_way c.end_wait.ensures.no_more c.is_done.ensures in
     grind (arith, common_steps)
 
 pub complete-requires-clause-room : goal.complete-requires-clause-room
 complete-requires-clause-room c =
     let i = c.self.inside in
     let awaited = c.end_wait.ensures.awaited (length (i.ports).items) in
-    let asking = asking_after i.local (length (i.ports).items) i.successor i.active c.in-Some.active c.end_wait.new.replies c.is_done.result c.in-Some.is c.self.invariant.under_way c.end_wait.ensures.no_more c.is_done.ensures in
+    let asking = asking_after (length (i.ports).items) i.successor i.active c.in-Some.active c.end_wait.new.replies c.is_done.result c.in-Some.is c.self.invariant.under_way c.end_wait.ensures.no_more c.is_done.ensures in
     grind (arith, common_steps)
 
 pub complete-requires-clause-debt : goal.complete-requires-clause-debt
 complete-requires-clause-debt c =
     let i = c.self.inside in
-    let before = subst (λ (a : Option Active). IfSome a (IsUnderWay i.local (length (i.ports).items) i.successor)) c.in-Some.is c.self.invariant.under_way in
-    IsDebtOf_after c.args.event.now i.successor _ c.has_risen-risen.result _ _ _ _ c.moved-origin.ensures c.successor_after-self-inside.ensures c.debt_after-debt.ensures before.debt
+    let count : c.len-degree.result ≡ length (i.ports).items = omega arith in
+    let known : IsKnown (length (i.ports).items) c.args.event.now = subst (λ (s : State). IsKnown (degree s.machine) c.args.event.now) (sym c.self.view_is) c.requires.known in
+    let before = subst (λ (a : Option Active). IfSome a (IsUnderWay (length (i.ports).items) i.successor)) c.in-Some.is c.self.invariant.under_way in
+    let as_many : length (i.ports).items ≡ length (take (i.ports).len (c.change_record.new.ports ++ drop (length c.change_record.new.ports) (i.ports).items)) = omega (arith, ap length (refilled c.change_record.new.ports (drop (length c.change_record.new.ports) (i.ports).items) (i.ports).len (omega arith))) in
+    subst (λ (n : ℕ). IsDebtOf n c.moved-origin.result c.successor_after-self-inside.result c.debt_after-debt.result) as_many
+    (IsDebtOf_after (length (i.ports).items) c.args.event.now i.successor _ c.has_risen-risen.result _ _ _ _ known (c.moved-origin.ensures ∙ ap (λ (n : ℕ). moved n i.successor c.args.event.now c.has_risen-risen.result c.in-Some.active.origin) count) (c.successor_after-self-inside.ensures ∙ ap (λ (n : ℕ). successor_after n c.args.event.now i.successor) count) c.debt_after-debt.ensures before.debt)
 
 pub complete-requires-clause-tested : goal.complete-requires-clause-tested
 complete-requires-clause-tested c = λ untested.
     let i = c.self.inside in
     let after = c.successor_after-self-inside.result in
+    let home = home_ways c.attachment_after-self-inside.result in
     let costs = costs_after c.args.event.now (i.ports).items c.deref_mut.result.now c.change_record.new.ports _ (i.ports).len (omega arith) c.deref_mut.ensures.value c.change_record.ensures.records c.change_record.ensures.cost c.self.invariant.costs in
-    let same = not_risen c.args.event.now i.successor c.has_risen-risen.result c.in-Some.active.origin (subst (λ (o : Origin). needs_test o ≡ false) c.moved-origin.ensures untested) in
-    let near = not_above i.rd (via_successor c.deref.result.now after) (sym c.has_risen-risen.ensures.risen ∙ same) in
-    condition_holds_near i.rd _ after costs c.has_risen-risen.ensures.bounded (subst (λ (ns : List Neighbour). via_successor ns after ≤ i.rd) c.deref.ensures.value near)
+    let attached = subst (λ (o : Option ℕ). IfSome o (λ cost. IsCost cost)) (sym c.attachment_after-self-inside.ensures) (HasCost-attachment_after c.args.event.now i.attachment c.change_record.ensures.cost c.self.invariant.attached) in
+    let same = not_risen c.args.event.now c.len-degree.result i.successor c.has_risen-risen.result c.in-Some.active.origin (subst (λ (o : Origin). needs_test o ≡ false) c.moved-origin.ensures untested) in
+    let near = not_above i.rd (via_successor (c.deref.result.now ++ home) after) (sym c.has_risen-risen.ensures.risen ∙ same) in
+    condition_holds_near i.rd _ after (HasCost-ways _ c.attachment_after-self-inside.result costs attached) c.has_risen-risen.ensures.bounded
+    (subst (λ (ns : List Neighbour). via_successor (ns ++ home) after ≤ i.rd) c.deref.ensures.value near)
+
+-- ---- a machine that was passive
+
+module _ (c : goal.After-decide) where
+  abbrev passive_before : Machine
+  passive_before = then c.args.event.now c.self.inside.attachment (c.self.inside.ports).items c.self.inside.rd c.self.inside.fd c.self.inside.successor (computation_of (length (c.self.inside.ports).items) c.self.inside.active)
+
+  passive : passive_before.computation ≡ None
+  passive = ap (computation_of (length (c.self.inside.ports).items)) c.in_default.is
+
+  abbrev ports_now : List Neighbour
+  ports_now = take (c.self.inside.ports).len (c.change_record.new.ports ++ drop (length c.change_record.new.ports) (c.self.inside.ports).items)
+
+  abbrev deciding : Option Computation → Machine
+  deciding o = record { attachment = c.attachment_after-self-inside.result; ports = ports_now; rd = c.self.inside.rd; fd = c.self.inside.fd; successor = c.successor_after-self-inside.result; computation = o }
+
+  decided : deciding None ≡ with_records passive_before c.args.event.now
+  decided = recorded c.args.event.now c.self.inside.attachment (c.self.inside.ports).items c.self.inside.rd c.self.inside.fd c.self.inside.successor (computation_of (length (c.self.inside.ports).items) c.self.inside.active)
+      c.attachment_after-self-inside.result c.deref_mut.result.now c.change_record.new.ports _ c.successor_after-self-inside.result None (c.self.inside.ports).len c.len-degree.result
+      (omega arith) c.deref_mut.ensures.value c.change_record.ensures.records c.attachment_after-self-inside.ensures (omega arith) c.successor_after-self-inside.ensures
+      (sym passive)
+
+pub returns-in_default-clause-machine : goal.returns-in_default-clause-machine
+returns-in_default-clause-machine c =
+    c.decide.ensures.machine
+    ∙ ap (λ (o : Option Computation). (passive_reaction (deciding c o) c.args.event.now).machine) (ap (computation_of (length (ports_now c))) c.in_default.is)
+    ∙ ap (λ (m : Machine). (passive_reaction m c.args.event.now).machine) (decided c)
+    ∙ ap (λ (r : Reaction). r.machine) (decision-passive (with_records (passive_before c) c.args.event.now) c.args.event.now (passive c))
+    ∙ ap (λ (s : State). (decision (with_records s.machine c.args.event.now) c.args.event.now).machine) c.self.view_is
+
+pub returns-in_default-clause-sent : goal.returns-in_default-clause-sent
+returns-in_default-clause-sent c =
+    c.decide.ensures.sent
+    ∙ ap (λ (o : Option Computation). c.args.sends.now.list ++ (passive_reaction (deciding c o) c.args.event.now).sends) (ap (computation_of (length (ports_now c))) c.in_default.is)
+    ∙ ap (λ (m : Machine). c.args.sends.now.list ++ (passive_reaction m c.args.event.now).sends) (decided c)
+    ∙ ap (λ (r : Reaction). c.args.sends.now.list ++ r.sends) (decision-passive (with_records (passive_before c) c.args.event.now) c.args.event.now (passive c))
+    ∙ ap (λ (s : State). c.args.sends.now.list ++ (decision (with_records s.machine c.args.event.now) c.args.event.now).sends) c.self.view_is
+
+-- ---- a computation that is over
+
+module _ (c : goal.After-complete) where
+  abbrev active_before : Machine
+  active_before = then c.args.event.now c.self.inside.attachment (c.self.inside.ports).items c.self.inside.rd c.self.inside.fd c.self.inside.successor (computation_of (length (c.self.inside.ports).items) c.self.inside.active)
+
+  abbrev under_way : Computation
+  under_way = record { awaited = awaited_of (length (c.self.inside.ports).items) c.in-Some.active.replies; debt = c.in-Some.active.debt }
+
+  active : active_before.computation ≡ Some under_way
+  active = ap (computation_of (length (c.self.inside.ports).items)) c.in-Some.is
+
+  done : list_any (λ b. b) (awaited_after c.args.event.now under_way.awaited) ≡ false
+  done =
+      ap (λ bs. list_any (λ b. b) bs) (sym (c.end_wait.ensures.awaited (length (c.self.inside.ports).items)))
+      ∙ asking_after (length (c.self.inside.ports).items) c.self.inside.successor c.self.inside.active c.in-Some.active c.end_wait.new.replies c.is_done.result c.in-Some.is c.self.invariant.under_way c.end_wait.ensures.no_more c.is_done.ensures
+      ∙ ap not c.if-is_done.true
+
+  abbrev completing : Machine
+  completing = record {
+    attachment = c.attachment_after-self-inside.result;
+    ports = take (c.self.inside.ports).len (c.change_record.new.ports ++ drop (length c.change_record.new.ports) (c.self.inside.ports).items);
+    rd = c.self.inside.rd;
+    fd = c.self.inside.fd;
+    successor = c.successor_after-self-inside.result;
+    computation = None;
+  }
+
+  completed : completing ≡ with_records (record active_before { computation = None }) c.args.event.now
+  completed = recorded c.args.event.now c.self.inside.attachment (c.self.inside.ports).items c.self.inside.rd c.self.inside.fd c.self.inside.successor None
+      c.attachment_after-self-inside.result c.deref_mut.result.now c.change_record.new.ports _ c.successor_after-self-inside.result None (c.self.inside.ports).len c.len-degree.result
+      (omega arith) c.deref_mut.ensures.value c.change_record.ensures.records c.attachment_after-self-inside.ensures (omega arith) c.successor_after-self-inside.ensures refl
+
+  owed : c.debt_after-debt.result ≡ debt_after (with_records active_before c.args.event.now).successor c.args.event.now c.in-Some.active.debt
+  owed = c.debt_after-debt.ensures ∙ ap (λ (m : Machine). debt_after m.successor c.args.event.now c.in-Some.active.debt) completed
+
+pub returns-then-is_done-clause-machine : goal.returns-then-is_done-clause-machine
+returns-then-is_done-clause-machine c =
+    c.complete.ensures.machine
+    ∙ ap (λ (m : Machine). (completion m c.debt_after-debt.result).machine) (completed c)
+    ∙ ap (λ (o : Option ℕ). (completion (with_records (active_before c) c.args.event.now) o).machine) (owed c)
+    ∙ ap (λ (r : Reaction). r.machine) (decision-done (with_records (active_before c) c.args.event.now) c.args.event.now (under_way c) (active c) (done c))
+    ∙ ap (λ (s : State). (decision (with_records s.machine c.args.event.now) c.args.event.now).machine) c.self.view_is
+
+pub returns-then-is_done-clause-sent : goal.returns-then-is_done-clause-sent
+returns-then-is_done-clause-sent c =
+    let m = with_records (active_before c) c.args.event.now in
+    c.complete.ensures.sent
+    ∙ ap (λ (x : Machine). c.push_to.new.self.list ++ (completion x c.debt_after-debt.result).sends) (completed c)
+    ∙ ap (λ (o : Option ℕ). c.push_to.new.self.list ++ (completion m o).sends) (owed c)
+    ∙ ap (λ (xs : List Outgoing). xs ++ (completion m (debt_after m.successor c.args.event.now c.in-Some.active.debt)).sends)
+    (c.push_to.ensures.pushed ∙ ap (λ (xs : List Outgoing). c.args.sends.now.list ++ xs) (c.other_asker.ensures m (sym (ap (λ (x : Machine). x.successor) (completed c)))))
+    ∙ append_assoc c.args.sends.now.list (answers_at_once m c.args.event.now) (completion m (debt_after m.successor c.args.event.now c.in-Some.active.debt)).sends
+    ∙ ap (λ (r : Reaction). c.args.sends.now.list ++ r.sends) (decision-done m c.args.event.now (under_way c) (active c) (done c))
+    ∙ ap (λ (s : State). c.args.sends.now.list ++ (decision (with_records s.machine c.args.event.now) c.args.event.now).sends) c.self.view_is

@@ -1,4 +1,4 @@
-use Rattle.std.proofs.Common.{◌≡◌, false, None, map, ap, ◌∙◌}
+use Rattle.std.proofs.Common.{◌≡◌, None, map, ap, ◌∙◌}
 use Rattle.std.proofs.lemmas.Result.{IfOk-weaker}
 use Rattle.network_model.specs.declared.network.Port.{Port}
 use Rattle.network_model.specs.Machine.{opening_machine}
@@ -12,5 +12,5 @@ returns c =
     let infos : opening_neighbours c.deref-2.result.now ≡ neighbours c.args.self.now.ports
     = ap opening_neighbours (c.deref-2.ensures.value ∙ c.in_ok-infos.ensures ∙ ap (map (λ (p : Port). record { up = p.up; cost = p.cost })) c.deref.ensures.value)
     ∙ neighbours-infos c.self.inside.ports.items ∙ ap (λ (r : Router). neighbours r.ports) c.self.view_is in
-    IfOk-weaker c.new.result (λ (m : State). m ≡ record { machine = opening_machine false (opening_neighbours c.deref-2.result.now); origin = None }) (λ m. m.machine ≡ opening_machine false (neighbours c.args.self.now.ports))
-    (λ m is. ap (λ (x : State). x.machine) is ∙ ap (opening_machine false) infos) c.new.ensures.ok
+    IfOk-weaker c.new.result (λ (m : State). m ≡ record { machine = opening_machine None (opening_neighbours c.deref-2.result.now); origin = None }) (λ m. m.machine ≡ opening_machine None (neighbours c.args.self.now.ports))
+    (λ m is. ap (λ (x : State). x.machine) is ∙ ap (opening_machine None) infos) c.new.ensures.ok

@@ -1,6 +1,6 @@
 use Rattle.std.proofs.Common.{◌≡◌, ℕ, ◌+◌, ◌<◌, ◌≤◌, ◌++◌, take, drop, length, get_or, set, List, sym, ap, subst, ◌∙◌, arith}
 use Rattle.std.proofs.Math.ListN.{length-set}
-use Rattle.std.specs.Prelude.{IsSome}
+use Rattle.std.specs.Prelude.{Option, IfSome, IsSome}
 use Rattle.std.specs.FinMap.{find as row_of}
 use Rattle.ipv4_prefix.specs.Prefix.{Prefix, prefix_cmp}
 use Rattle.network_model.specs.declared.network.Port.{Port}
@@ -8,25 +8,20 @@ use Rattle.network_model.specs.World.{Router}
 use Rattle.network_model.specs.Step.{router_noticing, chosen_rows}
 use Rattle.network_model.specs.Publication.{with_rows}
 use Rattle.dual_machine.specs.State.{State}
-use Rattle.dual_machine.specs.Event.{port_of, IsTimely}
+use Rattle.dual_machine.specs.Event.{IsKnown, IsTimely}
 use Rattle.dual_machine.specs.Outbox.{most_sent}
 use Rattle.router_core.specs.Parts.{machines_of, router_of, port_ups, ups_after, IsKept}
 use Rattle.router_core.specs.Router.{IsTimelyAt}
-use Rattle.router_core.proofs.Ports.{length-ups}
 use Rattle.router_core.proofs.Meetings.{reacted, sent}
 use Rattle.router_core.proofs.Kept.{kept-noticing}
-use Rattle.router_core.proofs.Notices.{has_ports_at, timely_over, most_sent_over, row_there, refilled, noticing_parts}
+use Rattle.router_core.proofs.Notices.{has_ports_at, timely_over, known_over, most_sent_over, row_there, refilled, noticing_parts}
 use Rattle.router_core.proofs.router.Router.take_notice.Goals as goal
 
 pub meet_all-requires-clause-known : goal.meet_all-requires-clause-known
 meet_all-requires-clause-known c =
-    let known : c.args.port < length c.self.inside.ports.items = subst (λ (r : Router). c.args.port < length r.ports) (sym c.self.view_is) c.requires.known in
-    let at : port_of c.args.event.now ≡ c.args.port = c.requires.at_port in
-    subst (λ (ms : List (Prefix × State)). (k : ℕ) → (d : Prefix × State) → k < length ms → port_of c.args.event.now < length ((get_or ms k d).1).machine.ports) (sym c.deref_mut.ensures.value)
-    (λ k d h.
-    let as_many : length ((get_or c.self.inside.machines.items k d).1).machine.ports ≡ length c.self.inside.ports.items
-    = length-ups _ c.self.inside.ports.items (has_ports_at c.self.inside.ports.items c.self.inside.machines.items c.self.invariant.same_ports k d h) in
-    omega (arith, known, at, as_many))
+    let known : IsKnown (length c.self.inside.ports.items) c.args.event.now = subst (λ (o : Option ℕ). IfSome o (λ q. q < length c.self.inside.ports.items)) (sym c.requires.at_port) (subst (λ (r : Router). c.args.port < length r.ports) (sym c.self.view_is) c.requires.known) in
+    subst (λ (ms : List (Prefix × State)). (k : ℕ) → (d : Prefix × State) → k < length ms → IsKnown (length ((get_or ms k d).1).machine.ports) c.args.event.now) (sym c.deref_mut.ensures.value)
+    (λ k d h. known_over _ c.self.inside.ports.items c.args.event.now (has_ports_at c.self.inside.ports.items c.self.inside.machines.items c.self.invariant.same_ports k d h) known)
 
 pub meet_all-requires-clause-timely : goal.meet_all-requires-clause-timely
 meet_all-requires-clause-timely c =

@@ -5,4 +5,4 @@ use Rattle.world.proofs.Degrees.{few_links}
 use Rattle.world.proofs.network.Network.links.Goals as goal
 
 pub returns-clause-few : goal.returns-clause-few
-returns-clause-few c = subst (λ xs. length xs ≤ 1024) (sym c.deref.ensures.value) (few_links (network_of c.self.inside.routers c.self.inside.links.items c.self.inside.owners.items) c.self.invariant.no_fault)
+returns-clause-few c = subst (λ xs. length xs ≤ 1024) (sym c.deref.ensures.value) (few_links (network_of c.self.inside.routers c.self.inside.links.items c.self.inside.attachments.items) c.self.invariant.0.no_fault)

@@ -9,8 +9,7 @@ use Rattle.world.proofs.world.World.open.Goals as goal
 pub invariant_of-result : goal.invariant_of-result
 invariant_of-result c =
     let n : Network = c.args.network.now in
-    let same : world_of c.in_ok-places.places.items c.in_ok-links.links.links c.in_ok-routers.routers.items ≡ opening n
-    = ap (λ xs. record { places = xs; links = c.in_ok-links.links.links; routers = c.in_ok-routers.routers.items }) c.in_ok-places.ensures
-    ∙ ap (λ ks. record { places = (opening n).places; links = ks; routers = c.in_ok-routers.routers.items }) (c.in_ok-links.ensures.ok ∙ ap (map opening_link) c.links.ensures.links)
-    ∙ ap (λ rs. record { places = (opening n).places; links = (opening n).links; routers = rs }) c.in_ok-routers.ensures in
+    let links : c.in_ok-links.links.links ≡ (opening n).links = c.in_ok-links.ensures.ok ∙ ap (map opening_link) c.links.ensures.links in
+    let same : world_of c.in_ok-places.places.items c.in_ok-links.links.links c.in_ok-prefixes.prefixes.items c.in_ok-attachments.attachments.items c.in_ok-routers.routers.items ≡ opening n
+    = λ i. record { places = c.in_ok-places.ensures i; links = links i; prefixes = c.in_ok-prefixes.ensures i; attachments = c.in_ok-attachments.ensures i; routers = c.in_ok-routers.ensures i } in
     subst IsKept (sym same) (opening-kept n)

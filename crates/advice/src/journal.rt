@@ -1,0 +1,26 @@
+//! Why a line is none of a journal.
+
+use std::io;
+use std::io::Write;
+
+/// Tells of a line of a journal's text, counted from 1, that is not what stands there in a journal: its
+/// place, its text, and what was expected.
+pub fn advise_journal<W: Write>(
+    file: &str,
+    text: &str,
+    line: usize,
+    out: &mut W,
+) -> io::Result<()> {
+    match text.split('\n').nth(line.saturating_sub(1)) {
+        Some(found) if !found.is_empty() => writeln!(out, "  {file}:{line}:1: {found}")?,
+        _ => writeln!(out, "  {file}:{line}:1: nothing stands there")?,
+    }
+    if line == 1 {
+        writeln!(out, "  expected `dualnet journal 2`")
+    } else {
+        writeln!(
+            out,
+            "  expected a step, as `up A B`, of this network's routers and links, or `end`"
+        )
+    }
+}

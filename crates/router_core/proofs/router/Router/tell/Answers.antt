@@ -1,0 +1,163 @@
+use Rattle.std.proofs.Common.{◌≡◌, ◌+◌, ◌≤◌, ◌++◌, true, None, length, set, List, Ok, Err, Some, sym, ap, subst, ◌∙◌, arith}
+use Rattle.std.specs.Prelude.{◌||◌, nat_lt, map, is_some}
+use Rattle.std.specs.List.{insert}
+use Rattle.std.specs.FinMap.{find as row_of, put, is_sorted}
+use Rattle.ipv4_prefix.specs.Prefix.{Prefix, prefix_cmp}
+use Rattle.network_model.specs.declared.network.Port.{Port}
+use Rattle.network_model.specs.Machine.{reaction, opening_machine}
+use Rattle.network_model.specs.World.{Router, machine_of, neighbours}
+use Rattle.network_model.specs.Step.{router_meeting, entry_of, held_of}
+use Rattle.dual_machine.specs.State.{State}
+use Rattle.dual_machine.specs.Event.{IsKnown}
+use Rattle.dual_machine.specs.Outbox.{most_sent}
+use Rattle.route_table.specs.Place.{IsPlace}
+use Rattle.network_model.proofs.RowLaws.{sorted-map}
+use Rattle.route_table.proofs.PrefixPlaces.{found_row, written_row, missed_row, new_row}
+use Rattle.router_core.specs.Parts.{machines_of, router_of, ups, port_ups, ups_after, IsKept}
+use Rattle.router_core.specs.Router.{IsTimelyAt}
+use Rattle.router_core.proofs.Ports.{ups-neighbours}
+use Rattle.router_core.proofs.Kept.{kept-meeting}
+use Rattle.router_core.proofs.Opening.{machines_of-put}
+use Rattle.router_core.proofs.Notices.{has_ports_at, timely_over, known_over, most_sent_over, meeting_parts, machine_there, machine_new, row_known}
+use Rattle.router_core.proofs.router.Router.tell.Goals as goal
+
+pub place_of-requires : goal.place_of-requires
+place_of-requires c = ap (is_sorted prefix_cmp) c.deref.ensures.value ∙ sym (sorted-map prefix_cmp (λ s. s.machine) c.self.inside.machines.items) ∙ c.self.invariant.sorted
+
+-- ---- a prefix that was heard of
+
+module _ (c : goal.After-deref-in-Ok) where
+  abbrev items : List (Prefix × State)
+  items = c.self.inside.machines.items
+
+  abbrev row : Prefix × State
+  row = c.index_mut-row.result.now
+
+  place : IsPlace c.args.prefix items (Ok c.in-Ok.place)
+  place = subst (λ xs. IsPlace c.args.prefix xs (Ok c.in-Ok.place)) c.deref.ensures.value c.in-Ok.ensures
+
+  sorted : is_sorted prefix_cmp items ≡ true
+  sorted = sym (sorted-map prefix_cmp (λ s. s.machine) items) ∙ c.self.invariant.sorted
+
+  there : row_of prefix_cmp c.args.prefix items ≡ Some row.1
+  there = found_row items c.in-Ok.place c.args.prefix row sorted place c.index_mut-row.ensures.value
+
+  same_ports : ups (row.1).machine.ports ≡ port_ups c.self.inside.ports.items
+  same_ports = subst (λ (m : Prefix × State). ups (m.1).machine.ports ≡ port_ups c.self.inside.ports.items) (sym c.index_mut-row.ensures.value)
+      (has_ports_at c.self.inside.ports.items items c.self.invariant.same_ports c.in-Ok.place row place.0)
+
+pub meet-requires-clause-known : goal.meet-requires-clause-known
+meet-requires-clause-known c =
+    known_over ((row c).1).machine.ports c.self.inside.ports.items c.args.event.now (same_ports c) (subst (λ (r : Router). IsKnown (length r.ports) c.args.event.now) (sym c.self.view_is) c.requires.known)
+
+pub meet-requires-clause-timely : goal.meet-requires-clause-timely
+meet-requires-clause-timely c =
+    timely_over ((row c).1).machine.ports c.self.inside.ports.items c.args.event.now (same_ports c) (subst (λ (r : Router). IsTimelyAt r.ports c.args.event.now) (sym c.self.view_is) c.requires.timely)
+
+pub meet-requires-clause-room : goal.meet-requires-clause-room
+meet-requires-clause-room c =
+    let few : most_sent ((row c).1).machine.ports ≤ length c.self.inside.ports.items + 1 = most_sent_over _ c.self.inside.ports.items (same_ports c) in
+    let ports : c.len-each.result ≡ length c.self.inside.ports.items = c.len-each.ensures ∙ c.self.inside.ports.ok.0 in
+    let sends : c.len-each.result + 1 ≤ c.reserve.new.self.sends.capacity = c.in_ok-reserve-in-Ok.ensures.sends in
+    let room : c.len-each.result + 1 ≤ c.reserve.new.self.gate.room = c.in_ok-reserve-in-Ok.ensures.room in
+    record {
+      sends = omega (arith, few, ports, sends);
+      gate = omega (arith, few, ports, room);
+      table = ap (λ b. b || nat_lt 0 c.reserve.new.self.table.room)
+          (subst (λ rows. is_some (row_of prefix_cmp c.args.prefix rows) ≡ true) (sym (ap (λ t. t.table.control) c.reserve.ensures.table ∙ c.self.invariant.rows))
+          (row_known c.self.inside.ports.items c.args.prefix (items c) ((row c).1) (there c)));
+    }
+
+module _ (c : goal.After-self-1) where
+  abbrev before : Router
+  before = router_of c.self.inside.ports.items c.self.inside.machines.items c.self.inside.effects.table.table c.self.inside.effects.gate.gate c.self.inside.generation
+
+  known_machine : machine_of before c.args.prefix ≡ (c.index_mut-row.result.now.1).machine
+  known_machine = machine_there c.args.prefix c.self.inside.machines.items c.index_mut-row.result.now.1 (opening_machine None (neighbours c.self.inside.ports.items))
+      (found_row c.self.inside.machines.items c.in-Ok.place c.args.prefix c.index_mut-row.result.now
+      (sym (sorted-map prefix_cmp (λ s. s.machine) c.self.inside.machines.items) ∙ c.self.invariant.sorted)
+      (subst (λ xs. IsPlace c.args.prefix xs (Ok c.in-Ok.place)) c.deref.ensures.value c.in-Ok.ensures) c.index_mut-row.ensures.value)
+
+  machines_set : machines_of (set c.self.inside.machines.items c.in-Ok.place (c.index_mut-row.result.now.0, c.meet.new.machine)) ≡ put prefix_cmp c.args.prefix c.meet.new.machine.machine (machines_of c.self.inside.machines.items)
+  machines_set =
+      ap machines_of (written_row c.self.inside.machines.items c.in-Ok.place c.args.prefix c.index_mut-row.result.now c.meet.new.machine
+      (sym (sorted-map prefix_cmp (λ s. s.machine) c.self.inside.machines.items) ∙ c.self.invariant.sorted)
+      (subst (λ xs. IsPlace c.args.prefix xs (Ok c.in-Ok.place)) c.deref.ensures.value c.in-Ok.ensures) c.index_mut-row.ensures.value)
+      ∙ machines_of-put c.args.prefix c.meet.new.machine c.self.inside.machines.items
+
+  told : router_of c.self.inside.ports.items (set c.self.inside.machines.items c.in-Ok.place (c.index_mut-row.result.now.0, c.meet.new.machine)) c.meet.new.self.table.table c.meet.new.self.gate.gate c.self.inside.generation
+      ≡ router_meeting c.args.prefix c.args.event.now before
+  told = meeting_parts c.args.prefix c.args.event.now before _ c.meet.new.machine.machine c.meet.new.self.table.table c.meet.new.self.gate.gate c.self.invariant
+      (c.meet.ensures.machine ∙ ap (λ m. (reaction m c.args.event.now).machine) (sym known_machine))
+      machines_set
+      (c.meet.ensures.control
+      ∙ ap (λ (ports : List Port). put prefix_cmp c.args.prefix (entry_of ports c.meet.new.machine.machine) c.reserve.new.self.table.table.control) c.deref-in-Ok.ensures.value
+      ∙ ap (λ t. put prefix_cmp c.args.prefix (entry_of c.self.inside.ports.items c.meet.new.machine.machine) t.table.control) c.reserve.ensures.table)
+      (c.meet.ensures.published ∙ ap (λ t. t.table.published) c.reserve.ensures.table)
+      (c.meet.ensures.held
+      ∙ ap (λ g. g.held ++ map (held_of c.deref-in-Ok.result.now c.args.prefix) (reaction (c.index_mut-row.result.now.1).machine c.args.event.now).sends) c.reserve.ensures.gate
+      ∙ ap (λ (ports : List Port). c.self.inside.effects.gate.gate.held ++ map (held_of ports c.args.prefix) (reaction (c.index_mut-row.result.now.1).machine c.args.event.now).sends) c.deref-in-Ok.ensures.value
+      ∙ ap (λ m. c.self.inside.effects.gate.gate.held ++ map (held_of c.self.inside.ports.items c.args.prefix) (reaction m c.args.event.now).sends) (sym known_machine))
+      (c.meet.ensures.ripe ∙ ap (λ g. g.ripe) c.reserve.ensures.gate)
+
+  still : ups_after c.args.event.now (port_ups c.self.inside.ports.items) ≡ port_ups c.self.inside.ports.items
+  still = subst (λ (r : Router). ups_after c.args.event.now (port_ups r.ports) ≡ port_ups r.ports) (sym c.self.view_is) c.requires.still
+
+pub invariant_of-self-in-Ok : goal.invariant_of-self-in-Ok
+invariant_of-self-in-Ok c = subst IsKept (sym (told c)) (kept-meeting c.args.prefix c.args.event.now (before c) c.self.invariant (still c))
+
+pub returns-in_ok-reserve-in-Ok-clause-ok : goal.returns-in_ok-reserve-in-Ok-clause-ok
+returns-in_ok-reserve-in-Ok-clause-ok c = told c ∙ ap (router_meeting c.args.prefix c.args.event.now) c.self.view_is
+
+-- ---- a prefix that was not
+
+pub meet-requires-in-Err-clause-known : goal.meet-requires-in-Err-clause-known
+meet-requires-in-Err-clause-known c =
+    known_over c.in_ok-machine-in-Err.machine.machine.ports c.args.self.now.ports c.args.event.now (ap (λ m. ups m.ports) c.in_ok-machine-in-Err.ensures ∙ ups-neighbours c.args.self.now.ports) c.requires.known
+
+pub meet-requires-in-Err-clause-timely : goal.meet-requires-in-Err-clause-timely
+meet-requires-in-Err-clause-timely c =
+    timely_over c.in_ok-machine-in-Err.machine.machine.ports c.args.self.now.ports c.args.event.now (ap (λ m. ups m.ports) c.in_ok-machine-in-Err.ensures ∙ ups-neighbours c.args.self.now.ports) c.requires.timely
+
+module _ (c : goal.After-unwrap) where
+  abbrev unheard : Router
+  unheard = router_of c.self.inside.ports.items c.self.inside.machines.items c.self.inside.effects.table.table c.self.inside.effects.gate.gate c.self.inside.generation
+
+  gap : IsPlace c.args.prefix c.self.inside.machines.items (Err c.in-Err.place)
+  gap = subst (λ xs. IsPlace c.args.prefix xs (Err c.in-Err.place)) c.deref.ensures.value c.in-Err.ensures
+
+  opened_machine : machine_of unheard c.args.prefix ≡ c.in_ok-machine-in-Err.machine.machine
+  opened_machine = machine_new c.args.prefix c.self.inside.machines.items (opening_machine None (neighbours c.self.inside.ports.items)) (missed_row c.self.inside.machines.items c.in-Err.place c.args.prefix gap)
+      ∙ ap (λ (r : Router). opening_machine None (neighbours r.ports)) c.self.view_is ∙ sym c.in_ok-machine-in-Err.ensures
+
+  machines_more : machines_of c.insert.new.self.items ≡ put prefix_cmp c.args.prefix c.meet-in-Err.new.machine.machine (machines_of c.self.inside.machines.items)
+  machines_more =
+      ap machines_of (rw c.unwrap.ensures at c.insert.ensures.items
+      ∙ ap (λ (xs : List (Prefix × State)). insert xs c.in-Err.place (c.args.prefix, c.meet-in-Err.new.machine)) c.reserve-in-Err.ensures.items
+      ∙ new_row c.self.inside.machines.items c.in-Err.place c.args.prefix c.meet-in-Err.new.machine gap)
+      ∙ machines_of-put c.args.prefix c.meet-in-Err.new.machine c.self.inside.machines.items
+
+  told_first : router_of c.self.inside.ports.items c.insert.new.self.items c.meet-in-Err.new.self.table.table c.meet-in-Err.new.self.gate.gate c.self.inside.generation
+      ≡ router_meeting c.args.prefix c.args.event.now unheard
+  told_first = meeting_parts c.args.prefix c.args.event.now unheard _ c.meet-in-Err.new.machine.machine c.meet-in-Err.new.self.table.table c.meet-in-Err.new.self.gate.gate c.self.invariant
+      (c.meet-in-Err.ensures.machine ∙ ap (λ m. (reaction m c.args.event.now).machine) (sym opened_machine))
+      machines_more
+      (c.meet-in-Err.ensures.control
+      ∙ ap (λ (ports : List Port). put prefix_cmp c.args.prefix (entry_of ports c.meet-in-Err.new.machine.machine) c.reserve-in-Err-3.new.self.table.table.control) c.deref-in-Err.ensures.value
+      ∙ ap (λ t. put prefix_cmp c.args.prefix (entry_of c.self.inside.ports.items c.meet-in-Err.new.machine.machine) t.table.control) c.reserve-in-Err-3.ensures.table
+      ∙ ap (λ t. put prefix_cmp c.args.prefix (entry_of c.self.inside.ports.items c.meet-in-Err.new.machine.machine) t.control) c.reserve-in-Err-2.ensures.table)
+      (c.meet-in-Err.ensures.published ∙ ap (λ t. t.table.published) c.reserve-in-Err-3.ensures.table ∙ ap (λ t. t.published) c.reserve-in-Err-2.ensures.table)
+      (c.meet-in-Err.ensures.held
+      ∙ ap (λ g. g.held ++ map (held_of c.deref-in-Err.result.now c.args.prefix) (reaction c.in_ok-machine-in-Err.machine.machine c.args.event.now).sends) c.reserve-in-Err-3.ensures.gate
+      ∙ ap (λ (ports : List Port). c.self.inside.effects.gate.gate.held ++ map (held_of ports c.args.prefix) (reaction c.in_ok-machine-in-Err.machine.machine c.args.event.now).sends) c.deref-in-Err.ensures.value
+      ∙ ap (λ m. c.self.inside.effects.gate.gate.held ++ map (held_of c.self.inside.ports.items c.args.prefix) (reaction m c.args.event.now).sends) (sym opened_machine))
+      (c.meet-in-Err.ensures.ripe ∙ ap (λ g. g.ripe) c.reserve-in-Err-3.ensures.gate)
+
+  still_first : ups_after c.args.event.now (port_ups c.self.inside.ports.items) ≡ port_ups c.self.inside.ports.items
+  still_first = subst (λ (r : Router). ups_after c.args.event.now (port_ups r.ports) ≡ port_ups r.ports) (sym c.self.view_is) c.requires.still
+
+pub invariant_of-self-in-Err : goal.invariant_of-self-in-Err
+invariant_of-self-in-Err c = subst IsKept (sym (told_first c)) (kept-meeting c.args.prefix c.args.event.now (unheard c) c.self.invariant (still_first c))
+
+pub returns-in_ok-reserve-in-Err-3-clause-ok : goal.returns-in_ok-reserve-in-Err-3-clause-ok
+returns-in_ok-reserve-in-Err-3-clause-ok c = told_first c ∙ ap (router_meeting c.args.prefix c.args.event.now) c.self.view_is

@@ -1,0 +1,46 @@
+use Rattle.std.proofs.Common.{◌≢◌, [], refl, sym, ◌∙◌}
+use Rattle.std.proofs.lemmas.Bool.{false≢true}
+use Rattle.script.specs.Attachments.{IsAttachmentFault}
+use Rattle.script.specs.declared.fault.Fault.TheVariants.{BadCost, Prefix as OfPrefix}
+use Rattle.script.proofs.Exits.{at_err}
+use Rattle.script.proofs.Splits.{word-full}
+use Rattle.script.proofs.AttachmentTexts.{attachment_line}
+use Rattle.script.proofs.attachment.read_attachment.Goals as goal
+
+pub returns-in_err-prefix-clause-err : goal.returns-in_err-prefix-clause-err
+returns-in_err-prefix-clause-err c =
+    let none = c.in_err-prefix.ensures.err in
+    at_err c.from_residual.result (IsAttachmentFault c.args.names.now c.args.line.now) c.in_err-prefix.field-0.0 c.from_residual.ensures.1
+    (rw none.0 (λ l. none.1 l.prefix l.name l.cost l.words l.small))
+
+pub returns-in_err-prefix-2-clause-err : goal.returns-in_err-prefix-2-clause-err
+returns-in_err-prefix-2-clause-err c =
+    let words = c.in_ok-prefix.ensures.ok in
+    let has_prefix : c.in_ok-prefix.prefix.now ≢ [] = word-full _ c.is_empty.result c.is_empty.ensures c.if-is_empty.false in
+    let known = sym c.number.ensures.value ∙ c.in_ok-router.ensures.ok_part in
+    at_err c.from_residual-in_err-prefix-2.result (IsAttachmentFault c.args.names.now c.args.line.now) (OfPrefix c.in_err-prefix-2.field-0.0) c.from_residual-in_err-prefix-2.ensures.1
+    (attachment_line c.args.names.now c.args.line.now c.in_ok-prefix.prefix.now c.in_ok-prefix.router.now c.in_ok-prefix.cost c.in_ok-router.router words.0 has_prefix known words.1, c.in_err-prefix-2.ensures.fault)
+
+pub returns-in_err-cost-clause-err : goal.returns-in_err-cost-clause-err
+returns-in_err-cost-clause-err c =
+    let words = c.in_ok-prefix.ensures.ok in
+    let has_prefix : c.in_ok-prefix.prefix.now ≢ [] = word-full _ c.is_empty.result c.is_empty.ensures c.if-is_empty.false in
+    let known = sym c.number.ensures.value ∙ c.in_ok-router.ensures.ok_part in
+    at_err c.from_residual-in_err-cost.result (IsAttachmentFault c.args.names.now c.args.line.now) BadCost c.from_residual-in_err-cost.ensures.1 (
+      attachment_line c.args.names.now c.args.line.now c.in_ok-prefix.prefix.now c.in_ok-prefix.router.now c.in_ok-prefix.cost c.in_ok-router.router words.0 has_prefix known words.1,
+      c.in_ok-prefix-2.prefix,
+      c.in_ok-prefix-2.ensures.read,
+      λ is. false≢true (c.in_err-cost.ensures.exactly.1 is),
+    )
+
+pub returns-clause-ok : goal.returns-clause-ok
+returns-clause-ok c =
+    let words = c.in_ok-prefix.ensures.ok in
+    let has_prefix : c.in_ok-prefix.prefix.now ≢ [] = word-full _ c.is_empty.result c.is_empty.ensures c.if-is_empty.false in
+    let known = sym c.number.ensures.value ∙ c.in_ok-router.ensures.ok_part in (
+      attachment_line c.args.names.now c.args.line.now c.in_ok-prefix.prefix.now c.in_ok-prefix.router.now c.in_ok-prefix.cost c.in_ok-router.router words.0 has_prefix known words.1,
+      c.in_ok-prefix-2.ensures.read,
+      refl,
+      c.in_ok-cost.ensures.ok,
+      c.in_ok-cost.ensures.exactly.0 refl,
+    )

@@ -1,0 +1,24 @@
+use Rattle.std.proofs.Common.{◌+◌, inr, length, ap, ◌∙◌}
+use Rattle.std.proofs.lemmas.List.{length_push}
+use Rattle.script.specs.Attachments.{IsAttachment, IsAttachmentFault}
+use Rattle.script.specs.declared.place.Key.TheVariants.{Prefixes}
+use Rattle.script.proofs.ReadLines.{reads_none, reads_line, stops_line}
+use Rattle.script.proofs.attachment.read_attachments.Goals as goal
+
+pub loop-position-init : goal.loop-position-init
+loop-position-init c = record { reads = reads_none _ _ _ c.requires; count = ap length c.requires }
+
+pub returns-in_err-push-in-Ok-clause-read : goal.returns-in_err-push-in-Ok-clause-read
+returns-in_err-push-in-Ok-clause-read c = rw c.in_err-push-in-Ok.ensures.items c.loop-position.invariant.reads
+
+pub returns-in-Err-clause-stop : goal.returns-in-Err-clause-stop
+returns-in-Err-clause-stop c =
+    inr (stops_line (IsAttachmentFault c.args.names.now) Prefixes c.args.lines.now c.loop-position.attachments.items c.loop-position.position c.index-lines-position.result _ _ _
+    c.loop-position.invariant.count c.loop-position-test.true c.index-lines-position.is c.as_str.ensures.value c.in-Err.ensures.err c.at.ensures.fault c.at.ensures.place)
+
+pub loop-position-preserved : goal.loop-position-preserved
+loop-position-preserved c = record {
+  reads = reads_line (IsAttachment c.args.names.now) c.args.lines.now c.loop-position.attachments.items _ c.loop-position.position c.index-lines-position.result _ c.in-Ok.attachment
+      c.loop-position.invariant.reads c.loop-position.invariant.count c.loop-position-test.true c.index-lines-position.is c.as_str.ensures.value c.in-Ok.ensures.ok c.in_ok-push-in-Ok.ensures.items;
+  count = ap length c.in_ok-push-in-Ok.ensures.items ∙ length_push c.loop-position.attachments.items c.in-Ok.attachment ∙ ap (λ n. n + 1) c.loop-position.invariant.count;
+}

@@ -1,0 +1,128 @@
+-- How many prefixes attachments are of, one attachment after another, and which.
+use Rattle.std.specs.Prelude.{◌≡◌, ℕ, suc, ◌+◌, ◌-◌, ◌<◌, ◌≤◌, Bool, true, false, cond, ◌||◌, List, [], ◌∷◌, ◌++◌, map, length, take, drop, get_or, if◌then◌else◌}
+use Rattle.std.specs.List.{list_any}
+use Rattle.std.specs.Ordering.{is_eq, ordering_reverse}
+use Rattle.std.specs.declared.cmp.Ordering.{Ordering}
+use Rattle.std.specs.declared.cmp.Ordering.TheVariants.{Less, Equal, Greater}
+use Rattle.std.proofs.Common.{refl, sym, ap, ◌∙◌, arith, append_assoc}
+use Rattle.std.proofs.Math.Seq.{drop-cons}
+use Rattle.std.proofs.lemmas.List.{length-drop, length-map, map-append, take_all}
+use Rattle.std.proofs.lemmas.List.Folds.{list_any-append}
+use Rattle.ipv4_prefix.specs.Prefix.{Prefix, prefix_cmp, prefix_eq}
+use Rattle.ipv4_prefix.proofs.PrefixOrder.{prefix_cmp_total, prefix_eq-Decides}
+use Rattle.network_model.specs.World.{distinct, prefixes_of, rows_of}
+use Rattle.network_model.specs.Network.{has_same_prefix}
+use Rattle.network_model.proofs.RowLaws.{sorted-rows_of}
+use Rattle.route_table.proofs.Kept.{length-put_at_most}
+
+-- the test does not ask which prefix comes first
+pub prefix_eq-turned : (p q : Prefix) → prefix_eq p q ≡ prefix_eq q p
+prefix_eq-turned p q = ap is_eq (prefix_cmp_total.antisymm p q) ∙ by_order (prefix_cmp q p)
+  where
+    by_order : (o : Ordering) → is_eq (ordering_reverse o) ≡ is_eq o
+    by_order Less = refl
+    by_order Equal = refl
+    by_order Greater = refl
+
+-- one of the changed elements passes the test where one passes it changed
+any-map : {X Y : Type 0} (test : Y → Bool) (f : X → Y) (xs : List X) → list_any test (map f xs) ≡ list_any (λ x. test (f x)) xs
+any-map test f [] = refl
+any-map test f (x ∷ xs) = ap (λ b. test (f x) || b) (any-map test f xs)
+
+any-turned : (p : Prefix) (ps : List Prefix) → list_any (prefix_eq p) ps ≡ list_any (λ q. prefix_eq q p) ps
+any-turned p [] = refl
+any-turned p (q ∷ ps) = λ i. prefix_eq-turned p q i || any-turned p ps i
+
+-- ---- how many
+
+length-rows_of : {X : Type 0} (rows : List (Prefix × X)) → length (rows_of rows) ≤ length rows
+length-rows_of [] = omega arith
+length-rows_of (r ∷ rows) =
+    let more = length-put_at_most r.0 r.1 (rows_of rows) (sorted-rows_of rows) in
+    let rest = length-rows_of rows in
+    omega (arith, more, rest)
+
+-- rows behind some of these are no more than these
+pub few_rows_after : {X : Type 0} (i : ℕ) (rows : List (Prefix × X)) → length (rows_of (drop i rows)) ≤ length rows
+few_rows_after i rows =
+    let few = length-rows_of (drop i rows) in
+    let fewer = length-drop i rows in
+    omega (arith, few, fewer)
+
+length-distinct : (ps : List Prefix) → length (distinct ps) ≤ length ps
+length-distinct [] = omega arith
+length-distinct (p ∷ ps) = by_test (list_any (prefix_eq p) ps) (length-distinct ps)
+  where
+    by_test : (b : Bool) → length (distinct ps) ≤ length ps → length (if b then distinct ps else p ∷ distinct ps) ≤ length (p ∷ ps)
+    by_test true rest = omega (arith, rest)
+    by_test false rest = omega (arith, rest)
+
+-- there are no more than attachments
+pub few_prefixes : (attachments : List (Prefix × ℕ × ℕ)) → length (prefixes_of attachments) ≤ length attachments
+few_prefixes attachments =
+    let few = length-distinct (map (λ a. a.0) attachments) in
+    let same = length-map attachments (λ (a : Prefix × ℕ × ℕ). a.0) in
+    omega (arith, few, same)
+
+-- one, but not where it was there before
+abbrev pub one_unless : Bool → ℕ
+one_unless b = if b then 0 else 1
+
+-- a prefix behind others is counted where it is not among them
+distinct-last : (ps : List Prefix) (p : Prefix) → length (distinct (ps ++ p ∷ [])) ≡ length (distinct ps) + one_unless (list_any (λ q. prefix_eq q p) ps)
+distinct-last [] p = refl
+distinct-last (q ∷ ps) p =
+    ap (λ b. length (cond b (distinct (ps ++ p ∷ [])) (q ∷ distinct (ps ++ p ∷ [])))) (list_any-append (prefix_eq q) ps (p ∷ []))
+    ∙ by_tests (list_any (prefix_eq q) ps) (prefix_eq q p) refl (list_any (λ x. prefix_eq x p) ps) same (distinct-last ps p)
+  where
+    same : prefix_eq q p ≡ true → list_any (prefix_eq q) ps ≡ list_any (λ x. prefix_eq x p) ps
+    same is = any-turned q ps ∙ ap (λ k. list_any (λ x. prefix_eq x k) ps) ((prefix_eq-Decides q p).0 is)
+
+    by_tests : (a b : Bool) → prefix_eq q p ≡ b → (c : Bool) → (prefix_eq q p ≡ true → a ≡ c) → length (distinct (ps ++ p ∷ [])) ≡ length (distinct ps) + one_unless c
+        → length (cond (a || (b || false)) (distinct (ps ++ p ∷ [])) (q ∷ distinct (ps ++ p ∷ []))) ≡ length (cond a (distinct ps) (q ∷ distinct ps)) + one_unless (b || c)
+    by_tests true true is c alike rest = rest ∙ ap (λ x. length (distinct ps) + one_unless x) (sym (alike is))
+    by_tests true false is c alike rest = rest
+    by_tests false true is c alike rest =
+        let new : one_unless c ≡ 1 = ap one_unless (sym (alike is)) in
+        omega (arith, rest, new)
+    by_tests false false is c alike rest = omega (arith, rest)
+
+-- one attachment more
+pub one_more_prefix : (before : List (Prefix × ℕ × ℕ)) (a : Prefix × ℕ × ℕ)
+    → length (prefixes_of (before ++ a ∷ [])) ≡ length (prefixes_of before) + one_unless (list_any (has_same_prefix a) before)
+one_more_prefix before a =
+    ap (λ ps. length (distinct ps)) (map-append (λ x. x.0) before (a ∷ []))
+    ∙ distinct-last (map (λ x. x.0) before) a.0
+    ∙ ap (λ b. length (prefixes_of before) + one_unless b) (any-map (λ q. prefix_eq q a.0) (λ x. x.0) before)
+
+-- ---- which
+
+-- those from number i on
+pub prefixes_from : (attachments : List (Prefix × ℕ × ℕ)) (i : ℕ) (a : Prefix × ℕ × ℕ) → i < length attachments → a ≡ get_or attachments i a
+    → let rest : List (Prefix × ℕ × ℕ) = drop (i + 1) attachments in
+    prefixes_of (drop i attachments) ≡ (if list_any (has_same_prefix a) rest then prefixes_of rest else a.0 ∷ prefixes_of rest)
+prefixes_from attachments i a below at =
+    let next : suc i ≡ i + 1 = omega arith in
+    ap prefixes_of (drop-cons attachments i a below ∙ ap (λ x. x ∷ drop (suc i) attachments) (sym at) ∙ ap (λ n. a ∷ drop n attachments) next)
+    ∙ ap (λ b. if b then prefixes_of (drop (i + 1) attachments) else a.0 ∷ prefixes_of (drop (i + 1) attachments))
+    (any-turned a.0 (map (λ x. x.0) (drop (i + 1) attachments)) ∙ any-map (λ q. prefix_eq q a.0) (λ x. x.0) (drop (i + 1) attachments))
+
+-- the attachments behind number i, as a slice of them has them
+pub slice_behind : (attachments : List (Prefix × ℕ × ℕ)) (i : ℕ) → take (length attachments - (i + 1)) (drop (i + 1) attachments) ≡ drop (i + 1) attachments
+slice_behind attachments i = (let fewer = length-drop (i + 1) attachments in take_all _ (drop (i + 1) attachments) (omega (arith, fewer)))
+
+-- of one that is named later the place is later
+pub named_later : (attachments : List (Prefix × ℕ × ℕ)) (i : ℕ) (a : Prefix × ℕ × ℕ) (made all : List Prefix) → i < length attachments → a ≡ get_or attachments i a
+    → list_any (has_same_prefix a) (drop (i + 1) attachments) ≡ true → made ++ prefixes_of (drop i attachments) ≡ all → made ++ prefixes_of (drop (i + 1) attachments) ≡ all
+named_later attachments i a made all below at later before =
+    ap (λ ps. made ++ ps) (sym (prefixes_from attachments i a below at
+    ∙ ap (λ b. if b then prefixes_of (drop (i + 1) attachments) else a.0 ∷ prefixes_of (drop (i + 1) attachments)) later)) ∙ before
+
+-- one that is named last has its place here
+pub named_last : (attachments : List (Prefix × ℕ × ℕ)) (i : ℕ) (a : Prefix × ℕ × ℕ) (made longer all : List Prefix) → i < length attachments → a ≡ get_or attachments i a
+    → list_any (has_same_prefix a) (drop (i + 1) attachments) ≡ false → longer ≡ made ++ a.0 ∷ [] → made ++ prefixes_of (drop i attachments) ≡ all → longer ++ prefixes_of (drop (i + 1) attachments) ≡ all
+named_last attachments i a made longer all below at last grown before =
+    ap (λ ps. ps ++ prefixes_of (drop (i + 1) attachments)) grown
+    ∙ append_assoc made (a.0 ∷ []) (prefixes_of (drop (i + 1) attachments))
+    ∙ ap (λ ps. made ++ ps) (sym (prefixes_from attachments i a below at
+    ∙ ap (λ b. if b then prefixes_of (drop (i + 1) attachments) else a.0 ∷ prefixes_of (drop (i + 1) attachments)) last)) ∙ before

@@ -1,0 +1,11 @@
+use Rattle.std.proofs.Common.{◌+◌, ◌≤◌, length, sym, subst, arith}
+use Rattle.route_table.specs.PrefixMap.{map_rows, map_capacity}
+use Rattle.route_table.proofs.Kept.{length-put_at_most}
+use Rattle.world.proofs.attachments.Attachments.attach.Goals as goal
+
+pub put-requires : goal.put-requires
+put-requires c =
+    let rows = map_rows c.reserve.new.self in
+    let more = length-put_at_most c.args.prefix c.args.cost rows (c.reserve.new.self).sorted in
+    let room : length rows + 1 ≤ map_capacity c.reserve.new.self = subst (λ xs. length xs + 1 ≤ map_capacity c.reserve.new.self) (sym c.in_ok-reserve.ensures.rows) c.in_ok-reserve.ensures.ok in
+    omega (arith, more, room)

@@ -1,0 +1,25 @@
+use Rattle.std.proofs.Common.{◌≡◌, ◌+◌, ◌++◌, [], ◌∷◌, ℕ, take, length, sym, ap, subst, ◌∙◌, arith, add-one}
+use Rattle.std.proofs.Math.Seq.{take-suc}
+use Rattle.ipv4_prefix.specs.Prefix.{Prefix, IsPrefix}
+use Rattle.metric.specs.Distance.{IsCost}
+use Rattle.std.specs.List.{list_any}
+use Rattle.network_model.specs.World.{prefixes_of}
+use Rattle.network_model.specs.Network.{has_same_prefix}
+use Rattle.world.proofs.Faults.{all_more, no_attachment_fault}
+use Rattle.world.proofs.Prefixes.{one_unless, one_more_prefix}
+use Rattle.world.proofs.network.prefix_count.Goals as goal
+
+pub loop-i-preserved : goal.loop-i-preserved
+loop-i-preserved c =
+    let given = c.args.attachments.now in
+    let here = c.index-attachments-i.result in
+    let more : take (c.loop-i.i + 1) given ≡ take c.loop-i.i given ++ here ∷ []
+    = ap (λ n. take n given) (add-one c.loop-i.i) ∙ take-suc given c.loop-i.i here (omega arith) ∙ ap (λ x. take c.loop-i.i given ++ x ∷ []) (sym c.index-attachments-i.is) in
+    let counted : length (prefixes_of (take (c.loop-i.i + 1) given)) ≡ length (prefixes_of (take c.loop-i.i given)) + one_unless (list_any (has_same_prefix here) (take c.loop-i.i given))
+    = ap (λ xs. length (prefixes_of xs)) more ∙ one_more_prefix (take c.loop-i.i given) here in
+    record {
+      rest = sym (no_attachment_fault c.args.routers given c.loop-i.i here (omega arith) c.index-attachments-i.is (sym c.is_bad_attachment.ensures ∙ c.if-is_bad_attachment.false)) ∙ c.loop-i.invariant.rest;
+      count = omega (arith, counted, c.loop-i.invariant.count, c.prefixes_more-prefixes.ensures.more);
+      prefixes = all_more (λ (a : Prefix × ℕ × ℕ). IsPrefix a.0) given c.loop-i.i here (omega arith) c.index-attachments-i.is c.len.ensures.valid c.loop-i.invariant.prefixes;
+      costs = all_more (λ (a : Prefix × ℕ × ℕ). IsCost a.2) given c.loop-i.i here (omega arith) c.index-attachments-i.is (subst IsCost c.value.ensures.value c.value.ensures.cost) c.loop-i.invariant.costs;
+    }

@@ -1,0 +1,9 @@
+use Rattle.std.proofs.Common.{◌≡◌, ◌++◌, ◌-◌, []}
+use Rattle.std.specs.Prelude.{map}
+use Rattle.std.specs.List.{range_with_len}
+use Rattle.network_model.specs.World.{costs_of}
+use Rattle.world.specs.Parts.{attachments_of}
+use Rattle.world.proofs.opening.opening_attachments.Given as goal
+
+abbrev pub invariant-loop-router : goal.invariant-loop-router
+invariant-loop-router l = l.attachments.items ++ map (λ i. attachments_of (costs_of l.network i) []) (range_with_len l.router (l.router-end - l.router)) ≡ map (λ i. attachments_of (costs_of l.network i) []) (range_with_len 0 l.router-end)
