@@ -16,7 +16,9 @@ from pathlib import Path
 from tempfile import NamedTemporaryFile
 from typing import NamedTuple
 
-NETWORKS = ["grid", "line", "flap"]
+from networks import SCENARIOS
+
+NETWORKS = list(SCENARIOS)
 THREADS = [1, 2, 4]
 GNU_TIME = "/usr/bin/time"
 MODEL = [sys.executable, str(Path(__file__).with_name("model.py"))]

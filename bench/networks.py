@@ -3,8 +3,8 @@
 
     python3 bench/networks.py FOLDER
 
-writes grid.toml, line.toml and flap.toml, and each once more with a `report` at its end, as
-grid-report.toml and so on.
+writes grid.toml, line.toml, flap.toml, star.toml and mesh.toml, and each once more with a `report`
+at its end, as grid-report.toml and so on.
 """
 
 import sys
@@ -20,6 +20,11 @@ ROUTERS = SIDE * SIDE
 PREFIXES = 64
 FLAPPING_PREFIXES = 8
 FLAPS = 1000
+# A router has 32 ports at most.
+LEAVES = 32
+LEAF_FLAPS = 16
+MESH_ROUTERS = 80
+MESH_LINKS = 200
 
 
 class Scenario(NamedTuple):
@@ -82,9 +87,46 @@ def flap() -> Scenario:
     return scenario.with_commands(*ups(scenario.links), "settle", *flaps)
 
 
+def star() -> Scenario:
+    """A hub with as many leaves as it has ports, and prefixes at two leaves each; the leaves go and come."""
+    random = Random(SEED)
+    routers = ["hub", *[f"leaf{k}" for k in range(LEAVES)]]
+    links = [f"hub leaf{k} {random.randint(1, 9)} {random.randint(1, 9)}" for k in range(LEAVES)]
+    prefixes = [
+        f"10.0.{k}.0/24 leaf{(k + half * LEAVES // 2) % LEAVES}"
+        for k in range(PREFIXES)
+        for half in range(2)
+    ]
+    flaps = [
+        command
+        for k in range(LEAVES)
+        for command in (f"down hub leaf{k}", "settle", f"up hub leaf{k}", "settle")
+    ] * LEAF_FLAPS
+    return Scenario(routers, links, prefixes, [*ups(links), "settle", *flaps])
+
+
+def mesh() -> Scenario:
+    """Routers in a ring with links across it, all of which come up at once."""
+    random = Random(SEED)
+    pairs = [(k, (k + 1) % MESH_ROUTERS) for k in range(MESH_ROUTERS)]
+    while len(pairs) < MESH_LINKS:
+        pair = random.randrange(MESH_ROUTERS), random.randrange(MESH_ROUTERS)
+        if pair[0] != pair[1] and pair not in pairs and pair[::-1] not in pairs:
+            pairs.append(pair)
+    links = [f"r{a} r{b} {random.randint(1, 9)} {random.randint(1, 9)}" for a, b in pairs]
+    prefixes = [f"10.0.{k}.0/24 r{k}" for k in range(PREFIXES)]
+    routers = [f"r{k}" for k in range(MESH_ROUTERS)]
+    scenario = Scenario(routers, links, prefixes, ups(links))
+    return scenario.with_commands("settle")
+
+
+SCENARIOS = {"grid": grid, "line": line, "flap": flap, "star": star, "mesh": mesh}
+
+
 def main(words: list[str]) -> None:
     folder = Path(words[0])
-    for name, scenario in [("grid", grid()), ("line", line()), ("flap", flap())]:
+    for name, make in SCENARIOS.items():
+        scenario = make()
         (folder / f"{name}.toml").write_text(scenario.toml())
         (folder / f"{name}-report.toml").write_text(scenario.with_commands("report").toml())
 

@@ -1,20 +1,136 @@
 -- What a fabric under a lock can have become: nothing at first, then step after step; and what the sum of its journal tells.
-use Rattle.std.specs.Prelude.{◌≡◌, ◌+◌, Bool, List, [], ◌∷◌, ◌++◌}
-use Rattle.std.specs.List.{AllByRecursion}
-use Rattle.std.proofs.Common.{refl, sym, ap, subst, ◌∙◌, arith}
+use Rattle.std.specs.Prelude.{◌≡◌, ◌≢◌, ◌⊎◌, ℕ, zero, suc, ◌+◌, ◌||◌, Bool, true, false, not, find, map, set, if◌then◌else◌, List, [], ◌∷◌, ◌++◌, Option, Some, None, nat_lt, is_none, is_some, length, slice_get, option_and_then, Result, Ok, Err, IfOk, OnOk, OnErr, ⊤}
+use Rattle.std.specs.Option.{option_map_or}
+use Rattle.std.proofs.lemmas.Bool.{false≢true}
+use Rattle.network_model.specs.declared.step.Step.TheVariants.{LinkUp, LinkDown, SetCost, Deliver, Publish, Release, Attach, Detach}
+use Rattle.network_model.specs.declared.step.Refusal.{Refusal}
+use Rattle.network_model.specs.Journal.{most_steps}
+use Rattle.world.specs.Steps.{IsDoneOr}
+use Rattle.publication.specs.Outings.{Outing}
+use Rattle.network_model.specs.declared.step.Refusal.TheVariants.{UnknownRouter, NothingDue, NothingRipe}
+use Rattle.network_model.specs.Network.{first_cause}
+use Rattle.network_model.specs.Turns.{is_lawful, next_step}
+use Rattle.network_model.proofs.Lawful.{Lawful_to_refusal}
+use Rattle.network_model.proofs.ListLaws.{None_not_Some, Some_injective, option_map_or-ind, slice_get-changed_at_other}
+use Rattle.network_model.proofs.WorldLaws.{routers-changed_link}
+use Rattle.fabric.specs.Fabric.{next_step as next_turn}
+use Rattle.fabric.proofs.Fabrics.{fit-append}
+use Rattle.fabric.proofs.Lending.{Spares, lent_none, lent_set, spared}
+use Rattle.std.specs.List.{AllByRecursion, range_with_len}
+use Rattle.std.proofs.Math.Bool.{or-true}
+use Rattle.std.proofs.Common.{inl, inr, refl, sym, ap, subst, ◌∙◌, arith}
 use Rattle.std.proofs.lemmas.List.{append_assoc, append-nil}
 use Rattle.std.proofs.lemmas.List.Sums.{sum_by-cons, sum_by-append}
 use Rattle.network_model.specs.declared.step.Step.{Step}
-use Rattle.network_model.specs.World.{World}
-use Rattle.network_model.specs.Step.{Lawful, next}
+use Rattle.network_model.specs.World.{Router, World, degree_of}
+use Rattle.network_model.specs.Publication.{Patch}
+use Rattle.network_model.specs.Step.{Lawful, next, refusal, is_due, ripe_front, changed_link, with_cost, with_delivered, with_front_taken, with_message, with_noticed, with_released, front_at, notice_at, release_at, router_accepting, router_at_home, router_publishing, router_releasing}
 use Rattle.network_model.specs.Run.{Runs}
 use Rattle.network_model.specs.Journal.{Fits, journal_sum, step_code, step_number}
 use Rattle.network_model.proofs.JournalLaws.{packed_below, step_number_injective}
-use Rattle.world.proofs.Runs.{runs-append}
-use Rattle.fabric.specs.Fabric.{Fabric, after_step, fabric_of}
+use Rattle.world.proofs.Runs.{with_last_step}
+use Rattle.fabric.specs.Fabric.{Fabric, after_step, awaits_writer, count_lent, fabric_of, fabric_refusal, is_lent, lent_at, with_lent}
 use Rattle.fabric.specs.Images.{images_in_force}
-use Rattle.fabric.proofs.Fabrics.{fit-append}
-use Rattle.control.specs.Served.{AreTurns, IsServed, IsTurnAt, images_after}
+use Rattle.control.specs.Served.{AreTurns, IsServed, IsTurnAt, PublishesNext, images_after, may_do}
+
+-- ---- a router that publishes next
+
+-- whether router o has something to release, and something to publish
+abbrev releases : Option Router → Bool
+releases o = is_none (first_cause ((is_none o, UnknownRouter) ∷ (is_none (option_and_then ripe_front o), NothingRipe) ∷ []))
+
+abbrev publishes : Option Router → Bool
+publishes o = is_none (first_cause ((is_none o, UnknownRouter) ∷ (not (option_map_or is_due o false), NothingDue) ∷ []))
+
+-- that is known by the router alone
+next_by : (v w : World) (i : ℕ) → slice_get v.routers i ≡ slice_get w.routers i → PublishesNext w i → PublishesNext v i
+next_by v w i same is = subst (λ o. (releases o ≡ false) × (publishes o ≡ true)) (sym same) is
+
+-- it is then the router's next step
+pub next_is : (w : World) (i : ℕ) → PublishesNext w i → next_step w i ≡ Some (Publish i)
+next_is w i is = rw (is.0, is.1) refl
+
+-- and where that is its next step, it is so
+pub is_next : (w : World) (i : ℕ) → next_step w i ≡ Some (Publish i) → Lawful w (Publish i) → PublishesNext w i
+is_next w i due lawful = (by_test _ (is_lawful w (Release i)) refl due, ap is_none (Lawful_to_refusal w (Publish i) lawful))
+  where
+    by_test : (rest : Option Step) (b : Bool) → is_lawful w (Release i) ≡ b → (if b then Some (Release i) else rest) ≡ Some (Publish i) → is_lawful w (Release i) ≡ false
+    by_test rest true _ same = absurd (let no = Some_injective same in cc)
+    by_test rest false is _ = is
+
+-- a lawful step that is no delivery and no publication at a router leaves one that publishes next as it was
+router_stays : (w : World) (s : Step) (i : ℕ) → Spares s i → Lawful w s → PublishesNext w i → slice_get (next w s).routers i ≡ slice_get w.routers i
+router_stays w (LinkUp l) i _ _ _ = refl
+router_stays w (LinkDown l) i _ _ _ = refl
+router_stays w (Attach j p cost) i _ _ _ = refl
+router_stays w (Detach j p) i _ _ _ = refl
+router_stays w (SetCost j q cost) i _ _ _ = ap (λ rs. slice_get rs i) (routers-changed_link j q (with_cost cost) w)
+router_stays w (Deliver j q) i apart _ _ = option_map_or-ind (λ v. slice_get v.routers i ≡ slice_get w.routers i) (with_delivered j q w) (front_at w j q) (option_map_or (with_noticed j w) (notice_at w j q) w)
+    (option_map_or-ind (λ v. slice_get v.routers i ≡ slice_get w.routers i) (with_noticed j w) (notice_at w j q) w refl (λ n _. slice_get-changed_at_other (router_at_home n) j i w.routers apart))
+    (λ item _. slice_get-changed_at_other (router_accepting q item) j i (changed_link j q with_front_taken w).routers apart ∙ ap (λ rs. slice_get rs i) (routers-changed_link j q with_front_taken w))
+router_stays w (Publish j) i apart _ _ = slice_get-changed_at_other router_publishing j i w.routers apart
+router_stays w (Release j) i _ lawful is = option_map_or-ind (λ v. slice_get v.routers i ≡ slice_get w.routers i) (with_released j w) (release_at w j) w refl
+    (λ h _. slice_get-changed_at_other router_releasing j i (changed_link j h.port (with_message h) w).routers apart ∙ ap (λ rs. slice_get rs i) (routers-changed_link j h.port (with_message h) w))
+  where
+    apart : i ≢ j
+    apart same = false≢true (sym is.0 ∙ ap is_none (Lawful_to_refusal w (Release i) (subst (λ k. Lawful w (Release k)) (sym same) lawful)))
+
+pub stays_next : (w : World) (s : Step) (i : ℕ) → Spares s i → Lawful w s → PublishesNext w i → PublishesNext (next w s) i
+stays_next w s i spares lawful is = next_by (next w s) w i (router_stays w s i spares lawful is) is
+
+-- what a router does next in a fabric, it does next in its world
+pub turn_next : (f : Fabric) (i : ℕ) (s : Step) → next_turn f i ≡ Some s → next_step f.world i ≡ Some s
+turn_next f i s due = by_step (next_step f.world i) due
+  where
+    by_wait : (t : Step) (b : Bool) → (if b then None else Some t) ≡ Some s → Some t ≡ Some s
+    by_wait t true none = absurd (None_not_Some none)
+    by_wait t false is = is
+
+    by_step : (o : Option Step) → option_and_then (λ t. if awaits_writer f t then None else Some t) o ≡ Some s → o ≡ Some s
+    by_step None none = absurd (None_not_Some none)
+    by_step (Some t) is = by_wait t (awaits_writer f t) is
+
+-- a publication that a router does next is its own
+pub next_router : (w : World) (i j : ℕ) → next_step w i ≡ Some (Publish j) → j ≡ i
+next_router w i j is = by_tests (is_lawful w (Release i)) (is_lawful w (Publish i)) is
+  where
+    qs : List ℕ
+    qs = range_with_len 0 (option_map_or (λ d. d + 1) (degree_of w i) 0)
+
+    of : Step → ℕ
+    of (LinkUp l) = 0
+    of (LinkDown l) = 0
+    of (SetCost k q cost) = 0
+    of (Deliver k q) = 0
+    of (Publish k) = k
+    of (Release k) = 0
+    of (Attach k p cost) = 0
+    of (Detach k p) = 0
+
+    delivered : (xs : List ℕ) → find (is_lawful w) (map (λ q. Deliver i q) xs) ≡ Some (Publish j) → ⊥
+    delivered [] none = None_not_Some none
+    delivered (q ∷ xs) same = by_test (is_lawful w (Deliver i q)) same (delivered xs)
+      where
+        by_test : (b : Bool) → (if b then Some (Deliver i q) else find (is_lawful w) (map (λ r. Deliver i r) xs)) ≡ Some (Publish j) → (find (is_lawful w) (map (λ r. Deliver i r) xs) ≡ Some (Publish j) → ⊥) → ⊥
+        by_test true here rest = let no = Some_injective here in cc
+        by_test false here rest = rest here
+
+    by_tests : (a b : Bool) → (if a then Some (Release i) else if b then Some (Publish i) else find (is_lawful w) (map (λ q. Deliver i q) qs)) ≡ Some (Publish j) → j ≡ i
+    by_tests true b same = absurd (let no = Some_injective same in cc)
+    by_tests false true same = sym (ap of (Some_injective same))
+    by_tests false false same = absurd (delivered qs same)
+
+-- a step that was done waited for no writer
+pub done_free : {X : Type 0} (f : Fabric) (s : Step) (x : X) → IsDoneOr (fabric_refusal f s) (Ok x) → awaits_writer f s ≡ false
+done_free {X} f s x done = by_test (nat_lt (length f.journal + count_lent f.lent) most_steps) (awaits_writer f s) refl done
+  where
+    not_both : (e : Refusal) → ◌≡◌ {A = Result X Refusal} (Ok x) (Err e) → ⊥
+    not_both e same = cc
+
+    by_test : (a b : Bool) → awaits_writer f s ≡ b → IsDoneOr {X = X} (if a then if b then Some Refusal.Busy else refusal f.world s else Some Refusal.JournalFull) (Ok x) → awaits_writer f s ≡ false
+    by_test true true is done = absurd (not_both Refusal.Busy done)
+    by_test true false is done = is
+    by_test false b is done = absurd (not_both Refusal.JournalFull done)
 
 -- ---- what was done
 
@@ -28,91 +144,78 @@ served_none opened asked = record {
   runs = refl;
   fit = tt;
   images = refl;
+  out = λ i lent. inl lent;
 }
 
--- steps after steps
-turns-append : (asked : Step → Bool) (w : World) (ss : List Step) (v : World) (ts : List Step) → AreTurns asked w ss → Runs w ss v → AreTurns asked v ts → AreTurns asked w (ss ++ ts)
-turns-append asked w [] v ts turns runs later = subst (λ x. AreTurns asked x ts) (sym runs) later
-turns-append asked w (s ∷ ss) v ts turns runs later = (turns.0, turns-append asked (next w s) ss v ts turns.1 runs.1 later)
+-- a step after steps
+turns-more : (asked : Step → Bool) (w : World) (ss : List Step) (v : World) (s : Step) → AreTurns asked w ss → Runs w ss v → IsTurnAt asked v s → AreTurns asked w (ss ++ s ∷ [])
+turns-more asked w [] v s turns runs later = (subst (λ x. IsTurnAt asked x s) (sym runs) later, tt)
+turns-more asked w (t ∷ ss) v s turns runs later = (turns.0, turns-more asked (next w t) ss v s turns.1 runs.1 later)
 
-images-append : (opened between : Fabric) (ss ts : List Step) (u : World) → between.images ≡ images_after opened ss between.world → (ts ≡ [] → between.world ≡ u) → images_after between ts u ≡ images_after opened (ss ++ ts) u
-images-append opened between [] [] u images same = images
-images-append opened between [] (t ∷ ts) u images same = refl
-images-append opened between (s ∷ ss) [] u images same = images ∙ ap images_in_force (same refl)
-images-append opened between (s ∷ ss) (t ∷ ts) u images same = refl
+images-more : (opened : Fabric) (ss : List Step) (s : Step) (w : World) → images_after opened (ss ++ s ∷ []) w ≡ images_in_force w
+images-more opened [] s w = refl
+images-more opened (t ∷ ss) s w = refl
 
--- what was done in two goes was done
-pub served_on : (opened : Fabric) (asked : Step → Bool) (between fabric : Fabric) → IsServed opened asked between → IsServed between asked fabric → IsServed opened asked fabric
-served_on opened asked between fabric first second = record {
-  network = second.network ∙ first.network;
-  extra = first.extra ++ second.extra;
-  journal = second.journal ∙ ap (λ ss. ss ++ second.extra) first.journal ∙ append_assoc opened.journal first.extra second.extra;
-  turns = turns-append asked opened.world first.extra between.world second.extra first.turns first.runs second.turns;
-  runs = runs-append opened.world first.extra between.world second.extra fabric.world first.runs second.runs;
-  fit = fit-append first.extra second.extra first.fit second.fit;
-  images = second.images ∙ images-append opened between first.extra second.extra fabric.world first.images (λ none. subst (λ ss. Runs between.world ss fabric.world) none second.runs);
-}
+-- one step more was done, of a fabric whose writers that are out its own are too
+pub served_next : (opened : Fabric) (asked : Step → Bool) (fabric before after : Fabric) (s : Step) → IsServed opened asked fabric → before.network ≡ fabric.network → before.journal ≡ fabric.journal → before.world ≡ fabric.world
+    → ((i : ℕ) → is_lent before i ≡ true → is_lent fabric i ≡ true) → awaits_writer before s ≡ false
+    → IsTurnAt (may_do opened asked) fabric.world s → Lawful fabric.world s → Fits s → after ≡ after_step before s → IsServed opened asked after
+served_next opened asked fabric before after s served network journal world lent free turn lawful fits is = subst (IsServed opened asked) (sym is) (record {
+  network = network ∙ served.network;
+  extra = served.extra ++ s ∷ [];
+  journal = ap (λ ss. ss ++ s ∷ []) (journal ∙ served.journal) ∙ append_assoc opened.journal served.extra (s ∷ []);
+  turns = turns-more (may_do opened asked) opened.world served.extra fabric.world s served.turns served.runs turn;
+  runs = subst (λ v. Runs opened.world (served.extra ++ s ∷ []) (next v s)) (sym world) (with_last_step opened.world served.extra fabric.world s served.runs lawful);
+  fit = fit-append served.extra (s ∷ []) served.fit (fits, tt);
+  images = sym (images-more opened served.extra s (next before.world s));
+  out = λ i there. by_out i there (served.out i (lent i there));
+})
+  where
+    by_out : (i : ℕ) → is_lent before i ≡ true → (is_lent opened i ≡ true) ⊎ PublishesNext fabric.world i → (is_lent opened i ≡ true) ⊎ PublishesNext (next before.world s) i
+    by_out i there (inl was) = inl was
+    by_out i there (inr is) = inr (subst (λ v. PublishesNext (next v s) i) (sym world) (stays_next fabric.world s i (spared before s free i there) lawful is))
 
--- one step was done
-pub served_step : (fabric : Fabric) (asked : Step → Bool) (s : Step) → IsTurnAt asked fabric.world s → Lawful fabric.world s → Fits s → IsServed fabric asked (after_step fabric s)
-served_step fabric asked s turn lawful fits = record {
-  network = refl;
-  extra = s ∷ [];
-  journal = refl;
-  turns = (turn, tt);
-  runs = (lawful, refl);
-  fit = (fits, tt);
-  images = refl;
-}
+-- a writer that went out, or came back with nothing published
+pub served_lent : (opened : Fabric) (asked : Step → Bool) (fabric after : Fabric) (i : ℕ) (l : Option Patch) → IsServed opened asked fabric → (is_some l ≡ true → PublishesNext fabric.world i) → after ≡ with_lent fabric i l → IsServed opened asked after
+served_lent opened asked fabric after i l served due is = subst (IsServed opened asked) (sym is) (record {
+  network = served.network;
+  extra = served.extra;
+  journal = served.journal;
+  turns = served.turns;
+  runs = served.runs;
+  fit = served.fit;
+  images = served.images;
+  out = λ k there. by_place k (lent_set fabric.lent i k l there);
+})
+  where
+    by_place : (k : ℕ) → ((k ≡ i) × (is_some l ≡ true)) ⊎ (is_some (lent_at fabric.lent k) ≡ true) → (is_lent opened k ≡ true) ⊎ PublishesNext fabric.world k
+    by_place k (inl here) = inr (subst (PublishesNext fabric.world) (sym here.0) (due here.1))
+    by_place k (inr there) = served.out k there
 
--- one step more was done
-pub served_next : (opened : Fabric) (asked : Step → Bool) (fabric after : Fabric) (s : Step) → IsServed opened asked fabric → IsTurnAt asked fabric.world s → Lawful fabric.world s → Fits s → after ≡ after_step fabric s → IsServed opened asked after
-served_next opened asked fabric after s served turn lawful fits is =
-    subst (IsServed opened asked) (sym is) (served_on opened asked fabric (after_step fabric s) served (served_step fabric asked s turn lawful fits))
+-- a writer that came back, with its patch published
+pub served_published : (opened : Fabric) (asked : Step → Bool) (fabric after : Fabric) (i : ℕ) (t : Patch) → IsServed opened asked fabric → lent_at fabric.lent i ≡ Some t → Lawful fabric.world (Publish i) → Fits (Publish i)
+    → after ≡ after_step (with_lent fabric i None) (Publish i) → IsServed opened asked after
+served_published opened asked fabric after i t served out lawful fits is =
+    served_next opened asked fabric (with_lent fabric i None) after (Publish i) served refl refl refl others (ap is_some (lent_none fabric.lent i)) (by_out (served.out i (ap is_some out))) lawful fits is
+  where
+    others : (k : ℕ) → is_lent (with_lent fabric i None) k ≡ true → is_lent fabric k ≡ true
+    others k there = by_place (lent_set fabric.lent i k None there)
+      where
+        by_place : ((k ≡ i) × (false ≡ true)) ⊎ (is_some (lent_at fabric.lent k) ≡ true) → is_lent fabric k ≡ true
+        by_place (inl here) = absurd (false≢true here.1)
+        by_place (inr was) = was
 
--- ---- what the sum tells
+    by_out : (is_lent opened i ≡ true) ⊎ PublishesNext fabric.world i → IsTurnAt (may_do opened asked) fabric.world (Publish i)
+    by_out (inl was) = inl (ap (λ b. asked (Publish i) || b) was ∙ or-true (asked (Publish i)))
+    by_out (inr next_one) = inr (i, next_is fabric.world i next_one)
 
--- these steps add up to so much
-sum_more : (opened : Fabric) (asked : Step → Bool) (fabric : Fabric) (served : IsServed opened asked fabric) → journal_sum fabric.journal ≡ journal_sum opened.journal + journal_sum served.extra
-sum_more opened asked fabric served = ap journal_sum served.journal ∙ sum_by-append step_number opened.journal served.extra
+-- or not
+pub served_unpublished : (opened : Fabric) (asked : Step → Bool) (fabric after : Fabric) (i : ℕ) → IsServed opened asked fabric → after ≡ with_lent fabric i None → IsServed opened asked after
+served_unpublished opened asked fabric after i served is = served_lent opened asked fabric after i None served (λ no. absurd (false≢true no)) is
 
-first_sum : (s : Step) (ss : List Step) → journal_sum (s ∷ ss) ≡ step_number s + journal_sum ss
-first_sum s ss = sum_by-cons step_number s ss
-
--- no steps
-none_by_sum : (ss : List Step) → journal_sum ss ≡ 0 → ss ≡ []
-none_by_sum [] e = refl
-none_by_sum (s ∷ ss) e = let first = first_sum s ss in absurd (omega (arith, first, e))
-
--- this one step
-one_by_sum : (s : Step) (ss : List Step) → Fits s → AllByRecursion Fits ss → journal_sum ss ≡ step_number s → ss ≡ s ∷ []
-one_by_sum s [] fits fit e = absurd (omega (arith, e))
-one_by_sum s (t ∷ []) fits fit e =
-    let first = first_sum t [] in
-    let same : step_number t ≡ step_number s = omega (arith, first, e) in
-    ap (λ x. x ∷ []) (step_number_injective t s fit.0 fits same)
-one_by_sum s (t ∷ u ∷ ss) fits fit e =
-    let first = first_sum t (u ∷ ss) in
-    let second = first_sum u ss in
-    let below = packed_below (step_code s) fits in
-    absurd (omega (arith, first, second, below, e))
-
--- a fabric whose journal has the same sum is the one that was opened
-pub same_by_sum : (opened : Fabric) (asked : Step → Bool) (fabric : Fabric) → IsServed opened asked fabric → journal_sum fabric.journal ≡ journal_sum opened.journal → fabric ≡ opened
-same_by_sum opened asked fabric served same =
-    let sum = sum_more opened asked fabric served in
-    let none : served.extra ≡ [] = none_by_sum served.extra (omega (arith, sum, same)) in
-    let journal : fabric.journal ≡ opened.journal = served.journal ∙ ap (λ ss. opened.journal ++ ss) none ∙ append-nil opened.journal in
-    let world : opened.world ≡ fabric.world = subst (λ ss. Runs opened.world ss fabric.world) none served.runs in
-    let images : fabric.images ≡ opened.images = served.images ∙ ap (λ ss. images_after opened ss fabric.world) none in
-    λ i. fabric_of (served.network i) (journal i) (sym world i) (images i)
-
--- a fabric whose journal has one step's number more is the one after that step, which was lawful
-pub one_step_by_sum : (opened : Fabric) (asked : Step → Bool) (fabric : Fabric) (s : Step) → Fits s → IsServed opened asked fabric → journal_sum fabric.journal ≡ journal_sum opened.journal + step_number s → Lawful opened.world s × (fabric ≡ after_step opened s)
-one_step_by_sum opened asked fabric s fits served more =
-    let sum = sum_more opened asked fabric served in
-    let one : served.extra ≡ s ∷ [] = one_by_sum s served.extra fits served.fit (omega (arith, sum, more)) in
-    let runs : Runs opened.world (s ∷ []) fabric.world = subst (λ ss. Runs opened.world ss fabric.world) one served.runs in
-    let journal : fabric.journal ≡ opened.journal ++ s ∷ [] = served.journal ∙ ap (λ ss. opened.journal ++ ss) one in
-    let images : fabric.images ≡ images_in_force (next opened.world s) = served.images ∙ ap (λ ss. images_after opened ss fabric.world) one ∙ ap images_in_force (sym runs.1) in
-    (runs.0, λ i. fabric_of (served.network i) (journal i) (sym runs.1 i) (images i))
+-- a ticket that was made, or refused
+pub served_ticket : (opened : Fabric) (asked : Step → Bool) (fabric after : Fabric) (i : ℕ) (r : Result Outing Refusal) → IsServed opened asked fabric → next_turn fabric i ≡ Some (Publish i)
+    → OnOk r (Lawful fabric.world (Publish i)) → IfOk r (λ t. after ≡ with_lent fabric i (Some t.patch)) → OnErr r (after ≡ fabric) → IsServed opened asked after × (after.journal ≡ fabric.journal)
+served_ticket opened asked fabric after i (Ok t) served due lawful ok err =
+    (served_lent opened asked fabric after i (Some t.patch) served (λ _. is_next fabric.world i (turn_next fabric i (Publish i) due) lawful) ok, ap (λ (f : Fabric). f.journal) ok)
+served_ticket opened asked fabric after i (Err e) served due lawful ok err = (subst (IsServed opened asked) (sym err) served, ap (λ (f : Fabric). f.journal) err)

@@ -1,17 +1,19 @@
 -- What a fabric that was under a lock can have become, and how a step or a turn comes out there.
-use Rattle.std.specs.Prelude.{◌≡◌, ℕ, ◌≤◌, ◌<◌, ◌⊎◌, ⊤, Bool, true, false, List, [], ◌∷◌, ◌++◌, length, Option, Some, None, Result, Ok, Err}
+use Rattle.std.specs.Prelude.{◌≡◌, ℕ, ◌≤◌, ◌<◌, ◌⊎◌, ⊤, Bool, true, false, ◌||◌, List, [], ◌∷◌, ◌++◌, length, Option, Some, None, Result, Ok, Err}
 use Rattle.std.specs.List.{AllByRecursion}
 use Rattle.network_model.specs.declared.step.Step.{Step}
+use Rattle.network_model.specs.declared.step.Step.TheVariants.{LinkUp, LinkDown, SetCost, Deliver, Publish, Release, Attach, Detach}
 use Rattle.network_model.specs.declared.step.Refusal.{Refusal}
-use Rattle.network_model.specs.declared.step.Refusal.TheVariants.{UnknownRouter}
+use Rattle.network_model.specs.declared.step.Refusal.TheVariants.{NoMemory, UnknownRouter, WrongTicket}
 use Rattle.network_model.specs.World.{World}
 use Rattle.network_model.specs.Step.{Lawful, next}
 use Rattle.network_model.specs.Run.{Runs}
-use Rattle.network_model.specs.Turns.{next_step}
-use Rattle.network_model.specs.Journal.{Fits, journal_sum}
+use Rattle.network_model.specs.Turns.{is_lawful, next_step}
+use Rattle.network_model.specs.Journal.{Fits, journal_sum, step_number}
 use Rattle.network_model.specs.Publication.{Image}
 use Rattle.world.specs.Steps.{CanBeRefused}
-use Rattle.fabric.specs.Fabric.{Fabric, fabric_refusal, ForwardsAsPublished}
+use Rattle.fabric.specs.Fabric.{Fabric, fabric_refusal, is_lent, ForwardsAsPublished}
+use Rattle.fabric.specs.Fabric.{next_step as next_turn}
 use Rattle.fabric.specs.Headline.{NeverMeetsTwice, LeadsAtLeastCost}
 use Rattle.fabric.specs.Images.{images_in_force}
 
@@ -22,6 +24,7 @@ no_fabric = record {
   journal = [];
   world = record { places = []; links = []; prefixes = []; attachments = []; routers = [] };
   images = [];
+  lent = [];
 }
 
 -- no step is asked for
@@ -41,6 +44,25 @@ abbrev pub AreTurns : (Step → Bool) → World → List Step → Type 0
 AreTurns asked w [] = ⊤
 AreTurns asked w (s ∷ ss) = IsTurnAt asked w s × AreTurns asked (next w s) ss
 
+-- a publication of a router whose writer was out when the fabric was opened
+abbrev pub comes_back : Fabric → Step → Bool
+comes_back opened (LinkUp l) = false
+comes_back opened (LinkDown l) = false
+comes_back opened (SetCost i q cost) = false
+comes_back opened (Deliver i q) = false
+comes_back opened (Publish i) = is_lent opened i
+comes_back opened (Release i) = false
+comes_back opened (Attach i p cost) = false
+comes_back opened (Detach i p) = false
+
+-- the step may be done though it is no router's next: it was asked for, or its ticket was out already
+abbrev pub may_do : Fabric → (Step → Bool) → Step → Bool
+may_do opened asked s = asked s || comes_back opened s
+
+-- router i publishes next: it has nothing to release, and something to publish
+abbrev pub PublishesNext : World → ℕ → Type 0
+PublishesNext w i = (is_lawful w (Release i) ≡ false) × (is_lawful w (Publish i) ≡ true)
+
 -- the images in force after these steps, which led to this world
 abbrev pub images_after : Fabric → List Step → World → List Image
 images_after opened [] w = opened.images
@@ -51,10 +73,12 @@ pub record IsServed (opened : Fabric) (asked : Step → Bool) (fabric : Fabric) 
   pub network : fabric.network ≡ opened.network
   pub extra : List Step
   pub journal : fabric.journal ≡ opened.journal ++ extra
-  pub turns : AreTurns asked opened.world extra
+  pub turns : AreTurns (may_do opened asked) opened.world extra
   pub runs : Runs opened.world extra fabric.world
   pub fit : AllByRecursion Fits extra
   pub images : fabric.images ≡ images_after opened extra fabric.world
+  -- each writer that is out was out then, or its router publishes next
+  pub out : (i : ℕ) → is_lent fabric i ≡ true → (is_lent opened i ≡ true) ⊎ PublishesNext fabric.world i
 
 -- its images in force answer by longest match over what the routers published, no packet circles along them, and at quiet they lead along least-cost walks
 pub record HasHeadline (fabric : Fabric) : Type 0 where
@@ -70,17 +94,29 @@ pub record IsFound (opened : Fabric) (asked : Step → Bool) (shares sum : ℕ) 
   pub routers : length fabric.world.routers ≡ (opened.network).routers
   pub headline : HasHeadline fabric
 
--- on the way from the fabric that was opened, the step that some router had to do next was refused
+-- on the way from the fabric that was opened, the step that some router had to do next was refused, or its ticket was handed back
 pub record IsTurnRefused (opened : Fabric) (asked : Step → Bool) (e : Refusal) : Type 0 where
   pub fabric : Fabric
   pub served : IsServed opened asked fabric
   pub router : ℕ
   pub step : Step
-  pub due : next_step fabric.world router ≡ Some step
-  pub refused : CanBeRefused (fabric_refusal fabric step) e
+  pub due : next_turn fabric router ≡ Some step
+  pub refused : CanBeRefused (fabric_refusal fabric step) e ⊎ ((step ≡ Publish router) × (e ≡ WrongTicket))
 
--- a turn of router i: no such router; or the step that it has to do next was refused, or done; or it has nothing to do
+-- what is left of a turn while its writer is out can fail: for want of memory, or since its ticket is handed back
+abbrev pub CanFailOutside : Fabric → (Step → Bool) → Type 0
+CanFailOutside opened asked = IsTurnRefused opened asked NoMemory × IsTurnRefused opened asked WrongTicket
+
+-- a turn of router i: no such router; or the step that it has to do next was refused, or its ticket was handed back; or it was done; or it has nothing to do
 abbrev pub IsTurn : Fabric → ℕ → Result (Option Step) Refusal → Type 0
-IsTurn f i (Err e) = ((length f.world.routers ≤ i) × (e ≡ UnknownRouter)) ⊎ ((s : Step) × (next_step f.world i ≡ Some s) × CanBeRefused (fabric_refusal f s) e)
-IsTurn f i (Ok None) = (i < length f.world.routers) × (next_step f.world i ≡ None)
-IsTurn f i (Ok (Some s)) = (next_step f.world i ≡ Some s) × Lawful f.world s
+IsTurn f i (Err e) = ((length f.world.routers ≤ i) × (e ≡ UnknownRouter))
+    ⊎ ((s : Step) × (next_turn f i ≡ Some s) × (CanBeRefused (fabric_refusal f s) e ⊎ ((s ≡ Publish i) × (e ≡ WrongTicket))))
+IsTurn f i (Ok None) = (i < length f.world.routers) × (next_turn f i ≡ None)
+IsTurn f i (Ok (Some s)) = (next_turn f i ≡ Some s) × Lawful f.world s
+
+-- what a turn that begins adds to its share: the number of the step that it did; nothing yet where a writer went out
+abbrev pub added_at_once : {X : Type 0} → Result (Option Step) Refusal → Option X → ℕ
+added_at_once (Err e) t = 0
+added_at_once (Ok None) t = 0
+added_at_once (Ok (Some s)) (Some t) = 0
+added_at_once (Ok (Some s)) None = step_number s

@@ -1,6 +1,6 @@
 //! What a control does.
 
-ghost use Rattle.std.specs.Prelude.{◌≡◌, ◌<◌, ◌≤◌, ◌+◌, ◌*◌, ◌^◌, ◌↔◌, Some, true, length, slice_get, sum_by, vec_len, IfOk, IfErr, IsOk, OnOk, MatchOption, MatchResult};
+ghost use Rattle.std.specs.Prelude.{◌≡◌, ◌<◌, ◌≤◌, ◌+◌, ◌*◌, ◌^◌, ◌↔◌, if◌then◌else◌, None, Some, Ok, true, false, length, slice_get, sum_by, vec_len, IfOk, IfErr, IfSome, IsOk, OnOk, MatchOption, MatchResult};
 ghost use Rattle.network_model.specs.Journal.{journal_sum, step_number, steps_in_sum};
 ghost use Rattle.network_model.specs.Step as steps;
 ghost use Rattle.network_model.specs.Turns as turns;
@@ -8,14 +8,15 @@ ghost use Rattle.world.specs.Steps.{IsDoneOr};
 ghost use Rattle.publication.specs.Lists.{image_of};
 ghost use Rattle.fabric.specs.Fabric.{Fabric as FabricState, fabric_refusal};
 ghost use Rattle.control.specs.Names.{IsNamed};
-ghost use Rattle.control.specs.Served.{HasHeadline, IsFound, IsServed, IsTurn};
+ghost use Rattle.control.specs.Served.{HasHeadline, IsFound, IsServed, IsTurn, added_at_once};
 ghost use Rattle.control.specs.Shares.{IsHolder, AreNew};
 
 use crate::desk::{Control, Guarded, Halt, High, Low, Naming, Opening, Share};
 use crate::guarded::UNIT;
+use crate::serve::{NoGate, TurnGate};
 use fabric::Fabric;
 use network_model::{Refusal, Step};
-use publication::Job;
+use publication::{Job, Ticket};
 use std::alloc::Global;
 use std::mem::ManuallyDrop;
 use std::sync::ledger::{self, Blank};
@@ -80,7 +81,7 @@ impl<B: publication::Naming, N: Naming> Control<B, N> {
     ) -> Result<(Control<B, N>, Vec<Share<N>>), Fabric<B>>
         requires names { IsNamed opening N.high N.low N.shares }
         requires some { 0 < opening.shares }
-        requires opened { fabric ≡ N.opened }
+        requires opened { IsServed N.opened N.asked fabric }
         ensures shares { IfOk result (λ r. (vec_len r.1 ≡ opening.shares) × AreNew (journal_sum fabric.journal) r.1.items) }
         ensures object { IfErr result (λ f. f ≡ fabric) }
     {
@@ -129,6 +130,7 @@ impl<B: publication::Naming, N: Naming> Control<B, N> {
         let Control { desk } = self;
         let Guarded {
             fabric,
+            watch: _watch,
             mut high,
             mut low,
         } = ManuallyDrop::into_inner(desk.into_inner());
@@ -171,7 +173,9 @@ impl<B: publication::Naming, N: Naming> Control<B, N> {
     }
 
     /// Does what a router has to do next, adds its number to the share, and answers it; none where the
-    /// router has nothing to do. Refused with `UnknownRouter`, then as `Fabric::step` refuses the step.
+    /// router has nothing to do. A publication is done with a ticket, while the lock is free. Refused with
+    /// `UnknownRouter`, then as `Fabric::step` refuses the step; with `WrongTicket` where the fabric does
+    /// not take the ticket back, which does not happen.
     pub fn turn<R: Wait>(
         &self,
         rt: &R,
@@ -182,7 +186,60 @@ impl<B: publication::Naming, N: Naming> Control<B, N> {
         ensures holder { IsHolder share.old share.new }
         ensures turn { (f : FabricState) × IsFound N.opened N.asked N.shares share.old.sum f × IsTurn f router result }
     {
-        self.desk.lock(rt).turn(rt, router, share)
+        self.turn_with(rt, router, share, 0, &NoGate)
+    }
+
+    // A turn of a thread, which calls the gate while its writer is out.
+    pub(crate) fn turn_with<R: Wait, G: TurnGate>(
+        &self,
+        rt: &R,
+        router: u16,
+        share: &mut Share<N>,
+        thread: u8,
+        gate: &G,
+    ) -> Result<Option<Step>, Refusal>
+        ensures sum { MatchResult result (λ o. MatchOption o (share.new.sum ≡ share.old.sum) (λ s. share.new.sum ≡ share.old.sum + step_number s)) (λ _. share.new.sum ≡ share.old.sum) }
+        ensures holder { IsHolder share.old share.new }
+        ensures turn { (f : FabricState) × IsFound N.opened N.asked N.shares share.old.sum f × IsTurn f router result }
+    {
+        let (done, ticket) = self.begin(rt, router, share);
+        let Some(mut ticket) = ticket else {
+            return done;
+        };
+        gate.publishing(thread, router);
+        let published = ticket.publish(rt);
+        if let Err(ticket) = self.finish(rt, ticket, share) {
+            ticket.close(rt);
+            return Err(Refusal::WrongTicket);
+        }
+        published?;
+        done
+    }
+
+    fn begin<R: Wait>(
+        &self,
+        rt: &R,
+        router: u16,
+        share: &mut Share<N>,
+    ) -> (Result<Option<Step>, Refusal>, Option<Ticket<B>>)
+        ensures sum { share.new.sum ≡ share.old.sum + added_at_once result.0 result.1 }
+        ensures holder { IsHolder share.old share.new }
+        ensures turn { (f : FabricState) × IsFound N.opened N.asked N.shares share.old.sum f × IsTurn f router result.0
+            × IfSome result.1 (λ t. (result.0 ≡ Ok (Some (Step.Publish router))) × (fabric_refusal f (Step.Publish router) ≡ None) × (t.is_published ≡ false) × (t.before.router ≡ router)) }
+    {
+        self.desk.lock(rt).begin(rt, router, true, share)
+    }
+
+    pub(crate) fn finish<R: Wait>(
+        &self,
+        rt: &R,
+        ticket: Ticket<B>,
+        share: &mut Share<N>,
+    ) -> Result<(), Ticket<B>>
+        ensures sum { MatchResult result (λ _. share.new.sum ≡ share.old.sum + (if ticket.is_published then step_number (Step.Publish ticket.before.router) else 0)) (λ _. share.new.sum ≡ share.old.sum) }
+        ensures holder { IsHolder share.old share.new }
+    {
+        self.desk.lock(rt).finish(ticket, share)
     }
 
     /// An address for a worker to look up at a router, in an image no older than the one in force now.

@@ -3,6 +3,7 @@
 ghost use Rattle.std.specs.Prelude.{◌≡◌, ◌+◌, ◌*◌, ◌^◌, Some, None, IfSome};
 ghost use Rattle.control.specs.Served.{IsTurnRefused};
 
+use crate::watch::Watch;
 use fabric::Fabric;
 use network_model::Refusal;
 use std::marker::{Brand, Model, PhantomData};
@@ -10,9 +11,9 @@ use std::mem::ManuallyDrop;
 use std::sync::Mutex;
 use std::sync::ledger::{self, Blank, Book, Ledger};
 
-/// Which control it is: the names of its two ledgers and the number of its shares, the fabric that it
-/// was made of, and the steps that may be asked for. A generic function has it as a type parameter,
-/// and its caller chooses it.
+/// Which control it is: the names of its two ledgers and the number of its shares, the fabric from which
+/// it began, and the steps that may be asked for. A generic function has it as a type parameter, and its
+/// caller chooses it.
 pub trait Naming {
     ghost use Rattle.std.specs.Prelude.{ℕ, Bool};
     ghost use Rattle.network_model.specs.declared.step.Step.{Step};
@@ -71,10 +72,11 @@ pub struct Opening {
     ghost low_parts: { low.parts ≡ shares },
 }
 
-/// The fabric, and the books of the shares, which add up to its journal's sum. Contracts see it as
-/// the fabric.
+/// The fabric, which of its routers may have something to do, and the books of the shares, which add up
+/// to its journal's sum. Contracts see it as the fabric.
 pub struct Guarded<B: publication::Naming, N: Naming> {
     pub(crate) fabric: Fabric<B>,
+    pub(crate) watch: Watch,
     pub(crate) high: Book<High<N>>,
     pub(crate) low: Book<Low<N>>,
 }

@@ -1,19 +1,21 @@
 //! Steps and turns under the lock.
 
-ghost use Rattle.std.specs.Prelude.{◌≡◌, ◌≤◌, ◌<◌, ◌+◌, ◌*◌, ◌^◌, ◌↔◌, Some, slice_get, IfOk, IfErr, IsOk, OnOk, OnErr, MatchOption, MatchResult};
+ghost use Rattle.std.specs.Prelude.{◌≡◌, ◌≤◌, ◌<◌, ◌+◌, ◌*◌, ◌^◌, ◌↔◌, if◌then◌else◌, true, false, None, Some, Ok, slice_get, IfOk, IfErr, IfSome, IsOk, OnOk, OnErr, MatchResult};
 ghost use Rattle.network_model.specs.Journal.{journal_sum, step_number};
 ghost use Rattle.network_model.specs.Step as steps;
 ghost use Rattle.network_model.specs.Turns as turns;
 ghost use Rattle.world.specs.Steps.{IsDoneOr};
 ghost use Rattle.publication.specs.Lists.{image_of};
 ghost use Rattle.fabric.specs.Fabric.{after_step, fabric_refusal};
-ghost use Rattle.control.specs.Served.{HasHeadline, IsFound, IsServed, IsTurn, IsTurnAt};
+ghost use Rattle.fabric.specs.Fabric.{next_step as next_turn};
+ghost use Rattle.control.specs.Served.{HasHeadline, IsFound, IsServed, IsTurn, IsTurnAt, added_at_once, may_do};
 ghost use Rattle.control.specs.Shares.{IsHolder};
 
 use crate::desk::{Guarded, High, Low, Naming, Share};
+use crate::watch::Watch;
 use fabric::Fabric;
 use network_model::{Refusal, Step};
-use publication::Job;
+use publication::{Job, Ticket};
 use std::sync::Wait;
 use std::sync::ledger::Book;
 
@@ -26,12 +28,17 @@ impl<B: publication::Naming, N: Naming> Guarded<B, N> {
         requires served { IsServed N.opened N.asked fabric }
         ensures { result ≡ fabric }
     {
-        Guarded { fabric, high, low }
+        Guarded {
+            fabric,
+            watch: Watch::all(),
+            high,
+            low,
+        }
     }
 
     /// Does a step, and adds its number to the share. Refused, it changes nothing.
     pub fn step<R: Wait>(&mut self, rt: &R, step: Step, share: &mut Share<N>) -> Result<(), Refusal>
-        requires { IsTurnAt N.asked (self.old).world step }
+        requires { IsTurnAt (may_do N.opened N.asked) (self.old).world step }
         ensures found { IsFound N.opened N.asked N.shares share.old.sum self.old }
         ensures ok { OnOk result (steps.Lawful (self.old).world step × (self.new ≡ after_step self.old step)) }
         ensures err { OnErr result (self.new ≡ self.old) }
@@ -40,7 +47,12 @@ impl<B: publication::Naming, N: Naming> Guarded<B, N> {
         ensures holder { IsHolder share.old share.new }
     {
         let number = step.number();
-        let Guarded { fabric, high, low } = self;
+        let Guarded {
+            fabric,
+            watch,
+            high,
+            low,
+        } = self;
         let Share {
             number: _,
             sum,
@@ -52,6 +64,7 @@ impl<B: publication::Naming, N: Naming> Guarded<B, N> {
         fabric.holds();
         high.audit(own_high);
         low.audit(own_low);
+        watch.note(fabric, &step);
         fabric.step(rt, step)?;
         // No journal's sum needs more than 128 bits.
         let _sum = fabric.sum();
@@ -61,28 +74,91 @@ impl<B: publication::Naming, N: Naming> Guarded<B, N> {
         Ok(())
     }
 
-    /// Does what a router has to do next, if anything, and answers it.
-    pub fn turn<R: Wait>(
+    /// Begins a turn of a router: does what it has to do next, if anything, and answers it. Where it
+    /// may lend, it gives for a publication the ticket with which the router's writer goes out, and adds
+    /// nothing yet.
+    pub fn begin<R: Wait>(
         &mut self,
         rt: &R,
         router: u16,
+        lends: bool,
         share: &mut Share<N>,
-    ) -> Result<Option<Step>, Refusal>
+    ) -> (Result<Option<Step>, Refusal>, Option<Ticket<B>>)
         ensures found { IsFound N.opened N.asked N.shares share.old.sum self.old }
-        ensures turn { IsTurn self.old router result }
-        ensures sum { MatchResult result (λ o. MatchOption o (share.new.sum ≡ share.old.sum) (λ s. share.new.sum ≡ share.old.sum + step_number s)) (λ _. share.new.sum ≡ share.old.sum) }
+        ensures turn { IsTurn self.old router result.0 }
+        ensures ticket { IfSome result.1 (λ t. (result.0 ≡ Ok (Some (Step.Publish router))) × (fabric_refusal self.old (Step.Publish router) ≡ None)
+            × (t.is_published ≡ false) × (t.before.router ≡ router)) }
+        ensures lent { IfSome result.1 (λ t. lends ≡ true) }
+        ensures sum { share.new.sum ≡ share.old.sum + added_at_once result.0 result.1 }
         ensures holder { IsHolder share.old share.new }
     {
         self.audit(share);
         if usize::from(router) >= self.fabric.world().routers().len() {
-            return Err(Refusal::UnknownRouter);
+            return (Err(Refusal::UnknownRouter), None);
         }
         let Some(step) = self.fabric.next_step(router) else {
-            return Ok(None);
+            return (Ok(None), None);
         };
         let done = step;
-        self.step(rt, step, share)?;
-        Ok(Some(done))
+        if let Step::Publish { router: _ } = step {
+            if lends {
+                return match self.lend(router) {
+                    Ok(ticket) => (Ok(Some(done)), Some(ticket)),
+                    Err(refusal) => (Err(refusal), None),
+                };
+            }
+        }
+        match self.step(rt, step, share) {
+            Ok(()) => (Ok(Some(done)), None),
+            Err(refusal) => (Err(refusal), None),
+        }
+    }
+
+    // Lets the writer of a router that publishes next go out.
+    fn lend(&mut self, router: u16) -> Result<Ticket<B>, Refusal>
+        requires next { next_turn self.old router ≡ Some (Step.Publish router) }
+        ensures due { OnOk result (steps.Lawful (self.old).world (Step.Publish router)) }
+        ensures cause { IsDoneOr (fabric_refusal self.old (Step.Publish router)) result }
+        ensures fresh { IfOk result (λ t. (t.is_published ≡ false) × (t.before.router ≡ router)) }
+    {
+        self.fabric.ticket(router)
+    }
+
+    /// Ends a turn whose router's writer was out: it comes back, and where it has published, the number
+    /// of the publication is added to the share. Refused, the ticket comes back, and nothing changes.
+    pub fn finish(&mut self, ticket: Ticket<B>, share: &mut Share<N>) -> Result<(), Ticket<B>>
+        ensures sum { MatchResult result (λ _. share.new.sum ≡ share.old.sum + (if ticket.is_published then step_number (Step.Publish ticket.before.router) else 0)) (λ _. share.new.sum ≡ share.old.sum) }
+        ensures holder { IsHolder share.old share.new }
+        ensures ticket { IfErr result (λ t. t ≡ ticket) }
+    {
+        let published = ticket.is_published();
+        let router = ticket.router();
+        let number = Step::Publish { router }.number();
+        let Guarded {
+            fabric,
+            watch,
+            high,
+            low,
+        } = self;
+        let Share {
+            number: _,
+            sum,
+            halt: _,
+            high: own_high,
+            low: own_low,
+        } = share;
+        high.audit(own_high);
+        low.audit(own_low);
+        fabric.give_back(ticket)?;
+        watch.add(router);
+        if published {
+            // No journal's sum needs more than 128 bits.
+            let _sum = fabric.sum();
+            high.add(own_high, (number / UNIT) as u64);
+            low.add(own_low, (number % UNIT) as u64);
+            *sum += number;
+        }
+        Ok(())
     }
 
     /// An address to look up at a router, in an image no older than the one in force now.

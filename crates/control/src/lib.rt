@@ -2,14 +2,15 @@
 //! share, and all shares together add up to the journal's sum.
 #![tactic(auto)]
 
-mod alone;
 mod control;
+mod crowd;
 mod desk;
 mod guarded;
+mod pass;
 mod rounds;
 mod serve;
+mod watch;
 
-pub use alone::one_step;
 pub use desk::{Control, Naming, Opening, Share};
 pub use network_model::{Refusal, Step};
 pub use rounds::settle;

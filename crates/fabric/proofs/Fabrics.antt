@@ -1,5 +1,5 @@
 -- What a step leaves of what every fabric keeps.
-use Rattle.std.specs.Prelude.{◌≡◌, ℕ, zero, suc, ◌+◌, ◌*◌, ◌^◌, ◌<◌, ◌≤◌, cond, List, [], ◌∷◌, ◌++◌, map, length, set, Some, None, slice_get, option_map, option_and_then}
+use Rattle.std.specs.Prelude.{◌≡◌, ℕ, zero, suc, ◌+◌, ◌*◌, ◌^◌, ◌<◌, ◌≤◌, cond, List, [], ◌∷◌, ◌++◌, map, length, set, Option, Some, None, slice_get, option_map, option_and_then}
 use Rattle.std.specs.List.{AllByRecursion, range_with_len}
 use Rattle.std.proofs.Common.{refl, sym, ap, subst, ◌∙◌, arith, length-append}
 use Rattle.std.proofs.lemmas.List.{length-map}
@@ -14,13 +14,13 @@ use Rattle.network_model.specs.World.{Link, Router, World, Network, opening, ope
 use Rattle.network_model.specs.Step.{Lawful, next, is_due, changed_router, changed_link, with_cost, with_front_taken, with_message, with_delivered, with_noticed, with_notice_taken, with_released, front_at, notice_at, release_at, changed_attachments, router_accepting, router_at_home, router_publishing, router_releasing}
 use Rattle.network_model.specs.Run.{Runs}
 use Rattle.network_model.specs.Journal.{Fits, most_steps, step_number, journal_sum}
-use Rattle.network_model.specs.Publication.{Image, image_answer}
+use Rattle.network_model.specs.Publication.{Image, Patch, image_answer}
 use Rattle.network_model.proofs.ListLaws.{map-changed_at, option_map_or-ind, None_not_Some, Some_injective}
 use Rattle.network_model.proofs.WorldLaws.{routers-changed_link}
 use Rattle.world.specs.Steps.{HasRoomForSteps}
 use Rattle.world.proofs.Runs.{with_last_step, run-room, opening-room}
 use Rattle.fabric.specs.Images.{image_in_force, images_in_force, chosen_image, due_at}
-use Rattle.fabric.specs.Fabric.{Fabric, fabric_of, after_step, ForwardsAsPublished, IsKept, IsSumOf}
+use Rattle.fabric.specs.Fabric.{Fabric, fabric_of, after_step, count_lent, with_lent, ForwardsAsPublished, IsKept, IsSumOf}
 
 -- the journal is too short for a generation to pass 64 bits
 pub room_left : (f : Fabric) (capacity : ℕ) → IsKept f capacity → HasRoomForSteps 1 f.world
@@ -103,11 +103,11 @@ chosen-published n [] = refl
 chosen-published n (i ∷ is) = ap (λ xs. image_in_force (opening_router_of n i) ∷ xs) (chosen-published n is)
 
 -- a network at its opening, with the images of what its routers chose
-pub kept_at_opening : (n : Network) (journal : List Step) (w : World) (images : List Image) (capacity : ℕ) → journal ≡ [] → w ≡ opening n → images ≡ map chosen_image w.routers → most_steps ≤ capacity
-    → IsKept (fabric_of n journal w images) capacity
-kept_at_opening n journal w images capacity none opened chosen room = record {
+pub kept_at_opening : (n : Network) (journal : List Step) (w : World) (images : List Image) (lent : List (Option Patch)) (capacity : ℕ) → journal ≡ [] → w ≡ opening n → images ≡ map chosen_image w.routers → count_lent lent ≡ 0
+    → most_steps ≤ capacity → IsKept (fabric_of n journal w images lent) capacity
+kept_at_opening n journal w images lent capacity none opened chosen all_in room = record {
   runs = subst (λ ss. Runs (opening n) ss w) (sym none) (sym opened);
-  short = (let empty : length journal ≡ 0 = ap length none in omega (arith, empty));
+  short = (let empty : length journal ≡ 0 = ap length none in omega (arith, empty, all_in));
   room = room;
   in_force = chosen ∙ ap (λ (v : World). map chosen_image v.routers) opened ∙ chosen-published n (range_with_len 0 n.routers) ∙ sym (ap (λ (v : World). map image_in_force v.routers) opened);
 }
@@ -115,7 +115,7 @@ kept_at_opening n journal w images capacity none opened chosen room = record {
 -- ---- one step more
 
 -- a step leaves it
-kept_after : (f : Fabric) (s : Step) (capacity : ℕ) → IsKept f capacity → Lawful f.world s → length f.journal < most_steps → IsKept (after_step f s) capacity
+kept_after : (f : Fabric) (s : Step) (capacity : ℕ) → IsKept f capacity → Lawful f.world s → length f.journal + count_lent f.lent < most_steps → IsKept (after_step f s) capacity
 kept_after f s capacity kept lawful short = record {
   runs = with_last_step (opening f.network) f.journal f.world s kept.runs lawful;
   short = (let longer : length (f.journal ++ s ∷ []) ≡ length f.journal + 1 = length-append f.journal (s ∷ []) in omega (arith, longer, short));
@@ -138,10 +138,14 @@ images_due f i capacity image kept lawful due = by_router (due_of f.world i lawf
         ∙ images-published i f.world.routers r.0 r.1)
 
 -- so what is made of the parts after the step is the fabric after it, and keeps what every fabric keeps
-pub kept_as : (f g : Fabric) (s : Step) (capacity more : ℕ) → IsKept f capacity → Lawful f.world s → length f.journal < most_steps → after_step f s ≡ g → capacity ≤ more → IsKept g more
+pub kept_as : (f g : Fabric) (s : Step) (capacity more : ℕ) → IsKept f capacity → Lawful f.world s → length f.journal + count_lent f.lent < most_steps → after_step f s ≡ g → capacity ≤ more → IsKept g more
 kept_as f g s capacity more kept lawful short same room =
     let after = kept_after f s capacity kept lawful short in
     subst (λ (x : Fabric). IsKept x more) same (record { runs = after.runs; short = after.short; room = (let enough : most_steps ≤ capacity = kept.room in omega (arith, enough, room)); in_force = refl })
+
+-- what a writer that goes out or comes back leaves, where the journal has a place for it
+pub kept_lent : (f : Fabric) (i : ℕ) (l : Option Patch) (capacity : ℕ) → IsKept f capacity → length f.journal + count_lent (set f.lent i l) ≤ most_steps → IsKept (with_lent f i l) capacity
+kept_lent f i l capacity kept short = record { runs = kept.runs; short = short; room = kept.room; in_force = kept.in_force }
 
 -- ---- the sum of the journal
 

@@ -8,3 +8,5 @@ pub mod Dealing
 pub mod Showing
 pub mod Opening
 pub mod Publishing
+pub mod Lending
+pub mod Seats

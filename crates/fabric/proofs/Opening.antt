@@ -1,20 +1,23 @@
 -- A fabric that opens: its writers show the images of what its routers chose, and its readers are of its routers.
-use Rattle.std.specs.Prelude.{◌≡◌, ◌≤◌, ℕ, zero, suc, true, false, List, [], ◌∷◌, map, length, All, Some, slice_get, option_map}
+use Rattle.std.specs.Prelude.{◌≡◌, ◌≤◌, ℕ, zero, suc, true, false, List, [], ◌∷◌, map, length, replicate, All, Some, None, IfSome, slice_get, option_map, ⊤}
 use Rattle.std.proofs.Common.{refl, sym, ap, subst, ◌∙◌, arith}
 use Rattle.std.proofs.lemmas.List.{length-map}
+use Rattle.std.proofs.lemmas.List.FromFn.{length-map-range_with_len}
 use Rattle.std.proofs.lemmas.Option.{slice_get-map, get_or_from_slice_get}
 use Rattle.ipv4_prefix.specs.Prefix.{Prefix}
 use Rattle.network_model.specs.declared.route.Entry.{Entry}
 use Rattle.network_model.specs.declared.step.Step.{Step}
-use Rattle.network_model.specs.World.{Network, Router, World, opening}
+use Rattle.network_model.specs.World.{Network, Router, World, opening, opening_router_of}
 use Rattle.network_model.specs.Journal.{most_steps}
 use Rattle.network_model.specs.Publication.{Image}
 use Rattle.publication.specs.declared.known.Known.{Known}
 use Rattle.publication.specs.Lists.{EachAt, Writing, image_of, is_named, new_writing, opening_of}
-use Rattle.fabric.specs.Fabric.{fabric_of, opening_fabric, IsKept}
+use Rattle.fabric.specs.Desks.{Desk, all_lent, desk_in, writings}
+use Rattle.fabric.specs.Fabric.{count_lent, fabric_of, opening_fabric, IsKept}
 use Rattle.fabric.specs.Images.{chosen_image, images_in_force}
-use Rattle.fabric.specs.Writers.{AreReaders, AreWriters, IsPort, opening_tables, shown_images}
+use Rattle.fabric.specs.Writers.{ArePending, AreReaders, AreWriters, IsPending, IsPort, opening_tables, shown_images}
 use Rattle.fabric.proofs.Fabrics.{kept_at_opening}
+use Rattle.fabric.proofs.Lending.{count-none, none_lent}
 use Rattle.publication.proofs.Places.{each_there}
 
 -- ---- lists
@@ -72,15 +75,29 @@ module _ (n : Network) (openings : List (List (Prefix × Entry))) (tables : open
       shown_opening n openings tables writers each (count ∙ ap length chosen ∙ length-map (opening n).routers chosen_image)
       ∙ ap (λ (v : World). map chosen_image v.routers) (sym opened)
 
-  pub kept_open : (journal : List Step) (capacity : ℕ) → journal ≡ [] → most_steps ≤ capacity → IsKept (fabric_of n journal w (shown_images openings writers)) capacity
-  kept_open journal capacity none room = kept_at_opening n journal w (shown_images openings writers) capacity none opened shown_chosen room
+  -- all of them are in
+  all_in : all_lent (map desk_in writers) ≡ replicate n.routers None
+  all_in = none_lent writers ∙ ap (λ m. replicate m None) (count ∙ ap length chosen ∙ length-map (opening n).routers chosen_image ∙ length-map-range_with_len (opening_router_of n) 0 n.routers)
+
+  pub kept_open : (journal : List Step) (capacity : ℕ) → journal ≡ [] → most_steps ≤ capacity → IsKept (fabric_of n journal w (shown_images openings writers) (all_lent (map desk_in writers))) capacity
+  kept_open journal capacity none room = kept_at_opening n journal w (shown_images openings writers) (all_lent (map desk_in writers)) capacity none opened shown_chosen (ap count_lent all_in ∙ count-none n.routers) room
 
   -- so the fabric is the network at its opening
-  pub is_opening : (journal : List Step) → journal ≡ [] → fabric_of n journal w (shown_images openings writers) ≡ opening_fabric n
+  pub is_opening : (journal : List Step) → journal ≡ [] → fabric_of n journal w (shown_images openings writers) (all_lent (map desk_in writers)) ≡ opening_fabric n
   is_opening journal none =
-      ap (λ steps. fabric_of n steps w (shown_images openings writers)) none
-      ∙ ap (fabric_of n [] w) (kept_open [] most_steps refl (omega arith)).in_force
-      ∙ ap (λ v. fabric_of n [] v (images_in_force v)) opened
+      ap (λ steps. fabric_of n steps w (shown_images openings writers) (all_lent (map desk_in writers))) none
+      ∙ ap (λ images. fabric_of n [] w images (all_lent (map desk_in writers))) (kept_open [] most_steps refl (omega arith)).in_force
+      ∙ ap (λ v. fabric_of n [] v (images_in_force v) (all_lent (map desk_in writers))) opened
+      ∙ ap (fabric_of n [] (opening n) (images_in_force (opening n))) all_in
+
+-- no patch waits for its ticket where each writer is in
+pub none_pending : (w : World) (writers : List Writing) → ArePending w (map desk_in writers)
+none_pending w writers = each_map desk_in (λ i x. ⊤) (λ i d. IfSome d.out (λ p. ((d.writing).waiting ≡ p ∷ []) × IsPending w i p)) (λ i x _. tt) writers (λ i x _. tt)
+
+-- writers that are in are what they were
+pub writings_in : (writers : List Writing) → writings (map desk_in writers) ≡ writers
+writings_in [] = refl
+writings_in (x ∷ xs) = ap (λ ys. x ∷ ys) (writings_in xs)
 
 -- readers of all routers that have seen nothing are of their routers
 pub new_readers : (w : World) (port : List Known) → IsPort (length w.routers) port → AreReaders w port

@@ -82,14 +82,14 @@ due_there v w ws writers i waiting o patch worlds waits same some due =
     (subst (λ ps. IsPatchDue v i ps (Some patch)) (waits ∙ ap (λ xs. waiting_at xs i) same) (subst (IsPatchDue v i waiting) some due))
 
 -- a router that is there has a writer
-pub writer_within : (n : Network) (journal : List Step) (w : World) (openings : List (List (Prefix × Entry))) (writers : List Writing) (capacity : ℕ) → IsKept (fabric_of n journal w (shown_images openings writers)) capacity
+pub writer_within : (n : Network) (journal : List Step) (w : World) (openings : List (List (Prefix × Entry))) (writers : List Writing) (lent : List (Option Patch)) (capacity : ℕ) → IsKept (fabric_of n journal w (shown_images openings writers) lent) capacity
     → (i : ℕ) (r : Router) → slice_get w.routers i ≡ Some r → i < length writers
-writer_within n journal w openings writers capacity kept i r at =
-    subst (λ m. i < m) (length-map writers (λ (z : Writing). image_of openings z.published)) (image_at (fabric_of n journal w (shown_images openings writers)) capacity kept i r at)
+writer_within n journal w openings writers lent capacity kept i r at =
+    subst (λ m. i < m) (length-map writers (λ (z : Writing). image_of openings z.published)) (image_at (fabric_of n journal w (shown_images openings writers) lent) capacity kept i r at)
 
-pub is_due_by : (n : Network) (journal : List Step) (w : World) (openings : List (List (Prefix × Entry))) (writers : List Writing) (capacity : ℕ) → IsKept (fabric_of n journal w (shown_images openings writers)) capacity
+pub is_due_by : (n : Network) (journal : List Step) (w : World) (openings : List (List (Prefix × Entry))) (writers : List Writing) (lent : List (Option Patch)) (capacity : ℕ) → IsKept (fabric_of n journal w (shown_images openings writers) lent) capacity
     → AreWriters w writers → IsNetwork n → (i : ℕ) (x : Writing) → x ≡ get_or writers i x → (patch : PatchFields) → IsPatchDue w i (waiting_at writers i) (Some patch) → IsDue n journal w openings writers i x patch
-is_due_by n journal w openings writers capacity kept are valid i x is patch due = record {
+is_due_by n journal w openings writers lent capacity kept are valid i x is patch due = record {
   valid = valid;
   runs = kept.runs;
   shown = kept.in_force;
@@ -102,7 +102,7 @@ is_due_by n journal w openings writers capacity kept are valid i x is patch due 
 }
   where
     there : slice_get writers i ≡ Some x
-    there = slice_get-get_or writers i x (writer_within n journal w openings writers capacity kept i due.0 due.1) ∙ ap Some (sym is)
+    there = slice_get-get_or writers i x (writer_within n journal w openings writers lent capacity kept i due.0 due.1) ∙ ap Some (sym is)
 
 module _ (n : Network) (journal : List Step) (w : World) (openings : List (List (Prefix × Entry))) (writers : List Writing) (i : ℕ) (x : Writing) (patch : PatchFields) (D : IsDue n journal w openings writers i x patch) where
   abbrev r : Router

@@ -27,7 +27,15 @@ module _ (openings : List (List (Prefix × Entry))) (w : World) (writers : List 
   answer_is addr = ap (option_map (λ r. answer_of addr (image_in_force r))) router_of.1 ∙ ap (λ image. Some (answer_of addr image)) (sym router_of.2)
 
   -- and the writer's list has as many publications as its router has made
-  pub list_is_last : (told : Known) → told ≡ x.published → length x.published.publications ≡ generation_of x.published → IfSome (slice_get w.routers i) (λ r. length told.publications ≡ r.generation)
+  pub list_is_last : (told : Known) → told ≡ x.published → length told.publications ≡ generation_of told → IfSome (slice_get w.routers i) (λ r. length told.publications ≡ r.generation)
   list_is_last told is counted =
       subst (λ o. IfSome o (λ (r : Router). length told.publications ≡ r.generation)) (sym router_of.1)
-      (ap (λ (k : Known). length k.publications) is ∙ counted ∙ ap (λ (image : Image). image.generation) router_of.2)
+      (counted ∙ ap (λ (k : Known). generation_of k) is ∙ ap (λ (image : Image). image.generation) router_of.2)
+
+-- what images in force answer is what their routers do
+pub answer_shown : (w : World) (images : List Image) → images ≡ images_in_force w → (i : ℕ) (image : Image) → slice_get images i ≡ Some image → (addr : ℕ) → answer_at w i addr ≡ Some (answer_of addr image)
+answer_shown w images same i image at addr = by_router (slice_get w.routers i) (sym at ∙ ap (λ xs. slice_get xs i) same ∙ slice_get-map image_in_force w.routers i)
+  where
+    by_router : (o : Option Router) → Some image ≡ option_map image_in_force o → option_map (λ r. answer_of addr (image_in_force r)) o ≡ Some (answer_of addr image)
+    by_router None none = absurd (None_not_Some (sym none))
+    by_router (Some r) is = ap (λ x. Some (answer_of addr x)) (sym (Some_injective is))

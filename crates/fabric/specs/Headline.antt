@@ -1,30 +1,42 @@
 -- What holds of every fabric: no packet circles along the images in force, and at quiet rows lead along least-cost walks.
-use Rattle.std.specs.Prelude.{◌≡◌, ℕ, ◌<◌, true, false, List, [], ◌∷◌, Option, Some, slice_get, option_and_then, ⊤}
+use Rattle.std.specs.Prelude.{◌≡◌, ℕ, ◌<◌, Bool, true, false, ◌&&◌, if◌then◌else◌, List, [], ◌∷◌, Option, Some, slice_get, option_map, option_and_then, ⊤}
 use Rattle.ipv4_prefix.specs.Prefix.{Prefix}
 use Rattle.network_model.specs.declared.route.Entry.{Entry}
-use Rattle.network_model.specs.Publication.{image_answer}
+use Rattle.network_model.specs.Publication.{Image, image_answer}
+use Rattle.network_model.specs.Step.{router_publishing}
 use Rattle.network_model.specs.Forwarding.{entry_leads, is_quiet}
 use Rattle.loop_freedom.specs.Network.{meets_twice}
 use Rattle.quiet_routes.specs.Routes.{HasBestRow}
-use Rattle.fabric.specs.Fabric.{Fabric}
+use Rattle.fabric.specs.Fabric.{Fabric, is_lent}
+use Rattle.fabric.specs.Images.{image_in_force}
 
--- the row that the image in force at router i gives for an address
-abbrev pub image_row : Fabric → ℕ → ℕ → Option (Prefix × Entry)
-image_row f i addr = option_and_then (λ image. image_answer image addr) (slice_get f.images i)
+-- ---- mixtures: of the routers whose writers are out, some forward by what they have chosen, where by_control says so, the others by what they published
+
+-- the image that router i has in force in a mixture: its own, or the one that its writer is out to publish
+abbrev pub mixture_image : Fabric → (ℕ → Bool) → ℕ → Option Image
+mixture_image f by_control i = if by_control i && is_lent f i then option_map (λ r. image_in_force (router_publishing r)) (slice_get f.world.routers i) else slice_get f.images i
+
+-- the mixture in which no ticket has published
+abbrev pub none_published : ℕ → Bool
+none_published i = false
+
+-- the row that this image gives for an address
+abbrev pub image_row : Fabric → (ℕ → Bool) → ℕ → ℕ → Option (Prefix × Entry)
+image_row f by_control i addr = option_and_then (λ image. image_answer image addr) (mixture_image f by_control i)
 
 -- a packet for the address, matched by this prefix in the image in force at router i, goes from there to router k: the row's link is up in the row's session, and k is at its far end
-abbrev pub IsSentOn : Fabric → ℕ → Prefix → ℕ → ℕ → Type 0
-IsSentOn f addr p i k = (entry : Entry) × (image_row f i addr ≡ Some (p, entry)) × (entry_leads f.world i entry ≡ Some k)
+abbrev pub IsSentOn : Fabric → (ℕ → Bool) → ℕ → Prefix → ℕ → ℕ → Type 0
+IsSentOn f by_control addr p i k = (entry : Entry) × (image_row f by_control i addr ≡ Some (p, entry)) × (entry_leads f.world i entry ≡ Some k)
 
 -- a way of a packet along the images in force, at routers that match its address by one prefix, but perhaps the last
-abbrev pub IsImageWalk : Fabric → ℕ → Prefix → List ℕ → Type 0
-IsImageWalk f addr p [] = ⊤
-IsImageWalk f addr p (i ∷ []) = ⊤
-IsImageWalk f addr p (i ∷ k ∷ ks) = IsSentOn f addr p i k × IsImageWalk f addr p (k ∷ ks)
+abbrev pub IsImageWalk : Fabric → (ℕ → Bool) → ℕ → Prefix → List ℕ → Type 0
+IsImageWalk f by_control addr p [] = ⊤
+IsImageWalk f by_control addr p (i ∷ []) = ⊤
+IsImageWalk f by_control addr p (i ∷ k ∷ ks) = IsSentOn f by_control addr p i k × IsImageWalk f by_control addr p (k ∷ ks)
 
--- no packet that is matched by one prefix at every hop meets a router twice
+-- whichever of the writers that are out have published, no packet that is matched by one prefix at every hop meets a router twice
 abbrev pub NeverMeetsTwice : Fabric → Type 0
-NeverMeetsTwice f = (addr : ℕ) (p : Prefix) (walk : List ℕ) → IsImageWalk f addr p walk → meets_twice walk ≡ false
+NeverMeetsTwice f = (by_control : ℕ → Bool) (addr : ℕ) (p : Prefix) (walk : List ℕ) → IsImageWalk f by_control addr p walk → meets_twice walk ≡ false
 
 -- where all is quiet, each router's row for each prefix is the best: it begins a least-cost walk to an attached router, the cost of its attachment included, or says that there is none
 abbrev pub LeadsAtLeastCost : Fabric → Type 0

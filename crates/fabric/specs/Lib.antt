@@ -1,3 +1,5 @@
+pub mod Desks
+pub mod Places
 pub mod Fabric
 pub mod Images
 pub mod Patches

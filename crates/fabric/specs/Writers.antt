@@ -1,13 +1,17 @@
 -- The writers that publish the images of a fabric's routers, and the readers by which the fabric looks up in them.
-use Rattle.std.specs.Prelude.{◌≡◌, ◌≤◌, ℕ, true, List, [], map, length, All, IsSome, slice_get, option_and_then}
+use Rattle.std.specs.Prelude.{◌≡◌, ◌≤◌, ℕ, true, List, [], ◌∷◌, map, length, All, IsSome, IfSome, Some, slice_get, option_and_then}
 use Rattle.std.specs.FinMap.{find as row_of}
 use Rattle.std.specs.Option.{option_map_or}
 use Rattle.ipv4_prefix.specs.Prefix.{Prefix, prefix_cmp}
 use Rattle.network_model.specs.declared.route.Entry.{Entry}
-use Rattle.network_model.specs.World.{Network, World, opening}
+use Rattle.network_model.specs.World.{Network, Router, World, opening}
+use Rattle.network_model.specs.Step.{is_due, router_publishing}
 use Rattle.network_model.specs.Publication.{Image, Patch}
 use Rattle.publication.specs.declared.known.Known.{Known}
 use Rattle.publication.specs.Lists.{EachAt, Writing, image_of, is_named, no_patches, prefixes_of}
+use Rattle.image_patch.specs.Patches.{patched}
+use Rattle.fabric.specs.Desks.{Desk}
+use Rattle.fabric.specs.Images.{image_in_force}
 
 -- the rows that each router of a network has chosen when it opens, by the routers' numbers
 abbrev pub opening_tables : Network → List (List (Prefix × Entry))
@@ -33,6 +37,17 @@ AreHeard w i waiting = (p : Prefix) → is_named waiting p ≡ true → IsHeard 
 pub record AreWriters (w : World) (writers : List Writing) : Type 0 where
   pub numbered : EachAt (λ i x. (x.published).router ≡ i) writers
   pub heard : EachAt (λ i x. AreHeard w i x.waiting) writers
+
+-- the patch with which router i's writer is out is still due: it makes of what the router published what it has chosen
+pub record IsPending (w : World) (i : ℕ) (patch : Patch) : Type 0 where
+  pub router : Router
+  pub is_router : slice_get w.routers i ≡ Some router
+  pub due : is_due router ≡ true
+  pub makes : patched patch.generation patch.rows (image_in_force router) ≡ image_in_force (router_publishing router)
+
+-- so is each patch with which a writer is out, and it stands for what waits with that
+abbrev pub ArePending : World → List Desk → Type 0
+ArePending w desks = EachAt (λ i d. IfSome d.out (λ p. ((d.writing).waiting ≡ p ∷ []) × IsPending w i p)) desks
 
 -- each router has a reader, and each reader is of its router
 pub record AreReaders (w : World) (views : List Known) : Type 0 where

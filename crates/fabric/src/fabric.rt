@@ -1,23 +1,27 @@
 //! The fabric: a world, the images in force, and the journal.
 
-ghost use Rattle.std.specs.Prelude.{ℕ, None, Some, Err, IsTrue, ◌≡◌, ◌≢◌, ◌⊎◌, ◌≤◌, ◌++◌, ◌<◌, ◌↔◌, [], ◌∷◌, take, length, slice_get, vec_len, All, IfOk, IfErr, IfSome, IsOk, OnOk, OnErr, MatchOption};
+ghost use Rattle.std.specs.Prelude.{ℕ, None, Some, Err, IsTrue, ◌≡◌, ◌≢◌, ◌⊎◌, ◌≤◌, ◌++◌, ◌+◌, ◌<◌, ◌↔◌, [], ◌∷◌, take, length, slice_get, vec_len, All, IfOk, IfErr, IfSome, IsSome, IsOk, OnOk, OnErr, MatchBool, MatchOption, false};
 ghost use Rattle.network_model.specs.World as model;
 ghost use Rattle.network_model.specs.Step as steps;
 ghost use Rattle.network_model.specs.Run.{Runs};
 ghost use Rattle.network_model.specs.Journal.{journal_sum, most_steps, steps_in_sum};
 ghost use Rattle.world.specs.Steps.{DiscardsStale, IsDoneOr, StopsAt};
 ghost use Rattle.publication.specs.Lists.{answer_of as seen_answer, image_of};
-ghost use Rattle.fabric.specs.Fabric.{opening_fabric, after_step, fabric_refusal, ForwardsAsPublished};
-ghost use Rattle.fabric.specs.Images.{answer_at};
+ghost use Rattle.publication.specs.Outings.{new_outing};
+ghost use Rattle.fabric.specs.Desks.{all_lent, writings};
+ghost use Rattle.fabric.specs.Fabric.{opening_fabric, after_step, awaits_writer, count_lent, fabric_refusal, lent_at, next_step, with_lent, ForwardsAsPublished};
+ghost use Rattle.image_patch.specs.Patches.{patched};
+ghost use Rattle.fabric.specs.Images.{answer_at, due_at};
 ghost use Rattle.fabric.specs.Headline.{NeverMeetsTwice, LeadsAtLeastCost};
 ghost use Rattle.fabric.specs.Writers.{IsPort, opening_tables, waiting_at};
 ghost use Rattle.network_model.specs.Turns as turns;
 
+use crate::desk::{Desk, close_all, seat_all};
 use crate::images::{opening_images, patch_due};
 use crate::ports::deal;
 use crate::watched::WatchedWorld;
 use network_model::{Answer, Prefix, Refusal, Step};
-use publication::{ImageReader, ImageWriter, Job, Naming, Told, Unnamed, close_all, open_all};
+use publication::{ImageReader, Job, Naming, Ticket, Told, Unnamed, copy_of, open_all};
 use route_table::RouteTable;
 use std::alloc::Global;
 use std::marker::Model;
@@ -32,27 +36,31 @@ pub const MOST_STEPS: usize = 1_000_000;
 pub struct Fabric<B: Naming> {
     network: Network,
     world: WatchedWorld,
-    // The writer of each router's image.
-    writers: Vec<ImageWriter<B>>,
+    // The writer of each router's image, or what is kept of it while it is out.
+    desks: Vec<Desk<B>>,
     // A reader of each router's image, for `lookup`.
     readers: Vec<ImageReader<B>>,
     // Its room was made at the opening.
     journal: Vec<Step>,
+    // How many of its places are set aside for writers that are out.
+    set_aside: usize,
     // The sum of the numbers of its steps.
     sum: u128,
 }
 
 impl<B: Naming> Model for Fabric<B> {
-    ghost use Rattle.std.specs.Prelude.{vec_capacity};
-    ghost use Rattle.fabric.specs.Fabric.{Fabric as FabricState, fabric_of, IsKept, IsSumOf};
-    ghost use Rattle.fabric.specs.Writers.{AreReaders, AreWriters, shown_images};
+    ghost use Rattle.std.specs.Prelude.{◌≡◌, vec_capacity};
+    ghost use Rattle.fabric.specs.Fabric.{Fabric as FabricState, count_lent, fabric_of, IsKept, IsSumOf};
+    ghost use Rattle.fabric.specs.Desks.{all_lent, writings};
+    ghost use Rattle.fabric.specs.Writers.{ArePending, AreReaders, AreWriters, shown_images};
 
     ghost Value = { FabricState };
 
-    ghost view = { λ f. fabric_of f.network f.journal.items f.world (shown_images B.openings f.writers.items) };
+    ghost view = { λ f. fabric_of f.network f.journal.items f.world (shown_images B.openings (writings f.desks.items)) (all_lent f.desks.items) };
 
-    ghost invariant = { λ f. IsKept (fabric_of f.network f.journal.items f.world (shown_images B.openings f.writers.items)) (vec_capacity f.journal)
-        × AreWriters f.world f.writers.items × AreReaders f.world f.readers.items × IsSumOf f.journal.items f.sum };
+    ghost invariant = { λ f. IsKept (fabric_of f.network f.journal.items f.world (shown_images B.openings (writings f.desks.items)) (all_lent f.desks.items)) (vec_capacity f.journal)
+        × AreWriters f.world (writings f.desks.items) × ArePending f.world f.desks.items × AreReaders f.world f.readers.items × IsSumOf f.journal.items f.sum
+        × (f.set_aside ≡ count_lent (all_lent f.desks.items)) };
 }
 
 impl<B: Naming> Fabric<B> {
@@ -82,16 +90,18 @@ impl<B: Naming> Fabric<B> {
         let images = opening_images(alloc, world.world())?;
         let journal = Vec::with_capacity(alloc, MOST_STEPS)?;
         let (writers, lists) = open_all::<B, R>(rt, alloc, unnamed, images, workers + 1)?;
+        let desks = seat_all(rt, alloc, writers)?;
         let Ok((readers, ports)) = deal(alloc, lists, workers) else {
-            close_all(rt, writers);
+            close_all(rt, desks);
             return Err(Refusal::NoMemory);
         };
         let fabric = Fabric {
             network,
             world,
-            writers,
+            desks,
             readers,
             journal,
+            set_aside: 0,
             sum: 0,
         };
         fabric.holds();
@@ -133,11 +143,51 @@ impl<B: Naming> Fabric<B> {
 
     /// What a router has to do next: the first of a release, a publication, and a delivery by ascending
     /// port that is lawful, the notices of its attachments last; none where nothing is, or where there
-    /// is no such router.
+    /// is no such router. While the router's writer is out it is a release or none.
     pub fn next_step(&self, router: u16) -> Option<Step>
-        ensures { result ≡ turns.next_step (self.now).world router }
+        ensures { result ≡ next_step self.now router }
     {
-        self.world().next_step(router)
+        let step = self.world().next_step(router)?;
+        if self.awaits_writer(&step) {
+            return None;
+        }
+        Some(step)
+    }
+
+    // Whether a step has to wait for a writer that is out.
+    fn awaits_writer(&self, step: &Step) -> bool
+        ensures { result ≡ awaits_writer self.now step.now }
+    {
+        match *step {
+            Step::Deliver { router, port: _ } | Step::Publish { router } => {
+                match self.desks.get(usize::from(router)) {
+                    Some(desk) => desk.is_out(),
+                    None => false,
+                }
+            }
+            Step::LinkUp { .. }
+            | Step::LinkDown { .. }
+            | Step::SetCost { .. }
+            | Step::Release { .. }
+            | Step::Attach { .. }
+            | Step::Detach { .. } => false,
+        }
+    }
+
+    // Whether the journal has a place for a step, which then waits for no writer.
+    fn admits(&self, step: &Step) -> Result<(), Refusal>
+        ensures place { OnOk result (length (self.now).journal + count_lent (self.now).lent < most_steps) }
+        ensures free { OnOk result (awaits_writer self.now step.now ≡ false) }
+        ensures cause { OnOk result (fabric_refusal self.now step.now ≡ steps.refusal (self.now).world step.now) }
+        ensures err { IfErr result (λ e. fabric_refusal self.now step.now ≡ Some e) }
+    {
+        if self.journal.len() + self.set_aside >= MOST_STEPS {
+            return Err(Refusal::JournalFull);
+        }
+        if self.awaits_writer(step) {
+            return Err(Refusal::Busy);
+        }
+        Ok(())
     }
 
     /// Whether nothing is left to do: no item is queued on any link, no notice waits, nothing is due,
@@ -153,19 +203,29 @@ impl<B: Naming> Fabric<B> {
 
     /// What the image in force at a router answers for an address: its generation, and the row with
     /// the longest prefix that covers the address, of the rows that the router published. It takes no
-    /// memory, and waits for nobody. Refused with `UnknownRouter`; with `Stale` or `NoImage` where the
-    /// reader shows a later image or none, which does not happen.
+    /// memory, and waits for nobody. Refused with `UnknownRouter`; with `Stale` where the reader shows a
+    /// later image, as it does from a ticket's publication until the ticket is back; with `NoImage` where
+    /// it shows none, which does not happen.
     pub fn lookup(&mut self, router: u16, addr: u32) -> Result<Answer, Refusal>
         ensures ok { IfOk result (λ a. answer_at (self.old).world router addr ≡ Some a) }
         ensures err { IfErr result (λ e. MatchOption (answer_at (self.old).world router addr) (e ≡ Refusal.UnknownRouter) (λ _. (e ≡ Refusal.Stale) ⊎ (e ≡ Refusal.NoImage))) }
         ensures same { self.new ≡ self.old }
     {
-        let place = usize::from(router);
-        let Some(writer) = self.writers.get(place) else {
+        let Some(told) = self.told(router) else {
             return Err(Refusal::UnknownRouter);
         };
-        let told = writer.tell();
-        ask(&mut self.readers[place], &told, addr)
+        ask(&mut self.readers[usize::from(router)], &told, addr)
+    }
+
+    // What a router's writer had published when the fabric had it last; none where there is no such router.
+    fn told(&self, router: u16) -> Option<Told<B>>
+        ensures router { IfSome result (λ t. t.router ≡ router) }
+        ensures in_force { IfSome result (λ t. slice_get (self.now).images router ≡ Some (image_of B.openings t)) }
+        ensures last { IfSome result (λ t. IfSome (slice_get (self.now).world.routers router) (λ r. length t.publications ≡ r.generation)) }
+        ensures known { IsSome result ↔ (router < length (self.now).world.routers) }
+    {
+        let desk = self.desks.get(usize::from(router))?;
+        Some(desk.told())
     }
 
     /// An address for a worker to look up at a router, in an image no older than the one in force now:
@@ -178,17 +238,8 @@ impl<B: Naming> Fabric<B> {
         ensures known { IsOk result ↔ (router < length (self.now).world.routers) }
         ensures err { IfErr result (λ e. e ≡ Refusal.UnknownRouter) }
     {
-        let Some(writer) = self.writers.get(usize::from(router)) else {
-            return Err(Refusal::UnknownRouter);
-        };
-        // It counts the publications.
-        let _generation = writer.generation();
-        let last = writer.tell();
-        Ok(Job {
-            number,
-            addr,
-            told: last,
-        })
+        let told = self.told(router).ok_or(Refusal::UnknownRouter)?;
+        Ok(Job { number, addr, told })
     }
 
     /// The rows that a router has chosen and published. Refused with `UnknownRouter`.
@@ -206,8 +257,9 @@ impl<B: Naming> Fabric<B> {
     }
 
     /// Does one step, and writes it into the journal. Refused, it leaves all as it was: with
-    /// `JournalFull` where the journal is full, then as the world refuses it; want of memory comes
-    /// last. The release of a stale message takes none.
+    /// `JournalFull` where the journal has no place left, some of which may be set aside for tickets; with
+    /// `Busy` for a delivery or a publication at a router whose writer is out; then as the world refuses
+    /// it; want of memory comes last. The release of a stale message takes none.
     pub fn step<R: Wait>(&mut self, rt: &R, step: Step) -> Result<(), Refusal>
         ensures ok { OnOk result (steps.Lawful (self.old).world step × (self.new ≡ after_step self.old step)) }
         ensures err { OnErr result (self.new ≡ self.old) }
@@ -228,9 +280,7 @@ impl<B: Naming> Fabric<B> {
         ensures cause { IsDoneOr (fabric_refusal self.old step) result }
         ensures stale { fabric_refusal self.old step ≡ None → DiscardsStale (self.old).world step result }
     {
-        if self.journal.len() >= MOST_STEPS {
-            return Err(Refusal::JournalFull);
-        }
+        self.admits(&step)?;
         let again = step;
         let sum = self.sum + step.number();
         match step {
@@ -238,10 +288,10 @@ impl<B: Naming> Fabric<B> {
                 let alloc = *self.journal.allocator();
                 // The chosen rows of a network's routers are of all that they have heard of.
                 let _routers = self.network.routers();
-                let waiting = waiting_at(&self.writers, router);
+                let waiting = waiting_at(&self.desks, router);
                 match patch_due(alloc, self.world.world(), router, waiting)? {
                     Some(patch) => {
-                        self.writers[usize::from(router)].publish(rt, patch)?;
+                        self.desks[usize::from(router)].publish(rt, patch)?;
                         self.world.step(step).unwrap();
                     }
                     None => self.world.step(step)?,
@@ -251,6 +301,105 @@ impl<B: Naming> Fabric<B> {
         }
         self.sum = sum;
         self.journal.push(again).unwrap();
+        Ok(())
+    }
+
+    /// Lets a router's writer go out with the patch that is due, of which a copy stays, and sets a place of
+    /// the journal aside. Until the writer is back, deliveries and publications at the router are refused
+    /// with `Busy`. Refused, it leaves all as it was: with `JournalFull` where no place is left, with
+    /// `UnknownRouter`, with `Busy` where the writer is out, with `NothingDue`, or for want of memory.
+    pub fn ticket(&mut self, router: u16) -> Result<Ticket<B>, Refusal>
+        ensures due { OnOk result (steps.Lawful (self.old).world (Step.Publish router)) }
+        ensures fresh { IfOk result (λ t. (t.before.router ≡ router) × (t.is_published ≡ false)) }
+        ensures in_force { IfOk result (λ t. slice_get (self.old).images router ≡ Some (image_of B.openings t.before)) }
+        ensures patch { IfOk result (λ t. due_at (self.old).world router ≡ Some (patched t.patch.generation t.patch.rows (image_of B.openings t.before))) }
+        ensures ok { IfOk result (λ t. self.new ≡ with_lent self.old router (Some t.patch)) }
+        ensures err { OnErr result (self.new ≡ self.old) }
+        ensures cause { IsDoneOr (fabric_refusal self.old (Step.Publish router)) result }
+        ensures forwards { ForwardsAsPublished self.new }
+        ensures no_loop { NeverMeetsTwice self.new }
+        ensures least_cost { LeadsAtLeastCost self.new }
+    {
+        let made = self.make_ticket(router);
+        self.holds();
+        made
+    }
+
+    fn make_ticket(&mut self, router: u16) -> Result<Ticket<B>, Refusal>
+        ensures due { OnOk result (steps.Lawful (self.old).world (Step.Publish router)) }
+        ensures fresh { IfOk result (λ t. (t.before.router ≡ router) × (t.is_published ≡ false)) }
+        ensures in_force { IfOk result (λ t. slice_get (self.old).images router ≡ Some (image_of B.openings t.before)) }
+        ensures patch { IfOk result (λ t. due_at (self.old).world router ≡ Some (patched t.patch.generation t.patch.rows (image_of B.openings t.before))) }
+        ensures ok { IfOk result (λ t. self.new ≡ with_lent self.old router (Some t.patch)) }
+        ensures err { OnErr result (self.new ≡ self.old) }
+        ensures cause { IsDoneOr (fabric_refusal self.old (Step.Publish router)) result }
+    {
+        self.admits(&Step::Publish { router })?;
+        let alloc = *self.journal.allocator();
+        // The chosen rows of a network's routers are of all that they have heard of.
+        let _routers = self.network.routers();
+        let waiting = waiting_at(&self.desks, router);
+        let Some(patch) = patch_due(alloc, self.world.world(), router, waiting)? else {
+            return Err(self.why_not_due(router));
+        };
+        let copy = copy_of(&patch)?;
+        self.set_aside += 1;
+        Ok(self.desks[usize::from(router)].lend(patch, copy))
+    }
+
+    // Why a router does not publish.
+    fn why_not_due(&self, router: u16) -> Refusal
+        requires { due_at (self.now).world router ≡ None }
+        ensures { steps.refusal (self.now).world (Step.Publish router) ≡ Some result }
+    {
+        match self.world().routers().get(usize::from(router)) {
+            Some(_) => Refusal::NothingDue,
+            None => Refusal::UnknownRouter,
+        }
+    }
+
+    /// Takes a router's writer back. Where its ticket has published, that is the step `Publish`, which is
+    /// written into the journal; else the place that was set aside is free again, and there is no step.
+    /// It takes no memory. Refused, the ticket comes back, and all is as it was: the router's writer is in,
+    /// or is out with another patch.
+    pub fn give_back(&mut self, ticket: Ticket<B>) -> Result<(), Ticket<B>>
+        ensures its { IsOk result ↔ (lent_at (self.old).lent ticket.before.router ≡ Some ticket.patch) }
+        ensures done { OnOk result (MatchBool ticket.is_published (steps.Lawful (self.old).world (Step.Publish ticket.before.router)
+            × (self.new ≡ after_step (with_lent self.old ticket.before.router None) (Step.Publish ticket.before.router)))
+            (self.new ≡ with_lent self.old ticket.before.router None)) }
+        ensures ticket { IfErr result (λ t. t ≡ ticket) }
+        ensures same { OnErr result (self.new ≡ self.old) }
+        ensures forwards { ForwardsAsPublished self.new }
+        ensures no_loop { NeverMeetsTwice self.new }
+        ensures least_cost { LeadsAtLeastCost self.new }
+    {
+        let done = self.take_ticket(ticket);
+        self.holds();
+        done
+    }
+
+    fn take_ticket(&mut self, ticket: Ticket<B>) -> Result<(), Ticket<B>>
+        ensures its { IsOk result ↔ (lent_at (self.old).lent ticket.before.router ≡ Some ticket.patch) }
+        ensures done { OnOk result (MatchBool ticket.is_published (steps.Lawful (self.old).world (Step.Publish ticket.before.router)
+            × (self.new ≡ after_step (with_lent self.old ticket.before.router None) (Step.Publish ticket.before.router)))
+            (self.new ≡ with_lent self.old ticket.before.router None)) }
+        ensures ticket { IfErr result (λ t. t ≡ ticket) }
+        ensures same { OnErr result (self.new ≡ self.old) }
+    {
+        let router = ticket.router();
+        let published = ticket.is_published();
+        let place = usize::from(router);
+        if place >= self.desks.len() {
+            return Err(ticket);
+        }
+        self.desks[place].take_back(ticket)?;
+        self.set_aside -= 1;
+        if published {
+            let step = Step::Publish { router };
+            self.world.step(step).unwrap();
+            self.sum += step.number();
+            self.journal.push(step).unwrap();
+        }
         Ok(())
     }
 
@@ -290,21 +439,23 @@ impl<B: Naming> Fabric<B> {
         ensures no_loop { NeverMeetsTwice self.now }
         ensures least_cost { LeadsAtLeastCost self.now }
     {
-        let _writers = &self.writers;
+        let _desks = &self.desks;
         let _routers = self.network.routers();
     }
 
-    /// Ends the fabric. It waits for readers that are looking up; from then on they find no image.
+    /// Ends the fabric, with the writers that are in. It waits for readers that are looking up; from then
+    /// on they find no image.
     pub fn close<R: Wait>(self, rt: &R) {
         let Fabric {
             network: _network,
             world: _world,
-            writers,
+            desks,
             readers: _readers,
             journal: _journal,
+            set_aside: _,
             sum: _,
         } = self;
-        close_all(rt, writers);
+        close_all(rt, desks);
     }
 }
 
@@ -326,12 +477,12 @@ fn ask<B: Naming>(reader: &mut ImageReader<B>, told: &Told<B>, addr: u32) -> Res
     Ok(answer)
 }
 
-// The prefixes that wait with a router's writer; none where there is no such router.
-fn waiting_at<B: Naming>(writers: &[ImageWriter<B>], router: u16) -> &[Prefix]
-    ensures { result.now ≡ waiting_at writers.now router }
+// The prefixes that wait with a router's writer, which is in; none where there is no such router.
+fn waiting_at<B: Naming>(desks: &[Desk<B>], router: u16) -> &[Prefix]
+    ensures { lent_at (all_lent desks.now) router ≡ None → result.now ≡ waiting_at (writings desks.now) router }
 {
-    match writers.get(usize::from(router)) {
-        Some(writer) => writer.waiting(),
+    match desks.get(usize::from(router)) {
+        Some(desk) => desk.waiting(),
         None => &[],
     }
 }

@@ -5,7 +5,8 @@ ghost use Rattle.fabric.specs.Writers.{opening_tables};
 ghost use Rattle.control.specs.Names.{IsNamed};
 
 use crate::networks::two_routers;
-use control::{Control, Naming, Opening, Refusal, Share, Step, TurnGate, one_step, settle};
+use crate::outside::publish_outside;
+use control::{Control, Naming, Opening, Refusal, Share, Step, TurnGate, settle};
 use fabric::{Fabric, MOST_STEPS, Network, Unnamed};
 use network_model::Cost;
 use std::alloc::Global;
@@ -18,7 +19,7 @@ use std::thread;
 use std::thread::Threads;
 use std::time::{Clock, Duration};
 
-const UP: Step = Step::LinkUp { link: 0 };
+pub(crate) const UP: Step = Step::LinkUp { link: 0 };
 
 const DOWN: Step = Step::LinkDown { link: 0 };
 
@@ -32,7 +33,7 @@ enum Trial {
     Meets,
     Serves,
     IsRefused { router: u16 },
-    OneStep,
+    PublishOutside,
     Settles,
 }
 
@@ -70,7 +71,6 @@ where
         return Err("open".into());
     };
     let (fabric, done) = match trial {
-        Trial::OneStep => one(rt, alloc, fabric),
         Trial::Settles => settles(rt, alloc, fabric, shares),
         _ => controlled::<B, Brand, H>(rt, alloc, Opening::new(shares), fabric, trial),
     };
@@ -136,6 +136,7 @@ where
             (shares, done)
         }
         Trial::Meets => meets(rt, control, shares),
+        Trial::PublishOutside => publish_outside(rt, control, shares),
         Trial::IsRefused { router } => is_refused(rt, control, shares, router),
         _ => serves(rt, control, shares),
     }
@@ -172,24 +173,6 @@ fn steps_by_hand(rt: HostRuntime) -> Result<(), Fail> {
     two(&rt, rt.alloc(), 1, Trial::ByHand)
 }
 
-fn one<B: publication::Naming, H: Wait + Abort>(
-    rt: &H,
-    alloc: Global,
-    fabric: Fabric<B>,
-) -> (Fabric<B>, Result<(), Fail>) {
-    let (fabric, up) = one_step(rt, alloc, fabric, UP);
-    assert_eq!(rt; up, Ok(()));
-    let (fabric, again) = one_step(rt, alloc, fabric, UP);
-    assert_eq!(rt; again, Err(Refusal::AlreadyUp));
-    assert_eq!(rt; fabric.journal(), [UP].as_slice());
-    (fabric, Ok(()))
-}
-
-#[test]
-fn one_step_alone(rt: HostRuntime) -> Result<(), Fail> {
-    two(&rt, rt.alloc(), 1, Trial::OneStep)
-}
-
 // ---- threads that serve
 
 // Lets turns go on as they like.
@@ -197,6 +180,8 @@ struct Open;
 
 impl TurnGate for Open {
     fn before(&self, _thread: u8, _turn: u64) {}
+
+    fn publishing(&self, _thread: u8, _router: u16) {}
 
     fn after(&self, _thread: u8, _turn: u64) {}
 }
@@ -341,6 +326,8 @@ impl<H: Clock> TurnGate for Meeting<'_, H> {
         }
     }
 
+    fn publishing(&self, _thread: u8, _router: u16) {}
+
     fn after(&self, _thread: u8, _turn: u64) {}
 }
 
@@ -383,11 +370,10 @@ fn settles<B, H>(
 where
     B: publication::Naming + Send + Sync,
     H: Threads + Wait + Abort + Sync,
-    requires { 0 < threads }
 {
     let mut fabric = fabric;
     assert_eq!(rt; fabric.step(rt, UP), Ok(()));
-    let (fabric, done) = settle(rt, alloc, fabric, threads, &Open);
+    let (fabric, done) = settle(rt, alloc, fabric, threads);
     assert_eq!(rt; done, Ok(()));
     assert!(rt; fabric.is_settled());
     assert!(rt; fabric.journal().len() > 1);
@@ -397,4 +383,9 @@ where
 #[test]
 fn two_settle(rt: HostRuntime) -> Result<(), Fail> {
     two(&rt, rt.alloc(), 2, Trial::Settles)
+}
+
+#[test]
+fn two_publish_outside_the_lock(rt: HostRuntime) -> Result<(), Fail> {
+    two(&rt, rt.alloc(), 2, Trial::PublishOutside)
 }

@@ -12,7 +12,7 @@ use std::sync::Wait;
 use std::test::Fail;
 
 // The steps by which router 1 learns the way of router 0, and publishes it.
-const LEARNS: [Step; 7] = [
+pub const LEARNS: [Step; 7] = [
     Step::LinkUp { link: 0 },
     Step::Deliver { router: 0, port: 0 },
     Step::Deliver { router: 1, port: 0 },

@@ -39,6 +39,8 @@ impl<H: Clock> TurnGate for Waiting<'_, H> {
         }
     }
 
+    fn publishing(&self, _thread: u8, _router: u16) {}
+
     fn after(&self, _thread: u8, _turn: u64) {}
 }
 
@@ -135,7 +137,8 @@ where
     };
     let ((shares, served), (port, first)) = thread::join(
         rt,
-        || serve(rt, control, shares, &gate),
+        ||
+                { serve(rt, control, shares, &gate) },
         || answer_first(rt, control, port, &gate),
     );
     assert_eq!(rt; served, Ok(()));

@@ -11,9 +11,13 @@ mod jobs;
 #[cfg(test)]
 mod networks;
 #[cfg(test)]
+mod outside;
+#[cfg(test)]
 mod publications;
 #[cfg(test)]
 mod queues;
+#[cfg(test)]
+mod tickets;
 #[cfg(test)]
 mod traces;
 #[cfg(test)]

@@ -12,7 +12,7 @@ use crate::fault::{Cause, Fault};
 use crate::host::Host;
 use crate::options::Options;
 use crate::report::{print_report, print_state};
-use control::{TurnGate, one_step, settle};
+use control::settle;
 use fabric::{Fabric, Naming, Refusal, Step};
 use route_table::RouteTable;
 use script::{Command, Directory, Key, Place};
@@ -81,12 +81,13 @@ where
 {
     match command {
         Command::Step(step) => {
-            let (fabric, done) = one_step(rt, alloc, fabric, step);
+            let mut fabric = fabric;
+            let done = fabric.step(rt, step);
             (fabric, caused(done))
         }
-        Command::Try(step) => (try_step(rt, alloc, fabric, step, out), Ok(())),
+        Command::Try(step) => (try_step(rt, fabric, step, out), Ok(())),
         Command::Settle => {
-            let (fabric, done) = settle(rt, alloc, fabric, options.threads.max(1), &Unwatched);
+            let (fabric, done) = settle(rt, alloc, fabric, options.threads);
             (fabric, caused(done))
         }
         Command::State { router, prefix } => {
@@ -121,27 +122,17 @@ fn caused(done: Result<(), Refusal>) -> Result<(), Cause>
     Ok(())
 }
 
-// Nobody watches the turns of threads.
-struct Unwatched;
-
-impl TurnGate for Unwatched {
-    fn before(&self, _thread: u8, _turn: u64) {}
-
-    fn after(&self, _thread: u8, _turn: u64) {}
-}
-
 // Does a step, and says whether it was refused. What it prints may be lost.
 fn try_step<B: Naming, H: Wait, W: Write>(
     rt: &H,
-    alloc: Global,
     fabric: Fabric<B>,
     step: Step,
     out: &mut W,
 ) -> Fabric<B>
     ensures { IsStepDone step fabric result ⊎ IsStepRefused step fabric result }
 {
-    let (fabric, tried) = one_step(rt, alloc, fabric, step);
-    let _ = match tried {
+    let mut fabric = fabric;
+    let _ = match fabric.step(rt, step) {
         Ok(()) => writeln!(out, "done"),
         Err(refusal) => writeln!(out, "refused {refusal}"),
     };

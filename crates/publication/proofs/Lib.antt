@@ -5,3 +5,5 @@ pub mod RowsAgain
 pub mod Tables
 pub mod Waiting
 pub mod Places
+pub mod Same
+pub mod Outings

@@ -7,7 +7,7 @@ use Rattle.network_model.specs.Publication.{Patch}
 use Rattle.image_patch.specs.declared.Patch.{Patch as PatchFields}
 use Rattle.publication.specs.Lists.{patch_of, prefixes_of}
 
-prefixes-append : (ps : List Patch) (p : Patch) → prefixes_of (ps ++ p ∷ []) ≡ prefixes_of ps ++ map (λ (r : Prefix × Entry). r.0) p.rows
+pub prefixes-append : (ps : List Patch) (p : Patch) → prefixes_of (ps ++ p ∷ []) ≡ prefixes_of ps ++ map (λ (r : Prefix × Entry). r.0) p.rows
 prefixes-append [] p = append-nil (map (λ (r : Prefix × Entry). r.0) p.rows)
 prefixes-append (q ∷ ps) p = let m = map (λ (r : Prefix × Entry). r.0) q.rows in ap (λ ks. m ++ ks) (prefixes-append ps p) ∙ sym (append_assoc m (prefixes_of ps) (map (λ (r : Prefix × Entry). r.0) p.rows))
 

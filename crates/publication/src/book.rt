@@ -254,9 +254,18 @@ impl<B: Naming> Told<B> {
         if self.router != other.router || self.count != other.count {
             return false;
         }
+        self.meet(other);
+        true
+    }
+
+    /// It changes nothing. Lists of one writer that have as many publications are one.
+    pub(crate) fn meet(&self, other: &Told<B>)
+        requires router { self.now.router ≡ other.now.router }
+        requires count { length self.now.publications ≡ length other.now.publications }
+        ensures { self.now ≡ other.now }
+    {
         let mut both = self.seen.again();
         both.learn(&other.seen);
-        true
     }
 
     /// The list with one more publication. None where the list is longer than this.

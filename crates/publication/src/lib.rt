@@ -8,6 +8,7 @@ mod known;
 mod press;
 mod reader;
 mod rule;
+mod ticket;
 mod writer;
 mod writers;
 
@@ -16,5 +17,6 @@ pub use image_patch::Patch;
 pub use job::Job;
 pub use network_model::{Answer, Entry, NoMemory, Prefix};
 pub use reader::{ImageReader, NoImage, ReadGate};
+pub use ticket::{Stub, Ticket, copy_of};
 pub use writer::{ImageWriter, OpenFault, open};
 pub use writers::{close_all, open_all};

@@ -12,7 +12,7 @@ use Rattle.network_model.specs.Publication.{image_answer}
 use Rattle.network_model.specs.Forwarding.{Ending, Onward, Ends, Goes, Trace, row_for, entry_leads, is_crossed, over_link, by_entry, by_row, onward, traced_by, trace_from, IsPacketWalk}
 use Rattle.network_model.proofs.ListLaws.{None_not_Some, element_there}
 use Rattle.fabric.specs.Fabric.{Fabric, ForwardsAsPublished}
-use Rattle.fabric.specs.Headline.{image_row, IsImageWalk}
+use Rattle.fabric.specs.Headline.{image_row, none_published, IsImageWalk}
 use Rattle.tracer.specs.Tracing.{LeadsToRouters}
 
 -- a trace with these routers passed before it
@@ -66,10 +66,10 @@ goes_known w known addr first i p k is =
 
 module _ (f : Fabric) (forwards : ForwardsAsPublished f) (addr : ℕ) (p : Prefix) where
   -- what a router published, its image in force gives
-  row_in_force : (i : ℕ) (entry : Entry) → row_for f.world i addr ≡ Some (p, entry) → image_row f i addr ≡ Some (p, entry)
+  row_in_force : (i : ℕ) (entry : Entry) → row_for f.world i addr ≡ Some (p, entry) → image_row f none_published i addr ≡ Some (p, entry)
   row_in_force i entry h = by_router (slice_get f.world.routers i) refl h
     where
-      by_router : (o : Option Router) → slice_get f.world.routers i ≡ o → option_and_then (λ r. longest_match addr (r.table).published) o ≡ Some (p, entry) → image_row f i addr ≡ Some (p, entry)
+      by_router : (o : Option Router) → slice_get f.world.routers i ≡ o → option_and_then (λ r. longest_match addr (r.table).published) o ≡ Some (p, entry) → image_row f none_published i addr ≡ Some (p, entry)
       by_router None at g = absurd (None_not_Some g)
       by_router (Some r) at g =
           let within : i < length f.images = subst (λ n. i < n) (sym forwards.every_router) (slice_get_within f.world.routers i r at) in
@@ -77,7 +77,7 @@ module _ (f : Fabric) (forwards : ForwardsAsPublished f) (addr : ℕ) (p : Prefi
           ap (option_and_then (λ image. image_answer image addr)) E.1 ∙ forwards.longest i r E.0 at E.1 addr ∙ g
 
   -- so a way along published rows is one along the images in force
-  pub walk_in_force : (walk : List ℕ) → IsPacketWalk f.world addr p walk → IsImageWalk f addr p walk
+  pub walk_in_force : (walk : List ℕ) → IsPacketWalk f.world addr p walk → IsImageWalk f none_published addr p walk
   walk_in_force [] w = tt
   walk_in_force (i ∷ []) w = tt
   walk_in_force (i ∷ k ∷ ks) w = (((w.0).0, row_in_force i (w.0).0 (w.0).1, (w.0).2), walk_in_force (k ∷ ks) w.1)

@@ -4,7 +4,7 @@ ghost use Rattle.std.specs.Prelude.{◌≡◌, ◌≤◌, ◌<◌, ◌⊎◌, fa
 ghost use Rattle.ipv4_prefix.specs.Prefix.{Prefix};
 ghost use Rattle.network_model.specs.Forwarding as model;
 ghost use Rattle.fabric.specs.Fabric.{ForwardsAsPublished};
-ghost use Rattle.fabric.specs.Headline.{IsImageWalk};
+ghost use Rattle.fabric.specs.Headline.{IsImageWalk, none_published};
 ghost use Rattle.loop_freedom.specs.Network.{meets_twice};
 ghost use Rattle.packet_loops.specs.Packets.{TracesEnd};
 ghost use Rattle.packet_trace.specs.Traces.{trace_of};
@@ -42,7 +42,7 @@ pub fn trace<B: Naming>(
 ) -> Result<Trace, TraceFault>
     ensures ok { IfOk result (λ t. trace_of t ≡ model.trace (fabric.old).world router addr) }
     ensures walk { IfOk result (λ t. (p : Prefix) × model.IsPacketWalk (fabric.old).world addr p t.path.items) }
-    ensures in_force { IfOk result (λ t. (p : Prefix) × IsImageWalk fabric.old addr p t.path.items) }
+    ensures in_force { IfOk result (λ t. (p : Prefix) × IsImageWalk fabric.old none_published addr p t.path.items) }
     ensures no_loop { IfOk result (λ t. meets_twice t.path.items ≡ false) }
     ensures few { IfOk result (λ t. vec_len t.path ≤ 256) }
     ensures unknown { length (fabric.old).world.routers ≤ router → result ≡ Err TraceFault.UnknownRouter }

@@ -8,11 +8,11 @@ use Rattle.play.proofs.commands.do_command.Goals as goal
 pub returns-in-Step-clause-err : goal.returns-in-Step-clause-err
 returns-in-Step-clause-err g c =
     let f = c.args.fabric in
-    let after = c.one_step-fabric.result.0 in
-    let done = c.one_step-fabric.result.1 in
+    let after = c.step-done.new.self in
+    let done = c.step-done.result in
     subst (λ command. IfErr c.caused.result (IsRefused command f after)) (sym c.in-Step.is)
     (caused_by done c.caused.result (IsRefused (Command.Step c.in-Step.step) f after) c.caused.ensures
-    (step_refused (fabric_refusal f c.in-Step.step) done f after c.one_step-fabric.ensures.cause c.one_step-fabric.ensures.err))
+    (step_refused (fabric_refusal f c.in-Step.step) done f after c.step-done.ensures.cause c.step-done.ensures.err))
 
 pub returns-in-Settle-clause-err : goal.returns-in-Settle-clause-err
 returns-in-Settle-clause-err g c =

@@ -9,6 +9,6 @@ returns-in-Err g c =
     let cause = fabric_refusal c.args.fabric c.args.step in
     inr (
       c.in-Err.refusal,
-      refused_for cause c.in-Err.refusal (subst (λ r. IsDoneOr cause r) c.in-Err.is c.one_step-fabric.ensures.cause),
-      subst (λ r. OnErr r (c.one_step-fabric.result.0 ≡ c.args.fabric)) c.in-Err.is c.one_step-fabric.ensures.err,
+      refused_for cause c.in-Err.refusal (subst (λ r. IsDoneOr cause r) c.in-Err.is c.step.ensures.cause),
+      subst (λ r. OnErr r (c.step.new.self ≡ c.args.fabric)) c.in-Err.is c.step.ensures.err,
     )

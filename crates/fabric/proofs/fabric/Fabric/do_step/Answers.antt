@@ -1,5 +1,5 @@
 use Rattle.std.proofs.Common.{rules, Result, Ok, Err, None, ◌≡◌, ◌+◌, ◌<◌, ◌≤◌, ◌++◌, [], ◌∷◌, length, vec_len, refl, sym, ap, subst, ◌∙◌, arith}
-use Rattle.std.specs.Prelude.{vec_capacity, set, get_or, OnErr}
+use Rattle.std.specs.Prelude.{Some, false, is_some, slice_get, vec_capacity, set, OnErr}
 use Rattle.network_model.specs.declared.step.Step.{Step}
 use Rattle.network_model.specs.declared.step.Step.TheVariants.{Publish}
 use Rattle.network_model.specs.Journal.{most_steps}
@@ -8,51 +8,71 @@ use Rattle.network_model.proofs.ListLaws.{None_not_Some}
 use Rattle.world.specs.Steps.{HasRoomForSteps}
 use Rattle.publication.specs.declared.known.Known.{Known}
 use Rattle.image_patch.specs.Patches.{patched}
-use Rattle.fabric.specs.Fabric.{Fabric, fabric_of, after_step, IsKept, IsSumOf}
+use Rattle.fabric.specs.Desks.{all_lent, writings}
+use Rattle.fabric.specs.Fabric.{Fabric, awaits_writer, count_lent, fabric_of, after_step, lent_at, IsKept, IsSumOf}
 use Rattle.fabric.specs.Patches.{IsPatchDue}
 use Rattle.fabric.specs.Images.{image_in_force, images_in_force}
-use Rattle.fabric.specs.Writers.{AreReaders, AreWriters, shown_images}
+use Rattle.fabric.specs.Writers.{ArePending, AreReaders, AreWriters, shown_images, waiting_at}
 use Rattle.fabric.proofs.Fabrics.{room_left, images_stay, images_due, kept_as, due_of, summed_more}
-use Rattle.fabric.proofs.Publishing.{IsDue, due_there, is_due_by, none_heard, number_is, writer_within, names_all, next_number, readers_next, shown_done, still_heard, unseen_shown, writers_next, writers_set}
+use Rattle.fabric.proofs.Lending.{all_pending_next}
+use Rattle.fabric.proofs.Seats.{desk_within, due_desk, is_in, lent_same, none_kept, pending_same, seat, writings_set}
+use Rattle.fabric.proofs.Publishing.{IsDue, due_there, none_heard, number_is, names_all, next_number, readers_next, shown_done, still_heard, unseen_shown, writers_next, writers_set}
 use Rattle.fabric.proofs.fabric.Fabric.do_step.Given as given
 use Rattle.fabric.proofs.fabric.Fabric.do_step.Goals as goal
 use Rattle.fabric.proofs.fabric.Fabric.do_step.Goals.{in-Publish+in_ok-patch-in-Publish+in-Some+in_ok-publish-in-Some, in-Publish+in_ok-patch-in-Publish+in-None+in_ok-step-in-None, in_default+in_ok-step-in_default}
 
 pub patch_due-requires : goal.patch_due-requires
 patch_due-requires g c = subst (HasRoomForSteps 1) (sym c.world.ensures)
-    (room_left (fabric_of c.self.inside.network c.self.inside.journal.items c.self.inside.world (shown_images g.B.Naming.openings c.self.inside.writers.items)) (vec_capacity c.self.inside.journal) c.self.invariant.0)
+    (room_left (fabric_of c.self.inside.network c.self.inside.journal.items c.self.inside.world (shown_images g.B.Naming.openings (writings c.self.inside.desks.items)) (all_lent c.self.inside.desks.items)) (vec_capacity c.self.inside.journal) c.self.invariant.0)
 
 pub step-requires : goal.step-requires
-step-requires g c = room_left (fabric_of c.self.inside.network c.self.inside.journal.items c.self.inside.world (shown_images g.B.Naming.openings c.self.inside.writers.items)) (vec_capacity c.self.inside.journal) c.self.invariant.0
+step-requires g c = room_left (fabric_of c.self.inside.network c.self.inside.journal.items c.self.inside.world (shown_images g.B.Naming.openings (writings c.self.inside.desks.items)) (all_lent c.self.inside.desks.items)) (vec_capacity c.self.inside.journal) c.self.invariant.0
 
 pub step-requires-in_default : goal.step-requires-in_default
-step-requires-in_default g c = room_left (fabric_of c.self.inside.network c.self.inside.journal.items c.self.inside.world (shown_images g.B.Naming.openings c.self.inside.writers.items)) (vec_capacity c.self.inside.journal) c.self.invariant.0
+step-requires-in_default g c = room_left (fabric_of c.self.inside.network c.self.inside.journal.items c.self.inside.world (shown_images g.B.Naming.openings (writings c.self.inside.desks.items)) (all_lent c.self.inside.desks.items)) (vec_capacity c.self.inside.journal) c.self.invariant.0
 
 pub step-requires-in-None : goal.step-requires-in-None
-step-requires-in-None g c = room_left (fabric_of c.self.inside.network c.self.inside.journal.items c.self.inside.world (shown_images g.B.Naming.openings c.self.inside.writers.items)) (vec_capacity c.self.inside.journal) c.self.invariant.0
+step-requires-in-None g c = room_left (fabric_of c.self.inside.network c.self.inside.journal.items c.self.inside.world (shown_images g.B.Naming.openings (writings c.self.inside.desks.items)) (all_lent c.self.inside.desks.items)) (vec_capacity c.self.inside.journal) c.self.invariant.0
 
 -- an error comes with what holds anyway
 on_err : {T E : Type 0} (r : Result T E) {P : Type 0} → P → OnErr r P
 on_err (Ok x) p = tt
 on_err (Err e) p = p
 
--- the patch is due, of the writers before the step
-due_before : (g : given.Over) (c : goal.After-index_mut g) → IsDue c.self.inside.network c.self.inside.journal.items c.self.inside.world g.B.Naming.openings c.self.inside.writers.items c.in-Publish.router c.index_mut.result.now c.in-Some.patch
-due_before g c =
+-- no writer of the router is out
+free : (g : given.Over) (c : goal.After-from g) → is_some (lent_at (all_lent c.self.inside.desks.items) c.in-Publish.router) ≡ false
+free g c = ap (λ (f : Fabric). is_some (lent_at f.lent c.in-Publish.router)) c.self.view_is ∙ ap (awaits_writer c.args.self.now) (sym c.in-Publish.is) ∙ c.in_ok-admits.ensures.free
+
+due : (g : given.Over) (c : goal.After-from g) → IsPatchDue c.self.inside.world c.in-Publish.router (waiting_at (writings c.self.inside.desks.items) c.in-Publish.router) (Some c.in-Some.patch)
+due g c =
+    due_there c.world.result.now c.self.inside.world (writings c.deref.result.now) (writings c.self.inside.desks.items) c.in-Publish.router c.waiting_at-waiting.result.now c.in_ok-patch-in-Publish.field-0 c.in-Some.patch
+    c.world.ensures (c.waiting_at-waiting.ensures (ap (λ ds. lent_at (all_lent ds) c.in-Publish.router) c.deref.ensures.value ∙ none_kept _ (free g c))) (ap writings c.deref.ensures.value) c.in-Some.is c.in_ok-patch-in-Publish.ensures.due
+
+within : (g : given.Over) (c : goal.After-from g) → c.in-Publish.router < length c.self.inside.desks.items
+within g c =
     let s = c.self.inside in
-    is_due_by s.network s.journal.items s.world g.B.Naming.openings s.writers.items (vec_capacity s.journal) c.self.invariant.0 c.self.invariant.1 c.routers-routers.ensures.valid c.in-Publish.router c.index_mut.result.now
-    (c.index_mut.ensures.value ∙ ap (λ k. get_or s.writers.items k c.index_mut.result.now) c.from.ensures) c.in-Some.patch
-    (due_there c.world.result.now s.world c.deref.result.now s.writers.items c.in-Publish.router c.waiting_at-waiting.result.now c.in_ok-patch-in-Publish.field-0 c.in-Some.patch
-    c.world.ensures c.waiting_at-waiting.ensures c.deref.ensures.value c.in-Some.is c.in_ok-patch-in-Publish.ensures.due)
+    desk_within s.network s.journal.items s.world g.B.Naming.openings s.desks.items (vec_capacity s.journal) c.self.invariant.0 c.self.invariant.1 c.in-Publish.router (due g c).0 (due g c).1
 
 pub index_mut-requires : goal.index_mut-requires
 index_mut-requires g c =
+    let less = within g c in
+    let count : length c.self.inside.desks.items ≡ vec_len c.self.inside.desks = search rules in
+    omega (arith, less, count, c.from.ensures)
+
+-- the desk, and the patch that is due there
+at_desk : (g : given.Over) (c : goal.After-index_mut g) → slice_get c.self.inside.desks.items c.in-Publish.router ≡ Some c.index_mut.result.now
+at_desk g c = seat c.self.inside.desks.items c.in-Publish.router c.from.result c.index_mut.result.now (let less = within g c.before in omega (arith, less, c.from.ensures)) c.index_mut.ensures.value c.from.ensures
+
+due_before : (g : given.Over) (c : goal.After-index_mut g) → IsDue c.self.inside.network c.self.inside.journal.items c.self.inside.world g.B.Naming.openings (writings c.self.inside.desks.items) c.in-Publish.router c.index_mut.result.now.writing c.in-Some.patch
+due_before g c =
     let s = c.self.inside in
-    let due = due_there c.world.result.now s.world c.deref.result.now s.writers.items c.in-Publish.router c.waiting_at-waiting.result.now c.in_ok-patch-in-Publish.field-0 c.in-Some.patch
-    c.world.ensures c.waiting_at-waiting.ensures c.deref.ensures.value c.in-Some.is c.in_ok-patch-in-Publish.ensures.due in
-    let within : c.in-Publish.router < length s.writers.items = writer_within s.network s.journal.items s.world g.B.Naming.openings s.writers.items (vec_capacity s.journal) c.self.invariant.0 c.in-Publish.router due.0 due.1 in
-    let count : length s.writers.items ≡ vec_len s.writers = search rules in
-    omega (arith, within, count, c.from.ensures)
+    due_desk s.network s.journal.items s.world g.B.Naming.openings s.desks.items (vec_capacity s.journal) c.self.invariant.0 c.self.invariant.1 c.routers-routers.ensures.valid c.in-Publish.router c.index_mut.result.now (at_desk g c) c.in-Some.patch (due g c.before)
+
+here : (g : given.Over) (c : goal.After-index_mut g) → c.index_mut.result.now.out ≡ None
+here g c = is_in c.self.inside.desks.items c.in-Publish.router c.index_mut.result.now (at_desk g c) (free g c.before)
+
+pub publish-requires-clause-here : goal.publish-requires-clause-here
+publish-requires-clause-here g c = here g c
 
 pub publish-requires-clause-number : goal.publish-requires-clause-number
 publish-requires-clause-number g c = next_number _ _ _ _ _ _ _ _ (due_before g c)
@@ -62,51 +82,71 @@ publish-requires-clause-covers g c = names_all _ _ _ _ _ _ _ _ (due_before g c)
 
 -- ---- a refused publication
 
--- its patch was due
-due_refused : (g : given.Over) (c : goal.After-from_residual-in_err-publish-in-Some g) → IsDue c.self.inside.network c.self.inside.journal.items c.self.inside.world g.B.Naming.openings c.self.inside.writers.items c.in-Publish.router c.index_mut.result.now c.in-Some.patch
-due_refused g c =
-    let s = c.self.inside in
-    is_due_by s.network s.journal.items s.world g.B.Naming.openings s.writers.items (vec_capacity s.journal) c.self.invariant.0 c.self.invariant.1 c.routers-routers.ensures.valid c.in-Publish.router c.index_mut.result.now
-    (c.index_mut.ensures.value ∙ ap (λ k. get_or s.writers.items k c.index_mut.result.now) c.from.ensures) c.in-Some.patch
-    (due_there c.world.result.now s.world c.deref.result.now s.writers.items c.in-Publish.router c.waiting_at-waiting.result.now c.in_ok-patch-in-Publish.field-0 c.in-Some.patch
-    c.world.ensures c.waiting_at-waiting.ensures c.deref.ensures.value c.in-Some.is c.in_ok-patch-in-Publish.ensures.due)
+-- the desk, and the patch that was due there
+at_refused : (g : given.Over) (c : goal.After-from_residual-in_err-publish-in-Some g) → slice_get c.self.inside.desks.items c.in-Publish.router ≡ Some c.index_mut.result.now
+at_refused g c = at_desk g c.before.before.before.before.before
+
+due_refused : (g : given.Over) (c : goal.After-from_residual-in_err-publish-in-Some g) → IsDue c.self.inside.network c.self.inside.journal.items c.self.inside.world g.B.Naming.openings (writings c.self.inside.desks.items) c.in-Publish.router c.index_mut.result.now.writing c.in-Some.patch
+due_refused g c = due_before g c.before.before.before.before.before
+
+here_refused : (g : given.Over) (c : goal.After-from_residual-in_err-publish-in-Some g) → c.index_mut.result.now.out ≡ None
+here_refused g c = here g c.before.before.before.before.before
 
 -- nothing else is in force
-unseen : (g : given.Over) (c : goal.After-from_residual-in_err-publish-in-Some g) → shown_images g.B.Naming.openings (set c.self.inside.writers.items c.from.result c.publish.new.self) ≡ shown_images g.B.Naming.openings c.self.inside.writers.items
+unseen : (g : given.Over) (c : goal.After-from_residual-in_err-publish-in-Some g) → shown_images g.B.Naming.openings (writings (set c.self.inside.desks.items c.from.result c.publish.new.self)) ≡ shown_images g.B.Naming.openings (writings c.self.inside.desks.items)
 unseen g c =
     let s = c.self.inside in
-    ap (λ k. shown_images g.B.Naming.openings (set s.writers.items k c.publish.new.self)) c.from.ensures
-    ∙ unseen_shown _ _ _ _ _ _ _ _ (due_refused g c) c.publish.new.self c.in_err-publish-in-Some.ensures.unseen
+    ap (λ k. shown_images g.B.Naming.openings (writings (set s.desks.items k c.publish.new.self))) c.from.ensures
+    ∙ ap (shown_images g.B.Naming.openings) (writings_set s.world s.desks.items c.in-Publish.router c.index_mut.result.now c.publish.new.self (at_refused g c))
+    ∙ unseen_shown _ _ _ _ _ _ _ _ (due_refused g c) c.publish.new.self.writing c.in_err-publish-in-Some.ensures.unseen
+
+-- no writer went out
+unlent : (g : given.Over) (c : goal.After-from_residual-in_err-publish-in-Some g) → all_lent (set c.self.inside.desks.items c.from.result c.publish.new.self) ≡ all_lent c.self.inside.desks.items
+unlent g c =
+    let s = c.self.inside in
+    ap (λ k. all_lent (set s.desks.items k c.publish.new.self)) c.from.ensures
+    ∙ lent_same s.world s.desks.items c.in-Publish.router c.index_mut.result.now c.publish.new.self (at_refused g c) (here_refused g c) c.in_err-publish-in-Some.ensures.here
 
 pub invariant_of-self : goal.invariant_of-self
 invariant_of-self g c =
     let s = c.self.inside in (
-      subst (λ images. IsKept (fabric_of s.network s.journal.items s.world images) (vec_capacity s.journal)) (sym (unseen g c)) c.self.invariant.0,
-      subst (λ k. AreWriters s.world (set s.writers.items k c.publish.new.self)) (sym c.from.ensures)
-          (writers_set s.world s.writers.items c.in-Publish.router c.publish.new.self c.self.invariant.1
+      subst (λ lent. IsKept (fabric_of s.network s.journal.items s.world (shown_images g.B.Naming.openings (writings (set s.desks.items c.from.result c.publish.new.self))) lent) (vec_capacity s.journal)) (sym (unlent g c))
+          (subst (λ images. IsKept (fabric_of s.network s.journal.items s.world images (all_lent s.desks.items)) (vec_capacity s.journal)) (sym (unseen g c)) c.self.invariant.0),
+      subst (λ k. AreWriters s.world (writings (set s.desks.items k c.publish.new.self))) (sym c.from.ensures)
+          (subst (AreWriters s.world) (sym (writings_set s.world s.desks.items c.in-Publish.router c.index_mut.result.now c.publish.new.self (at_refused g c)))
+          (writers_set s.world (writings s.desks.items) c.in-Publish.router c.publish.new.self.writing c.self.invariant.1
           (ap (λ (k : Known). k.router) c.in_err-publish-in-Some.ensures.unseen ∙ number_is _ _ _ _ _ _ _ _ (due_refused g c))
-          (still_heard _ _ _ _ _ _ _ _ (due_refused g c) (c.publish.new.self).waiting c.in_err-publish-in-Some.ensures.refused)),
-      c.self.invariant.2,
+          (still_heard _ _ _ _ _ _ _ _ (due_refused g c) (c.publish.new.self).writing.waiting c.in_err-publish-in-Some.ensures.refused))),
+      subst (λ k. ArePending s.world (set s.desks.items k c.publish.new.self)) (sym c.from.ensures)
+          (pending_same s.world s.desks.items c.in-Publish.router c.index_mut.result.now c.publish.new.self (at_refused g c) c.in_err-publish-in-Some.ensures.here c.self.invariant.2),
       c.self.invariant.3,
+      c.self.invariant.4,
+      c.self.invariant.5 ∙ sym (ap count_lent (unlent g c)),
     )
 
 pub returns-in_err-publish-in-Some-clause-err : goal.returns-in_err-publish-in-Some-clause-err
 returns-in_err-publish-in-Some-clause-err g c =
     let s = c.self.inside in
-    on_err c.from_residual-in_err-publish-in-Some.result (ap (fabric_of s.network s.journal.items s.world) (unseen g c) ∙ c.self.view_is)
+    on_err c.from_residual-in_err-publish-in-Some.result
+    (ap (λ images. fabric_of s.network s.journal.items s.world images (all_lent (set s.desks.items c.from.result c.publish.new.self))) (unseen g c)
+    ∙ ap (fabric_of s.network s.journal.items s.world (shown_images g.B.Naming.openings (writings s.desks.items))) (unlent g c) ∙ c.self.view_is)
 
 -- ---- a step that is done
 
 -- the fabric before, and what it kept
 abbrev old : (g : given.Over) (c : goal.After-unwrap-2 g) → Fabric
-old g c = fabric_of c.self.inside.network c.self.inside.journal.items c.self.inside.world (shown_images g.B.Naming.openings c.self.inside.writers.items)
+old g c = fabric_of c.self.inside.network c.self.inside.journal.items c.self.inside.world (shown_images g.B.Naming.openings (writings c.self.inside.desks.items)) (all_lent c.self.inside.desks.items)
 
 -- and after
 abbrev new : (g : given.Over) (c : goal.After-unwrap-2 g) → Fabric
-new g c = fabric_of c.match-step.self-inside.network c.push.new.self.items c.match-step.self-inside.world (shown_images g.B.Naming.openings c.match-step.self-inside.writers.items)
+new g c = fabric_of c.match-step.self-inside.network c.push.new.self.items c.match-step.self-inside.world (shown_images g.B.Naming.openings (writings c.match-step.self-inside.desks.items)) (all_lent c.match-step.self-inside.desks.items)
 
-short : (g : given.Over) (c : goal.After-unwrap-2 g) → length (old g c).journal < most_steps
-short g c = omega arith
+short : (g : given.Over) (c : goal.After-unwrap-2 g) → length (old g c).journal + count_lent (old g c).lent < most_steps
+short g c = subst (λ (f : Fabric). length f.journal + count_lent f.lent < most_steps) (sym c.self.view_is) c.in_ok-admits.ensures.place
+
+-- the step waits for no writer
+unawaited : (g : given.Over) (c : goal.After-unwrap-2 g) → awaits_writer (old g c) c.args.step ≡ false
+unawaited g c = ap (λ (f : Fabric). awaits_writer f c.args.step) c.self.view_is ∙ c.in_ok-admits.ensures.free
 
 -- the step is written
 pushed : (g : given.Over) (c : goal.After-unwrap-2 g) → c.push.new.self.items ≡ c.match-step.self-inside.journal.items ++ c.args.step ∷ []
@@ -114,14 +154,12 @@ pushed g c = rw c.unwrap-2.ensures at c.push.ensures.items
 
 -- the fabric then is the one after the step
 is_after : (g : given.Over) (c : goal.After-unwrap-2 g) (s : Step) → c.args.step ≡ s → c.match-step.self-inside.network ≡ (old g c).network → c.match-step.self-inside.journal ≡ c.self.inside.journal
-    → c.match-step.self-inside.world ≡ next (old g c).world s → images_in_force (next (old g c).world s) ≡ shown_images g.B.Naming.openings c.match-step.self-inside.writers.items → after_step (old g c) s ≡ new g c
-is_after g c s asked network journal world images =
+    → c.match-step.self-inside.world ≡ next (old g c).world s → images_in_force (next (old g c).world s) ≡ shown_images g.B.Naming.openings (writings c.match-step.self-inside.desks.items)
+    → all_lent c.match-step.self-inside.desks.items ≡ (old g c).lent → after_step (old g c) s ≡ new g c
+is_after g c s asked network journal world images lent =
     let written : c.push.new.self.items ≡ (old g c).journal ++ s ∷ [] = pushed g c ∙ ap (λ j. j.items ++ c.args.step ∷ []) journal ∙ ap (λ x. (old g c).journal ++ x ∷ []) asked in
-    let now = shown_images g.B.Naming.openings c.match-step.self-inside.writers.items in
-    ap (fabric_of (old g c).network ((old g c).journal ++ s ∷ []) (next (old g c).world s)) images
-    ∙ sym (ap (λ n. fabric_of n c.push.new.self.items c.match-step.self-inside.world now) network
-    ∙ ap (λ j. fabric_of (old g c).network j c.match-step.self-inside.world now) written
-    ∙ ap (λ w. fabric_of (old g c).network ((old g c).journal ++ s ∷ []) w now) world)
+    let now = shown_images g.B.Naming.openings (writings c.match-step.self-inside.desks.items) in
+    λ k. fabric_of (sym network k) (sym written k) (sym world k) (images k) (sym lent k)
 
 room_kept : (g : given.Over) (c : goal.After-unwrap-2 g) → c.match-step.self-inside.journal ≡ c.self.inside.journal → vec_capacity c.self.inside.journal ≤ vec_capacity c.push.new.self
 room_kept g c journal = subst (λ j. vec_capacity j ≤ vec_capacity c.push.new.self) journal c.push.ensures.capacity
@@ -131,8 +169,11 @@ record IsStepped (g : given.Over) (c : goal.After-unwrap-2 g) : Type 0 where
   lawful : Lawful (old g c).world c.args.step
   after : after_step (old g c) c.args.step ≡ new g c
   journal : c.match-step.self-inside.journal ≡ c.self.inside.journal
-  writers : AreWriters c.match-step.self-inside.world c.match-step.self-inside.writers.items
+  lent : all_lent c.match-step.self-inside.desks.items ≡ (old g c).lent
+  writers : AreWriters c.match-step.self-inside.world (writings c.match-step.self-inside.desks.items)
+  pending : ArePending c.match-step.self-inside.world c.match-step.self-inside.desks.items
   readers : AreReaders c.match-step.self-inside.world c.match-step.self-inside.readers.items
+  aside : c.match-step.self-inside.set_aside ≡ c.self.inside.set_aside
 
 stepped : (g : given.Over) (c : goal.After-unwrap-2 g) → IsStepped g c
 stepped g c =
@@ -140,29 +181,40 @@ stepped g c =
       | in-Publish+in_ok-patch-in-Publish+in-Some+in_ok-publish-in-Some w ↦
           let s = c.self.inside in
           let i = w.in-Publish.router in
-          let x = w.index_mut.result.now in
-          let y = w.publish.new.self in
+          let d = w.index_mut.result.now in
+          let e = w.publish.new.self in
           let published = w.in_ok-publish-in-Some.ensures in
-          let D : IsDue s.network s.journal.items s.world g.B.Naming.openings s.writers.items i x w.in-Some.patch =
-          is_due_by s.network s.journal.items s.world g.B.Naming.openings s.writers.items (vec_capacity s.journal) c.self.invariant.0 c.self.invariant.1 w.routers-routers.ensures.valid i x
-          (w.index_mut.ensures.value ∙ ap (λ k. get_or s.writers.items k x) w.from.ensures) w.in-Some.patch
-          (due_there w.world.result.now s.world w.deref.result.now s.writers.items i w.waiting_at-waiting.result.now w.in_ok-patch-in-Publish.field-0 w.in-Some.patch
-          w.world.ensures w.waiting_at-waiting.ensures w.deref.ensures.value w.in-Some.is w.in_ok-patch-in-Publish.ensures.due) in
+          let free : is_some (lent_at (all_lent s.desks.items) i) ≡ false = ap (awaits_writer (old g c)) (sym w.in-Publish.is) ∙ unawaited g c in
+          let due : IsPatchDue s.world i (waiting_at (writings s.desks.items) i) (Some w.in-Some.patch) =
+          due_there w.world.result.now s.world (writings w.deref.result.now) (writings s.desks.items) i w.waiting_at-waiting.result.now w.in_ok-patch-in-Publish.field-0 w.in-Some.patch
+          w.world.ensures (w.waiting_at-waiting.ensures (ap (λ ds. lent_at (all_lent ds) i) w.deref.ensures.value ∙ none_kept _ free)) (ap writings w.deref.ensures.value) w.in-Some.is w.in_ok-patch-in-Publish.ensures.due in
+          let less : i < length s.desks.items = desk_within s.network s.journal.items s.world g.B.Naming.openings s.desks.items (vec_capacity s.journal) c.self.invariant.0 c.self.invariant.1 i due.0 due.1 in
+          let at : slice_get s.desks.items i ≡ Some d = seat s.desks.items i w.from.result d (omega (arith, less, w.from.ensures)) w.index_mut.ensures.value w.from.ensures in
+          let D : IsDue s.network s.journal.items s.world g.B.Naming.openings (writings s.desks.items) i d.writing w.in-Some.patch =
+          due_desk s.network s.journal.items s.world g.B.Naming.openings s.desks.items (vec_capacity s.journal) c.self.invariant.0 c.self.invariant.1 w.routers-routers.ensures.valid i d at w.in-Some.patch due in
+          let inside : d.out ≡ None = is_in s.desks.items i d at free in
           let done : Lawful s.world (Publish i) × (w.step.new.self ≡ next s.world (Publish i)) = rw w.unwrap.ensures at w.step.ensures.ok in
           let journal : c.match-step.self-inside.journal ≡ s.journal = ap (λ s. s.journal) w.self-inside-is in
           let world : c.match-step.self-inside.world ≡ next s.world (Publish i) = ap (λ s. s.world) w.self-inside-is ∙ done.1 in
-          let writers : c.match-step.self-inside.writers.items ≡ set s.writers.items i y = ap (λ s. s.writers.items) w.self-inside-is ∙ ap (λ k. set s.writers.items k y) w.from.ensures in
+          let desks : c.match-step.self-inside.desks.items ≡ set s.desks.items i e = ap (λ s. s.desks.items) w.self-inside-is ∙ ap (λ k. set s.desks.items k e) w.from.ensures in
+          let writers : writings c.match-step.self-inside.desks.items ≡ set (writings s.desks.items) i e.writing = ap writings desks ∙ writings_set s.world s.desks.items i d e at in
+          let lent : all_lent c.match-step.self-inside.desks.items ≡ all_lent s.desks.items = ap all_lent desks ∙ lent_same s.world s.desks.items i d e at inside published.here in
+          let spared : awaits_writer (old g c) (Publish i) ≡ false = ap (awaits_writer (old g c)) (sym w.in-Publish.is) ∙ unawaited g c in
           let images = images_due (old g c) i (vec_capacity s.journal) (patched w.in-Some.patch.generation w.in-Some.patch.rows.items (image_in_force D.router)) c.self.invariant.0 done.0 D.due
-          ∙ sym (shown_done _ _ _ _ _ _ _ _ D y published.image) ∙ sym (ap (shown_images g.B.Naming.openings) writers) in
+          ∙ sym (shown_done _ _ _ _ _ _ _ _ D e.writing published.image) ∙ sym (ap (shown_images g.B.Naming.openings) writers) in
           record {
             lawful = subst (Lawful s.world) (sym w.in-Publish.is) done.0;
-            after = ap (after_step (old g c)) w.in-Publish.is ∙ is_after g c (Publish i) w.in-Publish.is (ap (λ s. s.network) w.self-inside-is) journal world images;
+            after = ap (after_step (old g c)) w.in-Publish.is ∙ is_after g c (Publish i) w.in-Publish.is (ap (λ s. s.network) w.self-inside-is) journal world images lent;
             journal = journal;
-            writers = subst (λ v. AreWriters v c.match-step.self-inside.writers.items) (sym world) (subst (AreWriters (next s.world (Publish i))) (sym writers)
-                (writers_next s.world (Publish i) (set s.writers.items i y) (writers_set s.world s.writers.items i y c.self.invariant.1
-                (ap (λ (k : Known). k.router) published.list ∙ number_is _ _ _ _ _ _ _ _ D) (none_heard s.world i y.waiting published.waiting))));
+            lent = lent;
+            writers = subst (λ v. AreWriters v (writings c.match-step.self-inside.desks.items)) (sym world) (subst (AreWriters (next s.world (Publish i))) (sym writers)
+                (writers_next s.world (Publish i) (set (writings s.desks.items) i e.writing) (writers_set s.world (writings s.desks.items) i e.writing c.self.invariant.1
+                (ap (λ (k : Known). k.router) published.list ∙ number_is _ _ _ _ _ _ _ _ D) (none_heard s.world i e.writing.waiting published.waiting))));
+            pending = subst (λ v. ArePending v c.match-step.self-inside.desks.items) (sym world) (subst (ArePending (next s.world (Publish i))) (sym desks)
+                (pending_same (next s.world (Publish i)) s.desks.items i d e at published.here (all_pending_next (old g c) (Publish i) s.desks.items refl spared c.self.invariant.2)));
             readers = subst (λ v. AreReaders v c.match-step.self-inside.readers.items) (sym world) (subst (AreReaders (next s.world (Publish i))) (sym (ap (λ s. s.readers.items) w.self-inside-is))
-                (readers_next s.world (Publish i) s.readers.items c.self.invariant.2));
+                (readers_next s.world (Publish i) s.readers.items c.self.invariant.3));
+            aside = ap (λ s. s.set_aside) w.self-inside-is;
           }
       | in-Publish+in_ok-patch-in-Publish+in-None+in_ok-step-in-None w ↦
           let due : _ = due_of (old g c).world w.in-Publish.router w.in_ok-step-in-None.ensures.ok.0 in
@@ -173,22 +225,27 @@ stepped g c =
           let journal : c.match-step.self-inside.journal ≡ c.self.inside.journal = ap (λ s. s.journal) w.self-inside-is in
           let ok = w.in_ok-step-in_default.ensures.ok in
           let world : c.match-step.self-inside.world ≡ next (old g c).world c.args.step = ap (λ s. s.world) w.self-inside-is ∙ ok.1 in
-          let images = images_stay (old g c) c.args.step (vec_capacity c.self.inside.journal) c.self.invariant.0 w.in_default.not-Publish ∙ sym (ap (λ s. shown_images g.B.Naming.openings s.writers.items) w.self-inside-is) in
+          let desks : c.match-step.self-inside.desks.items ≡ c.self.inside.desks.items = ap (λ s. s.desks.items) w.self-inside-is in
+          let images = images_stay (old g c) c.args.step (vec_capacity c.self.inside.journal) c.self.invariant.0 w.in_default.not-Publish ∙ sym (ap (λ ds. shown_images g.B.Naming.openings (writings ds)) desks) in
           record {
             lawful = ok.0;
-            after = is_after g c c.args.step refl (ap (λ s. s.network) w.self-inside-is) journal world images;
+            after = is_after g c c.args.step refl (ap (λ s. s.network) w.self-inside-is) journal world images (ap all_lent desks);
             journal = journal;
-            writers = subst (λ v. AreWriters v c.match-step.self-inside.writers.items) (sym world) (subst (AreWriters (next (old g c).world c.args.step)) (sym (ap (λ s. s.writers.items) w.self-inside-is))
-                (writers_next (old g c).world c.args.step c.self.inside.writers.items c.self.invariant.1));
+            lent = ap all_lent desks;
+            writers = subst (λ v. AreWriters v (writings c.match-step.self-inside.desks.items)) (sym world) (subst (λ ds. AreWriters (next (old g c).world c.args.step) (writings ds)) (sym desks)
+                (writers_next (old g c).world c.args.step (writings c.self.inside.desks.items) c.self.invariant.1));
+            pending = subst (λ v. ArePending v c.match-step.self-inside.desks.items) (sym world) (subst (ArePending (next (old g c).world c.args.step)) (sym desks)
+                (all_pending_next (old g c) c.args.step c.self.inside.desks.items refl (unawaited g c) c.self.invariant.2));
             readers = subst (λ v. AreReaders v c.match-step.self-inside.readers.items) (sym world) (subst (AreReaders (next (old g c).world c.args.step)) (sym (ap (λ s. s.readers.items) w.self-inside-is))
-                (readers_next (old g c).world c.args.step c.self.inside.readers.items c.self.invariant.2));
+                (readers_next (old g c).world c.args.step c.self.inside.readers.items c.self.invariant.3));
+            aside = ap (λ s. s.set_aside) w.self-inside-is;
           }
     ]
 
 -- the sum has the step's number more
 summed : (g : given.Over) (c : goal.After-unwrap-2 g) → IsStepped g c → IsSumOf c.push.new.self.items (c.self.inside.sum + c.number.result)
 summed g c done =
-    summed_more c.self.inside.journal.items c.args.step c.push.new.self.items c.self.inside.sum c.number.result c.self.invariant.3 c.number.ensures.number c.number.ensures.below c.number.ensures.fits
+    summed_more c.self.inside.journal.items c.args.step c.push.new.self.items c.self.inside.sum c.number.result c.self.invariant.4 c.number.ensures.number c.number.ensures.below c.number.ensures.fits
     (pushed g c ∙ ap (λ j. j.items ++ c.args.step ∷ []) done.journal)
 
 pub invariant_of-self-2 : goal.invariant_of-self-2
@@ -196,8 +253,10 @@ invariant_of-self-2 g c =
     let done = stepped g c in (
       kept_as (old g c) (new g c) c.args.step (vec_capacity c.self.inside.journal) (vec_capacity c.push.new.self) c.self.invariant.0 done.lawful (short g c) done.after (room_kept g c done.journal),
       done.writers,
+      done.pending,
       done.readers,
       summed g c done,
+      done.aside ∙ c.self.invariant.5 ∙ sym (ap count_lent done.lent),
     )
 
 pub returns-clause-ok : goal.returns-clause-ok
@@ -205,7 +264,7 @@ returns-clause-ok g c = let done = stepped g c in rw (← c.self.view_is) (done.
 
 pub overflow_add-sum : goal.overflow_add-sum
 overflow_add-sum g c =
-    let sum = (c.self.invariant.3).small in
+    let sum = (c.self.invariant.4).small in
     let short = (c.self.invariant.0).short in
     let below = c.number.ensures.below in
     omega (arith, sum, short, below)

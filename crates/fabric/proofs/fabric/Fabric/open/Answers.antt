@@ -5,10 +5,13 @@ use Rattle.network_model.specs.World.{World, opening}
 use Rattle.network_model.specs.Publication.{Image}
 use Rattle.publication.specs.Lists.{no_patches}
 use Rattle.fabric.specs.Images.{chosen_image}
-use Rattle.fabric.specs.Writers.{IsPort}
+use Rattle.fabric.specs.Desks.{all_lent, desk_in, writings}
+use Rattle.fabric.specs.Fabric.{count_lent, fabric_of, IsKept}
+use Rattle.fabric.specs.Writers.{ArePending, AreWriters, IsPort, shown_images}
+use Rattle.fabric.proofs.Lending.{count-none, none_lent}
 use Rattle.fabric.proofs.Fabrics.{summed_none}
 use Rattle.fabric.proofs.Idle.{router_count}
-use Rattle.fabric.proofs.Opening.{chosen_rows_are, chosen_zero, each_map, is_opening, kept_open, new_readers, new_writers}
+use Rattle.fabric.proofs.Opening.{chosen_rows_are, chosen_zero, each_map, is_opening, kept_open, new_readers, new_writers, none_pending, writings_in}
 use Rattle.fabric.proofs.fabric.Fabric.open.Given as given
 use Rattle.fabric.proofs.fabric.Fabric.open.Goals as goal
 
@@ -38,6 +41,7 @@ deal-requires-clause-stock g c =
     each_map (λ rs. rs.items) (λ i rs. (vec_len rs ≡ c.args.workers + 1) × All (λ r. r ≡ no_patches i) rs.items) (λ i rs. (c.args.workers + 1 ≤ length rs) × All (λ r. r ≡ no_patches i) rs)
     (λ i rs all. (let long : length rs.items ≡ vec_len rs = search rules in omega (arith, long, all.0), all.1)) c.in_ok-writers.lists.items c.in_ok-writers.ensures.readers
 
+-- each desk has its writer
 pub invariant_of-fabric : goal.invariant_of-fabric
 invariant_of-fabric g c =
     let n = c.args.network in
@@ -46,12 +50,19 @@ invariant_of-fabric g c =
     let images = c.in_ok-images.ensures ∙ ap (λ (v : World). map chosen_image v.routers) (c.world-2.ensures ∙ opened) in
     let whole : (length c.in_ok-images.images.items ≡ vec_len c.in_ok-images.images) × (length c.in_ok-writers.writers.items ≡ vec_len c.in_ok-writers.writers) = search rules in
     let each = c.in_ok-writers.ensures.count in
-    let routers : length c.in_ok-images.images.items ≡ length w.routers = ap length images ∙ length-map (opening n).routers chosen_image ∙ ap (λ (v : World). length v.routers) (sym opened) in (
-      kept_open n g.B.Naming.openings c.requires.openings w opened c.in_ok-images.images.items images c.in_ok-writers.writers.items c.in_ok-writers.ensures.writers (omega (arith, whole.0, whole.1, each.0))
-          c.in_ok-journal.journal.items (vec_capacity c.in_ok-journal.journal) c.in_ok-journal.ensures.items (omega (arith, c.in_ok-journal.ensures.capacity)),
-      new_writers n g.B.Naming.openings c.requires.openings c.in_ok-writers.writers.items c.in_ok-writers.ensures.writers w,
+    let seated = c.in_ok-desks.ensures in
+    let writers = c.in_ok-writers.writers.items in
+    let shown : writings c.in_ok-desks.desks.items ≡ writers = ap writings seated ∙ writings_in writers in
+    let routers : length c.in_ok-images.images.items ≡ length w.routers = ap length images ∙ length-map (opening n).routers chosen_image ∙ ap (λ (v : World). length v.routers) (sym opened) in
+    let kept = kept_open n g.B.Naming.openings c.requires.openings w opened c.in_ok-images.images.items images writers c.in_ok-writers.ensures.writers (omega (arith, whole.0, whole.1, each.0))
+    c.in_ok-journal.journal.items (vec_capacity c.in_ok-journal.journal) c.in_ok-journal.ensures.items (omega (arith, c.in_ok-journal.ensures.capacity)) in (
+      subst (λ ds. IsKept (fabric_of n c.in_ok-journal.journal.items w (shown_images g.B.Naming.openings (writings ds)) (all_lent ds)) (vec_capacity c.in_ok-journal.journal)) (sym seated)
+          (subst (λ xs. IsKept (fabric_of n c.in_ok-journal.journal.items w (shown_images g.B.Naming.openings xs) (all_lent (map desk_in writers))) (vec_capacity c.in_ok-journal.journal)) (sym (writings_in writers)) kept),
+      subst (AreWriters w) (sym shown) (new_writers n g.B.Naming.openings c.requires.openings writers c.in_ok-writers.ensures.writers w),
+      subst (ArePending w) (sym seated) (none_pending w writers),
       new_readers w c.in-Ok.readers.items (subst (λ m. IsPort m c.in-Ok.readers.items) (let lists : vec_len c.in_ok-writers.lists ≡ length w.routers = omega (arith, routers, whole.0, each.1) in lists) c.in-Ok.ensures.own),
       summed_none c.in_ok-journal.journal.items c.in_ok-journal.ensures.items,
+      sym (ap (λ ds. count_lent (all_lent ds)) seated ∙ ap count_lent (none_lent writers) ∙ count-none (length writers)),
     )
 
 pub returns-clause-ok : goal.returns-clause-ok
@@ -59,7 +70,12 @@ returns-clause-ok g c =
     let opened = c.in_ok-world.ensures in
     let images = c.in_ok-images.ensures ∙ ap (λ (v : World). map chosen_image v.routers) (c.world-2.ensures ∙ opened) in
     let whole : (length c.in_ok-images.images.items ≡ vec_len c.in_ok-images.images) × (length c.in_ok-writers.writers.items ≡ vec_len c.in_ok-writers.writers) = search rules in
-    is_opening c.args.network g.B.Naming.openings c.requires.openings c.in_ok-world.world opened c.in_ok-images.images.items images c.in_ok-writers.writers.items c.in_ok-writers.ensures.writers
+    let seated = c.in_ok-desks.ensures in
+    let writers = c.in_ok-writers.writers.items in
+    let w = c.in_ok-world.world in
+    ap (λ ds. fabric_of c.args.network c.in_ok-journal.journal.items w (shown_images g.B.Naming.openings (writings ds)) (all_lent ds)) seated
+    ∙ ap (λ xs. fabric_of c.args.network c.in_ok-journal.journal.items w (shown_images g.B.Naming.openings xs) (all_lent (map desk_in writers))) (writings_in writers)
+    ∙ is_opening c.args.network g.B.Naming.openings c.requires.openings w opened c.in_ok-images.images.items images writers c.in_ok-writers.ensures.writers
     (omega (arith, whole.0, whole.1, c.in_ok-writers.ensures.count.0)) c.in_ok-journal.journal.items c.in_ok-journal.ensures.items
 
 pub returns-clause-ports : goal.returns-clause-ports

@@ -1,9 +1,10 @@
-use Rattle.std.proofs.Common.{◌∙◌, ap}
+use Rattle.std.proofs.Common.{◌∙◌, ap, arith}
 use Rattle.network_model.specs.Journal.{steps_in_sum}
 use Rattle.network_model.proofs.JournalLaws.{journal_length}
 use Rattle.fabric.proofs.fabric.Fabric.sum.Goals as goal
 
 pub returns-clause-length : goal.returns-clause-length
 returns-clause-length g c =
-    let summed = c.self.invariant.3 in
-    rw (← c.self.view_is) (ap steps_in_sum summed.is ∙ journal_length c.self.inside.journal.items summed.fit (c.self.invariant.0).short)
+    let summed = c.self.invariant.4 in
+    let short = (c.self.invariant.0).short in
+    rw (← c.self.view_is) (ap steps_in_sum summed.is ∙ journal_length c.self.inside.journal.items summed.fit (omega (arith, short)))

@@ -1,7 +1,0 @@
-use Rattle.control.specs.Names.{high_name, low_name}
-use Rattle.control.specs.Served.{all_asked}
-use Rattle.control.proofs.alone.one_step.Given as goal
-
--- the ledgers that were just made, and the fabric
-abbrev pub ghosts-step_alone : goal.ghosts-step_alone
-ghosts-step_alone g a = record { high = high_name a.opening; low = low_name a.opening; shares = (a.opening).shares; opened = a.fabric; asked = all_asked }

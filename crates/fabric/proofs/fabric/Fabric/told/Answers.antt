@@ -1,0 +1,41 @@
+use Rattle.std.proofs.Common.{◌≡◌, ◌∙◌, Some, length, refl, ap, sym, subst}
+use Rattle.std.specs.Prelude.{IfSome, option_map, slice_get}
+use Rattle.std.proofs.lemmas.Option.{slice_get-map, slice_get_read}
+use Rattle.network_model.specs.World.{Router}
+use Rattle.publication.specs.Lists.{Writing, image_of}
+use Rattle.publication.specs.declared.known.Known.{Known}
+use Rattle.publication.proofs.Places.{each_there}
+use Rattle.fabric.specs.Desks.{Desk, writings}
+use Rattle.fabric.specs.Fabric.{Fabric}
+use Rattle.fabric.proofs.Showing.{list_is_last}
+use Rattle.fabric.proofs.fabric.Fabric.told.Given as given
+use Rattle.fabric.proofs.fabric.Fabric.told.Goals as goal
+
+-- the writer is at its place
+there : (g : given.Over) (c : goal.After-told g) → slice_get (writings c.self.inside.desks.items) c.args.router ≡ Some c.in_ok-desk.desk.now.writing
+there g c =
+    let read = c.in_ok-desk.ensures.lookup in
+    let desks = c.self.inside.desks.items in
+    let seated : slice_get desks c.args.router ≡ Some c.in_ok-desk.desk.now =
+    ap (slice_get desks) (sym c.from.ensures)
+    ∙ ap (λ xs. slice_get xs c.from.result) (sym c.deref.ensures.value)
+    ∙ slice_get_read c.deref.result.now (length c.deref.result.now) c.from.result c.in_ok-desk.desk.now refl read.3.0 read.1 in
+    slice_get-map (λ (d : Desk). d.writing) desks c.args.router ∙ ap (option_map (λ (d : Desk). d.writing)) seated
+
+pub returns-clause-in_force : goal.returns-clause-in_force
+returns-clause-in_force g c =
+    ap (λ (f : Fabric). slice_get f.images c.args.router) (sym c.self.view_is)
+    ∙ slice_get-map (λ (x : Writing). image_of g.B.Naming.openings x.published) (writings c.self.inside.desks.items) c.args.router
+    ∙ ap (option_map (λ (x : Writing). image_of g.B.Naming.openings x.published)) (there g c)
+    ∙ ap (λ t. Some (image_of g.B.Naming.openings t)) (sym c.told.ensures.told)
+
+pub returns-clause-router : goal.returns-clause-router
+returns-clause-router g c =
+    ap (λ (k : Known). k.router) c.told.ensures.told
+    ∙ each_there (λ i (x : Writing). (x.published).router ≡ i) (writings c.self.inside.desks.items) (c.self.invariant.1).numbered c.args.router c.in_ok-desk.desk.now.writing (there g c)
+
+pub returns-clause-last : goal.returns-clause-last
+returns-clause-last g c =
+    let told = c.told.result in
+    subst (λ (f : Fabric). IfSome (slice_get f.world.routers c.args.router) (λ (r : Router). length told.publications ≡ r.generation)) c.self.view_is
+    (list_is_last g.B.Naming.openings c.self.inside.world (writings c.self.inside.desks.items) c.self.invariant.0.in_force c.args.router c.in_ok-desk.desk.now.writing (there g c) told c.told.ensures.told c.told.ensures.count)

@@ -1,0 +1,190 @@
+//! The place of a router's writer: with the fabric, or out with a ticket.
+
+ghost use Rattle.std.specs.Prelude.{◌≡◌, ◌⊎◌, ◌+◌, ◌++◌, ◌∷◌, ◌↔◌, [], Some, None, is_some, length, map, IfErr, IfOk, IsOk, OnOk, OnErr};
+ghost use Rattle.image_patch.specs.Patches.{patched};
+ghost use Rattle.publication.specs.Lists.{Covers, generation_of, image_of, patch_of, prefixes_of, with_publication};
+ghost use Rattle.publication.specs.Outings.{IsOuting, new_outing};
+ghost use Rattle.fabric.specs.Desks.{desk_in, desk_out};
+
+use network_model::{NoMemory, Prefix};
+use publication::{ImageWriter, Naming, Patch, Stub, Ticket, Told, close_all as end_all};
+use std::alloc::Global;
+use std::marker::Model;
+use std::mem::replace;
+use std::sync::Wait;
+
+// Where a writer is, or what stays of it while it is out.
+enum Place<B: Naming> {
+    In(ImageWriter<B>),
+    Out(Stub<B>),
+}
+
+/// A router's writer, or what is kept of it while it is out with a ticket. It is not `Drop`: end it by
+/// `close`.
+pub struct Desk<B: Naming> {
+    place: Place<B>,
+}
+
+impl<B: Naming> Model for Desk<B> {
+    ghost use Rattle.fabric.specs.Desks.{Desk as DeskState};
+
+    ghost Value = { DeskState };
+
+    ghost use Rattle.fabric.specs.Places.{desk_of};
+
+    ghost view = { λ d. desk_of d.place };
+
+    ghost use Rattle.std.specs.Prelude.{⊤};
+
+    ghost invariant = { λ d. ⊤ };
+}
+
+impl<B: Naming> Desk<B> {
+    /// A writer that is in.
+    pub fn new(writer: ImageWriter<B>) -> Desk<B>
+        ensures { result ≡ desk_in writer }
+    {
+        Desk {
+            place: Place::In(writer),
+        }
+    }
+
+    /// What the writer had published when it was here last.
+    pub fn told(&self) -> Told<B>
+        ensures told { result ≡ self.now.writing.published }
+        ensures count { length result.publications ≡ generation_of result }
+    {
+        match &self.place {
+            Place::In(writer) => {
+                // It counts the publications.
+                let _generation = writer.generation();
+                writer.tell()
+            }
+            Place::Out(stub) => stub.told(),
+        }
+    }
+
+    /// Whether the writer is out.
+    pub fn is_out(&self) -> bool
+        ensures { result ≡ is_some self.now.out }
+    {
+        match &self.place {
+            Place::In(_) => false,
+            Place::Out(_) => true,
+        }
+    }
+
+    /// The prefixes that wait with a writer that is in.
+    pub fn waiting(&self) -> &[Prefix]
+        ensures { self.now.out ≡ None → result.now ≡ prefixes_of self.now.writing.waiting }
+    {
+        match &self.place {
+            Place::In(writer) => writer.waiting(),
+            Place::Out(_) => &[],
+        }
+    }
+
+    /// The writer, which is in, publishes a patch.
+    pub fn publish<R: Wait>(&mut self, rt: &R, patch: Patch) -> Result<(), NoMemory>
+        requires here { self.old.out ≡ None }
+        requires number { patch.generation ≡ generation_of self.old.writing.published + 1 }
+        requires covers { Covers (patch_of patch) self.old.writing.waiting }
+        ensures here { self.new.out ≡ None }
+        ensures list { OnOk result (self.new.writing.published
+            ≡ with_publication self.old.writing.published (self.old.writing.waiting ++ patch_of patch ∷ [])) }
+        ensures waiting { OnOk result (self.new.writing.waiting ≡ []) }
+        ensures image { OnOk result (image_of B.openings self.new.writing.published
+            ≡ patched patch.generation patch.rows.items (image_of B.openings self.old.writing.published)) }
+        ensures unseen { OnErr result (self.new.writing.published ≡ self.old.writing.published) }
+        ensures refused { OnErr result ((self.new.writing.waiting ≡ self.old.writing.waiting)
+            ⊎ (self.new.writing.waiting ≡ self.old.writing.waiting ++ patch_of patch ∷ [])) }
+    {
+        match &mut self.place {
+            Place::In(writer) => {
+                writer.publish(rt, patch)?;
+                Ok(())
+            }
+            Place::Out(_) => unreachable!(),
+        }
+    }
+
+    /// The writer, which is in, goes out with the patch, of which a copy stays.
+    pub fn lend(&mut self, patch: Patch, copy: Patch) -> Ticket<B>
+        requires here { self.old.out ≡ None }
+        requires number { patch.generation ≡ generation_of self.old.writing.published + 1 }
+        requires covers { Covers (patch_of patch) self.old.writing.waiting }
+        requires copy { patch_of copy ≡ patch_of patch }
+        ensures ticket { result ≡ new_outing self.old.writing (patch_of patch) }
+        ensures desk { self.new ≡ desk_out self.old.writing.published (patch_of patch) }
+    {
+        let stub = match &self.place {
+            Place::In(writer) => Stub::new(writer, copy),
+            Place::Out(_) => unreachable!(),
+        };
+        match replace(&mut self.place, Place::Out(stub)) {
+            Place::In(writer) => Ticket::new(writer, patch),
+            Place::Out(_) => unreachable!(),
+        }
+    }
+
+    /// The writer comes back. Refused, the ticket comes back: the writer is in, or it is out with another
+    /// patch.
+    pub fn take_back(&mut self, ticket: Ticket<B>) -> Result<(), Ticket<B>>
+        ensures its { IsOk result ↔ ((self.old.out ≡ Some ticket.patch) × (self.old.writing.published.router ≡ ticket.before.router)) }
+        ensures list { OnOk result (self.old.writing.published ≡ ticket.before) }
+        ensures kept { OnOk result (IsOuting ticket) }
+        ensures desk { OnOk result (self.new ≡ desk_in ticket.writing) }
+        ensures ticket { IfErr result (λ t. t ≡ ticket) }
+        ensures same { OnErr result (self.new ≡ self.old) }
+    {
+        let is_its = match &self.place {
+            Place::In(_) => false,
+            Place::Out(stub) => ticket.is_of(stub),
+        };
+        if !is_its {
+            return Err(ticket);
+        }
+        match replace(&mut self.place, Place::In(ticket.into_writer())) {
+            Place::In(_writer) => unreachable!(),
+            Place::Out(_stub) => Ok(()),
+        }
+    }
+
+    /// Ends the writer, if it is in. It waits for readers that are looking up.
+    pub fn close<R: Wait>(self, rt: &R) {
+        let Desk { place } = self;
+        match place {
+            Place::In(writer) => writer.close(rt),
+            Place::Out(_stub) => {}
+        }
+    }
+}
+
+/// The desks of these writers, each of which is in. Without memory it ends them.
+pub fn seat_all<B: Naming, R: Wait>(
+    rt: &R,
+    alloc: Global,
+    writers: Vec<ImageWriter<B>>,
+) -> Result<Vec<Desk<B>>, NoMemory>
+    ensures { IfOk result (λ desks. desks.items ≡ map desk_in writers.items) }
+{
+    let Ok(mut desks) = Vec::with_capacity(alloc, writers.len()) else {
+        end_all(rt, writers);
+        return Err(NoMemory);
+    };
+    let mut writers = writers.into_iter();
+    while let Some(writer) = writers.next() {
+        desks.push_reserved(Desk::new(writer));
+    }
+    writers.destroy_empty();
+    Ok(desks)
+}
+
+/// Ends writers that are in. It waits for readers that are looking up.
+pub fn close_all<B: Naming, R: Wait>(rt: &R, desks: Vec<Desk<B>>) {
+    let mut desks = desks;
+    while let Some(desk) = desks.pop() {
+        desk.close(rt);
+    }
+    desks.into_iter().destroy_empty();
+}

@@ -1,0 +1,13 @@
+use Rattle.std.proofs.Common.{◌≡◌, ◌⊎◌, ◌∙◌, ◌++◌, ◌∷◌, [], ap, subst}
+use Rattle.network_model.specs.Publication.{Patch}
+use Rattle.publication.specs.Lists.{patch_of}
+use Rattle.publication.specs.Outings.{Outing}
+use Rattle.publication.proofs.Outings.{out_still}
+use Rattle.publication.proofs.ticket.Ticket.publish.Goals as goal
+
+pub invariant_of-self : goal.invariant_of-self
+invariant_of-self g c =
+    let s = c.self.inside in
+    let r = c.in_err-publish.ensures.refused in
+    out_still s.before (patch_of s.patch) s.published s.writer c.publish.new.self (ap (λ (o : Outing). o.is_published) c.self.view_is ∙ c.requires) c.self.invariant c.in_err-publish.ensures.unseen
+    (subst (λ (p : Patch). (c.publish.new.self.waiting ≡ s.writer.waiting) ⊎ (c.publish.new.self.waiting ≡ s.writer.waiting ++ p ∷ [])) c.in_ok-patch.ensures r)
