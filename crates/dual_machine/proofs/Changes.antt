@@ -1,6 +1,6 @@
 -- A change at a place of a list.
-use Rattle.std.proofs.Common.{◌≡◌, ℕ, zero, suc, ◌<◌, List, [], ◌∷◌, ◌++◌, length, get_or, set, take, refl, ap, arith}
-use Rattle.std.proofs.Math.Seq.{take-append_seam}
+use Rattle.std.proofs.Common.{◌≡◌, ℕ, zero, suc, ◌<◌, List, [], ◌∷◌, ◌++◌, length, get_or, set, take, refl, ap, ◌∙◌, arith}
+use Rattle.std.proofs.lemmas.List.{take_at}
 use Rattle.network_model.specs.Machine.{changed_at}
 
 module _ {A : Type 0} (f : A → A) where
@@ -10,6 +10,6 @@ module _ {A : Type 0} (f : A → A) where
   set-changed_at zero (x ∷ xs) d below = refl
   set-changed_at (suc k) (x ∷ xs) d below = ap (λ ys. x ∷ ys) (set-changed_at k xs d (omega arith))
 
--- what is left of a list whose first part was written whole: that part, where it is all of the list
-pub refilled : {A : Type 0} (new rest : List A) (n : ℕ) → n ≡ length new → take n (new ++ rest) ≡ new
-refilled new rest n whole = rw whole (take-append_seam new rest)
+-- what is left of a list that was written through a slice of all of it: what the slice shows last. items is the slice as it was lent
+pub refilled : {A : Type 0} (before items new rest : List A) → length new ≡ length items → items ≡ before → take (length before) (new ++ rest) ≡ new
+refilled before items new rest whole same = take_at new rest (length before) (whole ∙ ap length same)

@@ -1,6 +1,6 @@
 -- The parts of a machine fit together still once a record has changed.
 use Rattle.std.specs.Prelude.{◌≡◌, ℕ, ◌≤◌, Bool, false, not, ◌↔◌, IsTrue, List, ◌++◌, length, take, Option, Some, None, All, IfSome}
-use Rattle.std.proofs.Common.{arith, subst, sym, ◌∙◌}
+use Rattle.std.proofs.Common.{arith, ap, subst, sym, ◌∙◌}
 use Rattle.std.specs.List.{list_any}
 use Rattle.std.specs.FinSet.{contains}
 use Rattle.metric.specs.Distance.{IsCost}
@@ -19,19 +19,20 @@ use Rattle.dual_machine.proofs.Room.{IsAsking}
 
 -- ---- the records as a change through a slice leaves them: ports is that slice before, new after, and before is the whole list
 
-pub costs_after : (e : Event) (before ports new rest : List Neighbour) (n : ℕ) → n ≡ length new → ports ≡ before → new ≡ records_after e ports → BringsCost e → All (λ n. IsCost n.cost) before → All (λ n. IsCost n.cost) (take n (new ++ rest))
-costs_after e before ports new rest n whole same is brought costs =
+pub costs_after : (e : Event) (before ports new rest : List Neighbour) → length new ≡ length ports → ports ≡ before → new ≡ records_after e ports → BringsCost e → All (λ n. IsCost n.cost) before → All (λ n. IsCost n.cost) (take (length before) (new ++ rest))
+costs_after e before ports new rest whole same is brought costs =
     let HaveCosts = λ (ns : List Neighbour). All (λ n. IsCost n.cost) ns in
-    subst HaveCosts (sym (refilled new rest n whole ∙ is)) (HasCost-records_after e ports brought (subst HaveCosts (sym same) costs))
+    subst HaveCosts (sym (refilled before ports new rest whole same ∙ is)) (HasCost-records_after e ports brought (subst HaveCosts (sym same) costs))
 
-pub IsSound_after : (e : Event) (attachment later : Option ℕ) (before ports new rest : List Neighbour) (s : Option ℕ) (a : Option Active) (n : ℕ) → n ≡ length new → n ≤ 32 → length before ≡ n → ports ≡ before → new ≡ records_after e ports → later ≡ attachment_after e attachment → BringsCost e
-    → All (λ n. IsCost n.cost) before → IfSome attachment (λ cost. IsCost cost) → IfSome a (IsUnderWay (length before) s) → IsSound later (take n (new ++ rest)) s a
-IsSound_after e attachment later before ports new rest s a n whole few as_many same is later_is brought costs attached under_way =
-    let kept = refilled new rest n whole in record {
+pub IsSound_after : (e : Event) (attachment later : Option ℕ) (before ports new rest : List Neighbour) (s : Option ℕ) (a : Option Active) → length new ≡ length ports → ports ≡ before → new ≡ records_after e ports → later ≡ attachment_after e attachment → BringsCost e
+    → length before ≤ 32 → All (λ n. IsCost n.cost) before → IfSome attachment (λ cost. IsCost cost) → IfSome a (IsUnderWay (length before) s) → IsSound later (take (length before) (new ++ rest)) s a
+IsSound_after e attachment later before ports new rest s a whole same is later_is brought few costs attached under_way =
+    let kept = refilled before ports new rest whole same in
+    let as_many : length before ≡ length new = sym (whole ∙ ap length same) in record {
       few = rw kept (omega arith);
-      costs = costs_after e before ports new rest n whole same is brought costs;
+      costs = costs_after e before ports new rest whole same is brought costs;
       attached = subst (λ (o : Option ℕ). IfSome o (λ cost. IsCost cost)) (sym later_is) (HasCost-attachment_after e attachment brought attached);
-      under_way = rw kept (rw (as_many ∙ whole) at under_way);
+      under_way = rw kept (rw as_many at under_way);
     }
 
 pub IsAsking-computation_of : (n : ℕ) (s : Option ℕ) (a : Option Active) → IfSome a (IsUnderWay n s) → IsAsking (computation_of n a)

@@ -13,11 +13,11 @@ module _ (e : Event) (attachment : Option ℕ) (before : List Neighbour) (rd fd 
   abbrev pub then : Machine
   then = record { attachment = attachment; ports = before; rd = rd; fd = fd; successor = s; computation = c }
 
-  pub recorded : (later : Option ℕ) (ports new rest : List Neighbour) (t : Option ℕ) (d : Option Computation) (n degree : ℕ) → n ≡ length new → ports ≡ before → new ≡ records_after e ports
+  pub recorded : (later : Option ℕ) (ports new rest : List Neighbour) (t : Option ℕ) (d : Option Computation) (degree : ℕ) → length new ≡ length ports → ports ≡ before → new ≡ records_after e ports
       → later ≡ attachment_after e attachment → degree ≡ length before → t ≡ successor_after degree e s → d ≡ c
-      → record { attachment = later; ports = take n (new ++ rest); rd = rd; fd = fd; successor = t; computation = d } ≡ with_records then e
-  recorded later ports new rest t d n degree whole same is later_is count t_is d_is =
-      let ports_are : take n (new ++ rest) ≡ records_after e before = refilled new rest n whole ∙ is ∙ ap (records_after e) same in
+      → record { attachment = later; ports = take (length before) (new ++ rest); rd = rd; fd = fd; successor = t; computation = d } ≡ with_records then e
+  recorded later ports new rest t d degree whole same is later_is count t_is d_is =
+      let ports_are : take (length before) (new ++ rest) ≡ records_after e before = refilled before ports new rest whole same ∙ is ∙ ap (records_after e) same in
       let successor_is : t ≡ successor_after (length before) e s = t_is ∙ ap (λ (k : ℕ). successor_after k e s) count in
       λ i. record { attachment = later_is i; ports = ports_are i; rd = rd; fd = fd; successor = successor_is i; computation = d_is i }
 

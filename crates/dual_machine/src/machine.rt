@@ -20,6 +20,7 @@ use crate::mode::{Active, Mode};
 use crate::sends::Sends;
 use diffusing_replies::{Debt, Origin, Replies};
 use network_model::{Cost, Distance, Event, Kind, Neighbour, NoMemory, PortInfo};
+use smallvec::SmallVec;
 use std::alloc::{AllocError, Global};
 use std::marker::Model;
 
@@ -27,7 +28,7 @@ use std::marker::Model;
 #[derive(Debug, Drop)]
 pub struct Machine {
     attachment: Option<Cost>,
-    ports: Vec<Neighbour>,
+    ports: SmallVec<Neighbour, 4>,
     rd: Distance,
     fd: Distance,
     successor: Option<u8>,
@@ -69,12 +70,15 @@ fn opening_neighbour(port: &PortInfo) -> Neighbour
     }
 }
 
-fn opening_neighbours(alloc: Global, ports: &[PortInfo]) -> Result<Vec<Neighbour>, AllocError>
+fn opening_neighbours(
+    alloc: Global,
+    ports: &[PortInfo],
+) -> Result<SmallVec<Neighbour, 4>, AllocError>
     ensures items { IfOk result (λ v. v.items ≡ state.opening_neighbours ports.now) }
     ensures costs { IfOk result (λ v. All (λ n. IsCost n.cost) v.items) }
-    ensures full { OnErr result (0 < length ports.now) }
+    ensures full { OnErr result (4 < length ports.now) }
 {
-    let mut neighbours = Vec::with_capacity(alloc, ports.len())?;
+    let mut neighbours = SmallVec::with_capacity(alloc, ports.len())?;
     for port in ports {
         neighbours.push_reserved(opening_neighbour(port));
     }
@@ -94,6 +98,9 @@ impl Machine {
 
         // Without ports it takes no memory.
         ensures full { OnErr result (0 < length ports.now) }
+
+        // Up to four records stand in the machine itself.
+        ensures inline { length ports.now ≤ 4 → IsOk result }
     {
         let neighbours = opening_neighbours(alloc, ports)?;
         let (distance, successor) = match attachment {

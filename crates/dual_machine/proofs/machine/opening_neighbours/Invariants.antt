@@ -1,4 +1,4 @@
-use Rattle.std.proofs.Common.{◌≡◌, take, All, vec_len, vec_capacity, length}
+use Rattle.std.proofs.Common.{◌≡◌, ◌≤◌, take, All, length}
 use Rattle.metric.specs.Distance.{IsCost}
 use Rattle.dual_machine.specs.State as state
 use Rattle.dual_machine.proofs.machine.opening_neighbours.Given as goal
@@ -7,6 +7,6 @@ abbrev pub invariant-loop-port : goal.invariant-loop-port
 invariant-loop-port l = record {
   so_far : (l.neighbours).items ≡ state.opening_neighbours (take l.port-index l.ports);
   costs : All (λ n. IsCost n.cost) (l.neighbours).items;
-  count : vec_len l.neighbours ≡ l.port-index;
-  room : vec_capacity l.neighbours ≡ length l.ports;
+  count : length (l.neighbours).items ≡ l.port-index;
+  room : length l.ports ≤ (l.neighbours).capacity;
 }

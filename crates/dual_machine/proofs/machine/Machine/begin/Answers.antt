@@ -18,8 +18,8 @@ invariant_of-self c =
     let ports = (i.ports).items in
     let up = λ (ns : List Neighbour). list_any (λ n. n.up) ns in
     let asked : (q : ℕ) → contains c.begin-replies.result q ≡ is_up_at ports q =
-    λ q. ap (λ (s : Ports). contains s q) c.begin-replies.ensures ∙ c.up_ports.ensures q ∙ ap (λ (ns : List Neighbour). is_up_at ns q) c.deref-then-is_any_up-3.ensures.value in
-    let any : up ports ≡ true = ap up (sym c.deref.ensures.value) ∙ sym c.is_any_up.ensures ∙ c.if-is_any_up.true in
+    λ q. ap (λ (s : Ports). contains s q) c.begin-replies.ensures ∙ c.up_ports.ensures q ∙ ap (λ (ns : List Neighbour). is_up_at ns q) c.deref-then-is_any_up-3.ensures in
+    let any : up ports ≡ true = ap up (sym c.deref.ensures) ∙ sym c.is_any_up.ensures ∙ c.if-is_any_up.true in
     let asking = ap (λ (bs : List Bool). list_any (λ b. b) bs) (awaited_of-up _ ports asked) ∙ list_any-map ports ∙ any in
     let debt = subst (λ (s : State). IsDebtOf (degree s.machine) c.args.origin (s.machine).successor c.args.debt) (sym c.self.view_is) c.requires.debt in
     record { few = c.self.invariant.few; costs = c.self.invariant.costs; attached = c.self.invariant.attached; under_way = record { asking = asking; known = AwaitsBelow-up _ ports asked; debt = debt } }
@@ -28,6 +28,6 @@ pub returns-then-is_any_up-clause-machine : goal.returns-then-is_any_up-clause-m
 returns-then-is_any_up-clause-machine c =
     let ports = ((c.self.inside).ports).items in
     let asked : (q : ℕ) → contains c.begin-replies.result q ≡ is_up_at ports q =
-    λ q. ap (λ (s : Ports). contains s q) c.begin-replies.ensures ∙ c.up_ports.ensures q ∙ ap (λ (ns : List Neighbour). is_up_at ns q) c.deref-then-is_any_up-3.ensures.value in
+    λ q. ap (λ (s : Ports). contains s q) c.begin-replies.ensures ∙ c.up_ports.ensures q ∙ ap (λ (ns : List Neighbour). is_up_at ns q) c.deref-then-is_any_up-3.ensures in
     let awaited : awaited_of (length ports) c.begin-replies.result ≡ map (λ n. n.up) ports = awaited_of-up _ ports asked in
     grind (arith, common_steps)

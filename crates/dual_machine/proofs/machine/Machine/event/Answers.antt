@@ -11,8 +11,8 @@ use Rattle.dual_machine.proofs.machine.Machine.event.Goals as goal
 pub invariant_of-self : goal.invariant_of-self
 invariant_of-self c =
     let i = c.self.inside in
-    IsSound_after (Event.Up c.in-Up.port c.in-Up.cost) i.attachment i.attachment (i.ports).items c.deref_mut.result.now c.change_record.new.ports _ i.successor i.active (i.ports).len
-    (omega arith) (omega arith) (omega arith) c.deref_mut.ensures.value c.change_record.ensures.records refl c.change_record.ensures.cost c.self.invariant.costs c.self.invariant.attached
+    IsSound_after (Event.Up c.in-Up.port c.in-Up.cost) i.attachment i.attachment (i.ports).items c.deref_mut.result.now c.change_record.new.ports _ i.successor i.active
+    (omega arith) c.deref_mut.ensures.value c.change_record.ensures.records refl c.change_record.ensures.cost c.self.invariant.few c.self.invariant.costs c.self.invariant.attached
     c.self.invariant.under_way
 
 pub react-requires : goal.react-requires
@@ -20,7 +20,7 @@ react-requires c =
     let m = (c.args.self.now).machine in
     let e = c.args.event in
     let ups = λ (ns : List Neighbour). count_by (λ n. n.up) ns in
-    let counted : c.up_count.result ≡ ups m.ports = c.up_count.ensures ∙ ap ups (c.deref.ensures.value ∙ ap (λ (s : State). (s.machine).ports) c.self.view_is) in
+    let counted : c.up_count.result ≡ ups m.ports = c.up_count.ensures ∙ ap ups (c.deref.ensures ∙ ap (λ (s : State). (s.machine).ports) c.self.view_is) in
     let asking = subst (λ (s : State). IsAsking (s.machine).computation) c.self.view_is (IsAsking-computation_of _ _ _ c.self.invariant.under_way) in
     let few = subst (λ (r : Reaction). length r.sends ≤ most_sent m.ports) (reaction-decision m e c.in_default.not-Up) (length-reaction m e asking) in
     record { known = c.requires.known; room = omega (arith, few, counted, c.in_ok-reserve.ensures.ok) }

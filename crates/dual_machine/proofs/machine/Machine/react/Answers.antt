@@ -1,5 +1,5 @@
 use Rattle.std.proofs.Common.{◌≡◌, ◌≤◌, ℕ, false, not, Option, Some, None, List, ◌++◌, length, take, drop, append_assoc, IfSome, arith, refl, ap, subst, sym, ◌∙◌}
-use Rattle.std.specs.List.{list_any}
+use Rattle.std.specs.List.{list_any, length_refill}
 use Rattle.std.proofs.lemmas.Grind.{common_steps}
 use Rattle.metric.specs.Distance.{IsCost}
 use Rattle.network_model.specs.declared.machine.Neighbour.{Neighbour}
@@ -12,7 +12,6 @@ use Rattle.dual_machine.specs.Event.{IsKnown}
 use Rattle.dual_machine.specs.Awaited.{awaited_of}
 use Rattle.dual_machine.specs.Parts.{IsUnderWay, IsDebtOf, computation_of}
 use Rattle.dual_machine.specs.State.{State, moved}
-use Rattle.dual_machine.proofs.Changes.{refilled}
 use Rattle.dual_machine.proofs.Closing.{costs_after, IsSound_after, asking_after}
 use Rattle.dual_machine.proofs.Awaiting.{asking-done}
 use Rattle.dual_machine.proofs.Costs.{condition_holds_near, not_above, HasCost-attachment_after, HasCost-ways}
@@ -23,15 +22,15 @@ use Rattle.dual_machine.proofs.machine.Machine.react.Goals as goal
 pub invariant_of-self : goal.invariant_of-self
 invariant_of-self c =
     let i = c.self.inside in
-    IsSound_after c.args.event.now i.attachment _ (i.ports).items c.deref_mut.result.now c.change_record.new.ports _ c.successor_after-self-inside.result i.active (i.ports).len
-    (omega arith) (omega arith) (omega arith) c.deref_mut.ensures.value c.change_record.ensures.records c.attachment_after-self-inside.ensures c.change_record.ensures.cost c.self.invariant.costs c.self.invariant.attached
+    IsSound_after c.args.event.now i.attachment _ (i.ports).items c.deref_mut.result.now c.change_record.new.ports _ c.successor_after-self-inside.result i.active
+    (omega arith) c.deref_mut.ensures.value c.change_record.ensures.records c.attachment_after-self-inside.ensures c.change_record.ensures.cost c.self.invariant.few c.self.invariant.costs c.self.invariant.attached
     (rw c.in_default.is tt)
 
 pub invariant_of-self-then-is_done : goal.invariant_of-self-then-is_done
 invariant_of-self-then-is_done c =
     let i = c.self.inside in
-    IsSound_after c.args.event.now i.attachment _ (i.ports).items c.deref_mut.result.now c.change_record.new.ports _ c.successor_after-self-inside.result _ (i.ports).len
-    (omega arith) (omega arith) (omega arith) c.deref_mut.ensures.value c.change_record.ensures.records c.attachment_after-self-inside.ensures c.change_record.ensures.cost c.self.invariant.costs c.self.invariant.attached
+    IsSound_after c.args.event.now i.attachment _ (i.ports).items c.deref_mut.result.now c.change_record.new.ports _ c.successor_after-self-inside.result _
+    (omega arith) c.deref_mut.ensures.value c.change_record.ensures.records c.attachment_after-self-inside.ensures c.change_record.ensures.cost c.self.invariant.few c.self.invariant.costs c.self.invariant.attached
     tt
 
 pub invariant_of-self-else-is_done : goal.invariant_of-self-else-is_done
@@ -41,8 +40,8 @@ invariant_of-self-else-is_done c =
     let count : c.len-degree.result ≡ length (i.ports).items = omega arith in
     let known : IsKnown (length (i.ports).items) c.args.event.now = subst (λ (s : State). IsKnown (degree s.machine) c.args.event.now) (sym c.self.view_is) c.requires.known in
     let before = subst (λ (a : Option Active). IfSome a (IsUnderWay n i.successor)) c.in-Some.is c.self.invariant.under_way in
-    IsSound_after c.args.event.now i.attachment _ (i.ports).items c.deref_mut.result.now c.change_record.new.ports _ c.successor_after-self-inside.result _ (i.ports).len
-    (omega arith) (omega arith) (omega arith) c.deref_mut.ensures.value c.change_record.ensures.records c.attachment_after-self-inside.ensures c.change_record.ensures.cost c.self.invariant.costs c.self.invariant.attached
+    IsSound_after c.args.event.now i.attachment _ (i.ports).items c.deref_mut.result.now c.change_record.new.ports _ c.successor_after-self-inside.result _
+    (omega arith) c.deref_mut.ensures.value c.change_record.ensures.records c.attachment_after-self-inside.ensures c.change_record.ensures.cost c.self.invariant.few c.self.invariant.costs c.self.invariant.attached
     (record {
       asking = asking-done c.is_done.result c.end_wait.new.replies n (c.end_wait.ensures.no_more n before.known) c.is_done.ensures ∙ ap not c.if-is_done.false;
       known = c.end_wait.ensures.no_more n before.known;
@@ -90,7 +89,7 @@ complete-requires-clause-debt c =
     let count : c.len-degree.result ≡ length (i.ports).items = omega arith in
     let known : IsKnown (length (i.ports).items) c.args.event.now = subst (λ (s : State). IsKnown (degree s.machine) c.args.event.now) (sym c.self.view_is) c.requires.known in
     let before = subst (λ (a : Option Active). IfSome a (IsUnderWay (length (i.ports).items) i.successor)) c.in-Some.is c.self.invariant.under_way in
-    let as_many : length (i.ports).items ≡ length (take (i.ports).len (c.change_record.new.ports ++ drop (length c.change_record.new.ports) (i.ports).items)) = omega (arith, ap length (refilled c.change_record.new.ports (drop (length c.change_record.new.ports) (i.ports).items) (i.ports).len (omega arith))) in
+    let as_many : length (i.ports).items ≡ length (take (length (i.ports).items) (c.change_record.new.ports ++ drop (length c.change_record.new.ports) (i.ports).items)) = length_refill (length (i.ports).items) (i.ports).items c.change_record.new.ports refl in
     subst (λ (n : ℕ). IsDebtOf n c.moved-origin.result c.successor_after-self-inside.result c.debt_after-debt.result) as_many
     (IsDebtOf_after (length (i.ports).items) c.args.event.now i.successor _ c.has_risen-risen.result _ _ _ _ known (c.moved-origin.ensures ∙ ap (λ (n : ℕ). moved n i.successor c.args.event.now c.has_risen-risen.result c.in-Some.active.origin) count) (c.successor_after-self-inside.ensures ∙ ap (λ (n : ℕ). successor_after n c.args.event.now i.successor) count) c.debt_after-debt.ensures before.debt)
 
@@ -99,12 +98,12 @@ complete-requires-clause-tested c = λ untested.
     let i = c.self.inside in
     let after = c.successor_after-self-inside.result in
     let home = home_ways c.attachment_after-self-inside.result in
-    let costs = costs_after c.args.event.now (i.ports).items c.deref_mut.result.now c.change_record.new.ports _ (i.ports).len (omega arith) c.deref_mut.ensures.value c.change_record.ensures.records c.change_record.ensures.cost c.self.invariant.costs in
+    let costs = costs_after c.args.event.now (i.ports).items c.deref_mut.result.now c.change_record.new.ports _ (omega arith) c.deref_mut.ensures.value c.change_record.ensures.records c.change_record.ensures.cost c.self.invariant.costs in
     let attached = subst (λ (o : Option ℕ). IfSome o (λ cost. IsCost cost)) (sym c.attachment_after-self-inside.ensures) (HasCost-attachment_after c.args.event.now i.attachment c.change_record.ensures.cost c.self.invariant.attached) in
     let same = not_risen c.args.event.now c.len-degree.result i.successor c.has_risen-risen.result c.in-Some.active.origin (subst (λ (o : Origin). needs_test o ≡ false) c.moved-origin.ensures untested) in
     let near = not_above i.rd (via_successor (c.deref.result.now ++ home) after) (sym c.has_risen-risen.ensures.risen ∙ same) in
     condition_holds_near i.rd _ after (HasCost-ways _ c.attachment_after-self-inside.result costs attached) c.has_risen-risen.ensures.bounded
-    (subst (λ (ns : List Neighbour). via_successor (ns ++ home) after ≤ i.rd) c.deref.ensures.value near)
+    (subst (λ (ns : List Neighbour). via_successor (ns ++ home) after ≤ i.rd) c.deref.ensures near)
 
 -- ---- a machine that was passive
 
@@ -116,14 +115,14 @@ module _ (c : goal.After-decide) where
   passive = ap (computation_of (length (c.self.inside.ports).items)) c.in_default.is
 
   abbrev ports_now : List Neighbour
-  ports_now = take (c.self.inside.ports).len (c.change_record.new.ports ++ drop (length c.change_record.new.ports) (c.self.inside.ports).items)
+  ports_now = take (length (c.self.inside.ports).items) (c.change_record.new.ports ++ drop (length c.change_record.new.ports) (c.self.inside.ports).items)
 
   abbrev deciding : Option Computation → Machine
   deciding o = record { attachment = c.attachment_after-self-inside.result; ports = ports_now; rd = c.self.inside.rd; fd = c.self.inside.fd; successor = c.successor_after-self-inside.result; computation = o }
 
   decided : deciding None ≡ with_records passive_before c.args.event.now
   decided = recorded c.args.event.now c.self.inside.attachment (c.self.inside.ports).items c.self.inside.rd c.self.inside.fd c.self.inside.successor (computation_of (length (c.self.inside.ports).items) c.self.inside.active)
-      c.attachment_after-self-inside.result c.deref_mut.result.now c.change_record.new.ports _ c.successor_after-self-inside.result None (c.self.inside.ports).len c.len-degree.result
+      c.attachment_after-self-inside.result c.deref_mut.result.now c.change_record.new.ports _ c.successor_after-self-inside.result None c.len-degree.result
       (omega arith) c.deref_mut.ensures.value c.change_record.ensures.records c.attachment_after-self-inside.ensures (omega arith) c.successor_after-self-inside.ensures
       (sym passive)
 
@@ -164,7 +163,7 @@ module _ (c : goal.After-complete) where
   abbrev completing : Machine
   completing = record {
     attachment = c.attachment_after-self-inside.result;
-    ports = take (c.self.inside.ports).len (c.change_record.new.ports ++ drop (length c.change_record.new.ports) (c.self.inside.ports).items);
+    ports = take (length (c.self.inside.ports).items) (c.change_record.new.ports ++ drop (length c.change_record.new.ports) (c.self.inside.ports).items);
     rd = c.self.inside.rd;
     fd = c.self.inside.fd;
     successor = c.successor_after-self-inside.result;
@@ -173,7 +172,7 @@ module _ (c : goal.After-complete) where
 
   completed : completing ≡ with_records (record active_before { computation = None }) c.args.event.now
   completed = recorded c.args.event.now c.self.inside.attachment (c.self.inside.ports).items c.self.inside.rd c.self.inside.fd c.self.inside.successor None
-      c.attachment_after-self-inside.result c.deref_mut.result.now c.change_record.new.ports _ c.successor_after-self-inside.result None (c.self.inside.ports).len c.len-degree.result
+      c.attachment_after-self-inside.result c.deref_mut.result.now c.change_record.new.ports _ c.successor_after-self-inside.result None c.len-degree.result
       (omega arith) c.deref_mut.ensures.value c.change_record.ensures.records c.attachment_after-self-inside.ensures (omega arith) c.successor_after-self-inside.ensures refl
 
   owed : c.debt_after-debt.result ≡ debt_after (with_records active_before c.args.event.now).successor c.args.event.now c.in-Some.active.debt
