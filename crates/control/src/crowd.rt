@@ -33,13 +33,15 @@ impl Crowd {
         }
     }
 
-    /// A thread at work rests until it is called, unless it is the only one at work.
-    pub fn rest<R: Wait>(&self, rt: &R) {
+    /// A thread at work rests until it is called, unless it is the only one at work. It answers whether it
+    /// rested.
+    pub fn rest<R: Wait>(&self, rt: &R) -> bool {
         if self.at_work.fetch_sub(1, Ordering::SeqCst) <= 1 {
             self.at_work.fetch_add(1, Ordering::SeqCst);
-        } else {
-            self.sleep(rt);
+            return false;
         }
+        self.sleep(rt);
+        true
     }
 
     // Until the next call.

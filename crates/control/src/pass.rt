@@ -7,6 +7,7 @@ ghost use Rattle.control.specs.Shares.{IsHolder};
 
 use crate::desk::{Guarded, Naming, Share};
 use crate::watch::Watch;
+use fabric::Fabric;
 use network_model::{NoMemory, Refusal};
 use publication::Ticket;
 use std::sync::Wait;
@@ -19,6 +20,10 @@ const MOST_TURNS: usize = 1024;
 
 // A publication of fewer rows is done under the lock: to let its writer go out would take longer.
 const ROWS_TO_LEND: usize = 32;
+
+/// With so many rows to publish outside the lock a pass ends, and it is worth while to call another
+/// thread.
+pub const ROWS_TO_CALL: usize = 512;
 
 /// How far a pass has come.
 #[derive(Clone, Copy)]
@@ -33,8 +38,9 @@ pub struct Pass {
 
 impl<B: publication::Naming, N: Naming> Guarded<B, N> {
     /// Takes all tickets back. Then routers that may have something to do take turns, from this one on in
-    /// ascending cyclic order, up to so many; large publications among them are left to tickets, as
-    /// far as there is room for these. Refused, as the first turn that is refused.
+    /// ascending cyclic order; large publications among them are left to tickets, as far as there is room
+    /// for these, until there is enough to publish outside the lock. Refused, as the first turn that is
+    /// refused.
     pub fn pass<R: Wait>(
         &mut self,
         rt: &R,
@@ -57,7 +63,12 @@ impl<B: publication::Naming, N: Naming> Guarded<B, N> {
             settled: false,
         };
         for _ in 0..MOST_TURNS {
-            let Some(router) = self.watch.next(pass.router) else {
+            let next = if pass.rows < ROWS_TO_CALL {
+                self.watch.next(pass.router)
+            } else {
+                None
+            };
+            let Some(router) = next else {
                 break;
             };
             let rows = self.turn(rt, router, share, tickets)?;
@@ -85,7 +96,7 @@ impl<B: publication::Naming, N: Naming> Guarded<B, N> {
             self.watch.remove(router);
             return Ok(0);
         }
-        let rows = self.rows_due(router);
+        let rows = rows_due(&self.fabric, router);
         let lends = tickets.len() < tickets.capacity() && rows >= ROWS_TO_LEND;
         let (done, ticket) = self.begin(rt, router, lends, share);
         if let Some(ticket) = ticket {
@@ -99,14 +110,6 @@ impl<B: publication::Naming, N: Naming> Guarded<B, N> {
                 Ok(0)
             }
             Err(refusal) => Err(refusal),
-        }
-    }
-
-    // How many rows a router has chosen and not published.
-    fn rows_due(&self, router: u16) -> usize {
-        match self.fabric.table(router) {
-            Ok(table) => table.changed().count(),
-            Err(_) => 0,
         }
     }
 
@@ -130,6 +133,14 @@ impl<B: publication::Naming, N: Naming> Guarded<B, N> {
             }
         }
         Ok(())
+    }
+}
+
+/// How many rows a router has chosen and not published.
+pub fn rows_due<B: publication::Naming>(fabric: &Fabric<B>, router: u16) -> usize {
+    match fabric.table(router) {
+        Ok(table) => table.changed().count(),
+        Err(_) => 0,
     }
 }
 

@@ -9,11 +9,11 @@ ghost use Rattle.control.specs.Shares.{IsHolder, AreSameHolders};
 
 use crate::crowd::Crowd;
 use crate::desk::{Control, Halt, Naming, Opening, Share};
-use crate::pass::{MOST_TICKETS, Pass, publish_all};
+use crate::pass::{MOST_TICKETS, Pass, ROWS_TO_CALL, publish_all, rows_due};
 use crate::serve::first_refusal;
 use crate::watch::Watch;
 use fabric::Fabric;
-use network_model::{NoMemory, Refusal};
+use network_model::{NoMemory, Refusal, Step};
 use publication::Ticket;
 use std::alloc::Global;
 use std::marker::Brand;
@@ -21,12 +21,8 @@ use std::sync::Wait;
 use std::thread;
 use std::thread::Threads;
 
-// How many turns one thread takes alone before others are started: what they take together is worth it
-// only where there is much to do.
-const MOST_ALONE: usize = 20_000;
-
-// With so many rows to publish outside the lock it is worth while to call another thread.
-const ROWS_TO_CALL: usize = 512;
+// With so many rows to publish in all it is worth while to start threads.
+const ROWS_TO_START: usize = 16_384;
 
 // The fabric that is to be settled. The functions that settle it have it as a type parameter.
 trait Origin {
@@ -42,8 +38,9 @@ impl Origin for Brand {
 }
 
 /// Lets routers take turns until nothing is left to do, or a step is refused, or there is no memory for
-/// the threads' shares. Up to so many threads do it; where the system gives fewer, those that it gives
-/// do all. One thread takes all turns in ascending cyclic order of the routers.
+/// the threads' shares. One thread takes all turns, in ascending cyclic order of the routers; while there
+/// is much to publish, up to so many do it together, and where the system gives fewer, those that it
+/// gives do all.
 pub fn settle<B, R>(
     rt: &R,
     alloc: Global,
@@ -60,7 +57,7 @@ where
     settle_from::<B, Brand, R>(rt, alloc, fabric, threads)
 }
 
-// One thread alone, then as many as there are.
+// One thread alone, and while there is much to publish all together.
 fn settle_from<B, O, R>(
     rt: &R,
     alloc: Global,
@@ -78,12 +75,7 @@ where
 {
     let mut fabric = fabric;
     for _ in rt.forever() {
-        let most = if threads > 1 {
-            MOST_ALONE
-        } else {
-            usize::MAX
-        };
-        let done = take_turns::<B, O, R>(rt, &mut fabric, most);
+        let done = take_turns::<B, O, R>(rt, &mut fabric, threads > 1);
         if done.is_err() || fabric.is_settled() {
             return (fabric, done);
         }
@@ -97,8 +89,9 @@ where
     unreachable!()
 }
 
-// One thread takes turns, up to so many, until nothing is left to do.
-fn take_turns<B, O, R>(rt: &R, fabric: &mut Fabric<B>, most: usize) -> Result<(), Refusal>
+// One thread takes turns until nothing is left to do, or, where others may be started, there is enough to
+// publish for them.
+fn take_turns<B, O, R>(rt: &R, fabric: &mut Fabric<B>, may_start: bool) -> Result<(), Refusal>
 where
     B: publication::Naming,
     O: Origin,
@@ -109,13 +102,16 @@ where
 {
     let mut watch = Watch::all();
     let mut router = 0;
-    for _ in 0..most {
+    for _ in rt.forever() {
         let Some(found) = watch.next(router) else {
             break;
         };
         router = found.wrapping_add(1);
         match fabric.next_step(found) {
             Some(step) => {
+                if may_start && is_worth_threads(fabric, &step) {
+                    break;
+                }
                 // It tells that the step fits its number.
                 let _number = step.number();
                 watch.note(fabric, &step);
@@ -130,7 +126,23 @@ where
     Ok(())
 }
 
-// A thread for each share, until the fabric is settled.
+// Whether the step is a large publication, and together with it there is enough to publish for several
+// threads.
+fn is_worth_threads<B: publication::Naming>(fabric: &Fabric<B>, step: &Step) -> bool {
+    let Step::Publish { router } = *step else {
+        return false;
+    };
+    if rows_due(fabric, router) < ROWS_TO_CALL {
+        return false;
+    }
+    let mut rows: usize = 0;
+    for router in 0..fabric.network().routers() {
+        rows = rows.saturating_add(rows_due(fabric, router));
+    }
+    rows >= ROWS_TO_START
+}
+
+// A thread for each share, while there is much to publish.
 fn settle_together<B, N, R>(
     rt: &R,
     alloc: Global,
@@ -172,9 +184,12 @@ impl<B: publication::Naming + Send + Sync, N: Naming + Send + Sync> Control<B, N
     {
         let threads = shares.len();
         let crowd = Crowd::new(threads);
-        thread::for_each_mut(rt, shares.as_mut_slice(), threads, &|_place, share| {
-            self.help(rt, alloc, share, &crowd)
-        });
+        thread::for_each_mut(
+            rt,
+            shares.as_mut_slice(),
+            threads,
+            &|_place, share| { self.help(rt, alloc, share, &crowd) },
+        );
         first_refusal(shares.as_slice())
     }
 
@@ -196,10 +211,8 @@ impl<B: publication::Naming + Send + Sync, N: Naming + Send + Sync> Control<B, N
             match self.round(rt, router, share, &mut tickets, crowd) {
                 Ok(pass) => {
                     router = pass.router;
-                    if pass.settled {
+                    if pass.settled || pass.rows == 0 && !crowd.rest(rt) {
                         crowd.end();
-                    } else if pass.rows == 0 {
-                        crowd.rest(rt);
                     }
                 }
                 Err(refusal) => {

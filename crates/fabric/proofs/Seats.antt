@@ -190,7 +190,7 @@ module _ (w : World) (openings : List (List (Prefix × Entry))) (desks : List De
       let has : HasPublished false o = subst (λ b. HasPublished b o) not_yet is.published in
       ap (shown_images openings) (map-set (λ (x : Desk). x.writing) desks i back)
       ∙ map-set_same (λ (z : Writing). image_of openings z.published) (writings desks) i o.writing d.writing
-          (ap (image_of openings) (has.0 ∙ sym list) ∙ ap (λ (z : Writing). image_of openings z.published) (sym (get_or_from_slice_get (writings desks) i d.writing d.writing (writing_there desks i d at))))
+      (ap (image_of openings) (has.0 ∙ sym list) ∙ ap (λ (z : Writing). image_of openings z.published) (sym (get_or_from_slice_get (writings desks) i d.writing d.writing (writing_there desks i d at))))
 
   -- published, it shows what was due
   pub shown_new : o.is_published ≡ true → (router : Router) → slice_get w.routers i ≡ Some router → image_of openings (d.writing).published ≡ image_in_force router
@@ -201,9 +201,9 @@ module _ (w : World) (openings : List (List (Prefix × Entry))) (desks : List De
       ap (shown_images openings) (map-set (λ (x : Desk). x.writing) desks i back)
       ∙ map-set (λ (z : Writing). image_of openings z.published) (writings desks) i o.writing
       ∙ ap (set (shown_images openings (writings desks)) i)
-          (ap (image_of openings) has.2 ∙ image-covered openings o.before has.0 o.patch has.1 ∙ ap (λ k. patched (o.patch).generation (o.patch).rows (image_of openings k)) (sym list)
-          ∙ ap (patched (o.patch).generation (o.patch).rows) shows_it
-          ∙ subst (λ r. patched (o.patch).generation (o.patch).rows (image_in_force r) ≡ image_in_force (router_publishing r)) same due_back.1.makes)
+      (ap (image_of openings) has.2 ∙ image-covered openings o.before has.0 o.patch has.1 ∙ ap (λ k. patched (o.patch).generation (o.patch).rows (image_of openings k)) (sym list)
+      ∙ ap (patched (o.patch).generation (o.patch).rows) shows_it
+      ∙ subst (λ r. patched (o.patch).generation (o.patch).rows (image_in_force r) ≡ image_in_force (router_publishing r)) same due_back.1.makes)
 
   -- ---- the fabric that it comes back to
 

@@ -137,8 +137,7 @@ where
     };
     let ((shares, served), (port, first)) = thread::join(
         rt,
-        ||
-                { serve(rt, control, shares, &gate) },
+        || { serve(rt, control, shares, &gate) },
         || answer_first(rt, control, port, &gate),
     );
     assert_eq!(rt; served, Ok(()));

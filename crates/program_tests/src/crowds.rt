@@ -38,7 +38,10 @@ fn crowd(alloc: Global) -> Result<String, AllocError> {
     text.push_str("\"settle\",")?;
     for a in 0..ROUTERS {
         let b = (a + 1) % ROUTERS;
-        write!(text, "\"down r{a} r{b}\",\"settle\",\"up r{a} r{b}\",\"settle\",")?;
+        write!(
+            text,
+            "\"down r{a} r{b}\",\"settle\",\"up r{a} r{b}\",\"settle\","
+        )?;
     }
     text.push_str("\"report\"]\n")?;
     Ok(text)
@@ -61,7 +64,13 @@ fn is_settled_by(rt: HostRuntime, threads: u8) {
         journal: "",
         explain: false,
     };
-    let again = played(&rt, rt.alloc(), &replay, text.as_bytes(), ran.kept.as_slice());
+    let again = played(
+        &rt,
+        rt.alloc(),
+        &replay,
+        text.as_bytes(),
+        ran.kept.as_slice(),
+    );
     assert_eq!(rt; again.err.as_slice(), b"".as_slice());
     assert_eq!(rt; again.status, 0);
 }

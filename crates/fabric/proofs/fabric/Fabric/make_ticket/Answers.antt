@@ -86,9 +86,9 @@ invariant_of-self g c =
       c.self.invariant.3,
       c.self.invariant.4,
       (let more = count_away s.network s.journal.items s.world g.B.Naming.openings s.desks.items c.args.router d c.in-Some.patch D (at_desk g c.before.before) (desk_in g c.before.before) in
-      let same = ap (λ ds. count_lent (all_lent ds)) (left g c.before) in
-      let aside = c.self.invariant.5 in
-      omega (arith, more, same, aside)),
+          let same = ap (λ ds. count_lent (all_lent ds)) (left g c.before) in
+          let aside = c.self.invariant.5 in
+          omega (arith, more, same, aside)),
     )
 
 pub returns-clause-fresh : goal.returns-clause-fresh
@@ -120,8 +120,8 @@ returns-clause-ok g c =
     let D = desk_due g c.before.before in
     ap (λ ds. fabric_of s.network s.journal.items s.world (shown_images g.B.Naming.openings (writings ds)) (all_lent ds)) (left g c.before)
     ∙ ap (λ images. fabric_of s.network s.journal.items s.world images (all_lent (set s.desks.items c.args.router (desk_out d.writing.published (patch_of c.in-Some.patch)))))
-        (shown_away s.network s.journal.items s.world g.B.Naming.openings s.desks.items c.args.router d c.in-Some.patch D (at_desk g c.before.before) (desk_in g c.before.before))
+    (shown_away s.network s.journal.items s.world g.B.Naming.openings s.desks.items c.args.router d c.in-Some.patch D (at_desk g c.before.before) (desk_in g c.before.before))
     ∙ ap (fabric_of s.network s.journal.items s.world (shown_images g.B.Naming.openings (writings s.desks.items)))
-        (lent_away s.network s.journal.items s.world g.B.Naming.openings s.desks.items c.args.router d c.in-Some.patch D (at_desk g c.before.before) (desk_in g c.before.before))
+    (lent_away s.network s.journal.items s.world g.B.Naming.openings s.desks.items c.args.router d c.in-Some.patch D (at_desk g c.before.before) (desk_in g c.before.before))
     ∙ ap (λ (o : Outing). with_lent (fabric_of s.network s.journal.items s.world (shown_images g.B.Naming.openings (writings s.desks.items)) (all_lent s.desks.items)) c.args.router (Some o.patch)) (sym c.lend.ensures.ticket)
     ∙ ap (λ (f : Fabric). with_lent f c.args.router (Some c.lend.result.patch)) c.self.view_is

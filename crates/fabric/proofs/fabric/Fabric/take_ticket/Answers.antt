@@ -74,9 +74,9 @@ returns-in_err-take_back-clause-its g c =
     let p = err_from_is_err_and c.from_residual.result c.from_residual.ensures.1 in (
       λ ok. absurd (false≢true (subst IsOk p.1 ok)),
       λ same. absurd (false≢true (c.in_err-take_back.ensures.its.1 (
-          sym (lent_there c.self.inside.desks.items c.args.ticket.before.router c.index_mut.result.now (at_refused g c)) ∙ ap (λ (f : Fabric). lent_at f.lent c.args.ticket.before.router) c.self.view_is ∙ same,
-          each_there (λ k (x : Writing). (x.published).router ≡ k) (writings c.self.inside.desks.items) (c.self.invariant.1).numbered c.args.ticket.before.router c.index_mut.result.now.writing
-              (writing_there c.self.inside.desks.items c.args.ticket.before.router c.index_mut.result.now (at_refused g c)),
+        sym (lent_there c.self.inside.desks.items c.args.ticket.before.router c.index_mut.result.now (at_refused g c)) ∙ ap (λ (f : Fabric). lent_at f.lent c.args.ticket.before.router) c.self.view_is ∙ same,
+        each_there (λ k (x : Writing). (x.published).router ≡ k) (writings c.self.inside.desks.items) (c.self.invariant.1).numbered c.args.ticket.before.router c.index_mut.result.now.writing
+            (writing_there c.self.inside.desks.items c.args.ticket.before.router c.index_mut.result.now (at_refused g c)),
       ))),
     )
 
@@ -210,8 +210,7 @@ returns-clause-done g c =
           let items : w.push.new.self.items ≡ s.journal.items ++ Publish c.router-router.result ∷ [] = rw w.unwrap-then-published.ensures at w.push.ensures.items in
           let pushed : w.push.new.self.items ≡ s.journal.items ++ Publish i ∷ [] = items ∙ ap (λ k. s.journal.items ++ Publish k ∷ []) c.router-router.ensures in
           let lawful : Lawful s.world (Publish i) = subst (λ k. Lawful s.world (Publish k)) c.router-router.ensures ok.0 in
-          subst (λ flag. MatchBool flag (Lawful c.args.self.now.world (Publish i) × (c.if-published.self ≡ after_step (with_lent c.args.self.now i None) (Publish i))) (c.if-published.self ≡ with_lent c.args.self.now i None)) (sym published)
-          (
+          subst (λ flag. MatchBool flag (Lawful c.args.self.now.world (Publish i) × (c.if-published.self ≡ after_step (with_lent c.args.self.now i None) (Publish i))) (c.if-published.self ≡ with_lent c.args.self.now i None)) (sym published) (
             subst (λ (f : Fabric). Lawful f.world (Publish i)) c.self.view_is lawful,
             w.self-is
                 ∙ published_is s.world g.B.Naming.openings s.desks.items i c.index_mut.result.now c.args.ticket (at_desk g b) (out g b) (list g b) c.in_ok-take_back.ensures.kept c.self.invariant.2 c.self.invariant.1
