@@ -1,5 +1,5 @@
 -- What a fabric under a lock can have become: nothing at first, then step after step; and what the sum of its journal tells.
-use Rattle.std.specs.Prelude.{◌≡◌, ◌≢◌, ◌⊎◌, ℕ, zero, suc, ◌+◌, ◌||◌, Bool, true, false, not, find, map, set, if◌then◌else◌, List, [], ◌∷◌, ◌++◌, Option, Some, None, nat_lt, is_none, is_some, length, slice_get, option_and_then, Result, Ok, Err, IfOk, OnOk, OnErr, ⊤}
+use Rattle.std.specs.Prelude.{◌≡◌, ◌≢◌, ◌⊎◌, ℕ, ◌+◌, ◌||◌, Bool, true, false, not, find, map, if◌then◌else◌, List, [], ◌∷◌, ◌++◌, Option, Some, None, nat_lt, is_none, is_some, length, slice_get, option_and_then, Result, Ok, Err, IfOk, OnOk, OnErr}
 use Rattle.std.specs.Option.{option_map_or}
 use Rattle.std.proofs.lemmas.Bool.{false≢true}
 use Rattle.network_model.specs.declared.step.Step.TheVariants.{LinkUp, LinkDown, SetCost, Deliver, Publish, Release, Attach, Detach}
@@ -16,20 +16,18 @@ use Rattle.network_model.proofs.WorldLaws.{routers-changed_link}
 use Rattle.fabric.specs.Fabric.{next_step as next_turn}
 use Rattle.fabric.proofs.Fabrics.{fit-append}
 use Rattle.fabric.proofs.Lending.{Spares, lent_none, lent_set, spared}
-use Rattle.std.specs.List.{AllByRecursion, range_with_len}
+use Rattle.std.specs.List.{range_with_len}
 use Rattle.std.proofs.Math.Bool.{or-true}
-use Rattle.std.proofs.Common.{inl, inr, refl, sym, ap, subst, ◌∙◌, arith}
+use Rattle.std.proofs.Common.{inl, inr, refl, sym, ap, subst, ◌∙◌}
 use Rattle.std.proofs.lemmas.List.{append_assoc, append-nil}
-use Rattle.std.proofs.lemmas.List.Sums.{sum_by-cons, sum_by-append}
 use Rattle.network_model.specs.declared.step.Step.{Step}
 use Rattle.network_model.specs.World.{Router, World, degree_of}
 use Rattle.network_model.specs.Publication.{Patch}
 use Rattle.network_model.specs.Step.{Lawful, next, refusal, is_due, ripe_front, changed_link, with_cost, with_delivered, with_front_taken, with_message, with_noticed, with_released, front_at, notice_at, release_at, router_accepting, router_at_home, router_publishing, router_releasing}
 use Rattle.network_model.specs.Run.{Runs}
-use Rattle.network_model.specs.Journal.{Fits, journal_sum, step_code, step_number}
-use Rattle.network_model.proofs.JournalLaws.{packed_below, step_number_injective}
+use Rattle.network_model.specs.Journal.{Fits}
 use Rattle.world.proofs.Runs.{with_last_step}
-use Rattle.fabric.specs.Fabric.{Fabric, after_step, awaits_writer, count_lent, fabric_of, fabric_refusal, is_lent, lent_at, with_lent}
+use Rattle.fabric.specs.Fabric.{Fabric, after_step, awaits_writer, count_lent, fabric_refusal, is_lent, lent_at, with_lent}
 use Rattle.fabric.specs.Images.{images_in_force}
 use Rattle.control.specs.Served.{AreTurns, IsServed, IsTurnAt, PublishesNext, images_after, may_do}
 

@@ -1,10 +1,8 @@
 -- New shares, one after another; and why a turn is refused.
-use Rattle.std.specs.Prelude.{◌≡◌, ℕ, ◌+◌, ◌<◌, Bool, List, [], ◌∷◌, ◌++◌, length, set, sum_by, if◌then◌else◌, ◌==◌, Option, Some, None, Result, Ok, Err, IfErr, OnOk, OnErr, MatchResult, ⊤, ◌⊎◌}
-use Rattle.std.proofs.Common.{refl, sym, subst, ◌∙◌, arith, inl, inr}
+use Rattle.std.specs.Prelude.{◌≡◌, ℕ, ◌<◌, Bool, List, [], ◌∷◌, ◌++◌, length, if◌then◌else◌, ◌==◌, Option, Some, None, Result, Err, ⊤}
+use Rattle.std.proofs.Common.{sym, subst, arith, inl, inr}
 use Rattle.network_model.specs.declared.step.Step.{Step}
 use Rattle.network_model.specs.declared.step.Refusal.{Refusal}
-use Rattle.network_model.specs.declared.step.Step.TheVariants.{Publish}
-use Rattle.network_model.specs.declared.step.Refusal.TheVariants.{NoMemory}
 use Rattle.publication.proofs.Places.{each-push}
 use Rattle.world.specs.Steps.{CanBeRefused, IsDoneOr}
 use Rattle.fabric.specs.Fabric.{Fabric, fabric_refusal, next_step}

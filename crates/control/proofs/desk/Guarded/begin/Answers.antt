@@ -1,4 +1,4 @@
-use Rattle.std.proofs.Common.{◌≡◌, ◌∙◌, Err, Some, ap, refl, subst, sym, inl, inr, arith}
+use Rattle.std.proofs.Common.{◌≡◌, ◌∙◌, Err, Some, ap, subst, sym, inl, inr, arith}
 use Rattle.network_model.specs.declared.step.Step.TheVariants.{Publish}
 use Rattle.network_model.specs.Step.{Lawful}
 use Rattle.world.specs.Steps.{IsDoneOr}
