@@ -3,8 +3,8 @@
 
     python3 bench/networks.py FOLDER
 
-writes grid.toml, line.toml, flap.toml, star.toml and mesh.toml, and each once more with a `report`
-at its end, as grid-report.toml and so on.
+writes grid.toml, line.toml, flap.toml, star.toml, mesh.toml and outage.toml, and each once more with a
+`report` at its end, as grid-report.toml and so on.
 """
 
 import sys
@@ -25,6 +25,8 @@ LEAVES = 32
 LEAF_FLAPS = 16
 MESH_ROUTERS = 80
 MESH_LINKS = 200
+OUTAGE_LEAVES = 16
+OUTAGE_PREFIXES = 4096
 
 
 class Scenario(NamedTuple):
@@ -120,7 +122,16 @@ def mesh() -> Scenario:
     return scenario.with_commands("settle")
 
 
-SCENARIOS = {"grid": grid, "line": line, "flap": flap, "star": star, "mesh": mesh}
+def outage() -> Scenario:
+    """A hub that is attached to many prefixes, and leaves: all links come up, and all go down at once."""
+    leaves = [f"leaf{k}" for k in range(OUTAGE_LEAVES)]
+    links = [f"hub {leaf} 1 1" for leaf in leaves]
+    prefixes = [f"10.{k // 256}.{k % 256}.0/24 hub" for k in range(OUTAGE_PREFIXES)]
+    scenario = Scenario(["hub", *leaves], links, prefixes, [*ups(links), "settle"])
+    return scenario.with_commands(*[f"down hub {leaf}" for leaf in leaves], "settle")
+
+
+SCENARIOS = {"grid": grid, "line": line, "flap": flap, "star": star, "mesh": mesh, "outage": outage}
 
 
 def main(words: list[str]) -> None:

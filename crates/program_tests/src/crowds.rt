@@ -1,55 +1,45 @@
-//! A network in which there is enough to do for several control threads.
+//! A network in which there is enough to publish for several control threads.
 
+use play::Host;
 use std::alloc::{AllocError, Global};
 use std::process::Abort;
 use trial::{asked, played};
 use words::Words;
 
-const ROUTERS: u16 = 60;
+const LEAVES: u16 = 6;
 
-const PREFIXES: u16 = 48;
+const PREFIXES: u16 = 4096;
 
-// A ring of routers with as many links across it, all of which come up at once; then one link after
-// another goes down and comes up, and with each many rows change at once.
-fn crowd(alloc: Global) -> Result<String, AllocError> {
+// A hub that is attached to all prefixes, and leaves that reach them over it. All links come up, and then
+// all go down at once: each leaf has as many rows to publish as there are prefixes.
+fn outage(alloc: Global) -> Result<String, AllocError> {
     let mut text = String::new(alloc);
-    text.push_str("routers = [")?;
-    for router in 0..ROUTERS {
-        write!(text, "\"r{router}\",")?;
+    text.push_str("routers = [\"hub\",")?;
+    for leaf in 0..LEAVES {
+        write!(text, "\"leaf{leaf}\",")?;
     }
     text.push_str("]\nlinks = [")?;
-    for a in 0..ROUTERS {
-        for far in [1, 7] {
-            let b = (a + far) % ROUTERS;
-            write!(text, "\"r{a} r{b} {} {}\",", 1 + a % 5, 1 + b % 7)?;
-        }
+    for leaf in 0..LEAVES {
+        write!(text, "\"hub leaf{leaf} 1 1\",")?;
     }
     text.push_str("]\nprefixes = [")?;
     for prefix in 0..PREFIXES {
-        write!(text, "\"10.0.{prefix}.0/24 r{prefix}\",")?;
+        write!(text, "\"10.{}.{}.0/24 hub\",", prefix / 256, prefix % 256)?;
     }
     text.push_str("]\nscript = [")?;
-    for a in 0..ROUTERS {
-        for far in [1, 7] {
-            let b = (a + far) % ROUTERS;
-            write!(text, "\"up r{a} r{b}\",")?;
+    for command in ["up", "down"] {
+        for leaf in 0..LEAVES {
+            write!(text, "\"{command} hub leaf{leaf}\",")?;
         }
+        text.push_str("\"settle\",")?;
     }
-    text.push_str("\"settle\",")?;
-    for a in 0..ROUTERS {
-        let b = (a + 1) % ROUTERS;
-        write!(
-            text,
-            "\"down r{a} r{b}\",\"settle\",\"up r{a} r{b}\",\"settle\","
-        )?;
-    }
-    text.push_str("\"report\"]\n")?;
+    text.push_str("\"lookup leaf0 10.0.0.1\"]\n")?;
     Ok(text)
 }
 
-// Runs it by so many threads, and does its journal again.
-fn is_settled_by(rt: HostRuntime, threads: u8) {
-    let text = crowd(rt.alloc()).expect(&rt, "memory");
+// Settles it by so many threads, and does the journal again.
+fn is_settled_by<H: Host + Abort>(rt: &H, alloc: Global, threads: u8) {
+    let text = outage(alloc).expect(rt, "memory");
     let run = Words::Run {
         file: "",
         threads,
@@ -57,40 +47,39 @@ fn is_settled_by(rt: HostRuntime, threads: u8) {
         journal: None,
         explain: false,
     };
-    let ran = asked(&rt, rt.alloc(), &run, text.as_bytes());
+    let ran = asked(rt, alloc, &run, text.as_bytes());
+    assert_eq!(rt; ran.err.as_slice(), b"".as_slice());
     assert_eq!(rt; ran.status, 0);
+    assert!(rt;
+        ran.out
+            .starts_with(b"lookup leaf0 10.0.0.1: 10.0.0.0/24 unreachable\n")
+    );
     let replay = Words::Replay {
         file: "",
         journal: "",
         explain: false,
     };
-    let again = played(
-        &rt,
-        rt.alloc(),
-        &replay,
-        text.as_bytes(),
-        ran.kept.as_slice(),
-    );
+    let again = played(rt, alloc, &replay, text.as_bytes(), ran.kept.as_slice());
     assert_eq!(rt; again.err.as_slice(), b"".as_slice());
     assert_eq!(rt; again.status, 0);
 }
 
 #[test]
 fn one_thread(rt: HostRuntime) {
-    is_settled_by(rt, 1);
+    is_settled_by(&rt, rt.alloc(), 1);
 }
 
 #[test]
 fn two_threads(rt: HostRuntime) {
-    is_settled_by(rt, 2);
+    is_settled_by(&rt, rt.alloc(), 2);
 }
 
 #[test]
 fn four_threads(rt: HostRuntime) {
-    is_settled_by(rt, 4);
+    is_settled_by(&rt, rt.alloc(), 4);
 }
 
 #[test]
 fn sixteen_threads(rt: HostRuntime) {
-    is_settled_by(rt, 16);
+    is_settled_by(&rt, rt.alloc(), 16);
 }
