@@ -3,7 +3,7 @@
 ghost use Rattle.std.specs.Prelude.{◌≡◌, ◌<◌, true, vec_len};
 
 use crate::controls::{UP, gets_to};
-use control::{Control, Naming, Share, TurnGate};
+use control::{Control, Naming, Share, Step, TurnGate};
 use std::process::Abort;
 use std::sync::Wait;
 use std::sync::atomic::{AtomicU64, Ordering};

@@ -1,6 +1,6 @@
 //! Tickets: what is refused while a router's writer is out, and what the journal has afterwards.
 
-ghost use Rattle.std.specs.Prelude.{◌≡◌, vec_len};
+ghost use Rattle.std.specs.Prelude.{◌≡◌, vec_len, false};
 ghost use Rattle.fabric.specs.Writers.{opening_tables};
 
 use crate::fabrics::LEARNS;

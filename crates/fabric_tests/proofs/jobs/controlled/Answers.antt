@@ -1,0 +1,7 @@
+use Rattle.std.proofs.Common.{subst, sym}
+use Rattle.control.specs.Served.{IsServed}
+use Rattle.control.proofs.Serving.{served_none}
+use Rattle.fabric_tests.proofs.jobs.controlled.Goals as goal
+
+pub new-requires-clause-opened : goal.new-requires-clause-opened
+new-requires-clause-opened g c = subst (IsServed g.N.Naming.opened g.N.Naming.asked) (sym c.requires.opened) (served_none g.N.Naming.opened g.N.Naming.asked)
