@@ -1,4 +1,5 @@
 pub mod Machine
+pub mod Memory
 pub mod World
 pub mod Network
 pub mod Step

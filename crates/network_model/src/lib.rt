@@ -12,7 +12,7 @@ mod step;
 pub use ipv4_prefix::Prefix;
 pub use item::{Held, Item, Message, Notice};
 pub use machine::{Event, Neighbour, Outgoing, PortInfo};
-pub use memory::NoMemory;
+pub use memory::{NoMemory, SmallAllocator};
 pub use metric::{BadCost, Cost, Distance, Kind};
 pub use network::{End, LinkSpec, NetworkFault, Place, Port};
 pub use route::{Answer, Entry};

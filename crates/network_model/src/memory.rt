@@ -1,8 +1,10 @@
-//! Want of memory.
+//! Memory, and want of it.
 
 ghost use Rattle.std.specs.Prelude.{◌≡◌};
+ghost use Rattle.std.proofs.Common.{rules};
+ghost use Rattle.network_model.specs.Memory.{IsSmall};
 
-use std::alloc::{AllocError, AllocFailed};
+use std::alloc::{AllocError, AllocFailed, Allocator, Global};
 use thiserror::Error;
 
 /// A growth was refused. The call that answers it has changed nothing.
@@ -20,4 +22,18 @@ impl<T: Drop> From<AllocFailed<T>> for NoMemory {
     fn from(_error: AllocFailed<T>) -> NoMemory {
         NoMemory
     }
+}
+
+/// An allocator that is copied and takes no room, as `Global`, or that of a reference, as a heap that is
+/// lent. So a type that holds it is known to fit in memory.
+pub trait SmallAllocator: Allocator + Copy {
+    ghost small: { IsSmall Self.row };
+}
+
+impl SmallAllocator for Global {
+    ghost small = { Prim.search rules };
+}
+
+impl<'a, A: Allocator> SmallAllocator for &'a A {
+    ghost small = { Prim.search rules };
 }
