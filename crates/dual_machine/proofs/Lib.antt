@@ -4,5 +4,6 @@ pub mod Closing
 pub mod Costs
 pub mod Debts
 pub mod Deciding
+pub mod Records
 pub mod Room
 pub mod Ways

@@ -19,23 +19,23 @@ use crate::events::{
 use crate::mode::{Active, Mode};
 use crate::sends::Sends;
 use diffusing_replies::{Debt, Origin, Replies};
-use network_model::{Cost, Distance, Event, Kind, Neighbour, NoMemory, PortInfo};
+use network_model::{Cost, Distance, Event, Kind, Neighbour, NoMemory, PortInfo, SmallAllocator};
 use smallvec::SmallVec;
 use std::alloc::{AllocError, Global};
 use std::marker::Model;
 
 /// The machine of one router for one prefix.
 #[derive(Debug, Drop)]
-pub struct Machine {
+pub struct Machine<A: SmallAllocator = Global> {
     attachment: Option<Cost>,
-    ports: SmallVec<Neighbour, 4>,
+    ports: SmallVec<Neighbour, 4, A>,
     rd: Distance,
     fd: Distance,
     successor: Option<u8>,
     active: Option<Active>,
 }
 
-impl Model for Machine {
+impl<A: SmallAllocator> Model for Machine<A> {
     ghost use Rattle.std.specs.Prelude.{length};
     ghost use Rattle.dual_machine.specs.State.{State};
     ghost use Rattle.dual_machine.specs.Parts.{IsSound, computation_of, origin_of};
@@ -70,10 +70,10 @@ fn opening_neighbour(port: &PortInfo) -> Neighbour
     }
 }
 
-fn opening_neighbours(
-    alloc: Global,
+fn opening_neighbours<A: SmallAllocator>(
+    alloc: A,
     ports: &[PortInfo],
-) -> Result<SmallVec<Neighbour, 4>, AllocError>
+) -> Result<SmallVec<Neighbour, 4, A>, AllocError>
     ensures items { IfOk result (λ v. v.items ≡ state.opening_neighbours ports.now) }
     ensures costs { IfOk result (λ v. All (λ n. IsCost n.cost) v.items) }
     ensures full { OnErr result (4 < length ports.now) }
@@ -85,14 +85,14 @@ fn opening_neighbours(
     Ok(neighbours)
 }
 
-impl Machine {
+impl<A: SmallAllocator> Machine<A> {
     /// A machine that has heard nothing over these ports, with the cost of the router's attachment to
     /// the prefix, if it has one.
     pub fn new(
-        alloc: Global,
+        alloc: A,
         attachment: Option<Cost>,
         ports: &[PortInfo],
-    ) -> Result<Machine, NoMemory>
+    ) -> Result<Machine<A>, NoMemory>
         requires { length ports.now ≤ 32 }
         ensures ok { IfOk result (λ m. m ≡ state.opening_state attachment ports.now) }
 
@@ -226,7 +226,7 @@ impl Machine {
 
     /// Tells the machine of an event, and appends what it sends. All growth is made first, so that
     /// a refused call changes nothing.
-    pub fn event(&mut self, event: Event, sends: &mut Sends) -> Result<(), NoMemory>
+    pub fn event(&mut self, event: Event, sends: &mut Sends<A>) -> Result<(), NoMemory>
         requires known { IsKnown (dual.degree (self.old).machine) event }
         requires timely { IsTimely (self.old).machine.ports event }
         ensures machine { OnOk result ((self.new).machine ≡ (dual.reaction (self.old).machine event).machine) }
@@ -257,7 +257,7 @@ impl Machine {
     }
 
     // A neighbour that came up is told the distance, if there is one.
-    fn greet(&self, port: u8, sends: &mut Sends)
+    fn greet(&self, port: u8, sends: &mut Sends<A>)
         requires { HasRoom sends.old (length (dual.greeting (self.now).machine port)) }
         ensures sent { sends.new.list ≡ sends.old.list ++ dual.greeting (self.now).machine port }
         ensures capacity { sends.new.capacity ≡ sends.old.capacity }
@@ -268,7 +268,7 @@ impl Machine {
     }
 
     // What an event other than Up does.
-    fn react(&mut self, event: &Event, sends: &mut Sends)
+    fn react(&mut self, event: &Event, sends: &mut Sends<A>)
         requires known { IsKnown (dual.degree (self.old).machine) event.now }
         requires room { HasRoom sends.old
             (length (dual.decision (dual.with_records (self.old).machine event.now) event.now).sends) }
@@ -307,7 +307,7 @@ impl Machine {
     }
 
     // A passive machine stays passive where the condition holds, and else begins a computation.
-    fn decide(&mut self, event: &Event, sends: &mut Sends)
+    fn decide(&mut self, event: &Event, sends: &mut Sends<A>)
         requires known { IsKnown (dual.degree (self.old).machine) event.now }
         requires room { HasRoom sends.old (length (dual.passive_reaction (self.old).machine event.now).sends) }
         ensures machine { (self.new).machine ≡ (dual.passive_reaction (self.old).machine event.now).machine }
@@ -327,7 +327,7 @@ impl Machine {
 
     // A computation that an event begins. A query from the successor leaves a debt; one from
     // another port is answered first.
-    fn start(&mut self, asker: Option<u8>, sends: &mut Sends)
+    fn start(&mut self, asker: Option<u8>, sends: &mut Sends<A>)
         requires known { IfSome asker (λ q. q < dual.degree (self.old).machine) }
         requires room { HasRoom sends.old (length (dual.started_computation (self.old).machine asker).sends) }
         ensures machine { (self.new).machine ≡ (dual.started_computation (self.old).machine asker).machine }
@@ -351,7 +351,7 @@ impl Machine {
 
     // A computation whose last reply is there. Where its origin state needs no test, the condition
     // holds.
-    fn complete(&mut self, origin: Origin, debt: Debt, sends: &mut Sends)
+    fn complete(&mut self, origin: Origin, debt: Debt, sends: &mut Sends<A>)
         requires debt { IsDebtOf (dual.degree (self.old).machine) origin (self.old).machine.successor debt }
         requires tested { table.needs_test origin ≡ false
             → dual.condition_holds (self.old).machine.rd (dual.ways (self.old).machine) ≡ true }
@@ -371,7 +371,7 @@ impl Machine {
 
     // Passive at the least distance. A reply goes to the port to which one is owed, and news to the
     // others.
-    fn become_passive(&mut self, fd: Distance, owed: Option<u8>, sends: &mut Sends)
+    fn become_passive(&mut self, fd: Distance, owed: Option<u8>, sends: &mut Sends<A>)
         requires room { HasRoom sends.old (length (dual.passive_result (self.old).machine fd owed).sends) }
         ensures machine { (self.new).machine ≡ (dual.passive_result (self.old).machine fd owed).machine }
         ensures origin { (self.new).origin ≡ None }
@@ -392,7 +392,7 @@ impl Machine {
 
     // A computation that begins: everyone who is up is asked, and awaited, but never the attachment.
     // With no one up it is over at once.
-    fn begin(&mut self, fd: Distance, origin: Origin, debt: Debt, sends: &mut Sends)
+    fn begin(&mut self, fd: Distance, origin: Origin, debt: Debt, sends: &mut Sends<A>)
         requires debt { IsDebtOf (dual.degree (self.old).machine) origin (self.old).machine.successor debt }
         requires room { HasRoom sends.old (length (dual.new_computation (self.old).machine fd debt).sends) }
         ensures machine { (self.new).machine ≡ (dual.new_computation (self.old).machine fd debt).machine }

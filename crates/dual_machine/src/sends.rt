@@ -6,16 +6,16 @@ ghost use Rattle.dual_machine.specs.Outbox.{HasRoom};
 
 use crate::events::is_port;
 use network_model::{Distance, Kind, Neighbour, NoMemory, Outgoing};
-use std::alloc::Global;
+use std::alloc::{Allocator, Global};
 use std::marker::Model;
 
 /// Messages sent, oldest first.
 #[derive(Debug, Drop)]
-pub struct Sends {
-    items: Vec<Outgoing>,
+pub struct Sends<A: Allocator = Global> {
+    items: Vec<Outgoing, A>,
 }
 
-impl Model for Sends {
+impl<A: Allocator> Model for Sends<A> {
     ghost use Rattle.std.specs.Prelude.{vec_capacity};
     ghost use Rattle.dual_machine.specs.Outbox.{Outbox};
 
@@ -24,9 +24,9 @@ impl Model for Sends {
     ghost view = { λ s. record { list = s.items.items; capacity = vec_capacity s.items } };
 }
 
-impl Sends {
+impl<A: Allocator> Sends<A> {
     /// No messages. Takes no memory.
-    pub fn new(alloc: Global) -> Sends
+    pub fn new(alloc: A) -> Sends<A>
         ensures { result.list ≡ [] }
     {
         Sends {

@@ -8,27 +8,27 @@ ghost use Rattle.link_fifo.specs.Side.{side_of, room_of, room_to, IsFull, KeepsR
 ghost use Rattle.link_fifo.specs.Refusals.{sent_in};
 
 use network_model::{Cost, End, Item, LinkSpec, Message};
-use std::alloc::{AllocError, Global};
+use std::alloc::{AllocError, Allocator};
 use std::collections::VecDeque;
 use std::marker::Model;
 
 // One end: its router, the cost from here, and the items that it has yet to take.
 #[derive(Debug, Drop)]
-pub(crate) struct Side {
+pub(crate) struct Side<S: Allocator> {
     router: u16,
     cost: Cost,
-    inbox: VecDeque<Item>,
+    inbox: VecDeque<Item, S>,
 }
 
 #[derive(Debug, Drop)]
-pub(crate) struct Link {
+pub(crate) struct Link<S: Allocator> {
     up: bool,
     session: u16,
-    a: Side,
-    b: Side,
+    a: Side<S>,
+    b: Side<S>,
 }
 
-impl Model for Link {
+impl<S: Allocator> Model for Link<S> {
     ghost use Rattle.link_fifo.specs.Side.{LinkAndRoom, side_of, room_of};
 
     ghost Value = { LinkAndRoom };
@@ -46,7 +46,7 @@ fn is_notice(item: &Item) -> bool
 }
 
 // Only the notices stay, so that there is no less room than before.
-fn drop_messages(inbox: &mut VecDeque<Item>)
+fn drop_messages<S: Allocator>(inbox: &mut VecDeque<Item, S>)
     ensures items { inbox.new.items ≡ filter step.is_notice inbox.old.items }
     ensures len { deque_len inbox.new ≤ deque_len inbox.old }
     ensures capacity { deque_capacity inbox.new ≡ deque_capacity inbox.old }
@@ -54,8 +54,8 @@ fn drop_messages(inbox: &mut VecDeque<Item>)
     inbox.retain(|item| is_notice(item));
 }
 
-impl Side {
-    fn new(alloc: Global, router: u16, cost: Cost) -> Side
+impl<S: Allocator> Side<S> {
+    fn new(alloc: S, router: u16, cost: Cost) -> Side<S>
         ensures { side_of result ≡ record { router = router; cost = cost; inbox = [] } }
     {
         Side {
@@ -118,8 +118,8 @@ impl Side {
     }
 }
 
-impl Link {
-    pub(crate) fn new(alloc: Global, spec: &LinkSpec) -> Link
+impl<S: Allocator + Copy> Link<S> {
+    pub(crate) fn new(alloc: S, spec: &LinkSpec) -> Link<S>
         ensures { result.link ≡ world.opening_link spec.now }
     {
         Link {
@@ -129,7 +129,9 @@ impl Link {
             b: Side::new(alloc, spec.b, spec.from_b),
         }
     }
+}
 
+impl<S: Allocator> Link<S> {
     pub(crate) fn is_up(&self) -> bool
         ensures { result ≡ self.now.link.up }
     {
@@ -148,7 +150,7 @@ impl Link {
         self.up && self.session == session
     }
 
-    fn side(&self, end: End) -> &Side
+    fn side(&self, end: End) -> &Side<S>
         ensures { side_of result.now ≡ world.side end self.now.link }
     {
         match end {

@@ -12,17 +12,17 @@ ghost use Rattle.link_fifo.specs.Refusals.{refusal_to_come_up, refusal_to_change
 use crate::link::Link;
 use crate::refusal::{LinkRefusal, Put};
 use network_model::{Cost, End, Item, LinkSpec, Message, NoMemory};
-use std::alloc::Global;
+use std::alloc::{Allocator, Global};
 use std::marker::Model;
 
 /// The links of a network, numbered from 0. Each direction of a link is a list of items, put at the
 /// back and taken at the front.
 #[derive(Debug, Drop)]
-pub struct Links {
-    links: Vec<Link>,
+pub struct Links<S: Allocator = Global> {
+    links: Vec<Link<S>, S>,
 }
 
-impl Model for Links {
+impl<S: Allocator> Model for Links<S> {
     ghost use Rattle.link_fifo.specs.Side.{LinksAndRooms, links_of};
 
     ghost Value = { LinksAndRooms };
@@ -30,9 +30,9 @@ impl Model for Links {
     ghost view = { λ s. links_of s.links.items };
 }
 
-impl Links {
+impl<S: Allocator + Copy> Links<S> {
     /// Links as these say, each down, in session 0, with nothing on it.
-    pub fn new(alloc: Global, specs: &[LinkSpec]) -> Result<Links, NoMemory>
+    pub fn new(alloc: S, specs: &[LinkSpec]) -> Result<Links<S>, NoMemory>
         ensures ok { IfOk result (λ l. l.links ≡ map world.opening_link specs.now) }
         ensures full { OnErr result (0 < length specs.now) }
     {
@@ -42,7 +42,9 @@ impl Links {
         }
         Ok(Links { links })
     }
+}
 
+impl<S: Allocator> Links<S> {
     /// How many links there are.
     pub fn len(&self) -> usize
         ensures { result ≡ length self.now.links }

@@ -1,22 +1,22 @@
 //! A gate that messages pass once they are ripe.
 
-ghost use Rattle.std.specs.Prelude.{◌≡◌, ◌+◌, ◌<◌, ◌≤◌, length, OnOk, OnErr, OnSome, IfNone};
+ghost use Rattle.std.specs.Prelude.{◌^◌, ◌≡◌, ◌+◌, ◌<◌, ◌≤◌, length, OnOk, OnErr, OnSome, IfNone};
 ghost use Rattle.release_gate.specs.GateState.{empty, with_held, with_all_ripe, ripe_front, with_front_released};
 
 use network_model::{Held, NoMemory};
-use std::alloc::Global;
+use std::alloc::{Allocator, Global};
 use std::collections::VecDeque;
 use std::marker::Model;
 
 /// The messages that a router holds back, in the order in which it sent them. Those at the front may
 /// be ripe, which is to say may leave.
 #[derive(Debug, Drop)]
-pub struct Gate {
-    messages: VecDeque<Held>,
+pub struct Gate<A: Allocator = Global> {
+    messages: VecDeque<Held, A>,
     ripe: usize,
 }
 
-impl Model for Gate {
+impl<A: Allocator> Model for Gate<A> {
     ghost use Rattle.std.specs.Prelude.{◌-◌, ◌≤◌};
     ghost use Rattle.std.specs.VecDeque.{deque_len, deque_capacity};
     ghost use Rattle.release_gate.specs.GateState.{GateState};
@@ -31,9 +31,9 @@ impl Model for Gate {
     ghost invariant = { λ g. g.ripe ≤ deque_len g.messages };
 }
 
-impl Gate {
+impl<A: Allocator> Gate<A> {
     /// A gate that holds nothing.
-    pub fn new(alloc: Global) -> Gate
+    pub fn new(alloc: A) -> Gate<A>
         ensures { result.gate ≡ empty }
     {
         Gate {
@@ -47,6 +47,7 @@ impl Gate {
         ensures gate { (self.new).gate ≡ (self.old).gate }
         ensures room { OnOk result (count ≤ (self.new).room) }
         ensures no_less { (self.old).room ≤ (self.new).room }
+        ensures fits { (self.new).room < 2 ^ 63 }
         ensures full { OnErr result ((self.old).room < count) }
     {
         self.messages.reserve(count)?;

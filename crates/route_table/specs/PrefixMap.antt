@@ -4,8 +4,8 @@ use Rattle.std.specs.Vec.{vec_capacity}
 use Rattle.ipv4_prefix.specs.Prefix.{Prefix}
 use Rattle.route_table.specs.declared.prefix_map.PrefixMap.{PrefixMap}
 
-abbrev pub map_rows : {X : Type 0} → PrefixMap X → List (Prefix × X)
+abbrev pub map_rows : {X A : Type 0} → PrefixMap X A → List (Prefix × X)
 map_rows m = (m.entries).items
 
-abbrev pub map_capacity : {X : Type 0} → PrefixMap X → ℕ
+abbrev pub map_capacity : {X A : Type 0} → PrefixMap X A → ℕ
 map_capacity m = vec_capacity m.entries

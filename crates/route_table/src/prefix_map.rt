@@ -6,20 +6,20 @@ ghost use Rattle.ipv4_prefix.specs.Prefix.{prefix_cmp};
 ghost use Rattle.route_table.specs.Place.{IsPlace, without};
 
 use network_model::Prefix;
-use std::alloc::{AllocError, Global};
+use std::alloc::{AllocError, Allocator, Global};
 
 /// A map from prefixes to small values: one vector, in the order of the prefixes. A look-up takes
 /// time by the logarithm of the length.
 #[derive(Drop)]
-pub struct PrefixMap<X> {
-    entries: Vec<(Prefix, X)>,
+pub struct PrefixMap<X, A: Allocator = Global> {
+    entries: Vec<(Prefix, X), A>,
     ghost sorted: { IsTrue (is_sorted prefix_cmp entries.items) },
 }
 
-impl<X: Copy> PrefixMap<X> {
+impl<X: Copy, A: Allocator> PrefixMap<X, A> {
     ghost use Rattle.route_table.specs.PrefixMap.{map_rows, map_capacity};
 
-    pub fn new(alloc: Global) -> Self
+    pub fn new(alloc: A) -> Self
         ensures rows { map_rows result ≡ [] }
         ensures capacity { map_capacity result ≡ 0 }
     {

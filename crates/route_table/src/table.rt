@@ -12,19 +12,19 @@ use crate::iter::{ChangedRows, ControlRows, PublishedRows};
 use crate::prefix_map::PrefixMap;
 use crate::row::Row;
 use network_model::{Entry, NoMemory, Prefix};
-use std::alloc::Global;
+use std::alloc::{Allocator, Global};
 use std::marker::Model;
 
 /// Two maps from prefixes to entries, in the order of the prefixes: the control rows, which the
 /// router has chosen, and the published rows, which are in force.
 #[derive(Drop)]
-pub struct RouteTable {
-    rows: PrefixMap<Row>,
+pub struct RouteTable<A: Allocator = Global> {
+    rows: PrefixMap<Row, A>,
     /// The control rows that differ from the published ones.
-    changed: PrefixMap<Entry>,
+    changed: PrefixMap<Entry, A>,
 }
 
-impl Model for RouteTable {
+impl<A: Allocator> Model for RouteTable<A> {
     ghost use Rattle.std.specs.Prelude.{◌-◌, length};
     ghost use Rattle.route_table.specs.PrefixMap.{map_rows, map_capacity};
     ghost use Rattle.route_table.specs.Rows.{TableAndRoom, table_of, IsKept};
@@ -36,9 +36,9 @@ impl Model for RouteTable {
     ghost invariant = { λ t. IsKept (map_rows t.rows) (map_capacity t.rows) (map_rows t.changed) (map_capacity t.changed) };
 }
 
-impl RouteTable {
+impl<A: Allocator + Copy> RouteTable<A> {
     /// A table without rows.
-    pub fn new(alloc: Global) -> RouteTable
+    pub fn new(alloc: A) -> RouteTable<A>
         ensures { result.table ≡ record { control = []; published = [] } }
     {
         RouteTable {
@@ -46,7 +46,9 @@ impl RouteTable {
             changed: PrefixMap::new(alloc),
         }
     }
+}
 
+impl<A: Allocator> RouteTable<A> {
     /// The number of control rows.
     pub fn len(&self) -> usize
         ensures { result ≡ length (self.now).table.control }
@@ -181,7 +183,7 @@ impl RouteTable {
 }
 
 // Keeps the control row of the prefix among the changed ones exactly while it differs.
-fn note_change(changed: &mut PrefixMap<Entry>, prefix: Prefix, row: Row)
+fn note_change<A: Allocator>(changed: &mut PrefixMap<Entry, A>, prefix: Prefix, row: Row)
     requires { length (with_change prefix row (map_rows changed.old)) ≤ map_capacity changed.old }
     ensures rows { map_rows changed.new ≡ with_change prefix row (map_rows changed.old) }
     ensures capacity { map_capacity changed.new ≡ map_capacity changed.old }
@@ -194,7 +196,7 @@ fn note_change(changed: &mut PrefixMap<Entry>, prefix: Prefix, row: Row)
 }
 
 // Puts each of these rows, with its entry in force.
-fn put_in_force(rows: &mut PrefixMap<Row>, chosen: &[(Prefix, Entry)])
+fn put_in_force<A: Allocator>(rows: &mut PrefixMap<Row, A>, chosen: &[(Prefix, Entry)])
     requires { length (with_in_force chosen.now (map_rows rows.old)) ≤ map_capacity rows.old }
     ensures rows { map_rows rows.new ≡ with_in_force chosen.now (map_rows rows.old) }
     ensures capacity { map_capacity rows.new ≡ map_capacity rows.old }

@@ -4,7 +4,7 @@ use Rattle.dual_machine.specs.State as state
 use Rattle.dual_machine.proofs.machine.opening_neighbours.Given as goal
 
 abbrev pub invariant-loop-port : goal.invariant-loop-port
-invariant-loop-port l = record {
+invariant-loop-port g l = record {
   so_far : (l.neighbours).items ≡ state.opening_neighbours (take l.port-index l.ports);
   costs : All (λ n. IsCost n.cost) (l.neighbours).items;
   count : length (l.neighbours).items ≡ l.port-index;

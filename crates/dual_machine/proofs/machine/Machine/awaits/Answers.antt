@@ -8,7 +8,7 @@ use Rattle.dual_machine.proofs.Awaiting.{awaited_of-at}
 use Rattle.dual_machine.proofs.machine.Machine.awaits.Goals as goal
 
 pub returns-in-Some : goal.returns-in-Some
-returns-in-Some c =
+returns-in-Some g c =
     let i = c.self.inside in
     let n = length (i.ports).items in
     let under_way = subst (λ (a : Option Active). IfSome a (IsUnderWay n i.successor)) c.in-Some.is c.self.invariant.under_way in

@@ -13,7 +13,7 @@ use Rattle.dual_machine.proofs.Awaiting.{list_any-map, awaited_of-up, AwaitsBelo
 use Rattle.dual_machine.proofs.machine.Machine.begin.Goals as goal
 
 pub invariant_of-self : goal.invariant_of-self
-invariant_of-self c =
+invariant_of-self g c =
     let i = c.self.inside in
     let ports = (i.ports).items in
     let up = λ (ns : List Neighbour). list_any (λ n. n.up) ns in
@@ -25,7 +25,7 @@ invariant_of-self c =
     record { few = c.self.invariant.few; costs = c.self.invariant.costs; attached = c.self.invariant.attached; under_way = record { asking = asking; known = AwaitsBelow-up _ ports asked; debt = debt } }
 
 pub returns-then-is_any_up-clause-machine : goal.returns-then-is_any_up-clause-machine
-returns-then-is_any_up-clause-machine c =
+returns-then-is_any_up-clause-machine g c =
     let ports = ((c.self.inside).ports).items in
     let asked : (q : ℕ) → contains c.begin-replies.result q ≡ is_up_at ports q =
     λ q. ap (λ (s : Ports). contains s q) c.begin-replies.ensures ∙ c.up_ports.ensures q ∙ ap (λ (ns : List Neighbour). is_up_at ns q) c.deref-then-is_any_up-3.ensures in

@@ -9,14 +9,14 @@ use Rattle.dual_machine.proofs.Room.{IsAsking, length-reaction, reaction-decisio
 use Rattle.dual_machine.proofs.machine.Machine.event.Goals as goal
 
 pub invariant_of-self : goal.invariant_of-self
-invariant_of-self c =
+invariant_of-self g c =
     let i = c.self.inside in
     IsSound_after (Event.Up c.in-Up.port c.in-Up.cost) i.attachment i.attachment (i.ports).items c.deref_mut.result.now c.change_record.new.ports _ i.successor i.active
     (omega arith) c.deref_mut.ensures.value c.change_record.ensures.records refl c.change_record.ensures.cost c.self.invariant.few c.self.invariant.costs c.self.invariant.attached
     c.self.invariant.under_way
 
 pub react-requires : goal.react-requires
-react-requires c =
+react-requires g c =
     let m = (c.args.self.now).machine in
     let e = c.args.event in
     let ups = λ (ns : List Neighbour). count_by (λ n. n.up) ns in
@@ -26,7 +26,7 @@ react-requires c =
     record { known = c.requires.known; room = omega (arith, few, counted, c.in_ok-reserve.ensures.ok) }
 
 pub returns-in_default-clause-few : goal.returns-in_default-clause-few
-returns-in_default-clause-few c =
+returns-in_default-clause-few g c =
     let m = (c.args.self.now).machine in
     let e = c.args.event in
     let asking = subst (λ (s : State). IsAsking (s.machine).computation) c.self.view_is (IsAsking-computation_of _ _ _ c.self.invariant.under_way) in

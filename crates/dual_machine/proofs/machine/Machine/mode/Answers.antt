@@ -8,7 +8,7 @@ use Rattle.dual_machine.proofs.Awaiting.{awaited_of-at}
 use Rattle.dual_machine.proofs.machine.Machine.mode.Goals as goal
 
 pub returns-in-Some-clause-awaited : goal.returns-in-Some-clause-awaited
-returns-in-Some-clause-awaited c = λ q.
+returns-in-Some-clause-awaited g c = λ q.
     let i = c.self.inside in
     let n = length (i.ports).items in
     let under_way = subst (λ (a : Option Active). IfSome a (IsUnderWay n i.successor)) c.in-Some.is c.self.invariant.under_way in

@@ -18,23 +18,24 @@ use Rattle.dual_machine.proofs.Costs.{condition_holds_near, not_above, HasCost-a
 use Rattle.dual_machine.proofs.Debts.{not_risen, IsDebtOf_after}
 use Rattle.dual_machine.proofs.Deciding.{then, recorded, decision-passive, decision-done}
 use Rattle.dual_machine.proofs.machine.Machine.react.Goals as goal
+use Rattle.dual_machine.proofs.machine.Machine.react.Given as given
 
 pub invariant_of-self : goal.invariant_of-self
-invariant_of-self c =
+invariant_of-self g c =
     let i = c.self.inside in
     IsSound_after c.args.event.now i.attachment _ (i.ports).items c.deref_mut.result.now c.change_record.new.ports _ c.successor_after-self-inside.result i.active
     (omega arith) c.deref_mut.ensures.value c.change_record.ensures.records c.attachment_after-self-inside.ensures c.change_record.ensures.cost c.self.invariant.few c.self.invariant.costs c.self.invariant.attached
     (rw c.in_default.is tt)
 
 pub invariant_of-self-then-is_done : goal.invariant_of-self-then-is_done
-invariant_of-self-then-is_done c =
+invariant_of-self-then-is_done g c =
     let i = c.self.inside in
     IsSound_after c.args.event.now i.attachment _ (i.ports).items c.deref_mut.result.now c.change_record.new.ports _ c.successor_after-self-inside.result _
     (omega arith) c.deref_mut.ensures.value c.change_record.ensures.records c.attachment_after-self-inside.ensures c.change_record.ensures.cost c.self.invariant.few c.self.invariant.costs c.self.invariant.attached
     tt
 
 pub invariant_of-self-else-is_done : goal.invariant_of-self-else-is_done
-invariant_of-self-else-is_done c =
+invariant_of-self-else-is_done g c =
     let i = c.self.inside in
     let n = length (i.ports).items in
     let count : c.len-degree.result ≡ length (i.ports).items = omega arith in
@@ -49,42 +50,42 @@ invariant_of-self-else-is_done c =
     })
 
 pub returns-else-is_done-clause-machine : goal.returns-else-is_done-clause-machine
-returns-else-is_done-clause-machine c =
+returns-else-is_done-clause-machine g c =
     let i = c.self.inside in
     let awaited = c.end_wait.ensures.awaited (length (i.ports).items) in
     let asking = asking_after (length (i.ports).items) i.successor i.active c.in-Some.active c.end_wait.new.replies c.is_done.result c.in-Some.is c.self.invariant.under_way c.end_wait.ensures.no_more c.is_done.ensures in
     grind (arith, common_steps)
 
 pub returns-else-is_done-clause-origin : goal.returns-else-is_done-clause-origin
-returns-else-is_done-clause-origin c =
+returns-else-is_done-clause-origin g c =
     let i = c.self.inside in
     let awaited = c.end_wait.ensures.awaited (length (i.ports).items) in
     let asking = asking_after (length (i.ports).items) i.successor i.active c.in-Some.active c.end_wait.new.replies c.is_done.result c.in-Some.is c.self.invariant.under_way c.end_wait.ensures.no_more c.is_done.ensures in
     grind (arith, common_steps)
 
 pub returns-then-is_done-clause-origin : goal.returns-then-is_done-clause-origin
-returns-then-is_done-clause-origin c =
+returns-then-is_done-clause-origin g c =
     let i = c.self.inside in
     let awaited = c.end_wait.ensures.awaited (length (i.ports).items) in
     let asking = asking_after (length (i.ports).items) i.successor i.active c.in-Some.active c.end_wait.new.replies c.is_done.result c.in-Some.is c.self.invariant.under_way c.end_wait.ensures.no_more c.is_done.ensures in
     grind (arith, common_steps)
 
 pub returns-else-is_done-clause-sent : goal.returns-else-is_done-clause-sent
-returns-else-is_done-clause-sent c =
+returns-else-is_done-clause-sent g c =
     let i = c.self.inside in
     let awaited = c.end_wait.ensures.awaited (length (i.ports).items) in
     let asking = asking_after (length (i.ports).items) i.successor i.active c.in-Some.active c.end_wait.new.replies c.is_done.result c.in-Some.is c.self.invariant.under_way c.end_wait.ensures.no_more c.is_done.ensures in
     grind (arith, common_steps)
 
 pub complete-requires-clause-room : goal.complete-requires-clause-room
-complete-requires-clause-room c =
+complete-requires-clause-room g c =
     let i = c.self.inside in
     let awaited = c.end_wait.ensures.awaited (length (i.ports).items) in
     let asking = asking_after (length (i.ports).items) i.successor i.active c.in-Some.active c.end_wait.new.replies c.is_done.result c.in-Some.is c.self.invariant.under_way c.end_wait.ensures.no_more c.is_done.ensures in
     grind (arith, common_steps)
 
 pub complete-requires-clause-debt : goal.complete-requires-clause-debt
-complete-requires-clause-debt c =
+complete-requires-clause-debt g c =
     let i = c.self.inside in
     let count : c.len-degree.result ≡ length (i.ports).items = omega arith in
     let known : IsKnown (length (i.ports).items) c.args.event.now = subst (λ (s : State). IsKnown (degree s.machine) c.args.event.now) (sym c.self.view_is) c.requires.known in
@@ -94,7 +95,7 @@ complete-requires-clause-debt c =
     (IsDebtOf_after (length (i.ports).items) c.args.event.now i.successor _ c.has_risen-risen.result _ _ _ _ known (c.moved-origin.ensures ∙ ap (λ (n : ℕ). moved n i.successor c.args.event.now c.has_risen-risen.result c.in-Some.active.origin) count) (c.successor_after-self-inside.ensures ∙ ap (λ (n : ℕ). successor_after n c.args.event.now i.successor) count) c.debt_after-debt.ensures before.debt)
 
 pub complete-requires-clause-tested : goal.complete-requires-clause-tested
-complete-requires-clause-tested c = λ untested.
+complete-requires-clause-tested g c = λ untested.
     let i = c.self.inside in
     let after = c.successor_after-self-inside.result in
     let home = home_ways c.attachment_after-self-inside.result in
@@ -107,7 +108,7 @@ complete-requires-clause-tested c = λ untested.
 
 -- ---- a machine that was passive
 
-module _ (c : goal.After-decide) where
+module _ (g : given.Over) (c : goal.After-decide g) where
   abbrev passive_before : Machine
   passive_before = then c.args.event.now c.self.inside.attachment (c.self.inside.ports).items c.self.inside.rd c.self.inside.fd c.self.inside.successor (computation_of (length (c.self.inside.ports).items) c.self.inside.active)
 
@@ -127,24 +128,24 @@ module _ (c : goal.After-decide) where
       (sym passive)
 
 pub returns-in_default-clause-machine : goal.returns-in_default-clause-machine
-returns-in_default-clause-machine c =
+returns-in_default-clause-machine g c =
     c.decide.ensures.machine
-    ∙ ap (λ (o : Option Computation). (passive_reaction (deciding c o) c.args.event.now).machine) (ap (computation_of (length (ports_now c))) c.in_default.is)
-    ∙ ap (λ (m : Machine). (passive_reaction m c.args.event.now).machine) (decided c)
-    ∙ ap (λ (r : Reaction). r.machine) (decision-passive (with_records (passive_before c) c.args.event.now) c.args.event.now (passive c))
+    ∙ ap (λ (o : Option Computation). (passive_reaction (deciding g c o) c.args.event.now).machine) (ap (computation_of (length (ports_now g c))) c.in_default.is)
+    ∙ ap (λ (m : Machine). (passive_reaction m c.args.event.now).machine) (decided g c)
+    ∙ ap (λ (r : Reaction). r.machine) (decision-passive (with_records (passive_before g c) c.args.event.now) c.args.event.now (passive g c))
     ∙ ap (λ (s : State). (decision (with_records s.machine c.args.event.now) c.args.event.now).machine) c.self.view_is
 
 pub returns-in_default-clause-sent : goal.returns-in_default-clause-sent
-returns-in_default-clause-sent c =
+returns-in_default-clause-sent g c =
     c.decide.ensures.sent
-    ∙ ap (λ (o : Option Computation). c.args.sends.now.list ++ (passive_reaction (deciding c o) c.args.event.now).sends) (ap (computation_of (length (ports_now c))) c.in_default.is)
-    ∙ ap (λ (m : Machine). c.args.sends.now.list ++ (passive_reaction m c.args.event.now).sends) (decided c)
-    ∙ ap (λ (r : Reaction). c.args.sends.now.list ++ r.sends) (decision-passive (with_records (passive_before c) c.args.event.now) c.args.event.now (passive c))
+    ∙ ap (λ (o : Option Computation). c.args.sends.now.list ++ (passive_reaction (deciding g c o) c.args.event.now).sends) (ap (computation_of (length (ports_now g c))) c.in_default.is)
+    ∙ ap (λ (m : Machine). c.args.sends.now.list ++ (passive_reaction m c.args.event.now).sends) (decided g c)
+    ∙ ap (λ (r : Reaction). c.args.sends.now.list ++ r.sends) (decision-passive (with_records (passive_before g c) c.args.event.now) c.args.event.now (passive g c))
     ∙ ap (λ (s : State). c.args.sends.now.list ++ (decision (with_records s.machine c.args.event.now) c.args.event.now).sends) c.self.view_is
 
 -- ---- a computation that is over
 
-module _ (c : goal.After-complete) where
+module _ (g : given.Over) (c : goal.After-complete g) where
   abbrev active_before : Machine
   active_before = then c.args.event.now c.self.inside.attachment (c.self.inside.ports).items c.self.inside.rd c.self.inside.fd c.self.inside.successor (computation_of (length (c.self.inside.ports).items) c.self.inside.active)
 
@@ -179,21 +180,21 @@ module _ (c : goal.After-complete) where
   owed = c.debt_after-debt.ensures ∙ ap (λ (m : Machine). debt_after m.successor c.args.event.now c.in-Some.active.debt) completed
 
 pub returns-then-is_done-clause-machine : goal.returns-then-is_done-clause-machine
-returns-then-is_done-clause-machine c =
+returns-then-is_done-clause-machine g c =
     c.complete.ensures.machine
-    ∙ ap (λ (m : Machine). (completion m c.debt_after-debt.result).machine) (completed c)
-    ∙ ap (λ (o : Option ℕ). (completion (with_records (active_before c) c.args.event.now) o).machine) (owed c)
-    ∙ ap (λ (r : Reaction). r.machine) (decision-done (with_records (active_before c) c.args.event.now) c.args.event.now (under_way c) (active c) (done c))
+    ∙ ap (λ (m : Machine). (completion m c.debt_after-debt.result).machine) (completed g c)
+    ∙ ap (λ (o : Option ℕ). (completion (with_records (active_before g c) c.args.event.now) o).machine) (owed g c)
+    ∙ ap (λ (r : Reaction). r.machine) (decision-done (with_records (active_before g c) c.args.event.now) c.args.event.now (under_way g c) (active g c) (done g c))
     ∙ ap (λ (s : State). (decision (with_records s.machine c.args.event.now) c.args.event.now).machine) c.self.view_is
 
 pub returns-then-is_done-clause-sent : goal.returns-then-is_done-clause-sent
-returns-then-is_done-clause-sent c =
-    let m = with_records (active_before c) c.args.event.now in
+returns-then-is_done-clause-sent g c =
+    let m = with_records (active_before g c) c.args.event.now in
     c.complete.ensures.sent
-    ∙ ap (λ (x : Machine). c.push_to.new.self.list ++ (completion x c.debt_after-debt.result).sends) (completed c)
-    ∙ ap (λ (o : Option ℕ). c.push_to.new.self.list ++ (completion m o).sends) (owed c)
+    ∙ ap (λ (x : Machine). c.push_to.new.self.list ++ (completion x c.debt_after-debt.result).sends) (completed g c)
+    ∙ ap (λ (o : Option ℕ). c.push_to.new.self.list ++ (completion m o).sends) (owed g c)
     ∙ ap (λ (xs : List Outgoing). xs ++ (completion m (debt_after m.successor c.args.event.now c.in-Some.active.debt)).sends)
-    (c.push_to.ensures.pushed ∙ ap (λ (xs : List Outgoing). c.args.sends.now.list ++ xs) (c.other_asker.ensures m (sym (ap (λ (x : Machine). x.successor) (completed c)))))
+    (c.push_to.ensures.pushed ∙ ap (λ (xs : List Outgoing). c.args.sends.now.list ++ xs) (c.other_asker.ensures m (sym (ap (λ (x : Machine). x.successor) (completed g c)))))
     ∙ append_assoc c.args.sends.now.list (answers_at_once m c.args.event.now) (completion m (debt_after m.successor c.args.event.now c.in-Some.active.debt)).sends
-    ∙ ap (λ (r : Reaction). c.args.sends.now.list ++ r.sends) (decision-done m c.args.event.now (under_way c) (active c) (done c))
+    ∙ ap (λ (r : Reaction). c.args.sends.now.list ++ r.sends) (decision-done m c.args.event.now (under_way g c) (active g c) (done g c))
     ∙ ap (λ (s : State). c.args.sends.now.list ++ (decision (with_records s.machine c.args.event.now) c.args.event.now).sends) c.self.view_is

@@ -6,6 +6,6 @@ use Rattle.route_table.proofs.InForce.{sorted-published}
 use Rattle.route_table.proofs.table.RouteTable.published_rows.Goals as goal
 
 pub returns-clause-sorted : goal.returns-clause-sorted
-returns-clause-sorted c =
+returns-clause-sorted g c =
     let rows = c.self.inside.rows in
     ap (is_sorted prefix_cmp) (c.new.ensures ∙ ap published_rows c.as_slice.ensures) ∙ sorted-published rows.entries.items rows.sorted

@@ -7,6 +7,6 @@ use Rattle.network_model.proofs.RowLaws.{sorted-map}
 use Rattle.route_table.proofs.table.RouteTable.rows.Goals as goal
 
 pub returns-clause-sorted : goal.returns-clause-sorted
-returns-clause-sorted c =
+returns-clause-sorted g c =
     let rows = c.self.inside.rows in
     ap (is_sorted prefix_cmp) (c.new.ensures ∙ ap control_rows c.as_slice.ensures) ∙ sorted-map prefix_cmp (λ (r : Row). r.control) rows.entries.items ∙ rows.sorted
