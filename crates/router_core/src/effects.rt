@@ -1,6 +1,6 @@
 //! What a router's machines do to its table and its gate.
 
-ghost use Rattle.std.specs.Prelude.{◌≡◌, ◌≤◌, ◌<◌, ◌+◌, ◌*◌, ◌++◌, ◌⊎◌, map, length, IsSome, All, OnOk, OnErr};
+ghost use Rattle.std.specs.Prelude.{◌^◌, ◌≡◌, ◌≤◌, ◌<◌, ◌+◌, ◌*◌, ◌++◌, ◌⊎◌, map, length, IsSome, All, OnOk, OnErr};
 ghost use Rattle.std.specs.List.{flat_map};
 ghost use Rattle.std.specs.FinMap.{find as row_of, put};
 ghost use Rattle.ipv4_prefix.specs.Prefix.{prefix_cmp};
@@ -13,17 +13,20 @@ ghost use Rattle.router_core.specs.Effects.{HasRoomFor, KeepsRoom};
 ghost use Rattle.router_core.specs.Parts.{machines_of};
 
 use dual_machine::{Machine, Sends};
-use network_model::{Entry, Event, Held, Message, NoMemory, Outgoing, Port, Prefix};
+use network_model::{
+    Entry, Event, Held, Message, NoMemory, Outgoing, Port, Prefix, SmallAllocator,
+};
 use release_gate::Gate;
 use route_table::RouteTable;
+use std::alloc::Allocator;
 
 /// Where the reactions of a router's machines go: the rows that they choose, and what they send.
 #[derive(Drop)]
-pub struct Effects {
-    pub table: RouteTable,
-    pub gate: Gate,
+pub struct Effects<A: Allocator> {
+    pub table: RouteTable<A>,
+    pub gate: Gate<A>,
     // What the present machine sends; between calls its content is of no matter.
-    pub sends: Sends,
+    pub sends: Sends<A>,
 }
 
 // The session that the router's notices said last of a port.
@@ -37,7 +40,7 @@ fn session_at(ports: &[Port], port: u8) -> u16
 }
 
 // The entry that a machine chooses: local where its successor is the attachment.
-pub fn entry_of(ports: &[Port], machine: &Machine) -> Entry
+pub fn entry_of<A: SmallAllocator>(ports: &[Port], machine: &Machine<A>) -> Entry
     ensures { result ≡ step.entry_of ports.now machine.now.machine }
 {
     if machine.is_local() {
@@ -68,7 +71,7 @@ fn held_of(ports: &[Port], prefix: Prefix, sent: &Outgoing) -> Held
 }
 
 // Holds what a machine sent, in order.
-fn hold_all(gate: &mut Gate, ports: &[Port], prefix: Prefix, sent: &[Outgoing])
+fn hold_all<A: Allocator>(gate: &mut Gate<A>, ports: &[Port], prefix: Prefix, sent: &[Outgoing])
     requires { length sent.now ≤ gate.old.room }
     ensures held { gate.new.gate.held ≡ gate.old.gate.held ++ map (step.held_of ports.now prefix) sent.now }
     ensures ripe { gate.new.gate.ripe ≡ gate.old.gate.ripe }
@@ -79,13 +82,14 @@ fn hold_all(gate: &mut Gate, ports: &[Port], prefix: Prefix, sent: &[Outgoing])
     }
 }
 
-impl Effects {
+impl<A: SmallAllocator> Effects<A> {
     /// Room for `each` messages of one reaction, and for `all` messages to be held.
     pub fn reserve(&mut self, each: usize, all: usize) -> Result<(), NoMemory>
         ensures table { self.new.table ≡ self.old.table }
         ensures gate { self.new.gate.gate ≡ self.old.gate.gate }
         ensures sends { OnOk result (each ≤ self.new.sends.capacity) }
         ensures room { OnOk result (all ≤ self.new.gate.room) }
+        ensures fits { OnOk result (self.new.gate.room < 2 ^ 63) }
         ensures full { OnErr result ((self.old.sends.capacity < each) ⊎ (self.old.gate.room < all)) }
     {
         self.sends.clear();
@@ -94,7 +98,7 @@ impl Effects {
     }
 
     /// A machine meets an event: its row is set, and what it sends is held.
-    pub fn meet(&mut self, machine: &mut Machine, event: &Event, prefix: Prefix, ports: &[Port])
+    pub fn meet(&mut self, machine: &mut Machine<A>, event: &Event, prefix: Prefix, ports: &[Port])
         requires known { IsKnown (degree machine.old.machine) event.now }
         requires timely { IsTimely machine.old.machine.ports event.now }
         requires room { HasRoomFor (most_sent machine.old.machine.ports) prefix self.old }
@@ -113,11 +117,11 @@ impl Effects {
 }
 
 // Each machine of a router meets an event, in the order of the prefixes.
-pub fn meet_all(
-    machines: &mut [(Prefix, Machine)],
+pub fn meet_all<A: SmallAllocator>(
+    machines: &mut [(Prefix, Machine<A>)],
     event: &Event,
     ports: &[Port],
-    effects: &mut Effects,
+    effects: &mut Effects<A>,
     each: usize,
 )
     requires known { All (λ m. IsKnown (degree (m.1).machine) event.now) machines.old }

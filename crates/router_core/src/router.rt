@@ -16,24 +16,26 @@ ghost use Rattle.router_core.specs.Router.{CanTake, IsTimelyAt};
 
 use crate::effects::{Effects, meet_all};
 use dual_machine::{Machine, Sends};
-use network_model::{Cost, Entry, Event, Held, Item, NoMemory, Port, PortInfo, Prefix};
+use network_model::{
+    Cost, Entry, Event, Held, Item, NoMemory, Port, PortInfo, Prefix, SmallAllocator,
+};
 use release_gate::Gate;
 use route_table::RouteTable;
-use std::alloc::{AllocError, Global};
+use std::alloc::{AllocError, Allocator, Global};
 use std::marker::Model;
 
 /// A router: what its notices said of its ports, a machine for each prefix that it has heard of, the
 /// rows that it has chosen and published, and the messages that it holds back.
 #[derive(Drop)]
-pub struct Router {
-    ports: Vec<Port>,
+pub struct Router<A: SmallAllocator = Global> {
+    ports: Vec<Port, A>,
     // In the order of the prefixes.
-    machines: Vec<(Prefix, Machine)>,
-    effects: Effects,
+    machines: Vec<(Prefix, Machine<A>), A>,
+    effects: Effects<A>,
     generation: u64,
 }
 
-impl Model for Router {
+impl<A: SmallAllocator> Model for Router<A> {
     ghost use Rattle.network_model.specs.World.{Router as WorldRouter};
     ghost use Rattle.router_core.specs.Parts.{router_of, IsKept};
 
@@ -45,7 +47,7 @@ impl Model for Router {
 }
 
 // The ports as a machine meets them first.
-fn port_infos(alloc: Global, ports: &[Port]) -> Result<Vec<PortInfo>, AllocError>
+fn port_infos<A: Allocator>(alloc: A, ports: &[Port]) -> Result<Vec<PortInfo, A>, AllocError>
     ensures { IfOk result (λ v. v.items ≡ map (λ p. record { up = p.up; cost = p.cost }) ports.now) }
 {
     ports
@@ -58,24 +60,27 @@ fn port_infos(alloc: Global, ports: &[Port]) -> Result<Vec<PortInfo>, AllocError
 }
 
 // Where the machine of the prefix stands, or where it would.
-fn place_of(machines: &[(Prefix, Machine)], prefix: Prefix) -> Result<usize, usize>
+fn place_of<A: SmallAllocator>(
+    machines: &[(Prefix, Machine<A>)],
+    prefix: Prefix,
+) -> Result<usize, usize>
     requires { is_sorted prefix_cmp machines.now ≡ true }
     ensures { IsPlace prefix machines.now result }
 {
     machines.binary_search_by_key(&prefix, |machine| machine.0)
 }
 
-fn are_passive(machines: &[(Prefix, Machine)]) -> bool
+fn are_passive<A: SmallAllocator>(machines: &[(Prefix, Machine<A>)]) -> bool
     ensures { result ≡ list_all (λ m. is_none (m.1).machine.computation) machines.now }
 {
     machines.iter().all(|machine| machine.1.is_passive())
 }
 
 // Puts the machine of a prefix in its place, over one that is there.
-fn put_machine(
-    machines: &mut Vec<(Prefix, Machine)>,
+fn put_machine<A: SmallAllocator>(
+    machines: &mut Vec<(Prefix, Machine<A>), A>,
     prefix: Prefix,
-    machine: Machine,
+    machine: Machine<A>,
 ) -> Result<(), AllocError>
     requires { is_sorted prefix_cmp machines.old.items ≡ true }
     ensures ok { OnOk result (machines.new.items ≡ put prefix_cmp prefix machine machines.old.items) }
@@ -88,14 +93,14 @@ fn put_machine(
     Ok(())
 }
 
-impl Router {
+impl<A: SmallAllocator> Router<A> {
     /// A router with these ports, at most 32, that is attached to these prefixes at these costs and
     /// has published them. Of a prefix that is named more than once the first cost counts.
     pub fn new(
-        alloc: Global,
-        ports: Vec<Port>,
+        alloc: A,
+        ports: Vec<Port, A>,
         attachments: &[(Prefix, Cost)],
-    ) -> Result<Router, NoMemory>
+    ) -> Result<Router<A>, NoMemory>
         requires { length ports.items ≤ 32 }
         ensures { IfOk result (λ r. r ≡ world.opening_router ports.items (world.rows_of attachments.now)) }
     {
@@ -137,7 +142,7 @@ impl Router {
     }
 
     /// The rows that the router has chosen and published.
-    pub fn table(&self) -> &RouteTable
+    pub fn table(&self) -> &RouteTable<A>
         ensures { result.now.table ≡ (self.now).table }
     {
         &self.effects.table
@@ -174,7 +179,7 @@ impl Router {
 
     /// The rows that a publication would put in force, in the order of the prefixes: set over the
     /// published rows, they make them the chosen ones.
-    pub fn patch_rows(&self, alloc: Global) -> Result<Vec<(Prefix, Entry)>, NoMemory>
+    pub fn patch_rows(&self, alloc: A) -> Result<Vec<(Prefix, Entry), A>, NoMemory>
         ensures rows { IfOk result (λ rows. rows.items ≡ step.changed_rows (self.now).table) }
         ensures patch { IfOk result (λ rows. with_rows rows.items (self.now).table.published ≡ (self.now).table.control) }
 
@@ -216,7 +221,7 @@ impl Router {
     }
 
     /// The machine of the prefix, where the router has heard of it.
-    pub fn machine(&self, prefix: Prefix) -> Option<&Machine>
+    pub fn machine(&self, prefix: Prefix) -> Option<&Machine<A>>
         ensures { option_map (λ m. m.machine) (option_copied result) ≡ row_of prefix_cmp prefix (self.now).machines }
     {
         match place_of(&self.machines, prefix) {
@@ -342,7 +347,7 @@ impl Router {
 
     // A machine over the router's ports that has heard nothing, of a prefix to which the router is not
     // attached.
-    fn opened(&self) -> Result<Machine, NoMemory>
+    fn opened(&self) -> Result<Machine<A>, NoMemory>
         ensures { IfOk result (λ m. m.machine ≡ opening_machine None (world.neighbours (self.now).ports)) }
     {
         let alloc = *self.machines.allocator();

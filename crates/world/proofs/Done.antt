@@ -1,5 +1,5 @@
 -- What the answer of a call on a link, a port or a router says of the step that it is done for.
-use Rattle.std.specs.Prelude.{◌≡◌, ℕ, ◌<◌, Bool, true, false, not, ◌&&◌, ◌==◌, if◌then◌else◌, nat_lt, List, [], ◌∷◌, length, Option, Some, None, Result, Ok, Err, slice_get, is_none, is_ok, option_and_then, option_map, MatchOption, IfOk, IfErr, OnOk, OnSome}
+use Rattle.std.specs.Prelude.{◌≡◌, ℕ, ◌<◌, Bool, true, false, not, ◌&&◌, ◌==◌, if◌then◌else◌, nat_lt, List, [], ◌∷◌, length, Option, Some, None, Result, Ok, Err, slice_get, is_none, is_ok, option_and_then, option_map, MatchOption, IfOk, IfErr, OnOk, OnSome, IsErrAnd, OnErr, MatchBool, get_or, set}
 use Rattle.std.specs.Option.{option_map_or, ok_or}
 use Rattle.std.proofs.Common.{refl, sym, ap, subst, ◌∙◌, arith, inl, inr}
 use Rattle.std.proofs.Math.Bool.{and-false}
@@ -15,21 +15,24 @@ use Rattle.network_model.specs.declared.network.End.{End}
 use Rattle.network_model.specs.declared.network.Place.{Place}
 use Rattle.network_model.specs.declared.network.Port.{Port}
 use Rattle.network_model.specs.declared.step.Step.{Step}
-use Rattle.network_model.specs.declared.step.Step.TheVariants.{LinkUp, LinkDown, SetCost, Deliver, Release, Detach}
+use Rattle.network_model.specs.declared.step.Step.TheVariants.{LinkUp, LinkDown, SetCost, Deliver, Release, Detach, Publish}
 use Rattle.network_model.specs.declared.step.Refusal.{Refusal}
 use Rattle.network_model.specs.Machine.{changed_at}
-use Rattle.network_model.specs.World.{Side, Link, Router, Attachments, World, place_at, link_at, is_known, side}
+use Rattle.network_model.specs.World.{Side, Link, Router, Attachments, World, place_at, link_at, is_known, side, attachment_at}
 use Rattle.network_model.specs.Network.{first_cause}
-use Rattle.network_model.specs.Step.{CanBeAsked, Lawful, next, refusal, is_up, last_session, front_at, is_at_home, notice_at, release_at, link_come_up, link_gone_down, with_cost, with_message, with_front_taken, with_delivered, with_noticed, with_notice_taken, with_released, changed_router, router_accepting, router_at_home, router_releasing}
+use Rattle.network_model.specs.Step.{CanBeAsked, Lawful, next, refusal, is_up, last_session, front_at, is_at_home, notice_at, release_at, link_come_up, link_gone_down, with_cost, with_message, with_front_taken, with_delivered, with_noticed, with_notice_taken, with_released, changed_router, router_accepting, router_at_home, router_releasing, is_due, is_up_in}
 use Rattle.network_model.proofs.ListLaws.{None_not_Some, Some_injective, element_there}
 use Rattle.network_model.proofs.Lawful.{refusal_to_Lawful, Lawful_to_refusal}
 use Rattle.link_fifo.specs.declared.refusal.LinkRefusal.{LinkRefusal}
-use Rattle.link_fifo.specs.Refusals.{refusal_to_come_up, refusal_to_change, front_of, sent_in}
+use Rattle.link_fifo.specs.Refusals.{refusal_to_come_up, refusal_to_change, front_of, sent_in, step_refusal, IsDoneUnless, AnswersPut}
 use Rattle.link_fifo.proofs.Changes.{front_of-Some}
 use Rattle.router_core.specs.Router.{is_port_up, CanTake}
 use Rattle.world.specs.Kept.{LeadsTo, IsKept}
-use Rattle.world.specs.Steps.{IsDoneOr, IsPort, port_refusal, prefix_refusal}
+use Rattle.world.specs.Steps.{IsDoneOr, IsPort, port_refusal, prefix_refusal, is_stale}
 use Rattle.world.proofs.Steps.{next-kept}
+use Rattle.std.specs.Result.{result_err}
+use Rattle.std.proofs.lemmas.List.{set-get_or}
+use Rattle.link_fifo.specs.declared.refusal.Put.{Put}
 
 -- ---- causes
 
@@ -43,15 +46,15 @@ pub only_cause : (T : Type 0) {C : Type 0} (o : Option C) (e : C) → MatchOptio
 only_cause T None e none = absurd (true≢false (sym none))
 only_cause T {C} (Some x) e same = let inner : ◌≡◌ {A = Result T C} (Err e) (Err x) = same in cc
 
--- the tests fail alike, whatever the causes are named
-none_of_two : {C D : Type 0} (x y : C) (u v : D) (a b : Bool) → first_cause ((a, x) ∷ (b, y) ∷ []) ≡ None → first_cause ((a, u) ∷ (b, v) ∷ []) ≡ None
-none_of_two x y u v true b none = absurd (None_not_Some (sym none))
-none_of_two x y u v false true none = absurd (None_not_Some (sym none))
-none_of_two x y u v false false none = refl
+-- the same tests, with other names for the causes
+two_alike : {C D : Type 0} (f : C → D) (x y : C) (a b : Bool) → first_cause ((a, f x) ∷ (b, f y) ∷ []) ≡ option_map f (first_cause ((a, x) ∷ (b, y) ∷ []))
+two_alike f x y true b = refl
+two_alike f x y false true = refl
+two_alike f x y false false = refl
 
-none_of_three : {C D : Type 0} (x y z : C) (u v t : D) (a b c : Bool) → first_cause ((a, x) ∷ (b, y) ∷ (c, z) ∷ []) ≡ None → first_cause ((a, u) ∷ (b, v) ∷ (c, t) ∷ []) ≡ None
-none_of_three x y z u v t true b c none = absurd (None_not_Some (sym none))
-none_of_three x y z u v t false b c none = none_of_two y z v t b c none
+three_alike : {C D : Type 0} (f : C → D) (x y z : C) (a b c : Bool) → first_cause ((a, f x) ∷ (b, f y) ∷ (c, f z) ∷ []) ≡ option_map f (first_cause ((a, x) ∷ (b, y) ∷ (c, z) ∷ []))
+three_alike f x y z true b c = refl
+three_alike f x y z false b c = two_alike f y z b c
 
 -- a cause among the first two is the cause
 first_of_two : {C : Type 0} (x y : C) (a b : Bool) (rest : List (Bool × C)) (e : C) → first_cause ((a, x) ∷ (b, y) ∷ []) ≡ Some e → first_cause ((a, x) ∷ (b, y) ∷ rest) ≡ Some e
@@ -59,14 +62,10 @@ first_of_two x y true b rest e found = found
 first_of_two x y false true rest e found = found
 first_of_two x y false false rest e found = absurd (None_not_Some found)
 
--- two tests fail where the two things are there
-both_there : {A B C : Type 0} (x y : C) (o : Option A) (p : Option B) (a : A) (b : B) → o ≡ Some a → p ≡ Some b → first_cause ((is_none o, x) ∷ (is_none p, y) ∷ []) ≡ None
-both_there x y o p a b here there = ap (λ q. first_cause ((is_none q, x) ∷ (is_none p, y) ∷ [])) here ∙ ap (λ q. first_cause ((false, x) ∷ (is_none q, y) ∷ [])) there
-
 -- ---- what is refused at a port
 
 -- refused for this cause
-refused : (o : Option Refusal) (r : Result (Unit {0}) Refusal) (e : Refusal) → o ≡ Some e → r ≡ Err e → IsDoneOr o r
+pub refused : (o : Option Refusal) (r : Result (Unit {0}) Refusal) (e : Refusal) → o ≡ Some e → r ≡ Err e → IsDoneOr o r
 refused o r e is answer = subst (λ c. IsDoneOr c r) (sym is) answer
 
 pub no_port-set_cost : (w : World) (i q cost : ℕ) (r : Result (Unit {0}) Refusal) (e : Refusal) → port_refusal w i q ≡ Some e → r ≡ Err e → IsDoneOr (refusal w (SetCost i q cost)) r
@@ -95,30 +94,68 @@ no_port-deliver w i q r e away found answer = refused (refusal w (Deliver i q)) 
 step-keeps : (w : World) (s : Step) → CanBeAsked s → refusal w s ≡ None → (v : World) → v ≡ next w s → IsKept w → IsKept v
 step-keeps w s asked none v is h = subst IsKept (sym is) (next-kept w s (refusal_to_Lawful w s asked none) h)
 
-pub up-keeps : (w : World) (l : ℕ) (links : List Link) → refusal_to_come_up w.links l ≡ None → links ≡ changed_at l link_come_up w.links → IsKept w → IsKept (record w { links = links })
-up-keeps w l links none is = step-keeps w (LinkUp l) tt (none_of_three LinkRefusal.UnknownLink LinkRefusal.AlreadyUp LinkRefusal.SessionsSpent Refusal.UnknownLink Refusal.AlreadyUp Refusal.SessionsSpent (is_none (slice_get w.links l)) (is_up (slice_get w.links l)) (not (option_map_or (λ k. nat_lt k.session last_session) (slice_get w.links l) false)) none) (record w { links = links }) (ap (λ ks. record w { links = ks }) is)
+-- ---- what a link answers
 
-pub down-keeps : (w : World) (l : ℕ) (links : List Link) → refusal_to_change w.links l ≡ None → links ≡ changed_at l link_gone_down w.links → IsKept w → IsKept (record w { links = links })
-down-keeps w l links none is = step-keeps w (LinkDown l) tt (none_of_two LinkRefusal.UnknownLink LinkRefusal.IsDown Refusal.UnknownLink Refusal.IsDown (is_none (slice_get w.links l)) (not (is_up (slice_get w.links l))) none) (record w { links = links }) (ap (λ ks. record w { links = ks }) is)
+-- a step is refused where its link refuses it, and for the same cause
+pub up_refusal : (w : World) (l : ℕ) → refusal w (LinkUp l) ≡ option_map step_refusal (refusal_to_come_up w.links l)
+up_refusal w l = three_alike step_refusal LinkRefusal.UnknownLink LinkRefusal.AlreadyUp LinkRefusal.SessionsSpent (is_none (slice_get w.links l)) (is_up (slice_get w.links l)) (not (option_map_or (λ k. nat_lt k.session last_session) (slice_get w.links l) false))
+
+pub down_refusal : (w : World) (l : ℕ) → refusal w (LinkDown l) ≡ option_map step_refusal (refusal_to_change w.links l)
+down_refusal w l = two_alike step_refusal LinkRefusal.UnknownLink LinkRefusal.IsDown (is_none (slice_get w.links l)) (not (is_up (slice_get w.links l)))
 
 -- the link of a port
 link_of : (w : World) (i q : ℕ) (p : Place) → place_at w i q ≡ Some p → link_at w i q ≡ slice_get w.links p.link
 link_of w i q p at = ap (option_and_then (λ (x : Place). slice_get w.links x.link)) at
 
+pub set_cost_refusal : (w : World) (i q : ℕ) (p : Place) (cost : ℕ) → IsPort w i q p → refusal w (SetCost i q cost) ≡ option_map step_refusal (refusal_to_change w.links p.link)
+set_cost_refusal w i q p cost port =
+    ap (λ b. first_cause ((b, Refusal.UnknownRouter) ∷ (is_none (link_at w i q), Refusal.UnknownLink) ∷ (not (is_up (link_at w i q)), Refusal.IsDown) ∷ [])) (ap is_none port.is_router)
+    ∙ two_alike step_refusal LinkRefusal.UnknownLink LinkRefusal.IsDown (is_none (link_at w i q)) (not (is_up (link_at w i q)))
+    ∙ ap (λ k. option_map step_refusal (first_cause ((is_none k, LinkRefusal.UnknownLink) ∷ (not (is_up k), LinkRefusal.IsDown) ∷ []))) (link_of w i q p port.is_place)
+
+pub item_cause : (w : World) (i q : ℕ) (p : Place) → IsPort w i q p → is_at_home w i q ≡ false → refusal w (Deliver i q) ≡ option_map step_refusal (result_err (front_of p.end (slice_get w.links p.link)))
+item_cause w i q p port away =
+    item_refusal w i q away
+    ∙ ap (λ b. first_cause ((b, Refusal.UnknownRouter) ∷ (is_none (link_at w i q), Refusal.UnknownLink) ∷ (is_none (front_at w i q), Refusal.NothingToDeliver) ∷ [])) (ap is_none port.is_router)
+    ∙ ap (λ (o : Option Place). first_cause ((is_none (option_and_then (λ x. slice_get w.links x.link) o), Refusal.UnknownLink)
+    ∷ (is_none (option_and_then (λ s. slice_get s.inbox 0) (option_and_then (λ x. option_map (side x.end) (slice_get w.links x.link)) o)), Refusal.NothingToDeliver) ∷ [])) port.is_place
+    ∙ by_link (slice_get w.links p.link)
+  where
+    by_front : (o : Option Item) → first_cause ((is_none o, Refusal.NothingToDeliver) ∷ []) ≡ option_map step_refusal (result_err (ok_or o LinkRefusal.NothingToDeliver))
+    by_front None = refl
+    by_front (Some x) = refl
+
+    by_link : (o : Option Link) → first_cause ((is_none o, Refusal.UnknownLink) ∷ (is_none (option_and_then (λ s. slice_get s.inbox 0) (option_map (side p.end) o)), Refusal.NothingToDeliver) ∷ []) ≡ option_map step_refusal (result_err (front_of p.end o))
+    by_link None = refl
+    by_link (Some k) = by_front (slice_get (side p.end k).inbox 0)
+
+-- what a link did was not refused
+pub not_refused : (o : Option LinkRefusal) (x : Unit {0}) → IsDoneUnless o (Ok x) → o ≡ None
+not_refused o x done = no_cause _ o x done
+
+-- so the step answers what its link answers
+pub done_on_link : {c : Option Refusal} (o : Option LinkRefusal) (x : Unit {0}) → c ≡ option_map step_refusal o → IsDoneUnless o (Ok x) → IsDoneOr c (Ok x)
+done_on_link o x is done = subst (λ c. IsDoneOr c (Ok x)) (sym (is ∙ ap (option_map step_refusal) (not_refused o x done))) tt
+
+pub refused_by_link : {c : Option Refusal} (o : Option LinkRefusal) (e : LinkRefusal) (r : Result (Unit {0}) Refusal) → c ≡ option_map step_refusal o → IsDoneUnless {X = Unit {0}} o (Err e) → IsErrAnd r (λ x. x ≡ step_refusal e) → IsDoneOr c r
+refused_by_link o e r is cause answer = subst (λ c. IsDoneOr c r) (sym is) (by_cause o cause r answer)
+  where
+    by_cause : (o : Option LinkRefusal) → IsDoneUnless {X = Unit {0}} o (Err e) → (r : Result (Unit {0}) Refusal) → IsErrAnd r (λ x. x ≡ step_refusal e) → IsDoneOr (option_map step_refusal o) r
+    by_cause o cause (Ok x) none = absurd none
+    by_cause None full (Err x) answer = answer ∙ ap step_refusal full
+    by_cause (Some d) same (Err x) answer = let inner : ◌≡◌ {A = Result (Unit {0}) LinkRefusal} (Err e) (Err d) = same in let is : e ≡ d = cc in ap (λ y. Err y) (answer ∙ ap step_refusal is)
+
+-- and keeps what every world keeps
+pub up-keeps : (w : World) (l : ℕ) (links : List Link) → refusal_to_come_up w.links l ≡ None → links ≡ changed_at l link_come_up w.links → IsKept w → IsKept (record w { links = links })
+up-keeps w l links none is = step-keeps w (LinkUp l) tt (up_refusal w l ∙ ap (option_map step_refusal) none) (record w { links = links }) (ap (λ ks. record w { links = ks }) is)
+
+pub down-keeps : (w : World) (l : ℕ) (links : List Link) → refusal_to_change w.links l ≡ None → links ≡ changed_at l link_gone_down w.links → IsKept w → IsKept (record w { links = links })
+down-keeps w l links none is = step-keeps w (LinkDown l) tt (down_refusal w l ∙ ap (option_map step_refusal) none) (record w { links = links }) (ap (λ ks. record w { links = ks }) is)
+
 pub set_cost-keeps : (w : World) (i q : ℕ) (p : Place) (cost : ℕ) (links : List Link) → IsCost cost → IsPort w i q p → refusal_to_change w.links p.link ≡ None → links ≡ changed_at p.link (with_cost cost p.end) w.links → IsKept w → IsKept (record w { links = links })
 set_cost-keeps w i q p cost links costs port none is =
-    step-keeps w (SetCost i q cost) costs not_refused (record w { links = links }) (ap (λ ks. record w { links = ks }) is ∙ sym (ap (λ o. option_map_or (λ (x : Place). record w { links = changed_at x.link (with_cost cost x.end) w.links }) o w) port.is_place))
-  where
-    here : link_at w i q ≡ slice_get w.links p.link
-    here = link_of w i q p port.is_place
-
-    router_there : is_none (slice_get w.routers i) ≡ false
-    router_there = ap is_none port.is_router
-
-    not_refused : refusal w (SetCost i q cost) ≡ None
-    not_refused = ap (λ b. first_cause ((b, Refusal.UnknownRouter) ∷ (is_none (link_at w i q), Refusal.UnknownLink) ∷ (not (is_up (link_at w i q)), Refusal.IsDown) ∷ [])) router_there
-        ∙ none_of_two LinkRefusal.UnknownLink LinkRefusal.IsDown Refusal.UnknownLink Refusal.IsDown (is_none (link_at w i q)) (not (is_up (link_at w i q)))
-        (ap (λ k. first_cause ((is_none k, LinkRefusal.UnknownLink) ∷ (not (is_up k), LinkRefusal.IsDown) ∷ [])) here ∙ none)
+    step-keeps w (SetCost i q cost) costs (set_cost_refusal w i q p cost port ∙ ap (option_map step_refusal) none)
+    (record w { links = links }) (ap (λ ks. record w { links = ks }) is ∙ sym (ap (λ o. option_map_or (λ (x : Place). record w { links = changed_at x.link (with_cost cost x.end) w.links }) o w) port.is_place))
 
 -- ---- a port that is asked for
 
@@ -168,7 +205,7 @@ takes ports q x link (y ∷ ys) item at some leads = subst (λ z. CanTake ports 
     by_item (Item.Message m) leads = up_is ∙ leads.0
 
 -- the port is one that its router knows
-port_known : (w : World) (i q : ℕ) (p : Place) (r : Router) → IsKept w → slice_get w.routers i ≡ Some r → place_at w i q ≡ Some p → q < length r.ports
+pub port_known : (w : World) (i q : ℕ) (p : Place) (r : Router) → IsKept w → slice_get w.routers i ≡ Some r → place_at w i q ≡ Some p → q < length r.ports
 port_known w i q p r h is_router at = by_places (slice_get w.places i) refl at
   where
     by_places : (o : Option (List Place)) → slice_get w.places i ≡ o → option_and_then (λ (ps : List Place). slice_get ps q) o ≡ Some p → q < length r.ports
@@ -196,8 +233,11 @@ delivered w i q p item links routers port answer links_are routers_are =
     ∙ sym (ap (λ o. option_map_or (with_delivered i q w) o (option_map_or (with_noticed i w) (notice_at w i q) w)) (front_at_is w i q p item port answer)
     ∙ ap (λ o. changed_router i (router_accepting q item) (option_map_or (λ (x : Place). record w { links = changed_at x.link (with_front_taken x.end) w.links }) o w)) port.is_place)
 
+pub item_lawful : (w : World) (i q : ℕ) (p : Place) (item : Item) → IsPort w i q p → front_of p.end (slice_get w.links p.link) ≡ Ok item → Lawful w (Deliver i q)
+item_lawful w i q p item port answer = (port.router, port.is_router, inl (item, front_at_is w i q p item port answer))
+
 pub delivered-keeps : (w : World) (i q : ℕ) (p : Place) (item : Item) (v : World) → IsPort w i q p → front_of p.end (slice_get w.links p.link) ≡ Ok item → v ≡ next w (Deliver i q) → IsKept w → IsKept v
-delivered-keeps w i q p item v port answer is h = subst IsKept (sym is) (next-kept w (Deliver i q) (port.router, port.is_router, inl (item, front_at_is w i q p item port answer)) h)
+delivered-keeps w i q p item v port answer is h = subst IsKept (sym is) (next-kept w (Deliver i q) (item_lawful w i q p item port answer) h)
 
 -- ---- a notice
 
@@ -250,6 +290,12 @@ notice_refusal w i q r there home =
     ∙ ap (λ b. first_cause ((b, Refusal.UnknownLink) ∷ (is_none (front_at w i q) && is_none (notice_at w i q), Refusal.NothingToDeliver) ∷ [])) (ap (λ b. is_none (link_at w i q) && not b) home ∙ and-false (is_none (link_at w i q)))
     ∙ ap (λ o. first_cause ((is_none o && is_none (notice_at w i q), Refusal.NothingToDeliver) ∷ [])) (no_front w i q home)
 
+-- none waits
+pub no_notice : (w : World) (i q : ℕ) → IsKept w → is_at_home w i q ≡ true → notice_at w i q ≡ None → refusal w (Deliver i q) ≡ Some Refusal.NothingToDeliver
+no_notice w i q h home none =
+    let r : _ = element_there w.routers i (router_within w i q h home) in
+    notice_refusal w i q r.0 r.1 home ∙ ap (λ o. first_cause ((is_none o, Refusal.NothingToDeliver) ∷ [])) none
+
 -- router i took this notice
 pub noticed : (w : World) (i q : ℕ) (x : Notice) (attachments : List Attachments) (routers : List Router) → is_at_home w i q ≡ true → notice_at w i q ≡ Some x
     → attachments ≡ changed_at i with_notice_taken w.attachments → routers ≡ changed_at i (router_at_home x) w.routers → record w { attachments = attachments; routers = routers } ≡ next w (Deliver i q)
@@ -299,9 +345,44 @@ detach_lawful w i p a none there attached =
     some_there None e = absurd (true≢false e)
     some_there (Some c) e = (c, refl)
 
+-- one that has none may not
+pub not_attached : (w : World) (i : ℕ) (p : Prefix) (a : Attachments) → prefix_refusal w i p ≡ None → slice_get w.attachments i ≡ Some a → is_none (row_of prefix_cmp p a.costs) ≡ true → refusal w (Detach i p) ≡ Some Refusal.NotAttached
+not_attached w i p a none there unattached =
+    let K = known_there w i p none in
+    ap (λ o. first_cause ((is_none o, Refusal.UnknownRouter) ∷ (not (is_known w p), Refusal.UnknownPrefix) ∷ (is_none (attachment_at w i p), Refusal.NotAttached) ∷ [])) (K.0).1
+    ∙ ap (λ b. first_cause ((not b, Refusal.UnknownPrefix) ∷ (is_none (attachment_at w i p), Refusal.NotAttached) ∷ [])) K.1
+    ∙ ap (λ o. first_cause ((is_none (option_and_then (λ (x : Attachments). row_of prefix_cmp p x.costs) o), Refusal.NotAttached) ∷ [])) there
+    ∙ ap (λ b. first_cause ((b, Refusal.NotAttached) ∷ [])) unattached
+
 -- what is lawful is not refused
 pub is_done : (w : World) (s : Step) → Lawful w s → IsDoneOr (refusal w s) (Ok (tt {0}))
 is_done w s lawful = subst (λ c. IsDoneOr c (Ok (tt {0}))) (sym (Lawful_to_refusal w s lawful)) tt
+
+-- unless memory runs out
+pub found_no_memory : (w : World) (s : Step) (r : Result (Unit {0}) Refusal) → Lawful w s → IsErrAnd r (λ e. e ≡ Refusal.NoMemory) → IsDoneOr (refusal w s) r
+found_no_memory w s r lawful failed = subst (λ c. IsDoneOr c r) (sym (Lawful_to_refusal w s lawful)) (by_result r failed)
+  where
+    by_result : (r : Result (Unit {0}) Refusal) → IsErrAnd r (λ e. e ≡ Refusal.NoMemory) → IsDoneOr None r
+    by_result (Ok x) none = absurd none
+    by_result (Err e) full = full
+
+-- what is so on Err is so of a call that gave up
+pub gave_up : {X E P : Type 0} (r : Result X E) → P → OnErr r P
+gave_up (Ok x) holds = tt
+gave_up (Err e) holds = holds
+
+-- an element that is written back as it was read changes nothing
+pub written_back : {A : Type 0} (xs : List A) (i : ℕ) {x y : A} → x ≡ get_or xs i x → y ≡ x → set xs i y ≡ xs
+written_back xs i {x = x} read same = ap (set xs i) (same ∙ read) ∙ set-get_or xs i x
+
+-- a number of a router is a place in a list of all
+pub in_bounds : {i k n m : ℕ} → i ≡ k → k < n → m ≡ n → i < m
+in_bounds is below length = omega arith
+
+-- ---- a publication
+
+pub published-keeps : (w : World) (i : ℕ) (r : Router) (v : World) → slice_get w.routers i ≡ Some r → is_due r ≡ true → v ≡ next w (Publish i) → IsKept w → IsKept v
+published-keeps w i r v there due is h = subst IsKept (sym is) (next-kept w (Publish i) (r, there, due) h)
 
 -- ---- a release
 
@@ -321,6 +402,16 @@ put_nowhere w i m routers front at routers_are =
     ap (λ rs. record w { routers = rs }) routers_are
     ∙ sym (ap (λ o. option_map_or (with_released i w) o w) front
     ∙ ap (λ o. changed_router i router_releasing (option_map_or (λ (x : Place). record w { links = changed_at x.link (with_message m x.end) w.links }) o w)) at)
+
+-- a message that its link refuses found no memory, and is not stale
+pub put_refused : (w : World) (i : ℕ) (m : Held) (p : Place) (e : LinkRefusal) → IsKept w → place_at w i m.port ≡ Some p → AnswersPut m.session (slice_get w.links p.link) (Err e) → (e ≡ LinkRefusal.NoMemory) × (is_stale w i m ≡ false)
+put_refused w i m p e h at answer =
+    let k : _ = element_there w.links p.link (h.links_known i m.port p at) in
+    by_test k.0 k.1 (is_up_in m.session k.0) refl (subst (λ o. AnswersPut m.session o (Err e)) k.1 answer)
+  where
+    by_test : (k : Link) → slice_get w.links p.link ≡ Some k → (b : Bool) → is_up_in m.session k ≡ b → MatchBool b (e ≡ LinkRefusal.NoMemory) (◌≡◌ {A = Result Put LinkRefusal} (Err e) (Ok Put.Stale)) → (e ≡ LinkRefusal.NoMemory) × (is_stale w i m ≡ false)
+    by_test k there true live full = (full, ap (λ o. not (option_map_or (is_up_in m.session) o false)) (link_of w i m.port p at ∙ there) ∙ ap not live)
+    by_test k there false over done = absurd (true≢false (sym (ap is_ok done)))
 
 pub released-keeps : (w : World) (i : ℕ) (m : Held) (v : World) → release_at w i ≡ Some m → v ≡ next w (Release i) → IsKept w → IsKept v
 released-keeps w i m v front is h = subst IsKept (sym is) (next-kept w (Release i) (m, front) h)

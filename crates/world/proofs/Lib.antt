@@ -9,3 +9,4 @@ pub mod Ranges
 pub mod Runs
 pub mod Waiting
 pub mod Prefixes
+pub mod Insides

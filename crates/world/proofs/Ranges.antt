@@ -1,7 +1,8 @@
 -- A list that grows by what a function makes of one number after another.
-use Rattle.std.specs.Prelude.{◌≡◌, ℕ, suc, ◌+◌, ◌-◌, ◌<◌, List, [], ◌∷◌, ◌++◌, map}
+use Rattle.std.specs.Prelude.{◌≡◌, ℕ, suc, ◌+◌, ◌-◌, ◌<◌, ◌≤◌, List, [], ◌∷◌, ◌++◌, map}
 use Rattle.std.specs.List.{range_with_len}
 use Rattle.std.proofs.Common.{sym, ap, ◌∙◌, arith, append_assoc}
+use Rattle.std.proofs.lemmas.List.{append-nil}
 
 -- the numbers from k to e, the first of them apart
 range_from : (k e : ℕ) → k < e → range_with_len k (e - k) ≡ k ∷ range_with_len (k + 1) (e - (k + 1))
@@ -17,3 +18,9 @@ one_made g made longer all x k e below is grown before =
     ∙ append_assoc made (g k ∷ []) (map g (range_with_len (k + 1) (e - (k + 1))))
     ∙ ap (λ ns. made ++ map g ns) (sym (range_from k e below))
     ∙ before
+
+-- what is made of all of them
+pub all_made : {B : Type 0} (g : ℕ → B) (made all : List B) (k e : ℕ) → e ≤ k → made ++ map g (range_with_len k (e - k)) ≡ all → made ≡ all
+all_made g made all k e past before =
+    let none : e - k ≡ 0 = omega (arith, past) in
+    sym (append-nil made) ∙ ap (λ n. made ++ map g (range_with_len k n)) (sym none) ∙ before

@@ -178,6 +178,19 @@ next_step-known w i r there =
         (ap (λ (k : ℕ). is_lawful w (Deliver i k)) (plain (length ps)) ∙ notice-lawful w i r ps there at)
         ∙ ap (λ n. option_map (λ q. Deliver i q) (option_map_or (λ q. Some q) (position_from (is_waiting w.links) 0 ps) (if some_wait (slice_get w.attachments i) then Some n else None))) (plain (length ps))
 
+-- one that can release
+pub next_step-release : (w : World) (i : ℕ) (r : Router) → slice_get w.routers i ≡ Some r → is_some (ripe_front r) ≡ true → next_step w i ≡ Some (Release i)
+next_step-release w i r there front =
+    next_step-known w i r there
+    ∙ ap (λ b. cond b (Some (Release i)) (cond (is_due r) (Some (Publish i)) (option_map (λ q. Deliver i q) (waiting_port w i)))) front
+
+-- one that cannot, and has something to publish
+pub next_step-publish : (w : World) (i : ℕ) (r : Router) → slice_get w.routers i ≡ Some r → is_some (ripe_front r) ≡ false → is_due r ≡ true → next_step w i ≡ Some (Publish i)
+next_step-publish w i r there front due =
+    next_step-known w i r there
+    ∙ ap (λ b. cond b (Some (Release i)) (cond (is_due r) (Some (Publish i)) (option_map (λ q. Deliver i q) (waiting_port w i)))) front
+    ∙ ap (λ b. cond b (Some (Publish i)) (option_map (λ q. Deliver i q) (waiting_port w i))) due
+
 -- one that can neither release nor publish
 pub next_step-port : (w : World) (i : ℕ) (r : Router) → slice_get w.routers i ≡ Some r → is_some (ripe_front r) ≡ false → is_due r ≡ false
     → next_step w i ≡ option_map (λ q. Deliver i q) (waiting_port w i)

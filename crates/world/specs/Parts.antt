@@ -3,7 +3,7 @@ use Rattle.std.specs.Prelude.{ℕ, List}
 use Rattle.ipv4_prefix.specs.Prefix.{Prefix}
 use Rattle.network_model.specs.declared.network.LinkSpec.{LinkSpec}
 use Rattle.std.specs.Prelude.{map}
-use Rattle.std.specs.Global.{Vec}
+use Rattle.std.specs.declared.vec.Vec.{Vec}
 use Rattle.network_model.specs.declared.network.Place.{Place}
 use Rattle.network_model.specs.declared.item.Notice.{Notice}
 use Rattle.network_model.specs.World.{Network, Link, Router, Attachments, World}
@@ -16,5 +16,5 @@ abbrev pub attachments_of : List (Prefix × ℕ) → List Notice → Attachments
 attachments_of costs notices = record { costs = costs; notices = notices }
 
 -- a world of its parts
-abbrev pub world_of : List (Vec Place) → List Link → List Prefix → List Attachments → List Router → World
+abbrev pub world_of : {A : Type 0} → List (Vec Place A) → List Link → List Prefix → List Attachments → List Router → World
 world_of places links prefixes attachments routers = record { places = map (λ v. v.items) places; links = links; prefixes = prefixes; attachments = attachments; routers = routers }

@@ -7,7 +7,7 @@ ghost use Rattle.network_model.specs.World.{rows_of};
 ghost use Rattle.network_model.specs.Step as steps;
 ghost use Rattle.world.specs.Parts.{attachments_of};
 
-use network_model::{Cost, NoMemory, Notice, Prefix};
+use network_model::{Cost, NoMemory, Notice, Prefix, SmallAllocator};
 use route_table::PrefixMap;
 use std::alloc::Global;
 use std::collections::VecDeque;
@@ -16,12 +16,12 @@ use std::marker::Model;
 /// The cost of each attachment of a router, and the notices of them that the router has yet to take,
 /// put at the back and taken at the front.
 #[derive(Drop)]
-pub struct Attachments {
-    costs: PrefixMap<Cost>,
-    notices: VecDeque<Notice>,
+pub struct Attachments<A: SmallAllocator = Global> {
+    costs: PrefixMap<Cost, A>,
+    notices: VecDeque<Notice, A>,
 }
 
-impl Model for Attachments {
+impl<A: SmallAllocator> Model for Attachments<A> {
     ghost use Rattle.network_model.specs.World.{Attachments as WorldAttachments};
     ghost use Rattle.route_table.specs.PrefixMap.{map_rows};
     ghost use Rattle.world.specs.Parts.{attachments_of};
@@ -31,9 +31,9 @@ impl Model for Attachments {
     ghost view = { λ a. attachments_of (map_rows a.costs) a.notices.items };
 }
 
-impl Attachments {
+impl<A: SmallAllocator> Attachments<A> {
     /// A router that is attached to these prefixes at these costs, and knows it.
-    pub fn new(alloc: Global, own: &[(Prefix, Cost)]) -> Result<Attachments, NoMemory>
+    pub fn new(alloc: A, own: &[(Prefix, Cost)]) -> Result<Attachments<A>, NoMemory>
         ensures { IfOk result (λ a. a ≡ attachments_of (rows_of own.now) []) }
     {
         let mut costs = PrefixMap::new(alloc);

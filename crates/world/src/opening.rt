@@ -7,12 +7,16 @@ ghost use Rattle.world.specs.Parts.{attachments_of};
 
 use crate::attachments::Attachments;
 use crate::network::{Network, is_given};
-use network_model::{Cost, End, LinkSpec, NoMemory, Place, Port, Prefix};
+use network_model::{Cost, End, LinkSpec, NoMemory, Place, Port, Prefix, SmallAllocator};
 use router_core::Router;
-use std::alloc::{AllocError, Global};
+use std::alloc::AllocError;
 
 // The ends of the links at one router: the places of its ports, in the order of the links.
-pub fn places_of(alloc: Global, router: u16, links: &[LinkSpec]) -> Result<Vec<Place>, AllocError>
+pub fn places_of<A: SmallAllocator>(
+    alloc: A,
+    router: u16,
+    links: &[LinkSpec],
+) -> Result<Vec<Place, A>, AllocError>
     requires { length links.now < 2 ^ 16 }
     ensures { IfOk result (λ places. places.items ≡ model.places_from 0 router links.now) }
 {
@@ -51,11 +55,11 @@ fn opening_port(links: &[LinkSpec], place: &Place) -> Port
 }
 
 // The ports at these places.
-pub fn opening_ports(
-    alloc: Global,
+pub fn opening_ports<A: SmallAllocator>(
+    alloc: A,
     links: &[LinkSpec],
     places: &[Place],
-) -> Result<Vec<Port>, AllocError>
+) -> Result<Vec<Port, A>, AllocError>
     requires { All (λ p. p.link < length links.now) places.now }
     ensures { IfOk result (λ ports. ports.items ≡ map (model.opening_port (map model.opening_link links.now)) places.now) }
 {
@@ -67,11 +71,11 @@ pub fn opening_ports(
 }
 
 // The attachments of one router, in the order in which they were given.
-fn own(
-    alloc: Global,
+fn own<A: SmallAllocator>(
+    alloc: A,
     router: u16,
     attachments: &[(Prefix, u16, Cost)],
-) -> Result<Vec<(Prefix, Cost)>, AllocError>
+) -> Result<Vec<(Prefix, Cost), A>, AllocError>
     ensures { IfOk result (λ own. own.items ≡ map (λ a. (a.0, a.2)) (filter (λ a. a.1 == router) attachments.now)) }
 {
     attachments
@@ -82,7 +86,10 @@ fn own(
 }
 
 // The prefixes to which some router is attached, each once.
-pub fn opening_prefixes(alloc: Global, network: &Network) -> Result<Vec<Prefix>, AllocError>
+pub fn opening_prefixes<A: SmallAllocator>(
+    alloc: A,
+    network: &Network,
+) -> Result<Vec<Prefix, A>, AllocError>
     ensures { IfOk result (λ prefixes. prefixes.items ≡ model.prefixes_of (network.now).attachments) }
 {
     let attachments = network.attachments();
@@ -96,7 +103,10 @@ pub fn opening_prefixes(alloc: Global, network: &Network) -> Result<Vec<Prefix>,
 }
 
 // What each router is attached to.
-pub fn opening_attachments(alloc: Global, network: &Network) -> Result<Vec<Attachments>, NoMemory>
+pub fn opening_attachments<A: SmallAllocator>(
+    alloc: A,
+    network: &Network,
+) -> Result<Vec<Attachments<A>, A>, NoMemory>
     ensures { IfOk result (λ attachments. attachments.items ≡ map (λ i. attachments_of (model.costs_of network.now i) []) (range_with_len 0 (network.now).routers)) }
 {
     let mut attachments = Vec::new(alloc);
@@ -108,7 +118,10 @@ pub fn opening_attachments(alloc: Global, network: &Network) -> Result<Vec<Attac
 }
 
 // The places of each router's ports.
-pub fn opening_places(alloc: Global, network: &Network) -> Result<Vec<Vec<Place>>, AllocError>
+pub fn opening_places<A: SmallAllocator>(
+    alloc: A,
+    network: &Network,
+) -> Result<Vec<Vec<Place, A>, A>, AllocError>
     ensures { IfOk result (λ places. map (λ v. v.items) places.items ≡ map (λ i. model.places_from 0 i (network.now).links) (range_with_len 0 (network.now).routers)) }
 {
     let mut places = Vec::new(alloc);
@@ -119,7 +132,11 @@ pub fn opening_places(alloc: Global, network: &Network) -> Result<Vec<Vec<Place>
 }
 
 // One router at the opening.
-fn opening_router(alloc: Global, network: &Network, router: u16) -> Result<Router, NoMemory>
+fn opening_router<A: SmallAllocator>(
+    alloc: A,
+    network: &Network,
+    router: u16,
+) -> Result<Router<A>, NoMemory>
     ensures { IfOk result (λ r. r ≡ model.opening_router_of network.now router) }
 {
     let links = network.links();
@@ -130,7 +147,10 @@ fn opening_router(alloc: Global, network: &Network, router: u16) -> Result<Route
 }
 
 // The routers at the opening.
-pub fn opening_routers(alloc: Global, network: &Network) -> Result<Vec<Router>, NoMemory>
+pub fn opening_routers<A: SmallAllocator>(
+    alloc: A,
+    network: &Network,
+) -> Result<Vec<Router<A>, A>, NoMemory>
     ensures { IfOk result (λ routers. routers.items ≡ map (model.opening_router_of network.now) (range_with_len 0 (network.now).routers)) }
 {
     let mut routers = Vec::new(alloc);

@@ -17,7 +17,7 @@ use crate::attachments::Attachments;
 use crate::network::Network;
 use crate::opening::{opening_attachments, opening_places, opening_prefixes, opening_routers};
 use link_fifo::Links;
-use network_model::{Cost, NoMemory, Place, Prefix, Refusal, Step};
+use network_model::{Cost, NoMemory, Place, Prefix, Refusal, SmallAllocator, Step};
 use router_core::Router;
 use std::alloc::Global;
 use std::marker::Model;
@@ -34,15 +34,15 @@ pub struct Ran {
 /// A network that runs: its links, its routers, the place of each router's ports on the links, its
 /// prefixes, and what each router is attached to.
 #[derive(Drop)]
-pub struct World {
-    places: Vec<Vec<Place>>,
-    links: Links,
-    prefixes: Vec<Prefix>,
-    attachments: Vec<Attachments>,
-    routers: Vec<Router>,
+pub struct World<A: SmallAllocator = Global> {
+    places: Vec<Vec<Place, A>, A>,
+    links: Links<A>,
+    prefixes: Vec<Prefix, A>,
+    attachments: Vec<Attachments<A>, A>,
+    routers: Vec<Router<A>, A>,
 }
 
-impl Model for World {
+impl<A: SmallAllocator> Model for World<A> {
     ghost use Rattle.network_model.specs.World.{World as NetworkWorld};
     ghost use Rattle.world.specs.Parts.{world_of};
     ghost use Rattle.world.specs.Kept.{IsKept};
@@ -54,10 +54,10 @@ impl Model for World {
     ghost invariant = { λ w. IsKept (world_of w.places.items w.links.links w.prefixes.items w.attachments.items w.routers.items) };
 }
 
-impl World {
+impl<A: SmallAllocator> World<A> {
     /// The world of a network that opens: every link is down, nothing is queued or held, no notice
     /// waits, and each prefix is known at the routers attached to it alone.
-    pub fn open(alloc: Global, network: &Network) -> Result<World, NoMemory>
+    pub fn open(alloc: A, network: &Network) -> Result<World<A>, NoMemory>
         ensures { IfOk result (λ w. w ≡ model.opening network.now) }
     {
         let links = Links::new(alloc, network.links())?;
@@ -75,14 +75,14 @@ impl World {
     }
 
     /// The links, by number.
-    pub fn links(&self) -> &Links
+    pub fn links(&self) -> &Links<A>
         ensures { result.now.links ≡ (self.now).links }
     {
         &self.links
     }
 
     /// The routers, by number.
-    pub fn routers(&self) -> &[Router]
+    pub fn routers(&self) -> &[Router<A>]
         ensures routers { result.now ≡ (self.now).routers }
         ensures attachments { length (self.now).attachments ≡ length result.now }
     {
@@ -90,7 +90,7 @@ impl World {
     }
 
     /// The router of this number.
-    pub fn router(&self, number: u16) -> &Router
+    pub fn router(&self, number: u16) -> &Router<A>
         requires { number < length (self.now).routers }
         ensures { slice_get (self.now).routers number ≡ Some result.now }
     {

@@ -9,19 +9,19 @@ use Rattle.router_core.proofs.Meetings.{still_there, same_here, same_after, one_
 use Rattle.router_core.proofs.effects.meet_all.Goals as goal
 
 pub meet-requires-clause-known : goal.meet-requires-clause-known
-meet-requires-clause-known c =
+meet-requires-clause-known g c =
     let here : get_or c.loop-row.machines c.loop-row.row-index c.row-item.result ≡ get_or c.args.machines.now c.loop-row.row-index c.row-item.result
     = same_here c.loop-row.machines c.args.machines.now c.loop-row.row-index c.row-item.result (omega arith) (omega arith) c.loop-row.invariant.left in
     rw here (c.requires.known c.loop-row.row-index c.row-item.result (omega arith))
 
 pub meet-requires-clause-timely : goal.meet-requires-clause-timely
-meet-requires-clause-timely c =
+meet-requires-clause-timely g c =
     let here : get_or c.loop-row.machines c.loop-row.row-index c.row-item.result ≡ get_or c.args.machines.now c.loop-row.row-index c.row-item.result
     = same_here c.loop-row.machines c.args.machines.now c.loop-row.row-index c.row-item.result (omega arith) (omega arith) c.loop-row.invariant.left in
     rw here (c.requires.timely c.loop-row.row-index c.row-item.result (omega arith))
 
 pub meet-requires-clause-room : goal.meet-requires-clause-room
-meet-requires-clause-room c =
+meet-requires-clause-room g c =
     let here : get_or c.loop-row.machines c.loop-row.row-index c.row-item.result ≡ get_or c.args.machines.now c.loop-row.row-index c.row-item.result
     = same_here c.loop-row.machines c.args.machines.now c.loop-row.row-index c.row-item.result (omega arith) (omega arith) c.loop-row.invariant.left in
     let few : most_sent ((get_or c.args.machines.now c.loop-row.row-index c.row-item.result).1).machine.ports ≤ c.args.each = c.requires.each c.loop-row.row-index c.row-item.result (omega arith) in
@@ -35,7 +35,7 @@ meet-requires-clause-room c =
     })
 
 pub loop-row-preserved : goal.loop-row-preserved
-loop-row-preserved c =
+loop-row-preserved g c =
     let cur : Prefix × State = get_or c.loop-row.machines c.loop-row.row-index c.row-item.result in
     let here : cur ≡ get_or c.args.machines.now c.loop-row.row-index c.row-item.result
     = same_here c.loop-row.machines c.args.machines.now c.loop-row.row-index c.row-item.result (omega arith) (omega arith) c.loop-row.invariant.left in

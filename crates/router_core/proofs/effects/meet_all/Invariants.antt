@@ -8,7 +8,7 @@ use Rattle.router_core.proofs.Meetings.{reacted, sent, chosen}
 use Rattle.router_core.proofs.effects.meet_all.Given as goal
 
 abbrev pub invariant-loop-row : goal.invariant-loop-row
-invariant-loop-row l = record {
+invariant-loop-row g l = record {
   left : drop l.row-index l.machines ≡ drop l.row-index l.initial.machines;
   machines : machines_of (take l.row-index l.machines) ++ reacted l.event (machines_of (drop l.row-index l.initial.machines)) ≡ reacted l.event (machines_of l.initial.machines);
   control : with_rows (chosen l.event l.ports (machines_of (drop l.row-index l.initial.machines))) l.effects.table.table.control

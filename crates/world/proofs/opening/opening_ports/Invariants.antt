@@ -4,4 +4,4 @@ use Rattle.network_model.specs.World.{opening_port, opening_link}
 use Rattle.world.proofs.opening.opening_ports.Given as goal
 
 abbrev pub invariant-loop-place : goal.invariant-loop-place
-invariant-loop-place l = l.ports.items ++ map (opening_port (map opening_link l.links)) (drop l.place-index l.places) ≡ map (opening_port (map opening_link l.links)) l.places
+invariant-loop-place g l = l.ports.items ++ map (opening_port (map opening_link l.links)) (drop l.place-index l.places) ≡ map (opening_port (map opening_link l.links)) l.places

@@ -5,4 +5,4 @@ use Rattle.network_model.specs.World.{opening_router_of}
 use Rattle.world.proofs.opening.opening_routers.Given as goal
 
 abbrev pub invariant-loop-router : goal.invariant-loop-router
-invariant-loop-router l = l.routers.items ++ map (opening_router_of l.network) (range_with_len l.router (l.router-end - l.router)) ≡ map (opening_router_of l.network) (range_with_len 0 l.router-end)
+invariant-loop-router g l = l.routers.items ++ map (opening_router_of l.network) (range_with_len l.router (l.router-end - l.router)) ≡ map (opening_router_of l.network) (range_with_len 0 l.router-end)

@@ -7,25 +7,25 @@ use Rattle.router_core.proofs.Notices.{ups_written, ups_kept, noticing_written}
 use Rattle.router_core.proofs.router.Router.accept.Goals as goal
 
 pub take_notice-requires-clause-moves : goal.take_notice-requires-clause-moves
-take_notice-requires-clause-moves c =
+take_notice-requires-clause-moves g c =
     let read : c.index-was.result.now ≡ get_or c.args.self.now.ports c.args.port c.index-was.result.now
     = c.index-was.ensures ∙ ap (λ q. get_or c.self.inside.ports.items q c.index-was.result.now) c.from.ensures ∙ ap (λ (r : Router). get_or r.ports c.args.port c.index-was.result.now) c.self.view_is in
     ups_written (λ p. record { up = true; session = c.in-Up.session; cost = c.in-Up.cost }) true c.args.port c.args.self.now.ports c.index-was.result.now read (λ p. refl)
 
 pub take_notice-requires-in-Down-clause-moves : goal.take_notice-requires-in-Down-clause-moves
-take_notice-requires-in-Down-clause-moves c =
+take_notice-requires-in-Down-clause-moves g c =
     let read : c.index-was.result.now ≡ get_or c.args.self.now.ports c.args.port c.index-was.result.now
     = c.index-was.ensures ∙ ap (λ q. get_or c.self.inside.ports.items q c.index-was.result.now) c.from.ensures ∙ ap (λ (r : Router). get_or r.ports c.args.port c.index-was.result.now) c.self.view_is in
     ups_written (λ p. record p { up = false; session = c.in-Down.session }) false c.args.port c.args.self.now.ports c.index-was.result.now read (λ p. refl)
 
 pub take_notice-requires-in-Cost-clause-moves : goal.take_notice-requires-in-Cost-clause-moves
-take_notice-requires-in-Cost-clause-moves c =
+take_notice-requires-in-Cost-clause-moves g c =
     let read : c.index-was.result.now ≡ get_or c.args.self.now.ports c.args.port c.index-was.result.now
     = c.index-was.ensures ∙ ap (λ q. get_or c.self.inside.ports.items q c.index-was.result.now) c.from.ensures ∙ ap (λ (r : Router). get_or r.ports c.args.port c.index-was.result.now) c.self.view_is in
     ups_kept (λ p. record p { session = c.in-Cost.session; cost = c.in-Cost.cost }) c.args.port c.args.self.now.ports c.index-was.result.now read (λ p. refl)
 
 pub returns-in-Up-clause-ok : goal.returns-in-Up-clause-ok
-returns-in-Up-clause-ok c =
+returns-in-Up-clause-ok g c =
     let read : c.index-was.result.now ≡ get_or c.args.self.now.ports c.args.port c.index-was.result.now
     = c.index-was.ensures ∙ ap (λ q. get_or c.self.inside.ports.items q c.index-was.result.now) c.from.ensures ∙ ap (λ (r : Router). get_or r.ports c.args.port c.index-was.result.now) c.self.view_is in
     subst (λ (r : Router). OnOk c.take_notice.result (c.take_notice.new.self ≡ r))
@@ -34,7 +34,7 @@ returns-in-Up-clause-ok c =
     c.take_notice.ensures.ok
 
 pub returns-in-Down-clause-ok : goal.returns-in-Down-clause-ok
-returns-in-Down-clause-ok c =
+returns-in-Down-clause-ok g c =
     let read : c.index-was.result.now ≡ get_or c.args.self.now.ports c.args.port c.index-was.result.now
     = c.index-was.ensures ∙ ap (λ q. get_or c.self.inside.ports.items q c.index-was.result.now) c.from.ensures ∙ ap (λ (r : Router). get_or r.ports c.args.port c.index-was.result.now) c.self.view_is in
     subst (λ (r : Router). OnOk c.take_notice-in-Down.result (c.take_notice-in-Down.new.self ≡ r))
@@ -43,7 +43,7 @@ returns-in-Down-clause-ok c =
     c.take_notice-in-Down.ensures.ok
 
 pub returns-in-Cost-clause-ok : goal.returns-in-Cost-clause-ok
-returns-in-Cost-clause-ok c =
+returns-in-Cost-clause-ok g c =
     let read : c.index-was.result.now ≡ get_or c.args.self.now.ports c.args.port c.index-was.result.now
     = c.index-was.ensures ∙ ap (λ q. get_or c.self.inside.ports.items q c.index-was.result.now) c.from.ensures ∙ ap (λ (r : Router). get_or r.ports c.args.port c.index-was.result.now) c.self.view_is in
     subst (λ (r : Router). OnOk c.take_notice-in-Cost.result (c.take_notice-in-Cost.new.self ≡ r))

@@ -12,7 +12,7 @@ all_passive [] = refl
 all_passive (m ∷ ms) = ap (λ b. is_none (m.1).machine.computation && b) (all_passive ms)
 
 pub returns : goal.returns
-returns c =
+returns g c =
     c.are_passive.ensures
     ∙ all_passive c.deref.result.now
     ∙ ap (λ (ms : List (Prefix × State)). list_all (λ m. is_none (m.1).computation) (machines_of ms)) c.deref.ensures.value

@@ -1,12 +1,13 @@
-use Rattle.std.proofs.Common.{◌≡◌, ℕ, Some, sym, ap, subst, ◌∙◌, arith, ◌-◌, drop, map}
+use Rattle.std.proofs.Common.{◌≡◌, ℕ, Some, sym, ap, subst, ◌∙◌, arith, ◌-◌, drop, map, List}
 use Rattle.std.specs.FinMap.{put, is_sorted}
 use Rattle.std.specs.List.{AllByRecursion}
 use Rattle.network_model.specs.Step.{chosen_rows}
-use Rattle.ipv4_prefix.specs.Prefix.{prefix_cmp}
+use Rattle.ipv4_prefix.specs.Prefix.{Prefix, prefix_cmp}
 use Rattle.network_model.specs.declared.network.Port.{Port}
+use Rattle.network_model.specs.declared.route.Entry.{Entry}
 use Rattle.network_model.specs.declared.route.Entry.TheVariants.{Local}
-use Rattle.network_model.specs.Machine.{opening_machine}
-use Rattle.network_model.specs.World.{neighbours, rows_of, opening_router}
+use Rattle.network_model.specs.Machine.{Machine, opening_machine}
+use Rattle.network_model.specs.World.{Router, Table, Gate, neighbours, rows_of, opening_router}
 use Rattle.dual_machine.specs.State.{opening_neighbours}
 use Rattle.router_core.specs.Parts.{machines_of, HasPorts, IsKept}
 use Rattle.network_model.proofs.RowLaws.{sorted-map, sorted-rows_of}
@@ -15,12 +16,12 @@ use Rattle.router_core.proofs.Opening.{neighbours-infos, rows_of-earlier, openin
 use Rattle.router_core.proofs.router.Router.new.Goals as goal
 
 pub put_machine-requires : goal.put_machine-requires
-put_machine-requires c =
+put_machine-requires g c =
     let rows = rows_of (drop c.loop-i.i c.args.attachments.now) in
     sorted-machines c.loop-i.machines.items _ c.loop-i.invariant.machines (sorted-map prefix_cmp (λ (cost : ℕ). opening_machine (Some cost) (neighbours c.args.ports.items)) rows ∙ sorted-rows_of (drop c.loop-i.i c.args.attachments.now))
 
 pub loop-i-preserved : goal.loop-i-preserved
-loop-i-preserved c =
+loop-i-preserved g c =
     let here = c.index-attachments-i.result in
     let rows = rows_of (drop c.loop-i.i c.args.attachments.now) in
     let earlier : rows_of (drop (c.loop-i.i - 1) c.args.attachments.now) ≡ put prefix_cmp here.0 here.1 rows = rows_of-earlier c.args.attachments.now c.loop-i.i here (omega arith) (omega arith) c.index-attachments-i.is in
@@ -40,7 +41,7 @@ loop-i-preserved c =
     }
 
 pub invariant_of-result : goal.invariant_of-result
-invariant_of-result c =
+invariant_of-result g c =
     let ports = c.args.ports.items in
     let costs = rows_of c.args.attachments.now in
     let kept : IsKept (opening_router ports costs) = kept-opening ports costs c.requires (sorted-rows_of c.args.attachments.now) in
@@ -53,3 +54,16 @@ invariant_of-result c =
       same_ports = subst (AllByRecursion (HasPorts ports)) (sym machines) kept.same_ports;
       rows = ap (λ t. t.control) c.mark_published.ensures.table ∙ control ∙ kept.rows ∙ ap (chosen_rows ports) (sym machines);
     }
+
+pub returns : goal.returns
+returns g c =
+    let ports = c.args.ports.items in
+    let costs = rows_of c.args.attachments.now in
+    let over : c.loop-i.i ≡ 0 = omega arith in
+    let machines : machines_of c.loop-i.machines.items ≡ opening_machines ports costs = c.loop-i.invariant.machines ∙ ap (λ n. opening_machines ports (rows_of (drop n c.args.attachments.now))) over in
+    let control : c.loop-i.table.table.control ≡ local_rows costs = c.loop-i.invariant.control ∙ ap (λ n. local_rows (rows_of (drop n c.args.attachments.now))) over in
+    let parts : List (Prefix × Machine) → Table → Gate → Router = λ ms t g. record { ports = ports; machines = ms; table = t; gate = g; generation = 0 } in
+    let in_force : List (Prefix × Entry) → Table = λ rows. record { control = rows; published = rows } in
+    ap (λ ms. parts ms c.mark_published.new.self.table c.new-2.result.gate) machines
+    ∙ ap (λ t. parts (opening_machines ports costs) t c.new-2.result.gate) (c.mark_published.ensures.table ∙ ap in_force control)
+    ∙ ap (parts (opening_machines ports costs) (in_force (local_rows costs))) c.new-2.ensures

@@ -8,7 +8,7 @@ use Rattle.router_core.proofs.Opening.{neighbours-infos}
 use Rattle.router_core.proofs.router.Router.opened.Goals as goal
 
 pub returns : goal.returns
-returns c =
+returns g c =
     let infos : opening_neighbours c.deref-2.result.now ≡ neighbours c.args.self.now.ports
     = ap opening_neighbours (c.deref-2.ensures.value ∙ c.in_ok-infos.ensures ∙ ap (map (λ (p : Port). record { up = p.up; cost = p.cost })) c.deref.ensures.value)
     ∙ neighbours-infos c.self.inside.ports.items ∙ ap (λ (r : Router). neighbours r.ports) c.self.view_is in

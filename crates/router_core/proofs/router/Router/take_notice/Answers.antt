@@ -1,4 +1,4 @@
-use Rattle.std.proofs.Common.{◌≡◌, ℕ, ◌+◌, ◌<◌, ◌≤◌, ◌++◌, take, drop, length, get_or, set, List, sym, ap, subst, ◌∙◌, arith}
+use Rattle.std.proofs.Common.{◌≡◌, ℕ, ◌+◌, ◌*◌, ◌^◌, ◌<◌, ◌≤◌, min, ◌++◌, take, drop, length, get_or, set, List, sym, ap, subst, ◌∙◌, arith}
 use Rattle.std.proofs.Math.ListN.{length-set}
 use Rattle.std.specs.Prelude.{Option, IfSome, IsSome}
 use Rattle.std.specs.FinMap.{find as row_of}
@@ -16,21 +16,22 @@ use Rattle.router_core.proofs.Meetings.{reacted, sent}
 use Rattle.router_core.proofs.Kept.{kept-noticing}
 use Rattle.router_core.proofs.Notices.{has_ports_at, timely_over, known_over, most_sent_over, row_there, refilled, noticing_parts}
 use Rattle.router_core.proofs.router.Router.take_notice.Goals as goal
+use Rattle.router_core.proofs.router.Router.take_notice.Given as given
 
 pub meet_all-requires-clause-known : goal.meet_all-requires-clause-known
-meet_all-requires-clause-known c =
+meet_all-requires-clause-known g c =
     let known : IsKnown (length c.self.inside.ports.items) c.args.event.now = subst (λ (o : Option ℕ). IfSome o (λ q. q < length c.self.inside.ports.items)) (sym c.requires.at_port) (subst (λ (r : Router). c.args.port < length r.ports) (sym c.self.view_is) c.requires.known) in
     subst (λ (ms : List (Prefix × State)). (k : ℕ) → (d : Prefix × State) → k < length ms → IsKnown (length ((get_or ms k d).1).machine.ports) c.args.event.now) (sym c.deref_mut.ensures.value)
     (λ k d h. known_over _ c.self.inside.ports.items c.args.event.now (has_ports_at c.self.inside.ports.items c.self.inside.machines.items c.self.invariant.same_ports k d h) known)
 
 pub meet_all-requires-clause-timely : goal.meet_all-requires-clause-timely
-meet_all-requires-clause-timely c =
+meet_all-requires-clause-timely g c =
     let timely : IsTimelyAt c.self.inside.ports.items c.args.event.now = subst (λ (r : Router). IsTimelyAt r.ports c.args.event.now) (sym c.self.view_is) c.requires.timely in
     subst (λ (ms : List (Prefix × State)). (k : ℕ) → (d : Prefix × State) → k < length ms → IsTimely ((get_or ms k d).1).machine.ports c.args.event.now) (sym c.deref_mut.ensures.value)
     (λ k d h. timely_over _ c.self.inside.ports.items c.args.event.now (has_ports_at c.self.inside.ports.items c.self.inside.machines.items c.self.invariant.same_ports k d h) timely)
 
 pub meet_all-requires-clause-each : goal.meet_all-requires-clause-each
-meet_all-requires-clause-each c =
+meet_all-requires-clause-each g c =
     let ports : c.len-each.result ≡ length c.self.inside.ports.items = c.len-each.ensures ∙ c.self.inside.ports.ok.0 in
     subst (λ (ms : List (Prefix × State)). (k : ℕ) → (d : Prefix × State) → k < length ms → most_sent ((get_or ms k d).1).machine.ports ≤ c.len-each.result + 1) (sym c.deref_mut.ensures.value)
     (λ k d h.
@@ -39,13 +40,13 @@ meet_all-requires-clause-each c =
     omega (arith, few, ports))
 
 pub meet_all-requires-clause-rows : goal.meet_all-requires-clause-rows
-meet_all-requires-clause-rows c =
+meet_all-requires-clause-rows g c =
     subst (λ (ms : List (Prefix × State)). (k : ℕ) → (d : Prefix × State) → k < length ms → IsSome (row_of prefix_cmp (get_or ms k d).0 c.reserve.new.self.table.table.control)) (sym c.deref_mut.ensures.value)
     (λ k d h. subst (λ rows. IsSome (row_of prefix_cmp (get_or c.self.inside.machines.items k d).0 rows)) (sym (ap (λ t. t.table.control) c.reserve.ensures.table ∙ c.self.invariant.rows))
     (row_there c.self.inside.ports.items c.self.inside.machines.items c.self.invariant.sorted k d h))
 
 -- the router before, and the parts of it then
-module _ (c : goal.After-self-2-1) where
+module _ (g : given.Over) (c : goal.After-self-2-1 g) where
   abbrev before : Router
   before = router_of c.self.inside.ports.items c.self.inside.machines.items c.self.inside.effects.table.table c.self.inside.effects.gate.gate c.self.inside.generation
 
@@ -79,13 +80,23 @@ module _ (c : goal.After-self-2-1) where
   moves = ap port_ups at_port ∙ subst (λ (r : Router). port_ups (set r.ports c.args.port c.args.changed) ≡ ups_after c.args.event.now (port_ups r.ports)) (sym c.self.view_is) c.requires.moves
 
 pub invariant_of-self-2 : goal.invariant_of-self-2
-invariant_of-self-2 c =
+invariant_of-self-2 g c =
     let same_length : length (set c.self.inside.ports.items c.from.result c.args.changed) ≡ length c.self.inside.ports.items = length-set c.self.inside.ports.items c.from.result c.args.changed in
     let few : length c.self.inside.ports.items ≤ 32 = c.self.invariant.few in
-    subst IsKept (sym (noticed c)) (kept-noticing c.args.event.now (ports_now c) (before c) c.self.invariant (omega (arith, same_length, few)) (moves c))
+    subst IsKept (sym (noticed g c)) (kept-noticing c.args.event.now (ports_now g c) (before g c) c.self.invariant (omega (arith, same_length, few)) (moves g c))
 
 pub returns-clause-ok : goal.returns-clause-ok
-returns-clause-ok c =
-    noticed c
-    ∙ ap (λ ports. router_noticing c.args.event.now ports (before c)) (at_port c)
+returns-clause-ok g c =
+    noticed g c
+    ∙ ap (λ ports. router_noticing c.args.event.now ports (before g c)) (at_port g c)
     ∙ ap (λ (r : Router). router_noticing c.args.event.now (set r.ports c.args.port c.args.changed) r) c.self.view_is
+
+-- a number that was not cut off at the largest of 64 bits is the product
+bounded : (product all room : ℕ) → all ≡ min product 18446744073709551615 → all ≤ room → room < 2 ^ 63 → product ≤ room
+bounded product all room is below few = grind arith
+
+pub meet_all-requires-clause-gate : goal.meet_all-requires-clause-gate
+meet_all-requires-clause-gate g c =
+    let machines : length c.deref_mut.result.now ≡ c.len.result = ap length c.deref_mut.ensures.value ∙ sym (c.len.ensures ∙ c.self.inside.machines.ok.0) in
+    subst (λ n. n * (c.len-each.result + 1) ≤ c.reserve.new.self.gate.room) (sym machines)
+    (bounded _ c.saturating_mul-all.result c.reserve.new.self.gate.room c.saturating_mul-all.ensures c.in_ok-reserve.ensures.room c.in_ok-reserve.ensures.fits)

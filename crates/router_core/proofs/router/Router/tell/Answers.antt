@@ -1,5 +1,6 @@
-use Rattle.std.proofs.Common.{◌≡◌, ◌+◌, ◌≤◌, ◌++◌, true, None, length, set, List, Ok, Err, Some, sym, ap, subst, ◌∙◌, arith}
-use Rattle.std.specs.Prelude.{◌||◌, nat_lt, map, is_some}
+use Rattle.std.proofs.Common.{◌≡◌, ◌+◌, ◌≤◌, ◌++◌, true, None, length, set, List, Ok, Err, Some, sym, ap, subst, ◌∙◌, arith, refl, false, Bool}
+use Rattle.std.proofs.lemmas.Bool.Decides.{nat_tests}
+use Rattle.std.specs.Prelude.{◌||◌, nat_lt, map, is_some, OnErr, Result}
 use Rattle.std.specs.List.{insert}
 use Rattle.std.specs.FinMap.{find as row_of, put, is_sorted}
 use Rattle.ipv4_prefix.specs.Prefix.{Prefix, prefix_cmp}
@@ -20,13 +21,14 @@ use Rattle.router_core.proofs.Kept.{kept-meeting}
 use Rattle.router_core.proofs.Opening.{machines_of-put}
 use Rattle.router_core.proofs.Notices.{has_ports_at, timely_over, known_over, most_sent_over, meeting_parts, machine_there, machine_new, row_known}
 use Rattle.router_core.proofs.router.Router.tell.Goals as goal
+use Rattle.router_core.proofs.router.Router.tell.Given as given
 
 pub place_of-requires : goal.place_of-requires
-place_of-requires c = ap (is_sorted prefix_cmp) c.deref.ensures.value ∙ sym (sorted-map prefix_cmp (λ s. s.machine) c.self.inside.machines.items) ∙ c.self.invariant.sorted
+place_of-requires g c = ap (is_sorted prefix_cmp) c.deref.ensures.value ∙ sym (sorted-map prefix_cmp (λ s. s.machine) c.self.inside.machines.items) ∙ c.self.invariant.sorted
 
 -- ---- a prefix that was heard of
 
-module _ (c : goal.After-deref-in-Ok) where
+module _ (g : given.Over) (c : goal.After-deref-in-Ok g) where
   abbrev items : List (Prefix × State)
   items = c.self.inside.machines.items
 
@@ -47,16 +49,16 @@ module _ (c : goal.After-deref-in-Ok) where
       (has_ports_at c.self.inside.ports.items items c.self.invariant.same_ports c.in-Ok.place row place.0)
 
 pub meet-requires-clause-known : goal.meet-requires-clause-known
-meet-requires-clause-known c =
-    known_over ((row c).1).machine.ports c.self.inside.ports.items c.args.event.now (same_ports c) (subst (λ (r : Router). IsKnown (length r.ports) c.args.event.now) (sym c.self.view_is) c.requires.known)
+meet-requires-clause-known g c =
+    known_over ((row g c).1).machine.ports c.self.inside.ports.items c.args.event.now (same_ports g c) (subst (λ (r : Router). IsKnown (length r.ports) c.args.event.now) (sym c.self.view_is) c.requires.known)
 
 pub meet-requires-clause-timely : goal.meet-requires-clause-timely
-meet-requires-clause-timely c =
-    timely_over ((row c).1).machine.ports c.self.inside.ports.items c.args.event.now (same_ports c) (subst (λ (r : Router). IsTimelyAt r.ports c.args.event.now) (sym c.self.view_is) c.requires.timely)
+meet-requires-clause-timely g c =
+    timely_over ((row g c).1).machine.ports c.self.inside.ports.items c.args.event.now (same_ports g c) (subst (λ (r : Router). IsTimelyAt r.ports c.args.event.now) (sym c.self.view_is) c.requires.timely)
 
 pub meet-requires-clause-room : goal.meet-requires-clause-room
-meet-requires-clause-room c =
-    let few : most_sent ((row c).1).machine.ports ≤ length c.self.inside.ports.items + 1 = most_sent_over _ c.self.inside.ports.items (same_ports c) in
+meet-requires-clause-room g c =
+    let few : most_sent ((row g c).1).machine.ports ≤ length c.self.inside.ports.items + 1 = most_sent_over _ c.self.inside.ports.items (same_ports g c) in
     let ports : c.len-each.result ≡ length c.self.inside.ports.items = c.len-each.ensures ∙ c.self.inside.ports.ok.0 in
     let sends : c.len-each.result + 1 ≤ c.reserve.new.self.sends.capacity = c.in_ok-reserve-in-Ok.ensures.sends in
     let room : c.len-each.result + 1 ≤ c.reserve.new.self.gate.room = c.in_ok-reserve-in-Ok.ensures.room in
@@ -65,10 +67,10 @@ meet-requires-clause-room c =
       gate = omega (arith, few, ports, room);
       table = ap (λ b. b || nat_lt 0 c.reserve.new.self.table.room)
           (subst (λ rows. is_some (row_of prefix_cmp c.args.prefix rows) ≡ true) (sym (ap (λ t. t.table.control) c.reserve.ensures.table ∙ c.self.invariant.rows))
-          (row_known c.self.inside.ports.items c.args.prefix (items c) ((row c).1) (there c)));
+          (row_known c.self.inside.ports.items c.args.prefix (items g c) ((row g c).1) (there g c)));
     }
 
-module _ (c : goal.After-self-1) where
+module _ (g : given.Over) (c : goal.After-self-1 g) where
   abbrev before : Router
   before = router_of c.self.inside.ports.items c.self.inside.machines.items c.self.inside.effects.table.table c.self.inside.effects.gate.gate c.self.inside.generation
 
@@ -104,22 +106,22 @@ module _ (c : goal.After-self-1) where
   still = subst (λ (r : Router). ups_after c.args.event.now (port_ups r.ports) ≡ port_ups r.ports) (sym c.self.view_is) c.requires.still
 
 pub invariant_of-self-in-Ok : goal.invariant_of-self-in-Ok
-invariant_of-self-in-Ok c = subst IsKept (sym (told c)) (kept-meeting c.args.prefix c.args.event.now (before c) c.self.invariant (still c))
+invariant_of-self-in-Ok g c = subst IsKept (sym (told g c)) (kept-meeting c.args.prefix c.args.event.now (before g c) c.self.invariant (still g c))
 
 pub returns-in_ok-reserve-in-Ok-clause-ok : goal.returns-in_ok-reserve-in-Ok-clause-ok
-returns-in_ok-reserve-in-Ok-clause-ok c = told c ∙ ap (router_meeting c.args.prefix c.args.event.now) c.self.view_is
+returns-in_ok-reserve-in-Ok-clause-ok g c = told g c ∙ ap (router_meeting c.args.prefix c.args.event.now) c.self.view_is
 
 -- ---- a prefix that was not
 
 pub meet-requires-in-Err-clause-known : goal.meet-requires-in-Err-clause-known
-meet-requires-in-Err-clause-known c =
+meet-requires-in-Err-clause-known g c =
     known_over c.in_ok-machine-in-Err.machine.machine.ports c.args.self.now.ports c.args.event.now (ap (λ m. ups m.ports) c.in_ok-machine-in-Err.ensures ∙ ups-neighbours c.args.self.now.ports) c.requires.known
 
 pub meet-requires-in-Err-clause-timely : goal.meet-requires-in-Err-clause-timely
-meet-requires-in-Err-clause-timely c =
+meet-requires-in-Err-clause-timely g c =
     timely_over c.in_ok-machine-in-Err.machine.machine.ports c.args.self.now.ports c.args.event.now (ap (λ m. ups m.ports) c.in_ok-machine-in-Err.ensures ∙ ups-neighbours c.args.self.now.ports) c.requires.timely
 
-module _ (c : goal.After-unwrap) where
+module _ (g : given.Over) (c : goal.After-unwrap g) where
   abbrev unheard : Router
   unheard = router_of c.self.inside.ports.items c.self.inside.machines.items c.self.inside.effects.table.table c.self.inside.effects.gate.gate c.self.inside.generation
 
@@ -157,7 +159,57 @@ module _ (c : goal.After-unwrap) where
   still_first = subst (λ (r : Router). ups_after c.args.event.now (port_ups r.ports) ≡ port_ups r.ports) (sym c.self.view_is) c.requires.still
 
 pub invariant_of-self-in-Err : goal.invariant_of-self-in-Err
-invariant_of-self-in-Err c = subst IsKept (sym (told_first c)) (kept-meeting c.args.prefix c.args.event.now (unheard c) c.self.invariant (still_first c))
+invariant_of-self-in-Err g c = subst IsKept (sym (told_first g c)) (kept-meeting c.args.prefix c.args.event.now (unheard g c) c.self.invariant (still_first g c))
 
 pub returns-in_ok-reserve-in-Err-3-clause-ok : goal.returns-in_ok-reserve-in-Err-3-clause-ok
-returns-in_ok-reserve-in-Err-3-clause-ok c = told_first c ∙ ap (router_meeting c.args.prefix c.args.event.now) c.self.view_is
+returns-in_ok-reserve-in-Err-3-clause-ok g c = told_first g c ∙ ap (router_meeting c.args.prefix c.args.event.now) c.self.view_is
+
+-- ---- a machine that is opened, and finds no room
+
+found_no_room : {X E P : Type 0} (r : Result X E) → P → OnErr r P
+found_no_room (Ok x) p = tt
+found_no_room (Err e) p = p
+
+pub returns-in_err-reserve-in-Err-clause-err : goal.returns-in_err-reserve-in-Err-clause-err
+returns-in_err-reserve-in-Err-clause-err g c =
+    let i = c.self.inside in
+    found_no_room c.from_residual-in_err-reserve-in-Err.result
+    (ap (λ (ms : List (Prefix × State)). router_of i.ports.items ms i.effects.table.table i.effects.gate.gate i.generation) c.reserve-in-Err.ensures.items ∙ c.self.view_is)
+
+pub returns-in_err-reserve-in-Err-2-clause-err : goal.returns-in_err-reserve-in-Err-2-clause-err
+returns-in_err-reserve-in-Err-2-clause-err g c =
+    let i = c.self.inside in
+    found_no_room c.from_residual-in_err-reserve-in-Err-2.result
+    (ap (λ (ms : List (Prefix × State)). router_of i.ports.items ms c.reserve-in-Err-2.new.self.table i.effects.gate.gate i.generation) c.reserve-in-Err.ensures.items
+    ∙ ap (λ t. router_of i.ports.items i.machines.items t i.effects.gate.gate i.generation) c.reserve-in-Err-2.ensures.table
+    ∙ c.self.view_is)
+
+pub returns-in_err-reserve-in-Err-3-clause-err : goal.returns-in_err-reserve-in-Err-3-clause-err
+returns-in_err-reserve-in-Err-3-clause-err g c =
+    let i = c.self.inside in
+    let e = c.reserve-in-Err-3.new.self in
+    found_no_room c.from_residual-in_err-reserve-in-Err-3.result
+    (ap (λ (ms : List (Prefix × State)). router_of i.ports.items ms e.table.table e.gate.gate i.generation) c.reserve-in-Err.ensures.items
+    ∙ ap (λ t. router_of i.ports.items i.machines.items t.table e.gate.gate i.generation) c.reserve-in-Err-3.ensures.table
+    ∙ ap (λ t. router_of i.ports.items i.machines.items t e.gate.gate i.generation) c.reserve-in-Err-2.ensures.table
+    ∙ ap (λ gate. router_of i.ports.items i.machines.items i.effects.table.table gate i.generation) c.reserve-in-Err-3.ensures.gate
+    ∙ c.self.view_is)
+
+or_with_true : (b : Bool) → (b || true) ≡ true
+or_with_true true = refl
+or_with_true false = refl
+
+pub meet-requires-in-Err-clause-room : goal.meet-requires-in-Err-clause-room
+meet-requires-in-Err-clause-room g c =
+    let few : most_sent c.in_ok-machine-in-Err.machine.machine.ports ≤ length c.args.self.now.ports + 1
+    = most_sent_over c.in_ok-machine-in-Err.machine.machine.ports c.args.self.now.ports (ap (λ m. ups m.ports) c.in_ok-machine-in-Err.ensures ∙ ups-neighbours c.args.self.now.ports) in
+    let ports : c.len-each.result ≡ length c.args.self.now.ports = c.len-each.ensures ∙ c.self.inside.ports.ok.0 ∙ ap (λ (r : Router). length r.ports) c.self.view_is in
+    let sends : c.len-each.result + 1 ≤ c.reserve-in-Err-3.new.self.sends.capacity = c.in_ok-reserve-in-Err-3.ensures.sends in
+    let room : c.len-each.result + 1 ≤ c.reserve-in-Err-3.new.self.gate.room = c.in_ok-reserve-in-Err-3.ensures.room in
+    let one : 1 ≤ c.reserve-in-Err-3.new.self.table.room = subst (λ t. 1 ≤ t.room) (sym c.reserve-in-Err-3.ensures.table) c.in_ok-reserve-in-Err-2.ensures.ok in
+    let some : nat_lt 0 c.reserve-in-Err-3.new.self.table.room ≡ true = grind (arith, nat_tests) in
+    record {
+      sends = omega (arith, few, ports, sends);
+      gate = omega (arith, few, ports, room);
+      table = ap (λ b. is_some (row_of prefix_cmp c.args.prefix c.reserve-in-Err-3.new.self.table.table.control) || b) some ∙ or_with_true _;
+    }

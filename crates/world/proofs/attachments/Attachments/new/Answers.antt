@@ -13,7 +13,7 @@ put_is : (own : List (Prefix × ℕ)) (i : ℕ) (here : Prefix × ℕ) (rows : L
 put_is own i here rows some within at behind = ap (put prefix_cmp here.0 here.1) behind ∙ sym (rows_of-earlier own i here some within at)
 
 pub put-requires : goal.put-requires
-put-requires c =
+put-requires g c =
     let own = c.args.own.now in
     let here = c.index-own-i.result in
     let put_now = put_is own c.loop-i.i here (map_rows c.loop-i.costs) (omega arith) (omega arith) c.index-own-i.is c.loop-i.invariant.rows in
@@ -23,7 +23,7 @@ put-requires c =
     omega (arith, few_put, room)
 
 pub loop-i-preserved : goal.loop-i-preserved
-loop-i-preserved c = record {
+loop-i-preserved g c = record {
   rows = c.put.ensures.rows ∙ put_is c.args.own.now c.loop-i.i c.index-own-i.result (map_rows c.loop-i.costs) (omega arith) (omega arith) c.index-own-i.is c.loop-i.invariant.rows;
   room = subst (λ n. length c.args.own.now ≤ n) (sym c.put.ensures.capacity) c.loop-i.invariant.room;
 }

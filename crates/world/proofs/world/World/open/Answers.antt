@@ -7,7 +7,7 @@ use Rattle.world.proofs.Openings.{opening-kept}
 use Rattle.world.proofs.world.World.open.Goals as goal
 
 pub invariant_of-result : goal.invariant_of-result
-invariant_of-result c =
+invariant_of-result g c =
     let n : Network = c.args.network.now in
     let links : c.in_ok-links.links.links ≡ (opening n).links = c.in_ok-links.ensures.ok ∙ ap (map opening_link) c.links.ensures.links in
     let same : world_of c.in_ok-places.places.items c.in_ok-links.links.links c.in_ok-prefixes.prefixes.items c.in_ok-attachments.attachments.items c.in_ok-routers.routers.items ≡ opening n

@@ -13,7 +13,7 @@ use Rattle.world.proofs.Headline.{reached_on, sound_there}
 use Rattle.world.proofs.world.World.run.Goals as goal
 
 pub loop-done-preserved : goal.loop-done-preserved
-loop-done-preserved c =
+loop-done-preserved g c =
     let s : Step = c.index-steps-done.result in
     let done : Lawful c.loop-done.self s × (c.step.new.self ≡ next c.loop-done.self s) = c.in_default.ensures.ok in
     let steps : take (c.loop-done.done + 1) c.args.steps.now ≡ take c.loop-done.done c.args.steps.now ++ s ∷ []
@@ -28,21 +28,21 @@ loop-done-preserved c =
     }
 
 pub returns-in-Err-clause-reached : goal.returns-in-Err-clause-reached
-returns-in-Err-clause-reached c = λ n reached.
+returns-in-Err-clause-reached g c = λ n reached.
     reached_on n c.args.self.now c.step.new.self (take c.loop-done.done c.args.steps.now) reached
     (subst (Runs c.args.self.now (take c.loop-done.done c.args.steps.now)) (sym c.in-Err.ensures.err) c.loop-done.invariant.runs)
 
 pub returns-in-Err-clause-headline : goal.returns-in-Err-clause-headline
-returns-in-Err-clause-headline c = λ n reached. sound_there n c.step.new.self (returns-in-Err-clause-reached c n reached)
+returns-in-Err-clause-headline g c = λ n reached. sound_there n c.step.new.self (returns-in-Err-clause-reached g c n reached)
 
 pub returns-in-Err-clause-publication : goal.returns-in-Err-clause-publication
-returns-in-Err-clause-publication c = λ i is.
+returns-in-Err-clause-publication g c = λ i is.
     let asked : c.index-steps-done.result ≡ Publish i = c.index-steps-done.is ∙ get_or_from_slice_get c.args.steps.now c.loop-done.done (Publish i) c.index-steps-done.result is in
     let cause : refusal c.loop-done.self c.index-steps-done.result ≡ Some c.in-Err.refusal = only_cause ⊤ (refusal c.loop-done.self c.index-steps-done.result) c.in-Err.refusal (c.in-Err.ensures.publication i asked) in
     subst (λ s. refusal c.step.new.self s ≡ Some c.in-Err.refusal) asked (subst (λ w. refusal w c.index-steps-done.result ≡ Some c.in-Err.refusal) (sym c.in-Err.ensures.err) cause)
 
 pub returns-clause-reached : goal.returns-clause-reached
-returns-clause-reached c = λ n reached. reached_on n c.args.self.now c.loop-done.self (take c.loop-done.done c.args.steps.now) reached c.loop-done.invariant.runs
+returns-clause-reached g c = λ n reached. reached_on n c.args.self.now c.loop-done.self (take c.loop-done.done c.args.steps.now) reached c.loop-done.invariant.runs
 
 pub returns-clause-headline : goal.returns-clause-headline
-returns-clause-headline c = λ n reached. sound_there n c.loop-done.self (returns-clause-reached c n reached)
+returns-clause-headline g c = λ n reached. sound_there n c.loop-done.self (returns-clause-reached g c n reached)
