@@ -17,6 +17,7 @@ use Rattle.network_model.specs.declared.step.Step.TheVariants.{Publish}
 use Rattle.network_model.specs.Step.{Lawful, is_due, next, router_publishing}
 use Rattle.network_model.specs.Publication.{Image, Patch}
 use Rattle.network_model.proofs.ListLaws.{None_not_Some, Some_injective}
+use Rattle.std.specs.Global.{Global}
 use Rattle.image_patch.specs.declared.Patch.{Patch as PatchFields}
 use Rattle.image_patch.specs.Patches.{patched}
 use Rattle.publication.specs.declared.known.Known.{Known}
@@ -83,13 +84,13 @@ module _ (n : Network) (journal : List Step) (w : World) (openings : List (List 
   desk_within i r at = subst (λ m. i < m) (length-map desks (λ (d : Desk). d.writing)) (writer_within n journal w openings (writings desks) (all_lent desks) capacity kept i r at)
 
   -- the patch that is due at a desk
-  pub due_desk : IsNetwork n → (i : ℕ) (d : Desk) → slice_get desks i ≡ Some d → (patch : PatchFields) → IsPatchDue w i (waiting_at (writings desks) i) (Some patch) → IsDue n journal w openings (writings desks) i d.writing patch
+  pub due_desk : IsNetwork n → (i : ℕ) (d : Desk) → slice_get desks i ≡ Some d → (patch : PatchFields Global) → IsPatchDue w i (waiting_at (writings desks) i) (Some patch) → IsDue n journal w openings (writings desks) i d.writing patch
   due_desk valid i d at patch due =
       is_due_by n journal w openings (writings desks) (all_lent desks) capacity kept are valid i d.writing (sym (get_or_from_slice_get (writings desks) i d.writing d.writing (writing_there desks i d at))) patch due
 
 -- ---- a writer goes out
 
-module _ (n : Network) (journal : List Step) (w : World) (openings : List (List (Prefix × Entry))) (desks : List Desk) (i : ℕ) (d : Desk) (patch : PatchFields)
+module _ (n : Network) (journal : List Step) (w : World) (openings : List (List (Prefix × Entry))) (desks : List Desk) (i : ℕ) (d : Desk) (patch : PatchFields Global)
     (D : IsDue n journal w openings (writings desks) i d.writing patch) (at : slice_get desks i ≡ Some d) (inside : d.out ≡ None) where
   abbrev away : Desk
   away = desk_out (d.writing).published (patch_of patch)

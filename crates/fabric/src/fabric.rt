@@ -89,7 +89,7 @@ impl<B: Naming> Fabric<B> {
         let world = WatchedWorld::open(alloc, &network)?;
         let images = opening_images(alloc, world.world())?;
         let journal = Vec::with_capacity(alloc, MOST_STEPS)?;
-        let (writers, lists) = open_all::<B, R>(rt, alloc, unnamed, images, workers + 1)?;
+        let (writers, lists) = open_all::<B, _, R>(rt, alloc, unnamed, images, workers + 1)?;
         let desks = seat_all(rt, alloc, writers)?;
         let Ok((readers, ports)) = deal(alloc, lists, workers) else {
             close_all(rt, desks);

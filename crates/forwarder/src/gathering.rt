@@ -7,6 +7,7 @@ ghost use Rattle.forwarder.specs.Gathering.{is_reply_to, number_of, fault_at, fa
 
 use crate::reply::Reply;
 use publication::{Job, Naming};
+use std::alloc::Allocator;
 use thiserror::Error;
 
 /// Why replies are not those to the jobs.
@@ -81,7 +82,7 @@ fn has_all<B: Naming>(jobs: &[Job<B>], replies: &[Reply<B>]) -> bool
     jobs.iter().all(|job| has_reply(replies, job))
 }
 
-fn in_order<B: Naming>(mut replies: Vec<Reply<B>>) -> Vec<Reply<B>>
+fn in_order<B: Naming, A: Allocator>(mut replies: Vec<Reply<B>, A>) -> Vec<Reply<B>, A>
     ensures given { IsPermutation replies.items result.items }
     ensures order { IsNonDecreasingBy number_of result.items }
 {
@@ -91,10 +92,10 @@ fn in_order<B: Naming>(mut replies: Vec<Reply<B>>) -> Vec<Reply<B>>
 
 /// For each job the one given reply to it, in order of the jobs' numbers. Each reply in turn is
 /// tested for a stranger's, then for a second one; a missing one comes last. It takes no memory.
-pub fn gather<B: Naming>(
+pub fn gather<B: Naming, A: Allocator>(
     jobs: &[Job<B>],
-    replies: Vec<Reply<B>>,
-) -> Result<Vec<Reply<B>>, GatherFault>
+    replies: Vec<Reply<B>, A>,
+) -> Result<Vec<Reply<B>, A>, GatherFault>
     ensures fault { MatchResult result (λ _. fault_of jobs.now replies.items ≡ None) (λ e. fault_of jobs.now replies.items ≡ Some e) }
     ensures given { IfOk result (λ v. IsPermutation replies.items v.items) }
     ensures order { IfOk result (λ v. IsStrictlyIncreasing (map number_of v.items)) }

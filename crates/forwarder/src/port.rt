@@ -6,16 +6,17 @@ ghost use Rattle.forwarder.specs.Ports.{AreLater, IsOneEach};
 
 use crate::reply::Reply;
 use publication::{ImageReader, Job, Naming, NoImage};
+use std::alloc::{Allocator, Global};
 use std::marker::Model;
 
 /// One reader of each of a fabric's routers. Contracts see it as the views of its readers, by the
 /// routers' numbers.
 #[derive(Drop)]
-pub struct ForwardPort<B: Naming> {
-    readers: Vec<ImageReader<B>>,
+pub struct ForwardPort<B: Naming, A: Allocator = Global> {
+    readers: Vec<ImageReader<B, A>, A>,
 }
 
-impl<B: Naming> Model for ForwardPort<B> {
+impl<B: Naming, A: Allocator> Model for ForwardPort<B, A> {
     ghost use Rattle.std.specs.Prelude.{List, length};
     ghost use Rattle.publication.specs.declared.known.Known.{Known};
     ghost use Rattle.forwarder.specs.Ports.{IsOneEach};
@@ -27,9 +28,9 @@ impl<B: Naming> Model for ForwardPort<B> {
     ghost invariant = { λ p. IsOneEach (length B.books) p.readers.items };
 }
 
-impl<B: Naming> ForwardPort<B> {
+impl<B: Naming, A: Allocator> ForwardPort<B, A> {
     /// A port of these readers, one of each router, in order.
-    pub fn new(readers: Vec<ImageReader<B>>) -> ForwardPort<B>
+    pub fn new(readers: Vec<ImageReader<B, A>, A>) -> ForwardPort<B, A>
         requires { IsOneEach (length B.books) readers.items }
         ensures { result ≡ readers.items }
     {
@@ -49,7 +50,10 @@ impl<B: Naming> ForwardPort<B> {
 }
 
 // What a reader of a job's router answers to it.
-fn look<B: Naming>(reader: &mut ImageReader<B>, job: &Job<B>) -> Result<Reply<B>, NoImage>
+fn look<B: Naming, A: Allocator>(
+    reader: &mut ImageReader<B, A>,
+    job: &Job<B>,
+) -> Result<Reply<B>, NoImage>
     requires { job.now.told.router ≡ reader.old.router }
     ensures job { IfOk result (λ r. r.job ≡ job.now) }
     ensures seen { IfOk result (λ r. r.seen ≡ reader.new) }

@@ -11,7 +11,7 @@ use crate::reply::Reply;
 use network_model::Refusal;
 use packet_queue::{Taken, Taker};
 use publication::{Job, Naming};
-use std::alloc::Global;
+use std::alloc::{Allocator, Global};
 use std::sync::Wait;
 
 /// What a worker meets at each job.
@@ -25,23 +25,23 @@ pub trait JobGate {
 
 /// What a worker gives back when it ends.
 #[derive(Drop)]
-pub struct Worked<B: Naming> {
-    pub port: ForwardPort<B>,
-    pub taker: Taker<B>,
+pub struct Worked<B: Naming, A: Allocator = Global> {
+    pub port: ForwardPort<B, A>,
+    pub taker: Taker<B, A>,
     /// A reply to each job that it took, in the order in which it took them.
-    pub replies: Result<Vec<Reply<B>>, Refusal>,
+    pub replies: Result<Vec<Reply<B>, A>, Refusal>,
 }
 
 /// Takes jobs and answers them, until it takes a stop message or the queue is closed. Where its list
 /// of replies cannot grow (`NoMemory`), or an answer has no image (`NoImage`), it goes on taking, and
 /// tells the first such refusal in place of its replies, job by job as `with_reply` does.
-pub fn work<B: Naming, R: Wait, G: JobGate>(
+pub fn work<B: Naming, A: Allocator, R: Wait, G: JobGate>(
     rt: &R,
-    alloc: Global,
-    port: ForwardPort<B>,
-    taker: Taker<B>,
+    alloc: A,
+    port: ForwardPort<B, A>,
+    taker: Taker<B, A>,
     gate: &G,
-) -> Worked<B>
+) -> Worked<B, A>
     ensures port { AreLater port result.port }
     ensures queue { takes_from result.taker ≡ takes_from taker }
     ensures replies { IfOk result.replies (λ rs. jobs_of (taken_by result.taker)
@@ -69,7 +69,7 @@ pub fn work<B: Naming, R: Wait, G: JobGate>(
 
 // The next job; none where a stop message comes, or the queue is closed.
 #[tactic(auto, using(packet_queue::proofs::Jobs::jobs_of_job, packet_queue::proofs::Jobs::jobs_of_stop))]
-fn next_job<B: Naming, R: Wait>(rt: &R, taker: &mut Taker<B>) -> Option<Job<B>>
+fn next_job<B: Naming, A: Allocator, R: Wait>(rt: &R, taker: &mut Taker<B, A>) -> Option<Job<B>>
     ensures queue { takes_from taker.new ≡ takes_from taker.old }
     ensures taken { MatchOption result
         (jobs_of (taken_by taker.new) ≡ jobs_of (taken_by taker.old))
@@ -83,11 +83,11 @@ fn next_job<B: Naming, R: Wait>(rt: &R, taker: &mut Taker<B>) -> Option<Job<B>>
 
 /// A worker's replies, with one to this job behind them. Where one before was refused, that refusal
 /// stays; else it is refused with `NoMemory`, or with `NoImage`.
-pub fn with_reply<B: Naming>(
-    replies: Result<Vec<Reply<B>>, Refusal>,
-    port: &mut ForwardPort<B>,
+pub fn with_reply<B: Naming, A: Allocator>(
+    replies: Result<Vec<Reply<B>, A>, Refusal>,
+    port: &mut ForwardPort<B, A>,
     job: &Job<B>,
-) -> Result<Vec<Reply<B>>, Refusal>
+) -> Result<Vec<Reply<B>, A>, Refusal>
     requires { IfErr replies (λ e. (e ≡ OutOfMemory) ⊎ (e ≡ WithoutImage)) }
     ensures later { AreLater port.old port.new }
     ensures ok { IfOk result (λ rs. IfOk replies (λ old. map (λ r. r.job) rs.items ≡ map (λ r. r.job) old.items ++ job.now ∷ [])) }

@@ -177,7 +177,7 @@ fn measure<B: Naming + Send + Sync, R: Threads + Wait + Sync>(
     requires generation { image.generation ≡ 0 }
     requires rows { image.rows ≡ opening_of B.openings 0 }
 {
-    let (mut writer, readers) = open::<B, R>(rt, alloc, unnamed, 0, image, workers).ok()?;
+    let (mut writer, readers) = open::<B, _, R>(rt, alloc, unnamed, 0, image, workers).ok()?;
     let told = writer.tell();
     let Ok(mut lanes) = lanes_of(alloc, readers) else {
         writer.close(rt);

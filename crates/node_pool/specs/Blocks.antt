@@ -7,9 +7,9 @@ use Rattle.node_pool.specs.declared.pools.NodePool.{NodePool}
 use Rattle.node_pool.specs.declared.pools.Block.{Block}
 use Rattle.node_pool.specs.declared.pools.Block.TheVariants.{Nodes, Results}
 
-module _ {T : Type 0} where
+module _ {T A : Type 0} where
   -- A block of `size` cells is taken, which were free, or the call is refused, as there was less room. A free block of the size is taken before there are more cells.
-  pub record TakesBlock {E : Type 0} (old new : Pool T) (size : ℕ) (value : T) (result : Result ℕ E) : Type 0 where
+  pub record TakesBlock {E : Type 0} (old new : Pool T A) (size : ℕ) (value : T) (result : Result ℕ E) : Type 0 where
     pub ok : IfOk result (λ base. IsTaken (cell old) (cell new) base size value)
     pub err : OnErr result (KeepsBlocks old new)
     pub again : 0 < spare old size → IsOk result × IsNoLarger old new
@@ -20,20 +20,20 @@ module _ {T : Type 0} where
     pub full : OnErr result (room old < size)
 
   -- a block is free now, and all other cells stay
-  pub record GivesBlock (old new : Pool T) (base size : ℕ) : Type 0 where
+  pub record GivesBlock (old new : Pool T A) (base size : ℕ) : Type 0 where
     pub freed : IsFilled (cell old) (cell new) base size None
     pub count : cell_count new ≡ cell_count old
     pub no_cost : room new ≡ room old
     pub one_more : spare new size ≡ spare old size + 1
     pub others : (s : ℕ) → 0 < s → s ≢ size → spare new s ≡ spare old s
 
-module _ {N R : Type 0} where
+module _ {N R A : Type 0} where
   -- every cell of a block is in use
-  abbrev pub IsOut : NodePool N R → Block → Type 0
+  abbrev pub IsOut : NodePool N R A → Block → Type 0
   IsOut pool (Nodes base size) = (0 < size) × (size ≤ 16) × IsUsedBlock (cell pool.nodes) base size
   IsOut pool (Results base size) = (0 < size) × (size ≤ 15) × IsUsedBlock (cell pool.results) base size
 
   -- the block is free now, and nothing else has changed
-  abbrev pub IsGiven : NodePool N R → NodePool N R → Block → Type 0
+  abbrev pub IsGiven : NodePool N R A → NodePool N R A → Block → Type 0
   IsGiven old new (Nodes base size) = GivesBlock old.nodes new.nodes base size × (new.results ≡ old.results)
   IsGiven old new (Results base size) = GivesBlock old.results new.results base size × (new.nodes ≡ old.nodes)

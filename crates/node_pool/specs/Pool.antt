@@ -4,52 +4,53 @@ use Rattle.node_pool.specs.Cell.{at, IsFilled}
 use Rattle.node_pool.specs.FreeLists.{count_at}
 use Rattle.node_pool.specs.declared.pool.Pool.{Pool}
 
-module _ {T : Type 0} where
+module _ {T A : Type 0} where
   -- the value at a place, or none where the cell is free or there is none
-  abbrev pub cell : Pool T → ℕ → Option T
+  abbrev pub cell : Pool T A → ℕ → Option T
   cell pool k = at pool.cells.items k
 
   -- how many cells there are, in use and free
-  abbrev pub cell_count : Pool T → ℕ
+  abbrev pub cell_count : Pool T A → ℕ
   cell_count pool = vec_len pool.cells
 
   -- how many cells can be added without memory, where a pool has at most 2^32
-  abbrev pub room : Pool T → ℕ
+  abbrev pub room : Pool T A → ℕ
   room pool = min (vec_capacity pool.cells) (2 ^ 32) - vec_len pool.cells
 
   -- how many free blocks of a size there are
-  abbrev pub spare : Pool T → ℕ → ℕ
+  abbrev pub spare : Pool T A → ℕ → ℕ
   spare pool size = count_at pool.free (size - 1)
 
   -- a pool has no cells
-  pub record HasNoCells (pool : Pool T) : Type 0 where
+  pub record HasNoCells (pool : Pool T A) : Type 0 where
     pub no_value : (k : ℕ) → cell pool k ≡ None
     pub no_cell : cell_count pool ≡ 0
     pub no_block : (size : ℕ) → spare pool size ≡ 0
 
   -- cells and free blocks stay, and there is no less room
-  pub record KeepsBlocks (old new : Pool T) : Type 0 where
+  pub record KeepsBlocks (old new : Pool T A) : Type 0 where
     pub values : (k : ℕ) → cell new k ≡ cell old k
     pub count : cell_count new ≡ cell_count old
     pub blocks : (size : ℕ) → spare new size ≡ spare old size
     pub no_less : room old ≤ room new
 
   -- another pool has the same cells and the same free blocks
-  pub record HasSameCells (one other : Pool T) : Type 0 where
+  pub record HasSameCells (one other : Pool T A) : Type 0 where
     pub values : (k : ℕ) → cell other k ≡ cell one k
     pub count : cell_count other ≡ cell_count one
     pub blocks : (size : ℕ) → spare other size ≡ spare one size
 
   -- no cell was added
-  pub record IsNoLarger (old new : Pool T) : Type 0 where
+  pub record IsNoLarger (old new : Pool T A) : Type 0 where
     pub count : cell_count new ≡ cell_count old
     pub same_room : room new ≡ room old
 
   -- as many cells were added as the block has, which lies behind those that were there
-  pub record IsBehind (old new : Pool T) (base size : ℕ) : Type 0 where
+  pub record IsBehind (old new : Pool T A) (base size : ℕ) : Type 0 where
     pub base_at_end : base ≡ cell_count old
     pub longer : cell_count new ≡ cell_count old + size
 
+module _ {T : Type 0} where
   -- one cell is written
   pub record IsWritten (old new : ℕ → Option T) (index : ℕ) (value : T) : Type 0 where
     pub here : new index ≡ Some value

@@ -5,7 +5,7 @@ ghost use Rattle.node_pool.specs.FreeLists.{IsLinked};
 
 use crate::cells::{Cell, FreeList, fill, next_of, shift};
 use network_model::NoMemory;
-use std::alloc::Global;
+use std::alloc::{Allocator, Global};
 
 /// How many cells a pool has at most: as many as there are places in a `u32`.
 const MOST_CELLS: usize = 1 << 32;
@@ -16,22 +16,22 @@ const MOST_CELLS: usize = 1 << 32;
 /// have more cells refuses to grow, as the allocator may. `NoMemory` is answered only where there
 /// was less room than was asked for.
 #[derive(Debug, Drop)]
-pub struct Pool<T> {
-    cells: Vec<Cell<T>>,
+pub struct Pool<T, A: Allocator = Global> {
+    cells: Vec<Cell<T>, A>,
     // The free blocks of one cell, of two, and so on.
     free: [FreeList; 16],
     ghost few: { vec_len cells ≤ 2 ^ 32 },
     ghost linked: { ∥ IsLinked cells.items free ∥₁ },
 }
 
-impl<T: Copy> Pool<T> {
+impl<T: Copy, A: Allocator> Pool<T, A> {
     ghost use Rattle.node_pool.specs.Pool.{cell, cell_count, room, spare, HasNoCells, KeepsBlocks};
     ghost use Rattle.node_pool.specs.Pool.{IsNoLarger, IsBehind, IsTaken, IsGrown};
     ghost use Rattle.node_pool.specs.Pool.{IsWritten, IsUsedBlock, HasSameCells};
     ghost use Rattle.node_pool.specs.Cell.{IsFilled};
 
     /// A pool with no cells.
-    pub fn new(alloc: Global) -> Self
+    pub fn new(alloc: A) -> Self
         ensures { HasNoCells result }
     {
         Pool {
@@ -41,7 +41,7 @@ impl<T: Copy> Pool<T> {
     }
 
     /// A pool with the same cells and the same free blocks. It takes time and memory by the cells.
-    pub fn copy(&self, alloc: Global) -> Result<Self, NoMemory>
+    pub fn copy(&self, alloc: A) -> Result<Self, NoMemory>
         ensures { IfOk result (λ pool. HasSameCells self.now pool) }
     {
         Ok(Pool {

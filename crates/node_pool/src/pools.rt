@@ -4,7 +4,7 @@ ghost use Rattle.std.specs.Prelude.{◌≡◌, ◌<◌, ◌≤◌, ◌⊎◌, If
 
 use crate::pool::Pool;
 use network_model::NoMemory;
-use std::alloc::Global;
+use std::alloc::{Allocator, Global};
 
 /// The most nodes in a block: a node has at most 16 children.
 pub const MOST_NODES: usize = 16;
@@ -22,17 +22,16 @@ pub enum Block {
 
 /// Memory for a tree: blocks of 1 to 16 nodes and of 1 to 15 results.
 #[derive(Debug, Drop)]
-pub struct NodePool<N, R> {
-    pub nodes: Pool<N>,
-    pub results: Pool<R>,
+pub struct NodePool<N, R, A: Allocator = Global> {
+    pub nodes: Pool<N, A>,
+    pub results: Pool<R, A>,
 }
 
-impl<N: Copy, R: Copy> NodePool<N, R> {
-    ghost use Rattle.node_pool.specs.Pool.{room, HasNoCells, KeepsBlocks, HasSameCells};
-    ghost use Rattle.node_pool.specs.Blocks.{TakesBlock, IsOut, IsGiven};
+impl<N: Copy, R: Copy, A: Allocator + Copy> NodePool<N, R, A> {
+    ghost use Rattle.node_pool.specs.Pool.{HasNoCells, HasSameCells};
 
     /// Pools with no cells.
-    pub fn new(alloc: Global) -> Self
+    pub fn new(alloc: A) -> Self
         ensures nodes { HasNoCells result.nodes }
         ensures results { HasNoCells result.results }
     {
@@ -43,7 +42,7 @@ impl<N: Copy, R: Copy> NodePool<N, R> {
     }
 
     /// Pools with the same cells and the same free blocks.
-    pub fn copy(&self, alloc: Global) -> Result<Self, NoMemory>
+    pub fn copy(&self, alloc: A) -> Result<Self, NoMemory>
         ensures nodes { IfOk result (λ copy. HasSameCells self.now.nodes copy.nodes) }
         ensures results { IfOk result (λ copy. HasSameCells self.now.results copy.results) }
     {
@@ -52,6 +51,11 @@ impl<N: Copy, R: Copy> NodePool<N, R> {
             results: self.results.copy(alloc)?,
         })
     }
+}
+
+impl<N: Copy, R: Copy, A: Allocator> NodePool<N, R, A> {
+    ghost use Rattle.node_pool.specs.Pool.{room, KeepsBlocks};
+    ghost use Rattle.node_pool.specs.Blocks.{TakesBlock, IsOut, IsGiven};
 
     /// Makes room: after it, takes that together ask for at most `nodes` node cells and `results`
     /// result cells succeed.

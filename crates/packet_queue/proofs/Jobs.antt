@@ -33,12 +33,13 @@ module _ {B : Type 0} where
   count_jobs (T.Job x ∷ xs) = omega (arith, count_jobs xs, sum_by-cons one_job (T.Job x) xs)
   count_jobs (T.Stop ∷ xs) = omega (arith, count_jobs xs, sum_by-cons one_job T.Stop xs)
 
+module _ {B A : Type 0} where
   -- what the jobs of all takers weigh
-  pub weigh_takers : (h : Job B → ℕ) (ts : List (Taker B)) → sum_by (λ (t : Taker B). sum_by (over_job h) (taken_by t)) ts ≡ sum_by (λ (t : Taker B). sum_by h (jobs_of (taken_by t))) ts
+  pub weigh_takers : (h : Job B → ℕ) (ts : List (Taker B A)) → sum_by (λ (t : Taker B A). sum_by (over_job h) (taken_by t)) ts ≡ sum_by (λ (t : Taker B A). sum_by h (jobs_of (taken_by t))) ts
   weigh_takers h [] = refl
   weigh_takers h (t ∷ ts) =
-      omega (arith, weigh_jobs h (taken_by t), weigh_takers h ts, sum_by-cons (λ (u : Taker B). sum_by (over_job h) (taken_by u)) t ts, sum_by-cons (λ (u : Taker B). sum_by h (jobs_of (taken_by u))) t ts)
+      omega (arith, weigh_jobs h (taken_by t), weigh_takers h ts, sum_by-cons (λ (u : Taker B A). sum_by (over_job h) (taken_by u)) t ts, sum_by-cons (λ (u : Taker B A). sum_by h (jobs_of (taken_by u))) t ts)
 
   -- where messages are accounted for, so are the jobs among them
-  pub jobs_left : (i : Injector B) (ts : List (Taker B)) (left : List (Taken B)) → AreMessagesLeft i ts left → AreJobsLeft i ts (jobs_of left)
+  pub jobs_left : (i : Injector B A) (ts : List (Taker B A)) (left : List (Taken B)) → AreMessagesLeft i ts left → AreJobsLeft i ts (jobs_of left)
   jobs_left i ts left e h = let m = e (over_job h) in omega (arith, weigh_jobs h (put_by i), weigh_takers h ts, weigh_jobs h left)

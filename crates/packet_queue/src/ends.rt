@@ -9,11 +9,12 @@ use crate::message::Taken;
 use crate::rule::{Fair, Hand};
 use crossbeam_channel::{Pass, RuledReceiver, RuledSender};
 use publication::Naming;
+use std::alloc::{Allocator, Global};
 
 /// The end that puts.
 #[derive(Drop)]
-pub struct Injector<B: Naming> {
-    pub(crate) sender: RuledSender<Taken<B>, Hand<B>, Fair>,
+pub struct Injector<B: Naming, A: Allocator = Global> {
+    pub(crate) sender: RuledSender<Taken<B>, Hand<B>, Fair, A>,
     pub(crate) pass: Pass<Taken<B>, Hand<B>>,
     pub(crate) workers: u8,
     // How many jobs it has put.
@@ -26,8 +27,8 @@ pub struct Injector<B: Naming> {
 
 /// An end that takes.
 #[derive(Drop)]
-pub struct Taker<B: Naming> {
-    pub(crate) receiver: RuledReceiver<Taken<B>, Hand<B>, Fair>,
+pub struct Taker<B: Naming, A: Allocator = Global> {
+    pub(crate) receiver: RuledReceiver<Taken<B>, Hand<B>, Fair, A>,
     pub(crate) pass: Pass<Taken<B>, Hand<B>>,
     // How many jobs it has taken.
     pub(crate) jobs: u64,

@@ -9,7 +9,7 @@ use crate::rule::{Cut, Fair, Hand};
 use crossbeam_channel::bounded_with;
 use network_model::NoMemory;
 use publication::Naming;
-use std::alloc::Global;
+use std::alloc::Allocator;
 
 const PLACES: usize = 64;
 
@@ -18,15 +18,15 @@ pub struct PacketQueue;
 
 impl PacketQueue {
     /// A queue of 64 places, with an end for each worker. With no workers it is closed.
-    pub fn new<B: Naming>(
-        alloc: Global,
+    pub fn new<B: Naming, A: Allocator + Copy>(
+        alloc: A,
         workers: u8,
-    ) -> Result<(Injector<B>, Vec<Taker<B>>), NoMemory>
+    ) -> Result<(Injector<B, A>, Vec<Taker<B, A>, A>), NoMemory>
         ensures all { IfOk result (λ r. AreAllEnds r.0 r.1.items) }
         ensures workers { IfOk result (λ r. (length r.1.items ≡ workers) × (workers_of r.0 ≡ workers)) }
         ensures empty { IfOk result (λ r. (put_by r.0 ≡ []) × All (λ t. taken_by t ≡ []) r.1.items) }
     {
-        let Ok((sender, receiver, mut pass)) = bounded_with::<Taken<B>, Hand<B>, Fair, Global>(
+        let Ok((sender, receiver, mut pass)) = bounded_with::<Taken<B>, Hand<B>, Fair, A>(
             alloc, PLACES,
         ) else {
             return Err(NoMemory);

@@ -9,9 +9,13 @@ ghost use Rattle.packet_queue.specs.Ends.{AreAllEnds, AreJobsLeft, AreMessagesLe
 use crate::ends::{Injector, Taker};
 use crate::rule::{Cut, Total};
 use publication::Naming;
+use std::alloc::Allocator;
 
 /// The number of jobs that are left in a queue, whose ends these are. It ends the queue.
-pub fn reckon<B: Naming>(injector: Injector<B>, mut takers: Vec<Taker<B>>) -> u64
+pub fn reckon<B: Naming, A: Allocator>(
+    injector: Injector<B, A>,
+    mut takers: Vec<Taker<B, A>, A>,
+) -> u64
     requires { AreAllEnds injector takers.items }
     ensures messages { (left : List (Taken B)) × AreMessagesLeft injector takers.items left
         × (result ≡ length (jobs_of left)) }

@@ -11,9 +11,10 @@ use crate::message::Taken;
 use crate::rule::{Fair, Hand, Puts};
 use crossbeam_channel::{Pass, RuledSender};
 use publication::{Job, Naming};
+use std::alloc::Allocator;
 use std::sync::Wait;
 
-impl<B: Naming> Injector<B> {
+impl<B: Naming, A: Allocator> Injector<B, A> {
     /// How many workers the queue was made for.
     pub fn workers(&self) -> u8
         ensures { result ≡ workers_of self.now }
@@ -77,10 +78,10 @@ impl<B: Naming> Injector<B> {
 
     // An injector that has put nothing.
     pub(crate) fn made(
-        sender: RuledSender<Taken<B>, Hand<B>, Fair>,
+        sender: RuledSender<Taken<B>, Hand<B>, Fair, A>,
         pass: Pass<Taken<B>, Hand<B>>,
         workers: u8,
-    ) -> Injector<B>
+    ) -> Injector<B, A>
         requires here { IsSeatAt (sends_on sender) pass }
         requires fresh { (0 < (view pass).parts) × ((view pass).put ≡ []) × ((view pass).taken ≡ []) }
         ensures { (result.sender ≡ sender) × (view result.pass ≡ view pass) × (result.workers ≡ workers) }

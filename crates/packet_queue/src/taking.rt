@@ -11,9 +11,10 @@ use crate::message::Taken;
 use crate::rule::{Fair, Hand, Takes};
 use crossbeam_channel::{Pass, RuledReceiver};
 use publication::Naming;
+use std::alloc::Allocator;
 use std::sync::Wait;
 
-impl<B: Naming> Taker<B> {
+impl<B: Naming, A: Allocator> Taker<B, A> {
     /// Takes the message at the front, and waits for one. None where the queue is empty and its
     /// injector is gone. After 2^64 - 1 jobs it waits for ever.
     pub fn next<R: Wait>(&mut self, rt: &R) -> Option<Taken<B>>
@@ -37,9 +38,9 @@ impl<B: Naming> Taker<B> {
 
     // A taker that has taken nothing.
     pub(crate) fn made(
-        receiver: RuledReceiver<Taken<B>, Hand<B>, Fair>,
+        receiver: RuledReceiver<Taken<B>, Hand<B>, Fair, A>,
         pass: Pass<Taken<B>, Hand<B>>,
-    ) -> Taker<B>
+    ) -> Taker<B, A>
         requires here { IsSeatAt (receives_on receiver) pass }
         requires fresh { view pass ≡ hand 1 [] [] }
         ensures { (result.receiver ≡ receiver) × (view result.pass ≡ hand 1 [] []) }

@@ -1,5 +1,5 @@
 -- Facts of the elements of a list, with their places.
-use Rattle.std.proofs.Common.{◌≡◌, ◌⊎◌, ℕ, zero, suc, List, [], ◌∷◌, ◌++◌, ◌+◌, ◌∙◌, Some, All, length, set, drop, get_or, slice_get, inl, inr, refl, sym, subst, ap, arith, drop-drop}
+use Rattle.std.proofs.Common.{◌≡◌, ◌⊎◌, ℕ, zero, suc, List, [], ◌∷◌, ◌++◌, ◌+◌, ◌∙◌, Some, All, length, set, drop, get_or, slice_get, inl, inr, refl, sym, subst, ap, arith, drop-drop, get_or-drop}
 use Rattle.std.proofs.lemmas.Option.{get_or_from_slice_get, slice_get-get_or, slice_get_within}
 use Rattle.network_model.proofs.ListLaws.{Some_injective}
 use Rattle.publication.specs.Lists.{EachAt}
@@ -15,6 +15,12 @@ module _ {A : Type 0} where
   -- the rest of what is left of a list
   pub rest_at : (n : ℕ) (all : List A) (x : A) (xs : List A) → x ∷ xs ≡ drop n all → xs ≡ drop (n + 1) all
   rest_at n all x xs is = ap (drop 1) is ∙ drop-drop 1 n all
+
+  -- and the first of it
+  pub first_at : (n : ℕ) (all : List A) (x d : A) (xs : List A) → x ∷ xs ≡ drop n all → x ≡ get_or all n d
+  first_at n all x d xs is =
+      let here : n + 0 ≡ n = omega arith in
+      ap (λ l. get_or l 0 d) is ∙ get_or-drop n all 0 d ∙ ap (λ k. get_or all k d) here
 
   pub rest_all : (P : A → Type 0) (all : List A) (x : A) (xs : List A) → all ≡ x ∷ xs → All P all → All P xs
   rest_all P all x xs is each = let h : All P (x ∷ xs) = subst (All P) is each in λ k d less. h (suc k) d (omega (arith, less))

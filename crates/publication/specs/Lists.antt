@@ -11,11 +11,11 @@ use Rattle.image_patch.specs.declared.Patch.{Patch as PatchFields}
 use Rattle.publication.specs.declared.known.Known.{Known}
 
 -- the rows that a patch sets, and the generation that it makes
-abbrev pub patch_of : PatchFields → Patch
+abbrev pub patch_of : {A : Type 0} → PatchFields A → Patch
 patch_of p = record { generation = p.generation; rows = p.rows.items }
 
 -- what is published together: patches that waited, and the one behind them
-abbrev pub bundle_of : List PatchFields → PatchFields → List Patch
+abbrev pub bundle_of : {A : Type 0} → List (PatchFields A) → PatchFields A → List Patch
 bundle_of waiting p = map patch_of waiting ++ patch_of p ∷ []
 
 -- the patches of publications, in order
@@ -79,6 +79,6 @@ abbrev pub EachAt : {A : Type 0} → (ℕ → A → Type 0) → List A → Type 
 EachAt {A} P xs = (k : ℕ) (d : A) → k < length xs → P k (get_or xs k d)
 
 -- an image that a patch may be wanting
-abbrev pub followed : Option PatchFields → Image → Image
+abbrev pub followed : {A : Type 0} → Option (PatchFields A) → Image → Image
 followed None image = image
 followed (Some p) image = patched p.generation p.rows.items image

@@ -9,7 +9,7 @@ use crate::known::Bundle;
 use image_patch::Patch;
 use logbook::{Gain, Offer, Plain, Play, Rule, Seen, Start, Word};
 use network_model::NoMemory;
-use std::alloc::Global;
+use std::alloc::Allocator;
 use std::marker::{Brand, Model, PhantomData};
 
 /// The rule of a book: its word counts the publications.
@@ -52,13 +52,13 @@ impl Play<Bundle, u64> for Add {
 }
 
 /// What is to be published: what waits, and then the patch.
-pub(crate) struct Coming {
-    pub waiting: Vec<Patch>,
-    pub patch: Patch,
+pub(crate) struct Coming<A: Allocator> {
+    pub waiting: Vec<Patch<A>, A>,
+    pub patch: Patch<A>,
 }
 
 /// What a step asks for: the publication.
-impl Plain<Coming, Bundle, u64> for Add {
+impl<A: Allocator> Plain<Coming<A>, Bundle, u64> for Add {
     ghost use Rattle.std.specs.Prelude.{None};
     ghost use Rattle.publication.specs.Lists.{bundle_of};
 
@@ -119,7 +119,7 @@ impl Unnamed {
     }
 
     /// The parts of so many writers.
-    pub fn many(alloc: Global, count: usize) -> Result<Vec<Unnamed>, NoMemory>
+    pub fn many<A: Allocator>(alloc: A, count: usize) -> Result<Vec<Unnamed, A>, NoMemory>
         ensures { IfOk result (λ all. vec_len all ≡ count) }
     {
         let mut all = Vec::with_capacity(alloc, count)?;
@@ -269,7 +269,11 @@ impl<B: Naming> Told<B> {
     }
 
     /// The list with one more publication. None where the list is longer than this.
-    pub(crate) fn add(&self, ledger: &Ledger<B>, coming: &Coming) -> Option<Told<B>>
+    pub(crate) fn add<A: Allocator>(
+        &self,
+        ledger: &Ledger<B>,
+        coming: &Coming<A>,
+    ) -> Option<Told<B>>
         requires { ledger.now.router ≡ self.now.router }
         ensures { IfSome result
             (λ t. t ≡ with_publication self.now (bundle_of coming.now.waiting.items coming.now.patch)) }
@@ -278,7 +282,7 @@ impl<B: Naming> Told<B> {
             return None;
         }
         let mut seen = self.seen.again();
-        let mut offer: Offer<Bundle, u64, Law, Nothing> = seen.plain::<Nothing, Coming, Add>(
+        let mut offer: Offer<Bundle, u64, Law, Nothing> = seen.plain::<Nothing, Coming<A>, Add>(
             coming,
         );
         let mut pen = seen.no_pen();

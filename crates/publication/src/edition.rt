@@ -6,17 +6,17 @@ ghost use Rattle.publication.specs.Lists.{image_of, answer_of};
 use crate::book::{Naming, Told};
 use left_right::Absorb;
 use network_model::Answer;
-use std::alloc::AllocError;
+use std::alloc::{AllocError, Allocator};
 use tree_bitmap::Image;
 
 /// An image and a list. In the copy that readers take, it is the image of that list.
 #[derive(Drop)]
-pub struct Edition<B: Naming> {
-    pub(crate) image: Image,
+pub struct Edition<B: Naming, A: Allocator> {
+    pub(crate) image: Image<A>,
     pub(crate) told: Told<B>,
 }
 
-impl<B: Naming> Edition<B> {
+impl<B: Naming, A: Allocator> Edition<B, A> {
     /// What this copy answers for an address, and its list.
     pub(crate) fn answer(&self, addr: u32) -> (Answer, Told<B>)
         requires { self.now.image ≡ image_of B.openings self.now.told }
@@ -32,14 +32,14 @@ impl<B: Naming> Edition<B> {
 }
 
 /// `left_right` keeps no patches: the writer itself has its hidden copy follow, and appends nothing.
-impl<B: Naming> Absorb<()> for Edition<B> {
+impl<B: Naming, A: Allocator> Absorb<()> for Edition<B, A> {
     type State = ();
 
     ghost state = { λ _. tt };
 
     ghost applied = { λ _ _. tt };
 
-    fn absorb_first(&mut self, _operation: &(), _other: &Edition<B>) -> Result<(), AllocError> {
+    fn absorb_first(&mut self, _operation: &(), _other: &Edition<B, A>) -> Result<(), AllocError> {
         Ok(())
     }
 }

@@ -14,36 +14,36 @@ use image_patch::{Apply, Patch};
 use left_right::Absorb;
 use left_right::writer::Writer;
 use network_model::NoMemory;
-use std::alloc::Global;
+use std::alloc::Allocator;
 use std::sync::Wait;
 use tree_bitmap::Image;
 use tree_bitmap::parts::{copy, empty};
 
-pub(crate) type Copies<B> = Writer<Edition<B>, (), Option<Known>, Shown<B>>;
+pub(crate) type Copies<B, A> = Writer<Edition<B, A>, (), Option<Known>, Shown<B>, A>;
 
 /// The copies, and what waits for the next publication.
-pub struct Press<B: Naming>
+pub struct Press<B: Naming, A: Allocator>
 where
-    Edition<B>: Absorb<(), State = ()>,
+    Edition<B, A>: Absorb<(), State = ()>,
 {
-    writer: Copies<B>,
+    writer: Copies<B, A>,
     // The patch that the hidden copy is wanting.
-    last: Option<Patch>,
+    last: Option<Patch<A>>,
     ledger: Ledger<B>,
-    waiting: Vec<Patch>,
+    waiting: Vec<Patch<A>, A>,
     ghost image: { writer.desk.shown.value.image ≡ image_of B.openings writer.desk.shown.value.told },
     ghost hidden: { followed last writer.desk.spare.value.image ≡ writer.desk.shown.value.image },
     ghost word: { ledger.router ≡ writer.desk.shown.value.told.router },
 }
 
 // Two copies of an image, of which no reader has one.
-pub(crate) fn two<B: Naming, R: Wait>(
+pub(crate) fn two<B: Naming, A: Allocator + Copy, R: Wait>(
     rt: &R,
-    alloc: Global,
-    image: Image,
+    alloc: A,
+    image: Image<A>,
     told: &Told<B>,
     readers: u8,
-) -> Result<Copies<B>, NoMemory>
+) -> Result<Copies<B, A>, NoMemory>
     requires { image ≡ image_of B.openings told.now }
     ensures shown { IfOk result (λ w. (w.desk.shown.value.image ≡ image) × (w.desk.shown.value.told ≡ told.now)) }
     ensures hidden { IfOk result (λ w. w.desk.spare.value.image ≡ image) }
@@ -57,7 +57,7 @@ pub(crate) fn two<B: Naming, R: Wait>(
         image: empty(alloc)?,
         told: told.again(),
     };
-    let made: Result<Copies<B>, _> = Writer::new(alloc, shown, hidden, usize::from(readers) + 1);
+    let made: Result<Copies<B, A>, _> = Writer::new(alloc, shown, hidden, usize::from(readers) + 1);
     let Ok(mut writer) = made else {
         return Err(NoMemory);
     };
@@ -70,11 +70,11 @@ pub(crate) fn two<B: Naming, R: Wait>(
 
 // The list with one more publication. It waits for ever where the list is longer than this, as no
 // writer's own is, or has 2^64 - 1 publications.
-fn announce<B: Naming, R: Wait>(
+fn announce<B: Naming, A: Allocator, R: Wait>(
     rt: &R,
     told: &Told<B>,
     ledger: &Ledger<B>,
-    coming: &Coming,
+    coming: &Coming<A>,
 ) -> Told<B>
     requires { ledger.now.router ≡ told.now.router }
     ensures { result ≡ with_publication told.now (bundle_of coming.now.waiting.items coming.now.patch) }
@@ -87,7 +87,11 @@ fn announce<B: Naming, R: Wait>(
 }
 
 // Applies to an image the patch that it is wanting, and then another. Refused, it may be wanting none.
-fn follow(image: &mut Image, last: Option<Patch>, patch: &Patch) -> Result<(), Option<Patch>>
+fn follow<A: Allocator>(
+    image: &mut Image<A>,
+    last: Option<Patch<A>>,
+    patch: &Patch<A>,
+) -> Result<(), Option<Patch<A>>>
     ensures { MatchResult result
         (λ _. image.new ≡ patched patch.now.generation patch.now.rows.items (followed last image.old))
         (λ left. followed left image.new ≡ followed last image.old) }
@@ -105,7 +109,10 @@ fn follow(image: &mut Image, last: Option<Patch>, patch: &Patch) -> Result<(), O
 
 // Has the hidden copy follow, and then shows it to readers. The list goes on only where nothing can
 // be refused any more.
-fn turn<B: Naming, R: Wait>(press: Press<B>, work: (&R, Patch)) -> (Press<B>, Result<(), NoMemory>)
+fn turn<B: Naming, A: Allocator, R: Wait>(
+    press: Press<B, A>,
+    work: (&R, Patch<A>),
+) -> (Press<B, A>, Result<(), NoMemory>)
     requires room { vec_len press.waiting < vec_capacity press.waiting }
     requires covers { Covers (patch_of work.1) (map patch_of press.waiting.items) }
     ensures { MatchResult result.1
@@ -148,8 +155,8 @@ fn turn<B: Naming, R: Wait>(press: Press<B>, work: (&R, Patch)) -> (Press<B>, Re
     (press, Ok(()))
 }
 
-impl<B: Naming> Press<B> {
-    pub(crate) fn new(writer: Copies<B>, ledger: Ledger<B>, alloc: Global) -> Press<B>
+impl<B: Naming, A: Allocator> Press<B, A> {
+    pub(crate) fn new(writer: Copies<B, A>, ledger: Ledger<B>, alloc: A) -> Press<B, A>
         requires image { writer.desk.shown.value.image ≡ image_of B.openings writer.desk.shown.value.told }
         requires hidden { writer.desk.spare.value.image ≡ writer.desk.shown.value.image }
         requires word { ledger.router ≡ writer.desk.shown.value.told.router }
@@ -194,7 +201,7 @@ impl<B: Naming> Press<B> {
 
     // Shows readers the image with the patch, as one publication with all patches that wait.
     // Refused, the patch waits too.
-    pub(crate) fn publish<R: Wait>(&mut self, rt: &R, patch: Patch) -> Result<(), NoMemory>
+    pub(crate) fn publish<R: Wait>(&mut self, rt: &R, patch: Patch<A>) -> Result<(), NoMemory>
         requires room { vec_len self.old.waiting < vec_capacity self.old.waiting }
         requires covers { Covers (patch_of patch) (map patch_of self.old.waiting.items) }
         ensures shown { OnOk result (self.new.writer.desk.shown.value.told

@@ -10,6 +10,7 @@ use crate::known::Known;
 use crate::rule::{Sees, Shown};
 use left_right::reader::Reader;
 use network_model::{Answer, Refusal};
+use std::alloc::{Allocator, Global};
 use std::marker::Model;
 use thiserror::Error;
 
@@ -45,14 +46,14 @@ impl ReadGate for NoGate {
 /// Looks addresses up, with no lock and no wait. Contracts see it as its view: the list that its
 /// writer had after some of its publications, or before the first.
 #[derive(Drop)]
-pub struct ImageReader<B: Naming> {
-    reader: Option<Reader<Edition<B>, Option<Known>, Shown<B>>>,
+pub struct ImageReader<B: Naming, A: Allocator = Global> {
+    reader: Option<Reader<Edition<B, A>, Option<Known>, Shown<B>, A>>,
     told: Told<B>,
     // It has seen no copy since it was told of its list.
     ahead: bool,
 }
 
-impl<B: Naming> Model for ImageReader<B> {
+impl<B: Naming, A: Allocator> Model for ImageReader<B, A> {
     ghost use Rattle.std.specs.Prelude.{◌≡◌, Some, false, IfSome};
     ghost use Rattle.publication.specs.declared.known.Known.{Known};
 
@@ -72,11 +73,11 @@ fn goes_on<B: Naming>(seen: &Told<B>, shown: &Told<B>, ahead: bool) -> bool
     if ahead { seen.begins(shown) } else { true }
 }
 
-impl<B: Naming> ImageReader<B> {
+impl<B: Naming, A: Allocator> ImageReader<B, A> {
     pub(crate) fn new(
-        reader: Reader<Edition<B>, Option<Known>, Shown<B>>,
+        reader: Reader<Edition<B, A>, Option<Known>, Shown<B>, A>,
         told: Told<B>,
-    ) -> ImageReader<B>
+    ) -> ImageReader<B, A>
         ensures { result ≡ told }
     {
         ImageReader {
@@ -98,6 +99,7 @@ impl<B: Naming> ImageReader<B> {
     }
 
     /// Looks an address up like `lookup`, and calls the gate while it holds the image.
+    #[tactic(auto, using(crate::proofs::Beginnings::begins_self))]
     pub fn lookup_held<G: ReadGate>(&mut self, addr: u32, gate: &G) -> Result<Answer, NoImage>
         ensures later { Begins self.old self.new }
         ensures answer { IfOk result (λ a. a ≡ answer_of (image_of B.openings self.new) addr) }

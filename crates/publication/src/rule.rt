@@ -4,6 +4,7 @@ use crate::book::Naming;
 use crate::edition::Edition;
 use crate::known::Known;
 use crossbeam_utils::rule::{Outcome, Protocol};
+use std::alloc::Allocator;
 use std::marker::PhantomData;
 
 /// The copy that is shown is the image of its list, and a view is the list of a copy that was shown.
@@ -11,7 +12,7 @@ pub struct Shown<B: Naming> {
     of: PhantomData<B>,
 }
 
-impl<B: Naming> Protocol<Edition<B>, Option<Known>> for Shown<B> {
+impl<B: Naming, A: Allocator> Protocol<Edition<B, A>, Option<Known>> for Shown<B> {
     ghost use Rattle.std.specs.Prelude.{None};
     ghost use Rattle.publication.specs.Views.{Keeps};
 
@@ -25,7 +26,7 @@ pub struct Sees<B: Naming> {
     of: PhantomData<B>,
 }
 
-impl<B: Naming> Outcome<Edition<B>, Option<Known>> for Sees<B> {
+impl<B: Naming, A: Allocator> Outcome<Edition<B, A>, Option<Known>> for Sees<B> {
     ghost use Rattle.publication.specs.Views.{Sees};
 
     ghost then = { λ view before after now. Sees B.openings view before.told after.image after.told now };

@@ -11,25 +11,26 @@ use crate::writer::ImageWriter;
 use image_patch::Patch;
 use left_right::Absorb;
 use network_model::NoMemory;
+use std::alloc::{Allocator, Global};
 use std::marker::Model;
 use std::sync::Wait;
 
 /// A writer, and the patch that it is to publish. It is not `Drop`: give the writer back, or end it by
 /// `close`. Contracts see what it had published when it went out, the patch, whether it has published
 /// that, and what it has published and what waits now.
-pub struct Ticket<B: Naming>
+pub struct Ticket<B: Naming, A: Allocator = Global>
 where
-    Edition<B>: Absorb<(), State = ()>,
+    Edition<B, A>: Absorb<(), State = ()>,
 {
-    writer: ImageWriter<B>,
+    writer: ImageWriter<B, A>,
     before: Told<B>,
-    patch: Patch,
+    patch: Patch<A>,
     published: bool,
 }
 
-impl<B: Naming> Model for Ticket<B>
+impl<B: Naming, A: Allocator> Model for Ticket<B, A>
 where
-    Edition<B>: Absorb<(), State = ()>,
+    Edition<B, A>: Absorb<(), State = ()>,
 {
     ghost use Rattle.publication.specs.Lists.{patch_of};
     ghost use Rattle.publication.specs.Outings.{IsOuting, Outing};
@@ -43,12 +44,12 @@ where
 
 /// What stays of a writer that is out: the list that it had published, and a copy of its ticket's patch.
 #[derive(Drop)]
-pub struct Stub<B: Naming> {
+pub struct Stub<B: Naming, A: Allocator = Global> {
     before: Told<B>,
-    patch: Patch,
+    patch: Patch<A>,
 }
 
-impl<B: Naming> Model for Stub<B> {
+impl<B: Naming, A: Allocator> Model for Stub<B, A> {
     ghost use Rattle.publication.specs.Lists.{patch_of};
     ghost use Rattle.publication.specs.Outings.{IsNext, Stub as StubState};
 
@@ -59,9 +60,9 @@ impl<B: Naming> Model for Stub<B> {
     ghost invariant = { λ s. IsNext s.before (patch_of s.patch) };
 }
 
-impl<B: Naming> Stub<B> {
+impl<B: Naming, A: Allocator> Stub<B, A> {
     /// What will stay of a writer that goes out with such a patch.
-    pub fn new(writer: &ImageWriter<B>, patch: Patch) -> Stub<B>
+    pub fn new(writer: &ImageWriter<B, A>, patch: Patch<A>) -> Stub<B, A>
         requires { patch.generation ≡ generation_of writer.now.published + 1 }
         ensures before { result.before ≡ writer.now.published }
         ensures patch { result.patch ≡ patch_of patch }
@@ -84,7 +85,7 @@ impl<B: Naming> Stub<B> {
 }
 
 /// A patch like this one.
-pub fn copy_of(patch: &Patch) -> Result<Patch, NoMemory>
+pub fn copy_of<A: Allocator + Copy>(patch: &Patch<A>) -> Result<Patch<A>, NoMemory>
     ensures { IfOk result (λ p. patch_of p ≡ patch_of patch.now) }
 {
     let alloc = *patch.rows.allocator();
@@ -96,15 +97,15 @@ pub fn copy_of(patch: &Patch) -> Result<Patch, NoMemory>
 }
 
 // Whether both set the same rows, and make the same generation.
-fn is_patch(patch: &Patch, other: &Patch) -> bool
+fn is_patch<A: Allocator>(patch: &Patch<A>, other: &Patch<A>) -> bool
     ensures { IsTrue result ↔ (patch_of patch.now ≡ patch_of other.now) }
 {
     patch.generation == other.generation && patch.rows.as_slice() == other.rows.as_slice()
 }
 
-impl<B: Naming> Ticket<B> {
+impl<B: Naming, A: Allocator> Ticket<B, A> {
     /// The writer goes out with the patch, which has the next generation and names all that waits.
-    pub fn new(writer: ImageWriter<B>, patch: Patch) -> Ticket<B>
+    pub fn new(writer: ImageWriter<B, A>, patch: Patch<A>) -> Ticket<B, A>
         requires number { patch.generation ≡ generation_of writer.published + 1 }
         requires covers { Covers (patch_of patch) writer.waiting }
         ensures { result ≡ new_outing writer (patch_of patch) }
@@ -136,7 +137,7 @@ impl<B: Naming> Ticket<B> {
 
     /// Whether this is what stays of the writer: it is of the same router, and has the same patch. Then
     /// it has the list, too, that the writer had published.
-    pub fn is_of(&self, stub: &Stub<B>) -> bool
+    pub fn is_of(&self, stub: &Stub<B, A>) -> bool
         ensures its { IsTrue result ↔ ((self.now.before.router ≡ stub.now.before.router) × (self.now.patch ≡ stub.now.patch)) }
         ensures list { IsTrue result → self.now.before ≡ stub.now.before }
     {
@@ -146,7 +147,9 @@ impl<B: Naming> Ticket<B> {
         self.before.meet(&stub.before);
         true
     }
+}
 
+impl<B: Naming, A: Allocator + Copy> Ticket<B, A> {
     /// Puts the patch in force, and just before it what waits. It waits for readers that still look up in
     /// the copy to be changed. Refused, readers see what they saw, and it may be tried again.
     pub fn publish<R: Wait>(&mut self, rt: &R) -> Result<(), NoMemory>
@@ -166,9 +169,11 @@ impl<B: Naming> Ticket<B> {
         self.published = true;
         Ok(())
     }
+}
 
+impl<B: Naming, A: Allocator> Ticket<B, A> {
     /// The writer comes back.
-    pub fn into_writer(self) -> ImageWriter<B>
+    pub fn into_writer(self) -> ImageWriter<B, A>
         ensures writer { result ≡ self.writing }
         ensures kept { IsOuting self }
     {

@@ -17,7 +17,7 @@ use image_patch::Patch;
 use left_right::Absorb;
 use left_right::reader::Factory;
 use network_model::{NoMemory, Prefix, Refusal};
-use std::alloc::Global;
+use std::alloc::{Allocator, Global};
 use std::marker::Model;
 use std::sync::Wait;
 use thiserror::Error;
@@ -57,18 +57,18 @@ impl From<OpenFault> for Refusal {
 
 /// Publishes patches. It is not `Drop`: end it by `close`. Contracts see the list of its
 /// publications, and the patches that wait since one was refused.
-pub struct ImageWriter<B: Naming>
+pub struct ImageWriter<B: Naming, A: Allocator = Global>
 where
-    Edition<B>: Absorb<(), State = ()>,
+    Edition<B, A>: Absorb<(), State = ()>,
 {
-    press: Press<B>,
+    press: Press<B, A>,
     // The prefixes that waiting patches name.
-    prefixes: Vec<Prefix>,
+    prefixes: Vec<Prefix, A>,
 }
 
-impl<B: Naming> Model for ImageWriter<B>
+impl<B: Naming, A: Allocator> Model for ImageWriter<B, A>
 where
-    Edition<B>: Absorb<(), State = ()>,
+    Edition<B, A>: Absorb<(), State = ()>,
 {
     ghost use Rattle.std.specs.Prelude.{◌≡◌, length, map};
     ghost use Rattle.publication.specs.Lists.{Writing, generation_of, patch_of, prefixes_of};
@@ -85,7 +85,7 @@ where
 }
 
 // Adds the prefixes that a patch names.
-fn note_prefixes(prefixes: &mut Vec<Prefix>, patch: &Patch)
+fn note_prefixes<A: Allocator>(prefixes: &mut Vec<Prefix, A>, patch: &Patch<A>)
     requires { vec_len prefixes.old + vec_len patch.now.rows ≤ vec_capacity prefixes.old }
     ensures { prefixes.new.items ≡ prefixes.old.items ++ map (λ r. r.0) patch.now.rows.items }
 {
@@ -94,7 +94,7 @@ fn note_prefixes(prefixes: &mut Vec<Prefix>, patch: &Patch)
     }
 }
 
-impl<B: Naming> ImageWriter<B> {
+impl<B: Naming, A: Allocator> ImageWriter<B, A> {
     /// What was published, for readers to learn.
     pub fn tell(&self) -> Told<B>
         ensures { result ≡ self.now.published }
@@ -129,7 +129,7 @@ impl<B: Naming> ImageWriter<B> {
     /// the next generation, and names each prefix for which `waits_for` is true. It waits for readers
     /// that still look up in the copy to be changed. Refused, it publishes nothing: readers see what
     /// they saw, and the patch may wait for the next call.
-    pub fn publish<R: Wait>(&mut self, rt: &R, patch: Patch) -> Result<Told<B>, NoMemory>
+    pub fn publish<R: Wait>(&mut self, rt: &R, patch: Patch<A>) -> Result<Told<B>, NoMemory>
         requires number { patch.generation ≡ generation_of self.old.published + 1 }
         requires covers { Covers (patch_of patch) self.old.waiting }
         ensures told { IfOk result (λ t. t ≡ self.new.published) }
@@ -161,12 +161,12 @@ impl<B: Naming> ImageWriter<B> {
 }
 
 // So many readers, with nothing published.
-fn make_readers<B: Naming>(
-    alloc: Global,
-    factory: &Factory<Edition<B>, Option<Known>, Shown<B>>,
+fn make_readers<B: Naming, A: Allocator>(
+    alloc: A,
+    factory: &Factory<Edition<B, A>, Option<Known>, Shown<B>, A>,
     told: &Told<B>,
     count: u8,
-) -> Result<Vec<ImageReader<B>>, OpenFault>
+) -> Result<Vec<ImageReader<B, A>, A>, OpenFault>
     ensures { IfOk result (λ readers. (vec_len readers ≡ count) × All (λ r. r ≡ told.now) readers.items) }
 {
     let mut readers = Vec::new(alloc);
@@ -186,14 +186,14 @@ fn make_readers<B: Naming>(
 
 /// The writer of a router, whose image in force is the one given, and so many readers of it. The image
 /// is the router's opening table, with generation 0.
-pub fn open<B: Naming, R: Wait>(
+pub fn open<B: Naming, A: Allocator + Copy, R: Wait>(
     rt: &R,
-    alloc: Global,
+    alloc: A,
     unnamed: Unnamed,
     router: u16,
-    image: Image,
+    image: Image<A>,
     readers: u8,
-) -> Result<(ImageWriter<B>, Vec<ImageReader<B>>), OpenFault>
+) -> Result<(ImageWriter<B, A>, Vec<ImageReader<B, A>, A>), OpenFault>
     requires name { unnamed ≡ book_of B.books router }
     requires known { router < length B.books }
     requires generation { image.generation ≡ 0 }

@@ -6,19 +6,19 @@ ghost use Rattle.publication.specs.Lists.{EachAt, new_writing, no_patches};
 use crate::book::{Naming, Unnamed};
 use crate::reader::ImageReader;
 use crate::writer::{ImageWriter, OpenFault, open};
-use std::alloc::Global;
+use std::alloc::Allocator;
 use std::sync::Wait;
 use tree_bitmap::Image;
 
 /// A writer for each router of a fabric, by their numbers, and so many readers of each. The images
 /// are the routers' opening tables, with generation 0.
-pub fn open_all<B: Naming, R: Wait>(
+pub fn open_all<B: Naming, A: Allocator + Copy, R: Wait>(
     rt: &R,
-    alloc: Global,
-    unnamed: Vec<Unnamed>,
-    images: Vec<Image>,
+    alloc: A,
+    unnamed: Vec<Unnamed, A>,
+    images: Vec<Image<A>, A>,
     readers: u8,
-) -> Result<(Vec<ImageWriter<B>>, Vec<Vec<ImageReader<B>>>), OpenFault>
+) -> Result<(Vec<ImageWriter<B, A>, A>, Vec<Vec<ImageReader<B, A>, A>, A>), OpenFault>
     requires name { unnamed.items ≡ B.books }
     requires rows { map (λ i. i.rows) images.items ≡ B.openings }
     requires generation { All (λ i. i.generation ≡ 0) images.items }
@@ -41,7 +41,7 @@ pub fn open_all<B: Naming, R: Wait>(
         let Some(part) = unnamed.next() else {
             unreachable!()
         };
-        match open::<B, R>(rt, alloc, part, router, image, readers) {
+        match open::<B, A, R>(rt, alloc, part, router, image, readers) {
             Ok((writer, list)) => {
                 writers.push_reserved(writer);
                 lists.push_reserved(list);
@@ -57,7 +57,7 @@ pub fn open_all<B: Naming, R: Wait>(
 }
 
 /// Ends writers. It waits for readers that are looking up.
-pub fn close_all<B: Naming, R: Wait>(rt: &R, writers: Vec<ImageWriter<B>>) {
+pub fn close_all<B: Naming, A: Allocator, R: Wait>(rt: &R, writers: Vec<ImageWriter<B, A>, A>) {
     let mut writers = writers;
     while let Some(writer) = writers.pop() {
         writer.close(rt);

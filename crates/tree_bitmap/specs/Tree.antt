@@ -86,15 +86,15 @@ abbrev pub with_result : Node → ℕ → ℕ → Node
 with_result a bit base = record a { internal = a.internal + 2 ^ bit; result_base = base }
 
 -- what a tree's rows are: from the path of an address and a length to an entry
-abbrev pub rows : Tree → ℕ → ℕ → Option Entry
+abbrev pub rows : {A : Type 0} → Tree A → ℕ → ℕ → Option Entry
 rows tree = row_at (cell tree.pool.nodes) (cell tree.pool.results)
 
 -- the cells of a tree are sound
-abbrev pub IsSoundTree : Tree → Type 0
+abbrev pub IsSoundTree : {A : Type 0} → Tree A → Type 0
 IsSoundTree tree = IsSound (cell tree.pool.nodes) (cell tree.pool.results)
 
 -- where a tree's node for a path stands
-abbrev pub node_place : Tree → ℕ → ℕ → Option ℕ
+abbrev pub node_place : {A : Type 0} → Tree A → ℕ → ℕ → Option ℕ
 node_place tree = node_at (cell tree.pool.nodes)
 
 -- the row of a path's first `len` bits is set, and all others stay
@@ -104,15 +104,15 @@ pub record SetsRow (old new : ℕ → ℕ → Option Entry) (path len : ℕ) (en
 
 -- what a call for a child takes: nothing where it was there (so its parent isn't blank); else a block of at most 16 cells, of one cell
 -- where the parent was blank, and the child is blank
-abbrev pub IsChildCost : Tree → Tree → ℕ → ℕ → Type 0
+abbrev pub IsChildCost : {A : Type 0} → Tree A → Tree A → ℕ → ℕ → Type 0
 IsChildCost old new index kid =
     ((cell old.pool.nodes index ≡ Some blank → ⊥) × (room old.pool.nodes ≤ room new.pool.nodes))
     ⊎ ((cell new.pool.nodes kid ≡ Some blank) × (room old.pool.nodes ≤ room new.pool.nodes + 16) × (cell old.pool.nodes index ≡ Some blank → room old.pool.nodes ≤ room new.pool.nodes + 1))
 
 -- the entry of a prefix's row, if it has one
-abbrev pub entry_in : Tree → Prefix → Option Entry
+abbrev pub entry_in : {A : Type 0} → Tree A → Prefix → Option Entry
 entry_in tree p = rows tree (p.addr * 16) p.len
 
 -- the rows of a tree, in the order of their prefixes
-abbrev pub rows_in : Tree → List (Prefix × Entry)
+abbrev pub rows_in : {A : Type 0} → Tree A → List (Prefix × Entry)
 rows_in tree = table_rows (entry_in tree)

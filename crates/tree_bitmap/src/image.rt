@@ -7,17 +7,18 @@ ghost use Rattle.network_model.specs.Publication.{image_answer};
 
 use crate::tree::{Tree, Visits, path_of};
 use network_model::{Entry, Prefix};
+use std::alloc::{Allocator, Global};
 use std::marker::Model;
 
 /// The rows that a router published, for looking up addresses: a tree bitmap with a stride of four
 /// bits (Eatherton, Varghese and Dittia, 2004).
 #[derive(Drop)]
-pub struct Image {
-    pub(crate) tree: Tree,
+pub struct Image<A: Allocator = Global> {
+    pub(crate) tree: Tree<A>,
     pub(crate) generation: u64,
 }
 
-impl Model for Image {
+impl<A: Allocator> Model for Image<A> {
     ghost use Rattle.network_model.specs.Publication.{Image as ImageRows};
     ghost use Rattle.tree_bitmap.specs.Tree.{IsSoundTree, rows_in};
 
@@ -28,7 +29,7 @@ impl Model for Image {
     ghost invariant = { λ i. IsSoundTree i.tree };
 }
 
-impl Image {
+impl<A: Allocator> Image<A> {
     /// Which publication of its router the image is; 0 before the first.
     pub fn generation(&self) -> u64
         ensures { result ≡ (self.now).generation }

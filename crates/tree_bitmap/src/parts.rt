@@ -8,10 +8,10 @@ ghost use Rattle.network_model.specs.Publication.{with_rows};
 use crate::image::Image;
 use crate::tree::Tree;
 use network_model::{Entry, NoMemory, Prefix};
-use std::alloc::Global;
+use std::alloc::Allocator;
 
 /// An image with no rows, of generation 0.
-pub fn empty(alloc: Global) -> Result<Image, NoMemory>
+pub fn empty<A: Allocator + Copy>(alloc: A) -> Result<Image<A>, NoMemory>
     ensures { IfOk result (λ image. image ≡ record { generation = 0; rows = [] }) }
 {
     Ok(Image {
@@ -22,7 +22,7 @@ pub fn empty(alloc: Global) -> Result<Image, NoMemory>
 
 /// An image with the same rows and generation, in memory of its own. It takes time by the nodes of
 /// the image.
-pub fn copy(image: &Image, alloc: Global) -> Result<Image, NoMemory>
+pub fn copy<A: Allocator + Copy>(image: &Image<A>, alloc: A) -> Result<Image<A>, NoMemory>
     ensures { IfOk result (λ other. other ≡ image.now) }
 {
     Ok(Image {
@@ -32,7 +32,11 @@ pub fn copy(image: &Image, alloc: Global) -> Result<Image, NoMemory>
 }
 
 /// Sets the row of a prefix.
-pub fn set_row(image: &mut Image, prefix: Prefix, entry: Entry) -> Result<(), NoMemory>
+pub fn set_row<A: Allocator>(
+    image: &mut Image<A>,
+    prefix: Prefix,
+    entry: Entry,
+) -> Result<(), NoMemory>
     ensures ok { OnOk result (image.new ≡ record image.old { rows = put prefix_cmp prefix entry image.old.rows }) }
     ensures err { OnErr result (image.new ≡ image.old) }
 {
@@ -40,7 +44,10 @@ pub fn set_row(image: &mut Image, prefix: Prefix, entry: Entry) -> Result<(), No
 }
 
 /// Sets rows in order. All room is made before the first is set, so a refused call changes nothing.
-pub fn set_rows(image: &mut Image, rows: &[(Prefix, Entry)]) -> Result<(), NoMemory>
+pub fn set_rows<A: Allocator>(
+    image: &mut Image<A>,
+    rows: &[(Prefix, Entry)],
+) -> Result<(), NoMemory>
     ensures ok { OnOk result (image.new ≡ record image.old { rows = with_rows rows.now image.old.rows }) }
     ensures err { OnErr result (image.new ≡ image.old) }
 
@@ -52,7 +59,7 @@ pub fn set_rows(image: &mut Image, rows: &[(Prefix, Entry)]) -> Result<(), NoMem
 }
 
 /// Says which publication the image is.
-pub fn set_generation(image: &mut Image, generation: u64)
+pub fn set_generation<A: Allocator>(image: &mut Image<A>, generation: u64)
     ensures { image.new ≡ record image.old { generation = generation } }
 {
     image.generation = generation;

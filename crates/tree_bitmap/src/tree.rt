@@ -12,12 +12,12 @@ use crate::node::{
 };
 use network_model::{Entry, NoMemory, Prefix};
 use node_pool::NodePool;
-use std::alloc::Global;
+use std::alloc::{Allocator, Global};
 
 /// Rows by path and length. A path is an address and four zeros after it: 36 bits.
 #[derive(Debug, Drop)]
-pub struct Tree {
-    pub pool: NodePool<Node, Entry>,
+pub struct Tree<A: Allocator = Global> {
+    pub pool: NodePool<Node, Entry, A>,
 }
 
 /// How many nodes were read.
@@ -26,15 +26,11 @@ pub struct Visits {
     pub count: u64,
 }
 
-impl Tree {
-    ghost use Rattle.tree_bitmap.specs.Tree.{nibble, internal_bit, rows, node_place, place_at, IsSoundTree, SetsRow, result_place, IsChildCost, blank};
-    ghost use Rattle.tree_bitmap.specs.Tree.{rows_in};
-    ghost use Rattle.std.specs.FinMap.{put};
-    ghost use Rattle.ipv4_prefix.specs.Prefix.{prefix_cmp};
-    ghost use Rattle.network_model.specs.Publication.{with_rows};
+impl<A: Allocator + Copy> Tree<A> {
+    ghost use Rattle.tree_bitmap.specs.Tree.{rows, rows_in, IsSoundTree};
 
     /// A tree with no rows.
-    pub fn new(alloc: Global) -> Result<Self, NoMemory>
+    pub fn new(alloc: A) -> Result<Self, NoMemory>
         ensures sound { IfOk result (λ t. IsSoundTree t) }
         ensures empty { IfOk result (λ t. (q : ℕ) → (m : ℕ) → rows t q m ≡ None) }
     {
@@ -44,7 +40,7 @@ impl Tree {
     }
 
     /// A tree with the same rows, in memory of its own.
-    pub fn copy(&self, alloc: Global) -> Result<Self, NoMemory>
+    pub fn copy(&self, alloc: A) -> Result<Self, NoMemory>
         requires { IsSoundTree self.now }
         ensures sound { IfOk result (λ tree. IsSoundTree tree) }
         ensures rows { IfOk result (λ tree. rows_in tree ≡ rows_in self.now) }
@@ -53,6 +49,14 @@ impl Tree {
             pool: self.pool.copy(alloc)?,
         })
     }
+}
+
+impl<A: Allocator> Tree<A> {
+    ghost use Rattle.tree_bitmap.specs.Tree.{nibble, internal_bit, rows, node_place, place_at, IsSoundTree, SetsRow, result_place, IsChildCost, blank};
+    ghost use Rattle.tree_bitmap.specs.Tree.{rows_in};
+    ghost use Rattle.std.specs.FinMap.{put};
+    ghost use Rattle.ipv4_prefix.specs.Prefix.{prefix_cmp};
+    ghost use Rattle.network_model.specs.Publication.{with_rows};
 
     /// The place of the child on a path, which is made where there is none.
     fn child(&mut self, index: u32, path: u64, depth: u32) -> Result<u32, NoMemory>
@@ -242,7 +246,7 @@ impl Tree {
         for depth in 0..9 {
             let node = self.read(index, visits);
             let four = nibble(path, depth);
-            let bit = Tree::longest_bit(node, four, depth);
+            let bit = Self::longest_bit(node, four, depth);
             best = longer(bit, node, depth, best);
             if !is_set(node.external, four) {
                 return best;

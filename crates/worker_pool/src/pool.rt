@@ -118,7 +118,7 @@ impl<B: Naming + Send + Sync + 'static> WorkerPool<B> {
         ensures workers { IfOk result (λ p. p.workers ≡ vec_len ports) }
         ensures err { IfErr result IsBeginFault }
     {
-        let (injector, takers) = PacketQueue::new::<B>(alloc, ports.len() as u8)?;
+        let (injector, takers) = PacketQueue::new::<B, _>(alloc, ports.len() as u8)?;
         let Ok(mut running) = Vec::with_capacity(alloc, ports.len()) else {
             return Err(PoolFault::Memory(NoMemory));
         };

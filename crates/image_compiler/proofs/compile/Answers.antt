@@ -8,10 +8,10 @@ use Rattle.network_model.proofs.RowLaws.{with_rows-push, with_rows-sorted}
 use Rattle.image_compiler.proofs.compile.Goals as goal
 
 pub loop-prefix-init : goal.loop-prefix-init
-loop-prefix-init c = record { rows = c.into_iter-prefix-iterator.ensures.into_iter_gives ∙ c.rows-prefix-items.ensures.all; set = c.in_ok-image.ensures }
+loop-prefix-init g c = record { rows = c.into_iter-prefix-iterator.ensures.into_iter_gives ∙ c.rows-prefix-items.ensures.all; set = c.in_ok-image.ensures }
 
 pub loop-prefix-preserved : goal.loop-prefix-preserved
-loop-prefix-preserved c =
+loop-prefix-preserved g c =
     let row : Prefix × Entry = (c.in-Some.prefix, c.in-Some.entry) in
     record {
       rows = append_assoc c.loop-prefix.yielded (row ∷ []) c.next.new.self ∙ search (rules, c.in-Some.ensures, c.loop-prefix.invariant.rows);
@@ -21,7 +21,7 @@ loop-prefix-preserved c =
     }
 
 pub returns : goal.returns
-returns c =
+returns g c =
     let all : c.loop-prefix.yielded ≡ c.args.table.now.table.control =
     sym (append-nil c.loop-prefix.yielded) ∙ ap (λ xs. c.loop-prefix.yielded ++ xs) (sym c.in-None.ensures.steps.0) ∙ c.loop-prefix.invariant.rows in
     let sorted = ap (is_sorted prefix_cmp) (sym c.rows-prefix-items.ensures.all) ∙ c.rows-prefix-items.ensures.sorted in

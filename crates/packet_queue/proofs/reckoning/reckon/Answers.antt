@@ -20,7 +20,7 @@ loop-taker-preserved g c =
     let taker = c.in-Some.taker in
     let rest = c.pop.new.self.items in
     let e : c.loop-taker.takers.items ≡ rest ++ taker ∷ [] = c.in-Some.ensures.items in
-    let P : Taker _ → Type 0 = λ t. takes_from t ≡ named (sends_on c.args.injector.sender) in
+    let P : Taker _ _ → Type 0 = λ t. takes_from t ≡ named (sends_on c.args.injector.sender) in
     let is = c.absorb.ensures.rule in
     let parts = ap (λ (v : Hand _). v.parts) is in
     let one = taker.one_part in
@@ -30,7 +30,7 @@ loop-taker-preserved g c =
       (let p = c.loop-taker.invariant.2 in omega arith),
       (let p = c.loop-taker.invariant.3 in omega arith),
       search rules,
-      (λ h. moved (λ (t : Taker _). sum_by h (taken_by t)) c.loop-taker.takers.items rest taker (sum_by h (view c.loop-taker.pass).taken) _ _ e (c.loop-taker.invariant.5 h)
+      (λ h. moved (λ (t : Taker _ _). sum_by h (taken_by t)) c.loop-taker.takers.items rest taker (sum_by h (view c.loop-taker.pass).taken) _ _ e (c.loop-taker.invariant.5 h)
           (ap (λ (v : Hand _). sum_by h v.taken) is ∙ sum_by-append h (view c.loop-taker.pass).taken (taken_by taker))),
       (let p = c.loop-taker.invariant.6 in let q = taker.counted in let s = ap (λ (v : Hand _). sum_by one_job v.taken) is in omega (arith, sum_by-append one_job (view c.loop-taker.pass).taken (taken_by taker))),
       (let p = c.loop-taker.invariant.7 in let q = taker.fits in omega arith),
@@ -49,7 +49,7 @@ returns-clause-messages g c =
           let p = l.1 h in
           let q = old.5 h in
           let s = ap (sum_by h) old.4 in
-          let t = none (λ (t : Taker _). sum_by h (taken_by t)) c.loop-taker.takers.items (omega arith) in
+          let t = none (λ (t : Taker _ _). sum_by h (taken_by t)) c.loop-taker.takers.items (omega arith) in
           omega arith),
       (let p = l.1 one_job in
           let q = old.6 in

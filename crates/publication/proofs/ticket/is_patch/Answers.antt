@@ -6,7 +6,7 @@ use Rattle.publication.proofs.Same.{row_same}
 use Rattle.publication.proofs.ticket.is_patch.Goals as goal
 
 pub returns-then-patch-other : goal.returns-then-patch-other
-returns-then-patch-other c =
+returns-then-patch-other g c =
     let D : Decides c.eq.result (c.as_slice.result.now ≡ c.as_slice-then-patch-other.result.now)
     = slice_eq-Decides row_same c.as_slice.result.now c.as_slice-then-patch-other.result.now c.eq.result c.eq.ensures in
     let a = c.as_slice.ensures.value in

@@ -1,7 +1,29 @@
-use Rattle.std.proofs.Common.{rules, ◌≡◌, ◌∙◌, All, map, vec_len, length, ap, subst, sym}
+use Rattle.std.proofs.Common.{rules, ◌≡◌, ◌∙◌, [], All, map, vec_len, length, ap, subst, sym}
 use Rattle.publication.specs.Lists.{EachAt, new_writing, no_patches}
-use Rattle.publication.proofs.Places.{each-push, rest_all, rest_at}
+use Rattle.publication.proofs.Places.{each-push, first_at, rest_all, rest_at}
 use Rattle.publication.proofs.writers.open_all.Goals as goal
+
+pub loop-image-init : goal.loop-image-init
+loop-image-init g c =
+    let items = c.into_iter-image-iterator.ensures.into_iter_gives.0 in (
+      tt,
+      tt,
+      search rules,
+      ap (map (λ i. i.rows)) items ∙ c.requires.rows,
+      subst (All (λ i. i.generation ≡ 0)) (sym items) c.requires.generation,
+      search rules,
+      search rules,
+      search rules,
+      c.in-Ok.ensures.len,
+      search rules,
+      c.in-Ok.ensures.exact ∙ c.len.ensures,
+      search rules,
+      search rules,
+    )
+
+pub open-requires-clause-rows : goal.open-requires-clause-rows
+open-requires-clause-rows g c =
+    first_at c.loop-image.router g.B.Naming.openings c.in-Some.image.rows [] _ (sym (ap (map (λ i. i.rows)) c.in-Some.ensures.steps.0) ∙ c.loop-image.invariant.3)
 
 pub loop-image-preserved : goal.loop-image-preserved
 loop-image-preserved g c =

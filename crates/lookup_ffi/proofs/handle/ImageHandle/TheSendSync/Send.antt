@@ -21,7 +21,7 @@ use Rattle.lookup_ffi.specs.contracts.handle.ImageHandle.{the_row, the_type}
 
 -- the image has the one field, an `Arc`
 image : IsSend Shared.the_row
-image = let counted = arc.the_send Tree.the_row Heap.the_row ghosts tree.the_send heap.the_send tree.the_sync heap.the_sync frees in
+image = let counted = arc.the_send (Tree.the_row Heap.the_row ghosts) Heap.the_row ghosts (tree.the_send Heap.the_row ghosts heap.the_send frees) heap.the_send (tree.the_sync Heap.the_row ghosts heap.the_sync) heap.the_sync frees in
     view_send inside.the_row _ _ _ _ (recorded_send inside.the_field.row _ _ inside.the_type.to_one (struct_send (declared.shape inside.the_type) (counted, tt)))
 
 boxed : (alloc : Global) (holds : Bool) (p : Ptr) (x : Shared.the_row.Denot) → Keyless (held_owns alloc holds p x)

@@ -3,4 +3,4 @@ use Rattle.std.specs.Vec.{vec_capacity}
 use Rattle.publication.proofs.book.Unnamed.many.Given as goal
 
 abbrev pub invariant-loop : goal.invariant-loop
-invariant-loop l = (vec_len l.all ≡ l.counter) × (vec_capacity l.all ≡ l.fn.count)
+invariant-loop g l = (vec_len l.all ≡ l.counter) × (vec_capacity l.all ≡ l.fn.count)

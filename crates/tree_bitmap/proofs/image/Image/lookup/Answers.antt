@@ -5,9 +5,9 @@ use Rattle.tree_bitmap.proofs.PrefixRows.{longest_where_some}
 use Rattle.tree_bitmap.proofs.image.Image.lookup.Goals as goal
 
 pub returns-clause-longest : goal.returns-clause-longest
-returns-clause-longest c = longest_where_some c.args.addr c.args.self.now.rows c.lookup_counted.result c.lookup_counted.ensures.answer
+returns-clause-longest g c = longest_where_some c.args.addr c.args.self.now.rows c.lookup_counted.result c.lookup_counted.ensures.answer
 
 pub returns-clause-none : goal.returns-clause-none
-returns-clause-none c = λ none k d h.
+returns-clause-none g c = λ none k d h.
     let rows = c.args.self.now.rows in
     longest_match-none c.args.addr rows (sym c.lookup_counted.ensures.answer ∙ none) (slice_index_or rows k d) (All-contains_itself rows k d h)

@@ -4,9 +4,9 @@ use Rattle.tree_bitmap.proofs.PrefixRows.{same_rows_in}
 use Rattle.tree_bitmap.proofs.tree.Tree.copy.Goals as goal
 
 pub returns-clause-sound : goal.returns-clause-sound
-returns-clause-sound c =
+returns-clause-sound g c =
     same_sound (cell c.args.self.now.pool.nodes) (cell c.in_ok-copy.field-0.nodes) (cell c.args.self.now.pool.results) (cell c.in_ok-copy.field-0.results) c.in_ok-copy.ensures.nodes.values c.in_ok-copy.ensures.results.values c.requires
 
 pub returns-clause-rows : goal.returns-clause-rows
-returns-clause-rows c =
+returns-clause-rows g c =
     same_rows_in (cell c.args.self.now.pool.nodes) (cell c.in_ok-copy.field-0.nodes) (cell c.args.self.now.pool.results) (cell c.in_ok-copy.field-0.results) c.in_ok-copy.ensures.nodes.values c.in_ok-copy.ensures.results.values

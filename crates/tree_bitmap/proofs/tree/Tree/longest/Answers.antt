@@ -5,17 +5,17 @@ use Rattle.tree_bitmap.proofs.LongestRow.{best_row, no_row, place_used}
 use Rattle.tree_bitmap.proofs.tree.Tree.longest.Goals as goal
 
 pub returns-in_err-hit-clause-best : goal.returns-in_err-hit-clause-best
-returns-in_err-hit-clause-best c = rw c.from_residual.ensures (no_row (cell c.args.self.now.pool.nodes) (cell c.args.self.now.pool.results) c.args.path c.in_err-hit.ensures.best)
+returns-in_err-hit-clause-best g c = rw c.from_residual.ensures (no_row (cell c.args.self.now.pool.nodes) (cell c.args.self.now.pool.results) c.args.path c.in_err-hit.ensures.best)
 
 pub place-place-requires : goal.place-place-requires
-place-place-requires c =
+place-place-requires g c =
     let R = cell c.args.self.now.pool.results in
     let h = c.in_ok-hit.hit in
     subst (λ r. is_some (R (h.node.result_base + r)) ≡ true) (sym c.rank-below.ensures.value)
     (place_used (cell c.args.self.now.pool.nodes) R c.requires.sound c.args.path (4 * h.depth + length_of h.bit) (h.node.result_base + rank h.node.internal h.bit) c.in_ok-hit.ensures.best.1)
 
 pub get-requires : goal.get-requires
-get-requires c =
+get-requires g c =
     let R = cell c.args.self.now.pool.results in
     let h = c.in_ok-hit.hit in
     let at : c.place-place.result ≡ h.node.result_base + rank h.node.internal h.bit = c.place-place.ensures ∙ ap (λ r. h.node.result_base + r) c.rank-below.ensures.value in
@@ -23,7 +23,7 @@ get-requires c =
     (place_used (cell c.args.self.now.pool.nodes) R c.requires.sound c.args.path (4 * h.depth + length_of h.bit) (h.node.result_base + rank h.node.internal h.bit) c.in_ok-hit.ensures.best.1)
 
 pub returns-clause-best : goal.returns-clause-best
-returns-clause-best c =
+returns-clause-best g c =
     let R = cell c.args.self.now.pool.results in
     let h = c.in_ok-hit.hit in
     let at : c.place-place.result ≡ h.node.result_base + rank h.node.internal h.bit = c.place-place.ensures ∙ ap (λ r. h.node.result_base + r) c.rank-below.ensures.value in

@@ -8,14 +8,14 @@ use Rattle.tree_bitmap.proofs.LongestRow.{best_after, best_last}
 use Rattle.tree_bitmap.proofs.tree.Tree.longest_hit.Goals as goal
 
 pub loop-depth-init : goal.loop-depth-init
-loop-depth-init c = record { at = root_at (cell c.args.self.now.pool.nodes) c.args.path; count = omega arith; best = λ k h. absurd (omega arith); bound = tt }
+loop-depth-init g c = record { at = root_at (cell c.args.self.now.pool.nodes) c.args.path; count = omega arith; best = λ k h. absurd (omega arith); bound = tt }
 
 pub read-node-requires-clause-used : goal.read-node-requires-clause-used
-read-node-requires-clause-used c =
+read-node-requires-clause-used g c =
     node_used (cell c.args.self.now.pool.nodes) (cell c.args.self.now.pool.results) c.requires.sound c.args.path c.loop-depth.depth c.loop-depth.index c.loop-depth.invariant.at
 
 pub returns-then-not-is_set-clause-best : goal.returns-then-not-is_set-clause-best
-returns-then-not-is_set-clause-best c =
+returns-then-not-is_set-clause-best g c =
     let N = cell c.args.self.now.pool.nodes in
     let l = c.loop-depth in
     best_last N c.args.path l.depth c.nibble-four.result l.index c.read-node.result (hit_place c.longer-best.result) (omega arith) l.invariant.at c.read-node.ensures.node c.nibble-four.ensures.value
@@ -24,7 +24,7 @@ returns-then-not-is_set-clause-best c =
     l.invariant.at c.read-node.ensures.node c.nibble-four.ensures.value c.longest_bit-bit.ensures.best l.invariant.best c.longer-best.ensures.place)
 
 pub loop-depth-preserved : goal.loop-depth-preserved
-loop-depth-preserved c =
+loop-depth-preserved g c =
     let N = cell c.args.self.now.pool.nodes in
     let l = c.loop-depth in
     record {
@@ -37,6 +37,6 @@ loop-depth-preserved c =
     }
 
 pub place-index-requires : goal.place-index-requires
-place-index-requires c =
+place-index-requires g c =
     child_used (cell c.args.self.now.pool.nodes) (cell c.args.self.now.pool.results) c.loop-depth.index c.read-node.result c.nibble-four.result c.rank-below.result
     c.requires.sound c.read-node.ensures.node c.rank-below.ensures.value (c.is_set.ensures.0 c.if-not-is_set.false)

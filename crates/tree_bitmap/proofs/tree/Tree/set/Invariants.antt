@@ -4,7 +4,7 @@ use Rattle.tree_bitmap.specs.Tree.{blank, rows, node_place, IsSoundTree}
 use Rattle.tree_bitmap.proofs.tree.Tree.set.Given as goal
 
 abbrev pub invariant-loop-d : goal.invariant-loop-d
-invariant-loop-d l = record {
+invariant-loop-d g l = record {
   sound : IsSoundTree l.self;
   at : node_place l.self l.path l.d ≡ Some l.index;
   results : room l.self.pool.results ≡ room l.fn.self.pool.results;

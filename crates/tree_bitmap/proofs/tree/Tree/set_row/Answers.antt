@@ -6,7 +6,7 @@ use Rattle.tree_bitmap.proofs.PrefixRows.{sets_entry_at}
 use Rattle.tree_bitmap.proofs.tree.Tree.set_row.Goals as goal
 
 pub returns-clause-ok : goal.returns-clause-ok
-returns-clause-ok c =
+returns-clause-ok g c =
     on_ok_weaker c.set.result
     (λ sets. table_rows-put (entry_in c.args.self.now) c.args.prefix c.args.entry (entry_in c.set.new.self) c.addr.ensures.valid
     (sets_entry_at (rows c.args.self.now) (rows c.set.new.self) c.args.prefix c.args.entry c.path_of.result c.len.result c.addr.ensures.valid
@@ -14,7 +14,7 @@ returns-clause-ok c =
     c.set.ensures.ok
 
 pub returns-clause-err : goal.returns-clause-err
-returns-clause-err c =
+returns-clause-err g c =
     on_err_weaker c.set.result
     (λ same. table_rows-same (entry_in c.set.new.self) (entry_in c.args.self.now) (λ q valid. same (q.addr * 16) q.len))
     c.set.ensures.err

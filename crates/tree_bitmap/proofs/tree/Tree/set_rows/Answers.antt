@@ -7,20 +7,20 @@ use Rattle.tree_bitmap.proofs.PrefixRows.{with_one_more, with_all, not_ok}
 use Rattle.tree_bitmap.proofs.tree.Tree.set_rows.Goals as goal
 
 pub loop-prefix-init : goal.loop-prefix-init
-loop-prefix-init c = record { sound = c.requires; nodes = omega arith; results = omega arith; rows = refl }
+loop-prefix-init g c = record { sound = c.requires; nodes = omega arith; results = omega arith; rows = refl }
 
 pub set_row-requires : goal.set_row-requires
-set_row-requires c = c.loop-prefix.invariant.sound
+set_row-requires g c = c.loop-prefix.invariant.sound
 
 pub returns-in_err-set_row-clause-full : goal.returns-in_err-set_row-clause-full
-returns-in_err-set_row-clause-full c = λ nodes results.
+returns-in_err-set_row-clause-full g c = λ nodes results.
     absurd (not_ok c.in_err-set_row.was
     (c.set_row.ensures.full
     (omega (arith, nodes, c.loop-prefix.invariant.nodes, c.loop-prefix-test.true))
     (omega (arith, results, c.loop-prefix.invariant.results, c.loop-prefix-test.true))))
 
 pub loop-prefix-preserved : goal.loop-prefix-preserved
-loop-prefix-preserved c =
+loop-prefix-preserved g c =
     let row = c.loop-prefix-item.result in
     let table = rows_in c.args.self.now in
     record {
@@ -32,9 +32,9 @@ loop-prefix-preserved c =
     }
 
 pub returns-clause-sound : goal.returns-clause-sound
-returns-clause-sound c = c.loop-prefix.invariant.sound
+returns-clause-sound g c = c.loop-prefix.invariant.sound
 
 pub returns-clause-ok : goal.returns-clause-ok
-returns-clause-ok c =
+returns-clause-ok g c =
     let at : c.loop-prefix.prefix-index ≡ length c.args.rows.now = omega (arith, c.loop-prefix-test.false, c.loop-prefix.auto.prefix-index-end) in
     c.loop-prefix.invariant.rows ∙ ap (λ n. with_rows (take n c.args.rows.now) (rows_in c.args.self.now)) at ∙ with_all c.args.rows.now (rows_in c.args.self.now)

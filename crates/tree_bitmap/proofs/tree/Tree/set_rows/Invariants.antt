@@ -5,7 +5,7 @@ use Rattle.tree_bitmap.specs.Tree.{IsSoundTree, rows_in}
 use Rattle.tree_bitmap.proofs.tree.Tree.set_rows.Given as goal
 
 abbrev pub invariant-loop-prefix : goal.invariant-loop-prefix
-invariant-loop-prefix l = record {
+invariant-loop-prefix g l = record {
   sound : IsSoundTree l.self;
   nodes : room l.fn.self.pool.nodes ≤ room l.self.pool.nodes + 23 * l.prefix-index;
   results : room l.fn.self.pool.results ≤ room l.self.pool.results + 15 * l.prefix-index;
