@@ -17,6 +17,8 @@ mod publications;
 #[cfg(test)]
 mod queues;
 #[cfg(test)]
+mod refusals;
+#[cfg(test)]
 mod tickets;
 #[cfg(test)]
 mod traces;

@@ -9,7 +9,7 @@ use publication::{
     Answer, Entry, ImageReader, ImageWriter, Job, Naming, NoImage, NoMemory, OpenFault, Patch,
     Prefix, ReadGate, Told, Unnamed, close_all, open, open_all,
 };
-use std::alloc::Global;
+use std::alloc::{Allocator, Global};
 use std::marker::Brand;
 use std::process::Abort;
 use std::sync::Wait;
@@ -21,12 +21,12 @@ use std::time::{Clock, Duration};
 use tree_bitmap::Image;
 use tree_bitmap::parts::empty;
 
-fn via(port: u8) -> Entry {
+pub(crate) fn via(port: u8) -> Entry {
     Entry::Via { port, session: 1 }
 }
 
 // The answer that a prefix's row gives.
-fn found(generation: u64, prefix: Prefix, entry: Entry) -> Result<Answer, NoImage> {
+pub(crate) fn found(generation: u64, prefix: Prefix, entry: Entry) -> Result<Answer, NoImage> {
     Ok(Answer {
         generation,
         matched: Some((prefix, entry)),
@@ -34,10 +34,10 @@ fn found(generation: u64, prefix: Prefix, entry: Entry) -> Result<Answer, NoImag
 }
 
 // Publishes rows, where nothing waits.
-fn set<B: Naming, R: Wait>(
+pub(crate) fn set<B: Naming, A: Allocator + Copy, R: Wait>(
     rt: &R,
-    alloc: Global,
-    writer: &mut ImageWriter<B>,
+    alloc: A,
+    writer: &mut ImageWriter<B, A>,
     rows: &[(Prefix, Entry)],
 ) -> Result<Told<B>, NoMemory>
     requires { writer.old.waiting ≡ [] }
@@ -48,32 +48,6 @@ fn set<B: Naming, R: Wait>(
         ⊎ (prefixes_of writer.new.waiting ≡ map (λ r. r.0) rows.now)) }
 {
     let rows = Vec::from_slice(alloc, rows)?;
-    let generation = writer.generation();
-    if generation == u64::MAX {
-        return Err(NoMemory);
-    }
-    let generation = generation + 1;
-    writer.publish(rt, Patch { generation, rows })
-}
-
-// Publishes the first rows; where that is refused, others for the same prefixes, which may wait.
-fn set_again<B: Naming, R: Wait>(
-    rt: &R,
-    alloc: Global,
-    writer: &mut ImageWriter<B>,
-    first: &[(Prefix, Entry)],
-    others: &[(Prefix, Entry)],
-) -> Result<Told<B>, NoMemory>
-    requires empty { writer.old.waiting ≡ [] }
-    requires same { map (λ r. r.0) others.now ≡ map (λ r. r.0) first.now }
-    ensures told { IfOk result (λ t. t ≡ writer.new.published) }
-    ensures router { writer.new.published.router ≡ writer.old.published.router }
-    ensures ok { OnOk result (writer.new.waiting ≡ []) }
-{
-    let rows = Vec::from_slice(alloc, others)?;
-    let Err(_) = set(rt, alloc, writer, first) else {
-        return Ok(writer.tell());
-    };
     let generation = writer.generation();
     if generation == u64::MAX {
         return Err(NoMemory);
@@ -114,64 +88,12 @@ fn three_patches<B: Naming, R: Wait + Abort>(
     Ok(())
 }
 
-// The second publication is refused where an allocation fails there. Then the third shows its rows
-// with generation 2, else with generation 3.
-fn a_patch_that_waits<B: Naming, R: Wait + Abort>(
-    rt: &R,
-    alloc: Global,
-    writer: &mut ImageWriter<B>,
-    reader: &mut ImageReader<B>,
-) -> Result<(), Fail>
-    requires empty { writer.old.waiting ≡ [] }
-    requires router { reader.old.router ≡ writer.old.published.router }
-{
-    let wide = Prefix::parse("10.0.0.0/8")?;
-    let narrow = Prefix::parse("10.1.0.0/16")?;
-    let (one, two) = (parse_addr("10.0.0.1")?, parse_addr("10.1.0.1")?);
-    let told = set(rt, alloc, writer, &[(wide, via(0))])?;
-    reader.learn(&told);
-    assert_eq!(rt; reader.lookup(one), found(1, wide, via(0)));
-    assert_eq!(rt; reader.lookup(two), found(1, wide, via(0)));
-    let middle = [(wide, via(1)), (narrow, via(1))];
-    let last = [(wide, Entry::Unreachable), (narrow, via(2))];
-    let told = set_again(rt, alloc, writer, &middle, &last)?;
-    if told.generation() == 2 && reader.lookup(two) == found(2, narrow, via(1)) {
-        set(rt, alloc, writer, &last)?;
-    }
-    let generation = writer.generation();
-    reader.learn(&writer.tell());
-    assert_eq!(rt;
-        reader.lookup(one),
-        found(generation, wide, Entry::Unreachable)
-    );
-    assert_eq!(rt; reader.lookup(two), found(generation, narrow, via(2)));
-    Ok(())
-}
-
-fn show<B: Naming, R: Wait + Abort>(
-    rt: &R,
-    alloc: Global,
-    writer: &mut ImageWriter<B>,
-    reader: &mut ImageReader<B>,
-    waits: bool,
-) -> Result<(), Fail>
-    requires empty { writer.old.waiting ≡ [] }
-    requires router { reader.old.router ≡ writer.old.published.router }
-{
-    if waits {
-        a_patch_that_waits(rt, alloc, writer, reader)
-    } else {
-        three_patches(rt, alloc, writer, reader)
-    }
-}
-
 // At the second of two routers.
 fn at_second<B: Naming, R: Wait + Abort>(
     rt: &R,
     alloc: Global,
     unnamed: Vec<Unnamed>,
     images: Vec<Image>,
-    waits: bool,
 ) -> Result<(), Fail>
     requires name { unnamed.items ≡ B.books }
     requires rows { map (λ i. i.rows) images.items ≡ B.openings }
@@ -179,12 +101,12 @@ fn at_second<B: Naming, R: Wait + Abort>(
     requires each { vec_len unnamed ≡ 2 }
     requires two { vec_len images ≡ 2 }
 {
-    let Ok((mut writers, mut lists)) = open_all::<B, R>(rt, alloc, unnamed, images, 1) else {
+    let Ok((mut writers, mut lists)) = open_all::<B, _, R>(rt, alloc, unnamed, images, 1) else {
         return Err("open".into());
     };
     let done = match lists[1].pop() {
         None => Err("readers".into()),
-        Some(mut reader) => show(rt, alloc, &mut writers[1], &mut reader, waits),
+        Some(mut reader) => three_patches(rt, alloc, &mut writers[1], &mut reader),
     };
     close_all(rt, writers);
     done
@@ -194,14 +116,7 @@ fn at_second<B: Naming, R: Wait + Abort>(
 fn shows_three_patches(rt: HostRuntime) -> Result<(), Fail> {
     let alloc = rt.alloc();
     let images = vec![in alloc; empty(alloc)?, empty(alloc)?]?;
-    at_second::<Brand, _>(&rt, alloc, Unnamed::many(alloc, 2)?, images, false)
-}
-
-#[test]
-fn shows_what_waited(rt: HostRuntime) -> Result<(), Fail> {
-    let alloc = rt.alloc();
-    let images = vec![in alloc; empty(alloc)?, empty(alloc)?]?;
-    at_second::<Brand, _>(&rt, alloc, Unnamed::many(alloc, 2)?, images, true)
+    at_second::<Brand, _>(&rt, alloc, Unnamed::many(alloc, 2)?, images)
 }
 
 // Publishes 200 patches of two rows.
@@ -252,7 +167,7 @@ fn race<B: Naming + Send + Sync, R: Threads + Wait + Abort + Sync>(
     let wide = Prefix::parse("10.0.0.0/8")?;
     let narrow = Prefix::parse("10.1.0.0/16")?;
     let addr = parse_addr("10.1.0.1")?;
-    let Ok((mut writer, mut readers)) = open::<B, R>(rt, alloc, unnamed, 0, image, 1) else {
+    let Ok((mut writer, mut readers)) = open::<B, _, R>(rt, alloc, unnamed, 0, image, 1) else {
         return Err("open".into());
     };
     let Some(reader) = readers.pop() else {
@@ -421,7 +336,7 @@ fn publish_while_held<B: Naming + Send + Sync, R: Threads + Wait + Clock + Abort
 {
     let wide = Prefix::parse("10.0.0.0/8")?;
     let addr = parse_addr("10.0.0.1")?;
-    let Ok((mut writer, mut readers)) = open::<B, R>(rt, alloc, unnamed, 0, image, 2) else {
+    let Ok((mut writer, mut readers)) = open::<B, _, R>(rt, alloc, unnamed, 0, image, 2) else {
         return Err("open".into());
     };
     let (Some(mut first), Some(second)) = (readers.pop(), readers.pop()) else {

@@ -52,7 +52,7 @@ fn back<B: Naming>(put: Result<(), Job<B>>) -> Option<u64> {
 }
 
 fn in_order<B: Naming, R: Wait + Abort>(rt: &R, alloc: Global, told: &Told<B>) -> Result<(), Fail> {
-    let (mut injector, mut takers) = PacketQueue::new::<B>(alloc, 2)?;
+    let (mut injector, mut takers) = PacketQueue::new::<B, _>(alloc, 2)?;
     assert_eq!(rt; injector.workers(), 2);
     let mut second = takers.pop().ok_or("two")?;
     let mut first = takers.pop().ok_or("two")?;
@@ -79,7 +79,7 @@ fn left_of<B: Naming, R: Wait + Abort>(
     put: u64,
     take: u64,
 ) -> Result<u64, Fail> {
-    let (mut injector, mut takers) = PacketQueue::new::<B>(alloc, 3)?;
+    let (mut injector, mut takers) = PacketQueue::new::<B, _>(alloc, 3)?;
     for number in 0..put {
         assert_eq!(rt; back(injector.inject(rt, asked(number, told))), None);
     }
@@ -104,16 +104,16 @@ fn counted<B: Naming, R: Wait + Abort>(rt: &R, alloc: Global, told: &Told<B>) ->
 }
 
 fn closed<B: Naming, R: Wait + Abort>(rt: &R, alloc: Global, told: &Told<B>) -> Result<(), Fail> {
-    let (mut injector, takers) = PacketQueue::new::<B>(alloc, 0)?;
+    let (mut injector, takers) = PacketQueue::new::<B, _>(alloc, 0)?;
     assert_eq!(rt; back(injector.inject(rt, asked(1, told))), Some(1));
     assert!(rt; injector.stop(rt));
     assert_eq!(rt; reckon(injector, takers), 0);
-    let (mut injector, takers) = PacketQueue::new::<B>(alloc, 2)?;
+    let (mut injector, takers) = PacketQueue::new::<B, _>(alloc, 2)?;
     assert_eq!(rt; back(injector.inject(rt, asked(2, told))), None);
     drop(takers);
     assert_eq!(rt; back(injector.inject(rt, asked(3, told))), Some(3));
     assert!(rt; !injector.stop(rt));
-    let (mut injector, mut takers) = PacketQueue::new::<B>(alloc, 1)?;
+    let (mut injector, mut takers) = PacketQueue::new::<B, _>(alloc, 1)?;
     assert_eq!(rt; back(injector.inject(rt, asked(4, told))), None);
     drop(injector);
     let mut taker = takers.pop().ok_or("one")?;
@@ -301,7 +301,7 @@ where
         Trial::CountsWhatIsLeft => counted(&rt, alloc, told),
         Trial::Closes => closed(&rt, alloc, told),
         Trial::FeedsThreads => {
-            let (injector, takers) = PacketQueue::new::<B>(alloc, 2)?;
+            let (injector, takers) = PacketQueue::new::<B, _>(alloc, 2)?;
             hundred(rt, alloc, told, injector, takers)
         }
     }
@@ -322,7 +322,7 @@ where
     requires generation { image.generation ≡ 0 }
     requires rows { image.rows ≡ opening_of B.openings 0 }
 {
-    let Ok((writer, _)) = open::<B, R>(&rt, alloc, unnamed, 0, image, 0) else {
+    let Ok((writer, _)) = open::<B, _, R>(&rt, alloc, unnamed, 0, image, 0) else {
         return Err("open".into());
     };
     let told = writer.tell();

@@ -256,7 +256,7 @@ where
     requires each { vec_len unnamed ≡ 2 }
     requires two { vec_len images ≡ 2 }
 {
-    let Ok((writers, lists)) = open_all::<B, R>(&rt, alloc, unnamed, images, workers) else {
+    let Ok((writers, lists)) = open_all::<B, _, R>(&rt, alloc, unnamed, images, workers) else {
         return Err("open".into());
     };
     let tolds = Tolds {

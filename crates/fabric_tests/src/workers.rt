@@ -218,7 +218,7 @@ fn works<B: Naming, R: Wait + Abort>(
     port: ForwardPort<B>,
     stops: bool,
 ) -> Result<(), Fail> {
-    let (mut injector, mut takers) = PacketQueue::new::<B>(alloc, 1)?;
+    let (mut injector, mut takers) = PacketQueue::new::<B, _>(alloc, 1)?;
     put(rt, &mut injector, told, 5)?;
     if stops {
         assert!(rt; injector.stop(rt));
@@ -320,7 +320,7 @@ where
     B: Naming + Send + Sync,
     R: Threads + Wait + Clock + Abort + Sync,
 {
-    let (mut injector, mut takers) = PacketQueue::new::<B>(alloc, 2)?;
+    let (mut injector, mut takers) = PacketQueue::new::<B, _>(alloc, 2)?;
     put(rt, &mut injector, told, 2)?;
     assert!(rt; injector.stop(rt));
     match (takers.pop(), takers.pop()) {
@@ -336,7 +336,7 @@ fn goes_on<B: Naming, R: Wait + Abort>(
     told: &Told<B>,
     port: ForwardPort<B>,
 ) -> Result<(), Fail> {
-    let (mut injector, mut takers) = PacketQueue::new::<B>(alloc, 1)?;
+    let (mut injector, mut takers) = PacketQueue::new::<B, _>(alloc, 1)?;
     put(rt, &mut injector, told, 5)?;
     drop(injector);
     let taker = takers.pop().ok_or("taker")?;
@@ -398,7 +398,7 @@ where
     requires openings { B.openings ≡ image.rows ∷ [] }
     requires generation { image.generation ≡ 0 }
 {
-    let Ok((mut writer, mut readers)) = open::<B, R>(rt, alloc, unnamed, 0, image, 3) else {
+    let Ok((mut writer, mut readers)) = open::<B, _, R>(rt, alloc, unnamed, 0, image, 3) else {
         return Err("open".into());
     };
     let done = match (readers.pop(), readers.pop()) {

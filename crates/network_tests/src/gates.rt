@@ -4,7 +4,7 @@ use std::process::Abort;
 use std::test::Fail;
 
 // An update that leaves by this port.
-fn update(port: u8) -> Result<Held, Fail> {
+pub(crate) fn update(port: u8) -> Result<Held, Fail> {
     let message = Message {
         kind: Kind::Update,
         prefix: Prefix::new(0x0a00_0000, 8)?,

@@ -1,5 +1,5 @@
 //! Tests of addresses, costs, links, machines, routers, worlds and images, each through its public
-//! surface.
+//! surface, and of calls that are refused for want of memory.
 #![tactic(auto)]
 
 #[cfg(test)]
@@ -20,6 +20,8 @@ mod node_pools;
 mod patches;
 #[cfg(test)]
 mod pools;
+#[cfg(test)]
+mod refusals;
 #[cfg(test)]
 mod replies;
 #[cfg(test)]

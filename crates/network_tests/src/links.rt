@@ -1,11 +1,11 @@
 use link_fifo::{LinkRefusal, Links, Put};
 use network_model::{Cost, Distance, End, Item, Kind, LinkSpec, Message, Prefix};
-use std::alloc::Global;
+use std::alloc::Allocator;
 use std::process::Abort;
 use std::test::Fail;
 
 // One link of the routers 3 and 7, at cost 5 from the first and 9 from the other.
-fn one_link(alloc: Global) -> Result<Links, Fail> {
+pub(crate) fn one_link<A: Allocator + Copy>(alloc: A) -> Result<Links<A>, Fail> {
     let spec = LinkSpec {
         a: 3,
         b: 7,

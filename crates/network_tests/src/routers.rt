@@ -1,10 +1,13 @@
-use network_model::{Cost, Distance, Entry, Item, Kind, Message, Port, Prefix};
+use network_model::{Cost, Distance, Entry, Item, Kind, Message, Port, Prefix, SmallAllocator};
 use router_core::Router;
 use std::alloc::Global;
 use std::test::Fail;
 
 // A router with one port, at cost 5, that is down.
-fn one_port(alloc: Global, attachments: &[(Prefix, Cost)]) -> Result<Router, Fail> {
+pub(crate) fn one_port<A: SmallAllocator>(
+    alloc: A,
+    attachments: &[(Prefix, Cost)],
+) -> Result<Router<A>, Fail> {
     let cost = Cost::new(5)?;
     let port = Port {
         up: false,
@@ -16,7 +19,7 @@ fn one_port(alloc: Global, attachments: &[(Prefix, Cost)]) -> Result<Router, Fai
 }
 
 // Takes the item, where it may be taken.
-fn take(router: &mut Router, item: Item) -> Result<(), Fail> {
+pub(crate) fn take<A: SmallAllocator>(router: &mut Router<A>, item: Item) -> Result<(), Fail> {
     if !router.can_take(0, &item) {
         return Err("the item may not be taken".into());
     }
@@ -24,19 +27,21 @@ fn take(router: &mut Router, item: Item) -> Result<(), Fail> {
     Ok(())
 }
 
-// The link comes up, and its other end tells of 10.0.0.0/8.
-fn meets_an_update(router: &mut Router) -> Result<(), Fail> {
-    let up = Item::Up {
+// The link comes up.
+pub(crate) fn up() -> Result<Item, Fail> {
+    Ok(Item::Up {
         session: 1,
         cost: Cost::new(5)?,
-    };
-    take(router, up)?;
-    let update = Message {
+    })
+}
+
+// Its other end tells of 10.0.0.0/8.
+pub(crate) fn ten_is_there() -> Result<Item, Fail> {
+    Ok(Item::Message(Message {
         kind: Kind::Update,
         prefix: Prefix::parse("10.0.0.0/8")?,
         value: Distance::ZERO,
-    };
-    take(router, Item::Message(update))
+    }))
 }
 
 #[test]
@@ -47,7 +52,8 @@ fn learns_a_prefix(rt: HostRuntime) -> Result<(), Fail> {
         session: 1,
     };
     let mut router = one_port(rt.alloc(), &[])?;
-    meets_an_update(&mut router)?;
+    take(&mut router, up()?)?;
+    take(&mut router, ten_is_there()?)?;
     assert_eq!(rt; router.table().get(ten), Some(via));
     assert_eq!(rt; router.patch_rows(rt.alloc())?.len(), 1);
     assert_eq!(rt; (router.held(), router.ripe()), (1, 0));

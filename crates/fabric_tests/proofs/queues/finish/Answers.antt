@@ -21,7 +21,7 @@ loop-thread-preserved g c =
     let kept = c.join-taker.ensures in
     let now = c.push.new.self.items in
     let pushed = c.in_ok-push.ensures.items in
-    let P : Taker _ → Type 0 = λ t. takes_from t ≡ puts_into c.args.injector in
+    let P : Taker _ _ → Type 0 = λ t. takes_from t ≡ puts_into c.args.injector in
     let Q : PromisedHandle (Worked _) (GoesOn _) → Type 0 = λ h. takes_from h.promise.was.value ≡ puts_into c.args.injector in
     let M : PromisedHandle (Worked _) (GoesOn _) → Type 0 = λ h. taken_by h.promise.was.value ≡ [] in
     let from = c.loop-thread.invariant.1 in
@@ -32,7 +32,7 @@ loop-thread-preserved g c =
       (let p = c.loop-thread.invariant.3 in let q = c.in-Some.ensures.cases in let l = c.in_ok-push.ensures.len in omega arith),
       (λ h.
           let p = c.loop-thread.invariant.4 h in
-          let s = sum_pushed (λ (t : Taker _). sum_by h (jobs_of (taken_by t))) now takers taker pushed in
+          let s = sum_pushed (λ (t : Taker _ _). sum_by h (jobs_of (taken_by t))) now takers taker pushed in
           let t = sum_appended h c.append.new.self.items c.loop-thread.all.items jobs.items c.in_ok-append.ensures.items in
           let v = sum_appended h (jobs_of (taken_by taker)) (jobs_of (taken_by thread.promise.was.value)) jobs.items kept.1 in
           let n = ap (λ ms. sum_by h (jobs_of ms)) (all_last M running rest thread popped nothing) in omega arith),

@@ -14,9 +14,9 @@ reckon-requires g c =
     let taker = c.in-Some.taker in
     let rest = c.pop.new.self.items in
     let popped = c.in-Some.ensures.items in
-    let P : Taker _ → Type 0 = λ t. takes_from t ≡ puts_into c.in_ok-injector.injector in
-    let Q : Taker _ → Type 0 = λ t. takes_from t ≡ puts_into c.stop.new.self in
-    let from : (t : Taker _) → P t → Q t = λ t e. e ∙ sym (stopped.0 ∙ same.0) in (
+    let P : Taker _ _ → Type 0 = λ t. takes_from t ≡ puts_into c.in_ok-injector.injector in
+    let Q : Taker _ _ → Type 0 = λ t. takes_from t ≡ puts_into c.stop.new.self in
+    let from : (t : Taker _ _) → P t → Q t = λ t e. e ∙ sym (stopped.0 ∙ same.0) in (
       (let p = c.in-Some.ensures.cases in let l = c.in_ok-push.ensures.len in omega arith),
       all_pushed Q c.push.new.self.items rest c.loop.taker c.in_ok-push.ensures.items (λ k d l. from (get_or rest k d) (all_front P takers rest taker popped all.1 k d l))
           (from c.loop.taker (c.loop.invariant ∙ all_last P takers rest taker popped all.1)),
