@@ -1,5 +1,6 @@
 pub mod ControlRows
 pub mod Ports
+pub mod Refused
 pub mod Meetings
 pub mod Kept
 pub mod Opening

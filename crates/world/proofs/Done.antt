@@ -1,5 +1,5 @@
 -- What the answer of a call on a link, a port or a router says of the step that it is done for.
-use Rattle.std.specs.Prelude.{◌≡◌, ℕ, ◌<◌, Bool, true, false, not, ◌&&◌, ◌==◌, if◌then◌else◌, nat_lt, List, [], ◌∷◌, length, Option, Some, None, Result, Ok, Err, slice_get, is_none, is_ok, option_and_then, option_map, MatchOption, IfOk, IfErr, OnOk, OnSome, IsErrAnd, OnErr, MatchBool, get_or, set}
+use Rattle.std.specs.Prelude.{◌≡◌, ℕ, ◌<◌, Bool, true, false, not, ◌&&◌, ◌==◌, if◌then◌else◌, nat_lt, List, [], ◌∷◌, length, Option, Some, None, Result, Ok, Err, slice_get, is_none, is_ok, option_and_then, option_map, MatchOption, IfOk, IfErr, OnOk, OnSome, IsErrAnd, MatchBool, get_or, set}
 use Rattle.std.specs.Option.{option_map_or, ok_or}
 use Rattle.std.proofs.Common.{refl, sym, ap, subst, ◌∙◌, arith, inl, inr}
 use Rattle.std.proofs.Math.Bool.{and-false}
@@ -365,11 +365,6 @@ found_no_memory w s r lawful failed = subst (λ c. IsDoneOr c r) (sym (Lawful_to
     by_result : (r : Result (Unit {0}) Refusal) → IsErrAnd r (λ e. e ≡ Refusal.NoMemory) → IsDoneOr None r
     by_result (Ok x) none = absurd none
     by_result (Err e) full = full
-
--- what is so on Err is so of a call that gave up
-pub gave_up : {X E P : Type 0} (r : Result X E) → P → OnErr r P
-gave_up (Ok x) holds = tt
-gave_up (Err e) holds = holds
 
 -- an element that is written back as it was read changes nothing
 pub written_back : {A : Type 0} (xs : List A) (i : ℕ) {x y : A} → x ≡ get_or xs i x → y ≡ x → set xs i y ≡ xs

@@ -1,6 +1,6 @@
 use Rattle.std.proofs.Common.{◌≡◌, ◌+◌, ◌≤◌, ◌++◌, true, None, length, set, List, Ok, Err, Some, sym, ap, subst, ◌∙◌, arith, refl, false, Bool}
 use Rattle.std.proofs.lemmas.Bool.Decides.{nat_tests}
-use Rattle.std.specs.Prelude.{◌||◌, nat_lt, map, is_some, OnErr, Result}
+use Rattle.std.specs.Prelude.{◌||◌, nat_lt, map, is_some}
 use Rattle.std.specs.List.{insert}
 use Rattle.std.specs.FinMap.{find as row_of, put, is_sorted}
 use Rattle.ipv4_prefix.specs.Prefix.{Prefix, prefix_cmp}
@@ -16,6 +16,7 @@ use Rattle.network_model.proofs.RowLaws.{sorted-map}
 use Rattle.route_table.proofs.PrefixPlaces.{found_row, written_row, missed_row, new_row}
 use Rattle.router_core.specs.Parts.{machines_of, router_of, ups, port_ups, ups_after, IsKept}
 use Rattle.router_core.specs.Router.{IsTimelyAt}
+use Rattle.router_core.proofs.Refused.{gave_up}
 use Rattle.router_core.proofs.Ports.{ups-neighbours}
 use Rattle.router_core.proofs.Kept.{kept-meeting}
 use Rattle.router_core.proofs.Opening.{machines_of-put}
@@ -166,20 +167,16 @@ returns-in_ok-reserve-in-Err-3-clause-ok g c = told_first g c ∙ ap (router_mee
 
 -- ---- a machine that is opened, and finds no room
 
-found_no_room : {X E P : Type 0} (r : Result X E) → P → OnErr r P
-found_no_room (Ok x) p = tt
-found_no_room (Err e) p = p
-
 pub returns-in_err-reserve-in-Err-clause-err : goal.returns-in_err-reserve-in-Err-clause-err
 returns-in_err-reserve-in-Err-clause-err g c =
     let i = c.self.inside in
-    found_no_room c.from_residual-in_err-reserve-in-Err.result
+    gave_up c.from_residual-in_err-reserve-in-Err.result
     (ap (λ (ms : List (Prefix × State)). router_of i.ports.items ms i.effects.table.table i.effects.gate.gate i.generation) c.reserve-in-Err.ensures.items ∙ c.self.view_is)
 
 pub returns-in_err-reserve-in-Err-2-clause-err : goal.returns-in_err-reserve-in-Err-2-clause-err
 returns-in_err-reserve-in-Err-2-clause-err g c =
     let i = c.self.inside in
-    found_no_room c.from_residual-in_err-reserve-in-Err-2.result
+    gave_up c.from_residual-in_err-reserve-in-Err-2.result
     (ap (λ (ms : List (Prefix × State)). router_of i.ports.items ms c.reserve-in-Err-2.new.self.table i.effects.gate.gate i.generation) c.reserve-in-Err.ensures.items
     ∙ ap (λ t. router_of i.ports.items i.machines.items t i.effects.gate.gate i.generation) c.reserve-in-Err-2.ensures.table
     ∙ c.self.view_is)
@@ -188,7 +185,7 @@ pub returns-in_err-reserve-in-Err-3-clause-err : goal.returns-in_err-reserve-in-
 returns-in_err-reserve-in-Err-3-clause-err g c =
     let i = c.self.inside in
     let e = c.reserve-in-Err-3.new.self in
-    found_no_room c.from_residual-in_err-reserve-in-Err-3.result
+    gave_up c.from_residual-in_err-reserve-in-Err-3.result
     (ap (λ (ms : List (Prefix × State)). router_of i.ports.items ms e.table.table e.gate.gate i.generation) c.reserve-in-Err.ensures.items
     ∙ ap (λ t. router_of i.ports.items i.machines.items t.table e.gate.gate i.generation) c.reserve-in-Err-3.ensures.table
     ∙ ap (λ t. router_of i.ports.items i.machines.items t e.gate.gate i.generation) c.reserve-in-Err-2.ensures.table

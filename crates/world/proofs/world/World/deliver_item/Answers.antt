@@ -9,8 +9,9 @@ use Rattle.link_fifo.specs.Refusals.{step_refusal}
 use Rattle.link_fifo.proofs.Changes.{written, slice_get-read}
 use Rattle.world.specs.Kept.{IsKept}
 use Rattle.world.specs.Steps.{IsDoneOr, IsPort}
+use Rattle.router_core.proofs.Refused.{gave_up}
 use Rattle.world.proofs.Insides.{world_in}
-use Rattle.world.proofs.Done.{on_ok, port_known, can_take, item_cause, item_lawful, delivered, delivered-keeps, refused_by_link, is_done, found_no_memory, gave_up, written_back, in_bounds}
+use Rattle.world.proofs.Done.{on_ok, port_known, can_take, item_cause, item_lawful, delivered, delivered-keeps, refused_by_link, is_done, found_no_memory, written_back, in_bounds}
 use Rattle.world.proofs.world.World.deliver_item.Goals as goal
 use Rattle.world.proofs.world.World.deliver_item.Goals.{In_ok-place, After-index_mut-taker}
 use Rattle.world.proofs.world.World.deliver_item.Given as given

@@ -6,8 +6,9 @@ use Rattle.network_model.specs.Step as steps
 use Rattle.link_fifo.proofs.Changes.{written, slice_get-read}
 use Rattle.world.specs.Kept.{IsKept}
 use Rattle.world.specs.Steps.{IsDoneOr}
+use Rattle.router_core.proofs.Refused.{gave_up}
 use Rattle.world.proofs.Insides.{world_in}
-use Rattle.world.proofs.Done.{router_within, attachments_within, notice_is, no_notice, notice_lawful, noticed, noticed-keeps, refused, is_done, found_no_memory, gave_up, written_back, in_bounds}
+use Rattle.world.proofs.Done.{router_within, attachments_within, notice_is, no_notice, notice_lawful, noticed, noticed-keeps, refused, is_done, found_no_memory, written_back, in_bounds}
 use Rattle.world.proofs.world.World.deliver_notice.Goals as goal
 use Rattle.world.proofs.world.World.deliver_notice.Goals.{After-front}
 use Rattle.world.proofs.world.World.deliver_notice.Given as given

@@ -6,8 +6,9 @@ use Rattle.network_model.specs.World.{World}
 use Rattle.network_model.specs.Step as steps
 use Rattle.link_fifo.proofs.Changes.{written, slice_get-read}
 use Rattle.world.specs.Steps.{IsDoneOr, prefix_refusal}
+use Rattle.router_core.proofs.Refused.{gave_up}
 use Rattle.world.proofs.Insides.{world_in}
-use Rattle.world.proofs.Done.{known_within, detach_lawful, not_attached, refused, is_done, found_no_memory, gave_up, written_back, in_bounds}
+use Rattle.world.proofs.Done.{known_within, detach_lawful, not_attached, refused, is_done, found_no_memory, written_back, in_bounds}
 use Rattle.world.proofs.world.World.detach.Goals as goal
 use Rattle.world.proofs.world.World.detach.Goals.{In_ok-known_prefix, After-index_mut-attachments, After-detach}
 use Rattle.world.proofs.world.World.detach.Given as given
