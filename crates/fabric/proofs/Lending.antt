@@ -64,6 +64,11 @@ lent_none (x ∷ xs) (suc i) = lent_none xs i
 pub lent_there : (desks : List Desk) (i : ℕ) (d : Desk) → slice_get desks i ≡ Some d → lent_at (all_lent desks) i ≡ d.out
 lent_there desks i d at = ap (λ o. option_map_or (λ l. l) o None) (slice_get-map (λ (e : Desk). e.out) desks i ∙ ap (option_map (λ (e : Desk). e.out)) at)
 
+-- a delivery and a publication wait for their router's writer
+pub awaits_at : (f : Fabric) (s : Step) (i k : ℕ) → i ≡ k → ((q : ℕ) × (s ≡ Deliver k q)) ⊎ (s ≡ Publish k) → is_lent f i ≡ awaits_writer f s
+awaits_at f s i k same (inl delivers) = ap (is_lent f) same ∙ sym (ap (awaits_writer f) delivers.1)
+awaits_at f s i k same (inr publishes) = ap (is_lent f) same ∙ sym (ap (awaits_writer f) publishes)
+
 -- a writer that is out after one went out or came back is that one, or was out
 pub lent_set : (xs : List (Option Patch)) (i k : ℕ) (y : Option Patch) → is_some (lent_at (set xs i y) k) ≡ true → ((k ≡ i) × (is_some y ≡ true)) ⊎ (is_some (lent_at xs k) ≡ true)
 lent_set [] i k y out = inr out

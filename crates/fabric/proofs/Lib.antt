@@ -8,5 +8,6 @@ pub mod Dealing
 pub mod Showing
 pub mod Opening
 pub mod Publishing
+pub mod Causes
 pub mod Lending
 pub mod Seats

@@ -20,7 +20,6 @@ use Rattle.network_model.proofs.ListLaws.{None_not_Some, Some_injective}
 use Rattle.packet_loops.proofs.WorldLaws.{next-shape}
 use Rattle.packet_loops.proofs.Wiring.{wired}
 use Rattle.packet_loops.proofs.Runs.{reached}
-use Rattle.std.specs.Global.{Global}
 use Rattle.image_patch.specs.declared.Patch.{Patch as PatchFields}
 use Rattle.image_patch.specs.Patches.{patched}
 use Rattle.publication.specs.declared.known.Known.{Known}
@@ -64,7 +63,7 @@ control_follows n journal w valid runs p i r at = ((reached n (wired n valid) p 
 -- ---- the patch of a publication
 
 -- the patch is the one by which router i, whose writer is x, would publish
-pub record IsDue (n : Network) (journal : List Step) (w : World) (openings : List (List (Prefix × Entry))) (writers : List Writing) (i : ℕ) (x : Writing) (patch : PatchFields Global) : Type 0 where
+pub record IsDue {A : Type 0} (n : Network) (journal : List Step) (w : World) (openings : List (List (Prefix × Entry))) (writers : List Writing) (i : ℕ) (x : Writing) (patch : PatchFields A) : Type 0 where
   pub valid : IsNetwork n
   pub runs : Runs (opening n) journal w
   pub shown : shown_images openings writers ≡ images_in_force w
@@ -76,7 +75,7 @@ pub record IsDue (n : Network) (journal : List Step) (w : World) (openings : Lis
   pub rows : patch.rows.items ≡ rows_to_set (router.table) (prefixes_of x.waiting)
 
 -- what is due, said of the world and the writers themselves
-pub due_there : (v w : World) (ws writers : List Writing) (i : ℕ) (waiting : List Prefix) (o : Option (PatchFields Global)) (patch : PatchFields Global) → v ≡ w → waiting ≡ waiting_at ws i → ws ≡ writers → o ≡ Some patch
+pub due_there : {A : Type 0} (v w : World) (ws writers : List Writing) (i : ℕ) (waiting : List Prefix) (o : Option (PatchFields A)) (patch : PatchFields A) → v ≡ w → waiting ≡ waiting_at ws i → ws ≡ writers → o ≡ Some patch
     → IsPatchDue v i waiting o → IsPatchDue w i (waiting_at writers i) (Some patch)
 due_there v w ws writers i waiting o patch worlds waits same some due =
     subst (λ u. IsPatchDue u i (waiting_at writers i) (Some patch)) worlds
@@ -88,8 +87,8 @@ pub writer_within : (n : Network) (journal : List Step) (w : World) (openings : 
 writer_within n journal w openings writers lent capacity kept i r at =
     subst (λ m. i < m) (length-map writers (λ (z : Writing). image_of openings z.published)) (image_at (fabric_of n journal w (shown_images openings writers) lent) capacity kept i r at)
 
-pub is_due_by : (n : Network) (journal : List Step) (w : World) (openings : List (List (Prefix × Entry))) (writers : List Writing) (lent : List (Option Patch)) (capacity : ℕ) → IsKept (fabric_of n journal w (shown_images openings writers) lent) capacity
-    → AreWriters w writers → IsNetwork n → (i : ℕ) (x : Writing) → x ≡ get_or writers i x → (patch : PatchFields Global) → IsPatchDue w i (waiting_at writers i) (Some patch) → IsDue n journal w openings writers i x patch
+pub is_due_by : {A : Type 0} (n : Network) (journal : List Step) (w : World) (openings : List (List (Prefix × Entry))) (writers : List Writing) (lent : List (Option Patch)) (capacity : ℕ) → IsKept (fabric_of n journal w (shown_images openings writers) lent) capacity
+    → AreWriters w writers → IsNetwork n → (i : ℕ) (x : Writing) → x ≡ get_or writers i x → (patch : PatchFields A) → IsPatchDue w i (waiting_at writers i) (Some patch) → IsDue n journal w openings writers i x patch
 is_due_by n journal w openings writers lent capacity kept are valid i x is patch due = record {
   valid = valid;
   runs = kept.runs;
@@ -105,7 +104,7 @@ is_due_by n journal w openings writers lent capacity kept are valid i x is patch
     there : slice_get writers i ≡ Some x
     there = slice_get-get_or writers i x (writer_within n journal w openings writers lent capacity kept i due.0 due.1) ∙ ap Some (sym is)
 
-module _ (n : Network) (journal : List Step) (w : World) (openings : List (List (Prefix × Entry))) (writers : List Writing) (i : ℕ) (x : Writing) (patch : PatchFields Global) (D : IsDue n journal w openings writers i x patch) where
+module _ {A : Type 0} (n : Network) (journal : List Step) (w : World) (openings : List (List (Prefix × Entry))) (writers : List Writing) (i : ℕ) (x : Writing) (patch : PatchFields A) (D : IsDue n journal w openings writers i x patch) where
   abbrev r : Router
   r = D.router
 

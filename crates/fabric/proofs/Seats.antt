@@ -17,11 +17,10 @@ use Rattle.network_model.specs.declared.step.Step.TheVariants.{Publish}
 use Rattle.network_model.specs.Step.{Lawful, is_due, next, router_publishing}
 use Rattle.network_model.specs.Publication.{Image, Patch}
 use Rattle.network_model.proofs.ListLaws.{None_not_Some, Some_injective}
-use Rattle.std.specs.Global.{Global}
 use Rattle.image_patch.specs.declared.Patch.{Patch as PatchFields}
 use Rattle.image_patch.specs.Patches.{patched}
 use Rattle.publication.specs.declared.known.Known.{Known}
-use Rattle.publication.specs.Lists.{Covers, EachAt, Writing, image_of, is_named, patch_of, with_publication}
+use Rattle.publication.specs.Lists.{Covers, EachAt, Writing, image_of, is_named, patch_of, prefixes_of, with_publication}
 use Rattle.publication.specs.Outings.{HasPublished, IsOuting, Outing}
 use Rattle.publication.proofs.Outings.{named-more}
 use Rattle.publication.proofs.Places.{each_set, each_there}
@@ -45,6 +44,25 @@ writing_there desks i d at = slice_get-map (λ (e : Desk). e.writing) desks i �
 -- a desk that is read is there
 pub seat : (desks : List Desk) (i k : ℕ) (d : Desk) → k < length desks → d ≡ get_or desks k d → k ≡ i → slice_get desks i ≡ Some d
 seat desks i k d within read place = ap (slice_get desks) (sym place) ∙ slice_get-get_or desks k d within ∙ ap Some (sym read)
+
+-- there are as many desks as routers
+pub desk_count : (w : World) (openings : List (List (Prefix × Entry))) (desks : List Desk) → shown_images openings (writings desks) ≡ images_in_force w → length desks ≡ length w.routers
+desk_count w openings desks shown = sym (length-map desks (λ (d : Desk). d.writing)) ∙ sym (length-map (writings desks) (λ (x : Writing). image_of openings x.published)) ∙ ap length shown ∙ length-map w.routers image_in_force
+
+-- what waits with the writer of a desk that is there
+pub waits_there : (desks : List Desk) (i : ℕ) (d : Desk) (waiting : List Prefix) → slice_get desks i ≡ Some d → (d.out ≡ None → waiting ≡ prefixes_of (d.writing).waiting)
+    → lent_at (all_lent desks) i ≡ None → waiting ≡ waiting_at (writings desks) i
+waits_there desks i d waiting at waits inside =
+    waits (sym (lent_there desks i d at) ∙ inside)
+    ∙ ap (λ o. option_map_or (λ (x : Writing). prefixes_of x.waiting) o []) (sym (writing_there desks i d at))
+
+-- nothing, where there is none
+pub none_waits : (desks : List Desk) (i : ℕ) → slice_get desks i ≡ None → [] ≡ waiting_at (writings desks) i
+none_waits desks i past = ap (λ o. option_map_or (λ (x : Writing). prefixes_of x.waiting) o []) (sym (slice_get-map (λ (e : Desk). e.writing) desks i ∙ ap (option_map (λ (e : Desk). e.writing)) past))
+
+-- a writer that is not there is not out
+pub none_lent_at : (desks : List Desk) (i : ℕ) → slice_get desks i ≡ None → lent_at (all_lent desks) i ≡ None
+none_lent_at desks i past = ap (λ o. option_map_or (λ (l : Option Patch). l) o None) (slice_get-map (λ (e : Desk). e.out) desks i ∙ ap (option_map (λ (e : Desk). e.out)) past)
 
 -- where none is out, there is no patch
 pub none_kept : (o : Option Patch) → is_some o ≡ false → o ≡ None
@@ -84,13 +102,13 @@ module _ (n : Network) (journal : List Step) (w : World) (openings : List (List 
   desk_within i r at = subst (λ m. i < m) (length-map desks (λ (d : Desk). d.writing)) (writer_within n journal w openings (writings desks) (all_lent desks) capacity kept i r at)
 
   -- the patch that is due at a desk
-  pub due_desk : IsNetwork n → (i : ℕ) (d : Desk) → slice_get desks i ≡ Some d → (patch : PatchFields Global) → IsPatchDue w i (waiting_at (writings desks) i) (Some patch) → IsDue n journal w openings (writings desks) i d.writing patch
+  pub due_desk : {A : Type 0} → IsNetwork n → (i : ℕ) (d : Desk) → slice_get desks i ≡ Some d → (patch : PatchFields A) → IsPatchDue w i (waiting_at (writings desks) i) (Some patch) → IsDue n journal w openings (writings desks) i d.writing patch
   due_desk valid i d at patch due =
       is_due_by n journal w openings (writings desks) (all_lent desks) capacity kept are valid i d.writing (sym (get_or_from_slice_get (writings desks) i d.writing d.writing (writing_there desks i d at))) patch due
 
 -- ---- a writer goes out
 
-module _ (n : Network) (journal : List Step) (w : World) (openings : List (List (Prefix × Entry))) (desks : List Desk) (i : ℕ) (d : Desk) (patch : PatchFields Global)
+module _ {A : Type 0} (n : Network) (journal : List Step) (w : World) (openings : List (List (Prefix × Entry))) (desks : List Desk) (i : ℕ) (d : Desk) (patch : PatchFields A)
     (D : IsDue n journal w openings (writings desks) i d.writing patch) (at : slice_get desks i ≡ Some d) (inside : d.out ≡ None) where
   abbrev away : Desk
   away = desk_out (d.writing).published (patch_of patch)

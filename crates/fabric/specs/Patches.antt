@@ -5,7 +5,6 @@ use Rattle.ipv4_prefix.specs.Prefix.{Prefix, prefix_eq}
 use Rattle.network_model.specs.declared.route.Entry.{Entry}
 use Rattle.network_model.specs.World.{Router, Table, World}
 use Rattle.network_model.specs.Step.{has_row}
-use Rattle.std.specs.Global.{Global}
 use Rattle.image_patch.specs.declared.Patch.{Patch}
 use Rattle.image_patch.specs.Patches.{patched}
 use Rattle.fabric.specs.Images.{image_in_force, due_at}
@@ -15,7 +14,7 @@ abbrev pub rows_to_set : Table → List Prefix → List (Prefix × Entry)
 rows_to_set t waiting = filter (λ r. not (has_row t.published r) || list_any (λ p. prefix_eq p r.0) waiting) t.control
 
 -- the patch is the one by which router i would publish, while these prefixes wait: it makes of the image in force the one that is due; none where its publication would be refused
-abbrev pub IsPatchDue : World → ℕ → List Prefix → Option (Patch Global) → Type 0
+abbrev pub IsPatchDue : {A : Type 0} → World → ℕ → List Prefix → Option (Patch A) → Type 0
 IsPatchDue w i waiting None = due_at w i ≡ None
 IsPatchDue w i waiting (Some patch) = (r : Router) × (slice_get w.routers i ≡ Some r) × (due_at w i ≡ Some (patched patch.generation patch.rows.items (image_in_force r)))
     × (patch.rows.items ≡ rows_to_set (r.table) waiting)

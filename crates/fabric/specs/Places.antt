@@ -2,7 +2,7 @@
 use Rattle.fabric.specs.Desks.{Desk, desk_in, desk_out}
 use Rattle.fabric.specs.declared.desk.Place.{Place}
 
-module _ {B : Type 0} where
-  abbrev pub desk_of : Place B → Desk
+module _ {B A : Type 0} where
+  abbrev pub desk_of : Place B A → Desk
   desk_of (Place.In writer) = desk_in writer
   desk_of (Place.Out stub) = desk_out stub.before stub.patch

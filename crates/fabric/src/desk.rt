@@ -6,7 +6,7 @@ ghost use Rattle.publication.specs.Lists.{Covers, generation_of, image_of, patch
 ghost use Rattle.publication.specs.Outings.{IsOuting, new_outing};
 ghost use Rattle.fabric.specs.Desks.{desk_in, desk_out};
 
-use network_model::{NoMemory, Prefix};
+use network_model::{NoMemory, Prefix, SmallAllocator};
 use publication::{ImageWriter, Naming, Patch, Stub, Ticket, Told, close_all as end_all};
 use std::alloc::Global;
 use std::marker::Model;
@@ -14,18 +14,18 @@ use std::mem::replace;
 use std::sync::Wait;
 
 // Where a writer is, or what stays of it while it is out.
-enum Place<B: Naming> {
-    In(ImageWriter<B>),
-    Out(Stub<B>),
+enum Place<B: Naming, A: SmallAllocator> {
+    In(ImageWriter<B, A>),
+    Out(Stub<B, A>),
 }
 
 /// A router's writer, or what is kept of it while it is out with a ticket. It is not `Drop`: end it by
 /// `close`.
-pub struct Desk<B: Naming> {
-    place: Place<B>,
+pub struct Desk<B: Naming, A: SmallAllocator = Global> {
+    place: Place<B, A>,
 }
 
-impl<B: Naming> Model for Desk<B> {
+impl<B: Naming, A: SmallAllocator> Model for Desk<B, A> {
     ghost use Rattle.fabric.specs.Desks.{Desk as DeskState};
 
     ghost Value = { DeskState };
@@ -39,9 +39,9 @@ impl<B: Naming> Model for Desk<B> {
     ghost invariant = { λ d. ⊤ };
 }
 
-impl<B: Naming> Desk<B> {
+impl<B: Naming, A: SmallAllocator> Desk<B, A> {
     /// A writer that is in.
-    pub fn new(writer: ImageWriter<B>) -> Desk<B>
+    pub fn new(writer: ImageWriter<B, A>) -> Desk<B, A>
         ensures { result ≡ desk_in writer }
     {
         Desk {
@@ -85,7 +85,7 @@ impl<B: Naming> Desk<B> {
     }
 
     /// The writer, which is in, publishes a patch.
-    pub fn publish<R: Wait>(&mut self, rt: &R, patch: Patch) -> Result<(), NoMemory>
+    pub fn publish<R: Wait>(&mut self, rt: &R, patch: Patch<A>) -> Result<(), NoMemory>
         requires here { self.old.out ≡ None }
         requires number { patch.generation ≡ generation_of self.old.writing.published + 1 }
         requires covers { Covers (patch_of patch) self.old.writing.waiting }
@@ -109,7 +109,7 @@ impl<B: Naming> Desk<B> {
     }
 
     /// The writer, which is in, goes out with the patch, of which a copy stays.
-    pub fn lend(&mut self, patch: Patch, copy: Patch) -> Ticket<B>
+    pub fn lend(&mut self, patch: Patch<A>, copy: Patch<A>) -> Ticket<B, A>
         requires here { self.old.out ≡ None }
         requires number { patch.generation ≡ generation_of self.old.writing.published + 1 }
         requires covers { Covers (patch_of patch) self.old.writing.waiting }
@@ -129,7 +129,7 @@ impl<B: Naming> Desk<B> {
 
     /// The writer comes back. Refused, the ticket comes back: the writer is in, or it is out with another
     /// patch.
-    pub fn take_back(&mut self, ticket: Ticket<B>) -> Result<(), Ticket<B>>
+    pub fn take_back(&mut self, ticket: Ticket<B, A>) -> Result<(), Ticket<B, A>>
         ensures its { IsOk result ↔ ((self.old.out ≡ Some ticket.patch) × (self.old.writing.published.router ≡ ticket.before.router)) }
         ensures list { OnOk result (self.old.writing.published ≡ ticket.before) }
         ensures kept { OnOk result (IsOuting ticket) }
@@ -161,11 +161,11 @@ impl<B: Naming> Desk<B> {
 }
 
 /// The desks of these writers, each of which is in. Without memory it ends them.
-pub fn seat_all<B: Naming, R: Wait>(
+pub fn seat_all<B: Naming, A: SmallAllocator, R: Wait>(
     rt: &R,
-    alloc: Global,
-    writers: Vec<ImageWriter<B>>,
-) -> Result<Vec<Desk<B>>, NoMemory>
+    alloc: A,
+    writers: Vec<ImageWriter<B, A>, A>,
+) -> Result<Vec<Desk<B, A>, A>, NoMemory>
     ensures { IfOk result (λ desks. desks.items ≡ map desk_in writers.items) }
 {
     let Ok(mut desks) = Vec::with_capacity(alloc, writers.len()) else {
@@ -181,7 +181,7 @@ pub fn seat_all<B: Naming, R: Wait>(
 }
 
 /// Ends writers that are in. It waits for readers that are looking up.
-pub fn close_all<B: Naming, R: Wait>(rt: &R, desks: Vec<Desk<B>>) {
+pub fn close_all<B: Naming, A: SmallAllocator, R: Wait>(rt: &R, desks: Vec<Desk<B, A>, A>) {
     let mut desks = desks;
     while let Some(desk) = desks.pop() {
         desk.close(rt);

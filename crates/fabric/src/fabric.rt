@@ -20,7 +20,7 @@ use crate::desk::{Desk, close_all, seat_all};
 use crate::images::{opening_images, patch_due};
 use crate::ports::deal;
 use crate::watched::WatchedWorld;
-use network_model::{Answer, Prefix, Refusal, Step};
+use network_model::{Answer, Prefix, Refusal, SmallAllocator, Step};
 use publication::{ImageReader, Job, Naming, Ticket, Told, Unnamed, copy_of, open_all};
 use route_table::RouteTable;
 use std::alloc::Global;
@@ -33,22 +33,22 @@ pub const MOST_STEPS: usize = 1_000_000;
 
 /// A network that runs, with the image in force at each router, and the journal: all steps done since
 /// it was opened, in order. It is not `Drop`: end it by `close`.
-pub struct Fabric<B: Naming> {
+pub struct Fabric<B: Naming, A: SmallAllocator = Global> {
     network: Network,
-    world: WatchedWorld,
+    world: WatchedWorld<A>,
     // The writer of each router's image, or what is kept of it while it is out.
-    desks: Vec<Desk<B>>,
+    desks: Vec<Desk<B, A>, A>,
     // A reader of each router's image, for `lookup`.
-    readers: Vec<ImageReader<B>>,
+    readers: Vec<ImageReader<B, A>, A>,
     // Its room was made at the opening.
-    journal: Vec<Step>,
+    journal: Vec<Step, A>,
     // How many of its places are set aside for writers that are out.
     set_aside: usize,
     // The sum of the numbers of its steps.
     sum: u128,
 }
 
-impl<B: Naming> Model for Fabric<B> {
+impl<B: Naming, A: SmallAllocator> Model for Fabric<B, A> {
     ghost use Rattle.std.specs.Prelude.{◌≡◌, vec_capacity};
     ghost use Rattle.fabric.specs.Fabric.{Fabric as FabricState, count_lent, fabric_of, IsKept, IsSumOf};
     ghost use Rattle.fabric.specs.Desks.{all_lent, writings};
@@ -63,18 +63,18 @@ impl<B: Naming> Model for Fabric<B> {
         × (f.set_aside ≡ count_lent (all_lent f.desks.items)) };
 }
 
-impl<B: Naming> Fabric<B> {
+impl<B: Naming, A: SmallAllocator> Fabric<B, A> {
     /// Opens a network: every link is down, each prefix is known at the routers attached to it alone,
     /// whose images in force have it, and the journal is empty. It makes the room for a full journal, and gives a reader
     /// of each router's image, by the routers' numbers, to each of at most 16 workers. Refused with
     /// `NoMemory`, or with `NoReaderPlace` where an image has no place for a reader.
     pub fn open<R: Wait>(
         rt: &R,
-        alloc: Global,
+        alloc: A,
         network: Network,
-        unnamed: Vec<Unnamed>,
+        unnamed: Vec<Unnamed, A>,
         workers: u8,
-    ) -> Result<(Fabric<B>, Vec<Vec<ImageReader<B>>>), Refusal>
+    ) -> Result<(Fabric<B, A>, Vec<Vec<ImageReader<B, A>, A>, A>), Refusal>
         requires books { unnamed.items ≡ B.books }
         requires each { vec_len unnamed ≡ network.routers }
         requires openings { opening_tables network ≡ B.openings }
@@ -135,7 +135,7 @@ impl<B: Naming> Fabric<B> {
     }
 
     /// The world that the steps made.
-    pub fn world(&self) -> &World
+    pub fn world(&self) -> &World<A>
         ensures { result.now ≡ (self.now).world }
     {
         self.world.world()
@@ -243,7 +243,7 @@ impl<B: Naming> Fabric<B> {
     }
 
     /// The rows that a router has chosen and published. Refused with `UnknownRouter`.
-    pub fn table(&self, router: u16) -> Result<&RouteTable, Refusal>
+    pub fn table(&self, router: u16) -> Result<&RouteTable<A>, Refusal>
         ensures ok { IfOk result (λ t. IfSome (slice_get (self.now).world.routers router) (λ r. t.now.table ≡ r.table)) }
         ensures known { IsOk result ↔ (router < length (self.now).world.routers) }
         ensures err { IfErr result (λ e. e ≡ Refusal.UnknownRouter) }
@@ -308,7 +308,7 @@ impl<B: Naming> Fabric<B> {
     /// the journal aside. Until the writer is back, deliveries and publications at the router are refused
     /// with `Busy`. Refused, it leaves all as it was: with `JournalFull` where no place is left, with
     /// `UnknownRouter`, with `Busy` where the writer is out, with `NothingDue`, or for want of memory.
-    pub fn ticket(&mut self, router: u16) -> Result<Ticket<B>, Refusal>
+    pub fn ticket(&mut self, router: u16) -> Result<Ticket<B, A>, Refusal>
         ensures due { OnOk result (steps.Lawful (self.old).world (Step.Publish router)) }
         ensures fresh { IfOk result (λ t. (t.before.router ≡ router) × (t.is_published ≡ false)) }
         ensures in_force { IfOk result (λ t. slice_get (self.old).images router ≡ Some (image_of B.openings t.before)) }
@@ -325,7 +325,7 @@ impl<B: Naming> Fabric<B> {
         made
     }
 
-    fn make_ticket(&mut self, router: u16) -> Result<Ticket<B>, Refusal>
+    fn make_ticket(&mut self, router: u16) -> Result<Ticket<B, A>, Refusal>
         ensures due { OnOk result (steps.Lawful (self.old).world (Step.Publish router)) }
         ensures fresh { IfOk result (λ t. (t.before.router ≡ router) × (t.is_published ≡ false)) }
         ensures in_force { IfOk result (λ t. slice_get (self.old).images router ≡ Some (image_of B.openings t.before)) }
@@ -362,7 +362,7 @@ impl<B: Naming> Fabric<B> {
     /// written into the journal; else the place that was set aside is free again, and there is no step.
     /// It takes no memory. Refused, the ticket comes back, and all is as it was: the router's writer is in,
     /// or is out with another patch.
-    pub fn give_back(&mut self, ticket: Ticket<B>) -> Result<(), Ticket<B>>
+    pub fn give_back(&mut self, ticket: Ticket<B, A>) -> Result<(), Ticket<B, A>>
         ensures its { IsOk result ↔ (lent_at (self.old).lent ticket.before.router ≡ Some ticket.patch) }
         ensures done { OnOk result (MatchBool ticket.is_published (steps.Lawful (self.old).world (Step.Publish ticket.before.router)
             × (self.new ≡ after_step (with_lent self.old ticket.before.router None) (Step.Publish ticket.before.router)))
@@ -378,7 +378,7 @@ impl<B: Naming> Fabric<B> {
         done
     }
 
-    fn take_ticket(&mut self, ticket: Ticket<B>) -> Result<(), Ticket<B>>
+    fn take_ticket(&mut self, ticket: Ticket<B, A>) -> Result<(), Ticket<B, A>>
         ensures its { IsOk result ↔ (lent_at (self.old).lent ticket.before.router ≡ Some ticket.patch) }
         ensures done { OnOk result (MatchBool ticket.is_published (steps.Lawful (self.old).world (Step.Publish ticket.before.router)
             × (self.new ≡ after_step (with_lent self.old ticket.before.router None) (Step.Publish ticket.before.router)))
@@ -461,7 +461,11 @@ impl<B: Naming> Fabric<B> {
 
 // What a reader answers that has learned of this list, where it shows nothing later. Refused with
 // `Stale` where it shows something later, and with `NoImage` where it was shown nothing.
-fn ask<B: Naming>(reader: &mut ImageReader<B>, told: &Told<B>, addr: u32) -> Result<Answer, Refusal>
+fn ask<B: Naming, A: SmallAllocator>(
+    reader: &mut ImageReader<B, A>,
+    told: &Told<B>,
+    addr: u32,
+) -> Result<Answer, Refusal>
     requires { told.now.router ≡ reader.old.router }
     ensures answer { IfOk result (λ a. a ≡ seen_answer (image_of B.openings told.now) addr) }
     ensures err { IfErr result (λ e. (e ≡ Refusal.Stale) ⊎ (e ≡ Refusal.NoImage)) }
@@ -478,7 +482,7 @@ fn ask<B: Naming>(reader: &mut ImageReader<B>, told: &Told<B>, addr: u32) -> Res
 }
 
 // The prefixes that wait with a router's writer, which is in; none where there is no such router.
-fn waiting_at<B: Naming>(desks: &[Desk<B>], router: u16) -> &[Prefix]
+fn waiting_at<B: Naming, A: SmallAllocator>(desks: &[Desk<B, A>], router: u16) -> &[Prefix]
     ensures { lent_at (all_lent desks.now) router ≡ None → result.now ≡ waiting_at (writings desks.now) router }
 {
     match desks.get(usize::from(router)) {

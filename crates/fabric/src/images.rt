@@ -11,27 +11,31 @@ ghost use Rattle.fabric.specs.Patches.{IsPatchDue, rows_to_set};
 ghost use Rattle.image_patch.specs.Patches.{patched};
 
 use image_compiler::compile;
-use network_model::{Entry, NoMemory, Prefix};
+use network_model::{Entry, NoMemory, Prefix, SmallAllocator};
 use publication::Patch;
 use route_table::RouteTable;
 use router_core::Router;
-use std::alloc::Global;
 use tree_bitmap::Image;
 use world::World;
 
 // Whether a publication names the row: it differs from the one in force, or its prefix waits.
-fn is_to_set(table: &RouteTable, waiting: &[Prefix], prefix: Prefix, entry: Entry) -> bool
+fn is_to_set<A: SmallAllocator>(
+    table: &RouteTable<A>,
+    waiting: &[Prefix],
+    prefix: Prefix,
+    entry: Entry,
+) -> bool
     ensures { result ≡ (not (has_row (table.now).table.published (prefix, entry)) || list_any (λ p. prefix_eq p prefix) waiting.now) }
 {
     table.published(prefix) != Some(entry) || waiting.contains(&prefix)
 }
 
 // The rows that a publication names while these prefixes wait.
-fn rows_named(
-    alloc: Global,
-    table: &RouteTable,
+fn rows_named<A: SmallAllocator>(
+    alloc: A,
+    table: &RouteTable<A>,
     waiting: &[Prefix],
-) -> Result<Vec<(Prefix, Entry)>, NoMemory>
+) -> Result<Vec<(Prefix, Entry), A>, NoMemory>
     ensures rows { IfOk result (λ rows. rows.items ≡ rows_to_set (table.now).table waiting.now) }
     ensures patch { IfOk result (λ rows. with_rows rows.items (table.now).table.published ≡ (table.now).table.control) }
 {
@@ -47,7 +51,11 @@ fn rows_named(
 }
 
 // What a publication of the router would set in its image, did it publish now, while these prefixes wait.
-fn next_patch(alloc: Global, router: &Router, waiting: &[Prefix]) -> Result<Patch, NoMemory>
+fn next_patch<A: SmallAllocator>(
+    alloc: A,
+    router: &Router<A>,
+    waiting: &[Prefix],
+) -> Result<Patch<A>, NoMemory>
     requires { router.now.generation + 1 < 2 ^ 64 }
     ensures image { IfOk result (λ patch. patched patch.generation patch.rows.items (image_in_force router.now) ≡ image_in_force (router_publishing router.now)) }
     ensures rows { IfOk result (λ patch. patch.rows.items ≡ rows_to_set (router.now).table waiting.now) }
@@ -65,12 +73,12 @@ fn next_patch(alloc: Global, router: &Router, waiting: &[Prefix]) -> Result<Patc
 
 // What a publication of the router would set in its image, while these prefixes wait; None where it
 // would be refused.
-pub fn patch_due(
-    alloc: Global,
-    world: &World,
+pub fn patch_due<A: SmallAllocator>(
+    alloc: A,
+    world: &World<A>,
     router: u16,
     waiting: &[Prefix],
-) -> Result<Option<Patch>, NoMemory>
+) -> Result<Option<Patch<A>>, NoMemory>
     requires { HasRoomForSteps 1 world.now }
     ensures due { IfOk result (IsPatchDue world.now router waiting.now) }
     ensures err { IfErr result (λ e. IsSome (due_at world.now router)) }
@@ -85,7 +93,10 @@ pub fn patch_due(
 }
 
 // The image of the rows that each router has chosen, of generation 0.
-pub fn opening_images(alloc: Global, world: &World) -> Result<Vec<Image>, NoMemory>
+pub fn opening_images<A: SmallAllocator>(
+    alloc: A,
+    world: &World<A>,
+) -> Result<Vec<Image<A>, A>, NoMemory>
     ensures { IfOk result (λ images. images.items ≡ map chosen_image (world.now).routers) }
 {
     let mut images = Vec::new(alloc);

@@ -3,16 +3,15 @@
 ghost use Rattle.std.specs.Prelude.{ℕ, ◌≡◌, ◌+◌, ◌≤◌, ◌<◌, map, All, IfOk, OnOk, vec_len};
 ghost use Rattle.fabric.specs.Writers.{HaveReaders, IsPort};
 
-use network_model::NoMemory;
+use network_model::{NoMemory, SmallAllocator};
 use publication::{ImageReader, Naming};
-use std::alloc::Global;
 
 // One reader of each router, of so many that each has.
-fn take_port<B: Naming>(
-    alloc: Global,
-    lists: &mut Vec<Vec<ImageReader<B>>>,
+fn take_port<B: Naming, A: SmallAllocator>(
+    alloc: A,
+    lists: &mut Vec<Vec<ImageReader<B, A>, A>, A>,
     many: u8,
-) -> Result<Vec<ImageReader<B>>, NoMemory>
+) -> Result<Vec<ImageReader<B, A>, A>, NoMemory>
     requires some { 0 < many }
     requires stock { HaveReaders many (map (λ rs. rs.items) lists.old.items) }
     ensures port { IfOk result (λ port. IsPort (vec_len lists.old) port.items) }
@@ -30,11 +29,11 @@ fn take_port<B: Naming>(
 }
 
 // Deals out the readers of each router: one to the fabric, and one to each of so many workers.
-pub fn deal<B: Naming>(
-    alloc: Global,
-    lists: Vec<Vec<ImageReader<B>>>,
+pub fn deal<B: Naming, A: SmallAllocator>(
+    alloc: A,
+    lists: Vec<Vec<ImageReader<B, A>, A>, A>,
     workers: u8,
-) -> Result<(Vec<ImageReader<B>>, Vec<Vec<ImageReader<B>>>), NoMemory>
+) -> Result<(Vec<ImageReader<B, A>, A>, Vec<Vec<ImageReader<B, A>, A>, A>), NoMemory>
     requires few { workers ≤ 16 }
     requires stock { HaveReaders (workers + 1) (map (λ rs. rs.items) lists.items) }
     ensures own { IfOk result (λ o. IsPort (vec_len lists) o.0.items) }

@@ -9,7 +9,7 @@ ghost use Rattle.world.specs.Steps.{DiscardsStale, IsDoneOr, HasRoomForSteps};
 ghost use Rattle.fabric.specs.Rest.{has_notice, is_busy, is_restless, link_number};
 
 use link_fifo::Links;
-use network_model::{End, NoMemory, Refusal, Step};
+use network_model::{End, NoMemory, Refusal, SmallAllocator, Step};
 use router_core::Router;
 use std::alloc::Global;
 use std::marker::Model;
@@ -19,12 +19,12 @@ use world::{Network, World};
 /// have notices of their attachments to take, and how many have something to publish or to release. So
 /// it is known whether anything is left to do without going through the network.
 #[derive(Drop)]
-pub struct WatchedWorld {
-    world: World,
+pub struct WatchedWorld<A: SmallAllocator = Global> {
+    world: World<A>,
     unrest: usize,
 }
 
-impl Model for WatchedWorld {
+impl<A: SmallAllocator> Model for WatchedWorld<A> {
     ghost use Rattle.network_model.specs.World.{World as NetworkWorld};
     ghost use Rattle.fabric.specs.Rest.{IsWatched};
 
@@ -35,9 +35,9 @@ impl Model for WatchedWorld {
     ghost invariant = { λ w. IsWatched w.world w.unrest };
 }
 
-impl WatchedWorld {
+impl<A: SmallAllocator> WatchedWorld<A> {
     /// The world of a network that opens.
-    pub fn open(alloc: Global, network: &Network) -> Result<WatchedWorld, NoMemory>
+    pub fn open(alloc: A, network: &Network) -> Result<WatchedWorld<A>, NoMemory>
         ensures { IfOk result (λ w. w ≡ model.opening network.now) }
     {
         let world = World::open(alloc, network)?;
@@ -47,7 +47,7 @@ impl WatchedWorld {
     }
 
     /// The world.
-    pub fn world(&self) -> &World
+    pub fn world(&self) -> &World<A>
         ensures { result.now ≡ self.now }
     {
         &self.world
@@ -89,7 +89,7 @@ struct Touched {
 impl Touched {
     ghost use Rattle.fabric.specs.Touched.{touched_by, unrest_at};
 
-    fn by(step: &Step, world: &World) -> Touched
+    fn by<A: SmallAllocator>(step: &Step, world: &World<A>) -> Touched
         ensures { result ≡ touched_by step.now world.now }
     {
         match *step {
@@ -136,7 +136,7 @@ impl Touched {
     }
 
     // How much of these is not at rest.
-    fn unrest(self, world: &World) -> usize
+    fn unrest<A: SmallAllocator>(self, world: &World<A>) -> usize
         ensures unrest { result ≡ unrest_at self world.now }
         ensures few { result ≤ 3 }
     {
@@ -157,14 +157,14 @@ impl Touched {
 }
 
 // The number of the link at a router's port.
-fn link_at(world: &World, router: u16, port: u8) -> Option<u16>
+fn link_at<A: SmallAllocator>(world: &World<A>, router: u16, port: u8) -> Option<u16>
     ensures { result ≡ link_number world.now router port }
 {
     Some(world.port(router, port)?.link)
 }
 
 // The number of the link for which a router releases its next message.
-fn released_to(world: &World, router: u16) -> Option<u16>
+fn released_to<A: SmallAllocator>(world: &World<A>, router: u16) -> Option<u16>
     ensures { result ≡ option_and_then (λ h. link_number world.now router h.port) (steps.release_at world.now router) }
 {
     let held = world.routers().get(usize::from(router))?.front()?;
@@ -172,26 +172,26 @@ fn released_to(world: &World, router: u16) -> Option<u16>
 }
 
 // Whether something stands on the link, in either direction.
-fn is_busy(links: &Links, link: u16) -> bool
+fn is_busy<A: SmallAllocator>(links: &Links<A>, link: u16) -> bool
     ensures { result ≡ option_map_or is_busy (slice_get links.now.links link) false }
 {
     links.front(link, End::A).is_ok() || links.front(link, End::B).is_ok()
 }
 
 // Whether a router has yet to take a notice of its attachments.
-fn has_notice_at(world: &World, router: u16) -> bool
+fn has_notice_at<A: SmallAllocator>(world: &World<A>, router: u16) -> bool
     ensures { result ≡ option_map_or has_notice (slice_get world.now.attachments router) false }
 {
     usize::from(router) < world.routers().len() && world.notices(router) > 0
 }
 
-fn is_restless(router: &Router) -> bool
+fn is_restless<A: SmallAllocator>(router: &Router<A>) -> bool
     ensures { result ≡ is_restless router.now }
 {
     router.due() || router.ripe() > 0
 }
 
-fn is_restless_at(routers: &[Router], router: u16) -> bool
+fn is_restless_at<A: SmallAllocator>(routers: &[Router<A>], router: u16) -> bool
     ensures { result ≡ option_map_or is_restless (slice_get routers.now router) false }
 {
     match routers.get(usize::from(router)) {

@@ -19,6 +19,8 @@ mod queues;
 #[cfg(test)]
 mod refusals;
 #[cfg(test)]
+mod scripts;
+#[cfg(test)]
 mod tickets;
 #[cfg(test)]
 mod traces;

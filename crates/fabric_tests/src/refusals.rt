@@ -1,12 +1,14 @@
-//! A publication and a queue that are refused where a heap has too little left, be it 0, 16, 32 or more
-//! bytes, and done again once there is room.
+//! A publication, a queue and a worker's replies that are refused where a heap has too little left, be it
+//! 0, 16, 32 or more bytes, and done again once there is room.
 
-ghost use Rattle.std.specs.Prelude.{◌≡◌, ◌∷◌, []};
+ghost use Rattle.std.specs.Prelude.{◌≡◌, ◌∷◌, [], length};
 ghost use Rattle.publication.specs.Lists.{opening_of};
 
 use crate::publications::{found, set, via};
+use crate::workers::{port_of, put, work_five};
 use ipv4_prefix::parse_addr;
 use linked_list_allocator::LocalHeap;
+use network_model::Refusal;
 use packet_queue::PacketQueue;
 use publication::{
     Entry, ImageReader, ImageWriter, Naming, NoMemory, Patch, Prefix, Unnamed, open,
@@ -22,15 +24,18 @@ use tree_bitmap::parts::empty;
 // More than each of the calls takes.
 const HEAP: usize = 65_536;
 
+// The greatest piece by which a heap is filled.
+const LARGEST: usize = 16 << 20;
+
 // Takes all of the heap but so many bytes, hole by hole, until it is dropped.
-fn ballast<'h>(
+pub fn ballast<'h>(
     alloc: Global,
     heap: &'h LocalHeap,
     left: usize,
 ) -> Result<Vec<Vec<u8, &'h LocalHeap>>, Fail> {
     let mut weights = Vec::new(alloc);
-    for halvings in 0..13u8 {
-        let size = HEAP >> halvings;
+    for halvings in 0..21u8 {
+        let size = LARGEST >> halvings;
         for _ in 0..4096u16 {
             if heap.free() < left.saturating_add(size) {
                 break;
@@ -44,10 +49,88 @@ fn ballast<'h>(
     Ok(weights)
 }
 
+// A call that is tried with so many bytes left.
+#[derive(Clone, Copy)]
+enum Call {
+    Publish,
+    MakeQueue,
+    Work,
+}
+
+// Whether the call is refused with so many bytes left.
+fn is_refused<R: Wait + Abort>(
+    rt: &R,
+    alloc: Global,
+    call: Call,
+    left: usize,
+) -> Result<bool, Fail> {
+    let heap = LocalHeap::new(alloc, HEAP)?;
+    match call {
+        Call::MakeQueue => is_queue_refused::<Brand>(rt, alloc, &heap, left),
+        _ => is_refused_to_one_router(rt, alloc, &heap, call, left),
+    }
+}
+
+// It is refused with no, one, two and more units of memory left, and from some room on never more.
+fn is_refused_until_there_is_room<R: Wait + Abort>(
+    rt: &R,
+    alloc: Global,
+    call: Call,
+    unit: u8,
+) -> Result<(), Fail> {
+    let mut refused = 0;
+    for units in 0..1024usize {
+        if is_refused(rt, alloc, call, units * usize::from(unit))? {
+            assert_eq!(rt; refused, units);
+            refused = units + 1;
+        }
+    }
+    assert!(rt; refused > 0 && refused < 1024);
+    Ok(())
+}
+
+fn is_refused_to_one_router<'h, R: Wait + Abort>(
+    rt: &R,
+    alloc: Global,
+    heap: &'h LocalHeap,
+    call: Call,
+    left: usize,
+) -> Result<bool, Fail> {
+    let image = empty(heap)?;
+    with_reader::<Brand, R>(rt, alloc, heap, Unnamed::new(), image, call, left)
+}
+
+fn with_reader<'h, B: Naming, R: Wait + Abort>(
+    rt: &R,
+    alloc: Global,
+    heap: &'h LocalHeap,
+    unnamed: Unnamed,
+    image: Image<&'h LocalHeap>,
+    call: Call,
+    left: usize,
+) -> Result<bool, Fail>
+    requires books { B.books ≡ unnamed ∷ [] }
+    requires generation { image.generation ≡ 0 }
+    requires rows { image.rows ≡ opening_of B.openings 0 }
+{
+    let Ok((mut writer, mut readers)) = open::<B, _, R>(rt, heap, unnamed, 0, image, 1) else {
+        return Err("open".into());
+    };
+    let end = match (call, readers.pop()) {
+        (Call::Publish, Some(mut reader)) => {
+            is_publication_refused(rt, alloc, heap, &mut writer, &mut reader, left)
+        },
+        (Call::Work, Some(reader)) => are_replies_refused(rt, alloc, heap, &writer, reader, left),
+        _ => Err("readers".into()),
+    };
+    writer.close(rt);
+    end
+}
+
 // Publishes a row of 10.0.0.0/8, then with so little left another, and one of 10.1.0.0/16. Where that is
 // refused, a reader that learns meanwhile sees the first publication, until the third, of the same
-// prefixes. Whether it was refused.
-fn refused_and_done_again<'h, B: Naming, R: Wait + Abort>(
+// prefixes.
+fn is_publication_refused<'h, B: Naming, R: Wait + Abort>(
     rt: &R,
     alloc: Global,
     heap: &'h LocalHeap,
@@ -84,52 +167,41 @@ fn refused_and_done_again<'h, B: Naming, R: Wait + Abort>(
     Ok(true)
 }
 
-fn shown<'h, B: Naming, R: Wait + Abort>(
+// A worker takes five jobs from a queue with so little left for its replies: it takes all of them, also
+// where it tells that they are refused.
+fn are_replies_refused<'h, B: Naming, R: Wait + Abort>(
     rt: &R,
     alloc: Global,
     heap: &'h LocalHeap,
-    unnamed: Unnamed,
-    image: Image<&'h LocalHeap>,
+    writer: &ImageWriter<B, &'h LocalHeap>,
+    reader: ImageReader<B, &'h LocalHeap>,
     left: usize,
 ) -> Result<bool, Fail>
-    requires books { B.books ≡ unnamed ∷ [] }
-    requires generation { image.generation ≡ 0 }
-    requires rows { image.rows ≡ opening_of B.openings 0 }
+    requires one { length B.books ≡ 1 }
+    requires first { reader.router ≡ 0 }
 {
-    let Ok((mut writer, mut readers)) = open::<B, _, R>(rt, heap, unnamed, 0, image, 1) else {
-        return Err("open".into());
-    };
-    let done = match readers.pop() {
-        None => Err("readers".into()),
-        Some(mut reader) => {
-            refused_and_done_again(rt, alloc, heap, &mut writer, &mut reader, left)
+    let port = port_of(heap, reader)?;
+    let (mut injector, mut takers) = PacketQueue::new::<B, &'h LocalHeap>(heap, 1)?;
+    put(rt, &mut injector, &writer.tell(), 5)?;
+    drop(injector);
+    let taker = takers.pop().ok_or("taker")?;
+    let weight = ballast(alloc, heap, left)?;
+    let replies = work_five(rt, heap, port, taker);
+    drop(weight);
+    match replies {
+        Ok(replies) => {
+            assert_eq!(rt; replies.len(), 5);
+            Ok(false)
         },
-    };
-    writer.close(rt);
-    done
-}
-
-fn is_refused<R: Wait + Abort>(rt: &R, alloc: Global, left: usize) -> Result<bool, Fail> {
-    let heap = LocalHeap::new(alloc, HEAP)?;
-    let image = empty(&heap)?;
-    shown::<Brand, R>(rt, alloc, &heap, Unnamed::new(), image, left)
-}
-
-#[test]
-fn a_refused_publication_is_done_again(rt: HostRuntime) -> Result<(), Fail> {
-    let mut refused = 0;
-    for units in 0..1024usize {
-        if is_refused(&rt, rt.alloc(), units * 16)? {
-            assert_eq!(&rt; refused, units);
-            refused = units + 1;
-        }
+        Err(refusal) => {
+            assert_eq!(rt; refusal, Refusal::NoMemory);
+            Ok(true)
+        },
     }
-    assert!(&rt; refused > 0 && refused < 1024);
-    Ok(())
 }
 
-// Whether a queue for two workers is refused with so many bytes left, of which it takes none then.
-fn queue<'h, B: Naming>(
+// A queue for two workers, of which nothing is taken where it is refused.
+fn is_queue_refused<'h, B: Naming>(
     rt: &impl Abort,
     alloc: Global,
     heap: &'h LocalHeap,
@@ -148,20 +220,17 @@ fn queue<'h, B: Naming>(
     Ok(true)
 }
 
-fn is_queue_refused(rt: &impl Abort, alloc: Global, left: usize) -> Result<bool, Fail> {
-    let heap = LocalHeap::new(alloc, HEAP)?;
-    queue::<Brand>(rt, alloc, &heap, left)
+#[test]
+fn a_refused_publication_is_done_again(rt: HostRuntime) -> Result<(), Fail> {
+    is_refused_until_there_is_room(&rt, rt.alloc(), Call::Publish, 16)
 }
 
 #[test]
 fn a_queue_needs_room_for_its_places(rt: HostRuntime) -> Result<(), Fail> {
-    let mut refused = 0;
-    for units in 0..128usize {
-        if is_queue_refused(&rt, rt.alloc(), units * 256)? {
-            assert_eq!(&rt; refused, units);
-            refused = units + 1;
-        }
-    }
-    assert!(&rt; refused > 0 && refused < 128);
-    Ok(())
+    is_refused_until_there_is_room(&rt, rt.alloc(), Call::MakeQueue, 32)
+}
+
+#[test]
+fn a_worker_without_room_takes_all_jobs(rt: HostRuntime) -> Result<(), Fail> {
+    is_refused_until_there_is_room(&rt, rt.alloc(), Call::Work, 16)
 }

@@ -7,7 +7,7 @@ use forwarder::{ForwardPort, GatherFault, JobGate, Reply, gather, work};
 use network_model::{Answer, Entry, Prefix, Refusal};
 use packet_queue::{Injector, PacketQueue, Taker};
 use publication::{ImageReader, ImageWriter, Job, Naming, Patch, Told, Unnamed, open};
-use std::alloc::{AllocError, Global};
+use std::alloc::{AllocError, Allocator, Global};
 use std::marker::Brand;
 use std::process::Abort;
 use std::sync::Wait;
@@ -29,7 +29,11 @@ fn asked<B: Naming>(number: u64, addr: u32, told: &Told<B>) -> Job<B>
     }
 }
 
-fn port_of<B: Naming>(alloc: Global, reader: ImageReader<B>) -> Result<ForwardPort<B>, AllocError>
+// A port of one reader.
+pub fn port_of<B: Naming, A: Allocator>(
+    alloc: A,
+    reader: ImageReader<B, A>,
+) -> Result<ForwardPort<B, A>, AllocError>
     requires one { length B.books ≡ 1 }
     requires first { reader.router ≡ 0 }
 {
@@ -179,9 +183,9 @@ impl JobGate for Met {
 }
 
 // Puts jobs 1 to the last into a queue.
-fn put<B: Naming, R: Wait>(
+pub fn put<B: Naming, A: Allocator, R: Wait>(
     rt: &R,
-    injector: &mut Injector<B>,
+    injector: &mut Injector<B, A>,
     told: &Told<B>,
     last: u64,
 ) -> Result<(), Fail> {
@@ -193,12 +197,12 @@ fn put<B: Naming, R: Wait>(
 }
 
 // A worker of this port takes what is in a queue, and meets jobs 1 to 5.
-fn worked<B: Naming, R: Wait + Abort>(
+pub fn work_five<B: Naming, A: Allocator, R: Wait + Abort>(
     rt: &R,
-    alloc: Global,
-    port: ForwardPort<B>,
-    taker: Taker<B>,
-) -> Result<Vec<Reply<B>>, Refusal> {
+    alloc: A,
+    port: ForwardPort<B, A>,
+    taker: Taker<B, A>,
+) -> Result<Vec<Reply<B>, A>, Refusal> {
     let gate = Met {
         before: AtomicU64::new(0),
         after: AtomicU64::new(0),
@@ -226,7 +230,7 @@ fn works<B: Naming, R: Wait + Abort>(
     }
     drop(injector);
     let taker = takers.pop().ok_or("taker")?;
-    let replies = worked(rt, alloc, port, taker).map_err(|_| "replies")?;
+    let replies = work_five(rt, alloc, port, taker).map_err(|_| "replies")?;
     assert_eq!(rt; replies.len(), 5);
     for (place, reply) in replies.iter().enumerate() {
         assert_eq!(rt; reply.job().number, place as u64 + 1);
@@ -340,7 +344,7 @@ fn goes_on<B: Naming, R: Wait + Abort>(
     put(rt, &mut injector, told, 5)?;
     drop(injector);
     let taker = takers.pop().ok_or("taker")?;
-    let refusal = worked(rt, alloc, port, taker).err();
+    let refusal = work_five(rt, alloc, port, taker).err();
     assert_eq!(rt; refusal, Some(Refusal::NoImage));
     Ok(())
 }

@@ -5,7 +5,7 @@ use ipv4_prefix::PrefixFault;
 use link_fifo::LinkRefusal;
 use metric::{BadCost, Cost, Distance};
 use network_model::{NoMemory, Refusal};
-use play::{Fault, refuse};
+use play::{Cause, Fault, refuse};
 use publication::{NoImage, OpenFault};
 use std::alloc::Global;
 use std::fmt::Display;
@@ -76,13 +76,20 @@ fn refusals(rt: HostRuntime) {
     }
 }
 
-// What is told where a run ends since its journal is full.
-#[test]
-fn full_journal(rt: HostRuntime) {
-    let mut told = Vec::new(rt.alloc());
-    let status = refuse(Fault::from(Refusal::JournalFull), &mut told);
+// The fault is told so, and ends the run with status 2.
+fn is_told(rt: &impl Abort, alloc: Global, fault: Fault, text: &str) {
+    let mut told = Vec::new(alloc);
+    let status = refuse(fault, &mut told);
     assert_eq!(rt; status, 2);
-    assert_eq!(rt; told.as_slice(), FULL.as_bytes());
+    assert_eq!(rt; told.as_slice(), text.as_bytes());
+}
+
+#[test]
+fn faults_of_journals(rt: HostRuntime) {
+    let alloc = rt.alloc();
+    is_told(&rt, alloc, Fault::from(Refusal::JournalFull), FULL);
+    let unwritable = "dualnet: 49 Unwritable\n";
+    is_told(&rt, alloc, Fault::from(Cause::Unwritable), unwritable);
 }
 
 #[test]

@@ -3,4 +3,4 @@ use Rattle.fabric.specs.Images.{chosen_image}
 use Rattle.fabric.proofs.images.opening_images.Given as goal
 
 abbrev pub invariant-loop-router : goal.invariant-loop-router
-invariant-loop-router l = l.images.items ≡ map chosen_image (take l.router-index l.router-items)
+invariant-loop-router g l = l.images.items ≡ map chosen_image (take l.router-index l.router-items)

@@ -8,7 +8,7 @@ use Rattle.fabric.proofs.Setting.{set_more}
 use Rattle.fabric.proofs.images.rows_named.Goals as goal
 
 pub returns-clause-patch : goal.returns-clause-patch
-returns-clause-patch c =
+returns-clause-patch g c =
     let t = (c.args.table.now).table in
     let rows : c.loop-prefix.rows.items ≡ rows_to_set t c.args.waiting.now = search rules in
     let sorted : is_sorted prefix_cmp t.control ≡ true = ap (is_sorted prefix_cmp) (sym c.rows-prefix-items.ensures.all) ∙ c.rows-prefix-items.ensures.sorted in

@@ -1,18 +1,23 @@
 use Rattle.std.proofs.Common.{rules, Result, Ok, Err, None, ◌≡◌, ◌+◌, ◌<◌, ◌≤◌, ◌++◌, [], ◌∷◌, length, vec_len, refl, sym, ap, subst, ◌∙◌, arith}
-use Rattle.std.specs.Prelude.{Some, false, is_some, slice_get, vec_capacity, set, OnErr}
+use Rattle.std.specs.Prelude.{Some, IsOk, IsSome, MatchOption, false, is_some, slice_get, vec_capacity, set}
+use Rattle.std.proofs.lemmas.Bool.{false≢true}
+use Rattle.std.proofs.lemmas.Result.{err_from_is_err_and}
 use Rattle.network_model.specs.declared.step.Step.{Step}
 use Rattle.network_model.specs.declared.step.Step.TheVariants.{Publish}
 use Rattle.network_model.specs.Journal.{most_steps}
-use Rattle.network_model.specs.Step.{Lawful, next}
+use Rattle.network_model.specs.Step.{Lawful, next, refusal, release_at}
+use Rattle.network_model.proofs.Lawful.{Lawful_to_refusal}
+use Rattle.router_core.proofs.Refused.{gave_up}
 use Rattle.network_model.proofs.ListLaws.{None_not_Some}
-use Rattle.world.specs.Steps.{HasRoomForSteps}
+use Rattle.world.specs.Steps.{HasRoomForSteps, is_stale}
 use Rattle.publication.specs.declared.known.Known.{Known}
 use Rattle.image_patch.specs.Patches.{patched}
 use Rattle.fabric.specs.Desks.{all_lent, writings}
-use Rattle.fabric.specs.Fabric.{Fabric, awaits_writer, count_lent, fabric_of, after_step, lent_at, IsKept, IsSumOf}
+use Rattle.fabric.specs.Fabric.{Fabric, awaits_writer, count_lent, fabric_of, after_step, fabric_refusal, lent_at, IsKept, IsSumOf}
 use Rattle.fabric.specs.Patches.{IsPatchDue}
-use Rattle.fabric.specs.Images.{image_in_force, images_in_force}
+use Rattle.fabric.specs.Images.{due_at, image_in_force, images_in_force}
 use Rattle.fabric.specs.Writers.{ArePending, AreReaders, AreWriters, shown_images, waiting_at}
+use Rattle.fabric.proofs.Causes.{admitted, due_lawful, due_seen, memory_lacked, not_ok, not_refused, passed_on}
 use Rattle.fabric.proofs.Fabrics.{room_left, images_stay, images_due, kept_as, due_of, summed_more}
 use Rattle.fabric.proofs.Lending.{all_pending_next}
 use Rattle.fabric.proofs.Seats.{desk_within, due_desk, is_in, lent_same, none_kept, pending_same, seat, writings_set}
@@ -33,11 +38,6 @@ step-requires-in_default g c = room_left (fabric_of c.self.inside.network c.self
 
 pub step-requires-in-None : goal.step-requires-in-None
 step-requires-in-None g c = room_left (fabric_of c.self.inside.network c.self.inside.journal.items c.self.inside.world (shown_images g.B.Naming.openings (writings c.self.inside.desks.items)) (all_lent c.self.inside.desks.items)) (vec_capacity c.self.inside.journal) c.self.invariant.0
-
--- an error comes with what holds anyway
-on_err : {T E : Type 0} (r : Result T E) {P : Type 0} → P → OnErr r P
-on_err (Ok x) p = tt
-on_err (Err e) p = p
 
 -- no writer of the router is out
 free : (g : given.Over) (c : goal.After-from g) → is_some (lent_at (all_lent c.self.inside.desks.items) c.in-Publish.router) ≡ false
@@ -127,7 +127,7 @@ invariant_of-self g c =
 pub returns-in_err-publish-in-Some-clause-err : goal.returns-in_err-publish-in-Some-clause-err
 returns-in_err-publish-in-Some-clause-err g c =
     let s = c.self.inside in
-    on_err c.from_residual-in_err-publish-in-Some.result
+    gave_up c.from_residual-in_err-publish-in-Some.result
     (ap (λ images. fabric_of s.network s.journal.items s.world images (all_lent (set s.desks.items c.from.result c.publish.new.self))) (unseen g c)
     ∙ ap (fabric_of s.network s.journal.items s.world (shown_images g.B.Naming.openings (writings s.desks.items))) (unlent g c) ∙ c.self.view_is)
 
@@ -218,8 +218,8 @@ stepped g c =
           }
       | in-Publish+in_ok-patch-in-Publish+in-None+in_ok-step-in-None w ↦
           let due : _ = due_of (old g c).world w.in-Publish.router w.in_ok-step-in-None.ensures.ok.0 in
-          let none : IsPatchDue (old g c).world w.in-Publish.router w.waiting_at-waiting.result.now None
-          = subst (λ v. IsPatchDue v w.in-Publish.router w.waiting_at-waiting.result.now None) w.world.ensures (rw w.in-None.is at w.in_ok-patch-in-Publish.ensures.due) in
+          let none : due_at (old g c).world w.in-Publish.router ≡ None
+          = subst (λ v. due_at v w.in-Publish.router ≡ None) w.world.ensures (rw w.in-None.is at w.in_ok-patch-in-Publish.ensures.due) in
           absurd (None_not_Some (sym none ∙ due.2))
       | in_default+in_ok-step-in_default w ↦
           let journal : c.match-step.self-inside.journal ≡ c.self.inside.journal = ap (λ s. s.journal) w.self-inside-is in
@@ -268,3 +268,98 @@ overflow_add-sum g c =
     let short = (c.self.invariant.0).short in
     let below = c.number.ensures.below in
     omega (arith, sum, short, below)
+
+-- ---- why it is refused, or not
+
+pub returns-in_err-patch-in-Publish-clause-cause : goal.returns-in_err-patch-in-Publish-clause-cause
+returns-in_err-patch-in-Publish-clause-cause g c =
+    let world = c.world.ensures ∙ ap (λ (f : Fabric). f.world) c.self.view_is in
+    memory_lacked (fabric_refusal c.args.self.now c.args.step) c.from_residual-in_err-patch-in-Publish.result
+    (admitted c.args.self.now c.args.self.now.world c.args.step c.in-Publish.router c.in_ok-admits.ensures.cause refl c.in-Publish.is (subst (λ w. IsSome (due_at w c.in-Publish.router)) world c.in_err-patch-in-Publish.ensures.err))
+    c.from_residual-in_err-patch-in-Publish.ensures.1
+
+pub returns-in_err-publish-in-Some-clause-cause : goal.returns-in_err-publish-in-Some-clause-cause
+returns-in_err-publish-in-Some-clause-cause g c =
+    let D = due_refused g c in
+    memory_lacked (fabric_refusal c.args.self.now c.args.step) c.from_residual-in_err-publish-in-Some.result
+    (admitted c.args.self.now c.self.inside.world c.args.step c.in-Publish.router c.in_ok-admits.ensures.cause (ap (λ (f : Fabric). f.world) (sym c.self.view_is)) c.in-Publish.is (subst IsSome (sym D.due) refl))
+    c.from_residual-in_err-publish-in-Some.ensures.1
+
+pub unwrap-requires : goal.unwrap-requires
+unwrap-requires g c =
+    let w = c.self.inside.world in
+    let i = c.in-Publish.router in
+    let due = due_seen c.world.result.now w i c.waiting_at-waiting.result.now c.in_ok-patch-in-Publish.field-0 c.in-Some.patch c.world.ensures c.in-Some.is c.in_ok-patch-in-Publish.ensures.due in
+    subst (λ o. MatchOption o (IsOk c.step.result) (λ e. c.step.result ≡ Err e)) (Lawful_to_refusal w (Publish i) (due_lawful w i due))
+    (c.step.ensures.publication i refl)
+
+pub invariant_of-self-in_err-step-in-None : goal.invariant_of-self-in_err-step-in-None
+invariant_of-self-in_err-step-in-None g c =
+    let s = c.self.inside in
+    let same = sym c.in_err-step-in-None.ensures.err in (
+      subst (λ w. IsKept (fabric_of s.network s.journal.items w (shown_images g.B.Naming.openings (writings s.desks.items)) (all_lent s.desks.items)) (vec_capacity s.journal)) same c.self.invariant.0,
+      subst (λ w. AreWriters w (writings s.desks.items)) same c.self.invariant.1,
+      subst (λ w. ArePending w s.desks.items) same c.self.invariant.2,
+      subst (λ w. AreReaders w s.readers.items) same c.self.invariant.3,
+      c.self.invariant.4,
+      c.self.invariant.5,
+    )
+
+pub returns-in_err-step-in-None-clause-err : goal.returns-in_err-step-in-None-clause-err
+returns-in_err-step-in-None-clause-err g c =
+    let s = c.self.inside in
+    gave_up c.from_residual-in_err-step-in-None.result
+    (ap (λ w. fabric_of s.network s.journal.items w (shown_images g.B.Naming.openings (writings s.desks.items)) (all_lent s.desks.items)) c.in_err-step-in-None.ensures.err ∙ c.self.view_is)
+
+pub returns-in_err-step-in-None-clause-cause : goal.returns-in_err-step-in-None-clause-cause
+returns-in_err-step-in-None-clause-cause g c =
+    passed_on c.args.self.now c.self.inside.world c.args.step (Publish c.in-Publish.router) c.from_residual-in_err-step-in-None.result c.in_err-step-in-None.field-0.0
+    c.in_ok-admits.ensures.cause (ap (λ (f : Fabric). f.world) (sym c.self.view_is)) c.in-Publish.is c.in_err-step-in-None.ensures.cause
+    (err_from_is_err_and c.from_residual-in_err-step-in-None.result c.from_residual-in_err-step-in-None.ensures.1)
+
+pub invariant_of-self-in_err-step-in_default : goal.invariant_of-self-in_err-step-in_default
+invariant_of-self-in_err-step-in_default g c =
+    let s = c.self.inside in
+    let same = sym c.in_err-step-in_default.ensures.err in (
+      subst (λ w. IsKept (fabric_of s.network s.journal.items w (shown_images g.B.Naming.openings (writings s.desks.items)) (all_lent s.desks.items)) (vec_capacity s.journal)) same c.self.invariant.0,
+      subst (λ w. AreWriters w (writings s.desks.items)) same c.self.invariant.1,
+      subst (λ w. ArePending w s.desks.items) same c.self.invariant.2,
+      subst (λ w. AreReaders w s.readers.items) same c.self.invariant.3,
+      c.self.invariant.4,
+      c.self.invariant.5,
+    )
+
+pub returns-in_err-step-in_default : goal.returns-in_err-step-in_default
+returns-in_err-step-in_default g c =
+    let s = c.self.inside in
+    let failed = c.in_err-step-in_default.ensures in
+    let p = err_from_is_err_and c.from_residual-in_err-step-in_default.result c.from_residual-in_err-step-in_default.ensures.1 in
+    record {
+      ok = not_ok _ c.from_residual-in_err-step-in_default.result p.1;
+      err = gave_up c.from_residual-in_err-step-in_default.result
+          (ap (λ w. fabric_of s.network s.journal.items w (shown_images g.B.Naming.openings (writings s.desks.items)) (all_lent s.desks.items)) failed.err ∙ c.self.view_is);
+      cause = passed_on c.args.self.now s.world c.args.step c.args.step c.from_residual-in_err-step-in_default.result c.in_err-step-in_default.field-0.0
+          c.in_ok-admits.ensures.cause (ap (λ (f : Fabric). f.world) (sym c.self.view_is)) refl failed.cause p;
+      stale = λ _ i h is at old. absurd (false≢true (failed.stale i h is (ap (λ (f : Fabric). release_at f.world i) c.self.view_is ∙ at) (ap (λ (f : Fabric). is_stale f.world i h) c.self.view_is ∙ old)));
+    }
+
+-- the journal has not moved
+journal_same : (g : given.Over) (c : goal.After-push g) → c.match-step.self-inside.journal ≡ c.self.inside.journal
+journal_same g c = elim c.match-step.branch [
+  | in-Publish+in_ok-patch-in-Publish+in-Some+in_ok-publish-in-Some w ↦ ap (λ s. s.journal) w.self-inside-is
+  | in-Publish+in_ok-patch-in-Publish+in-None+in_ok-step-in-None w ↦ ap (λ s. s.journal) w.self-inside-is
+  | in_default+in_ok-step-in_default w ↦ ap (λ s. s.journal) w.self-inside-is
+]
+
+pub unwrap-requires-2 : goal.unwrap-requires-2
+unwrap-requires-2 g c =
+    let journal = c.self.inside.journal in
+    let short = subst (λ (f : Fabric). length f.journal + count_lent f.lent < most_steps) (sym c.self.view_is) c.in_ok-admits.ensures.place in
+    let room : most_steps ≤ vec_capacity journal = c.self.invariant.0.room in
+    let within : vec_len journal < vec_capacity journal = omega (arith, short, room, journal.ok.0) in
+    c.push.ensures.succeeds (subst (λ j. vec_len j < vec_capacity j) (sym (journal_same g c)) within)
+
+pub returns-clause-cause : goal.returns-clause-cause
+returns-clause-cause g c =
+    let lawful : Lawful c.args.self.now.world c.args.step = subst (λ (f : Fabric). Lawful f.world c.args.step) c.self.view_is (stepped g c).lawful in
+    not_refused (fabric_refusal c.args.self.now c.args.step) tt (c.in_ok-admits.ensures.cause ∙ Lawful_to_refusal c.args.self.now.world c.args.step lawful)

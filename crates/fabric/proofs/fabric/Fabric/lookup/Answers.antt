@@ -1,11 +1,16 @@
-use Rattle.std.proofs.Common.{◌≡◌, ◌∙◌, ◌⊎◌, Some, ap, sym, subst}
-use Rattle.std.specs.Prelude.{IfOk, IfErr, MatchOption}
+use Rattle.std.proofs.Common.{◌≡◌, ◌∙◌, ◌⊎◌, ◌<◌, Some, length, refl, ap, sym, subst, arith}
+use Rattle.std.specs.Prelude.{IfOk, IfErr, MatchOption, option_map}
+use Rattle.std.proofs.lemmas.List.{length-set}
 use Rattle.std.proofs.lemmas.Result.{IfOk-weaker}
 use Rattle.network_model.specs.declared.route.Answer.{Answer}
 use Rattle.network_model.specs.declared.step.Refusal.TheVariants.{UnknownRouter, Stale, NoImage}
+use Rattle.network_model.specs.World.{Router}
+use Rattle.publication.specs.declared.known.Known.{Known}
 use Rattle.publication.specs.Lists.{image_of}
+use Rattle.publication.proofs.Places.{each_set}
 use Rattle.fabric.specs.Fabric.{Fabric}
-use Rattle.fabric.specs.Images.{answer_at, answer_of, images_in_force}
+use Rattle.fabric.specs.Images.{answer_at, answer_of, image_in_force, images_in_force}
+use Rattle.fabric.proofs.Causes.{nothing_at}
 use Rattle.fabric.proofs.Showing.{answer_shown}
 use Rattle.fabric.proofs.fabric.Fabric.lookup.Given as given
 use Rattle.fabric.proofs.fabric.Fabric.lookup.Goals as goal
@@ -26,3 +31,45 @@ returns-clause-ok g c =
 pub returns-clause-err : goal.returns-clause-err
 returns-clause-err g c =
     subst (λ o. IfErr c.ask.result (λ e. MatchOption o (e ≡ UnknownRouter) (λ _. (e ≡ Stale) ⊎ (e ≡ NoImage)))) (sym (answer g c)) c.ask.ensures.err
+
+pub returns-in_default-clause-err : goal.returns-in_default-clause-err
+returns-in_default-clause-err g c =
+    let routers = c.args.self.now.world.routers in
+    let none = nothing_at routers c.args.router c.in_default.ensures.known.1 in
+    subst (λ o. MatchOption (option_map (λ (r : Router). answer_of c.args.addr (image_in_force r)) o) (UnknownRouter ≡ UnknownRouter) (λ _. (UnknownRouter ≡ Stale) ⊎ (UnknownRouter ≡ NoImage))) (sym none) refl
+
+pub index_mut-requires : goal.index_mut-requires
+index_mut-requires g c =
+    let below = c.in-Some.ensures.known.0 refl in
+    let world = ap (λ (f : Fabric). length f.world.routers) c.self.view_is in
+    let every = c.self.invariant.3.every_router in
+    let count = c.self.inside.readers.ok.0 in
+    omega (arith, below, world, every, count, c.from.ensures)
+
+-- the reader is of its router
+reader_number : (g : given.Over) (c : goal.After-told-2-1 g) → c.args.router ≡ c.index_mut.result.now.router
+reader_number g c =
+    let below = c.in-Some.ensures.known.0 refl in
+    let world = ap (λ (f : Fabric). length f.world.routers) c.self.view_is in
+    let every = c.self.invariant.3.every_router in
+    let within : c.from.result < length c.self.inside.readers.items = omega (arith, below, world, every, c.from.ensures) in
+    sym c.from.ensures ∙ sym (c.self.invariant.3.numbered c.from.result c.index_mut.result.now within) ∙ ap (λ (k : Known). k.router) (sym c.index_mut.ensures.value)
+
+pub ask-requires : goal.ask-requires
+ask-requires g c = c.in-Some.ensures.router ∙ reader_number g c
+
+pub invariant_of-self : goal.invariant_of-self
+invariant_of-self g c =
+    let readers = c.self.inside.readers.items in
+    let asked = c.ask.new.reader in
+    let number : asked.router ≡ c.from.result = c.ask.ensures.router ∙ sym (reader_number g c.before.before.before) ∙ sym c.from.ensures in (
+      c.self.invariant.0,
+      c.self.invariant.1,
+      c.self.invariant.2,
+      record {
+        every_router = length-set readers c.from.result asked ∙ c.self.invariant.3.every_router;
+        numbered = each_set (λ i (v : Known). v.router ≡ i) readers c.from.result asked c.self.invariant.3.numbered number;
+      },
+      c.self.invariant.4,
+      c.self.invariant.5,
+    )

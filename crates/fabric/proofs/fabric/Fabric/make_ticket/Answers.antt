@@ -1,5 +1,5 @@
 use Rattle.std.proofs.Common.{rules, ◌≡◌, ◌∙◌, ◌+◌, ◌<◌, length, vec_len, None, Some, refl, sym, ap, subst, arith}
-use Rattle.std.specs.Prelude.{false, is_some, option_map, slice_get, set, vec_capacity}
+use Rattle.std.specs.Prelude.{IsSome, false, is_some, option_map, slice_get, set, vec_capacity}
 use Rattle.std.proofs.lemmas.Option.{slice_get-map}
 use Rattle.network_model.specs.declared.step.Step.TheVariants.{Publish}
 use Rattle.network_model.specs.Journal.{most_steps}
@@ -11,10 +11,11 @@ use Rattle.publication.specs.declared.known.Known.{Known}
 use Rattle.publication.specs.Lists.{Writing, image_of, patch_of}
 use Rattle.publication.specs.Outings.{Outing}
 use Rattle.fabric.specs.Desks.{Desk, all_lent, desk_out, writings}
-use Rattle.fabric.specs.Fabric.{Fabric, awaits_writer, count_lent, fabric_of, lent_at, with_lent, IsKept}
+use Rattle.fabric.specs.Fabric.{Fabric, awaits_writer, count_lent, fabric_of, fabric_refusal, lent_at, with_lent, IsKept}
 use Rattle.fabric.specs.Images.{due_at}
 use Rattle.fabric.specs.Patches.{IsPatchDue}
 use Rattle.fabric.specs.Writers.{ArePending, AreWriters, shown_images, waiting_at}
+use Rattle.fabric.proofs.Causes.{admitted, due_lawful, due_seen, memory_lacked, not_refused}
 use Rattle.fabric.proofs.Fabrics.{room_left}
 use Rattle.fabric.proofs.Publishing.{IsDue, due_there, names_all, next_number, number_is, shows}
 use Rattle.fabric.proofs.Seats.{count_away, desk_within, due_desk, is_in, kept_away, lent_away, none_kept, pending_away, seat, shown_away, writers_away, writing_there}
@@ -125,3 +126,31 @@ returns-clause-ok g c =
     (lent_away s.network s.journal.items s.world g.B.Naming.openings s.desks.items c.args.router d c.in-Some.patch D (at_desk g c.before.before) (desk_in g c.before.before))
     ∙ ap (λ (o : Outing). with_lent (fabric_of s.network s.journal.items s.world (shown_images g.B.Naming.openings (writings s.desks.items)) (all_lent s.desks.items)) c.args.router (Some o.patch)) (sym c.lend.ensures.ticket)
     ∙ ap (λ (f : Fabric). with_lent f c.args.router (Some c.lend.result.patch)) c.self.view_is
+
+-- ---- why it is refused, or not
+
+pub returns-in_err-patch-clause-cause : goal.returns-in_err-patch-clause-cause
+returns-in_err-patch-clause-cause g c =
+    let due = subst (λ w. IsSome (due_at w c.args.router)) (c.world.ensures ∙ ap (λ (f : Fabric). f.world) c.self.view_is) c.in_err-patch.ensures.err in
+    memory_lacked (fabric_refusal c.args.self.now (Publish c.args.router)) c.from_residual-in_err-patch.result
+    (admitted c.args.self.now c.args.self.now.world (Publish c.args.router) c.args.router c.in_ok-admits.ensures.cause refl refl due) c.from_residual-in_err-patch.ensures.1
+
+pub why_not_due-requires : goal.why_not_due-requires
+why_not_due-requires g c =
+    subst (λ w. due_at w c.args.router ≡ None) (c.world.ensures ∙ ap (λ (f : Fabric). f.world) c.self.view_is) (rw c.in_default.is at c.in_ok-patch.ensures.due)
+
+pub returns-in_err-copy-clause-cause : goal.returns-in_err-copy-clause-cause
+returns-in_err-copy-clause-cause g c =
+    let due = due_seen c.world.result.now c.args.self.now.world c.args.router c.waiting_at-waiting.result.now c.in_ok-patch.field-0 c.in-Some.patch (c.world.ensures ∙ ap (λ (f : Fabric). f.world) c.self.view_is) c.in-Some.is c.in_ok-patch.ensures.due in
+    memory_lacked (fabric_refusal c.args.self.now (Publish c.args.router)) c.from_residual-in_err-copy.result
+    (admitted c.args.self.now c.args.self.now.world (Publish c.args.router) c.args.router c.in_ok-admits.ensures.cause refl refl due) c.from_residual-in_err-copy.ensures.1
+
+pub returns-clause-due : goal.returns-clause-due
+returns-clause-due g c =
+    due_lawful c.args.self.now.world c.args.router
+    (due_seen c.world.result.now c.args.self.now.world c.args.router c.waiting_at-waiting.result.now c.in_ok-patch.field-0 c.in-Some.patch (c.world.ensures ∙ ap (λ (f : Fabric). f.world) c.self.view_is) c.in-Some.is c.in_ok-patch.ensures.due)
+
+pub returns-clause-cause : goal.returns-clause-cause
+returns-clause-cause g c =
+    let due = due_seen c.world.result.now c.args.self.now.world c.args.router c.waiting_at-waiting.result.now c.in_ok-patch.field-0 c.in-Some.patch (c.world.ensures ∙ ap (λ (f : Fabric). f.world) c.self.view_is) c.in-Some.is c.in_ok-patch.ensures.due in
+    not_refused (fabric_refusal c.args.self.now (Publish c.args.router)) c.lend.result (admitted c.args.self.now c.args.self.now.world (Publish c.args.router) c.args.router c.in_ok-admits.ensures.cause refl refl due)

@@ -48,7 +48,7 @@ invariant_of-fabric g c =
     let w = c.in_ok-world.world in
     let opened : w ≡ opening n = c.in_ok-world.ensures in
     let images = c.in_ok-images.ensures ∙ ap (λ (v : World). map chosen_image v.routers) (c.world-2.ensures ∙ opened) in
-    let whole : (length c.in_ok-images.images.items ≡ vec_len c.in_ok-images.images) × (length c.in_ok-writers.writers.items ≡ vec_len c.in_ok-writers.writers) = search rules in
+    let whole : (length c.in_ok-images.images.items ≡ vec_len c.in_ok-images.images) × (length c.in_ok-writers.writers.items ≡ vec_len c.in_ok-writers.writers) = (sym c.in_ok-images.images.ok.0, sym c.in_ok-writers.writers.ok.0) in
     let each = c.in_ok-writers.ensures.count in
     let seated = c.in_ok-desks.ensures in
     let writers = c.in_ok-writers.writers.items in
@@ -69,7 +69,7 @@ pub returns-clause-ok : goal.returns-clause-ok
 returns-clause-ok g c =
     let opened = c.in_ok-world.ensures in
     let images = c.in_ok-images.ensures ∙ ap (λ (v : World). map chosen_image v.routers) (c.world-2.ensures ∙ opened) in
-    let whole : (length c.in_ok-images.images.items ≡ vec_len c.in_ok-images.images) × (length c.in_ok-writers.writers.items ≡ vec_len c.in_ok-writers.writers) = search rules in
+    let whole : (length c.in_ok-images.images.items ≡ vec_len c.in_ok-images.images) × (length c.in_ok-writers.writers.items ≡ vec_len c.in_ok-writers.writers) = (sym c.in_ok-images.images.ok.0, sym c.in_ok-writers.writers.ok.0) in
     let seated = c.in_ok-desks.ensures in
     let writers = c.in_ok-writers.writers.items in
     let w = c.in_ok-world.world in
@@ -82,7 +82,7 @@ pub returns-clause-ports : goal.returns-clause-ports
 returns-clause-ports g c =
     let n = c.args.network in
     let images = c.in_ok-images.ensures ∙ ap (λ (v : World). map chosen_image v.routers) (c.world-2.ensures ∙ c.in_ok-world.ensures) in
-    let whole : length c.in_ok-images.images.items ≡ vec_len c.in_ok-images.images = search rules in
+    let whole : length c.in_ok-images.images.items ≡ vec_len c.in_ok-images.images = sym c.in_ok-images.images.ok.0 in
     let routers : length c.in_ok-images.images.items ≡ n.routers = ap length images ∙ length-map (opening n).routers chosen_image ∙ router_count n [] (opening n) refl in
     let lists : vec_len c.in_ok-writers.lists ≡ n.routers = omega (arith, routers, whole, c.in_ok-writers.ensures.count.1) in
     (c.in-Ok.ensures.count, subst (λ m. All (λ port. IsPort m port.items) c.in-Ok.ports.items) lists c.in-Ok.ensures.ports)

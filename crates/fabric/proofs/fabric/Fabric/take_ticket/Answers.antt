@@ -1,12 +1,15 @@
 use Rattle.std.proofs.Common.{rules, Ok, ◌≡◌, ◌∙◌, ◌+◌, ◌-◌, ◌*◌, ◌^◌, ◌<◌, ◌≤◌, ◌++◌, [], ◌∷◌, length, vec_len, None, Some, refl, sym, ap, subst, arith}
 use Rattle.std.specs.Prelude.{Bool, true, false, IsOk, MatchBool, MatchOption, Err, slice_get, set, vec_capacity}
 use Rattle.std.proofs.lemmas.Bool.{false≢true}
+use Rattle.std.proofs.lemmas.Option.{slice_get_past}
 use Rattle.std.proofs.lemmas.Result.{err_from_is_err_and}
 use Rattle.network_model.specs.declared.step.Step.TheVariants.{Publish}
 use Rattle.network_model.specs.Journal.{Fits, most_steps, step_number}
 use Rattle.network_model.specs.Step.{Lawful, next, refusal}
 use Rattle.network_model.specs.World.{World}
 use Rattle.network_model.proofs.Lawful.{Lawful_to_refusal}
+use Rattle.network_model.proofs.ListLaws.{None_not_Some}
+use Rattle.router_core.proofs.Refused.{gave_up}
 use Rattle.publication.specs.Lists.{Writing}
 use Rattle.publication.specs.Outings.{IsOuting, Outing}
 use Rattle.publication.proofs.Places.{each_there}
@@ -16,7 +19,7 @@ use Rattle.fabric.specs.Writers.{ArePending, AreReaders, AreWriters, shown_image
 use Rattle.fabric.proofs.Fabrics.{kept_as, room_left, summed_more}
 use Rattle.fabric.proofs.Lending.{lent_there}
 use Rattle.fabric.proofs.Publishing.{readers_next, writers_next}
-use Rattle.fabric.proofs.Seats.{count_back, set_again, images_back, kept_back, lawful_back, lent_back, lent_was, pending_back, pending_on, published_is, seat, short_back, shown_back, unpublished_is, writers_back, writing_there}
+use Rattle.fabric.proofs.Seats.{count_back, set_again, images_back, kept_back, lawful_back, lent_back, lent_was, none_lent_at, pending_back, pending_on, published_is, seat, short_back, shown_back, unpublished_is, writers_back, writing_there}
 use Rattle.fabric.proofs.fabric.Fabric.take_ticket.Given as given
 use Rattle.fabric.proofs.fabric.Fabric.take_ticket.Goals as goal
 use Rattle.fabric.proofs.fabric.Fabric.take_ticket.Goals.{then-published, else-published}
@@ -225,3 +228,20 @@ returns-clause-done g c =
           s.network s.journal.items (vec_capacity s.journal) c.self.invariant.0 not_yet (set s.desks.items c.from-place.result c.take_back.new.self) (left g b)
           ∙ ap (λ (f : Fabric). with_lent f i None) c.self.view_is)
     ]
+
+pub returns-then-place-len-clause-its : goal.returns-then-place-len-clause-its
+returns-then-place-len-clause-its g c =
+    let s = c.self.inside in
+    let i = c.args.ticket.before.router in
+    let count = s.desks.ok.0 in
+    let past : length s.desks.items ≤ i = omega (arith, c.if-place-len.true, c.len.ensures, count, c.from-place.ensures, c.router-router.ensures) in
+    let none : lent_at c.args.self.now.lent i ≡ None = ap (λ (f : Fabric). lent_at f.lent i) (sym c.self.view_is) ∙ none_lent_at s.desks.items i (slice_get_past s.desks.items i past) in
+    (λ no. absurd (false≢true no), λ lent. absurd (None_not_Some (sym none ∙ lent)))
+
+pub returns-in_err-take_back-clause-same : goal.returns-in_err-take_back-clause-same
+returns-in_err-take_back-clause-same g c =
+    let s = c.self.inside in
+    gave_up c.from_residual.result
+    (ap (λ ds. fabric_of s.network s.journal.items s.world (shown_images g.B.Naming.openings (writings ds)) (all_lent ds))
+    (ap (set s.desks.items c.from-place.result) (c.in_err-take_back.ensures.same ∙ c.index_mut.ensures.value) ∙ set_again s.desks.items c.from-place.result c.index_mut.result.now)
+    ∙ c.self.view_is)

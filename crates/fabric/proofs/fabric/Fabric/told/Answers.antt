@@ -1,12 +1,14 @@
-use Rattle.std.proofs.Common.{◌≡◌, ◌∙◌, Some, length, refl, ap, sym, subst}
-use Rattle.std.specs.Prelude.{IfSome, option_map, slice_get}
+use Rattle.std.proofs.Common.{◌≡◌, ◌∙◌, ◌≤◌, Some, length, refl, ap, sym, subst, arith}
+use Rattle.std.specs.Prelude.{IfSome, is_some, option_map, slice_get}
 use Rattle.std.proofs.lemmas.Option.{slice_get-map, slice_get_read}
+use Rattle.std.proofs.lemmas.Bool.{false≢true}
 use Rattle.network_model.specs.World.{Router}
 use Rattle.publication.specs.Lists.{Writing, image_of}
 use Rattle.publication.specs.declared.known.Known.{Known}
 use Rattle.publication.proofs.Places.{each_there}
 use Rattle.fabric.specs.Desks.{Desk, writings}
 use Rattle.fabric.specs.Fabric.{Fabric}
+use Rattle.fabric.proofs.Seats.{desk_count}
 use Rattle.fabric.proofs.Showing.{list_is_last}
 use Rattle.fabric.proofs.fabric.Fabric.told.Given as given
 use Rattle.fabric.proofs.fabric.Fabric.told.Goals as goal
@@ -39,3 +41,24 @@ returns-clause-last g c =
     let told = c.told.result in
     subst (λ (f : Fabric). IfSome (slice_get f.world.routers c.args.router) (λ (r : Router). length told.publications ≡ r.generation)) c.self.view_is
     (list_is_last g.B.Naming.openings c.self.inside.world (writings c.self.inside.desks.items) c.self.invariant.0.in_force c.args.router c.in_ok-desk.desk.now.writing (there g c) told c.told.ensures.told c.told.ensures.count)
+
+pub returns-in_err-desk-clause-known : goal.returns-in_err-desk-clause-known
+returns-in_err-desk-clause-known g c =
+    let s = c.self.inside in
+    let read = c.in_err-desk.ensures.lookup in
+    let same = ap length c.deref.ensures.value in
+    let count = desk_count s.world g.B.Naming.openings s.desks.items c.self.invariant.0.in_force in
+    let world = ap (λ (f : Fabric). length f.world.routers) c.self.view_is in
+    let past : length c.args.self.now.world.routers ≤ c.args.router = omega (arith, read, c.from.ensures, same, count, world) in (
+      λ some. absurd (false≢true (ap is_some (sym c.from_residual.ensures) ∙ some)),
+      λ below. absurd (omega (arith, past, below)),
+    )
+
+pub returns-clause-known : goal.returns-clause-known
+returns-clause-known g c =
+    let s = c.self.inside in
+    let below = c.in_ok-desk.ensures.lookup.3.0 in
+    let same = ap length c.deref.ensures.value in
+    let count = desk_count s.world g.B.Naming.openings s.desks.items c.self.invariant.0.in_force in
+    let world = ap (λ (f : Fabric). length f.world.routers) c.self.view_is in
+    (λ _. omega (arith, below, c.from.ensures, same, count, world), λ _. refl)

@@ -6,17 +6,17 @@ use Rattle.fabric.proofs.Rest.{touched-counted, watched-next, unrest-few}
 use Rattle.fabric.proofs.watched.WatchedWorld.step.Goals as goal
 
 pub overflow_sub-self : goal.overflow_sub-self
-overflow_sub-self c =
+overflow_sub-self g c =
     let counted = touched-counted c.by-touched.result c.self.inside.world in
     omega (arith, c.unrest-before.ensures.unrest, counted, c.self.invariant.counts)
 
 pub overflow_add-self : goal.overflow_add-self
-overflow_add-self c =
+overflow_add-self g c =
     let few = unrest-few c.self.inside.world c.self.inside.unrest c.self.invariant in
     omega (arith, few, c.unrest-after.ensures.few)
 
 pub invariant_of-self-2 : goal.invariant_of-self-2
-invariant_of-self-2 c =
+invariant_of-self-2 g c =
     let w = c.self.inside.world in
     let n : ℕ = c.self.inside.unrest in
     let s = c.args.step in
