@@ -6,7 +6,7 @@ ghost use Rattle.advice.specs.Asked.{explained_file};
 use words::Words;
 
 /// The scenario in which the fault is, where more is to be told of it.
-pub fn explained<'a>(words: &Words<'a>) -> Option<&'a str>
+pub fn file_to_explain<'a>(words: &Words<'a>) -> Option<&'a str>
     ensures { result ≡ explained_file words.now }
 {
     let (file, explain) = match *words {

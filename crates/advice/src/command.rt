@@ -1,12 +1,12 @@
 //! Why a line is no command.
 
-use decimal_text::read_number;
 use network_model::LinkSpec;
 use script::Names;
 use std::alloc::Global;
 use std::io;
 use std::io::Write;
 use strsim::levenshtein;
+use texts::read_number;
 
 // The forms of all commands but `try STEP`.
 const FORMS: [&str; 14] = [

@@ -11,6 +11,6 @@ mod others;
 mod position;
 mod told;
 
-pub use asked::{explained, is_check};
+pub use asked::{file_to_explain, is_check};
 pub use journal::advise_journal;
 pub use told::{Faulty, advise};

@@ -1,10 +1,10 @@
 //! Why a line of links or of prefixes cannot be taken.
 
 use crate::command::has_empty_word;
-use decimal_text::read_number;
 use script::Names;
 use std::io;
 use std::io::Write;
+use texts::read_number;
 
 /// Tells why a line is no link of these routers.
 pub fn tell_link<W: Write>(names: &Names, line: &str, out: &mut W) -> io::Result<()> {

@@ -1,11 +1,11 @@
 //! Does what a case asks, and tells where it gives something else.
 
 use crate::verdict::{Given, Verdict, Wanted, judge};
-use advice::{Faulty, advise, explained, is_check};
+use advice::{Faulty, advise, file_to_explain, is_check};
 use play::Host;
 use std::alloc::{AllocError, Global};
 use std::io::Write;
-use trial::{Outcome, played};
+use trial::{Outcome, play_in_memory};
 use words::{Error, Words, exit_status, read_words};
 
 /// What is asked, of which texts, and what it should give.
@@ -51,7 +51,7 @@ fn is_line_right<H: Host, W: Write>(
         let _ = writeln!(out, "{}: {}: no command line: {line}", case.file, case.name);
         return Ok(false);
     };
-    let given = given(wait, alloc, case, words)?;
+    let given = ask_words(wait, alloc, case, words)?;
     let verdict = judge(&case.wanted, &given);
     if verdict != Verdict::IsRight {
         let _ = writeln!(out, "{}: {}: {line}", case.file, case.name);
@@ -61,7 +61,7 @@ fn is_line_right<H: Host, W: Write>(
 }
 
 // What a command line gives.
-fn given<H: Host>(
+fn ask_words<H: Host>(
     wait: &H,
     alloc: Global,
     case: &Case<'_>,
@@ -69,12 +69,12 @@ fn given<H: Host>(
 ) -> Result<Given, AllocError> {
     let words: Vec<&str> = line.split(' ').collect(alloc)?;
     match read_words(alloc, words.as_slice()) {
-        Ok(words) => done(wait, alloc, case, &words),
-        Err(error) => refused(alloc, &error),
+        Ok(words) => do_words(wait, alloc, case, &words),
+        Err(error) => tell_refusal(alloc, &error),
     }
 }
 
-fn done<H: Host>(
+fn do_words<H: Host>(
     wait: &H,
     alloc: Global,
     case: &Case<'_>,
@@ -82,8 +82,8 @@ fn done<H: Host>(
 ) -> Result<Given, AllocError> {
     let words = format!(in alloc; "{asked:?}\n")?;
     let scenario = case.scenario.as_bytes();
-    let mut outcome = played(wait, alloc, asked, scenario, case.journal.as_bytes());
-    if let (Some(file), Some(fault)) = (explained(asked), outcome.fault) {
+    let mut outcome = play_in_memory(wait, alloc, asked, scenario, case.journal.as_bytes());
+    if let (Some(file), Some(fault)) = (file_to_explain(asked), outcome.fault) {
         let faulty = Faulty {
             file,
             text: case.scenario,
@@ -131,14 +131,14 @@ fn replay_status<H: Host>(
                 journal: "",
                 explain: false,
             };
-            played(wait, alloc, &again, scenario, ran.kept.as_slice()).status
+            play_in_memory(wait, alloc, &again, scenario, ran.kept.as_slice()).status
         }
         _ => 0,
     }
 }
 
 // What the program gives where its command line asks for nothing that can be done.
-fn refused(alloc: Global, error: &Error) -> Result<Given, AllocError> {
+fn tell_refusal(alloc: Global, error: &Error) -> Result<Given, AllocError> {
     let text = error.to_string(alloc)?.into_bytes();
     let nothing = Vec::new(alloc);
     let (out, err) = if error.use_stderr() {

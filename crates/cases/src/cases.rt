@@ -75,7 +75,7 @@ fn is_part_right<H: Host, W: Write>(
         commands: part.commands,
         scenario: part.blocks.scenario,
         journal: journal.as_str(),
-        wanted: wanted(part.blocks),
+        wanted: read_wanted(part.blocks),
     };
     is_right(wait, alloc, &case, out)
 }
@@ -158,7 +158,7 @@ fn line_number(head: &str) -> Option<usize> {
     head.strip_prefix("line ")?.parse().ok()
 }
 
-fn wanted(blocks: Blocks<'_>) -> Wanted<'_> {
+fn read_wanted(blocks: Blocks<'_>) -> Wanted<'_> {
     let other = match blocks.other {
         Some(text) => Some(wanted_text(Some(text))),
         None => None,

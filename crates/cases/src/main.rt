@@ -30,7 +30,7 @@ fn main(rt: HostRuntime) -> ExitCode {
 
 // Whether a file can be read, has cases, and all of them are right.
 fn is_right<H: Host, W: Write>(rt: &HostRuntime, wait: &H, file: &str, out: &mut W) -> bool {
-    match done(rt, wait, file, out) {
+    match do_file(rt, wait, file, out) {
         Ok(tally) => {
             let _ = writeln!(out, "{file}: {tally}");
             tally.is_right()
@@ -42,8 +42,8 @@ fn is_right<H: Host, W: Write>(rt: &HostRuntime, wait: &H, file: &str, out: &mut
     }
 }
 
-// Does the cases of a file.
-fn done<H: Host, W: Write>(
+// Does the cases of a file, of either kind.
+fn do_file<H: Host, W: Write>(
     rt: &HostRuntime,
     wait: &H,
     file: &str,

@@ -5,8 +5,8 @@ use Rattle.network_model.specs.declared.step.Step.{Step}
 use Rattle.network_model.specs.declared.step.Refusal.{Refusal}
 use Rattle.publication.proofs.Places.{each-push}
 use Rattle.world.specs.Steps.{CanBeRefused, IsDoneOr}
-use Rattle.fabric.specs.Fabric.{Fabric, fabric_refusal, next_step}
-use Rattle.control.specs.declared.desk.Share.{Share}
+use Rattle.fabric.specs.Fabric.{Fabric, fabric_refusal, next_fabric_step}
+use Rattle.control.specs.declared.share.Share.{Share}
 use Rattle.control.specs.Served.{IsFound, IsTurn, IsTurnRefused}
 use Rattle.control.specs.Shares.{AreNew}
 
@@ -27,7 +27,7 @@ refused_as X None e h = h
 refused_as X (Some c) e h = let inner : ◌≡◌ {A = Result X Refusal} (Err e) (Err c) = h in cc
 
 -- a turn whose step was refused
-pub refused_turn : (f : Fabric) (i : ℕ) (s : Step) (r : Result ⊤ Refusal) (e : Refusal) (answer : Result (Option Step) Refusal) → next_step f i ≡ Some s → r ≡ Err e → answer ≡ Err e → IsDoneOr (fabric_refusal f s) r → IsTurn f i answer
+pub refused_turn : (f : Fabric) (i : ℕ) (s : Step) (r : Result ⊤ Refusal) (e : Refusal) (answer : Result (Option Step) Refusal) → next_fabric_step f i ≡ Some s → r ≡ Err e → answer ≡ Err e → IsDoneOr (fabric_refusal f s) r → IsTurn f i answer
 refused_turn f i s r e answer due refused is done =
     subst (IsTurn f i) (sym is) (inr (s, due, inl (refused_for (fabric_refusal f s) e (subst (IsDoneOr (fabric_refusal f s)) refused done))))
 

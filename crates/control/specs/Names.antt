@@ -1,6 +1,6 @@
 -- The name of a control.
 use Rattle.std.specs.Prelude.{◌≡◌, ℕ}
-use Rattle.control.specs.declared.desk.Opening.{Opening}
+use Rattle.control.specs.declared.share.Opening.{Opening}
 
 -- the names of an opening's two ledgers
 abbrev pub high_name : Opening → ℕ

@@ -13,7 +13,7 @@ use Rattle.network_model.specs.Journal.{Fits, journal_sum, step_number}
 use Rattle.network_model.specs.Publication.{Image}
 use Rattle.world.specs.Steps.{CanBeRefused}
 use Rattle.fabric.specs.Fabric.{Fabric, fabric_refusal, is_lent, ForwardsAsPublished}
-use Rattle.fabric.specs.Fabric.{next_step as next_turn}
+use Rattle.fabric.specs.Fabric.{next_fabric_step as next_turn}
 use Rattle.fabric.specs.Headline.{NeverMeetsTwice, LeadsAtLeastCost}
 use Rattle.fabric.specs.Images.{images_in_force}
 

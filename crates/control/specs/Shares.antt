@@ -1,7 +1,7 @@
 -- Shares and their holders.
 use Rattle.std.specs.Prelude.{◌≡◌, ℕ, ◌<◌, ◌==◌, if◌then◌else◌, List, length, slice_index_or}
 use Rattle.publication.specs.Lists.{EachAt}
-use Rattle.control.specs.declared.desk.Share.{Share}
+use Rattle.control.specs.declared.share.Share.{Share}
 
 module _ {N : Type 0} where
   -- a share of the same number

@@ -1,9 +1,10 @@
-//! What a control does.
+//! A fabric under a lock.
 
 ghost use Rattle.std.specs.Prelude.{◌≡◌, ◌<◌, ◌≤◌, ◌+◌, ◌*◌, ◌^◌, ◌↔◌, if◌then◌else◌, None, Some, Ok, true, false, length, slice_get, sum_by, vec_len, IfOk, IfErr, IfSome, IsOk, OnOk, MatchOption, MatchResult};
 ghost use Rattle.network_model.specs.Journal.{journal_sum, step_number, steps_in_sum};
 ghost use Rattle.network_model.specs.Step as steps;
 ghost use Rattle.network_model.specs.Turns as turns;
+ghost use Rattle.network_model.specs.Network.{most_routers};
 ghost use Rattle.world.specs.Steps.{IsDoneOr};
 ghost use Rattle.publication.specs.Lists.{image_of};
 ghost use Rattle.fabric.specs.Fabric.{Fabric as FabricState, fabric_refusal};
@@ -11,67 +12,23 @@ ghost use Rattle.control.specs.Names.{IsNamed};
 ghost use Rattle.control.specs.Served.{HasHeadline, IsFound, IsServed, IsTurn, added_at_once};
 ghost use Rattle.control.specs.Shares.{IsHolder, AreNew};
 
-use crate::desk::{Control, Guarded, Halt, High, Low, Naming, Opening, Share};
-use crate::guarded::UNIT;
+use crate::guarded::{Guarded, UNIT};
+use crate::name::{ControlName, High, Low};
 use crate::serve::{NoGate, TurnGate};
+use crate::share::{Opening, Share};
 use fabric::Fabric;
 use network_model::{Refusal, Step};
-use publication::{Job, Ticket};
+use publication::{FabricName, Job, Ticket};
 use std::alloc::Global;
 use std::mem::ManuallyDrop;
-use std::sync::ledger::{self, Blank};
 use std::sync::{Mutex, Wait};
 
-impl Opening {
-    /// Of so many shares.
-    pub fn new(shares: u8) -> Opening
-        ensures { result.shares ≡ shares }
-    {
-        Opening {
-            high: Blank::new(u64::from(shares)),
-            low: Blank::new(u64::from(shares)),
-            shares,
-        }
-    }
+/// A fabric under a lock. It is not `Drop`: end it by `close`.
+pub struct Control<B: FabricName, N: ControlName> {
+    pub(crate) guarded: Mutex<ManuallyDrop<Guarded<B, N>>>,
 }
 
-impl<N: Naming> Share<N> {
-    /// The sum of the numbers of its holder's steps; the first share of a control has that of the steps
-    /// before it too.
-    pub fn sum(&self) -> u128
-        ensures { result ≡ self.now.sum }
-    {
-        self.sum
-    }
-
-    /// Its place among the shares of its control, from 0.
-    pub fn number(&self) -> u8
-        ensures { result ≡ self.now.number }
-    {
-        self.number
-    }
-
-    fn made(
-        number: u8,
-        sum: u128,
-        high: ledger::Share<High<N>>,
-        low: ledger::Share<Low<N>>,
-    ) -> Share<N>
-        requires parts { (high.parts ≡ 1) × (low.parts ≡ 1) }
-        requires adds_up { sum ≡ high.amount * 2 ^ 64 + low.amount }
-        ensures { (result.number ≡ number) × (result.sum ≡ sum) }
-    {
-        Share {
-            number,
-            sum,
-            halt: Halt::none(),
-            high,
-            low,
-        }
-    }
-}
-
-impl<B: publication::Naming, N: Naming> Control<B, N> {
+impl<B: FabricName, N: ControlName> Control<B, N> {
     /// Puts a fabric under a lock, and makes the shares. The first has the journal's sum, the others
     /// have 0. Without memory the fabric comes back.
     pub fn new(
@@ -82,7 +39,8 @@ impl<B: publication::Naming, N: Naming> Control<B, N> {
         requires names { IsNamed opening N.high N.low N.shares }
         requires some { 0 < opening.shares }
         requires opened { IsServed N.opened N.asked fabric }
-        ensures shares { IfOk result (λ r. (vec_len r.1 ≡ opening.shares) × AreNew (journal_sum fabric.journal) r.1.items) }
+        ensures shares { IfOk result (λ r. (vec_len r.1 ≡ opening.shares)
+            × AreNew (journal_sum fabric.journal) r.1.items) }
         ensures object { IfErr result (λ f. f ≡ fabric) }
     {
         let sum = fabric.sum();
@@ -100,20 +58,20 @@ impl<B: publication::Naming, N: Naming> Control<B, N> {
         for number in 0..shares {
             let high = high_rest.split_off(1, high_left);
             let low = low_rest.split_off(1, low_left);
-            all.push_reserved(Share::made(number, sum_left, high, low));
+            all.push_reserved(Share::new(number, sum_left, high, low));
             sum_left = 0;
             high_left = 0;
             low_left = 0;
         }
-        let guarded = Guarded::made(fabric, high_book, low_book);
+        let guarded = Guarded::new(fabric, high_book, low_book);
         Ok((Control::of(guarded), all))
     }
 
     // A fabric has to be closed, so none is let go with the lock: `close` takes it out.
     fn of(guarded: Guarded<B, N>) -> Control<B, N> {
-        let desk = unsafe { ManuallyDrop::new_unchecked(guarded) };
+        let guarded = unsafe { ManuallyDrop::new_unchecked(guarded) };
         Control {
-            desk: Mutex::new(desk),
+            guarded: Mutex::new(guarded),
         }
     }
 
@@ -127,13 +85,13 @@ impl<B: publication::Naming, N: Naming> Control<B, N> {
         ensures served { IsServed N.opened N.asked result }
     {
         let mut shares = shares;
-        let Control { desk } = self;
+        let Control { guarded } = self;
         let Guarded {
             fabric,
             watch: _watch,
             mut high,
             mut low,
-        } = ManuallyDrop::into_inner(desk.into_inner());
+        } = ManuallyDrop::into_inner(guarded.into_inner());
         let Some(first) = shares.pop() else {
             unreachable!()
         };
@@ -157,6 +115,7 @@ impl<B: publication::Naming, N: Naming> Control<B, N> {
         }
         high.audit(&mut all_high);
         low.audit(&mut all_low);
+        // The sum tells how long the journal is.
         let _sum = fabric.sum();
         fabric
     }
@@ -165,11 +124,13 @@ impl<B: publication::Naming, N: Naming> Control<B, N> {
     /// nothing.
     pub fn step<R: Wait>(&self, rt: &R, step: Step, share: &mut Share<N>) -> Result<(), Refusal>
         requires asked { N.asked step ≡ true }
-        ensures sum { MatchResult result (λ _. share.new.sum ≡ share.old.sum + step_number step) (λ _. share.new.sum ≡ share.old.sum) }
+        ensures sum { MatchResult result (λ _. share.new.sum ≡ share.old.sum + step_number step)
+            (λ _. share.new.sum ≡ share.old.sum) }
         ensures holder { IsHolder share.old share.new }
-        ensures cause { (f : FabricState) × IsFound N.opened N.asked N.shares share.old.sum f × IsDoneOr (fabric_refusal f step) result × OnOk result (steps.Lawful f.world step) }
+        ensures cause { (f : FabricState) × IsFound N.opened N.asked N.shares share.old.sum f
+            × IsDoneOr (fabric_refusal f step) result × OnOk result (steps.Lawful f.world step) }
     {
-        self.desk.lock(rt).step(rt, step, share)
+        self.guarded.lock(rt).step(rt, step, share)
     }
 
     /// Does what a router has to do next, adds its number to the share, and answers it; none where the
@@ -182,9 +143,12 @@ impl<B: publication::Naming, N: Naming> Control<B, N> {
         router: u16,
         share: &mut Share<N>,
     ) -> Result<Option<Step>, Refusal>
-        ensures sum { MatchResult result (λ o. MatchOption o (share.new.sum ≡ share.old.sum) (λ s. share.new.sum ≡ share.old.sum + step_number s)) (λ _. share.new.sum ≡ share.old.sum) }
+        ensures sum { MatchResult result
+            (λ o. MatchOption o (share.new.sum ≡ share.old.sum) (λ s. share.new.sum
+            ≡ share.old.sum + step_number s)) (λ _. share.new.sum ≡ share.old.sum) }
         ensures holder { IsHolder share.old share.new }
-        ensures turn { (f : FabricState) × IsFound N.opened N.asked N.shares share.old.sum f × IsTurn f router result }
+        ensures turn { (f : FabricState) × IsFound N.opened N.asked N.shares share.old.sum f
+            × IsTurn f router result }
     {
         self.turn_with(rt, router, share, 0, &NoGate)
     }
@@ -198,9 +162,12 @@ impl<B: publication::Naming, N: Naming> Control<B, N> {
         thread: u8,
         gate: &G,
     ) -> Result<Option<Step>, Refusal>
-        ensures sum { MatchResult result (λ o. MatchOption o (share.new.sum ≡ share.old.sum) (λ s. share.new.sum ≡ share.old.sum + step_number s)) (λ _. share.new.sum ≡ share.old.sum) }
+        ensures sum { MatchResult result
+            (λ o. MatchOption o (share.new.sum ≡ share.old.sum) (λ s. share.new.sum
+            ≡ share.old.sum + step_number s)) (λ _. share.new.sum ≡ share.old.sum) }
         ensures holder { IsHolder share.old share.new }
-        ensures turn { (f : FabricState) × IsFound N.opened N.asked N.shares share.old.sum f × IsTurn f router result }
+        ensures turn { (f : FabricState) × IsFound N.opened N.asked N.shares share.old.sum f
+            × IsTurn f router result }
     {
         let (done, ticket) = self.begin(rt, router, share);
         let Some(mut ticket) = ticket else {
@@ -224,10 +191,12 @@ impl<B: publication::Naming, N: Naming> Control<B, N> {
     ) -> (Result<Option<Step>, Refusal>, Option<Ticket<B>>)
         ensures sum { share.new.sum ≡ share.old.sum + added_at_once result.0 result.1 }
         ensures holder { IsHolder share.old share.new }
-        ensures turn { (f : FabricState) × IsFound N.opened N.asked N.shares share.old.sum f × IsTurn f router result.0
-            × IfSome result.1 (λ t. (result.0 ≡ Ok (Some (Step.Publish router))) × (fabric_refusal f (Step.Publish router) ≡ None) × (t.is_published ≡ false) × (t.before.router ≡ router)) }
+        ensures turn { (f : FabricState) × IsFound N.opened N.asked N.shares share.old.sum f
+            × IsTurn f router result.0
+            × IfSome result.1 (λ t. (result.0 ≡ Ok (Some (Step.Publish router))) × (fabric_refusal f
+            (Step.Publish router) ≡ None) × (t.is_published ≡ false) × (t.before.router ≡ router)) }
     {
-        self.desk.lock(rt).begin(rt, router, true, share)
+        self.guarded.lock(rt).begin(rt, router, true, share)
     }
 
     pub(crate) fn finish<R: Wait>(
@@ -236,10 +205,12 @@ impl<B: publication::Naming, N: Naming> Control<B, N> {
         ticket: Ticket<B>,
         share: &mut Share<N>,
     ) -> Result<(), Ticket<B>>
-        ensures sum { MatchResult result (λ _. share.new.sum ≡ share.old.sum + (if ticket.is_published then step_number (Step.Publish ticket.before.router) else 0)) (λ _. share.new.sum ≡ share.old.sum) }
+        ensures sum { MatchResult result (λ _. share.new.sum
+            ≡ share.old.sum + (if ticket.is_published then step_number
+            (Step.Publish ticket.before.router) else 0)) (λ _. share.new.sum ≡ share.old.sum) }
         ensures holder { IsHolder share.old share.new }
     {
-        self.desk.lock(rt).finish(ticket, share)
+        self.guarded.lock(rt).finish(ticket, share)
     }
 
     /// An address for a worker to look up at a router, in an image no older than the one in force now.
@@ -251,26 +222,29 @@ impl<B: publication::Naming, N: Naming> Control<B, N> {
         router: u16,
         addr: u32,
     ) -> Result<Job<B>, Refusal>
-        ensures asked { IfOk result (λ j. (j.number ≡ number) × (j.told.router ≡ router) × (j.addr ≡ addr)) }
+        ensures asked { IfOk result (λ j. (j.number ≡ number) × (j.told.router ≡ router)
+            × (j.addr ≡ addr)) }
         ensures known { IsOk result ↔ (router < (N.opened.network).routers) }
         ensures err { IfErr result (λ e. e ≡ Refusal.UnknownRouter) }
-        ensures in_force { (f : FabricState) × IsServed N.opened N.asked f × HasHeadline f × IfOk result (λ j. slice_get f.images router ≡ Some (image_of B.openings j.told)) }
+        ensures in_force { (f : FabricState) × IsServed N.opened N.asked f × HasHeadline f
+            × IfOk result (λ j. slice_get f.images router ≡ Some (image_of B.openings j.told)) }
     {
-        self.desk.lock(rt).job(number, router, addr)
+        self.guarded.lock(rt).job(number, router, addr)
     }
 
     /// Whether nothing is left to do.
     pub fn is_settled<R: Wait>(&self, rt: &R) -> bool
-        ensures { (f : FabricState) × IsServed N.opened N.asked f × HasHeadline f × (result ≡ turns.is_settled f.world) }
+        ensures { (f : FabricState) × IsServed N.opened N.asked f × HasHeadline f
+            × (result ≡ turns.is_settled f.world) }
     {
-        self.desk.lock(rt).is_settled()
+        self.guarded.lock(rt).is_settled()
     }
 
     /// How many routers there are.
     pub(crate) fn routers<R: Wait>(&self, rt: &R) -> u16
         ensures routers { result ≡ (N.opened.network).routers }
-        ensures few { result ≤ 256 }
+        ensures few { result ≤ most_routers }
     {
-        self.desk.lock(rt).routers()
+        self.guarded.lock(rt).routers()
     }
 }

@@ -1,29 +1,55 @@
-//! Steps and turns under the lock.
+//! What lies under the lock: its steps and turns.
 
 ghost use Rattle.std.specs.Prelude.{◌≡◌, ◌≤◌, ◌<◌, ◌+◌, ◌*◌, ◌^◌, ◌↔◌, if◌then◌else◌, true, false, None, Some, Ok, slice_get, IfOk, IfErr, IfSome, IsOk, OnOk, OnErr, MatchResult};
 ghost use Rattle.network_model.specs.Journal.{journal_sum, step_number};
 ghost use Rattle.network_model.specs.Step as steps;
 ghost use Rattle.network_model.specs.Turns as turns;
+ghost use Rattle.network_model.specs.Network.{most_routers};
 ghost use Rattle.world.specs.Steps.{IsDoneOr};
 ghost use Rattle.publication.specs.Lists.{image_of};
 ghost use Rattle.fabric.specs.Fabric.{after_step, fabric_refusal};
-ghost use Rattle.fabric.specs.Fabric.{next_step as next_turn};
+ghost use Rattle.fabric.specs.Fabric.{next_fabric_step as next_turn};
 ghost use Rattle.control.specs.Served.{HasHeadline, IsFound, IsServed, IsTurn, IsTurnAt, added_at_once, may_do};
 ghost use Rattle.control.specs.Shares.{IsHolder};
 
-use crate::desk::{Guarded, High, Low, Naming, Share};
+use crate::name::{ControlName, High, Low};
+use crate::share::Share;
 use crate::watch::Watch;
 use fabric::Fabric;
 use network_model::{Refusal, Step};
-use publication::{Job, Ticket};
+use publication::{FabricName, Job, Ticket};
+use std::marker::Model;
 use std::sync::Wait;
 use std::sync::ledger::Book;
 
 // What the high ledger counts by.
 pub const UNIT: u128 = 1 << 64;
 
-impl<B: publication::Naming, N: Naming> Guarded<B, N> {
-    pub fn made(fabric: Fabric<B>, high: Book<High<N>>, low: Book<Low<N>>) -> Guarded<B, N>
+/// The fabric, which of its routers may have something to do, and the books of the shares, which add up
+/// to its journal's sum. Contracts see it as the fabric.
+pub struct Guarded<B: FabricName, N: ControlName> {
+    pub(crate) fabric: Fabric<B>,
+    pub(crate) watch: Watch,
+    pub(crate) high: Book<High<N>>,
+    pub(crate) low: Book<Low<N>>,
+}
+
+impl<B: FabricName, N: ControlName> Model for Guarded<B, N> {
+    ghost use Rattle.std.specs.Prelude.{◌≡◌, ◌+◌, ◌*◌, ◌^◌};
+    ghost use Rattle.network_model.specs.Journal.{journal_sum};
+    ghost use Rattle.fabric.specs.Fabric.{Fabric as FabricState};
+    ghost use Rattle.control.specs.Served.{IsServed};
+
+    ghost Value = { FabricState };
+
+    ghost view = { λ g. g.fabric };
+
+    ghost invariant = { λ g. (g.high.total * 2 ^ 64 + g.low.total ≡ journal_sum g.fabric.journal)
+        × IsServed N.opened N.asked g.fabric };
+}
+
+impl<B: FabricName, N: ControlName> Guarded<B, N> {
+    pub fn new(fabric: Fabric<B>, high: Book<High<N>>, low: Book<Low<N>>) -> Guarded<B, N>
         requires counted { high.total * 2 ^ 64 + low.total ≡ journal_sum fabric.journal }
         requires served { IsServed N.opened N.asked fabric }
         ensures { result ≡ fabric }
@@ -40,10 +66,12 @@ impl<B: publication::Naming, N: Naming> Guarded<B, N> {
     pub fn step<R: Wait>(&mut self, rt: &R, step: Step, share: &mut Share<N>) -> Result<(), Refusal>
         requires { IsTurnAt (may_do N.opened N.asked) (self.old).world step }
         ensures found { IsFound N.opened N.asked N.shares share.old.sum self.old }
-        ensures ok { OnOk result (steps.Lawful (self.old).world step × (self.new ≡ after_step self.old step)) }
+        ensures ok { OnOk result (steps.Lawful (self.old).world step
+            × (self.new ≡ after_step self.old step)) }
         ensures err { OnErr result (self.new ≡ self.old) }
         ensures cause { IsDoneOr (fabric_refusal self.old step) result }
-        ensures sum { MatchResult result (λ _. share.new.sum ≡ share.old.sum + step_number step) (λ _. share.new.sum ≡ share.old.sum) }
+        ensures sum { MatchResult result (λ _. share.new.sum ≡ share.old.sum + step_number step)
+            (λ _. share.new.sum ≡ share.old.sum) }
         ensures holder { IsHolder share.old share.new }
     {
         let number = step.number();
@@ -60,6 +88,7 @@ impl<B: publication::Naming, N: Naming> Guarded<B, N> {
             high: own_high,
             low: own_low,
         } = share;
+        // The network has no fault, which its type keeps.
         let _network = fabric.network();
         fabric.holds();
         high.audit(own_high);
@@ -86,7 +115,8 @@ impl<B: publication::Naming, N: Naming> Guarded<B, N> {
     ) -> (Result<Option<Step>, Refusal>, Option<Ticket<B>>)
         ensures found { IsFound N.opened N.asked N.shares share.old.sum self.old }
         ensures turn { IsTurn self.old router result.0 }
-        ensures ticket { IfSome result.1 (λ t. (result.0 ≡ Ok (Some (Step.Publish router))) × (fabric_refusal self.old (Step.Publish router) ≡ None)
+        ensures ticket { IfSome result.1 (λ t. (result.0 ≡ Ok (Some (Step.Publish router)))
+            × (fabric_refusal self.old (Step.Publish router) ≡ None)
             × (t.is_published ≡ false) × (t.before.router ≡ router)) }
         ensures lent { IfSome result.1 (λ t. lends ≡ true) }
         ensures sum { share.new.sum ≡ share.old.sum + added_at_once result.0 result.1 }
@@ -127,7 +157,9 @@ impl<B: publication::Naming, N: Naming> Guarded<B, N> {
     /// Ends a turn whose router's writer was out: it comes back, and where it has published, the number
     /// of the publication is added to the share. Refused, the ticket comes back, and nothing changes.
     pub fn finish(&mut self, ticket: Ticket<B>, share: &mut Share<N>) -> Result<(), Ticket<B>>
-        ensures sum { MatchResult result (λ _. share.new.sum ≡ share.old.sum + (if ticket.is_published then step_number (Step.Publish ticket.before.router) else 0)) (λ _. share.new.sum ≡ share.old.sum) }
+        ensures sum { MatchResult result (λ _. share.new.sum
+            ≡ share.old.sum + (if ticket.is_published then step_number
+            (Step.Publish ticket.before.router) else 0)) (λ _. share.new.sum ≡ share.old.sum) }
         ensures holder { IsHolder share.old share.new }
         ensures ticket { IfErr result (λ t. t ≡ ticket) }
     {
@@ -165,11 +197,14 @@ impl<B: publication::Naming, N: Naming> Guarded<B, N> {
     pub fn job(&self, number: u64, router: u16, addr: u32) -> Result<Job<B>, Refusal>
         ensures served { IsServed N.opened N.asked self.now }
         ensures headline { HasHeadline self.now }
-        ensures asked { IfOk result (λ j. (j.number ≡ number) × (j.told.router ≡ router) × (j.addr ≡ addr)) }
-        ensures in_force { IfOk result (λ j. slice_get (self.now).images router ≡ Some (image_of B.openings j.told)) }
+        ensures asked { IfOk result (λ j. (j.number ≡ number) × (j.told.router ≡ router)
+            × (j.addr ≡ addr)) }
+        ensures in_force { IfOk result (λ j. slice_get (self.now).images router
+            ≡ Some (image_of B.openings j.told)) }
         ensures known { IsOk result ↔ (router < (N.opened.network).routers) }
         ensures err { IfErr result (λ e. e ≡ Refusal.UnknownRouter) }
     {
+        // The network has no fault, which its type keeps.
         let _network = self.fabric.network();
         self.fabric.holds();
         self.fabric.job(number, router, addr)
@@ -188,7 +223,7 @@ impl<B: publication::Naming, N: Naming> Guarded<B, N> {
     /// How many routers there are.
     pub fn routers(&self) -> u16
         ensures routers { result ≡ (N.opened.network).routers }
-        ensures few { result ≤ 256 }
+        ensures few { result ≤ most_routers }
     {
         self.fabric.network().routers()
     }
@@ -200,6 +235,7 @@ impl<B: publication::Naming, N: Naming> Guarded<B, N> {
         ensures sum { share.new.sum ≡ share.old.sum }
         ensures holder { IsHolder share.old share.new }
     {
+        // The network has no fault, which its type keeps.
         let _network = self.fabric.network();
         self.fabric.holds();
         self.high.audit(&mut share.high);

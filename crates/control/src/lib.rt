@@ -1,17 +1,48 @@
 //! A fabric under a lock, stepped by several threads. What the steps of each come to stands in its
 //! share, and all shares together add up to the journal's sum.
+//!
+//! A clause can say of a call that takes a lock what it did, but not of which fabric: others may have
+//! stepped it meanwhile. So a control is named ([`ControlName`]) by the fabric from which it began, the
+//! steps that may be asked for, and two *ledgers*, in which each holder's share adds up the numbers of the
+//! steps that it did:
+//!
+//! ```text
+//!   Control ( lock )                          beside it
+//!     Guarded                                   Share 0   sum of its holder's steps
+//!       fabric  journal s1 .. sn                Share 1
+//!       books   high * 2^64 + low               ..
+//!               = sum of the steps' numbers   = share 0 + share 1 + ..
+//! ```
+//!
+//! A step has a number that no other step has, and the sum of a journal tells how many it has; so whoever
+//! hands all shares in ([`Control::close`]) knows that the journal has just the steps that they did, and no
+//! thread can have counted a step that it did not do.
+//!
+//! - [`Control::step`] does the step that is asked, [`Control::turn`] the one that a router has to do
+//!   next. A turn that publishes takes a ticket under the lock, publishes without it, and gives the ticket
+//!   back under it again.
+//! - [`Control::serve`] starts a thread for each share, which takes turns at its own routers until the
+//!   fabric is settled. [`settle`] does it with one thread, and calls others where there is much to
+//!   publish.
+//!
+//! What always holds: what lies under the lock is the fabric of the name with some more steps done, each
+//! one that some router had to do next, or that may be asked for (`IsServed` in `specs/Served.antt`), so
+//! that the headline holds of it.
 #![tactic(auto)]
 
 mod control;
 mod crowd;
-mod desk;
 mod guarded;
+mod name;
 mod pass;
-mod rounds;
 mod serve;
+mod settling;
+mod share;
 mod watch;
 
-pub use desk::{Control, Naming, Opening, Share};
+pub use control::Control;
+pub use name::ControlName;
 pub use network_model::{Refusal, Step};
-pub use rounds::settle;
 pub use serve::TurnGate;
+pub use settling::settle;
+pub use share::{Opening, Share};

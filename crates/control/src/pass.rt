@@ -5,11 +5,13 @@ ghost use Rattle.network_model.specs.Turns as turns;
 ghost use Rattle.control.specs.Served.{CanFailOutside, IsServed, IsTurnRefused};
 ghost use Rattle.control.specs.Shares.{IsHolder};
 
-use crate::desk::{Guarded, Naming, Share};
+use crate::guarded::Guarded;
+use crate::name::ControlName;
+use crate::share::Share;
 use crate::watch::Watch;
 use fabric::Fabric;
 use network_model::{NoMemory, Refusal};
-use publication::Ticket;
+use publication::{FabricName, Ticket};
 use std::sync::Wait;
 
 /// The most tickets that a thread has out at once.
@@ -36,7 +38,7 @@ pub struct Pass {
     pub settled: bool,
 }
 
-impl<B: publication::Naming, N: Naming> Guarded<B, N> {
+impl<B: FabricName, N: ControlName> Guarded<B, N> {
     /// Takes all tickets back. Then routers that may have something to do take turns, from this one on in
     /// ascending cyclic order; large publications among them are left to tickets, as far as there is room
     /// for these, until there is enough to publish outside the lock. Refused, as the first turn that is
@@ -137,7 +139,7 @@ impl<B: publication::Naming, N: Naming> Guarded<B, N> {
 }
 
 /// How many rows a router has chosen and not published.
-pub fn rows_due<B: publication::Naming>(fabric: &Fabric<B>, router: u16) -> usize {
+pub fn rows_due<B: FabricName>(fabric: &Fabric<B>, router: u16) -> usize {
     match fabric.table(router) {
         Ok(table) => table.changed().count(),
         Err(_) => 0,
@@ -145,7 +147,7 @@ pub fn rows_due<B: publication::Naming>(fabric: &Fabric<B>, router: u16) -> usiz
 }
 
 /// Publishes what tickets are out with, up to the first for which there is no memory.
-pub fn publish_all<B: publication::Naming, R: Wait>(
+pub fn publish_all<B: FabricName, R: Wait>(
     rt: &R,
     tickets: &mut Vec<Ticket<B>>,
 ) -> Result<(), NoMemory>

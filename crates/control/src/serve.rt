@@ -2,12 +2,16 @@
 
 ghost use Rattle.std.specs.Prelude.{◌≡◌, ◌+◌, ◌<◌, ◌≤◌, true, nat_lt, if◌then◌else◌, Some, None, IfErr, vec_len};
 ghost use Rattle.network_model.specs.Turns as turns;
+ghost use Rattle.network_model.specs.Network.{most_routers};
 ghost use Rattle.fabric.specs.Fabric.{Fabric as FabricState};
 ghost use Rattle.control.specs.Served.{IsFound, IsServed, IsTurn, IsTurnRefused};
 ghost use Rattle.control.specs.Shares.{IsHolder, AreSameHolders};
 
-use crate::desk::{Control, Halt, Naming, Share};
+use crate::control::Control;
+use crate::name::ControlName;
+use crate::share::{Halt, Share};
 use network_model::Refusal;
+use publication::FabricName;
 use std::sync::Wait;
 use std::sync::atomic::{AtomicBool, Ordering};
 use std::thread;
@@ -35,7 +39,7 @@ impl TurnGate for NoGate {
     fn after(&self, _thread: u8, _turn: u64) {}
 }
 
-impl<B: publication::Naming + Send + Sync, N: Naming + Send + Sync> Control<B, N> {
+impl<B: FabricName + Send + Sync, N: ControlName + Send + Sync> Control<B, N> {
     /// Lets a thread for each of the n shares serve: thread t serves the routers whose number modulo n
     /// is t, one turn each, in ascending cyclic order, until it finds the fabric settled. One without
     /// routers returns at once. Where a step is refused, each thread stops after its present turn, and
@@ -111,7 +115,7 @@ impl<B: publication::Naming + Send + Sync, N: Naming + Send + Sync> Control<B, N
 }
 
 /// The refusal of the first holder whose last serving ended with one.
-pub(crate) fn first_refusal<N: Naming>(shares: &[Share<N>]) -> Result<(), Refusal>
+pub(crate) fn first_refusal<N: ControlName>(shares: &[Share<N>]) -> Result<(), Refusal>
     ensures { IfErr result (IsTurnRefused N.opened N.asked) }
 {
     for share in shares {
@@ -127,7 +131,7 @@ pub(crate) fn first_refusal<N: Naming>(shares: &[Share<N>]) -> Result<(), Refusa
 struct Rota {
     threads: usize,
     routers: u16,
-    ghost few: { routers ≤ 256 },
+    ghost few: { routers ≤ most_routers },
 }
 
 impl Rota {

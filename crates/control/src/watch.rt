@@ -2,6 +2,7 @@
 
 use fabric::Fabric;
 use network_model::{End, Step};
+use publication::FabricName;
 
 /// Routers that may have something to do. It is a hint, on which nothing that is proved stands: a router
 /// that is not in it has nothing to do until a message is on its way to it, or its writer comes back.
@@ -55,7 +56,7 @@ impl Watch {
     }
 
     /// What a step brings to do that a fabric is about to do.
-    pub fn note<B: publication::Naming>(&mut self, fabric: &Fabric<B>, step: &Step) {
+    pub fn note<B: FabricName>(&mut self, fabric: &Fabric<B>, step: &Step) {
         match *step {
             Step::Deliver { router, port: _ } | Step::Publish { router } => self.add(router),
             Step::Release { router } => {
@@ -74,7 +75,7 @@ impl Watch {
 }
 
 // The router at the far end of the link on which a router releases next.
-fn next_receiver<B: publication::Naming>(fabric: &Fabric<B>, router: u16) -> Option<u16> {
+fn next_receiver<B: FabricName>(fabric: &Fabric<B>, router: u16) -> Option<u16> {
     let world = fabric.world();
     let held = world.routers().get(usize::from(router))?.front()?;
     let place = world.port(router, held.port)?;

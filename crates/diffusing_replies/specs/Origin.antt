@@ -4,18 +4,18 @@ use Rattle.diffusing_replies.specs.declared.origin.Origin.{Origin}
 use Rattle.diffusing_replies.specs.declared.origin.Origin.TheVariants.{OwnDisturbed, Own, OwingDisturbed, Owing}
 
 -- the number of a state
-abbrev pub number_of : Origin → ℕ
-number_of OwnDisturbed = 0
-number_of Own = 1
-number_of OwingDisturbed = 2
-number_of Owing = 3
+abbrev pub origin_number : Origin → ℕ
+origin_number OwnDisturbed = 0
+origin_number Own = 1
+origin_number OwingDisturbed = 2
+origin_number Owing = 3
 
 -- whether a reply is owed
-abbrev pub owes : Origin → Bool
-owes OwnDisturbed = false
-owes Own = false
-owes OwingDisturbed = true
-owes Owing = true
+abbrev pub owes_reply : Origin → Bool
+owes_reply OwnDisturbed = false
+owes_reply Own = false
+owes_reply OwingDisturbed = true
+owes_reply Owing = true
 
 -- ---- the table, a column each
 

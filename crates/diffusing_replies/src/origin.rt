@@ -22,7 +22,7 @@ pub enum Origin {
 impl Origin {
     /// The number of the state, 0..=3.
     pub fn number(self) -> u8
-        ensures { result ≡ table.number_of self }
+        ensures { result ≡ table.origin_number self }
     {
         self as u8
     }

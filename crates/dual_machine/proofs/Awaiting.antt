@@ -1,9 +1,8 @@
 -- The awaited ports, as a set and as the definition's list.
-use Rattle.std.specs.Prelude.{◌≡◌, ◌≢◌, ℕ, zero, suc, ◌+◌, ◌<◌, ◌≤◌, Bool, true, false, not, ◌&&◌, ◌||◌, ◌==◌, nat_lt, ◌↔◌, IsTrue, List, [], ◌∷◌, map, length, Option, slice_get, unwrap_or}
+use Rattle.std.proofs.Common.{◌⊎◌, inl, inr, get_or, refl, sym, ap, ◌∙◌, arith, ◌≡◌, ◌≢◌, ℕ, zero, suc, ◌+◌, ◌<◌, ◌≤◌, Bool, true, false, not, ◌&&◌, ◌||◌, ◌==◌, nat_lt, ◌↔◌, IsTrue, List, [], ◌∷◌, map, length, Option, slice_get, unwrap_or}
 use Rattle.std.specs.List.{list_any, range_with_len}
 use Rattle.std.specs.Option.{option_map_or}
 use Rattle.std.specs.FinSet.{contains}
-use Rattle.std.proofs.Common.{◌⊎◌, inl, inr, get_or, refl, sym, ap, ◌∙◌, arith}
 use Rattle.std.proofs.Math.Bool.{and-false}
 use Rattle.std.proofs.lemmas.Bool.{cases_eq, cases_lt, ne_eqb}
 use Rattle.std.proofs.lemmas.Bool.Decides.{nat_tests}
@@ -13,7 +12,7 @@ use Rattle.network_model.specs.declared.machine.Neighbour.{Neighbour}
 use Rattle.network_model.specs.Machine.{changed_at}
 use Rattle.diffusing_replies.specs.Ports.{Ports}
 use Rattle.dual_machine.specs.Awaited.{awaited_of, AwaitsBelow}
-use Rattle.dual_machine.specs.Event.{is_up_at}
+use Rattle.dual_machine.specs.Event.{is_neighbour_up}
 
 -- ---- a port is awaited no more
 
@@ -84,21 +83,21 @@ asking-done false s n below is = by_any (list_any (λ b. b) (awaited_of n s)) re
 
 -- ---- everyone who is up
 
-ups_from : (f : ℕ → Bool) (ns : List Neighbour) (a : ℕ) → ((p q : ℕ) → p ≡ a + q → f p ≡ is_up_at ns q) → map f (range_with_len a (length ns)) ≡ map (λ n. n.up) ns
+ups_from : (f : ℕ → Bool) (ns : List Neighbour) (a : ℕ) → ((p q : ℕ) → p ≡ a + q → f p ≡ is_neighbour_up ns q) → map f (range_with_len a (length ns)) ≡ map (λ n. n.up) ns
 ups_from f [] a is = refl
 ups_from f (n ∷ ns) a is = rw (is a 0 (omega arith)) (ap (λ bs. n.up ∷ bs) (ups_from f ns (a + 1) (λ p q at. is p (suc q) (omega arith))))
 
 -- the set of those who are up, as a list
-pub awaited_of-up : (s : Ports) (ns : List Neighbour) → ((q : ℕ) → contains s q ≡ is_up_at ns q) → awaited_of (length ns) s ≡ map (λ n. n.up) ns
+pub awaited_of-up : (s : Ports) (ns : List Neighbour) → ((q : ℕ) → contains s q ≡ is_neighbour_up ns q) → awaited_of (length ns) s ≡ map (λ n. n.up) ns
 awaited_of-up s ns is = ups_from (contains s) ns 0 (λ p q at. let same : p ≡ q = omega arith in rw same (is q))
 
-up_below : (ns : List Neighbour) (q : ℕ) → is_up_at ns q ≡ true → q < length ns
+up_below : (ns : List Neighbour) (q : ℕ) → is_neighbour_up ns q ≡ true → q < length ns
 up_below [] q up = cc
 up_below (n ∷ ns) zero up = omega arith
 up_below (n ∷ ns) (suc q) up = omega (arith, up_below ns q up)
 
 -- they are ports of the machine
-pub AwaitsBelow-up : (s : Ports) (ns : List Neighbour) → ((q : ℕ) → contains s q ≡ is_up_at ns q) → AwaitsBelow (length ns) s
+pub AwaitsBelow-up : (s : Ports) (ns : List Neighbour) → ((q : ℕ) → contains s q ≡ is_neighbour_up ns q) → AwaitsBelow (length ns) s
 AwaitsBelow-up s ns is q has = up_below ns q (sym (is q) ∙ has)
 
 -- where anyone is up, someone is awaited
@@ -122,7 +121,7 @@ awaited_of-at s n q below = by_place (cases_lt q n)
 
 -- ---- who is up, one port after the other
 
-pub is_up_at-at : (ns : List Neighbour) (i : ℕ) (n : Neighbour) → i < length ns → n ≡ get_or ns i n → is_up_at ns i ≡ n.up
+pub is_up_at-at : (ns : List Neighbour) (i : ℕ) (n : Neighbour) → i < length ns → n ≡ get_or ns i n → is_neighbour_up ns i ≡ n.up
 is_up_at-at ns i n inside is = ap (λ (o : Option Neighbour). option_map_or (λ n. n.up) o false) (slice_get_read ns (length ns) i n refl inside is)
 
 lt_itself : (q i : ℕ) → q ≡ i → nat_lt q (i + 1) ≡ true
@@ -138,28 +137,28 @@ eq_itself : (q i : ℕ) → q ≡ i → q == i ≡ true
 eq_itself q i same = grind (arith, nat_tests)
 
 -- one more that is up
-pub more_up : (ns : List Neighbour) (q i : ℕ) → is_up_at ns i ≡ true → (q == i || (nat_lt q i && is_up_at ns q)) ≡ (nat_lt q (i + 1) && is_up_at ns q)
+pub more_up : (ns : List Neighbour) (q i : ℕ) → is_neighbour_up ns i ≡ true → (q == i || (nat_lt q i && is_neighbour_up ns q)) ≡ (nat_lt q (i + 1) && is_neighbour_up ns q)
 more_up ns q i up = by_place (cases_eq q i)
   where
-    by_place : (q ≡ i) ⊎ (q ≢ i) → (q == i || (nat_lt q i && is_up_at ns q)) ≡ (nat_lt q (i + 1) && is_up_at ns q)
-    by_place (inl same) = ap (λ b. b || (nat_lt q i && is_up_at ns q)) (eq_itself q i same) ∙ sym (ap (λ b. b && is_up_at ns q) (lt_itself q i same) ∙ ap (is_up_at ns) same ∙ up)
-    by_place (inr apart) = ap (λ b. b || (nat_lt q i && is_up_at ns q)) (ne_eqb q i apart) ∙ ap (λ b. b && is_up_at ns q) (sym (lt_other q i apart))
+    by_place : (q ≡ i) ⊎ (q ≢ i) → (q == i || (nat_lt q i && is_neighbour_up ns q)) ≡ (nat_lt q (i + 1) && is_neighbour_up ns q)
+    by_place (inl same) = ap (λ b. b || (nat_lt q i && is_neighbour_up ns q)) (eq_itself q i same) ∙ sym (ap (λ b. b && is_neighbour_up ns q) (lt_itself q i same) ∙ ap (is_neighbour_up ns) same ∙ up)
+    by_place (inr apart) = ap (λ b. b || (nat_lt q i && is_neighbour_up ns q)) (ne_eqb q i apart) ∙ ap (λ b. b && is_neighbour_up ns q) (sym (lt_other q i apart))
 
 -- one more that is down
-pub more_down : (ns : List Neighbour) (q i : ℕ) → is_up_at ns i ≡ false → (nat_lt q i && is_up_at ns q) ≡ (nat_lt q (i + 1) && is_up_at ns q)
+pub more_down : (ns : List Neighbour) (q i : ℕ) → is_neighbour_up ns i ≡ false → (nat_lt q i && is_neighbour_up ns q) ≡ (nat_lt q (i + 1) && is_neighbour_up ns q)
 more_down ns q i down = by_place (cases_eq q i)
   where
-    by_place : (q ≡ i) ⊎ (q ≢ i) → (nat_lt q i && is_up_at ns q) ≡ (nat_lt q (i + 1) && is_up_at ns q)
-    by_place (inl same) = ap (λ b. b && is_up_at ns q) (not_lt_itself q i same) ∙ sym (ap (λ b. nat_lt q (i + 1) && b) (ap (is_up_at ns) same ∙ down) ∙ and-false (nat_lt q (i + 1)))
-    by_place (inr apart) = ap (λ b. b && is_up_at ns q) (sym (lt_other q i apart))
+    by_place : (q ≡ i) ⊎ (q ≢ i) → (nat_lt q i && is_neighbour_up ns q) ≡ (nat_lt q (i + 1) && is_neighbour_up ns q)
+    by_place (inl same) = ap (λ b. b && is_neighbour_up ns q) (not_lt_itself q i same) ∙ sym (ap (λ b. nat_lt q (i + 1) && b) (ap (is_neighbour_up ns) same ∙ down) ∙ and-false (nat_lt q (i + 1)))
+    by_place (inr apart) = ap (λ b. b && is_neighbour_up ns q) (sym (lt_other q i apart))
 
 -- past the last port there is no other
-pub all_up : (ns : List Neighbour) (q i : ℕ) → length ns ≤ i → (nat_lt q i && is_up_at ns q) ≡ is_up_at ns q
-all_up ns q i past = by_up (is_up_at ns q) refl
+pub all_up : (ns : List Neighbour) (q i : ℕ) → length ns ≤ i → (nat_lt q i && is_neighbour_up ns q) ≡ is_neighbour_up ns q
+all_up ns q i past = by_up (is_neighbour_up ns q) refl
   where
     inside : q < i → nat_lt q i ≡ true
     inside h = grind (arith, nat_tests)
 
-    by_up : (b : Bool) → is_up_at ns q ≡ b → (nat_lt q i && b) ≡ b
+    by_up : (b : Bool) → is_neighbour_up ns q ≡ b → (nat_lt q i && b) ≡ b
     by_up false h = and-false (nat_lt q i)
     by_up true h = ap (λ b. b && true) (inside (omega (arith, up_below ns q h)))

@@ -1,6 +1,5 @@
 -- The parts of a machine fit together still once a record has changed.
-use Rattle.std.specs.Prelude.{◌≡◌, ℕ, ◌≤◌, Bool, false, not, ◌↔◌, IsTrue, List, ◌++◌, length, take, Option, Some, None, All, IfSome}
-use Rattle.std.proofs.Common.{arith, ap, subst, sym, ◌∙◌}
+use Rattle.std.proofs.Common.{arith, ap, subst, sym, ◌∙◌, ◌≡◌, ℕ, ◌≤◌, Bool, false, not, ◌↔◌, IsTrue, List, ◌++◌, length, take, Option, Some, None, All, IfSome}
 use Rattle.std.specs.List.{list_any}
 use Rattle.std.specs.FinSet.{contains}
 use Rattle.metric.specs.Distance.{IsCost}
@@ -11,7 +10,7 @@ use Rattle.network_model.specs.Machine.{records_after, attachment_after}
 use Rattle.dual_machine.specs.declared.mode.Active.{Active}
 use Rattle.dual_machine.specs.Awaited.{awaited_of, AwaitsBelow}
 use Rattle.dual_machine.specs.Event.{BringsCost}
-use Rattle.dual_machine.specs.Parts.{IsSound, IsUnderWay, computation_of}
+use Rattle.dual_machine.specs.Parts.{IsMachine, IsUnderWay, computation_of}
 use Rattle.dual_machine.proofs.Awaiting.{asking-done}
 use Rattle.dual_machine.proofs.Changes.{refilled}
 use Rattle.dual_machine.proofs.Costs.{HasCost-records_after, HasCost-attachment_after}
@@ -25,7 +24,7 @@ costs_after e before ports new rest whole same is brought costs =
     subst HaveCosts (sym (refilled before ports new rest whole same ∙ is)) (HasCost-records_after e ports brought (subst HaveCosts (sym same) costs))
 
 pub IsSound_after : (e : Event) (attachment later : Option ℕ) (before ports new rest : List Neighbour) (s : Option ℕ) (a : Option Active) → length new ≡ length ports → ports ≡ before → new ≡ records_after e ports → later ≡ attachment_after e attachment → BringsCost e
-    → length before ≤ 32 → All (λ n. IsCost n.cost) before → IfSome attachment (λ cost. IsCost cost) → IfSome a (IsUnderWay (length before) s) → IsSound later (take (length before) (new ++ rest)) s a
+    → length before ≤ 32 → All (λ n. IsCost n.cost) before → IfSome attachment (λ cost. IsCost cost) → IfSome a (IsUnderWay (length before) s) → IsMachine later (take (length before) (new ++ rest)) s a
 IsSound_after e attachment later before ports new rest s a whole same is later_is brought few costs attached under_way =
     let kept = refilled before ports new rest whole same in
     let as_many : length before ≡ length new = sym (whole ∙ ap length same) in record {

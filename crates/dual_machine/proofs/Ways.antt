@@ -1,7 +1,6 @@
 -- The ways are the ports, and after them the attachment: what is found among them.
-use Rattle.std.specs.Prelude.{◌≡◌, ℕ, ◌+◌, min, Bool, true, false, ◌||◌, cond, List, [], ◌∷◌, ◌++◌, length, Option, Some, None}
+use Rattle.std.proofs.Common.{refl, sym, arith, ap, ◌∙◌, ◌≡◌, ℕ, ◌+◌, min, Bool, true, false, ◌||◌, cond, List, [], ◌∷◌, ◌++◌, length, Option, Some, None}
 use Rattle.std.specs.List.{list_any, position_from}
-use Rattle.std.proofs.Common.{refl, sym, arith, ap, ◌∙◌}
 use Rattle.network_model.specs.declared.machine.Neighbour.{Neighbour}
 use Rattle.network_model.specs.Machine.{at_home, home_ways, distance, least}
 use Rattle.network_model.proofs.MachineLaws.{least-append, distance-bounded}

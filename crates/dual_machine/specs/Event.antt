@@ -20,17 +20,17 @@ abbrev pub IsKnown : ℕ → Event → Type 0
 IsKnown count e = IfSome (port_of e) (λ q. q < count)
 
 -- whether the neighbour at this port is up
-abbrev pub is_up_at : List Neighbour → ℕ → Bool
-is_up_at ns q = option_map_or (λ n. n.up) (slice_get ns q) false
+abbrev pub is_neighbour_up : List Neighbour → ℕ → Bool
+is_neighbour_up ns q = option_map_or (λ n. n.up) (slice_get ns q) false
 
--- a link comes up that is down; all else at a link happens while it is up. An attachment may come, change and go at any time
-abbrev pub IsTimely : List Neighbour → Event → Type 0
-IsTimely ns (Message q kind value) = is_up_at ns q ≡ true
-IsTimely ns (Up q cost) = is_up_at ns q ≡ false
-IsTimely ns (Down q) = is_up_at ns q ≡ true
-IsTimely ns (Cost q cost) = is_up_at ns q ≡ true
-IsTimely ns (Attached cost) = Unit {0}
-IsTimely ns Detached = Unit {0}
+-- among ports of which some are up: a link comes up that is down; all else at a link happens while it is up. An attachment may come, change and go at any time
+abbrev pub IsTimely : (ℕ → Bool) → Event → Type 0
+IsTimely up (Message q kind value) = up q ≡ true
+IsTimely up (Up q cost) = up q ≡ false
+IsTimely up (Down q) = up q ≡ true
+IsTimely up (Cost q cost) = up q ≡ true
+IsTimely up (Attached cost) = Unit {0}
+IsTimely up Detached = Unit {0}
 
 -- the cost that an event brings, if it brings one, is the cost of a link or of an attachment
 abbrev pub BringsCost : Event → Type 0

@@ -5,6 +5,7 @@ use Rattle.std.specs.Option.{option_map_or}
 use Rattle.metric.specs.Distance.{IsCost}
 use Rattle.network_model.specs.declared.machine.Neighbour.{Neighbour}
 use Rattle.network_model.specs.Machine.{Computation}
+use Rattle.network_model.specs.Network.{most_ports}
 use Rattle.diffusing_replies.specs.declared.origin.Origin.{Origin}
 use Rattle.diffusing_replies.specs.declared.origin.Origin.TheVariants.{OwnDisturbed, Own, OwingDisturbed, Owing}
 use Rattle.dual_machine.specs.Awaited.{awaited_of, AwaitsBelow}
@@ -28,8 +29,8 @@ pub record IsUnderWay (count : ℕ) (successor : Option ℕ) (a : Active) : Type
   pub debt : IsDebtOf count a.origin successor a.debt
 
 -- the parts of a machine fit together
-pub record IsSound (attachment : Option ℕ) (ports : List Neighbour) (successor : Option ℕ) (active : Option Active) : Type 0 where
-  pub few : length ports ≤ 32
+pub record IsMachine (attachment : Option ℕ) (ports : List Neighbour) (successor : Option ℕ) (active : Option Active) : Type 0 where
+  pub few : length ports ≤ most_ports
   pub costs : All (λ n. IsCost n.cost) ports
   pub attached : IfSome attachment (λ cost. IsCost cost)
   pub under_way : IfSome active (IsUnderWay (length ports) successor)

@@ -9,15 +9,15 @@ use Rattle.network_model.specs.declared.machine.Event.{Event}
 use Rattle.network_model.specs.declared.machine.Event.TheVariants.{Message, Up, Down, Cost, Attached, Detached}
 use Rattle.network_model.specs.declared.machine.Neighbour.{Neighbour}
 use Rattle.network_model.specs.declared.machine.PortInfo.{PortInfo}
-use Rattle.network_model.specs.Machine.{Machine, Computation, opening_machine, ways, degree, is_port, asker, via_successor, condition_holds, with_records, awaited_after}
+use Rattle.network_model.specs.Machine.{Machine, Computation, opening_machine, ways, port_count, is_port, asker, via_successor, condition_holds, with_records, awaited_after}
 use Rattle.diffusing_replies.specs.declared.origin.Origin.{Origin}
 use Rattle.diffusing_replies.specs.declared.origin.Origin.TheVariants.{Own, Owing}
 use Rattle.dual_machine.specs.declared.mode.Mode.{Mode}
 use Rattle.dual_machine.specs.declared.mode.Mode.TheVariants as mode
-use Rattle.diffusing_replies.specs.Origin.{rose, queried, lost, restart, owes}
+use Rattle.diffusing_replies.specs.Origin.{rose, queried, lost, restart, owes_reply}
 
 -- a machine, with the origin state of the computation under way
-pub record State : Type 0 where
+pub record MachineState : Type 0 where
   pub machine : Machine
   pub origin : Option Origin
 
@@ -26,16 +26,16 @@ abbrev pub opening_neighbours : List PortInfo → List Neighbour
 opening_neighbours ports = map (λ p. record { up = p.up; cost = p.cost; reported = infinity }) ports
 
 -- a machine that has heard nothing over these ports, passive, with this attachment
-abbrev pub opening_state : Option ℕ → List PortInfo → State
+abbrev pub opening_state : Option ℕ → List PortInfo → MachineState
 opening_state attachment ports = record { machine = opening_machine attachment (opening_neighbours ports); origin = None }
 
 -- ---- the origin state after an event
 
 -- whether the event takes the successor: its link, or the attachment, whose number is the degree
 abbrev pub is_loss_of : ℕ → Option ℕ → Event → Bool
-is_loss_of degree successor (Down q) = is_port q successor
-is_loss_of degree successor Detached = is_port degree successor
-is_loss_of degree successor _ = false
+is_loss_of port_count successor (Down q) = is_port q successor
+is_loss_of port_count successor Detached = is_port port_count successor
+is_loss_of port_count successor _ = false
 
 -- whether the event is a query from the successor
 abbrev pub is_query_from : Option ℕ → Event → Bool
@@ -49,8 +49,8 @@ has_risen m = nat_lt m.rd (via_successor (ways m) m.successor)
 -- the origin state of a computation that goes on: by the degree, the successor before the event, and whether the distance has risen. A loss counts
 -- before a query, and a query before the distance
 abbrev pub moved : ℕ → Option ℕ → Event → Bool → Origin → Origin
-moved degree successor e risen o =
-    if is_loss_of degree successor e then lost o
+moved port_count successor e risen o =
+    if is_loss_of port_count successor e then lost o
     else if is_query_from successor e then queried o
     else if risen then rose o
     else o
@@ -77,15 +77,15 @@ abbrev pub active_origin : Machine → Event → Computation → Origin → Opti
 active_origin m e c o = if list_any (λ b. b) (awaited_after e c.awaited) then Some o else completion_origin m o
 
 -- the origin state once the records have changed by the event
-abbrev pub decided_origin : State → Event → Option Origin
+abbrev pub decided_origin : MachineState → Event → Option Origin
 decided_origin s e = by_mode (s.machine).computation s.origin
   where
     by_mode : Option Computation → Option Origin → Option Origin
-    by_mode (Some c) (Some o) = active_origin (with_records s.machine e) e c (moved (degree s.machine) (s.machine).successor e (has_risen (with_records s.machine e)) o)
+    by_mode (Some c) (Some o) = active_origin (with_records s.machine e) e c (moved (port_count s.machine) (s.machine).successor e (has_risen (with_records s.machine e)) o)
     by_mode _ _ = passive_origin (with_records s.machine e) e
 
 -- the origin state after an event: a link that comes up leaves it as it is
-abbrev pub origin_after : State → Event → Option Origin
+abbrev pub origin_after : MachineState → Event → Option Origin
 origin_after s (Up q cost) = s.origin
 origin_after s (Message q kind value) = decided_origin s (Message q kind value)
 origin_after s (Down q) = decided_origin s (Down q)
@@ -101,7 +101,7 @@ awaits_at None q = false
 awaits_at (Some c) q = unwrap_or (slice_get c.awaited q) false
 
 -- what a machine is at: the origin state of the computation under way, and the port to which it owes a reply
-abbrev pub IsModeOf : State → Mode → Type 0
+abbrev pub IsModeOf : MachineState → Mode → Type 0
 IsModeOf s mode.Passive = (s.machine).computation ≡ None
 IsModeOf s (mode.Active origin awaited debt) = (s.origin ≡ Some origin) × (option_map (λ c. c.debt) (s.machine).computation ≡ Some debt)
 
@@ -113,4 +113,4 @@ ShowsAwaited c (mode.Active origin awaited debt) = (q : ℕ) → contains awaite
 -- a debt is shown exactly in the origin states that owe a reply
 abbrev pub OwesByOrigin : Mode → Type 0
 OwesByOrigin mode.Passive = Unit {0}
-OwesByOrigin (mode.Active origin awaited debt) = is_some debt ≡ owes origin
+OwesByOrigin (mode.Active origin awaited debt) = is_some debt ≡ owes_reply origin

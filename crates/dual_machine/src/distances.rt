@@ -5,6 +5,7 @@ ghost use Rattle.std.specs.Prelude.{◌≡◌, ℕ, ◌<◌, ◌≤◌, ◌++◌
 ghost use Rattle.std.specs.List.{list_any, position_from};
 ghost use Rattle.metric.specs.Distance.{infinity};
 ghost use Rattle.network_model.specs.Machine as dual;
+ghost use Rattle.network_model.specs.Network.{most_ports};
 ghost use Rattle.dual_machine.specs.Event as events;
 
 use network_model::{Cost, Distance, Neighbour};
@@ -111,7 +112,8 @@ fn first_feasible(
     ports: &[Neighbour],
     attachment: &Option<Cost>,
 ) -> Option<usize>
-    ensures value { result ≡ position_from (dual.is_feasible fd least) 0 (ports.now ++ dual.home_ways attachment.now) }
+    ensures value { result ≡ position_from (dual.is_feasible fd least) 0
+        (ports.now ++ dual.home_ways attachment.now) }
     ensures below { IfSome result (λ q. q ≤ length ports.now) }
 {
     match first_feasible_port(fd, least, ports) {
@@ -156,8 +158,9 @@ pub(crate) fn chosen_successor(
     attachment: &Option<Cost>,
     successor: Option<u8>,
 ) -> Option<u8>
-    requires { length ports.now ≤ 32 }
-    ensures { result ≡ dual.chosen_successor fd (ports.now ++ dual.home_ways attachment.now) successor }
+    requires { length ports.now ≤ most_ports }
+    ensures { result ≡ dual.chosen_successor fd
+        (ports.now ++ dual.home_ways attachment.now) successor }
 {
     let least = least(ports, attachment);
     if least.is_infinite() {
@@ -177,7 +180,8 @@ pub(crate) fn via_successor(
     attachment: &Option<Cost>,
     successor: Option<u8>,
 ) -> Distance
-    ensures value { result ≡ dual.via_successor (ports.now ++ dual.home_ways attachment.now) successor }
+    ensures value { result ≡ dual.via_successor
+        (ports.now ++ dual.home_ways attachment.now) successor }
 {
     let Some(number) = successor else {
         return Distance::INF;
@@ -204,7 +208,7 @@ pub(crate) fn up_count(ports: &[Neighbour]) -> usize
 
 // Whether the neighbour at this port is up.
 pub(crate) fn is_up_at(ports: &[Neighbour], port: u8) -> bool
-    ensures { result ≡ events.is_up_at ports.now port }
+    ensures { result ≡ events.is_neighbour_up ports.now port }
 {
     match ports.get(port as usize) {
         Some(neighbour) => neighbour.up,

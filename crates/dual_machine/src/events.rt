@@ -4,6 +4,7 @@ ghost use Rattle.std.specs.Prelude.{◌≡◌, ℕ, ◌≤◌, ◌++◌, nat_lt,
 ghost use Rattle.std.specs.FinSet as set;
 ghost use Rattle.metric.specs.Distance.{infinity};
 ghost use Rattle.network_model.specs.Machine as dual;
+ghost use Rattle.network_model.specs.Network.{most_ports};
 ghost use Rattle.dual_machine.specs.Awaited.{awaited_of, AwaitsBelow};
 ghost use Rattle.dual_machine.specs.Event as events;
 ghost use Rattle.dual_machine.specs.State as state;
@@ -141,7 +142,8 @@ pub(crate) fn change_record(ports: &mut [Neighbour], event: &Event)
 // A reply ends the wait for its port, and so does the loss of the link.
 pub(crate) fn end_wait(replies: &mut Replies, event: &Event)
     requires { events.IsKnown 32 event.now }
-    ensures awaited { (n : ℕ) → awaited_of n replies.new ≡ dual.awaited_after event.now (awaited_of n replies.old) }
+    ensures awaited { (n : ℕ) → awaited_of n replies.new
+        ≡ dual.awaited_after event.now (awaited_of n replies.old) }
     ensures no_more { (n : ℕ) → AwaitsBelow n replies.old → AwaitsBelow n replies.new }
 {
     match *event {
@@ -157,8 +159,8 @@ pub(crate) fn end_wait(replies: &mut Replies, event: &Event)
 
 // The ports of the neighbours that are up.
 pub(crate) fn up_ports(ports: &[Neighbour]) -> PortSet
-    requires { length ports.now ≤ 32 }
-    ensures { (q : ℕ) → set.contains result q ≡ events.is_up_at ports.now q }
+    requires { length ports.now ≤ most_ports }
+    ensures { (q : ℕ) → set.contains result q ≡ events.is_neighbour_up ports.now q }
 {
     let mut up = PortSet::empty();
     for (port, neighbour) in ports.iter().enumerate() {
@@ -176,7 +178,8 @@ pub(crate) fn has_risen(
     attachment: &Option<Cost>,
     successor: Option<u8>,
 ) -> bool
-    ensures risen { result ≡ nat_lt rd (dual.via_successor (ports.now ++ dual.home_ways attachment.now) successor) }
+    ensures risen { result ≡ nat_lt rd
+        (dual.via_successor (ports.now ++ dual.home_ways attachment.now) successor) }
     ensures bounded { rd ≤ infinity }
 {
     rd.value() < via_successor(ports, attachment, successor).value()

@@ -4,7 +4,8 @@ ghost use Rattle.std.specs.Prelude.{◌≡◌, ℕ, ◌+◌, ◌<◌, ◌≤◌,
 ghost use Rattle.metric.specs.Distance.{IsCost, infinity};
 ghost use Rattle.diffusing_replies.specs.Origin as table;
 ghost use Rattle.network_model.specs.Machine as dual;
-ghost use Rattle.dual_machine.specs.Event.{IsKnown, IsTimely};
+ghost use Rattle.network_model.specs.Network.{most_ports};
+ghost use Rattle.dual_machine.specs.Event.{IsKnown, IsTimely, is_neighbour_up};
 ghost use Rattle.dual_machine.specs.Outbox.{HasRoom, most_sent};
 ghost use Rattle.dual_machine.specs.Parts.{IsDebtOf};
 ghost use Rattle.dual_machine.specs.State as state;
@@ -37,10 +38,10 @@ pub struct Machine<A: SmallAllocator = Global> {
 
 impl<A: SmallAllocator> Model for Machine<A> {
     ghost use Rattle.std.specs.Prelude.{length};
-    ghost use Rattle.dual_machine.specs.State.{State};
-    ghost use Rattle.dual_machine.specs.Parts.{IsSound, computation_of, origin_of};
+    ghost use Rattle.dual_machine.specs.State.{MachineState};
+    ghost use Rattle.dual_machine.specs.Parts.{IsMachine, computation_of, origin_of};
 
-    ghost Value = { State };
+    ghost Value = { MachineState };
 
     ghost view = { λ m. record {
       machine = record {
@@ -54,7 +55,7 @@ impl<A: SmallAllocator> Model for Machine<A> {
       origin = origin_of m.active;
     } };
 
-    ghost invariant = { λ m. IsSound m.attachment m.ports.items m.successor m.active };
+    ghost invariant = { λ m. IsMachine m.attachment m.ports.items m.successor m.active };
 }
 
 // A neighbour that has reported nothing.
@@ -93,7 +94,7 @@ impl<A: SmallAllocator> Machine<A> {
         attachment: Option<Cost>,
         ports: &[PortInfo],
     ) -> Result<Machine<A>, NoMemory>
-        requires { length ports.now ≤ 32 }
+        requires { length ports.now ≤ most_ports }
         ensures ok { IfOk result (λ m. m ≡ state.opening_state attachment ports.now) }
 
         // Without ports it takes no memory.
@@ -122,7 +123,8 @@ impl<A: SmallAllocator> Machine<A> {
 
     /// Whether the router's own attachment is the successor.
     pub fn is_local(&self) -> bool
-        ensures { result ≡ dual.is_port (dual.degree (self.now).machine) (self.now).machine.successor }
+        ensures { result ≡ dual.is_port (dual.port_count (self.now).machine)
+            (self.now).machine.successor }
     {
         is_port(self.degree(), self.successor)
     }
@@ -136,7 +138,7 @@ impl<A: SmallAllocator> Machine<A> {
 
     // How many ports there are, by which number the attachment goes as one more.
     fn degree(&self) -> u8
-        ensures { result ≡ dual.degree (self.now).machine }
+        ensures { result ≡ dual.port_count (self.now).machine }
     {
         self.ports.len() as u8
     }
@@ -210,8 +212,8 @@ impl<A: SmallAllocator> Machine<A> {
     /// Whether the machine may be told of the event: its port is known, `Up` names one that is
     /// down, and any other event of a port one that is up. It may always be told of the attachment.
     pub fn is_timely(&self, event: Event) -> bool
-        ensures { IsTrue result ↔ (IsKnown (dual.degree (self.now).machine) event
-            × IsTimely (self.now).machine.ports event) }
+        ensures { IsTrue result ↔ (IsKnown (dual.port_count (self.now).machine) event
+            × IsTimely (is_neighbour_up (self.now).machine.ports) event) }
     {
         match event {
             Event::Up { port, .. } => {
@@ -227,9 +229,10 @@ impl<A: SmallAllocator> Machine<A> {
     /// Tells the machine of an event, and appends what it sends. All growth is made first, so that
     /// a refused call changes nothing.
     pub fn event(&mut self, event: Event, sends: &mut Sends<A>) -> Result<(), NoMemory>
-        requires known { IsKnown (dual.degree (self.old).machine) event }
-        requires timely { IsTimely (self.old).machine.ports event }
-        ensures machine { OnOk result ((self.new).machine ≡ (dual.reaction (self.old).machine event).machine) }
+        requires known { IsKnown (dual.port_count (self.old).machine) event }
+        requires timely { IsTimely (is_neighbour_up (self.old).machine.ports) event }
+        ensures machine { OnOk result ((self.new).machine
+            ≡ (dual.reaction (self.old).machine event).machine) }
         ensures origin { OnOk result ((self.new).origin ≡ state.origin_after self.old event) }
         ensures sent { OnOk result (sends.new.list ≡ sends.old.list
             ++ (dual.reaction (self.old).machine event).sends) }
@@ -269,9 +272,10 @@ impl<A: SmallAllocator> Machine<A> {
 
     // What an event other than Up does.
     fn react(&mut self, event: &Event, sends: &mut Sends<A>)
-        requires known { IsKnown (dual.degree (self.old).machine) event.now }
+        requires known { IsKnown (dual.port_count (self.old).machine) event.now }
         requires room { HasRoom sends.old
-            (length (dual.decision (dual.with_records (self.old).machine event.now) event.now).sends) }
+            (length (dual.decision (dual.with_records
+            (self.old).machine event.now) event.now).sends) }
         ensures machine { (self.new).machine
             ≡ (dual.decision (dual.with_records (self.old).machine event.now) event.now).machine }
         ensures origin { (self.new).origin ≡ state.decided_origin self.old event.now }
@@ -308,9 +312,11 @@ impl<A: SmallAllocator> Machine<A> {
 
     // A passive machine stays passive where the condition holds, and else begins a computation.
     fn decide(&mut self, event: &Event, sends: &mut Sends<A>)
-        requires known { IsKnown (dual.degree (self.old).machine) event.now }
-        requires room { HasRoom sends.old (length (dual.passive_reaction (self.old).machine event.now).sends) }
-        ensures machine { (self.new).machine ≡ (dual.passive_reaction (self.old).machine event.now).machine }
+        requires known { IsKnown (dual.port_count (self.old).machine) event.now }
+        requires room { HasRoom sends.old
+            (length (dual.passive_reaction (self.old).machine event.now).sends) }
+        ensures machine { (self.new).machine
+            ≡ (dual.passive_reaction (self.old).machine event.now).machine }
         ensures origin { (self.new).origin ≡ state.passive_origin (self.old).machine event.now }
         ensures sent { sends.new.list ≡ sends.old.list
             ++ (dual.passive_reaction (self.old).machine event.now).sends }
@@ -328,9 +334,11 @@ impl<A: SmallAllocator> Machine<A> {
     // A computation that an event begins. A query from the successor leaves a debt; one from
     // another port is answered first.
     fn start(&mut self, asker: Option<u8>, sends: &mut Sends<A>)
-        requires known { IfSome asker (λ q. q < dual.degree (self.old).machine) }
-        requires room { HasRoom sends.old (length (dual.started_computation (self.old).machine asker).sends) }
-        ensures machine { (self.new).machine ≡ (dual.started_computation (self.old).machine asker).machine }
+        requires known { IfSome asker (λ q. q < dual.port_count (self.old).machine) }
+        requires room { HasRoom sends.old
+            (length (dual.started_computation (self.old).machine asker).sends) }
+        ensures machine { (self.new).machine
+            ≡ (dual.started_computation (self.old).machine asker).machine }
         ensures origin { (self.new).origin ≡ state.started_origin (self.old).machine asker }
         ensures sent { sends.new.list ≡ sends.old.list
             ++ (dual.started_computation (self.old).machine asker).sends }
@@ -352,13 +360,15 @@ impl<A: SmallAllocator> Machine<A> {
     // A computation whose last reply is there. Where its origin state needs no test, the condition
     // holds.
     fn complete(&mut self, origin: Origin, debt: Debt, sends: &mut Sends<A>)
-        requires debt { IsDebtOf (dual.degree (self.old).machine) origin (self.old).machine.successor debt }
+        requires debt { IsDebtOf (dual.port_count (self.old).machine) origin
+            (self.old).machine.successor debt }
         requires tested { table.needs_test origin ≡ false
             → dual.condition_holds (self.old).machine.rd (dual.ways (self.old).machine) ≡ true }
         requires room { HasRoom sends.old (length (dual.completion (self.old).machine debt).sends) }
         ensures machine { (self.new).machine ≡ (dual.completion (self.old).machine debt).machine }
         ensures origin { (self.new).origin ≡ state.completion_origin (self.old).machine origin }
-        ensures sent { sends.new.list ≡ sends.old.list ++ (dual.completion (self.old).machine debt).sends }
+        ensures sent { sends.new.list ≡ sends.old.list
+            ++ (dual.completion (self.old).machine debt).sends }
         ensures capacity { sends.new.capacity ≡ sends.old.capacity }
     {
         let v = self.rd;
@@ -372,8 +382,10 @@ impl<A: SmallAllocator> Machine<A> {
     // Passive at the least distance. A reply goes to the port to which one is owed, and news to the
     // others.
     fn become_passive(&mut self, fd: Distance, owed: Option<u8>, sends: &mut Sends<A>)
-        requires room { HasRoom sends.old (length (dual.passive_result (self.old).machine fd owed).sends) }
-        ensures machine { (self.new).machine ≡ (dual.passive_result (self.old).machine fd owed).machine }
+        requires room { HasRoom sends.old
+            (length (dual.passive_result (self.old).machine fd owed).sends) }
+        ensures machine { (self.new).machine
+            ≡ (dual.passive_result (self.old).machine fd owed).machine }
         ensures origin { (self.new).origin ≡ None }
         ensures sent { sends.new.list ≡ sends.old.list
             ++ (dual.passive_result (self.old).machine fd owed).sends }
@@ -393,9 +405,12 @@ impl<A: SmallAllocator> Machine<A> {
     // A computation that begins: everyone who is up is asked, and awaited, but never the attachment.
     // With no one up it is over at once.
     fn begin(&mut self, fd: Distance, origin: Origin, debt: Debt, sends: &mut Sends<A>)
-        requires debt { IsDebtOf (dual.degree (self.old).machine) origin (self.old).machine.successor debt }
-        requires room { HasRoom sends.old (length (dual.new_computation (self.old).machine fd debt).sends) }
-        ensures machine { (self.new).machine ≡ (dual.new_computation (self.old).machine fd debt).machine }
+        requires debt { IsDebtOf (dual.port_count (self.old).machine) origin
+            (self.old).machine.successor debt }
+        requires room { HasRoom sends.old
+            (length (dual.new_computation (self.old).machine fd debt).sends) }
+        ensures machine { (self.new).machine
+            ≡ (dual.new_computation (self.old).machine fd debt).machine }
         ensures origin { (self.new).origin ≡ state.new_origin (self.old).machine origin }
         ensures sent { sends.new.list ≡ sends.old.list
             ++ (dual.new_computation (self.old).machine fd debt).sends }

@@ -2,6 +2,7 @@
 
 ghost use Rattle.std.specs.Prelude.{◌≡◌, ℕ, ◌+◌, ◌<◌, ◌≤◌, [], ◌∷◌, ◌++◌, length, IsOk, OnOk, OnErr};
 ghost use Rattle.network_model.specs.Machine as dual;
+ghost use Rattle.network_model.specs.Network.{most_ports};
 ghost use Rattle.dual_machine.specs.Outbox.{HasRoom};
 
 use crate::events::is_port;
@@ -83,7 +84,7 @@ impl<A: Allocator> Sends<A> {
         value: Distance,
         ports: &[Neighbour],
     )
-        requires few { length ports.now ≤ 32 }
+        requires few { length ports.now ≤ most_ports }
         requires room { HasRoom self.old (length (dual.all_from 0 but kind value ports.now)) }
         ensures pushed { self.new.list ≡ self.old.list ++ dual.all_from 0 but kind value ports.now }
         ensures capacity { self.new.capacity ≡ self.old.capacity }

@@ -4,7 +4,7 @@
 ghost use Rattle.std.specs.Prelude.{◌≡◌};
 ghost use Rattle.dualnet.specs.Files.{scenario_of, read_journal, kept_journal};
 
-use advice::{Faulty, advise, advise_journal, explained, is_check};
+use advice::{Faulty, advise, advise_journal, file_to_explain, is_check};
 use journal::JournalFault;
 use network_model::NoMemory;
 use play::{Cause, Fault, Host, Source, play, refuse};
@@ -45,10 +45,10 @@ fn print_by<H: Host>(rt: &HostRuntime, wait: &H, words: &Words<'_>) -> io::Resul
     let out = rt.stdout();
     if out.is_terminal() {
         let mut lines = LineWriter::new(rt.alloc(), out)?;
-        Ok(done(rt, wait, words, &mut lines))
+        Ok(run_words(rt, wait, words, &mut lines))
     } else {
         let mut blocks = BufWriter::new(rt.alloc(), out)?;
-        Ok(done(rt, wait, words, &mut blocks))
+        Ok(run_words(rt, wait, words, &mut blocks))
     }
 }
 
@@ -65,7 +65,7 @@ fn tell(rt: &HostRuntime, error: &Error) -> u8 {
 }
 
 // Does what the words ask for, over the files that they name.
-fn done<H: Host, W: Write>(rt: &HostRuntime, wait: &H, words: &Words<'_>, out: &mut W) -> u8 {
+fn run_words<H: Host, W: Write>(rt: &HostRuntime, wait: &H, words: &Words<'_>, out: &mut W) -> u8 {
     if is_overwritten(rt, words) {
         return refuse(Fault::from(Cause::Unwritable), &mut rt.stderr());
     }
@@ -94,7 +94,7 @@ fn done<H: Host, W: Write>(rt: &HostRuntime, wait: &H, words: &Words<'_>, out: &
         &mut fault,
     );
     let _ = out.flush();
-    if let (Some(file), Some(fault)) = (explained(words), fault) {
+    if let (Some(file), Some(fault)) = (file_to_explain(words), fault) {
         tell_line(rt, words, fault, &second.bytes);
         let faulty = Faulty {
             file,
@@ -106,7 +106,7 @@ fn done<H: Host, W: Write>(rt: &HostRuntime, wait: &H, words: &Words<'_>, out: &
         let _ = advise(rt.alloc(), faulty, &mut rt.stderr());
     }
     match kept_path(words) {
-        Some(path) if status == 0 => written(rt, path, &kept),
+        Some(path) if status == 0 => write_journal(rt, path, &kept),
         _ => status,
     }
 }
@@ -219,7 +219,7 @@ fn is_one_file(rt: &HostRuntime, one: &str, other: &str) -> bool {
 }
 
 // Writes a journal, and answers the exit status.
-fn written(rt: &HostRuntime, path: &str, journal: &[u8]) -> u8 {
+fn write_journal(rt: &HostRuntime, path: &str, journal: &[u8]) -> u8 {
     match fs::write(rt, path, journal) {
         Ok(()) => 0,
         Err(_) => refuse(Fault::from(Cause::Unwritable), &mut rt.stderr()),

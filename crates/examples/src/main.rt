@@ -10,7 +10,7 @@ use std::alloc::{AllocError, Global};
 use std::fs;
 use std::io::{self, Write};
 use std::process::ExitCode;
-use trial::{Outcome, asked, played};
+use trial::{Outcome, play_in_memory, run_in_memory};
 use words::Words;
 
 // The scenarios, without the ends of their names.
@@ -30,7 +30,7 @@ fn main(rt: HostRuntime) -> ExitCode {
     let mut out = rt.stdout();
     let mut status = 0;
     for name in EXAMPLES {
-        let verdict = match tried(&rt, &rt, name) {
+        let verdict = match try_scenario(&rt, &rt, name) {
             Ok(verdict) => verdict,
             Err(_) => Verdict::IsUnread,
         };
@@ -65,7 +65,7 @@ impl Verdict {
 }
 
 // Runs a scenario, does the commands of its script in a shell, and replays its journal.
-fn tried<H: Host>(rt: &HostRuntime, wait: &H, name: &str) -> io::Result<Verdict> {
+fn try_scenario<H: Host>(rt: &HostRuntime, wait: &H, name: &str) -> io::Result<Verdict> {
     let alloc = rt.alloc();
     let scenario = format!(in alloc; "{name}.toml")?;
     let output = format!(in alloc; "{name}.out")?;
@@ -78,28 +78,28 @@ fn tried<H: Host>(rt: &HostRuntime, wait: &H, name: &str) -> io::Result<Verdict>
         explain: false,
     };
     let file = fs::open(rt, scenario.as_str())?;
-    let ran = asked(wait, alloc, &run, file);
+    let ran = run_in_memory(wait, alloc, &run, file);
     let replay = Words::Replay {
         file: scenario.as_str(),
         journal: "",
         explain: false,
     };
     let file = fs::open(rt, scenario.as_str())?;
-    let replayed = played(wait, alloc, &replay, file, ran.kept.as_slice());
+    let replayed = play_in_memory(wait, alloc, &replay, file, ran.kept.as_slice());
     let text = fs::read_to_string(rt, scenario.as_str())?;
-    let typed = typed(alloc, text.as_str())?;
+    let typed = shell_input(alloc, text.as_str())?;
     let shell = Words::Shell {
         file: scenario.as_str(),
         journal: None,
         explain: false,
     };
     let file = fs::open(rt, scenario.as_str())?;
-    let shown = played(wait, alloc, &shell, file, typed.as_bytes());
+    let shown = play_in_memory(wait, alloc, &shell, file, typed.as_bytes());
     Ok(judge(&ran, &shown, &wanted, &replayed))
 }
 
 // The lines of a scenario's script, as they are typed into a shell; none where it is no scenario.
-fn typed(alloc: Global, text: &str) -> Result<String, AllocError> {
+fn shell_input(alloc: Global, text: &str) -> Result<String, AllocError> {
     let mut typed = String::new(alloc);
     if let Ok(lines) = read_scenario(alloc, text) {
         for line in &lines.script {

@@ -4,47 +4,47 @@ use Rattle.explanations.specs.declared.kind.Kind.{Kind}
 use Rattle.explanations.specs.declared.kind.Kind.TheVariants.{NoSlash, BadAddress, BadLength, HostBits, BadCost, UnknownRouter, UnknownLink, NoThread, AlreadyUp, IsDown, SessionsSpent, NothingToDeliver, NothingDue, NothingRipe, JournalFull, NoMemory, Busy, Stale, NoReaderPlace, BadRouters, BadLink, TooManyLinks, BadOwner, UnknownPrefix, NotAttached, Stranger, Doubled, Missing, Closed, NoImage, WrongTicket, BadToml, BadKey, BadName, BadLine, BadCommand, TooLarge, Unreadable, BadJournal, Unwritable}
 
 -- the number of a kind
-abbrev pub number_of : Kind → ℕ
-number_of NoSlash = 1
-number_of BadAddress = 2
-number_of BadLength = 3
-number_of HostBits = 4
-number_of BadCost = 5
-number_of UnknownRouter = 10
-number_of UnknownLink = 11
-number_of NoThread = 12
-number_of AlreadyUp = 13
-number_of IsDown = 14
-number_of SessionsSpent = 15
-number_of NothingToDeliver = 16
-number_of NothingDue = 17
-number_of NothingRipe = 18
-number_of JournalFull = 19
-number_of NoMemory = 20
-number_of Busy = 21
-number_of Stale = 22
-number_of NoReaderPlace = 23
-number_of BadRouters = 24
-number_of BadLink = 25
-number_of TooManyLinks = 26
-number_of BadOwner = 27
-number_of UnknownPrefix = 28
-number_of NotAttached = 29
-number_of Stranger = 30
-number_of Doubled = 31
-number_of Missing = 32
-number_of Closed = 33
-number_of NoImage = 34
-number_of WrongTicket = 35
-number_of BadToml = 40
-number_of BadKey = 41
-number_of BadName = 42
-number_of BadLine = 43
-number_of BadCommand = 45
-number_of TooLarge = 46
-number_of Unreadable = 47
-number_of BadJournal = 48
-number_of Unwritable = 49
+abbrev pub kind_number : Kind → ℕ
+kind_number NoSlash = 1
+kind_number BadAddress = 2
+kind_number BadLength = 3
+kind_number HostBits = 4
+kind_number BadCost = 5
+kind_number UnknownRouter = 10
+kind_number UnknownLink = 11
+kind_number NoThread = 12
+kind_number AlreadyUp = 13
+kind_number IsDown = 14
+kind_number SessionsSpent = 15
+kind_number NothingToDeliver = 16
+kind_number NothingDue = 17
+kind_number NothingRipe = 18
+kind_number JournalFull = 19
+kind_number NoMemory = 20
+kind_number Busy = 21
+kind_number Stale = 22
+kind_number NoReaderPlace = 23
+kind_number BadRouters = 24
+kind_number BadLink = 25
+kind_number TooManyLinks = 26
+kind_number BadOwner = 27
+kind_number UnknownPrefix = 28
+kind_number NotAttached = 29
+kind_number Stranger = 30
+kind_number Doubled = 31
+kind_number Missing = 32
+kind_number Closed = 33
+kind_number NoImage = 34
+kind_number WrongTicket = 35
+kind_number BadToml = 40
+kind_number BadKey = 41
+kind_number BadName = 42
+kind_number BadLine = 43
+kind_number BadCommand = 45
+kind_number TooLarge = 46
+kind_number Unreadable = 47
+kind_number BadJournal = 48
+kind_number Unwritable = 49
 
 -- its name
 abbrev pub name_of : Kind → List ℕ

@@ -1,7 +1,7 @@
 //! The numbers that the program prints.
 
 ghost use Rattle.std.specs.Prelude.{◌≡◌, ◌≢◌, IfSome, IfNone};
-ghost use Rattle.explanations.specs.Numbers.{number_of, name_of};
+ghost use Rattle.explanations.specs.Numbers.{kind_number, name_of};
 
 /// What a number that the program prints says.
 #[derive(Clone, Copy, Debug, PartialEq, Eq)]
@@ -51,8 +51,8 @@ pub enum Kind {
 impl Kind {
     /// The kind of a number; none where the program prints no such number.
     pub fn of(number: u8) -> Option<Kind>
-        ensures some { IfSome result (λ k. number_of k ≡ number) }
-        ensures none { IfNone result ((k : Kind) → number_of k ≢ number) }
+        ensures some { IfSome result (λ k. kind_number k ≡ number) }
+        ensures none { IfNone result ((k : Kind) → kind_number k ≢ number) }
     {
         match number {
             1 => Some(Kind::NoSlash),
@@ -101,7 +101,7 @@ impl Kind {
 
     /// Its number.
     pub fn number(self) -> u8
-        ensures { result ≡ number_of self }
+        ensures { result ≡ kind_number self }
     {
         match self {
             Kind::NoSlash => 1,

@@ -321,7 +321,7 @@ const BAD_KEY: Page = Page {
 const BAD_NAME: Page = Page {
     kind: Kind::BadName,
     cause: "a router's name has not 1 to 16 small letters and digits, the first a letter, or was given before",
-    example: "`routers = [\"R1\"]`, `routers = [\"a\", \"a\"]`",
+    example: "`routers = [\"Edge\"]`, `routers = [\"a\", \"a\"]`",
     remedy: "choose another name",
 };
 

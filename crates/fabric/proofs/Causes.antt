@@ -1,16 +1,8 @@
 -- What is due, and what a call answers that gave up, or did not.
-use Rattle.std.specs.Prelude.{◌≡◌, ℕ, ◌<◌, List, length, Bool, true, false, cond, Option, Some, None, IsSome, Result, Ok, Err, IsErrAnd, OnOk, option_and_then, get_or, slice_get}
-use Rattle.std.proofs.Common.{refl, sym, ap, subst, ◌∙◌}
-use Rattle.std.proofs.lemmas.Bool.{false≢true}
-use Rattle.std.proofs.lemmas.Option.{slice_get_read, slice_get_within}
-use Rattle.ipv4_prefix.specs.Prefix.{Prefix}
-use Rattle.network_model.specs.declared.step.Refusal.{Refusal}
+use Rattle.std.proofs.Common.{refl, sym, ap, subst, ◌∙◌, ◌≡◌, ℕ, ◌<◌, List, length, Bool, true, false, cond, Option, Some, None, IsSome, Result, Err, option_and_then, get_or, slice_get}
+use Rattle.packet_loops.proofs.Common.{false≢true, slice_get_read, slice_get_within, Prefix, Refusal, Router, World, Lawful, is_due, refusal, router_publishing, Lawful_to_refusal, Image}
 use Rattle.network_model.specs.declared.step.Step.{Step}
 use Rattle.network_model.specs.declared.step.Step.TheVariants.{Publish}
-use Rattle.network_model.specs.World.{Router, World}
-use Rattle.network_model.specs.Step.{Lawful, is_due, refusal, router_publishing}
-use Rattle.network_model.proofs.Lawful.{Lawful_to_refusal}
-use Rattle.network_model.specs.Publication.{Image}
 use Rattle.world.specs.Steps.{IsDoneOr}
 use Rattle.image_patch.specs.declared.Patch.{Patch as PatchFields}
 use Rattle.fabric.specs.Fabric.{Fabric, fabric_refusal}
@@ -62,25 +54,9 @@ nothing_at {A} xs i out = by_case (slice_get xs i) refl
     by_case None at = refl
     by_case (Some x) at = absurd (false≢true (out (slice_get_within xs i x at)))
 
--- a call with no cause to be refused that found no memory
-pub memory_lacked : {X : Type 0} (cause : Option Refusal) (r : Result X Refusal) → cause ≡ None → IsErrAnd r (λ e. e ≡ Refusal.NoMemory) → IsDoneOr cause r
-memory_lacked {X} cause r none failed = subst (λ c. IsDoneOr c r) (sym none) (by_result r failed)
-  where
-    by_result : (r : Result X Refusal) → IsErrAnd r (λ e. e ≡ Refusal.NoMemory) → IsDoneOr None r
-    by_result (Ok x) none = absurd none
-    by_result (Err e) full = full
-
--- one that was done
-pub not_refused : {X : Type 0} (cause : Option Refusal) (x : X) → cause ≡ None → IsDoneOr cause (Ok x)
-not_refused cause x none = subst (λ c. IsDoneOr c (Ok x)) (sym none) tt
-
--- one that passes on why a step of the world was refused
+-- a call that passes on why a step of the world was refused
 pub passed_on : {X : Type 0} (f : Fabric) (w : World) (s t : Step) (r : Result X Refusal) (e : Refusal) → fabric_refusal f s ≡ refusal f.world s → f.world ≡ w → s ≡ t → IsDoneOr {X = X} (refusal w t) (Err e)
     → (x : Refusal) × (r ≡ Err x) × (x ≡ e) → IsDoneOr (fabric_refusal f s) r
 passed_on {X} f w s t r e cause worlds is failed found =
     subst (IsDoneOr (fabric_refusal f s)) (sym (found.1 ∙ ap Err found.2))
     (subst (λ o. IsDoneOr {X = X} o (Err e)) (sym (cause ∙ ap (λ v. refusal v s) worlds ∙ ap (refusal w) is)) failed)
-
--- what is so on Ok is so of a call that gave up
-pub not_ok : {X E : Type 0} (P : Type 0) (r : Result X E) {e : E} → r ≡ Err e → OnOk r P
-not_ok P r failed = subst (λ q. OnOk q P) (sym failed) tt

@@ -1,29 +1,16 @@
 -- What a step leaves of what every fabric keeps.
-use Rattle.std.specs.Prelude.{◌≡◌, ℕ, zero, suc, ◌+◌, ◌*◌, ◌^◌, ◌<◌, ◌≤◌, cond, List, [], ◌∷◌, ◌++◌, map, length, set, Option, Some, None, slice_get, option_map, option_and_then}
-use Rattle.std.specs.List.{AllByRecursion, range_with_len}
-use Rattle.std.proofs.Common.{refl, sym, ap, subst, ◌∙◌, arith, length-append}
-use Rattle.std.proofs.lemmas.List.{length-map}
-use Rattle.std.proofs.lemmas.List.Sums.{sum_by_push}
-use Rattle.std.proofs.lemmas.Option.{slice_get_within, slice_get-map}
-use Rattle.network_model.specs.declared.item.Item.{Item}
-use Rattle.network_model.specs.declared.network.End.{End}
+use Rattle.std.proofs.Common.{refl, sym, ap, subst, ◌∙◌, arith, length-append, ◌≡◌, ℕ, zero, suc, ◌+◌, ◌*◌, ◌^◌, ◌<◌, ◌≤◌, cond, List, [], ◌∷◌, ◌++◌, map, length, set, Option, Some, None, slice_get, option_map, option_and_then}
+use Rattle.packet_loops.proofs.Common.{AllByRecursion, range_with_len, length-map, sum_by_push, slice_get_within, slice_get-map, Item, End, changed_at, Link, Router, World, Network, opening, opening_router_of, Lawful, next, is_due, changed_router, changed_link, with_cost, with_front_taken, with_message, with_delivered, with_noticed, with_notice_taken, with_released, front_at, notice_at, release_at, changed_attachments, router_accepting, router_at_home, router_publishing, router_releasing, Runs, Image, Patch, image_answer, map-changed_at, option_map_or-ind, None_not_Some, Some_injective, routers-changed_link}
 use Rattle.network_model.specs.declared.step.Step.{Step}
 use Rattle.network_model.specs.declared.step.Step.TheVariants.{LinkUp, LinkDown, SetCost, Deliver, Publish, Release, Attach, Detach}
-use Rattle.network_model.specs.Machine.{changed_at}
-use Rattle.network_model.specs.World.{Link, Router, World, Network, opening, opening_router_of}
-use Rattle.network_model.specs.Step.{Lawful, next, is_due, changed_router, changed_link, with_cost, with_front_taken, with_message, with_delivered, with_noticed, with_notice_taken, with_released, front_at, notice_at, release_at, changed_attachments, router_accepting, router_at_home, router_publishing, router_releasing}
-use Rattle.network_model.specs.Run.{Runs}
 use Rattle.network_model.specs.Journal.{Fits, most_steps, step_number, journal_sum}
-use Rattle.network_model.specs.Publication.{Image, Patch, image_answer}
-use Rattle.network_model.proofs.ListLaws.{map-changed_at, option_map_or-ind, None_not_Some, Some_injective}
-use Rattle.network_model.proofs.WorldLaws.{routers-changed_link}
 use Rattle.world.specs.Steps.{HasRoomForSteps}
 use Rattle.world.proofs.Runs.{with_last_step, run-room, opening-room}
 use Rattle.fabric.specs.Images.{image_in_force, images_in_force, chosen_image, due_at}
-use Rattle.fabric.specs.Fabric.{Fabric, fabric_of, after_step, count_lent, with_lent, ForwardsAsPublished, IsKept, IsSumOf}
+use Rattle.fabric.specs.Fabric.{Fabric, fabric_of, after_step, count_lent, with_lent, ForwardsAsPublished, IsFabric, IsSumOf}
 
 -- the journal is too short for a generation to pass 64 bits
-pub room_left : (f : Fabric) (capacity : ℕ) → IsKept f capacity → HasRoomForSteps 1 f.world
+pub room_left : (f : Fabric) (capacity : ℕ) → IsFabric f capacity → HasRoomForSteps 1 f.world
 room_left f capacity kept = run-room f.journal 1 (opening f.network) f.world kept.runs (opening-room (length f.journal + 1) f.network (omega (arith, kept.short)))
 
 -- ---- the images in force
@@ -75,18 +62,18 @@ due_of w i lawful =
     )
 
 -- a router that is there has an image
-pub image_at : (f : Fabric) (capacity : ℕ) → IsKept f capacity → (i : ℕ) (r : Router) → slice_get f.world.routers i ≡ Some r → i < length f.images
+pub image_at : (f : Fabric) (capacity : ℕ) → IsFabric f capacity → (i : ℕ) (r : Router) → slice_get f.world.routers i ≡ Some r → i < length f.images
 image_at f capacity kept i r at =
     subst (λ xs. i < length xs) (sym kept.in_force)
     (subst (λ n. i < n) (sym (length-map f.world.routers image_in_force)) (slice_get_within f.world.routers i r at))
 
 -- it is of what the router published
-pub image_is : (f : Fabric) (capacity : ℕ) → IsKept f capacity → (i : ℕ) (r : Router) → slice_get f.world.routers i ≡ Some r → slice_get f.images i ≡ Some (image_in_force r)
+pub image_is : (f : Fabric) (capacity : ℕ) → IsFabric f capacity → (i : ℕ) (r : Router) → slice_get f.world.routers i ≡ Some r → slice_get f.images i ≡ Some (image_in_force r)
 image_is f capacity kept i r at =
     ap (λ xs. slice_get xs i) kept.in_force ∙ slice_get-map image_in_force f.world.routers i ∙ ap (option_map image_in_force) at
 
 -- so it has the rows that the router published, and answers as they do
-pub forwards : (f : Fabric) (capacity : ℕ) → IsKept f capacity → ForwardsAsPublished f
+pub forwards : (f : Fabric) (capacity : ℕ) → IsFabric f capacity → ForwardsAsPublished f
 forwards f capacity kept = record {
   every_router = ap length kept.in_force ∙ length-map f.world.routers image_in_force;
   rows = λ i r image at here. ap (λ (x : Image). x.rows) (same i r image at here);
@@ -104,7 +91,7 @@ chosen-published n (i ∷ is) = ap (λ xs. image_in_force (opening_router_of n i
 
 -- a network at its opening, with the images of what its routers chose
 pub kept_at_opening : (n : Network) (journal : List Step) (w : World) (images : List Image) (lent : List (Option Patch)) (capacity : ℕ) → journal ≡ [] → w ≡ opening n → images ≡ map chosen_image w.routers → count_lent lent ≡ 0
-    → most_steps ≤ capacity → IsKept (fabric_of n journal w images lent) capacity
+    → most_steps ≤ capacity → IsFabric (fabric_of n journal w images lent) capacity
 kept_at_opening n journal w images lent capacity none opened chosen all_in room = record {
   runs = subst (λ ss. Runs (opening n) ss w) (sym none) (sym opened);
   short = (let empty : length journal ≡ 0 = ap length none in omega (arith, empty, all_in));
@@ -115,7 +102,7 @@ kept_at_opening n journal w images lent capacity none opened chosen all_in room 
 -- ---- one step more
 
 -- a step leaves it
-kept_after : (f : Fabric) (s : Step) (capacity : ℕ) → IsKept f capacity → Lawful f.world s → length f.journal + count_lent f.lent < most_steps → IsKept (after_step f s) capacity
+kept_after : (f : Fabric) (s : Step) (capacity : ℕ) → IsFabric f capacity → Lawful f.world s → length f.journal + count_lent f.lent < most_steps → IsFabric (after_step f s) capacity
 kept_after f s capacity kept lawful short = record {
   runs = with_last_step (opening f.network) f.journal f.world s kept.runs lawful;
   short = (let longer : length (f.journal ++ s ∷ []) ≡ length f.journal + 1 = length-append f.journal (s ∷ []) in omega (arith, longer, short));
@@ -124,11 +111,11 @@ kept_after f s capacity kept lawful short = record {
 }
 
 -- the images stay at a step that is no publication
-pub images_stay : (f : Fabric) (s : Step) (capacity : ℕ) → IsKept f capacity → ((i : ℕ) → s ≡ Publish i → ⊥) → images_in_force (next f.world s) ≡ f.images
+pub images_stay : (f : Fabric) (s : Step) (capacity : ℕ) → IsFabric f capacity → ((i : ℕ) → s ≡ Publish i → ⊥) → images_in_force (next f.world s) ≡ f.images
 images_stay f s capacity kept other = images-next f.world s other ∙ sym kept.in_force
 
 -- a publication puts the image that was due in force
-pub images_due : (f : Fabric) (i : ℕ) (capacity : ℕ) (image : Image) → IsKept f capacity → Lawful f.world (Publish i) → due_at f.world i ≡ Some image → images_in_force (next f.world (Publish i)) ≡ set f.images i image
+pub images_due : (f : Fabric) (i : ℕ) (capacity : ℕ) (image : Image) → IsFabric f capacity → Lawful f.world (Publish i) → due_at f.world i ≡ Some image → images_in_force (next f.world (Publish i)) ≡ set f.images i image
 images_due f i capacity image kept lawful due = by_router (due_of f.world i lawful)
   where
     by_router : (r : Router) × (slice_get f.world.routers i ≡ Some r) × (due_at f.world i ≡ Some (image_in_force (router_publishing r))) → images_in_force (next f.world (Publish i)) ≡ set f.images i image
@@ -138,13 +125,13 @@ images_due f i capacity image kept lawful due = by_router (due_of f.world i lawf
         ∙ images-published i f.world.routers r.0 r.1)
 
 -- so what is made of the parts after the step is the fabric after it, and keeps what every fabric keeps
-pub kept_as : (f g : Fabric) (s : Step) (capacity more : ℕ) → IsKept f capacity → Lawful f.world s → length f.journal + count_lent f.lent < most_steps → after_step f s ≡ g → capacity ≤ more → IsKept g more
+pub kept_as : (f g : Fabric) (s : Step) (capacity more : ℕ) → IsFabric f capacity → Lawful f.world s → length f.journal + count_lent f.lent < most_steps → after_step f s ≡ g → capacity ≤ more → IsFabric g more
 kept_as f g s capacity more kept lawful short same room =
     let after = kept_after f s capacity kept lawful short in
-    subst (λ (x : Fabric). IsKept x more) same (record { runs = after.runs; short = after.short; room = (let enough : most_steps ≤ capacity = kept.room in omega (arith, enough, room)); in_force = refl })
+    subst (λ (x : Fabric). IsFabric x more) same (record { runs = after.runs; short = after.short; room = (let enough : most_steps ≤ capacity = kept.room in omega (arith, enough, room)); in_force = refl })
 
 -- what a writer that goes out or comes back leaves, where the journal has a place for it
-pub kept_lent : (f : Fabric) (i : ℕ) (l : Option Patch) (capacity : ℕ) → IsKept f capacity → length f.journal + count_lent (set f.lent i l) ≤ most_steps → IsKept (with_lent f i l) capacity
+pub kept_lent : (f : Fabric) (i : ℕ) (l : Option Patch) (capacity : ℕ) → IsFabric f capacity → length f.journal + count_lent (set f.lent i l) ≤ most_steps → IsFabric (with_lent f i l) capacity
 kept_lent f i l capacity kept short = record { runs = kept.runs; short = short; room = kept.room; in_force = kept.in_force }
 
 -- ---- the sum of the journal

@@ -1,23 +1,9 @@
 -- A prefix that a router has heard of stays so, and what waits with its writer is of such prefixes.
-use Rattle.std.specs.Prelude.{◌≡◌, ℕ, zero, suc, Bool, true, false, cond, List, [], ◌∷◌, Option, Some, None, IsSome, slice_get, option_map, option_and_then}
+use Rattle.std.proofs.Common.{refl, sym, ap, subst, ◌∙◌, ◌≡◌, ℕ, zero, suc, Bool, true, false, cond, List, [], ◌∷◌, Option, Some, None, IsSome, slice_get, option_map, option_and_then}
 use Rattle.std.specs.FinMap.{find as row_of, put}
-use Rattle.std.specs.FinMap.Entries.{find-put}
-use Rattle.std.proofs.Common.{refl, sym, ap, subst, ◌∙◌}
-use Rattle.ipv4_prefix.specs.Prefix.{Prefix, prefix_cmp, prefix_eq}
-use Rattle.ipv4_prefix.proofs.PrefixOrder.{prefix_cmp_total}
-use Rattle.network_model.specs.declared.machine.Event.{Event}
-use Rattle.network_model.specs.declared.item.Item.{Item}
-use Rattle.network_model.specs.declared.item.Notice.{Notice}
-use Rattle.network_model.specs.declared.network.End.{End}
-use Rattle.network_model.specs.declared.network.Port.{Port}
+use Rattle.packet_loops.proofs.Common.{find-put, Prefix, prefix_cmp, prefix_eq, prefix_cmp_total, Event, Item, Notice, End, Port, Machine, Reaction, reaction, changed_at, event_at_home, Link, Router, World, machine_of, next, reactions, entry_of, chosen_rows, changed_link, with_cost, with_front_taken, with_message, with_delivered, with_noticed, with_notice_taken, with_released, front_at, notice_at, release_at, changed_attachments, router_noticing, router_accepting, router_at_home, router_publishing, router_releasing, option_map_or-ind, find-map, routers-changed_link}
 use Rattle.network_model.specs.declared.step.Step.{Step}
 use Rattle.network_model.specs.declared.step.Step.TheVariants.{LinkUp, LinkDown, SetCost, Deliver, Publish, Release, Attach, Detach}
-use Rattle.network_model.specs.Machine.{Machine, Reaction, reaction, changed_at, event_at_home}
-use Rattle.network_model.specs.World.{Link, Router, World, machine_of}
-use Rattle.network_model.specs.Step.{next, reactions, entry_of, chosen_rows, changed_link, with_cost, with_front_taken, with_message, with_delivered, with_noticed, with_notice_taken, with_released, front_at, notice_at, release_at, changed_attachments, router_noticing, router_accepting, router_at_home, router_publishing, router_releasing}
-use Rattle.network_model.proofs.ListLaws.{option_map_or-ind}
-use Rattle.network_model.proofs.RowLaws.{find-map}
-use Rattle.network_model.proofs.WorldLaws.{routers-changed_link}
 use Rattle.fabric.specs.Writers.{IsHeard}
 
 -- ---- a router

@@ -1,26 +1,9 @@
 -- Where no router has anything to do, the network is settled.
-use Rattle.std.specs.Prelude.{◌≡◌, ℕ, zero, suc, ◌+◌, ◌<◌, ◌≤◌, Bool, true, false, not, ◌&&◌, nat_lt, cond, List, [], ◌∷◌, length, Option, Some, None, is_some, is_ok, option_map, option_and_then, slice_get, if◌then◌else◌}
-use Rattle.std.specs.List.{list_all, position_from}
+use Rattle.std.proofs.Common.{refl, sym, ap, ◌∙◌, arith, ◌≡◌, ℕ, zero, suc, ◌+◌, ◌<◌, ◌≤◌, Bool, true, false, not, ◌&&◌, nat_lt, cond, List, [], ◌∷◌, length, Option, Some, None, is_some, is_ok, option_map, option_and_then, slice_get, if◌then◌else◌, true≢false, ltb-true}
+use Rattle.packet_loops.proofs.Common.{list_all, position_from, and_from, length-map-range_with_len, slice_get_within, Prefix, Item, End, A, B, Place, Link, Router, Attachments, World, Network, side, place_at, degree_of, opening, opening_router_of, places_from, costs_of, IsNetwork, is_due, ripe_front, Runs, is_empty, is_quiet_link, has_no_notice, next_step, is_settled, None_not_Some, Some_injective, element_there, place_of}
 use Rattle.std.specs.Option.{ok_or, option_map_or}
-use Rattle.std.proofs.Common.{refl, sym, ap, ◌∙◌, arith}
-use Rattle.std.proofs.lemmas.Bool.{true≢false, and_from, ltb-true}
-use Rattle.std.proofs.lemmas.List.FromFn.{length-map-range_with_len}
-use Rattle.std.proofs.lemmas.Option.{slice_get_within}
-use Rattle.ipv4_prefix.specs.Prefix.{Prefix}
-use Rattle.network_model.specs.declared.item.Item.{Item}
-use Rattle.network_model.specs.declared.network.End.{End}
-use Rattle.network_model.specs.declared.network.End.TheVariants.{A, B}
-use Rattle.network_model.specs.declared.network.Place.{Place}
 use Rattle.network_model.specs.declared.step.Step.{Step}
 use Rattle.network_model.specs.declared.step.Step.TheVariants.{Deliver, Publish, Release}
-use Rattle.network_model.specs.World.{Link, Router, Attachments, World, Network, side, place_at, degree_of, opening, opening_router_of, places_from, costs_of}
-use Rattle.network_model.specs.Network.{IsNetwork}
-use Rattle.network_model.specs.Step.{is_due, ripe_front}
-use Rattle.network_model.specs.Run.{Runs}
-use Rattle.network_model.specs.Forwarding.{is_empty, is_quiet_link, has_no_notice}
-use Rattle.network_model.specs.Turns.{next_step, is_settled}
-use Rattle.network_model.proofs.ListLaws.{None_not_Some, Some_injective, element_there}
-use Rattle.network_model.proofs.PortPlaces.{place_of}
 use Rattle.link_fifo.specs.declared.refusal.LinkRefusal.{LinkRefusal}
 use Rattle.link_fifo.specs.Refusals.{front_of}
 use Rattle.world.specs.Waiting.{is_waiting, item_port, notice_port, waiting_port}

@@ -1,22 +1,10 @@
 -- Writers that are out: how many, and what stays due while they are.
-use Rattle.std.specs.Prelude.{◌≡◌, ◌⊎◌, ℕ, zero, suc, ◌+◌, ◌-◌, ◌<◌, ◌≤◌, ◌||◌, Bool, true, false, cond, nat_lt, List, [], ◌∷◌, drop, filter, length, map, replicate, set, Option, Some, None, IfSome, is_some, slice_get, option_map, ⊤}
-use Rattle.std.specs.Option.{option_map_or}
-use Rattle.std.proofs.Common.{inl, inr, refl, sym, ap, subst, ◌∙◌, arith}
-use Rattle.std.proofs.lemmas.Bool.{ltb-true, lt-ltb, false≢true}
-use Rattle.std.proofs.lemmas.List.{length-map}
-use Rattle.std.proofs.lemmas.Option.{slice_get-map}
-use Rattle.network_model.specs.declared.item.Held.{Held}
-use Rattle.network_model.specs.declared.item.Item.{Item}
+use Rattle.std.proofs.Common.{inl, inr, refl, sym, ap, subst, ◌∙◌, arith, ◌≡◌, ◌⊎◌, ℕ, zero, suc, ◌+◌, ◌-◌, ◌<◌, ◌≤◌, ◌||◌, Bool, true, false, cond, nat_lt, List, [], ◌∷◌, drop, length, map, replicate, set, Option, Some, None, IfSome, is_some, slice_get, option_map, ltb-true, lt-ltb}
+use Rattle.packet_loops.proofs.Common.{⊤, option_map_or, false≢true, slice_get-map, Held, changed_at, Router, World, next, changed_rows, changed_link, is_due, ripe_front, with_cost, with_delivered, with_front_taken, with_message, with_noticed, with_released, front_at, notice_at, release_at, router_accepting, router_at_home, router_publishing, router_releasing, Patch, None_not_Some, Some_injective, option_map_or-ind, routers-changed_link}
 use Rattle.network_model.specs.declared.step.Step.{Step}
 use Rattle.network_model.specs.declared.step.Step.TheVariants.{LinkUp, LinkDown, SetCost, Deliver, Publish, Release, Attach, Detach}
-use Rattle.network_model.specs.Machine.{changed_at}
-use Rattle.network_model.specs.World.{Router, World}
-use Rattle.network_model.specs.Step.{next, changed_rows, changed_link, is_due, ripe_front, with_cost, with_delivered, with_front_taken, with_message, with_noticed, with_released, front_at, notice_at, release_at, router_accepting, router_at_home, router_publishing, router_releasing}
-use Rattle.network_model.specs.Publication.{Patch}
-use Rattle.network_model.proofs.ListLaws.{None_not_Some, Some_injective, option_map_or-ind}
-use Rattle.network_model.proofs.WorldLaws.{routers-changed_link}
 use Rattle.image_patch.specs.Patches.{patched}
-use Rattle.publication.specs.Lists.{EachAt, Writing}
+use Rattle.publication.specs.Lists.{Writing}
 use Rattle.publication.proofs.Places.{each_there, there_each}
 use Rattle.fabric.specs.Desks.{Desk, all_lent, desk_in}
 use Rattle.fabric.specs.Fabric.{Fabric, awaits_writer, count_lent, is_lent, lent_at}

@@ -1,5 +1,4 @@
 pub mod Fabrics
-pub mod Rest
 pub mod Headline
 pub mod Idle
 pub mod Setting

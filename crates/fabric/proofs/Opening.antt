@@ -1,21 +1,13 @@
 -- A fabric that opens: its writers show the images of what its routers chose, and its readers are of its routers.
-use Rattle.std.specs.Prelude.{◌≡◌, ◌≤◌, ℕ, zero, suc, true, false, List, [], ◌∷◌, map, length, replicate, All, Some, None, IfSome, slice_get, option_map, ⊤}
-use Rattle.std.proofs.Common.{refl, sym, ap, subst, ◌∙◌, arith}
-use Rattle.std.proofs.lemmas.List.{length-map}
-use Rattle.std.proofs.lemmas.List.FromFn.{length-map-range_with_len}
-use Rattle.std.proofs.lemmas.Option.{slice_get-map, get_or_from_slice_get}
-use Rattle.ipv4_prefix.specs.Prefix.{Prefix}
-use Rattle.network_model.specs.declared.route.Entry.{Entry}
+use Rattle.std.proofs.Common.{refl, sym, ap, subst, ◌∙◌, arith, ◌≡◌, ◌≤◌, ℕ, zero, suc, true, false, List, [], ◌∷◌, map, length, replicate, All, Some, None, IfSome, slice_get, option_map}
+use Rattle.packet_loops.proofs.Common.{⊤, length-map, length-map-range_with_len, slice_get-map, get_or_from_slice_get, Prefix, Entry, Network, Router, World, opening, opening_router_of, most_steps, Image}
 use Rattle.network_model.specs.declared.step.Step.{Step}
-use Rattle.network_model.specs.World.{Network, Router, World, opening, opening_router_of}
-use Rattle.network_model.specs.Journal.{most_steps}
-use Rattle.network_model.specs.Publication.{Image}
 use Rattle.publication.specs.declared.known.Known.{Known}
 use Rattle.publication.specs.Lists.{EachAt, Writing, image_of, is_named, new_writing, opening_of}
-use Rattle.fabric.specs.Desks.{Desk, all_lent, desk_in, writings}
-use Rattle.fabric.specs.Fabric.{count_lent, fabric_of, opening_fabric, IsKept}
+use Rattle.fabric.specs.Desks.{all_lent, desk_in, writings}
+use Rattle.fabric.specs.Fabric.{count_lent, fabric_of, opening_fabric, IsFabric}
 use Rattle.fabric.specs.Images.{chosen_image, images_in_force}
-use Rattle.fabric.specs.Writers.{ArePending, AreReaders, AreWriters, IsPending, IsPort, opening_tables, shown_images}
+use Rattle.fabric.specs.Writers.{ArePending, AreReaders, AreWriters, IsPending, IsReaderPort, opening_tables, shown_images}
 use Rattle.fabric.proofs.Fabrics.{kept_at_opening}
 use Rattle.fabric.proofs.Lending.{count-none, none_lent}
 use Rattle.publication.proofs.Places.{each_there}
@@ -79,7 +71,7 @@ module _ (n : Network) (openings : List (List (Prefix × Entry))) (tables : open
   all_in : all_lent (map desk_in writers) ≡ replicate n.routers None
   all_in = none_lent writers ∙ ap (λ m. replicate m None) (count ∙ ap length chosen ∙ length-map (opening n).routers chosen_image ∙ length-map-range_with_len (opening_router_of n) 0 n.routers)
 
-  pub kept_open : (journal : List Step) (capacity : ℕ) → journal ≡ [] → most_steps ≤ capacity → IsKept (fabric_of n journal w (shown_images openings writers) (all_lent (map desk_in writers))) capacity
+  pub kept_open : (journal : List Step) (capacity : ℕ) → journal ≡ [] → most_steps ≤ capacity → IsFabric (fabric_of n journal w (shown_images openings writers) (all_lent (map desk_in writers))) capacity
   kept_open journal capacity none room = kept_at_opening n journal w (shown_images openings writers) (all_lent (map desk_in writers)) capacity none opened shown_chosen (ap count_lent all_in ∙ count-none n.routers) room
 
   -- so the fabric is the network at its opening
@@ -100,5 +92,5 @@ writings_in [] = refl
 writings_in (x ∷ xs) = ap (λ ys. x ∷ ys) (writings_in xs)
 
 -- readers of all routers that have seen nothing are of their routers
-pub new_readers : (w : World) (port : List Known) → IsPort (length w.routers) port → AreReaders w port
+pub new_readers : (w : World) (port : List Known) → IsReaderPort (length w.routers) port → AreReaders w port
 new_readers w port is = record { every_router = is.0; numbered = λ i v at. ap (λ (k : Known). k.router) (is.1 i v at) }

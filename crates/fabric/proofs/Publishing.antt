@@ -1,31 +1,17 @@
 -- A publication: what its patch is for the router's writer, and what is left where it is refused.
-use Rattle.std.specs.Prelude.{◌≡◌, ◌⊎◌, ◌<◌, ◌+◌, ◌||◌, ℕ, Bool, true, false, cond, List, [], ◌∷◌, ◌++◌, map, length, set, Option, Some, None, IsSome, get_or, slice_get, option_and_then}
+use Rattle.std.proofs.Common.{inl, inr, refl, sym, ap, subst, ◌∙◌, append_assoc, ◌≡◌, ◌⊎◌, ◌<◌, ◌+◌, ◌||◌, ℕ, Bool, true, false, cond, List, [], ◌∷◌, ◌++◌, map, length, set, Option, Some, None, IsSome, get_or, slice_get, option_and_then, append-nil}
 use Rattle.std.specs.FinMap.{find as row_of}
-use Rattle.std.specs.List.{list_any}
-use Rattle.std.specs.Option.{option_map_or}
-use Rattle.std.proofs.Common.{inl, inr, refl, sym, ap, subst, ◌∙◌, append_assoc}
-use Rattle.std.proofs.lemmas.List.{append-nil, length-map, map-set}
-use Rattle.std.proofs.lemmas.List.Folds.{list_any-append}
-use Rattle.std.proofs.lemmas.Option.{get_or_from_slice_get, slice_get-get_or}
-use Rattle.std.proofs.Math.Seq.{map-set_same}
-use Rattle.ipv4_prefix.specs.Prefix.{Prefix, prefix_cmp, prefix_eq}
-use Rattle.network_model.specs.declared.route.Entry.{Entry}
+use Rattle.packet_loops.proofs.Common.{list_any, option_map_or, length-map, map-set, list_any-append, get_or_from_slice_get, slice_get-get_or, map-set_same, Prefix, prefix_cmp, prefix_eq, Entry, Network, Router, World, opening, IsNetwork, chosen_rows, is_due, next, router_publishing, Runs, Image, Patch, None_not_Some, Some_injective}
 use Rattle.network_model.specs.declared.step.Step.{Step}
-use Rattle.network_model.specs.World.{Network, Router, World, opening}
-use Rattle.network_model.specs.Network.{IsNetwork}
-use Rattle.network_model.specs.Step.{chosen_rows, is_due, next, router_publishing}
-use Rattle.network_model.specs.Run.{Runs}
-use Rattle.network_model.specs.Publication.{Image, Patch}
-use Rattle.network_model.proofs.ListLaws.{None_not_Some, Some_injective}
 use Rattle.packet_loops.proofs.WorldLaws.{next-shape}
 use Rattle.packet_loops.proofs.Wiring.{wired}
 use Rattle.packet_loops.proofs.Runs.{reached}
 use Rattle.image_patch.specs.declared.Patch.{Patch as PatchFields}
 use Rattle.image_patch.specs.Patches.{patched}
 use Rattle.publication.specs.declared.known.Known.{Known}
-use Rattle.publication.specs.Lists.{Covers, Writing, generation_of, image_of, is_named, patch_of, prefixes_of}
+use Rattle.publication.specs.Lists.{Covers, Writing, generation_of, image_of, is_named, patch_of, patched_prefixes}
 use Rattle.publication.proofs.RowsAgain.{has_row}
-use Rattle.fabric.specs.Fabric.{fabric_of, IsKept}
+use Rattle.fabric.specs.Fabric.{fabric_of, IsFabric}
 use Rattle.fabric.specs.Images.{due_at, image_in_force, images_in_force}
 use Rattle.fabric.specs.Patches.{IsPatchDue, rows_to_set}
 use Rattle.fabric.specs.Writers.{AreHeard, AreReaders, AreWriters, IsHeard, shown_images, waiting_at}
@@ -72,7 +58,7 @@ pub record IsDue {A : Type 0} (n : Network) (journal : List Step) (w : World) (o
   pub router : Router
   pub at : slice_get w.routers i ≡ Some router
   pub due : due_at w i ≡ Some (patched patch.generation patch.rows.items (image_in_force router))
-  pub rows : patch.rows.items ≡ rows_to_set (router.table) (prefixes_of x.waiting)
+  pub rows : patch.rows.items ≡ rows_to_set (router.table) (patched_prefixes x.waiting)
 
 -- what is due, said of the world and the writers themselves
 pub due_there : {A : Type 0} (v w : World) (ws writers : List Writing) (i : ℕ) (waiting : List Prefix) (o : Option (PatchFields A)) (patch : PatchFields A) → v ≡ w → waiting ≡ waiting_at ws i → ws ≡ writers → o ≡ Some patch
@@ -82,12 +68,12 @@ due_there v w ws writers i waiting o patch worlds waits same some due =
     (subst (λ ps. IsPatchDue v i ps (Some patch)) (waits ∙ ap (λ xs. waiting_at xs i) same) (subst (IsPatchDue v i waiting) some due))
 
 -- a router that is there has a writer
-pub writer_within : (n : Network) (journal : List Step) (w : World) (openings : List (List (Prefix × Entry))) (writers : List Writing) (lent : List (Option Patch)) (capacity : ℕ) → IsKept (fabric_of n journal w (shown_images openings writers) lent) capacity
+pub writer_within : (n : Network) (journal : List Step) (w : World) (openings : List (List (Prefix × Entry))) (writers : List Writing) (lent : List (Option Patch)) (capacity : ℕ) → IsFabric (fabric_of n journal w (shown_images openings writers) lent) capacity
     → (i : ℕ) (r : Router) → slice_get w.routers i ≡ Some r → i < length writers
 writer_within n journal w openings writers lent capacity kept i r at =
     subst (λ m. i < m) (length-map writers (λ (z : Writing). image_of openings z.published)) (image_at (fabric_of n journal w (shown_images openings writers) lent) capacity kept i r at)
 
-pub is_due_by : {A : Type 0} (n : Network) (journal : List Step) (w : World) (openings : List (List (Prefix × Entry))) (writers : List Writing) (lent : List (Option Patch)) (capacity : ℕ) → IsKept (fabric_of n journal w (shown_images openings writers) lent) capacity
+pub is_due_by : {A : Type 0} (n : Network) (journal : List Step) (w : World) (openings : List (List (Prefix × Entry))) (writers : List Writing) (lent : List (Option Patch)) (capacity : ℕ) → IsFabric (fabric_of n journal w (shown_images openings writers) lent) capacity
     → AreWriters w writers → IsNetwork n → (i : ℕ) (x : Writing) → x ≡ get_or writers i x → (patch : PatchFields A) → IsPatchDue w i (waiting_at writers i) (Some patch) → IsDue n journal w openings writers i x patch
 is_due_by n journal w openings writers lent capacity kept are valid i x is patch due = record {
   valid = valid;
@@ -98,7 +84,7 @@ is_due_by n journal w openings writers lent capacity kept are valid i x is patch
   router = due.0;
   at = due.1;
   due = due.2;
-  rows = due.3 ∙ ap (λ o. rows_to_set ((due.0).table) (option_map_or (λ (z : Writing). prefixes_of z.waiting) o [])) there;
+  rows = due.3 ∙ ap (λ o. rows_to_set ((due.0).table) (option_map_or (λ (z : Writing). patched_prefixes z.waiting) o [])) there;
 }
   where
     there : slice_get writers i ≡ Some x
@@ -125,7 +111,7 @@ module _ {A : Type 0} (n : Network) (journal : List Step) (w : World) (openings 
   pub next_number : patch.generation ≡ generation_of x.published + 1
   next_number = ap (λ (image : Image). image.generation) makes ∙ ap (λ g. g + 1) (sym (ap (λ (image : Image). image.generation) shows))
 
-  named_is : (q : Prefix) → is_named (patch_of patch ∷ []) q ≡ has_row (rows_to_set (r.table) (prefixes_of x.waiting)) q
+  named_is : (q : Prefix) → is_named (patch_of patch ∷ []) q ≡ has_row (rows_to_set (r.table) (patched_prefixes x.waiting)) q
   named_is q = ap (list_any (λ k. prefix_eq k q)) (append-nil (map (λ (e : Prefix × Entry). e.0) patch.rows.items)) ∙ ap (λ es. has_row es q) D.rows
 
   follows : (q : Prefix) → (r.table).control ≡ chosen_rows r.ports r.machines
@@ -142,7 +128,7 @@ module _ {A : Type 0} (n : Network) (journal : List Step) (w : World) (openings 
   pub names_all : Covers (patch_of patch) x.waiting
   names_all q named =
       let heard : IsSome (row_of prefix_cmp q r.machines) = subst (λ o. IsSome (option_and_then (λ (y : Router). row_of prefix_cmp q y.machines) o)) D.at (waits_heard q named) in
-      named_is q ∙ waiting_named (r.table) (prefixes_of x.waiting) q named (chosen_heard r q (follows q) heard)
+      named_is q ∙ waiting_named (r.table) (patched_prefixes x.waiting) q named (chosen_heard r q (follows q) heard)
 
   -- where it waits, the router has heard of all that waits
   pub still_heard : (waiting : List Patch) → (waiting ≡ x.waiting) ⊎ (waiting ≡ x.waiting ++ patch_of patch ∷ []) → AreHeard w i waiting
@@ -150,17 +136,17 @@ module _ {A : Type 0} (n : Network) (journal : List Step) (w : World) (openings 
   still_heard waiting (inr more) q named = by_name (is_named x.waiting q) refl (sym (named_either q) ∙ subst (λ ps. is_named ps q ≡ true) more named)
     where
       named_either : (k : Prefix) → is_named (x.waiting ++ patch_of patch ∷ []) k ≡ (is_named x.waiting k || is_named (patch_of patch ∷ []) k)
-      named_either k = ap (list_any (λ p. prefix_eq p k)) (prefixes-append x.waiting) ∙ list_any-append (λ p. prefix_eq p k) (prefixes_of x.waiting) (prefixes_of (patch_of patch ∷ []))
+      named_either k = ap (list_any (λ p. prefix_eq p k)) (prefixes-append x.waiting) ∙ list_any-append (λ p. prefix_eq p k) (patched_prefixes x.waiting) (patched_prefixes (patch_of patch ∷ []))
         where
-          prefixes-append : (ps : List Patch) → prefixes_of (ps ++ patch_of patch ∷ []) ≡ prefixes_of ps ++ prefixes_of (patch_of patch ∷ [])
+          prefixes-append : (ps : List Patch) → patched_prefixes (ps ++ patch_of patch ∷ []) ≡ patched_prefixes ps ++ patched_prefixes (patch_of patch ∷ [])
           prefixes-append [] = refl
-          prefixes-append (p ∷ ps) = ap (λ ks. map (λ (e : Prefix × Entry). e.0) p.rows ++ ks) (prefixes-append ps) ∙ sym (append_assoc (map (λ (e : Prefix × Entry). e.0) p.rows) (prefixes_of ps) (prefixes_of (patch_of patch ∷ [])))
+          prefixes-append (p ∷ ps) = ap (λ ks. map (λ (e : Prefix × Entry). e.0) p.rows ++ ks) (prefixes-append ps) ∙ sym (append_assoc (map (λ (e : Prefix × Entry). e.0) p.rows) (patched_prefixes ps) (patched_prefixes (patch_of patch ∷ [])))
 
       by_name : (b : Bool) → is_named x.waiting q ≡ b → (b || is_named (patch_of patch ∷ []) q) ≡ true → IsHeard w i q
       by_name true is _ = waits_heard q is
       by_name false is here =
           subst (λ o. IsSome (option_and_then (λ (y : Router). row_of prefix_cmp q y.machines) o)) (sym D.at)
-          (heard_chosen r q (follows q) (named_chosen (r.table) (prefixes_of x.waiting) q (sym (named_is q) ∙ here)))
+          (heard_chosen r q (follows q) (named_chosen (r.table) (patched_prefixes x.waiting) q (sym (named_is q) ∙ here)))
 
   -- a refused publication shows nothing else
   pub unseen_shown : (y : Writing) → y.published ≡ x.published → shown_images openings (set writers i y) ≡ shown_images openings writers

@@ -1,39 +1,25 @@
 -- Writers at their desks: one that is in publishes, goes out with the patch that is due, or comes back.
-use Rattle.std.specs.Prelude.{◌≡◌, ◌<◌, ◌≤◌, ◌+◌, ◌||◌, ℕ, zero, suc, Bool, true, false, cond, List, [], ◌∷◌, ◌++◌, map, length, set, Option, Some, None, IfSome, IsSome, is_some, get_or, slice_get, option_map, option_and_then, ⊤}
-use Rattle.std.specs.Option.{option_map_or}
-use Rattle.std.proofs.Common.{inr, refl, sym, ap, subst, ◌∙◌, arith}
-use Rattle.std.proofs.lemmas.Bool.{false≢true, true≢false}
-use Rattle.std.proofs.lemmas.List.{length-map, map-set}
-use Rattle.std.proofs.lemmas.Option.{get_or_from_slice_get, slice_get-get_or, slice_get-map, slice_get_within}
-use Rattle.std.proofs.Math.Bool.{or-true}
-use Rattle.std.proofs.Math.Seq.{map-set_same}
-use Rattle.ipv4_prefix.specs.Prefix.{Prefix}
-use Rattle.network_model.specs.declared.route.Entry.{Entry}
+use Rattle.std.proofs.Common.{inr, refl, sym, ap, subst, ◌∙◌, arith, ◌≡◌, ◌<◌, ◌≤◌, ◌+◌, ◌||◌, ℕ, zero, suc, Bool, true, false, cond, List, [], ◌∷◌, ◌++◌, map, length, set, Option, Some, None, IfSome, is_some, get_or, slice_get, option_map, option_and_then, true≢false}
+use Rattle.packet_loops.proofs.Common.{option_map_or, false≢true, length-map, map-set, get_or_from_slice_get, slice_get-get_or, slice_get-map, slice_get_within, or-true, map-set_same, Prefix, Entry, Network, Router, World, IsNetwork, most_steps, Lawful, is_due, next, router_publishing, Patch, None_not_Some, Some_injective}
 use Rattle.network_model.specs.declared.step.Step.{Step}
-use Rattle.network_model.specs.World.{Network, Router, World}
-use Rattle.network_model.specs.Network.{IsNetwork}
-use Rattle.network_model.specs.Journal.{most_steps}
 use Rattle.network_model.specs.declared.step.Step.TheVariants.{Publish}
-use Rattle.network_model.specs.Step.{Lawful, is_due, next, router_publishing}
-use Rattle.network_model.specs.Publication.{Image, Patch}
-use Rattle.network_model.proofs.ListLaws.{None_not_Some, Some_injective}
 use Rattle.image_patch.specs.declared.Patch.{Patch as PatchFields}
 use Rattle.image_patch.specs.Patches.{patched}
 use Rattle.publication.specs.declared.known.Known.{Known}
-use Rattle.publication.specs.Lists.{Covers, EachAt, Writing, image_of, is_named, patch_of, prefixes_of, with_publication}
+use Rattle.publication.specs.Lists.{Writing, image_of, is_named, patch_of, patched_prefixes}
 use Rattle.publication.specs.Outings.{HasPublished, IsOuting, Outing}
 use Rattle.publication.proofs.Outings.{named-more}
 use Rattle.publication.proofs.Places.{each_set, each_there}
 use Rattle.publication.proofs.Tables.{image-covered}
 use Rattle.fabric.specs.Desks.{Desk, all_lent, desk_in, desk_out, writings}
-use Rattle.fabric.specs.Fabric.{Fabric, after_step, awaits_writer, count_lent, fabric_of, lent_at, with_lent, IsKept}
+use Rattle.fabric.specs.Fabric.{after_step, awaits_writer, count_lent, fabric_of, lent_at, with_lent, IsFabric}
 use Rattle.fabric.specs.Images.{due_at, image_in_force, images_in_force}
 use Rattle.fabric.specs.Patches.{IsPatchDue}
-use Rattle.fabric.specs.Writers.{AreHeard, ArePending, AreWriters, IsPending, shown_images, waiting_at}
+use Rattle.fabric.specs.Writers.{AreHeard, ArePending, AreWriters, IsPending, shown_images, waiting_at, fabric_seen}
 use Rattle.fabric.proofs.Fabrics.{due_of, images_due, kept_lent}
 use Rattle.fabric.proofs.Showing.{router_of}
 use Rattle.fabric.proofs.Lending.{all_pending_next, count-set, lent_none, lent_there, one}
-use Rattle.fabric.proofs.Publishing.{IsDue, is_due_by, makes, number_is, shows, still_heard, unseen_shown, writer_within, writers_set}
+use Rattle.fabric.proofs.Publishing.{IsDue, is_due_by, makes, number_is, still_heard, unseen_shown, writer_within, writers_set}
 
 -- ---- desks
 
@@ -50,15 +36,15 @@ pub desk_count : (w : World) (openings : List (List (Prefix × Entry))) (desks :
 desk_count w openings desks shown = sym (length-map desks (λ (d : Desk). d.writing)) ∙ sym (length-map (writings desks) (λ (x : Writing). image_of openings x.published)) ∙ ap length shown ∙ length-map w.routers image_in_force
 
 -- what waits with the writer of a desk that is there
-pub waits_there : (desks : List Desk) (i : ℕ) (d : Desk) (waiting : List Prefix) → slice_get desks i ≡ Some d → (d.out ≡ None → waiting ≡ prefixes_of (d.writing).waiting)
+pub waits_there : (desks : List Desk) (i : ℕ) (d : Desk) (waiting : List Prefix) → slice_get desks i ≡ Some d → (d.out ≡ None → waiting ≡ patched_prefixes (d.writing).waiting)
     → lent_at (all_lent desks) i ≡ None → waiting ≡ waiting_at (writings desks) i
 waits_there desks i d waiting at waits inside =
     waits (sym (lent_there desks i d at) ∙ inside)
-    ∙ ap (λ o. option_map_or (λ (x : Writing). prefixes_of x.waiting) o []) (sym (writing_there desks i d at))
+    ∙ ap (λ o. option_map_or (λ (x : Writing). patched_prefixes x.waiting) o []) (sym (writing_there desks i d at))
 
 -- nothing, where there is none
 pub none_waits : (desks : List Desk) (i : ℕ) → slice_get desks i ≡ None → [] ≡ waiting_at (writings desks) i
-none_waits desks i past = ap (λ o. option_map_or (λ (x : Writing). prefixes_of x.waiting) o []) (sym (slice_get-map (λ (e : Desk). e.writing) desks i ∙ ap (option_map (λ (e : Desk). e.writing)) past))
+none_waits desks i past = ap (λ o. option_map_or (λ (x : Writing). patched_prefixes x.waiting) o []) (sym (slice_get-map (λ (e : Desk). e.writing) desks i ∙ ap (option_map (λ (e : Desk). e.writing)) past))
 
 -- a writer that is not there is not out
 pub none_lent_at : (desks : List Desk) (i : ℕ) → slice_get desks i ≡ None → lent_at (all_lent desks) i ≡ None
@@ -96,7 +82,7 @@ module _ (w : World) (desks : List Desk) (i : ℕ) (d e : Desk) (at : slice_get 
 -- ---- the parts of a fabric
 
 module _ (n : Network) (journal : List Step) (w : World) (openings : List (List (Prefix × Entry))) (desks : List Desk) (capacity : ℕ)
-    (kept : IsKept (fabric_of n journal w (shown_images openings (writings desks)) (all_lent desks)) capacity) (are : AreWriters w (writings desks)) where
+    (kept : IsFabric (fabric_seen openings n journal w desks) capacity) (are : AreWriters w (writings desks)) where
   -- a router that is there has a desk
   pub desk_within : (i : ℕ) (r : Router) → slice_get w.routers i ≡ Some r → i < length desks
   desk_within i r at = subst (λ m. i < m) (length-map desks (λ (d : Desk). d.writing)) (writer_within n journal w openings (writings desks) (all_lent desks) capacity kept i r at)
@@ -149,14 +135,14 @@ module _ {A : Type 0} (n : Network) (journal : List Step) (w : World) (openings 
       let same = ap count_lent lent_away in
       omega (arith, set_is, none, same)
 
-  pub kept_away : (capacity : ℕ) → IsKept (fabric_of n journal w (shown_images openings (writings desks)) (all_lent desks)) capacity → length journal + count_lent (all_lent desks) < most_steps
-      → IsKept (fabric_of n journal w (shown_images openings (writings (set desks i away))) (all_lent (set desks i away))) capacity
+  pub kept_away : (capacity : ℕ) → IsFabric (fabric_seen openings n journal w desks) capacity → length journal + count_lent (all_lent desks) < most_steps
+      → IsFabric (fabric_seen openings n journal w (set desks i away)) capacity
   kept_away capacity kept short =
       let more = count_away in
       let same = ap count_lent lent_away in
-      subst (λ images. IsKept (fabric_of n journal w images (all_lent (set desks i away))) capacity) (sym shown_away)
-      (subst (λ lent. IsKept (fabric_of n journal w (shown_images openings (writings desks)) lent) capacity) (sym lent_away)
-      (kept_lent (fabric_of n journal w (shown_images openings (writings desks)) (all_lent desks)) i (Some (patch_of patch)) capacity kept (omega (arith, more, same, short))))
+      subst (λ images. IsFabric (fabric_of n journal w images (all_lent (set desks i away))) capacity) (sym shown_away)
+      (subst (λ lent. IsFabric (fabric_of n journal w (shown_images openings (writings desks)) lent) capacity) (sym lent_away)
+      (kept_lent (fabric_seen openings n journal w desks) i (Some (patch_of patch)) capacity kept (omega (arith, more, same, short))))
 
 -- ---- a writer comes back
 
@@ -226,17 +212,17 @@ module _ (w : World) (openings : List (List (Prefix × Entry))) (desks : List De
 
   -- ---- the fabric that it comes back to
 
-  module _ (n : Network) (journal : List Step) (capacity : ℕ) (kept : IsKept (fabric_of n journal w (shown_images openings (writings desks)) (all_lent desks)) capacity) where
+  module _ (n : Network) (journal : List Step) (capacity : ℕ) (kept : IsFabric (fabric_seen openings n journal w desks) capacity) where
     -- its place in the journal is free
     pub short_back : length journal + count_lent (all_lent (set desks i back)) < most_steps
     short_back = let count = count_back in let short = kept.short in omega (arith, count, short)
 
-    pub kept_back : IsKept (fabric_of n journal w (shown_images openings (writings desks)) (all_lent (set desks i back))) capacity
+    pub kept_back : IsFabric (fabric_of n journal w (shown_images openings (writings desks)) (all_lent (set desks i back))) capacity
     kept_back =
         let short = short_back in
         let same = ap count_lent lent_back in
-        subst (λ lent. IsKept (fabric_of n journal w (shown_images openings (writings desks)) lent) capacity) (sym lent_back)
-        (kept_lent (fabric_of n journal w (shown_images openings (writings desks)) (all_lent desks)) i None capacity kept (omega (arith, short, same)))
+        subst (λ lent. IsFabric (fabric_of n journal w (shown_images openings (writings desks)) lent) capacity) (sym lent_back)
+        (kept_lent (fabric_seen openings n journal w desks) i None capacity kept (omega (arith, short, same)))
 
     pub lawful_back : Lawful w (Publish i)
     lawful_back = (due_back.1.router, due_back.1.is_router, due_back.1.due)
@@ -253,16 +239,16 @@ module _ (w : World) (openings : List (List (Prefix × Entry))) (desks : List De
         let of = due_of w i lawful_back in
         let shown = router_of openings w (writings desks) kept.in_force i d.writing (writing_there desks i d at) in
         let due : due_at w i ≡ Some (image_in_force (router_publishing r)) = of.2 ∙ ap (λ x. Some (image_in_force (router_publishing x))) (Some_injective (sym of.1 ∙ due_back.1.is_router)) in
-        images_due (fabric_of n journal w (shown_images openings (writings desks)) (all_lent desks)) i capacity (image_in_force (router_publishing r)) kept lawful_back due
+        images_due (fabric_seen openings n journal w desks) i capacity (image_in_force (router_publishing r)) kept lawful_back due
         ∙ sym (shown_new done r due_back.1.is_router (shown.2 ∙ ap image_in_force (Some_injective (sym shown.1 ∙ due_back.1.is_router))))
 
     -- the fabric afterwards, where the patch was published
     pub published_is : o.is_published ≡ true → (items : List Step) (v : World) (ds : List Desk) → items ≡ journal ++ Publish i ∷ [] → v ≡ next w (Publish i) → ds ≡ set desks i back
-        → fabric_of n items v (shown_images openings (writings ds)) (all_lent ds) ≡ after_step (with_lent (fabric_of n journal w (shown_images openings (writings desks)) (all_lent desks)) i None) (Publish i)
+        → fabric_seen openings n items v ds ≡ after_step (with_lent (fabric_seen openings n journal w desks) i None) (Publish i)
     published_is done items v ds pushed world left =
         λ k. fabric_of n (pushed k) (world k) ((ap (λ xs. shown_images openings (writings xs)) left ∙ sym (images_back done)) k) ((ap all_lent left ∙ lent_back) k)
 
     -- and where it was not
     pub unpublished_is : o.is_published ≡ false → (ds : List Desk) → ds ≡ set desks i back
-        → fabric_of n journal w (shown_images openings (writings ds)) (all_lent ds) ≡ with_lent (fabric_of n journal w (shown_images openings (writings desks)) (all_lent desks)) i None
+        → fabric_seen openings n journal w ds ≡ with_lent (fabric_seen openings n journal w desks) i None
     unpublished_is not_yet ds left = λ k. fabric_of n journal w ((ap (λ xs. shown_images openings (writings xs)) left ∙ shown_back not_yet) k) ((ap all_lent left ∙ lent_back) k)

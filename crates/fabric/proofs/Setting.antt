@@ -1,19 +1,7 @@
 -- The rows that a publication names make the chosen rows of those in force, and are those of all that waits.
 use Rattle.std.proofs.Common.{◌≡◌, ◌∙◌, ◌||◌, not, Bool, true, false, cond, List, [], ◌∷◌, filter, Some, IsSome, refl, ap, sym}
 use Rattle.std.specs.FinMap.{find as row_of, put, is_sorted}
-use Rattle.std.specs.FinMap.Entries.{below_all, by_order}
-use Rattle.std.specs.List.{list_any}
-use Rattle.std.proofs.lemmas.Bool.{and_parts, and_from}
-use Rattle.std.proofs.lemmas.Cmp.{tied_itself}
-use Rattle.std.proofs.Math.Bool.{or-true}
-use Rattle.ipv4_prefix.specs.Prefix.{Prefix, prefix_cmp, prefix_eq}
-use Rattle.ipv4_prefix.proofs.PrefixOrder.{prefix_cmp_total, prefix_eq-Decides}
-use Rattle.network_model.specs.declared.route.Entry.{Entry}
-use Rattle.network_model.specs.World.{Table}
-use Rattle.network_model.specs.Step.{changed_rows}
-use Rattle.network_model.specs.Step.{has_row as stands_in}
-use Rattle.network_model.specs.Publication.{with_rows}
-use Rattle.network_model.proofs.RowLaws.{with_rows-past}
+use Rattle.packet_loops.proofs.Common.{below_all, by_order, list_any, and_parts, and_from, tied_itself, or-true, Prefix, prefix_cmp, prefix_eq, prefix_cmp_total, prefix_eq-Decides, Entry, Table, changed_rows, has_row as stands_in, with_rows, with_rows-past}
 use Rattle.publication.proofs.RowsAgain.{has_row, rows_again}
 use Rattle.fabric.specs.Patches.{rows_to_set}
 

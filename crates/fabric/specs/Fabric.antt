@@ -70,8 +70,8 @@ fabric_refusal f s =
     if nat_lt (length f.journal + count_lent f.lent) most_steps then here else Some Refusal.JournalFull
 
 -- what router i has to do next, as in its world; but nothing where that has to wait for its writer
-abbrev pub next_step : Fabric → ℕ → Option Step
-next_step f i = option_and_then (λ s. if awaits_writer f s then None else Some s) (turns.next_step f.world i)
+abbrev pub next_fabric_step : Fabric → ℕ → Option Step
+next_fabric_step f i = option_and_then (λ s. if awaits_writer f s then None else Some s) (turns.next_step f.world i)
 
 -- each router has an image, the one in force where its writer is in, which has the rows that the router published and answers every address with the longest match over them, and has the generation of that publication
 pub record ForwardsAsPublished (f : Fabric) : Type 0 where
@@ -81,7 +81,7 @@ pub record ForwardsAsPublished (f : Fabric) : Type 0 where
   pub generation : (i : ℕ) (r : Router) (image : Image) → slice_get f.world.routers i ≡ Some r → slice_get f.images i ≡ Some image → image.generation ≡ r.generation
 
 -- what every fabric keeps: its journal made its world, and with the places set aside is no longer than a journal may be, nor than its room; each image in force is of what its router published
-pub record IsKept (f : Fabric) (capacity : ℕ) : Type 0 where
+pub record IsFabric (f : Fabric) (capacity : ℕ) : Type 0 where
   pub runs : Runs (opening f.network) f.journal f.world
   pub short : length f.journal + count_lent f.lent ≤ most_steps
   pub room : most_steps ≤ capacity

@@ -3,7 +3,7 @@ use Rattle.std.specs.Prelude.{ℕ, if◌then◌else◌, List, map, Option, Some,
 use Rattle.network_model.specs.declared.route.Answer.{Answer}
 use Rattle.network_model.specs.World.{Router, World}
 use Rattle.network_model.specs.Step.{is_due, router_publishing}
-use Rattle.network_model.specs.Publication.{Image, image_answer}
+use Rattle.network_model.specs.Publication.{Image, answer_of}
 
 -- the image in force at a router: the rows that it published, and which publication that was
 abbrev pub image_in_force : Router → Image
@@ -17,13 +17,9 @@ images_in_force w = map image_in_force w.routers
 abbrev pub chosen_image : Router → Image
 chosen_image r = record { generation = 0; rows = (r.table).control }
 
--- what an image answers for an address
-abbrev pub answer_of : ℕ → Image → Answer
-answer_of addr image = record { generation = image.generation; matched = image_answer image addr }
-
 -- what the image in force at a router answers for an address; nothing where there is no such router
 abbrev pub answer_at : World → ℕ → ℕ → Option Answer
-answer_at w i addr = option_map (λ r. answer_of addr (image_in_force r)) (slice_get w.routers i)
+answer_at w i addr = option_map (λ r. answer_of (image_in_force r) addr) (slice_get w.routers i)
 
 -- the image that a publication of router i would put in force; nothing where it would be refused
 abbrev pub due_at : World → ℕ → Option Image

@@ -8,9 +8,11 @@ use Rattle.network_model.specs.World.{Network, Router, World, opening}
 use Rattle.network_model.specs.Step.{is_due, router_publishing}
 use Rattle.network_model.specs.Publication.{Image, Patch}
 use Rattle.publication.specs.declared.known.Known.{Known}
-use Rattle.publication.specs.Lists.{EachAt, Writing, image_of, is_named, no_patches, prefixes_of}
+use Rattle.publication.specs.Lists.{EachAt, Writing, image_of, is_named, no_patches, patched_prefixes}
 use Rattle.image_patch.specs.Patches.{patched}
-use Rattle.fabric.specs.Desks.{Desk}
+use Rattle.network_model.specs.declared.step.Step.{Step}
+use Rattle.fabric.specs.Desks.{Desk, all_lent, writings}
+use Rattle.fabric.specs.Fabric.{Fabric, count_lent, fabric_of, IsFabric, IsSumOf}
 use Rattle.fabric.specs.Images.{image_in_force}
 
 -- the rows that each router of a network has chosen when it opens, by the routers' numbers
@@ -23,7 +25,7 @@ shown_images openings writers = map (λ w. image_of openings w.published) writer
 
 -- the prefixes that wait with the writer of router i
 abbrev pub waiting_at : List Writing → ℕ → List Prefix
-waiting_at writers i = option_map_or (λ w. prefixes_of w.waiting) (slice_get writers i) []
+waiting_at writers i = option_map_or (λ w. patched_prefixes w.waiting) (slice_get writers i) []
 
 -- router i has heard of the prefix
 abbrev pub IsHeard : World → ℕ → Prefix → Type 0
@@ -55,8 +57,19 @@ pub record AreReaders (w : World) (views : List Known) : Type 0 where
   pub numbered : EachAt (λ i v. v.router ≡ i) views
 
 -- readers of all routers, by their numbers, that have seen nothing published
-abbrev pub IsPort : ℕ → List Known → Type 0
-IsPort routers port = (length port ≡ routers) × EachAt (λ i r. r ≡ no_patches i) port
+abbrev pub IsReaderPort : ℕ → List Known → Type 0
+IsReaderPort routers port = (length port ≡ routers) × EachAt (λ i r. r ≡ no_patches i) port
+
+-- what a fabric is whose desks have the writers: their images are in force, and the patches with which they are out
+abbrev pub fabric_seen : List (List (Prefix × Entry)) → Network → List Step → World → List Desk → Fabric
+fabric_seen openings network journal world desks = fabric_of network journal world (shown_images openings (writings desks)) (all_lent desks)
+
+-- what the parts of a fabric keep among each other
+abbrev pub FitTogether : List (List (Prefix × Entry)) → Network → List Step → ℕ → World → List Desk → List Known → ℕ → ℕ → Type 0
+FitTogether openings network journal capacity world desks readers sum set_aside =
+    IsFabric (fabric_seen openings network journal world desks) capacity
+    × AreWriters world (writings desks) × ArePending world desks × AreReaders world readers
+    × IsSumOf journal sum × (set_aside ≡ count_lent (all_lent desks))
 
 -- each router has at least so many readers, which have seen nothing published
 abbrev pub HaveReaders : ℕ → List (List Known) → Type 0

@@ -2,30 +2,30 @@
 
 ghost use Rattle.std.specs.Prelude.{◌≡◌, ◌⊎◌, ◌+◌, ◌++◌, ◌∷◌, ◌↔◌, [], Some, None, is_some, length, map, IfErr, IfOk, IsOk, OnOk, OnErr};
 ghost use Rattle.image_patch.specs.Patches.{patched};
-ghost use Rattle.publication.specs.Lists.{Covers, generation_of, image_of, patch_of, prefixes_of, with_publication};
+ghost use Rattle.publication.specs.Lists.{Covers, generation_of, image_of, patch_of, patched_prefixes, with_publication};
 ghost use Rattle.publication.specs.Outings.{IsOuting, new_outing};
 ghost use Rattle.fabric.specs.Desks.{desk_in, desk_out};
 
 use network_model::{NoMemory, Prefix, SmallAllocator};
-use publication::{ImageWriter, Naming, Patch, Stub, Ticket, Told, close_all as end_all};
+use publication::{FabricName, ImageWriter, Patch, Stub, Ticket, Told, close_all as end_all};
 use std::alloc::Global;
 use std::marker::Model;
 use std::mem::replace;
 use std::sync::Wait;
 
 // Where a writer is, or what stays of it while it is out.
-enum Place<B: Naming, A: SmallAllocator> {
+enum Place<B: FabricName, A: SmallAllocator> {
     In(ImageWriter<B, A>),
     Out(Stub<B, A>),
 }
 
 /// A router's writer, or what is kept of it while it is out with a ticket. It is not `Drop`: end it by
 /// `close`.
-pub struct Desk<B: Naming, A: SmallAllocator = Global> {
+pub struct Desk<B: FabricName, A: SmallAllocator = Global> {
     place: Place<B, A>,
 }
 
-impl<B: Naming, A: SmallAllocator> Model for Desk<B, A> {
+impl<B: FabricName, A: SmallAllocator> Model for Desk<B, A> {
     ghost use Rattle.fabric.specs.Desks.{Desk as DeskState};
 
     ghost Value = { DeskState };
@@ -39,7 +39,7 @@ impl<B: Naming, A: SmallAllocator> Model for Desk<B, A> {
     ghost invariant = { λ d. ⊤ };
 }
 
-impl<B: Naming, A: SmallAllocator> Desk<B, A> {
+impl<B: FabricName, A: SmallAllocator> Desk<B, A> {
     /// A writer that is in.
     pub fn new(writer: ImageWriter<B, A>) -> Desk<B, A>
         ensures { result ≡ desk_in writer }
@@ -76,7 +76,7 @@ impl<B: Naming, A: SmallAllocator> Desk<B, A> {
 
     /// The prefixes that wait with a writer that is in.
     pub fn waiting(&self) -> &[Prefix]
-        ensures { self.now.out ≡ None → result.now ≡ prefixes_of self.now.writing.waiting }
+        ensures { self.now.out ≡ None → result.now ≡ patched_prefixes self.now.writing.waiting }
     {
         match &self.place {
             Place::In(writer) => writer.waiting(),
@@ -91,10 +91,12 @@ impl<B: Naming, A: SmallAllocator> Desk<B, A> {
         requires covers { Covers (patch_of patch) self.old.writing.waiting }
         ensures here { self.new.out ≡ None }
         ensures list { OnOk result (self.new.writing.published
-            ≡ with_publication self.old.writing.published (self.old.writing.waiting ++ patch_of patch ∷ [])) }
+            ≡ with_publication self.old.writing.published
+            (self.old.writing.waiting ++ patch_of patch ∷ [])) }
         ensures waiting { OnOk result (self.new.writing.waiting ≡ []) }
         ensures image { OnOk result (image_of B.openings self.new.writing.published
-            ≡ patched patch.generation patch.rows.items (image_of B.openings self.old.writing.published)) }
+            ≡ patched patch.generation patch.rows.items
+            (image_of B.openings self.old.writing.published)) }
         ensures unseen { OnErr result (self.new.writing.published ≡ self.old.writing.published) }
         ensures refused { OnErr result ((self.new.writing.waiting ≡ self.old.writing.waiting)
             ⊎ (self.new.writing.waiting ≡ self.old.writing.waiting ++ patch_of patch ∷ [])) }
@@ -130,7 +132,8 @@ impl<B: Naming, A: SmallAllocator> Desk<B, A> {
     /// The writer comes back. Refused, the ticket comes back: the writer is in, or it is out with another
     /// patch.
     pub fn take_back(&mut self, ticket: Ticket<B, A>) -> Result<(), Ticket<B, A>>
-        ensures its { IsOk result ↔ ((self.old.out ≡ Some ticket.patch) × (self.old.writing.published.router ≡ ticket.before.router)) }
+        ensures its { IsOk result ↔ ((self.old.out ≡ Some ticket.patch)
+            × (self.old.writing.published.router ≡ ticket.before.router)) }
         ensures list { OnOk result (self.old.writing.published ≡ ticket.before) }
         ensures kept { OnOk result (IsOuting ticket) }
         ensures desk { OnOk result (self.new ≡ desk_in ticket.writing) }
@@ -161,7 +164,7 @@ impl<B: Naming, A: SmallAllocator> Desk<B, A> {
 }
 
 /// The desks of these writers, each of which is in. Without memory it ends them.
-pub fn seat_all<B: Naming, A: SmallAllocator, R: Wait>(
+pub fn seat_all<B: FabricName, A: SmallAllocator, R: Wait>(
     rt: &R,
     alloc: A,
     writers: Vec<ImageWriter<B, A>, A>,
@@ -181,7 +184,7 @@ pub fn seat_all<B: Naming, A: SmallAllocator, R: Wait>(
 }
 
 /// Ends writers that are in. It waits for readers that are looking up.
-pub fn close_all<B: Naming, A: SmallAllocator, R: Wait>(rt: &R, desks: Vec<Desk<B, A>, A>) {
+pub fn close_all<B: FabricName, A: SmallAllocator, R: Wait>(rt: &R, desks: Vec<Desk<B, A>, A>) {
     let mut desks = desks;
     while let Some(desk) = desks.pop() {
         desk.close(rt);

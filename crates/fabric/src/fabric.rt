@@ -6,34 +6,35 @@ ghost use Rattle.network_model.specs.Step as steps;
 ghost use Rattle.network_model.specs.Run.{Runs};
 ghost use Rattle.network_model.specs.Journal.{journal_sum, most_steps, steps_in_sum};
 ghost use Rattle.world.specs.Steps.{DiscardsStale, IsDoneOr, StopsAt};
-ghost use Rattle.publication.specs.Lists.{answer_of as seen_answer, image_of};
+ghost use Rattle.publication.specs.Lists.{image_of};
 ghost use Rattle.publication.specs.Outings.{new_outing};
 ghost use Rattle.fabric.specs.Desks.{all_lent, writings};
-ghost use Rattle.fabric.specs.Fabric.{opening_fabric, after_step, awaits_writer, count_lent, fabric_refusal, lent_at, next_step, with_lent, ForwardsAsPublished};
+ghost use Rattle.fabric.specs.Fabric.{opening_fabric, after_step, awaits_writer, count_lent, fabric_refusal, lent_at, next_fabric_step, with_lent, ForwardsAsPublished};
 ghost use Rattle.image_patch.specs.Patches.{patched};
 ghost use Rattle.fabric.specs.Images.{answer_at, due_at};
 ghost use Rattle.fabric.specs.Headline.{NeverMeetsTwice, LeadsAtLeastCost};
-ghost use Rattle.fabric.specs.Writers.{IsPort, opening_tables, waiting_at};
+ghost use Rattle.fabric.specs.Writers.{IsReaderPort, opening_tables, waiting_at};
 ghost use Rattle.network_model.specs.Turns as turns;
+ghost use Rattle.network_model.specs.Publication.{answer_of};
+ghost use Rattle.network_model.specs.Network.{most_workers};
 
 use crate::desk::{Desk, close_all, seat_all};
 use crate::images::{opening_images, patch_due};
 use crate::ports::deal;
-use crate::watched::WatchedWorld;
 use network_model::{Answer, Prefix, Refusal, SmallAllocator, Step};
-use publication::{ImageReader, Job, Naming, Ticket, Told, Unnamed, copy_of, open_all};
+use publication::{FabricName, ImageReader, Job, Ticket, Told, Unnamed, copy_of, open_all};
 use route_table::RouteTable;
 use std::alloc::Global;
 use std::marker::Model;
 use std::sync::Wait;
-use world::{Network, Ran, World};
+use world::{Network, Ran, WatchedWorld, World};
 
 /// The greatest number of steps in a journal.
 pub const MOST_STEPS: usize = 1_000_000;
 
 /// A network that runs, with the image in force at each router, and the journal: all steps done since
 /// it was opened, in order. It is not `Drop`: end it by `close`.
-pub struct Fabric<B: Naming, A: SmallAllocator = Global> {
+pub struct Fabric<B: FabricName, A: SmallAllocator = Global> {
     network: Network,
     world: WatchedWorld<A>,
     // The writer of each router's image, or what is kept of it while it is out.
@@ -48,22 +49,20 @@ pub struct Fabric<B: Naming, A: SmallAllocator = Global> {
     sum: u128,
 }
 
-impl<B: Naming, A: SmallAllocator> Model for Fabric<B, A> {
-    ghost use Rattle.std.specs.Prelude.{◌≡◌, vec_capacity};
-    ghost use Rattle.fabric.specs.Fabric.{Fabric as FabricState, count_lent, fabric_of, IsKept, IsSumOf};
-    ghost use Rattle.fabric.specs.Desks.{all_lent, writings};
-    ghost use Rattle.fabric.specs.Writers.{ArePending, AreReaders, AreWriters, shown_images};
+impl<B: FabricName, A: SmallAllocator> Model for Fabric<B, A> {
+    ghost use Rattle.std.specs.Prelude.{vec_capacity};
+    ghost use Rattle.fabric.specs.Fabric.{Fabric as FabricState};
+    ghost use Rattle.fabric.specs.Writers.{FitTogether, fabric_seen};
 
     ghost Value = { FabricState };
 
-    ghost view = { λ f. fabric_of f.network f.journal.items f.world (shown_images B.openings (writings f.desks.items)) (all_lent f.desks.items) };
+    ghost view = { λ f. fabric_seen B.openings f.network f.journal.items f.world f.desks.items };
 
-    ghost invariant = { λ f. IsKept (fabric_of f.network f.journal.items f.world (shown_images B.openings (writings f.desks.items)) (all_lent f.desks.items)) (vec_capacity f.journal)
-        × AreWriters f.world (writings f.desks.items) × ArePending f.world f.desks.items × AreReaders f.world f.readers.items × IsSumOf f.journal.items f.sum
-        × (f.set_aside ≡ count_lent (all_lent f.desks.items)) };
+    ghost invariant = { λ f. FitTogether B.openings f.network f.journal.items
+        (vec_capacity f.journal) f.world f.desks.items f.readers.items f.sum f.set_aside };
 }
 
-impl<B: Naming, A: SmallAllocator> Fabric<B, A> {
+impl<B: FabricName, A: SmallAllocator> Fabric<B, A> {
     /// Opens a network: every link is down, each prefix is known at the routers attached to it alone,
     /// whose images in force have it, and the journal is empty. It makes the room for a full journal, and gives a reader
     /// of each router's image, by the routers' numbers, to each of at most 16 workers. Refused with
@@ -78,9 +77,10 @@ impl<B: Naming, A: SmallAllocator> Fabric<B, A> {
         requires books { unnamed.items ≡ B.books }
         requires each { vec_len unnamed ≡ network.routers }
         requires openings { opening_tables network ≡ B.openings }
-        requires workers { workers ≤ 16 }
+        requires workers { workers ≤ most_workers }
         ensures ok { IfOk result (λ o. o.0 ≡ opening_fabric network) }
-        ensures ports { IfOk result (λ o. (vec_len o.1 ≡ workers) × All (λ port. IsPort network.routers port.items) o.1.items) }
+        ensures ports { IfOk result (λ o. (vec_len o.1 ≡ workers)
+            × All (λ port. IsReaderPort network.routers port.items) o.1.items) }
         ensures err { IfErr result (λ e. (e ≡ Refusal.NoMemory) ⊎ (e ≡ Refusal.NoReaderPlace)) }
         ensures forwards { IfOk result (λ o. ForwardsAsPublished o.0) }
         ensures no_loop { IfOk result (λ o. NeverMeetsTwice o.0) }
@@ -145,7 +145,7 @@ impl<B: Naming, A: SmallAllocator> Fabric<B, A> {
     /// port that is lawful, the notices of its attachments last; none where nothing is, or where there
     /// is no such router. While the router's writer is out it is a release or none.
     pub fn next_step(&self, router: u16) -> Option<Step>
-        ensures { result ≡ next_step self.now router }
+        ensures { result ≡ next_fabric_step self.now router }
     {
         let step = self.world().next_step(router)?;
         if self.awaits_writer(&step) {
@@ -176,9 +176,11 @@ impl<B: Naming, A: SmallAllocator> Fabric<B, A> {
 
     // Whether the journal has a place for a step, which then waits for no writer.
     fn admits(&self, step: &Step) -> Result<(), Refusal>
-        ensures place { OnOk result (length (self.now).journal + count_lent (self.now).lent < most_steps) }
+        ensures place { OnOk result (length (self.now).journal + count_lent
+            (self.now).lent < most_steps) }
         ensures free { OnOk result (awaits_writer self.now step.now ≡ false) }
-        ensures cause { OnOk result (fabric_refusal self.now step.now ≡ steps.refusal (self.now).world step.now) }
+        ensures cause { OnOk result (fabric_refusal self.now step.now
+            ≡ steps.refusal (self.now).world step.now) }
         ensures err { IfErr result (λ e. fabric_refusal self.now step.now ≡ Some e) }
     {
         if self.journal.len() + self.set_aside >= MOST_STEPS {
@@ -195,8 +197,10 @@ impl<B: Naming, A: SmallAllocator> Fabric<B, A> {
     /// the network.
     pub fn is_settled(&self) -> bool
         ensures settled { result ≡ turns.is_settled (self.now).world }
-        ensures idle { ((i : ℕ) → i < (self.now).network.routers → turns.next_step (self.now).world i ≡ None) → IsTrue result }
+        ensures idle { ((i : ℕ) → i < (self.now).network.routers
+            → turns.next_step (self.now).world i ≡ None) → IsTrue result }
     {
+        // The network has no fault, which its type keeps.
         let _routers = self.network.routers();
         self.world.is_settled()
     }
@@ -208,7 +212,8 @@ impl<B: Naming, A: SmallAllocator> Fabric<B, A> {
     /// it shows none, which does not happen.
     pub fn lookup(&mut self, router: u16, addr: u32) -> Result<Answer, Refusal>
         ensures ok { IfOk result (λ a. answer_at (self.old).world router addr ≡ Some a) }
-        ensures err { IfErr result (λ e. MatchOption (answer_at (self.old).world router addr) (e ≡ Refusal.UnknownRouter) (λ _. (e ≡ Refusal.Stale) ⊎ (e ≡ Refusal.NoImage))) }
+        ensures err { IfErr result (λ e. MatchOption (answer_at (self.old).world router addr)
+            (e ≡ Refusal.UnknownRouter) (λ _. (e ≡ Refusal.Stale) ⊎ (e ≡ Refusal.NoImage))) }
         ensures same { self.new ≡ self.old }
     {
         let Some(told) = self.told(router) else {
@@ -220,8 +225,10 @@ impl<B: Naming, A: SmallAllocator> Fabric<B, A> {
     // What a router's writer had published when the fabric had it last; none where there is no such router.
     fn told(&self, router: u16) -> Option<Told<B>>
         ensures router { IfSome result (λ t. t.router ≡ router) }
-        ensures in_force { IfSome result (λ t. slice_get (self.now).images router ≡ Some (image_of B.openings t)) }
-        ensures last { IfSome result (λ t. IfSome (slice_get (self.now).world.routers router) (λ r. length t.publications ≡ r.generation)) }
+        ensures in_force { IfSome result
+            (λ t. slice_get (self.now).images router ≡ Some (image_of B.openings t)) }
+        ensures last { IfSome result (λ t. IfSome (slice_get (self.now).world.routers router)
+            (λ r. length t.publications ≡ r.generation)) }
         ensures known { IsSome result ↔ (router < length (self.now).world.routers) }
     {
         let desk = self.desks.get(usize::from(router))?;
@@ -232,9 +239,12 @@ impl<B: Naming, A: SmallAllocator> Fabric<B, A> {
     /// the job is told of the list that the router's last publication made. Refused with
     /// `UnknownRouter`.
     pub fn job(&self, number: u64, router: u16, addr: u32) -> Result<Job<B>, Refusal>
-        ensures asked { IfOk result (λ j. (j.number ≡ number) × (j.told.router ≡ router) × (j.addr ≡ addr)) }
-        ensures in_force { IfOk result (λ j. slice_get (self.now).images router ≡ Some (image_of B.openings j.told)) }
-        ensures last { IfOk result (λ j. IfSome (slice_get (self.now).world.routers router) (λ r. length (j.told).publications ≡ r.generation)) }
+        ensures asked { IfOk result (λ j. (j.number ≡ number) × (j.told.router ≡ router)
+            × (j.addr ≡ addr)) }
+        ensures in_force { IfOk result (λ j. slice_get (self.now).images router
+            ≡ Some (image_of B.openings j.told)) }
+        ensures last { IfOk result (λ j. IfSome (slice_get (self.now).world.routers router)
+            (λ r. length (j.told).publications ≡ r.generation)) }
         ensures known { IsOk result ↔ (router < length (self.now).world.routers) }
         ensures err { IfErr result (λ e. e ≡ Refusal.UnknownRouter) }
     {
@@ -244,7 +254,8 @@ impl<B: Naming, A: SmallAllocator> Fabric<B, A> {
 
     /// The rows that a router has chosen and published. Refused with `UnknownRouter`.
     pub fn table(&self, router: u16) -> Result<&RouteTable<A>, Refusal>
-        ensures ok { IfOk result (λ t. IfSome (slice_get (self.now).world.routers router) (λ r. t.now.table ≡ r.table)) }
+        ensures ok { IfOk result (λ t. IfSome (slice_get (self.now).world.routers router)
+            (λ r. t.now.table ≡ r.table)) }
         ensures known { IsOk result ↔ (router < length (self.now).world.routers) }
         ensures err { IfErr result (λ e. e ≡ Refusal.UnknownRouter) }
     {
@@ -261,10 +272,12 @@ impl<B: Naming, A: SmallAllocator> Fabric<B, A> {
     /// `Busy` for a delivery or a publication at a router whose writer is out; then as the world refuses
     /// it; want of memory comes last. The release of a stale message takes none.
     pub fn step<R: Wait>(&mut self, rt: &R, step: Step) -> Result<(), Refusal>
-        ensures ok { OnOk result (steps.Lawful (self.old).world step × (self.new ≡ after_step self.old step)) }
+        ensures ok { OnOk result (steps.Lawful (self.old).world step
+            × (self.new ≡ after_step self.old step)) }
         ensures err { OnErr result (self.new ≡ self.old) }
         ensures cause { IsDoneOr (fabric_refusal self.old step) result }
-        ensures stale { fabric_refusal self.old step ≡ None → DiscardsStale (self.old).world step result }
+        ensures stale { fabric_refusal self.old step ≡ None
+            → DiscardsStale (self.old).world step result }
         ensures forwards { ForwardsAsPublished self.new }
         ensures no_loop { NeverMeetsTwice self.new }
         ensures least_cost { LeadsAtLeastCost self.new }
@@ -275,12 +288,15 @@ impl<B: Naming, A: SmallAllocator> Fabric<B, A> {
     }
 
     fn do_step<R: Wait>(&mut self, rt: &R, step: Step) -> Result<(), Refusal>
-        ensures ok { OnOk result (steps.Lawful (self.old).world step × (self.new ≡ after_step self.old step)) }
+        ensures ok { OnOk result (steps.Lawful (self.old).world step
+            × (self.new ≡ after_step self.old step)) }
         ensures err { OnErr result (self.new ≡ self.old) }
         ensures cause { IsDoneOr (fabric_refusal self.old step) result }
-        ensures stale { fabric_refusal self.old step ≡ None → DiscardsStale (self.old).world step result }
+        ensures stale { fabric_refusal self.old step ≡ None
+            → DiscardsStale (self.old).world step result }
     {
         self.admits(&step)?;
+        // The match takes the step.
         let again = step;
         let sum = self.sum + step.number();
         match step {
@@ -311,8 +327,10 @@ impl<B: Naming, A: SmallAllocator> Fabric<B, A> {
     pub fn ticket(&mut self, router: u16) -> Result<Ticket<B, A>, Refusal>
         ensures due { OnOk result (steps.Lawful (self.old).world (Step.Publish router)) }
         ensures fresh { IfOk result (λ t. (t.before.router ≡ router) × (t.is_published ≡ false)) }
-        ensures in_force { IfOk result (λ t. slice_get (self.old).images router ≡ Some (image_of B.openings t.before)) }
-        ensures patch { IfOk result (λ t. due_at (self.old).world router ≡ Some (patched t.patch.generation t.patch.rows (image_of B.openings t.before))) }
+        ensures in_force { IfOk result (λ t. slice_get (self.old).images router
+            ≡ Some (image_of B.openings t.before)) }
+        ensures patch { IfOk result (λ t. due_at (self.old).world router
+            ≡ Some (patched t.patch.generation t.patch.rows (image_of B.openings t.before))) }
         ensures ok { IfOk result (λ t. self.new ≡ with_lent self.old router (Some t.patch)) }
         ensures err { OnErr result (self.new ≡ self.old) }
         ensures cause { IsDoneOr (fabric_refusal self.old (Step.Publish router)) result }
@@ -328,8 +346,10 @@ impl<B: Naming, A: SmallAllocator> Fabric<B, A> {
     fn make_ticket(&mut self, router: u16) -> Result<Ticket<B, A>, Refusal>
         ensures due { OnOk result (steps.Lawful (self.old).world (Step.Publish router)) }
         ensures fresh { IfOk result (λ t. (t.before.router ≡ router) × (t.is_published ≡ false)) }
-        ensures in_force { IfOk result (λ t. slice_get (self.old).images router ≡ Some (image_of B.openings t.before)) }
-        ensures patch { IfOk result (λ t. due_at (self.old).world router ≡ Some (patched t.patch.generation t.patch.rows (image_of B.openings t.before))) }
+        ensures in_force { IfOk result (λ t. slice_get (self.old).images router
+            ≡ Some (image_of B.openings t.before)) }
+        ensures patch { IfOk result (λ t. due_at (self.old).world router
+            ≡ Some (patched t.patch.generation t.patch.rows (image_of B.openings t.before))) }
         ensures ok { IfOk result (λ t. self.new ≡ with_lent self.old router (Some t.patch)) }
         ensures err { OnErr result (self.new ≡ self.old) }
         ensures cause { IsDoneOr (fabric_refusal self.old (Step.Publish router)) result }
@@ -363,9 +383,12 @@ impl<B: Naming, A: SmallAllocator> Fabric<B, A> {
     /// It takes no memory. Refused, the ticket comes back, and all is as it was: the router's writer is in,
     /// or is out with another patch.
     pub fn give_back(&mut self, ticket: Ticket<B, A>) -> Result<(), Ticket<B, A>>
-        ensures its { IsOk result ↔ (lent_at (self.old).lent ticket.before.router ≡ Some ticket.patch) }
-        ensures done { OnOk result (MatchBool ticket.is_published (steps.Lawful (self.old).world (Step.Publish ticket.before.router)
-            × (self.new ≡ after_step (with_lent self.old ticket.before.router None) (Step.Publish ticket.before.router)))
+        ensures its { IsOk result ↔ (lent_at (self.old).lent ticket.before.router
+            ≡ Some ticket.patch) }
+        ensures done { OnOk result (MatchBool ticket.is_published
+            (steps.Lawful (self.old).world (Step.Publish ticket.before.router)
+            × (self.new ≡ after_step (with_lent self.old ticket.before.router None)
+            (Step.Publish ticket.before.router)))
             (self.new ≡ with_lent self.old ticket.before.router None)) }
         ensures ticket { IfErr result (λ t. t ≡ ticket) }
         ensures same { OnErr result (self.new ≡ self.old) }
@@ -379,9 +402,12 @@ impl<B: Naming, A: SmallAllocator> Fabric<B, A> {
     }
 
     fn take_ticket(&mut self, ticket: Ticket<B, A>) -> Result<(), Ticket<B, A>>
-        ensures its { IsOk result ↔ (lent_at (self.old).lent ticket.before.router ≡ Some ticket.patch) }
-        ensures done { OnOk result (MatchBool ticket.is_published (steps.Lawful (self.old).world (Step.Publish ticket.before.router)
-            × (self.new ≡ after_step (with_lent self.old ticket.before.router None) (Step.Publish ticket.before.router)))
+        ensures its { IsOk result ↔ (lent_at (self.old).lent ticket.before.router
+            ≡ Some ticket.patch) }
+        ensures done { OnOk result (MatchBool ticket.is_published
+            (steps.Lawful (self.old).world (Step.Publish ticket.before.router)
+            × (self.new ≡ after_step (with_lent self.old ticket.before.router None)
+            (Step.Publish ticket.before.router)))
             (self.new ≡ with_lent self.old ticket.before.router None)) }
         ensures ticket { IfErr result (λ t. t ≡ ticket) }
         ensures same { OnErr result (self.new ≡ self.old) }
@@ -412,7 +438,8 @@ impl<B: Naming, A: SmallAllocator> Fabric<B, A> {
         ensures forwards { ForwardsAsPublished self.new }
         ensures no_loop { NeverMeetsTwice self.new }
         ensures least_cost { LeadsAtLeastCost self.new }
-        ensures stop { MatchOption result.refusal (result.done ≡ length steps.now) (StopsAt (fabric_refusal self.new) steps.now result.done) }
+        ensures stop { MatchOption result.refusal (result.done ≡ length steps.now)
+            (StopsAt (fabric_refusal self.new) steps.now result.done) }
     {
         for (done, &step) in steps.iter().enumerate() {
             if let Err(refusal) = self.step(rt, step) {
@@ -439,6 +466,7 @@ impl<B: Naming, A: SmallAllocator> Fabric<B, A> {
         ensures no_loop { NeverMeetsTwice self.now }
         ensures least_cost { LeadsAtLeastCost self.now }
     {
+        // The three parts follow from what a fabric keeps, and from that its network has no fault.
         let _desks = &self.desks;
         let _routers = self.network.routers();
     }
@@ -461,16 +489,17 @@ impl<B: Naming, A: SmallAllocator> Fabric<B, A> {
 
 // What a reader answers that has learned of this list, where it shows nothing later. Refused with
 // `Stale` where it shows something later, and with `NoImage` where it was shown nothing.
-fn ask<B: Naming, A: SmallAllocator>(
+fn ask<B: FabricName, A: SmallAllocator>(
     reader: &mut ImageReader<B, A>,
     told: &Told<B>,
     addr: u32,
 ) -> Result<Answer, Refusal>
     requires { told.now.router ≡ reader.old.router }
-    ensures answer { IfOk result (λ a. a ≡ seen_answer (image_of B.openings told.now) addr) }
+    ensures answer { IfOk result (λ a. a ≡ answer_of (image_of B.openings told.now) addr) }
     ensures err { IfErr result (λ e. (e ≡ Refusal.Stale) ⊎ (e ≡ Refusal.NoImage)) }
     ensures stale { result ≡ Err Refusal.Stale → reader.new ≢ told.now }
-    ensures unseen { result ≡ Err Refusal.NoImage → (reader.new ≡ reader.old) ⊎ (reader.new ≡ told.now) }
+    ensures unseen { result ≡ Err Refusal.NoImage → (reader.new ≡ reader.old)
+        ⊎ (reader.new ≡ told.now) }
     ensures router { reader.new.router ≡ reader.old.router }
 {
     reader.learn(told);
@@ -482,8 +511,9 @@ fn ask<B: Naming, A: SmallAllocator>(
 }
 
 // The prefixes that wait with a router's writer, which is in; none where there is no such router.
-fn waiting_at<B: Naming, A: SmallAllocator>(desks: &[Desk<B, A>], router: u16) -> &[Prefix]
-    ensures { lent_at (all_lent desks.now) router ≡ None → result.now ≡ waiting_at (writings desks.now) router }
+fn waiting_at<B: FabricName, A: SmallAllocator>(desks: &[Desk<B, A>], router: u16) -> &[Prefix]
+    ensures { lent_at (all_lent desks.now) router ≡ None → result.now
+        ≡ waiting_at (writings desks.now) router }
 {
     match desks.get(usize::from(router)) {
         Some(desk) => desk.waiting(),

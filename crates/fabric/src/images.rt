@@ -25,7 +25,8 @@ fn is_to_set<A: SmallAllocator>(
     prefix: Prefix,
     entry: Entry,
 ) -> bool
-    ensures { result ≡ (not (has_row (table.now).table.published (prefix, entry)) || list_any (λ p. prefix_eq p prefix) waiting.now) }
+    ensures { result ≡ (not (has_row (table.now).table.published (prefix, entry)) || list_any
+        (λ p. prefix_eq p prefix) waiting.now) }
 {
     table.published(prefix) != Some(entry) || waiting.contains(&prefix)
 }
@@ -37,7 +38,8 @@ fn rows_named<A: SmallAllocator>(
     waiting: &[Prefix],
 ) -> Result<Vec<(Prefix, Entry), A>, NoMemory>
     ensures rows { IfOk result (λ rows. rows.items ≡ rows_to_set (table.now).table waiting.now) }
-    ensures patch { IfOk result (λ rows. with_rows rows.items (table.now).table.published ≡ (table.now).table.control) }
+    ensures patch { IfOk result (λ rows. with_rows rows.items (table.now).table.published
+        ≡ (table.now).table.control) }
 {
     // What changed makes the chosen rows of the published ones.
     let _changed = table.changed();
@@ -57,8 +59,10 @@ fn next_patch<A: SmallAllocator>(
     waiting: &[Prefix],
 ) -> Result<Patch<A>, NoMemory>
     requires { router.now.generation + 1 < 2 ^ 64 }
-    ensures image { IfOk result (λ patch. patched patch.generation patch.rows.items (image_in_force router.now) ≡ image_in_force (router_publishing router.now)) }
-    ensures rows { IfOk result (λ patch. patch.rows.items ≡ rows_to_set (router.now).table waiting.now) }
+    ensures image { IfOk result (λ patch. patched patch.generation patch.rows.items
+        (image_in_force router.now) ≡ image_in_force (router_publishing router.now)) }
+    ensures rows { IfOk result (λ patch. patch.rows.items
+        ≡ rows_to_set (router.now).table waiting.now) }
 {
     let rows = if waiting.is_empty() {
         router.patch_rows(alloc)?

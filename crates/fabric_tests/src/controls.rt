@@ -6,9 +6,10 @@ ghost use Rattle.control.specs.Names.{IsNamed};
 
 use crate::networks::two_routers;
 use crate::outside::publish_outside;
-use control::{Control, Naming, Opening, Refusal, Share, Step, TurnGate, settle};
+use control::{Control, ControlName, Opening, Refusal, Share, Step, TurnGate, settle};
 use fabric::{Fabric, MOST_STEPS, Network, Unnamed};
 use network_model::Cost;
+use publication::FabricName;
 use std::alloc::Global;
 use std::marker::Brand;
 use std::process::Abort;
@@ -60,7 +61,7 @@ fn opened<B, H>(
     trial: Trial,
 ) -> Result<(), Fail>
 where
-    B: publication::Naming + Send + Sync,
+    B: FabricName + Send + Sync,
     H: Threads + Wait + Abort + Clock + Sync,
     requires books { unnamed.items ≡ B.books }
     requires each { vec_len unnamed ≡ network.routers }
@@ -87,8 +88,8 @@ fn controlled<B, N, H>(
     trial: Trial,
 ) -> (Fabric<B>, Result<(), Fail>)
 where
-    B: publication::Naming + Send + Sync,
-    N: Naming + Send + Sync,
+    B: FabricName + Send + Sync,
+    N: ControlName + Send + Sync,
     H: Threads + Wait + Abort + Clock + Sync,
     requires names { IsNamed opening N.high N.low N.shares }
     requires some { 0 < opening.shares }
@@ -107,7 +108,7 @@ where
     }
 }
 
-fn sum_of<N: Naming>(shares: &[Share<N>]) -> u128 {
+fn sum_of<N: ControlName>(shares: &[Share<N>]) -> u128 {
     let mut sum: u128 = 0;
     for share in shares {
         sum = sum.wrapping_add(share.sum());
@@ -122,8 +123,8 @@ fn tried<B, N, H>(
     trial: Trial,
 ) -> (Vec<Share<N>>, Result<(), Fail>)
 where
-    B: publication::Naming + Send + Sync,
-    N: Naming + Send + Sync,
+    B: FabricName + Send + Sync,
+    N: ControlName + Send + Sync,
     H: Threads + Wait + Abort + Clock + Sync,
     requires some { 0 < vec_len shares }
     requires asked { (s : Step) → N.asked s ≡ true }
@@ -144,7 +145,7 @@ where
 
 // ---- one thread
 
-fn by_hand<B: publication::Naming, N: Naming, H: Wait + Abort>(
+fn by_hand<B: FabricName, N: ControlName, H: Wait + Abort>(
     rt: &H,
     control: &Control<B, N>,
     share: &mut Share<N>,
@@ -169,7 +170,7 @@ fn by_hand<B: publication::Naming, N: Naming, H: Wait + Abort>(
 }
 
 #[test]
-fn steps_by_hand(rt: HostRuntime) -> Result<(), Fail> {
+fn steps_and_turns_by_hand_add_up(rt: HostRuntime) -> Result<(), Fail> {
     two(&rt, rt.alloc(), 1, Trial::ByHand)
 }
 
@@ -192,8 +193,8 @@ fn serves<B, N, H>(
     shares: Vec<Share<N>>,
 ) -> (Vec<Share<N>>, Result<(), Fail>)
 where
-    B: publication::Naming + Send + Sync,
-    N: Naming + Send + Sync,
+    B: FabricName + Send + Sync,
+    N: ControlName + Send + Sync,
     H: Threads + Wait + Abort + Sync,
     requires some { 0 < vec_len shares }
     requires asked { (s : Step) → N.asked s ≡ true }
@@ -212,17 +213,17 @@ where
 }
 
 #[test]
-fn one_serves(rt: HostRuntime) -> Result<(), Fail> {
+fn one_thread_serves_until_all_is_settled(rt: HostRuntime) -> Result<(), Fail> {
     two(&rt, rt.alloc(), 1, Trial::Serves)
 }
 
 #[test]
-fn two_serve(rt: HostRuntime) -> Result<(), Fail> {
+fn two_threads_serve_until_all_is_settled(rt: HostRuntime) -> Result<(), Fail> {
     two(&rt, rt.alloc(), 2, Trial::Serves)
 }
 
 #[test]
-fn sixteen_serve(rt: HostRuntime) -> Result<(), Fail> {
+fn sixteen_threads_serve_until_all_is_settled(rt: HostRuntime) -> Result<(), Fail> {
     two(&rt, rt.alloc(), 16, Trial::Serves)
 }
 
@@ -236,7 +237,7 @@ fn priced(router: u16, cost: Cost) -> Step {
 
 // Fills the journal with the same cost, told again and again, so that this router has something to
 // do, and no other.
-fn fill<B: publication::Naming, N: Naming, H: Wait>(
+fn fill<B: FabricName, N: ControlName, H: Wait>(
     rt: &H,
     control: &Control<B, N>,
     router: u16,
@@ -271,8 +272,8 @@ fn is_refused<B, N, H>(
     router: u16,
 ) -> (Vec<Share<N>>, Result<(), Fail>)
 where
-    B: publication::Naming + Send + Sync,
-    N: Naming + Send + Sync,
+    B: FabricName + Send + Sync,
+    N: ControlName + Send + Sync,
     H: Threads + Wait + Abort + Sync,
     requires some { 0 < vec_len shares }
     requires asked { (s : Step) → N.asked s ≡ true }
@@ -337,8 +338,8 @@ fn meets<B, N, H>(
     shares: Vec<Share<N>>,
 ) -> (Vec<Share<N>>, Result<(), Fail>)
 where
-    B: publication::Naming + Send + Sync,
-    N: Naming + Send + Sync,
+    B: FabricName + Send + Sync,
+    N: ControlName + Send + Sync,
     H: Threads + Wait + Abort + Clock + Sync,
     requires some { 0 < vec_len shares }
     requires asked { (s : Step) → N.asked s ≡ true }
@@ -357,7 +358,7 @@ where
 }
 
 #[test]
-fn two_meet(rt: HostRuntime) -> Result<(), Fail> {
+fn two_threads_meet_in_their_turns(rt: HostRuntime) -> Result<(), Fail> {
     two(&rt, rt.alloc(), 2, Trial::Meets)
 }
 
@@ -368,12 +369,12 @@ fn settles<B, H>(
     threads: u8,
 ) -> (Fabric<B>, Result<(), Fail>)
 where
-    B: publication::Naming + Send + Sync,
+    B: FabricName + Send + Sync,
     H: Threads + Wait + Abort + Sync,
 {
     let mut fabric = fabric;
     assert_eq!(rt; fabric.step(rt, UP), Ok(()));
-    let (fabric, done) = settle(rt, alloc, fabric, threads);
+    let done = settle(rt, alloc, &mut fabric, threads);
     assert_eq!(rt; done, Ok(()));
     assert!(rt; fabric.is_settled());
     assert!(rt; fabric.journal().len() > 1);
@@ -381,11 +382,11 @@ where
 }
 
 #[test]
-fn two_settle(rt: HostRuntime) -> Result<(), Fail> {
+fn two_threads_settle_a_network(rt: HostRuntime) -> Result<(), Fail> {
     two(&rt, rt.alloc(), 2, Trial::Settles)
 }
 
 #[test]
-fn two_publish_outside_the_lock(rt: HostRuntime) -> Result<(), Fail> {
+fn two_threads_publish_outside_the_lock(rt: HostRuntime) -> Result<(), Fail> {
     two(&rt, rt.alloc(), 2, Trial::PublishOutside)
 }

@@ -4,7 +4,9 @@ ghost use Rattle.std.specs.Prelude.{◌≡◌, vec_len};
 ghost use Rattle.fabric.specs.Writers.{opening_tables};
 
 use crate::networks::two_routers;
-use fabric::{Answer, Entry, Fabric, ImageReader, Naming, Network, Prefix, Refusal, Step, Unnamed};
+use fabric::{
+    Answer, Entry, Fabric, FabricName, ImageReader, Network, Prefix, Refusal, Step, Unnamed,
+};
 use std::alloc::Global;
 use std::marker::Brand;
 use std::process::Abort;
@@ -35,7 +37,7 @@ enum Trial {
 }
 
 // Opens it, with readers for two workers, does this, and closes it.
-fn opened<B: Naming, H: Wait + Abort>(
+fn opened<B: FabricName, H: Wait + Abort>(
     rt: &H,
     alloc: Global,
     network: Network,
@@ -80,7 +82,7 @@ fn way() -> Result<Answer, Fail> {
     })
 }
 
-fn publishes<B: Naming, H: Wait + Abort>(rt: &H, fabric: &mut Fabric<B>) -> Result<(), Fail> {
+fn publishes<B: FabricName, H: Wait + Abort>(rt: &H, fabric: &mut Fabric<B>) -> Result<(), Fail> {
     let ran = fabric.run(rt, &LEARNS);
     assert_eq!(rt; (ran.done, ran.refusal), (7, None));
     assert_eq!(rt; fabric.journal(), LEARNS.as_slice());
@@ -91,7 +93,7 @@ fn publishes<B: Naming, H: Wait + Abort>(rt: &H, fabric: &mut Fabric<B>) -> Resu
 }
 
 #[test]
-fn publishes_the_way(rt: HostRuntime) -> Result<(), Fail> {
+fn a_way_that_is_published_is_in_force(rt: HostRuntime) -> Result<(), Fail> {
     two(&rt, rt.alloc(), Trial::PublishesTheWay)
 }
 
@@ -100,7 +102,7 @@ const NOTHING: Answer = Answer {
     matched: None,
 };
 
-fn answers<B: Naming, H: Wait + Abort>(rt: &H, fabric: &mut Fabric<B>) -> Result<(), Fail> {
+fn answers<B: FabricName, H: Wait + Abort>(rt: &H, fabric: &mut Fabric<B>) -> Result<(), Fail> {
     let ran = fabric.run(rt, &LEARNS[..6]);
     assert_eq!(rt; (ran.done, ran.refusal), (6, None));
     assert_eq!(rt; fabric.lookup(1, ADDR), Ok(NOTHING));
@@ -113,7 +115,7 @@ fn answers_by_what_is_in_force(rt: HostRuntime) -> Result<(), Fail> {
     two(&rt, rt.alloc(), Trial::AnswersByWhatIsInForce)
 }
 
-fn stops<B: Naming, H: Wait + Abort>(rt: &H, fabric: &mut Fabric<B>) -> Result<(), Fail> {
+fn stops<B: FabricName, H: Wait + Abort>(rt: &H, fabric: &mut Fabric<B>) -> Result<(), Fail> {
     let steps = [
         Step::LinkUp { link: 0 },
         Step::Release { router: 0 },
@@ -137,7 +139,7 @@ fn stops_at_a_refused_step(rt: HostRuntime) -> Result<(), Fail> {
 }
 
 // A worker's reader answers a job in the image that was in force when the job was made.
-fn tells<B: Naming, H: Wait + Abort>(
+fn tells<B: FabricName, H: Wait + Abort>(
     rt: &H,
     fabric: &mut Fabric<B>,
     port: Vec<ImageReader<B>>,
@@ -156,13 +158,17 @@ fn tells<B: Naming, H: Wait + Abort>(
 }
 
 // A job at router 1 is told of the list of this generation.
-fn has_job<B: Naming>(rt: &impl Abort, fabric: &Fabric<B>, generation: u64) -> Result<(), Fail> {
+fn has_job<B: FabricName>(
+    rt: &impl Abort,
+    fabric: &Fabric<B>,
+    generation: u64,
+) -> Result<(), Fail> {
     let job = fabric.job(1, 1, ADDR)?;
     assert_eq!(rt; (job.router(), job.generation()), (1, generation));
     Ok(())
 }
 
 #[test]
-fn tells_its_readers(rt: HostRuntime) -> Result<(), Fail> {
+fn readers_answer_as_the_fabric_told_them(rt: HostRuntime) -> Result<(), Fail> {
     two(&rt, rt.alloc(), Trial::TellsItsReaders)
 }

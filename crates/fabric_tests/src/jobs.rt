@@ -6,10 +6,11 @@ ghost use Rattle.control.specs.Names.{IsNamed};
 
 use crate::controls::gets_to;
 use crate::networks::{port_of, two_routers};
-use control::{Control, Naming, Opening, Refusal, Share, Step, TurnGate};
+use control::{Control, ControlName, Opening, Refusal, Share, Step, TurnGate};
 use fabric::{Fabric, Network, Unnamed};
 use forwarder::{Answer, ForwardPort, ImageReader};
 use network_model::{Entry, Prefix};
+use publication::FabricName;
 use std::alloc::Global;
 use std::marker::Brand;
 use std::process::Abort;
@@ -62,8 +63,8 @@ fn answer<B, N, R>(
     router: u16,
 ) -> Option<Answer>
 where
-    B: publication::Naming,
-    N: Naming,
+    B: FabricName,
+    N: ControlName,
     R: Wait,
 {
     let job = control.job(rt, number, router, ADDR).ok()?;
@@ -79,8 +80,8 @@ fn answer_first<B, N, H>(
     gate: &Waiting<'_, H>,
 ) -> (ForwardPort<B>, Option<Answer>)
 where
-    B: publication::Naming,
-    N: Naming,
+    B: FabricName,
+    N: ControlName,
     H: Wait + Clock,
 {
     let mut port = port;
@@ -100,8 +101,8 @@ fn serve<B, N, H>(
     gate: &Waiting<'_, H>,
 ) -> (Vec<Share<N>>, Result<(), Refusal>)
 where
-    B: publication::Naming + Send + Sync,
-    N: Naming + Send + Sync,
+    B: FabricName + Send + Sync,
+    N: ControlName + Send + Sync,
     H: Threads + Wait + Clock + Sync,
     ensures { vec_len result.0 ≡ vec_len shares }
 {
@@ -120,8 +121,8 @@ fn gives_jobs<B, N, H>(
     port: ForwardPort<B>,
 ) -> (Vec<Share<N>>, Result<(), Fail>)
 where
-    B: publication::Naming + Send + Sync,
-    N: Naming + Send + Sync,
+    B: FabricName + Send + Sync,
+    N: ControlName + Send + Sync,
     H: Threads + Wait + Abort + Clock + Sync,
     requires some { 0 < vec_len shares }
     requires asked { (s : Step) → N.asked s ≡ true }
@@ -165,8 +166,8 @@ fn controlled<B, N, H>(
     port: ForwardPort<B>,
 ) -> (Fabric<B>, Result<(), Fail>)
 where
-    B: publication::Naming + Send + Sync,
-    N: Naming + Send + Sync,
+    B: FabricName + Send + Sync,
+    N: ControlName + Send + Sync,
     H: Threads + Wait + Abort + Clock + Sync,
     requires names { IsNamed opening N.high N.low N.shares }
     requires some { 0 < opening.shares }
@@ -184,7 +185,7 @@ where
 
 fn opened<B, H>(rt: &H, alloc: Global, network: Network, unnamed: Vec<Unnamed>) -> Result<(), Fail>
 where
-    B: publication::Naming + Send + Sync,
+    B: FabricName + Send + Sync,
     H: Threads + Wait + Abort + Clock + Sync,
     requires books { unnamed.items ≡ B.books }
     requires each { vec_len unnamed ≡ network.routers }
@@ -205,7 +206,7 @@ where
 }
 
 // The port of these readers.
-fn port<B: publication::Naming>(
+fn port<B: FabricName>(
     alloc: Global,
     ports: Vec<Vec<ImageReader<B>>>,
 ) -> Result<ForwardPort<B>, Fail>

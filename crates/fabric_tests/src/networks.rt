@@ -3,7 +3,7 @@
 ghost use Rattle.std.specs.Prelude.{◌≡◌, length};
 
 use fabric::{Network, Prefix};
-use forwarder::{ForwardPort, ImageReader, Naming};
+use forwarder::{FabricName, ForwardPort, ImageReader};
 use network_model::{Cost, LinkSpec};
 use std::alloc::Global;
 use std::test::Fail;
@@ -26,7 +26,7 @@ pub fn two_routers(alloc: Global) -> Result<Network, Fail> {
 }
 
 // A port of the two routers.
-pub fn port_of<B: Naming>(
+pub fn port_of<B: FabricName>(
     alloc: Global,
     first: ImageReader<B>,
     second: ImageReader<B>,

@@ -3,7 +3,8 @@
 ghost use Rattle.std.specs.Prelude.{◌≡◌, ◌<◌, true, vec_len};
 
 use crate::controls::{UP, gets_to};
-use control::{Control, Naming, Share, Step, TurnGate};
+use control::{Control, ControlName, Share, Step, TurnGate};
+use publication::FabricName;
 use std::process::Abort;
 use std::sync::Wait;
 use std::sync::atomic::{AtomicU64, Ordering};
@@ -53,8 +54,8 @@ pub(crate) fn publish_outside<B, N, H>(
     shares: Vec<Share<N>>,
 ) -> (Vec<Share<N>>, Result<(), Fail>)
 where
-    B: publication::Naming + Send + Sync,
-    N: Naming + Send + Sync,
+    B: FabricName + Send + Sync,
+    N: ControlName + Send + Sync,
     H: Threads + Wait + Abort + Clock + Sync,
     requires some { 0 < vec_len shares }
     requires asked { (s : Step) → N.asked s ≡ true }

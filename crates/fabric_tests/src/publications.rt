@@ -2,11 +2,11 @@
 
 ghost use Rattle.std.specs.Prelude.{◌≡◌, ◌⊎◌, ◌∷◌, [], All, map, IfOk, OnOk, OnErr, vec_len};
 ghost use Rattle.std.specs.Thread.{IsSend, IsSync};
-ghost use Rattle.publication.specs.Lists.{opening_of, prefixes_of};
+ghost use Rattle.publication.specs.Lists.{opening_of, patched_prefixes};
 
 use ipv4_prefix::parse_addr;
 use publication::{
-    Answer, Entry, ImageReader, ImageWriter, Job, Naming, NoImage, NoMemory, OpenFault, Patch,
+    Answer, Entry, FabricName, ImageReader, ImageWriter, Job, NoImage, NoMemory, OpenFault, Patch,
     Prefix, ReadGate, Told, Unnamed, close_all, open, open_all,
 };
 use std::alloc::{Allocator, Global};
@@ -34,7 +34,7 @@ pub(crate) fn found(generation: u64, prefix: Prefix, entry: Entry) -> Result<Ans
 }
 
 // Publishes rows, where nothing waits.
-pub(crate) fn set<B: Naming, A: Allocator + Copy, R: Wait>(
+pub(crate) fn set<B: FabricName, A: Allocator + Copy, R: Wait>(
     rt: &R,
     alloc: A,
     writer: &mut ImageWriter<B, A>,
@@ -45,7 +45,7 @@ pub(crate) fn set<B: Naming, A: Allocator + Copy, R: Wait>(
     ensures router { writer.new.published.router ≡ writer.old.published.router }
     ensures ok { OnOk result (writer.new.waiting ≡ []) }
     ensures err { OnErr result ((writer.new.waiting ≡ [])
-        ⊎ (prefixes_of writer.new.waiting ≡ map (λ r. r.0) rows.now)) }
+        ⊎ (patched_prefixes writer.new.waiting ≡ map (λ r. r.0) rows.now)) }
 {
     let rows = Vec::from_slice(alloc, rows)?;
     let generation = writer.generation();
@@ -56,7 +56,7 @@ pub(crate) fn set<B: Naming, A: Allocator + Copy, R: Wait>(
     writer.publish(rt, Patch { generation, rows })
 }
 
-fn three_patches<B: Naming, R: Wait + Abort>(
+fn three_patches<B: FabricName, R: Wait + Abort>(
     rt: &R,
     alloc: Global,
     writer: &mut ImageWriter<B>,
@@ -89,7 +89,7 @@ fn three_patches<B: Naming, R: Wait + Abort>(
 }
 
 // At the second of two routers.
-fn at_second<B: Naming, R: Wait + Abort>(
+fn at_second<B: FabricName, R: Wait + Abort>(
     rt: &R,
     alloc: Global,
     unnamed: Vec<Unnamed>,
@@ -113,14 +113,14 @@ fn at_second<B: Naming, R: Wait + Abort>(
 }
 
 #[test]
-fn shows_three_patches(rt: HostRuntime) -> Result<(), Fail> {
+fn readers_see_three_patches_one_after_another(rt: HostRuntime) -> Result<(), Fail> {
     let alloc = rt.alloc();
     let images = vec![in alloc; empty(alloc)?, empty(alloc)?]?;
     at_second::<Brand, _>(&rt, alloc, Unnamed::many(alloc, 2)?, images)
 }
 
 // Publishes 200 patches of two rows.
-fn set_many<B: Naming, R: Wait>(
+fn set_many<B: FabricName, R: Wait>(
     rt: &R,
     alloc: Global,
     writer: &mut ImageWriter<B>,
@@ -140,7 +140,7 @@ fn set_many<B: Naming, R: Wait>(
 }
 
 // Counts the answers whose generation fell, and those that were refused.
-fn look_many<B: Naming>(mut reader: ImageReader<B>, addr: u32) -> (ImageReader<B>, u32) {
+fn look_many<B: FabricName>(mut reader: ImageReader<B>, addr: u32) -> (ImageReader<B>, u32) {
     let (mut last, mut wrong) = (0, 0u32);
     for _ in 0..2_000u32 {
         match reader.lookup(addr) {
@@ -154,7 +154,7 @@ fn look_many<B: Naming>(mut reader: ImageReader<B>, addr: u32) -> (ImageReader<B
     (reader, wrong)
 }
 
-fn race<B: Naming + Send + Sync, R: Threads + Wait + Abort + Sync>(
+fn race<B: FabricName + Send + Sync, R: Threads + Wait + Abort + Sync>(
     rt: &R,
     alloc: Global,
     unnamed: Unnamed,
@@ -190,7 +190,7 @@ fn race<B: Naming + Send + Sync, R: Threads + Wait + Abort + Sync>(
 }
 
 #[test]
-fn generations_never_fall(rt: HostRuntime) -> Result<(), Fail> {
+fn a_reader_never_sees_an_older_generation(rt: HostRuntime) -> Result<(), Fail> {
     let image = empty(rt.alloc())?;
     race::<Brand, _>(&rt, rt.alloc(), Unnamed::new(), image)
 }
@@ -251,7 +251,7 @@ impl<R: Clock> ReadGate for Hold<'_, R> {
 }
 
 // Publishes a row once the reader is held, and then another.
-fn set_while_held<B: Naming, R: Wait + Clock>(
+fn set_while_held<B: FabricName, R: Wait + Clock>(
     rt: &R,
     alloc: Global,
     writer: &mut ImageWriter<B>,
@@ -271,7 +271,7 @@ fn set_while_held<B: Naming, R: Wait + Clock>(
 }
 
 // What a reader answers once it has learned what was told at its router.
-fn learned<B: Naming>(
+fn learned<B: FabricName>(
     mut reader: ImageReader<B>,
     told: &Told<B>,
     addr: u32,
@@ -285,7 +285,7 @@ fn learned<B: Naming>(
 
 // Looks up 1000 times once the writer publishes, and counts the answers that were refused or whose
 // generation fell.
-fn look_while_held<B: Naming, R: Clock>(
+fn look_while_held<B: FabricName, R: Clock>(
     mut reader: ImageReader<B>,
     addr: u32,
     gate: &Hold<'_, R>,
@@ -306,7 +306,7 @@ fn look_while_held<B: Naming, R: Clock>(
 }
 
 // Publishes, while a reader that looks up is held.
-fn publish_and_look<B: Naming + Send + Sync, R: Threads + Wait + Clock + Sync>(
+fn publish_and_look<B: FabricName + Send + Sync, R: Threads + Wait + Clock + Sync>(
     rt: &R,
     alloc: Global,
     writer: &mut ImageWriter<B>,
@@ -324,7 +324,7 @@ fn publish_and_look<B: Naming + Send + Sync, R: Threads + Wait + Clock + Sync>(
     )
 }
 
-fn publish_while_held<B: Naming + Send + Sync, R: Threads + Wait + Clock + Abort + Sync>(
+fn publish_while_held<B: FabricName + Send + Sync, R: Threads + Wait + Clock + Abort + Sync>(
     rt: &R,
     alloc: Global,
     unnamed: Unnamed,

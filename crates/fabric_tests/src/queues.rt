@@ -6,7 +6,7 @@ ghost use Rattle.publication.specs.Lists.{opening_of};
 ghost use Rattle.packet_queue.specs.Ends.{puts_into, takes_from, put_by, taken_by, parts_of, AreAllEnds};
 ghost use Rattle.packet_queue.specs.Jobs.{jobs_of};
 
-use packet_queue::{Injector, Job, Naming, PacketQueue, Taken, Taker, reckon};
+use packet_queue::{FabricName, Injector, Job, PacketQueue, Taken, Taker, reckon};
 use publication::{Told, Unnamed, open};
 use std::alloc::{AllocError, Global};
 use std::marker::Brand;
@@ -19,7 +19,7 @@ use std::thread::{Promise, PromisedHandle, Threads};
 use tree_bitmap::Image;
 use tree_bitmap::parts::empty;
 
-fn asked<B: Naming>(number: u64, told: &Told<B>) -> Job<B> {
+fn asked<B: FabricName>(number: u64, told: &Told<B>) -> Job<B> {
     Job {
         number,
         addr: 7,
@@ -35,7 +35,7 @@ enum Sight {
     Closed,
 }
 
-fn seen_as<B: Naming>(taken: Option<Taken<B>>) -> Sight {
+fn seen_as<B: FabricName>(taken: Option<Taken<B>>) -> Sight {
     match taken {
         Some(Taken::Job(job)) => Sight::Job(job.number),
         Some(Taken::Stop) => Sight::Stop,
@@ -44,14 +44,18 @@ fn seen_as<B: Naming>(taken: Option<Taken<B>>) -> Sight {
 }
 
 // The number of a job that was handed back.
-fn back<B: Naming>(put: Result<(), Job<B>>) -> Option<u64> {
+fn back<B: FabricName>(put: Result<(), Job<B>>) -> Option<u64> {
     match put {
         Ok(()) => None,
         Err(job) => Some(job.number),
     }
 }
 
-fn in_order<B: Naming, R: Wait + Abort>(rt: &R, alloc: Global, told: &Told<B>) -> Result<(), Fail> {
+fn in_order<B: FabricName, R: Wait + Abort>(
+    rt: &R,
+    alloc: Global,
+    told: &Told<B>,
+) -> Result<(), Fail> {
     let (mut injector, mut takers) = PacketQueue::new::<B, _>(alloc, 2)?;
     assert_eq!(rt; injector.workers(), 2);
     let mut second = takers.pop().ok_or("two")?;
@@ -72,7 +76,7 @@ fn in_order<B: Naming, R: Wait + Abort>(rt: &R, alloc: Global, told: &Told<B>) -
 }
 
 // Puts so many jobs, takes so many messages, and counts what is left.
-fn left_of<B: Naming, R: Wait + Abort>(
+fn left_of<B: FabricName, R: Wait + Abort>(
     rt: &R,
     alloc: Global,
     told: &Told<B>,
@@ -94,7 +98,11 @@ fn left_of<B: Naming, R: Wait + Abort>(
     Ok(reckon(injector, takers))
 }
 
-fn counted<B: Naming, R: Wait + Abort>(rt: &R, alloc: Global, told: &Told<B>) -> Result<(), Fail> {
+fn counted<B: FabricName, R: Wait + Abort>(
+    rt: &R,
+    alloc: Global,
+    told: &Told<B>,
+) -> Result<(), Fail> {
     assert_eq!(rt; left_of(rt, alloc, told, 0, 0)?, 0);
     assert_eq!(rt; left_of(rt, alloc, told, 5, 0)?, 5);
     assert_eq!(rt; left_of(rt, alloc, told, 61, 20)?, 41);
@@ -103,7 +111,11 @@ fn counted<B: Naming, R: Wait + Abort>(rt: &R, alloc: Global, told: &Told<B>) ->
     Ok(())
 }
 
-fn closed<B: Naming, R: Wait + Abort>(rt: &R, alloc: Global, told: &Told<B>) -> Result<(), Fail> {
+fn closed<B: FabricName, R: Wait + Abort>(
+    rt: &R,
+    alloc: Global,
+    told: &Told<B>,
+) -> Result<(), Fail> {
     let (mut injector, takers) = PacketQueue::new::<B, _>(alloc, 0)?;
     assert_eq!(rt; back(injector.inject(rt, asked(1, told))), Some(1));
     assert!(rt; injector.stop(rt));
@@ -124,18 +136,18 @@ fn closed<B: Naming, R: Wait + Abort>(rt: &R, alloc: Global, told: &Told<B>) -> 
 
 // A taker with the jobs that a worker took.
 #[derive(Drop)]
-struct Worked<B: Naming> {
+struct Worked<B: FabricName> {
     taker: Taker<B>,
     jobs: Vec<Job<B>>,
 }
 
 // A worker's taker is still of its queue, and has taken the jobs that the worker hands out.
 #[derive(Drop)]
-struct GoesOn<B: Naming> {
+struct GoesOn<B: FabricName> {
     was: Snapshot<Taker<B>>,
 }
 
-impl<B: Naming> Promise<Worked<B>> for GoesOn<B> {
+impl<B: FabricName> Promise<Worked<B>> for GoesOn<B> {
     ghost use Rattle.std.specs.Prelude.{◌≡◌, ◌++◌};
     ghost use Rattle.packet_queue.specs.Ends.{takes_from, taken_by};
     ghost use Rattle.packet_queue.specs.Jobs.{jobs_of};
@@ -146,7 +158,7 @@ impl<B: Naming> Promise<Worked<B>> for GoesOn<B> {
 
 // The job that a worker takes next. None where it takes none any more.
 #[tactic(auto, using(packet_queue::proofs::Jobs::jobs_of_job, packet_queue::proofs::Jobs::jobs_of_stop))]
-fn next_job<B: Naming, R: Wait>(rt: &R, taker: &mut Taker<B>) -> Option<Job<B>>
+fn next_job<B: FabricName, R: Wait>(rt: &R, taker: &mut Taker<B>) -> Option<Job<B>>
     ensures from { takes_from taker.new ≡ takes_from taker.old }
     ensures jobs { MatchOption result
         (jobs_of (taken_by taker.new) ≡ jobs_of (taken_by taker.old))
@@ -159,7 +171,7 @@ fn next_job<B: Naming, R: Wait>(rt: &R, taker: &mut Taker<B>) -> Option<Job<B>>
 }
 
 // Takes jobs until a stop message, or none, or memory runs out.
-fn work<B: Naming, R: Wait>(rt: &R, alloc: Global, mut taker: Taker<B>) -> Worked<B>
+fn work<B: FabricName, R: Wait>(rt: &R, alloc: Global, mut taker: Taker<B>) -> Worked<B>
     ensures from { takes_from result.taker ≡ takes_from taker }
     ensures jobs { jobs_of (taken_by result.taker) ≡ jobs_of (taken_by taker) ++ result.jobs.items }
 {
@@ -180,7 +192,7 @@ type Running<B> = PromisedHandle<Worked<B>, GoesOn<B>>;
 
 fn start<B, R>(rt: R, alloc: Global, taker: Taker<B>) -> Result<Running<B>, AllocError>
 where
-    B: Naming + Send + Sync + 'static,
+    B: FabricName + Send + Sync + 'static,
     R: Threads + Wait + Copy + Send + 'static,
     ensures { IfOk result (λ h. h.promise.was.value ≡ taker) }
 {
@@ -198,7 +210,7 @@ fn start_all<B, R>(
     mut takers: Vec<Taker<B>>,
 ) -> Result<Vec<Running<B>>, AllocError>
 where
-    B: Naming + Send + Sync + 'static,
+    B: FabricName + Send + Sync + 'static,
     R: Threads + Wait + Copy + Send + 'static,
     requires from { All (λ t. takes_from t ≡ puts_into injector.now) takers.items }
     requires nothing { All (λ t. taken_by t ≡ []) takers.items }
@@ -221,7 +233,7 @@ fn finish<B, R>(
     mut running: Vec<Running<B>>,
 ) -> Result<(Vec<Job<B>>, u64), AllocError>
 where
-    B: Naming + Send + Sync + 'static,
+    B: FabricName + Send + Sync + 'static,
     R: Threads + Wait,
     requires all { parts_of injector + vec_len running ≡ 256 }
     requires from { All (λ h. takes_from h.promise.was.value ≡ puts_into injector) running.items }
@@ -242,7 +254,7 @@ where
 }
 
 // The numbers below 128, each once, as bits; none where one of them comes twice.
-fn bits_of<B: Naming>(jobs: &[Job<B>]) -> Option<u128> {
+fn bits_of<B: FabricName>(jobs: &[Job<B>]) -> Option<u128> {
     let mut bits = 0u128;
     for job in jobs {
         if job.number >= 128 {
@@ -266,7 +278,7 @@ fn hundred<B, R>(
     takers: Vec<Taker<B>>,
 ) -> Result<(), Fail>
 where
-    B: Naming + Send + Sync + 'static,
+    B: FabricName + Send + Sync + 'static,
     R: Threads + Wait + Abort + Copy + Send + Sync + 'static,
     requires all { AreAllEnds injector takers.items }
     requires nothing { All (λ t. taken_by t ≡ []) takers.items }
@@ -293,7 +305,7 @@ enum Trial {
 
 fn tried<B, R>(rt: R, alloc: Global, told: &Told<B>, trial: Trial) -> Result<(), Fail>
 where
-    B: Naming + Send + Sync + 'static,
+    B: FabricName + Send + Sync + 'static,
     R: Threads + Wait + Abort + Copy + Send + Sync + 'static,
 {
     match trial {
@@ -316,7 +328,7 @@ fn opened<B, R>(
     trial: Trial,
 ) -> Result<(), Fail>
 where
-    B: Naming + Send + Sync + 'static,
+    B: FabricName + Send + Sync + 'static,
     R: Threads + Wait + Abort + Copy + Send + Sync + 'static,
     requires books { B.books ≡ unnamed ∷ [] }
     requires generation { image.generation ≡ 0 }
@@ -332,7 +344,7 @@ where
 }
 
 #[test]
-fn keeps_the_order(rt: HostRuntime) -> Result<(), Fail> {
+fn jobs_come_out_as_they_were_put_in(rt: HostRuntime) -> Result<(), Fail> {
     let image = empty(rt.alloc())?;
     opened::<Brand, _>(rt, rt.alloc(), Unnamed::new(), image, Trial::KeepsTheOrder)
 }
@@ -356,7 +368,7 @@ fn hands_back_when_closed(rt: HostRuntime) -> Result<(), Fail> {
 }
 
 #[test]
-fn feeds_two_threads(rt: HostRuntime) -> Result<(), Fail> {
+fn two_threads_take_all_jobs_of_a_queue(rt: HostRuntime) -> Result<(), Fail> {
     let image = empty(rt.alloc())?;
     opened::<Brand, _>(rt, rt.alloc(), Unnamed::new(), image, Trial::FeedsThreads)
 }

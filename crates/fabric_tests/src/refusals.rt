@@ -11,7 +11,7 @@ use linked_list_allocator::LocalHeap;
 use network_model::Refusal;
 use packet_queue::PacketQueue;
 use publication::{
-    Entry, ImageReader, ImageWriter, Naming, NoMemory, Patch, Prefix, Unnamed, open,
+    Entry, FabricName, ImageReader, ImageWriter, NoMemory, Patch, Prefix, Unnamed, open,
 };
 use std::alloc::Global;
 use std::marker::Brand;
@@ -100,7 +100,7 @@ fn is_refused_to_one_router<'h, R: Wait + Abort>(
     with_reader::<Brand, R>(rt, alloc, heap, Unnamed::new(), image, call, left)
 }
 
-fn with_reader<'h, B: Naming, R: Wait + Abort>(
+fn with_reader<'h, B: FabricName, R: Wait + Abort>(
     rt: &R,
     alloc: Global,
     heap: &'h LocalHeap,
@@ -130,7 +130,7 @@ fn with_reader<'h, B: Naming, R: Wait + Abort>(
 // Publishes a row of 10.0.0.0/8, then with so little left another, and one of 10.1.0.0/16. Where that is
 // refused, a reader that learns meanwhile sees the first publication, until the third, of the same
 // prefixes.
-fn is_publication_refused<'h, B: Naming, R: Wait + Abort>(
+fn is_publication_refused<'h, B: FabricName, R: Wait + Abort>(
     rt: &R,
     alloc: Global,
     heap: &'h LocalHeap,
@@ -169,7 +169,7 @@ fn is_publication_refused<'h, B: Naming, R: Wait + Abort>(
 
 // A worker takes five jobs from a queue with so little left for its replies: it takes all of them, also
 // where it tells that they are refused.
-fn are_replies_refused<'h, B: Naming, R: Wait + Abort>(
+fn are_replies_refused<'h, B: FabricName, R: Wait + Abort>(
     rt: &R,
     alloc: Global,
     heap: &'h LocalHeap,
@@ -201,7 +201,7 @@ fn are_replies_refused<'h, B: Naming, R: Wait + Abort>(
 }
 
 // A queue for two workers, of which nothing is taken where it is refused.
-fn is_queue_refused<'h, B: Naming>(
+fn is_queue_refused<'h, B: FabricName>(
     rt: &impl Abort,
     alloc: Global,
     heap: &'h LocalHeap,

@@ -8,7 +8,7 @@ ghost use Rattle.fabric.specs.Writers.{opening_tables};
 use crate::networks::{link, two_routers};
 use crate::refusals::ballast;
 use fabric::{
-    Answer, Entry, Fabric, MOST_STEPS, Naming, Network, Prefix, Refusal, Step, Unnamed, World,
+    Answer, Entry, Fabric, FabricName, MOST_STEPS, Network, Prefix, Refusal, Step, Unnamed, World,
 };
 use linked_list_allocator::LocalHeap;
 use network_model::{Cost, Distance, End, SmallAllocator};
@@ -110,7 +110,7 @@ fn link_lines<A: SmallAllocator>(alloc: Global, world: &World<A>) -> Result<Vec<
     Ok(lines)
 }
 
-fn report_of<B: Naming, A: SmallAllocator>(
+fn report_of<B: FabricName, A: SmallAllocator>(
     alloc: Global,
     fabric: &mut Fabric<B, A>,
 ) -> Result<Report, Fail> {
@@ -137,7 +137,7 @@ fn report_of<B: Naming, A: SmallAllocator>(
 }
 
 // Does a step, first with no room, then with ever more, until it is not refused.
-fn step_by_room<'h, B: Naming, H: Wait + Abort>(
+fn step_by_room<'h, B: FabricName, H: Wait + Abort>(
     rt: &H,
     alloc: Global,
     heap: &'h LocalHeap,
@@ -159,7 +159,7 @@ fn step_by_room<'h, B: Naming, H: Wait + Abort>(
 }
 
 // Does a step, with ample room or with as little as it needs.
-fn step<'h, B: Naming, H: Wait + Abort>(
+fn step<'h, B: FabricName, H: Wait + Abort>(
     rt: &H,
     alloc: Global,
     heap: &'h LocalHeap,
@@ -175,7 +175,7 @@ fn step<'h, B: Naming, H: Wait + Abort>(
 }
 
 // The first three routers take turns until nothing is left to do.
-fn settle<'h, B: Naming, H: Wait + Abort>(
+fn settle<'h, B: FabricName, H: Wait + Abort>(
     rt: &H,
     alloc: Global,
     heap: &'h LocalHeap,
@@ -193,7 +193,7 @@ fn settle<'h, B: Naming, H: Wait + Abort>(
     Err("never at rest".into())
 }
 
-fn run<'h, B: Naming, H: Wait + Abort>(
+fn run<'h, B: FabricName, H: Wait + Abort>(
     rt: &H,
     alloc: Global,
     heap: &'h LocalHeap,
@@ -210,7 +210,7 @@ fn run<'h, B: Naming, H: Wait + Abort>(
     report_of(alloc, fabric)
 }
 
-fn open_and_run<'h, B: Naming, H: Wait + Abort>(
+fn open_and_run<'h, B: FabricName, H: Wait + Abort>(
     rt: &H,
     alloc: Global,
     heap: &'h LocalHeap,
@@ -256,6 +256,21 @@ fn end_of_both<H: Wait + Abort>(
     let end = end_of(rt, alloc, tight, script, true)?;
     assert!(rt; end.is(&end_of(rt, alloc, free, script, false)?));
     Ok(end)
+}
+
+fn end_of_triangle<H: Wait + Abort>(
+    rt: &H,
+    alloc: Global,
+    cost: u32,
+    script: &[Act],
+) -> Result<Report, Fail> {
+    end_of_both(
+        rt,
+        alloc,
+        triangle(alloc, cost)?,
+        triangle(alloc, cost)?,
+        script,
+    )
 }
 
 fn up(link: u16) -> Act {
@@ -312,7 +327,7 @@ fn line(alloc: Global) -> Result<Network, Fail> {
 }
 
 #[test]
-fn two_routers_settle(rt: HostRuntime) -> Result<(), Fail> {
+fn two_routers_settle_with_little_memory(rt: HostRuntime) -> Result<(), Fail> {
     let alloc = rt.alloc();
     let script = [up(0), Act::Settle];
     let end = end_of_both(
@@ -343,13 +358,7 @@ fn a_diffusing_computation_goes_round_a_triangle(rt: HostRuntime) -> Result<(), 
         publish(2),
         Act::Settle,
     ];
-    let end = end_of_both(
-        &rt,
-        alloc,
-        triangle(alloc, 5)?,
-        triangle(alloc, 5)?,
-        &script,
-    )?;
+    let end = end_of_triangle(&rt, alloc, 5, &script)?;
     assert_eq!(&rt; end.routers.len(), 3);
     assert_eq!(&rt; end.routers[1].ten.machine, passive(7, 7, Some(1)));
     assert_eq!(&rt; end.routers[2].ten.machine, passive(6, 3, Some(1)));
@@ -370,13 +379,7 @@ fn a_cost_rises_twice(rt: HostRuntime) -> Result<(), Fail> {
         deliver(1, 0),
         Act::Settle,
     ];
-    let end = end_of_both(
-        &rt,
-        alloc,
-        triangle(alloc, 12)?,
-        triangle(alloc, 12)?,
-        &script,
-    )?;
+    let end = end_of_triangle(&rt, alloc, 12, &script)?;
     assert_eq!(&rt; end.routers.len(), 3);
     assert_eq!(&rt; end.routers[1].ten.machine, passive(14, 14, Some(1)));
     assert_eq!(&rt; end.routers[2].ten.machine, passive(13, 12, Some(1)));
@@ -406,7 +409,7 @@ fn a_prefix_is_cut_off(rt: HostRuntime) -> Result<(), Fail> {
     Ok(())
 }
 
-fn is_opening_refused_over<'h, B: Naming, H: Wait + Abort>(
+fn is_opening_refused_over<'h, B: FabricName, H: Wait + Abort>(
     rt: &H,
     alloc: Global,
     heap: &'h LocalHeap,

@@ -5,19 +5,19 @@ ghost use Rattle.fabric.specs.Writers.{opening_tables};
 
 use crate::fabrics::LEARNS;
 use crate::networks::two_routers;
-use fabric::{Fabric, Naming, Network, Refusal, Step, Ticket, Unnamed};
+use fabric::{Fabric, FabricName, Network, Refusal, Step, Ticket, Unnamed};
 use std::alloc::Global;
 use std::marker::Brand;
 use std::process::Abort;
 use std::sync::Wait;
 use std::test::Fail;
-use tracer::{End, TraceFault, trace};
+use tracer::{Ending, TraceFault, trace};
 
 // An address of the prefix of router 0.
 const ADDR: u32 = 0x0A00_0001;
 
 // Whether the fabric takes it back.
-fn back<B: Naming, H: Wait>(rt: &H, fabric: &mut Fabric<B>, ticket: Ticket<B>) -> bool {
+fn back<B: FabricName, H: Wait>(rt: &H, fabric: &mut Fabric<B>, ticket: Ticket<B>) -> bool {
     match fabric.give_back(ticket) {
         Ok(()) => true,
         Err(ticket) => {
@@ -28,7 +28,7 @@ fn back<B: Naming, H: Wait>(rt: &H, fabric: &mut Fabric<B>, ticket: Ticket<B>) -
 }
 
 // The refusal of a ticket; none where one was made.
-fn ticket_refused<B: Naming, H: Wait>(
+fn ticket_refused<B: FabricName, H: Wait>(
     rt: &H,
     fabric: &mut Fabric<B>,
     router: u16,
@@ -43,7 +43,7 @@ fn ticket_refused<B: Naming, H: Wait>(
 }
 
 // What waits for the writer of router 1 while it is out, and what does not.
-fn is_busy<B: Naming, H: Wait + Abort>(rt: &H, fabric: &mut Fabric<B>) -> Result<(), Fail> {
+fn is_busy<B: FabricName, H: Wait + Abort>(rt: &H, fabric: &mut Fabric<B>) -> Result<(), Fail> {
     let delivered = fabric.step(rt, Step::Deliver { router: 1, port: 0 });
     let delivered_far = fabric.step(rt, Step::Deliver { router: 1, port: 9 });
     let published = fabric.step(rt, Step::Publish { router: 1 });
@@ -61,7 +61,7 @@ fn is_busy<B: Naming, H: Wait + Abort>(rt: &H, fabric: &mut Fabric<B>) -> Result
 }
 
 // The writer of router 1 publishes, while the fabric goes on.
-fn goes_on<B: Naming, H: Wait + Abort>(
+fn goes_on<B: FabricName, H: Wait + Abort>(
     rt: &H,
     alloc: Global,
     fabric: &mut Fabric<B>,
@@ -78,7 +78,7 @@ fn goes_on<B: Naming, H: Wait + Abort>(
     let is_back = back(rt, fabric, ticket);
     assert_eq!(rt; down, Ok(()));
     assert_eq!(rt; longer, 7);
-    assert_eq!(rt; before, Ok(End::NoRoute));
+    assert_eq!(rt; before, Ok(Ending::NoRoute));
     assert!(rt; done.is_ok());
     assert_eq!(rt; unchanged, 7);
     assert_eq!(rt; stale, Err(TraceFault::Stale));
@@ -87,12 +87,12 @@ fn goes_on<B: Naming, H: Wait + Abort>(
     let last = fabric.journal().last().copied();
     assert_eq!(rt; last, Some(Step::Publish { router: 1 }));
     let after = trace(fabric, alloc, 1, ADDR)?;
-    assert_eq!(rt; after.end, End::DeadLink);
+    assert_eq!(rt; after.end, Ending::DeadLink);
     assert_eq!(rt; after.path.as_slice(), [1u16].as_slice());
     Ok(())
 }
 
-fn lends<B: Naming, H: Wait + Abort>(
+fn lends<B: FabricName, H: Wait + Abort>(
     rt: &H,
     alloc: Global,
     fabric: &mut Fabric<B>,
@@ -118,7 +118,7 @@ fn lends<B: Naming, H: Wait + Abort>(
     goes_on(rt, alloc, fabric, ticket)
 }
 
-fn opened<B: Naming, H: Wait + Abort>(
+fn opened<B: FabricName, H: Wait + Abort>(
     rt: &H,
     alloc: Global,
     network: Network,

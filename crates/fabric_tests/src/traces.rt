@@ -11,7 +11,7 @@ use std::marker::Brand;
 use std::process::Abort;
 use std::sync::Wait;
 use std::test::Fail;
-use tracer::{End, Fabric, Naming, TraceFault, trace};
+use tracer::{Ending, Fabric, FabricName, TraceFault, trace};
 
 // The routers.
 const A: u16 = 0;
@@ -35,7 +35,7 @@ fn line(alloc: Global) -> Result<Network, Fail> {
 }
 
 // Opens it, does this, and closes it.
-fn opened<B: Naming, H: Wait + Abort>(
+fn opened<B: FabricName, H: Wait + Abort>(
     rt: &H,
     alloc: Global,
     network: Network,
@@ -54,13 +54,13 @@ fn opened<B: Naming, H: Wait + Abort>(
 }
 
 // The trace from a router goes this way, and ends so.
-fn goes<B: Naming, H: Wait + Abort>(
+fn goes<B: FabricName, H: Wait + Abort>(
     rt: &H,
     alloc: Global,
     fabric: &mut Fabric<B>,
     addr: u32,
     way: &[u16],
-    end: End,
+    end: Ending,
 ) -> Result<(), Fail> {
     let start = *way.first().ok_or("no start")?;
     let traced = trace(fabric, alloc, start, addr)?;
@@ -70,14 +70,14 @@ fn goes<B: Naming, H: Wait + Abort>(
 }
 
 // Every link is down.
-fn ends<B: Naming, H: Wait + Abort>(
+fn ends<B: FabricName, H: Wait + Abort>(
     rt: &H,
     alloc: Global,
     fabric: &mut Fabric<B>,
 ) -> Result<(), Fail> {
-    goes(rt, alloc, fabric, ADDR, &[A], End::Delivered)?;
-    goes(rt, alloc, fabric, LONGER, &[B], End::Delivered)?;
-    goes(rt, alloc, fabric, ADDR, &[C], End::NoRoute)?;
+    goes(rt, alloc, fabric, ADDR, &[A], Ending::Delivered)?;
+    goes(rt, alloc, fabric, LONGER, &[B], Ending::Delivered)?;
+    goes(rt, alloc, fabric, ADDR, &[C], Ending::NoRoute)?;
     let unknown = trace(fabric, alloc, 3, ADDR);
     assert_eq!(rt; unknown, Err(TraceFault::UnknownRouter));
     Ok(())

@@ -1,6 +1,7 @@
 //! Jobs at two routers, answered by workers.
 
 ghost use Rattle.std.specs.Prelude.{◌≡◌, ◌≤◌, All, IfOk, length, map, vec_len};
+ghost use Rattle.network_model.specs.Network.{most_workers};
 
 use crate::networks::port_of;
 use forwarder::{Answer, GatherFault, ImageReader};
@@ -14,7 +15,7 @@ use std::test::*;
 use std::thread::Threads;
 use tree_bitmap::Image;
 use tree_bitmap::parts::{empty, set_row};
-use worker_pool::{ForwardPort, Job, Naming, PoolFault, Reply, WorkerPool};
+use worker_pool::{FabricName, ForwardPort, Job, PoolFault, Reply, WorkerPool};
 
 // The row of 10.0.0.0/8 at a router: over the port that has the router's number.
 fn row(router: u8) -> Result<(Prefix, Entry), Fail> {
@@ -36,7 +37,7 @@ fn image(alloc: Global, router: u8) -> Result<Image, Fail>
 }
 
 // A port for each of so many workers.
-fn ports_of<B: Naming>(
+fn ports_of<B: FabricName>(
     alloc: Global,
     workers: u8,
     firsts: Vec<ImageReader<B>>,
@@ -56,12 +57,12 @@ fn ports_of<B: Naming>(
 
 // What the two routers have published.
 #[derive(Drop)]
-struct Tolds<B: Naming> {
+struct Tolds<B: FabricName> {
     first: Told<B>,
     second: Told<B>,
 }
 
-impl<B: Naming> Tolds<B> {
+impl<B: FabricName> Tolds<B> {
     // A job at the first router, where its number is even, and else at the second.
     fn job(&self, number: u8) -> Job<B> {
         let told = if number % 2 == 0 {
@@ -78,7 +79,7 @@ impl<B: Naming> Tolds<B> {
 }
 
 // Gives the workers so many jobs, the greatest number first.
-fn ask<B: Naming, R: Wait>(
+fn ask<B: FabricName, R: Wait>(
     rt: &R,
     pool: &mut WorkerPool<B>,
     tolds: &Tolds<B>,
@@ -93,7 +94,7 @@ fn ask<B: Naming, R: Wait>(
 }
 
 // There is one reply to each of so many jobs, in order of their numbers, from the router of each.
-fn are_right<B: Naming, R: Abort>(rt: &R, replies: &[Reply<B>], jobs: u8) -> Result<(), Fail> {
+fn are_right<B: FabricName, R: Abort>(rt: &R, replies: &[Reply<B>], jobs: u8) -> Result<(), Fail> {
     assert_eq!(rt; replies.len(), usize::from(jobs));
     for number in 0..jobs {
         let reply = replies.get(usize::from(number)).ok_or("reply")?;
@@ -121,9 +122,9 @@ fn answers<B, R>(
     jobs: u8,
 ) -> Result<Vec<ForwardPort<B>>, Fail>
 where
-    B: Naming + Send + Sync + 'static,
+    B: FabricName + Send + Sync + 'static,
     R: Threads + Wait + Abort + Copy + Send + 'static,
-    requires { vec_len ports ≤ 16 }
+    requires { vec_len ports ≤ most_workers }
     ensures { IfOk result (λ back. vec_len back ≡ vec_len ports) }
 {
     let mut pool = WorkerPool::new(rt, alloc, ports)?;
@@ -144,9 +145,9 @@ fn answers_later<B, R>(
     tolds: &Tolds<B>,
 ) -> Result<(), Fail>
 where
-    B: Naming + Send + Sync + 'static,
+    B: FabricName + Send + Sync + 'static,
     R: Threads + Wait + Abort + Copy + Send + 'static,
-    requires { vec_len ports ≤ 16 }
+    requires { vec_len ports ≤ most_workers }
 {
     let mut pool = WorkerPool::new(rt, alloc, ports)?;
     let asked = ask(&rt, &mut pool, tolds, 70);
@@ -165,9 +166,9 @@ fn fault_of<B, R>(
     tolds: &Tolds<B>,
 ) -> Result<Option<PoolFault>, Fail>
 where
-    B: Naming + Send + Sync + 'static,
+    B: FabricName + Send + Sync + 'static,
     R: Threads + Wait + Abort + Copy + Send + 'static,
-    requires { vec_len ports ≤ 16 }
+    requires { vec_len ports ≤ most_workers }
 {
     let mut pool = WorkerPool::new(rt, alloc, ports)?;
     let mut asked = ask(&rt, &mut pool, tolds, 2);
@@ -182,7 +183,7 @@ where
 // Without workers each job is refused.
 fn refuses<B, R>(rt: R, alloc: Global, tolds: &Tolds<B>) -> Result<(), Fail>
 where
-    B: Naming + Send + Sync + 'static,
+    B: FabricName + Send + Sync + 'static,
     R: Threads + Wait + Abort + Copy + Send + 'static,
 {
     let mut pool = WorkerPool::new(rt, alloc, Vec::new(alloc))?;
@@ -213,7 +214,7 @@ fn tried<B, R>(
     trial: Trial,
 ) -> Result<(), Fail>
 where
-    B: Naming + Send + Sync + 'static,
+    B: FabricName + Send + Sync + 'static,
     R: Threads + Wait + Abort + Copy + Send + 'static,
 {
     if ports.len() > 16 {
@@ -248,7 +249,7 @@ fn opened<B, R>(
     trial: Trial,
 ) -> Result<(), Fail>
 where
-    B: Naming + Send + Sync + 'static,
+    B: FabricName + Send + Sync + 'static,
     R: Threads + Wait + Abort + Copy + Send + 'static,
     requires books { unnamed.items ≡ B.books }
     requires rows { map (λ i. i.rows) images.items ≡ B.openings }
@@ -290,27 +291,27 @@ where
 }
 
 #[test]
-fn one_answers(rt: HostRuntime) -> Result<(), Fail> {
+fn one_worker_answers_all_jobs(rt: HostRuntime) -> Result<(), Fail> {
     pooled(rt, rt.alloc(), 1, Trial::Answers(200))
 }
 
 #[test]
-fn two_answer(rt: HostRuntime) -> Result<(), Fail> {
+fn two_workers_answer_all_jobs(rt: HostRuntime) -> Result<(), Fail> {
     pooled(rt, rt.alloc(), 2, Trial::Answers(200))
 }
 
 #[test]
-fn sixteen_answer(rt: HostRuntime) -> Result<(), Fail> {
+fn sixteen_workers_answer_all_jobs(rt: HostRuntime) -> Result<(), Fail> {
     pooled(rt, rt.alloc(), 16, Trial::Answers(200))
 }
 
 #[test]
-fn ports_come_back(rt: HostRuntime) -> Result<(), Fail> {
+fn the_ports_of_a_pool_come_back(rt: HostRuntime) -> Result<(), Fail> {
     pooled(rt, rt.alloc(), 2, Trial::AnswersLater)
 }
 
 #[test]
-fn a_number_twice(rt: HostRuntime) -> Result<(), Fail> {
+fn a_number_that_two_jobs_have_is_found(rt: HostRuntime) -> Result<(), Fail> {
     pooled(rt, rt.alloc(), 2, Trial::Doubles)
 }
 
@@ -320,6 +321,6 @@ fn workers_without_an_image(rt: HostRuntime) -> Result<(), Fail> {
 }
 
 #[test]
-fn no_workers(rt: HostRuntime) -> Result<(), Fail> {
+fn a_pool_of_no_workers_takes_no_job(rt: HostRuntime) -> Result<(), Fail> {
     pooled(rt, rt.alloc(), 0, Trial::Refuses)
 }

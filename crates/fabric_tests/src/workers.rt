@@ -6,7 +6,7 @@ ghost use Rattle.publication.specs.Lists.{new_writing};
 use forwarder::{ForwardPort, GatherFault, JobGate, Reply, gather, work};
 use network_model::{Answer, Entry, Prefix, Refusal};
 use packet_queue::{Injector, PacketQueue, Taker};
-use publication::{ImageReader, ImageWriter, Job, Naming, Patch, Told, Unnamed, open};
+use publication::{FabricName, ImageReader, ImageWriter, Job, Patch, Told, Unnamed, open};
 use std::alloc::{AllocError, Allocator, Global};
 use std::marker::Brand;
 use std::process::Abort;
@@ -19,7 +19,7 @@ use std::time::{Clock, Duration};
 use tree_bitmap::Image;
 use tree_bitmap::parts::empty;
 
-fn asked<B: Naming>(number: u64, addr: u32, told: &Told<B>) -> Job<B>
+fn asked<B: FabricName>(number: u64, addr: u32, told: &Told<B>) -> Job<B>
     ensures { result.told ≡ told.now }
 {
     Job {
@@ -30,7 +30,7 @@ fn asked<B: Naming>(number: u64, addr: u32, told: &Told<B>) -> Job<B>
 }
 
 // A port of one reader.
-pub fn port_of<B: Naming, A: Allocator>(
+pub fn port_of<B: FabricName, A: Allocator>(
     alloc: A,
     reader: ImageReader<B, A>,
 ) -> Result<ForwardPort<B, A>, AllocError>
@@ -41,7 +41,7 @@ pub fn port_of<B: Naming, A: Allocator>(
     Ok(ForwardPort::new(readers))
 }
 
-fn replies_to<B: Naming>(
+fn replies_to<B: FabricName>(
     alloc: Global,
     port: &mut ForwardPort<B>,
     told: &Told<B>,
@@ -56,7 +56,7 @@ fn replies_to<B: Naming>(
 }
 
 // The numbers of the jobs that replies keep, where they are gathered.
-fn gathered<B: Naming>(
+fn gathered<B: FabricName>(
     alloc: Global,
     port: &mut ForwardPort<B>,
     told: &Told<B>,
@@ -77,7 +77,7 @@ fn gathered<B: Naming>(
 }
 
 // The fault of replies to these jobs, as they are gathered for jobs 1 to 3.
-fn fault_of<B: Naming>(
+fn fault_of<B: FabricName>(
     alloc: Global,
     port: &mut ForwardPort<B>,
     told: &Told<B>,
@@ -86,7 +86,7 @@ fn fault_of<B: Naming>(
     Ok(gathered(alloc, port, told, numbers)?.err())
 }
 
-fn gathers<B: Naming, R: Abort>(
+fn gathers<B: FabricName, R: Abort>(
     rt: &R,
     alloc: Global,
     told: &Told<B>,
@@ -116,7 +116,7 @@ fn row() -> Result<(Prefix, Entry), Fail> {
 const ADDR: u32 = 0x0a00_0001;
 
 // Publishes that row.
-fn set_row<B: Naming, R: Wait>(
+fn set_row<B: FabricName, R: Wait>(
     rt: &R,
     alloc: Global,
     writer: &mut ImageWriter<B>,
@@ -129,7 +129,7 @@ fn set_row<B: Naming, R: Wait>(
 }
 
 // The port answers the job so, and the reply keeps the job.
-fn is_answered<B: Naming>(
+fn is_answered<B: FabricName>(
     rt: &impl Abort,
     port: &mut ForwardPort<B>,
     job: &Job<B>,
@@ -144,7 +144,7 @@ fn is_answered<B: Naming>(
 }
 
 // A job is answered from a list that is no older than it was told of.
-fn answers<B: Naming, R: Wait + Abort>(
+fn answers<B: FabricName, R: Wait + Abort>(
     rt: &R,
     alloc: Global,
     writer: &mut ImageWriter<B>,
@@ -183,7 +183,7 @@ impl JobGate for Met {
 }
 
 // Puts jobs 1 to the last into a queue.
-pub fn put<B: Naming, A: Allocator, R: Wait>(
+pub fn put<B: FabricName, A: Allocator, R: Wait>(
     rt: &R,
     injector: &mut Injector<B, A>,
     told: &Told<B>,
@@ -197,7 +197,7 @@ pub fn put<B: Naming, A: Allocator, R: Wait>(
 }
 
 // A worker of this port takes what is in a queue, and meets jobs 1 to 5.
-pub fn work_five<B: Naming, A: Allocator, R: Wait + Abort>(
+pub fn work_five<B: FabricName, A: Allocator, R: Wait + Abort>(
     rt: &R,
     alloc: A,
     port: ForwardPort<B, A>,
@@ -215,7 +215,7 @@ pub fn work_five<B: Naming, A: Allocator, R: Wait + Abort>(
 
 // One worker answers five jobs, until a stop message, behind which there is one more, or the end of the
 // queue.
-fn works<B: Naming, R: Wait + Abort>(
+fn works<B: FabricName, R: Wait + Abort>(
     rt: &R,
     alloc: Global,
     told: &Told<B>,
@@ -271,7 +271,7 @@ impl<R: Clock> JobGate for Meeting<'_, R> {
 }
 
 // There is one reply of each worker, one to each of two jobs.
-fn are_one_each<B: Naming>(
+fn are_one_each<B: FabricName>(
     rt: &impl Abort,
     told: &Told<B>,
     first: Result<Vec<Reply<B>>, Refusal>,
@@ -295,7 +295,7 @@ fn meet<B, R>(
     second: (ForwardPort<B>, Taker<B>),
 ) -> Result<(), Fail>
 where
-    B: Naming + Send + Sync,
+    B: FabricName + Send + Sync,
     R: Threads + Wait + Clock + Abort + Sync,
 {
     let gate = Meeting {
@@ -321,7 +321,7 @@ fn meets<B, R>(
     second: ForwardPort<B>,
 ) -> Result<(), Fail>
 where
-    B: Naming + Send + Sync,
+    B: FabricName + Send + Sync,
     R: Threads + Wait + Clock + Abort + Sync,
 {
     let (mut injector, mut takers) = PacketQueue::new::<B, _>(alloc, 2)?;
@@ -334,7 +334,7 @@ where
 }
 
 // A worker without an image takes all jobs, answers none, and says why.
-fn goes_on<B: Naming, R: Wait + Abort>(
+fn goes_on<B: FabricName, R: Wait + Abort>(
     rt: &R,
     alloc: Global,
     told: &Told<B>,
@@ -369,7 +369,7 @@ fn tried<B, R>(
     trial: Trial,
 ) -> Result<(), Fail>
 where
-    B: Naming + Send + Sync,
+    B: FabricName + Send + Sync,
     R: Threads + Wait + Clock + Abort + Sync,
     requires one { length B.books ≡ 1 }
     requires new { writer.old ≡ new_writing 0 }
@@ -396,7 +396,7 @@ fn opened<B, R>(
     trial: Trial,
 ) -> Result<(), Fail>
 where
-    B: Naming + Send + Sync,
+    B: FabricName + Send + Sync,
     R: Threads + Wait + Clock + Abort + Sync,
     requires books { B.books ≡ unnamed ∷ [] }
     requires openings { B.openings ≡ image.rows ∷ [] }
@@ -419,19 +419,19 @@ where
 }
 
 #[test]
-fn gathers_replies(rt: HostRuntime) -> Result<(), Fail> {
+fn replies_are_gathered_in_order_of_their_jobs(rt: HostRuntime) -> Result<(), Fail> {
     let image = empty(rt.alloc())?;
     opened::<Brand, _>(&rt, rt.alloc(), Unnamed::new(), image, Trial::Gathers)
 }
 
 #[test]
-fn answers_jobs(rt: HostRuntime) -> Result<(), Fail> {
+fn a_worker_answers_its_jobs(rt: HostRuntime) -> Result<(), Fail> {
     let image = empty(rt.alloc())?;
     opened::<Brand, _>(&rt, rt.alloc(), Unnamed::new(), image, Trial::Answers)
 }
 
 #[test]
-fn works_to_a_stop(rt: HostRuntime) -> Result<(), Fail> {
+fn a_worker_works_until_it_is_stopped(rt: HostRuntime) -> Result<(), Fail> {
     let image = empty(rt.alloc())?;
     opened::<Brand, _>(&rt, rt.alloc(), Unnamed::new(), image, Trial::WorksToAStop)
 }
@@ -449,7 +449,7 @@ fn goes_on_without_an_image(rt: HostRuntime) -> Result<(), Fail> {
 }
 
 #[test]
-fn two_workers_meet(rt: HostRuntime) -> Result<(), Fail> {
+fn two_workers_meet_at_their_first_jobs(rt: HostRuntime) -> Result<(), Fail> {
     let image = empty(rt.alloc())?;
     opened::<Brand, _>(&rt, rt.alloc(), Unnamed::new(), image, Trial::Meets)
 }

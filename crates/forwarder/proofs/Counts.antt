@@ -1,16 +1,14 @@
 -- How many replies have a number, and how many are to a job.
-use Rattle.std.proofs.Common.{◌≡◌, ◌≢◌, ℕ, zero, suc, ◌+◌, ◌<◌, ◌≤◌, Bool, true, false, cond, ◌==◌, ◌||◌, ◌&&◌, List, [], ◌∷◌, ◌++◌, length, map, slice_index, slice_index_or, All, IsPermutation, count_by, if◌then◌else◌, Option, Some, None, refl, append_assoc, add-one, arith}
+use Rattle.std.proofs.Common.{◌≡◌, ◌≢◌, ℕ, zero, suc, ◌+◌, ◌<◌, ◌≤◌, Bool, true, false, cond, ◌==◌, ◌||◌, ◌&&◌, List, [], ◌∷◌, ◌++◌, length, map, slice_index, slice_index_or, All, IsPermutation, count_by, if◌then◌else◌, Option, Some, None, refl, append_assoc, add-one, arith, append-nil, eqb-true, eq-eqb}
 use Rattle.std.specs.List.{list_any, list_all}
 use Rattle.std.specs.List.Sorted.{IsNonDecreasingBy, IsStrictlyIncreasing}
-use Rattle.std.proofs.lemmas.List.{append-nil}
 use Rattle.std.proofs.lemmas.List.Sums.{sum_by-cons, sum_by_push, AllPass-from_list_all}
 use Rattle.std.proofs.lemmas.List.Sorted.{sum_by-IsPermutation, All-permutation}
-use Rattle.std.proofs.lemmas.Bool.{eqb-true, eq-eqb}
 use Rattle.publication.specs.declared.job.Job.{Job}
 use Rattle.forwarder.specs.Replies.{Replied}
 use Rattle.forwarder.specs.declared.gathering.GatherFault.{GatherFault}
 use Rattle.forwarder.specs.declared.gathering.GatherFault.TheVariants.{Stranger, Doubled}
-use Rattle.forwarder.specs.Gathering.{is_reply_to, number_of, fault_at, first_of, fault_in}
+use Rattle.forwarder.specs.Gathering.{is_reply_to, job_number, fault_at, first_of, fault_in}
 
 abbrev bit : Bool → ℕ
 bit b = cond b 1 0
@@ -46,7 +44,7 @@ one_more false n h f = omega arith
 
 module _ {X : Type 0} where
   abbrev pub has : ℕ → Replied X → Bool
-  has n r = number_of r == n
+  has n r = job_number r == n
 
   none_counts : (p : Replied X → Bool) (rs : List (Replied X)) → list_any p rs ≡ false → count_by p rs ≡ 0
   none_counts p [] e = refl
@@ -73,9 +71,9 @@ module _ {X : Type 0} where
   no_doubles jobs earlier [] e h n = rw append-nil (h n)
   no_doubles jobs earlier (r ∷ rs) e h n =
       let f = both_none (fault_at jobs earlier r) (fault_in jobs (earlier ++ r ∷ []) rs) e in
-      let d = at_none (list_any (λ j. is_reply_to j r) jobs) (list_any (has (number_of r)) earlier) f.0 in
+      let d = at_none (list_any (λ j. is_reply_to j r) jobs) (list_any (has (job_number r)) earlier) f.0 in
       let more : (m : ℕ) → count_by (has m) (earlier ++ r ∷ []) ≤ 1 = λ m.
-      let s = one_more (has m r) (count_by (has m) earlier) (h m) (λ t. let same = eqb-true (number_of r) m t in rw (← same) (none_counts (has (number_of r)) earlier d.1)) in
+      let s = one_more (has m r) (count_by (has m) earlier) (h m) (λ t. let same = eqb-true (job_number r) m t in rw (← same) (none_counts (has (job_number r)) earlier d.1)) in
       omega (arith, sum_by_push (λ y. cond (has m y) 1 0) earlier r) in
       let i : count_by (has n) ((earlier ++ r ∷ []) ++ rs) ≤ 1 = no_doubles jobs (earlier ++ r ∷ []) rs f.1 more n in
       rw append_assoc at i
@@ -84,21 +82,21 @@ module _ {X : Type 0} where
   no_strangers jobs earlier [] e k d l = absurd (omega arith)
   no_strangers jobs earlier (r ∷ rs) e zero d l =
       let f = both_none (fault_at jobs earlier r) (fault_in jobs (earlier ++ r ∷ []) rs) e in
-      (at_none (list_any (λ j. is_reply_to j r) jobs) (list_any (has (number_of r)) earlier) f.0).0
+      (at_none (list_any (λ j. is_reply_to j r) jobs) (list_any (has (job_number r)) earlier) f.0).0
   no_strangers jobs earlier (r ∷ rs) e (suc k) d l =
       let f = both_none (fault_at jobs earlier r) (fault_in jobs (earlier ++ r ∷ []) rs) e in
       no_strangers jobs (earlier ++ r ∷ []) rs f.1 k d (omega arith)
 
-  strict : (vs : List (Replied X)) → ((n : ℕ) → count_by (has n) vs ≤ 1) → IsNonDecreasingBy number_of vs → (k : ℕ) → suc k < length (map number_of vs) → slice_index (map number_of vs) k < slice_index (map number_of vs) (suc k)
+  strict : (vs : List (Replied X)) → ((n : ℕ) → count_by (has n) vs ≤ 1) → IsNonDecreasingBy job_number vs → (k : ℕ) → suc k < length (map job_number vs) → slice_index (map job_number vs) k < slice_index (map job_number vs) (suc k)
   strict [] h o k l = absurd (omega arith)
   strict (x ∷ []) h o k l = absurd (omega arith)
   strict (x ∷ y ∷ ys) h o zero l =
-      let le : number_of x ≤ number_of y = o 0 1 x (omega arith) (omega arith) in
-      let ne : number_of x ≢ number_of y = λ e.
-      let a : bit (has (number_of y) x) ≡ 1 = rw (eq-eqb (number_of x) (number_of y) e) in
-      let b : bit (has (number_of y) y) ≡ 1 = rw (eq-eqb (number_of y) (number_of y) refl) in
-      let c = h (number_of y) in
-      absurd (omega (arith, sum_by-cons (λ z. cond (has (number_of y) z) 1 0) x (y ∷ ys), sum_by-cons (λ z. cond (has (number_of y) z) 1 0) y ys)) in
+      let le : job_number x ≤ job_number y = o 0 1 x (omega arith) (omega arith) in
+      let ne : job_number x ≢ job_number y = λ e.
+      let a : bit (has (job_number y) x) ≡ 1 = rw (eq-eqb (job_number x) (job_number y) e) in
+      let b : bit (has (job_number y) y) ≡ 1 = rw (eq-eqb (job_number y) (job_number y) refl) in
+      let c = h (job_number y) in
+      absurd (omega (arith, sum_by-cons (λ z. cond (has (job_number y) z) 1 0) x (y ∷ ys), sum_by-cons (λ z. cond (has (job_number y) z) 1 0) y ys)) in
       omega arith
   strict (x ∷ y ∷ ys) h o (suc k) l =
       strict (y ∷ ys) (λ n. let c = h n in omega (arith, sum_by-cons (λ z. cond (has n z) 1 0) x (y ∷ ys))) (λ i j d p q. o (suc i) (suc j) d (omega arith) (omega arith)) k (omega arith)
@@ -109,7 +107,7 @@ module _ {X : Type 0} where
         let s = no_doubles jobs [] rs fine (λ m. omega arith) n in
         let p = sum_by-IsPermutation (λ y. cond (has n y) 1 0) rs vs given in omega arith
 
-    pub ordered : IsNonDecreasingBy number_of vs → IsStrictlyIncreasing (map number_of vs)
+    pub ordered : IsNonDecreasingBy job_number vs → IsStrictlyIncreasing (map job_number vs)
     ordered o k l = rw add-one (strict vs one_each o k (omega arith))
 
     pub each : list_all (λ j. list_any (is_reply_to j) rs) jobs ≡ true → All (λ j. count_by (is_reply_to j) vs ≡ 1) jobs
@@ -118,7 +116,7 @@ module _ {X : Type 0} where
         let is : list_any (is_reply_to j) rs ≡ true = AllPass-from_list_all (λ i. list_any (is_reply_to i) rs) jobs a k d l in
         let low = some_counts (is_reply_to j) rs is in
         let p = sum_by-IsPermutation (λ y. cond (is_reply_to j y) 1 0) rs vs given in
-        let high = fewer (is_reply_to j) (has j.number) (λ r e. and_left (number_of r == j.number) (((r.job).told).router == (j.told).router) (and_left ((number_of r == j.number) && (((r.job).told).router == (j.told).router)) ((r.job).addr == j.addr) e)) vs in
+        let high = fewer (is_reply_to j) (has j.number) (λ r e. and_left (job_number r == j.number) (((r.job).told).router == (j.told).router) (and_left ((job_number r == j.number) && (((r.job).told).router == (j.told).router)) ((r.job).addr == j.addr) e)) vs in
         let most = one_each j.number in
         omega arith
 

@@ -1,6 +1,5 @@
 -- A view among others that becomes later.
-use Rattle.std.specs.Prelude.{◌≡◌, ◌⊎◌, ◌<◌, ℕ, List, set, Some, length, get_or, slice_get}
-use Rattle.std.proofs.Common.{inl, inr, sym, subst, ◌∙◌, length-set}
+use Rattle.std.proofs.Common.{inl, inr, sym, subst, ◌∙◌, length-set, ◌≡◌, ◌⊎◌, ◌<◌, ℕ, List, set, Some, length, get_or, slice_get}
 use Rattle.std.proofs.lemmas.Option.{slice_get-get_or, slice_get_within}
 use Rattle.network_model.proofs.ListLaws.{Some_injective}
 use Rattle.publication.specs.declared.known.Known.{Known}

@@ -1,6 +1,5 @@
 -- Replies to the jobs that were taken.
-use Rattle.std.specs.Prelude.{◌≡◌, List, [], ◌∷◌, ◌++◌, Result, Ok, Err, IfOk, IfErr}
-use Rattle.std.proofs.Common.{ap, sym, ◌∙◌, append_assoc}
+use Rattle.std.proofs.Common.{ap, sym, ◌∙◌, append_assoc, ◌≡◌, List, [], ◌∷◌, ◌++◌, Result, Ok, Err, IfOk, IfErr}
 
 -- what holds of replies holds of those with one more, where that follows
 pub if_more : {V E : Type 0} (before after : Result V E) (P Q : V → Type 0) (S : V → V → Type 0) → IfOk after (λ new. IfOk before (λ old. S old new)) → IfErr before (λ e. after ≡ Err e) → ((old new : V) → P old → S old new → Q new) → IfOk before P → IfOk after Q

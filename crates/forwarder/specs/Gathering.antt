@@ -17,13 +17,13 @@ module _ {X : Type 0} where
   is_reply_to j r = ((r.job).number == j.number) && (((r.job).told).router == (j.told).router) && ((r.job).addr == j.addr)
 
   -- the number of the job that a reply keeps
-  abbrev pub number_of : Replied X → ℕ
-  number_of r = (r.job).number
+  abbrev pub job_number : Replied X → ℕ
+  job_number r = (r.job).number
 
   -- what is wrong with a reply that comes after these
   abbrev pub fault_at : List (Job X) → List (Replied X) → Replied X → Option GatherFault
   fault_at jobs earlier r =
-      if list_any (λ j. is_reply_to j r) jobs then (if list_any (λ s. number_of s == number_of r) earlier then Some Doubled else None)
+      if list_any (λ j. is_reply_to j r) jobs then (if list_any (λ s. job_number s == job_number r) earlier then Some Doubled else None)
       else Some Stranger
 
   -- the first fault of replies that come after these

@@ -3,10 +3,10 @@
 ghost use Rattle.std.specs.Prelude.{◌≡◌, ◌==◌, true, [], map, All, IsPermutation, count_by, IfOk, MatchResult, Some, None};
 ghost use Rattle.std.specs.List.{list_any, list_all};
 ghost use Rattle.std.specs.List.Sorted.{IsNonDecreasingBy, IsStrictlyIncreasing};
-ghost use Rattle.forwarder.specs.Gathering.{is_reply_to, number_of, fault_at, fault_in, fault_of};
+ghost use Rattle.forwarder.specs.Gathering.{is_reply_to, job_number, fault_at, fault_in, fault_of};
 
 use crate::reply::Reply;
-use publication::{Job, Naming};
+use publication::{FabricName, Job};
 use std::alloc::Allocator;
 use thiserror::Error;
 
@@ -25,7 +25,7 @@ pub enum GatherFault {
 }
 
 // Whether a reply keeps the number, the router and the address of a job.
-fn is_to<B: Naming>(job: &Job<B>, reply: &Reply<B>) -> bool
+fn is_to<B: FabricName>(job: &Job<B>, reply: &Reply<B>) -> bool
     ensures { result ≡ is_reply_to job.now reply.now }
 {
     reply.job().number == job.number
@@ -33,30 +33,31 @@ fn is_to<B: Naming>(job: &Job<B>, reply: &Reply<B>) -> bool
         && reply.job().addr == job.addr
 }
 
-fn has_job<B: Naming>(jobs: &[Job<B>], reply: &Reply<B>) -> bool
+fn has_job<B: FabricName>(jobs: &[Job<B>], reply: &Reply<B>) -> bool
     ensures { result ≡ list_any (λ j. is_reply_to j reply.now) jobs.now }
 {
     jobs.iter().any(|job| is_to(job, reply))
 }
 
-fn has_reply<B: Naming>(replies: &[Reply<B>], job: &Job<B>) -> bool
+fn has_reply<B: FabricName>(replies: &[Reply<B>], job: &Job<B>) -> bool
     ensures { result ≡ list_any (is_reply_to job.now) replies.now }
 {
     replies.iter().any(|reply| is_to(job, reply))
 }
 
-fn has_number<B: Naming>(replies: &[Reply<B>], number: u64) -> bool
-    ensures { result ≡ list_any (λ r. number_of r == number) replies.now }
+fn has_number<B: FabricName>(replies: &[Reply<B>], number: u64) -> bool
+    ensures { result ≡ list_any (λ r. job_number r == number) replies.now }
 {
     replies.iter().any(|reply| reply.job().number == number)
 }
 
-fn check_one<B: Naming>(
+fn check_one<B: FabricName>(
     jobs: &[Job<B>],
     earlier: &[Reply<B>],
     reply: &Reply<B>,
 ) -> Result<(), GatherFault>
-    ensures { MatchResult result (λ _. fault_at jobs.now earlier.now reply.now ≡ None) (λ e. fault_at jobs.now earlier.now reply.now ≡ Some e) }
+    ensures { MatchResult result (λ _. fault_at jobs.now earlier.now reply.now ≡ None)
+        (λ e. fault_at jobs.now earlier.now reply.now ≡ Some e) }
 {
     if !has_job(jobs, reply) {
         return Err(GatherFault::Stranger);
@@ -67,8 +68,9 @@ fn check_one<B: Naming>(
     Ok(())
 }
 
-fn check_replies<B: Naming>(jobs: &[Job<B>], replies: &[Reply<B>]) -> Result<(), GatherFault>
-    ensures { MatchResult result (λ _. fault_in jobs.now [] replies.now ≡ None) (λ e. fault_in jobs.now [] replies.now ≡ Some e) }
+fn check_replies<B: FabricName>(jobs: &[Job<B>], replies: &[Reply<B>]) -> Result<(), GatherFault>
+    ensures { MatchResult result (λ _. fault_in jobs.now [] replies.now ≡ None)
+        (λ e. fault_in jobs.now [] replies.now ≡ Some e) }
 {
     for i in 0..replies.len() {
         check_one(jobs, &replies[..i], &replies[i])?;
@@ -76,15 +78,15 @@ fn check_replies<B: Naming>(jobs: &[Job<B>], replies: &[Reply<B>]) -> Result<(),
     Ok(())
 }
 
-fn has_all<B: Naming>(jobs: &[Job<B>], replies: &[Reply<B>]) -> bool
+fn has_all<B: FabricName>(jobs: &[Job<B>], replies: &[Reply<B>]) -> bool
     ensures { result ≡ list_all (λ j. list_any (is_reply_to j) replies.now) jobs.now }
 {
     jobs.iter().all(|job| has_reply(replies, job))
 }
 
-fn in_order<B: Naming, A: Allocator>(mut replies: Vec<Reply<B>, A>) -> Vec<Reply<B>, A>
+fn in_order<B: FabricName, A: Allocator>(mut replies: Vec<Reply<B>, A>) -> Vec<Reply<B>, A>
     ensures given { IsPermutation replies.items result.items }
-    ensures order { IsNonDecreasingBy number_of result.items }
+    ensures order { IsNonDecreasingBy job_number result.items }
 {
     replies.sort_unstable_by_key(|reply| reply.job().number);
     replies
@@ -92,15 +94,17 @@ fn in_order<B: Naming, A: Allocator>(mut replies: Vec<Reply<B>, A>) -> Vec<Reply
 
 /// For each job the one given reply to it, in order of the jobs' numbers. Each reply in turn is
 /// tested for a stranger's, then for a second one; a missing one comes last. It takes no memory.
-pub fn gather<B: Naming, A: Allocator>(
+pub fn gather<B: FabricName, A: Allocator>(
     jobs: &[Job<B>],
     replies: Vec<Reply<B>, A>,
 ) -> Result<Vec<Reply<B>, A>, GatherFault>
-    ensures fault { MatchResult result (λ _. fault_of jobs.now replies.items ≡ None) (λ e. fault_of jobs.now replies.items ≡ Some e) }
+    ensures fault { MatchResult result (λ _. fault_of jobs.now replies.items ≡ None)
+        (λ e. fault_of jobs.now replies.items ≡ Some e) }
     ensures given { IfOk result (λ v. IsPermutation replies.items v.items) }
-    ensures order { IfOk result (λ v. IsStrictlyIncreasing (map number_of v.items)) }
+    ensures order { IfOk result (λ v. IsStrictlyIncreasing (map job_number v.items)) }
     ensures each { IfOk result (λ v. All (λ j. count_by (is_reply_to j) v.items ≡ 1) jobs.now) }
-    ensures only { IfOk result (λ v. All (λ r. list_any (λ j. is_reply_to j r) jobs.now ≡ true) v.items) }
+    ensures only { IfOk result (λ v. All
+        (λ r. list_any (λ j. is_reply_to j r) jobs.now ≡ true) v.items) }
 {
     check_replies(jobs, replies.as_slice())?;
     if !has_all(jobs, replies.as_slice()) {

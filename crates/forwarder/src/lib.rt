@@ -8,6 +8,6 @@ mod worker;
 
 pub use gathering::{GatherFault, gather};
 pub use port::ForwardPort;
-pub use publication::{Answer, ImageReader, Job, Naming, NoImage};
+pub use publication::{Answer, FabricName, ImageReader, Job, NoImage};
 pub use reply::Reply;
 pub use worker::{JobGate, Worked, with_reply, work};

@@ -5,18 +5,18 @@ ghost use Rattle.publication.specs.Lists.{Begins};
 ghost use Rattle.forwarder.specs.Ports.{AreLater, IsOneEach};
 
 use crate::reply::Reply;
-use publication::{ImageReader, Job, Naming, NoImage};
+use publication::{FabricName, ImageReader, Job, NoImage};
 use std::alloc::{Allocator, Global};
 use std::marker::Model;
 
 /// One reader of each of a fabric's routers. Contracts see it as the views of its readers, by the
 /// routers' numbers.
 #[derive(Drop)]
-pub struct ForwardPort<B: Naming, A: Allocator = Global> {
+pub struct ForwardPort<B: FabricName, A: Allocator = Global> {
     readers: Vec<ImageReader<B, A>, A>,
 }
 
-impl<B: Naming, A: Allocator> Model for ForwardPort<B, A> {
+impl<B: FabricName, A: Allocator> Model for ForwardPort<B, A> {
     ghost use Rattle.std.specs.Prelude.{List, length};
     ghost use Rattle.publication.specs.declared.known.Known.{Known};
     ghost use Rattle.forwarder.specs.Ports.{IsOneEach};
@@ -28,7 +28,7 @@ impl<B: Naming, A: Allocator> Model for ForwardPort<B, A> {
     ghost invariant = { λ p. IsOneEach (length B.books) p.readers.items };
 }
 
-impl<B: Naming, A: Allocator> ForwardPort<B, A> {
+impl<B: FabricName, A: Allocator> ForwardPort<B, A> {
     /// A port of these readers, one of each router, in order.
     pub fn new(readers: Vec<ImageReader<B, A>, A>) -> ForwardPort<B, A>
         requires { IsOneEach (length B.books) readers.items }
@@ -50,7 +50,7 @@ impl<B: Naming, A: Allocator> ForwardPort<B, A> {
 }
 
 // What a reader of a job's router answers to it.
-fn look<B: Naming, A: Allocator>(
+fn look<B: FabricName, A: Allocator>(
     reader: &mut ImageReader<B, A>,
     job: &Job<B>,
 ) -> Result<Reply<B>, NoImage>

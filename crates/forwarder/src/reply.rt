@@ -1,32 +1,34 @@
 //! What a job is answered.
 
 ghost use Rattle.std.specs.Prelude.{◌≡◌};
-ghost use Rattle.publication.specs.Lists.{Begins, answer_of, image_of};
+ghost use Rattle.network_model.specs.Publication.{answer_of};
+ghost use Rattle.publication.specs.Lists.{Begins, image_of};
 
 use network_model::Answer;
-use publication::{Job, Naming, Told};
+use publication::{FabricName, Job, Told};
 use std::marker::Model;
 
 /// The answer to a job, with the list of the view that gave it: one that its router's writer has
 /// published, and that begins with what the job was told.
 #[derive(Drop)]
-pub struct Reply<B: Naming> {
+pub struct Reply<B: FabricName> {
     job: Job<B>,
     seen: Told<B>,
     answer: Answer,
 }
 
-impl<B: Naming> Model for Reply<B> {
+impl<B: FabricName> Model for Reply<B> {
     ghost use Rattle.forwarder.specs.Replies.{Replied, IsOfPublished};
 
     ghost Value = { Replied B };
 
     ghost view = { λ r. record { job = r.job; seen = r.seen; answer = r.answer } };
 
-    ghost invariant = { λ r. IsOfPublished B.openings (record { job = r.job; seen = r.seen; answer = r.answer }) };
+    ghost invariant = { λ r. IsOfPublished B.openings
+        (record { job = r.job; seen = r.seen; answer = r.answer }) };
 }
 
-impl<B: Naming> Reply<B> {
+impl<B: FabricName> Reply<B> {
     pub(crate) fn new(job: Job<B>, seen: Told<B>, answer: Answer) -> Reply<B>
         requires later { Begins job.told seen }
         requires answered { answer ≡ answer_of (image_of B.openings seen) job.addr }
@@ -54,7 +56,8 @@ impl<B: Naming> Reply<B> {
     /// The generation that answered, and the row with the longest prefix that covers the address.
     pub fn answer(&self) -> Answer
         ensures answer { result ≡ self.now.answer }
-        ensures answered { result ≡ answer_of (image_of B.openings self.now.seen) self.now.job.addr }
+        ensures answered { result ≡ answer_of
+            (image_of B.openings self.now.seen) self.now.job.addr }
     {
         self.answer
     }

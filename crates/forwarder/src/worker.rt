@@ -10,7 +10,7 @@ use crate::port::ForwardPort;
 use crate::reply::Reply;
 use network_model::Refusal;
 use packet_queue::{Taken, Taker};
-use publication::{Job, Naming};
+use publication::{FabricName, Job};
 use std::alloc::{Allocator, Global};
 use std::sync::Wait;
 
@@ -25,7 +25,7 @@ pub trait JobGate {
 
 /// What a worker gives back when it ends.
 #[derive(Drop)]
-pub struct Worked<B: Naming, A: Allocator = Global> {
+pub struct Worked<B: FabricName, A: Allocator = Global> {
     pub port: ForwardPort<B, A>,
     pub taker: Taker<B, A>,
     /// A reply to each job that it took, in the order in which it took them.
@@ -35,7 +35,7 @@ pub struct Worked<B: Naming, A: Allocator = Global> {
 /// Takes jobs and answers them, until it takes a stop message or the queue is closed. Where its list
 /// of replies cannot grow (`NoMemory`), or an answer has no image (`NoImage`), it goes on taking, and
 /// tells the first such refusal in place of its replies, job by job as `with_reply` does.
-pub fn work<B: Naming, A: Allocator, R: Wait, G: JobGate>(
+pub fn work<B: FabricName, A: Allocator, R: Wait, G: JobGate>(
     rt: &R,
     alloc: A,
     port: ForwardPort<B, A>,
@@ -47,7 +47,8 @@ pub fn work<B: Naming, A: Allocator, R: Wait, G: JobGate>(
     ensures replies { IfOk result.replies (λ rs. jobs_of (taken_by result.taker)
         ≡ jobs_of (taken_by taker) ++ map (λ r. r.job) rs.items) }
     ensures refused { IfErr result.replies (λ e. (e ≡ OutOfMemory) ⊎ (e ≡ WithoutImage)) }
-    ensures some { IfErr result.replies (λ _. length (jobs_of (taken_by taker)) < length (jobs_of (taken_by result.taker))) }
+    ensures some { IfErr result.replies
+        (λ _. length (jobs_of (taken_by taker)) < length (jobs_of (taken_by result.taker))) }
 {
     let mut port = port;
     let mut taker = taker;
@@ -69,7 +70,7 @@ pub fn work<B: Naming, A: Allocator, R: Wait, G: JobGate>(
 
 // The next job; none where a stop message comes, or the queue is closed.
 #[tactic(auto, using(packet_queue::proofs::Jobs::jobs_of_job, packet_queue::proofs::Jobs::jobs_of_stop))]
-fn next_job<B: Naming, A: Allocator, R: Wait>(rt: &R, taker: &mut Taker<B, A>) -> Option<Job<B>>
+fn next_job<B: FabricName, A: Allocator, R: Wait>(rt: &R, taker: &mut Taker<B, A>) -> Option<Job<B>>
     ensures queue { takes_from taker.new ≡ takes_from taker.old }
     ensures taken { MatchOption result
         (jobs_of (taken_by taker.new) ≡ jobs_of (taken_by taker.old))
@@ -83,14 +84,15 @@ fn next_job<B: Naming, A: Allocator, R: Wait>(rt: &R, taker: &mut Taker<B, A>) -
 
 /// A worker's replies, with one to this job behind them. Where one before was refused, that refusal
 /// stays; else it is refused with `NoMemory`, or with `NoImage`.
-pub fn with_reply<B: Naming, A: Allocator>(
+pub fn with_reply<B: FabricName, A: Allocator>(
     replies: Result<Vec<Reply<B>, A>, Refusal>,
     port: &mut ForwardPort<B, A>,
     job: &Job<B>,
 ) -> Result<Vec<Reply<B>, A>, Refusal>
     requires { IfErr replies (λ e. (e ≡ OutOfMemory) ⊎ (e ≡ WithoutImage)) }
     ensures later { AreLater port.old port.new }
-    ensures ok { IfOk result (λ rs. IfOk replies (λ old. map (λ r. r.job) rs.items ≡ map (λ r. r.job) old.items ++ job.now ∷ [])) }
+    ensures ok { IfOk result (λ rs. IfOk replies
+        (λ old. map (λ r. r.job) rs.items ≡ map (λ r. r.job) old.items ++ job.now ∷ [])) }
     ensures first { IfErr replies (λ e. result ≡ Err e) }
     ensures err { IfErr result (λ e. (e ≡ OutOfMemory) ⊎ (e ≡ WithoutImage)) }
 {

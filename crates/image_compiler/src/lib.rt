@@ -14,7 +14,8 @@ pub fn compile<A: Allocator + Copy, T: Allocator>(
     alloc: A,
     table: &RouteTable<T>,
 ) -> Result<Image<A>, NoMemory>
-    ensures { IfOk result (λ image. image ≡ record { generation = 0; rows = (table.now).table.control }) }
+    ensures { IfOk result (λ image. image
+        ≡ record { generation = 0; rows = (table.now).table.control }) }
 {
     let mut image = empty(alloc)?;
     for (prefix, entry) in table.rows() {

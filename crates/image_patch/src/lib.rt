@@ -28,7 +28,8 @@ pub trait Apply {
 
 impl<A: Allocator> Apply for Image<A> {
     fn apply<P: Allocator>(&mut self, patch: &Patch<P>) -> Result<(), NoMemory>
-        ensures ok { OnOk result (self.new ≡ patched patch.now.generation patch.now.rows.items self.old) }
+        ensures ok { OnOk result (self.new
+            ≡ patched patch.now.generation patch.now.rows.items self.old) }
         ensures err { OnErr result (self.new ≡ self.old) }
 
         // A patch without rows takes no memory.

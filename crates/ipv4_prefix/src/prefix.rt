@@ -8,9 +8,9 @@ ghost use Rattle.ipv4_prefix.specs.Faults.{block, SetsHostBits, SpellsLength, Is
 
 use crate::addr::{Addr, parse_addr};
 use crate::fault::PrefixFault;
-use decimal_text::read_number;
 use std::fmt;
 use std::marker::Model;
+use texts::read_number;
 
 /// A block of IPv4 addresses: those that agree with `addr` in their first `len` bits (RFC 4632,
 /// section 3.1). No bit after the first `len` is set, so each block has one `Prefix`. Prefixes are

@@ -1,3 +1,1 @@
-pub mod Cuts
-pub mod Printed
 pub mod Reading

@@ -1,23 +1,10 @@
 -- The lines of a journal, read one after another.
-use Rattle.std.proofs.Common.{◌≡◌, ◌≢◌, ℕ, ◌+◌, List, [], ◌∷◌, ◌++◌, length, codes, decimal, arith, refl, sym, ap, subst, ◌∙◌, inl, inr, false, bytes_eq}
-use Rattle.std.proofs.lemmas.Fmt.{decimal_injective}
-use Rattle.std.proofs.lemmas.List.{append_assoc}
-use Rattle.std.proofs.lemmas.Slice.Zip.{all_zipped_more}
-use Rattle.ipv4_prefix.specs.Prefix.{Prefix}
-use Rattle.ipv4_prefix.specs.Faults.{SpellsPrefix, IsFirstFault}
-use Rattle.ipv4_prefix.specs.declared.fault.PrefixFault.{PrefixFault}
-use Rattle.ipv4_prefix.proofs.PrefixTexts.{IsFirstFault-spelled}
-use Rattle.network_model.specs.declared.network.LinkSpec.{LinkSpec}
-use Rattle.network_model.specs.declared.step.Step.{Step}
-use Rattle.network_model.specs.declared.step.Step.TheVariants.{LinkUp, LinkDown, SetCost, Deliver, Publish, Release, Attach, Detach}
-use Rattle.script.specs.Words.{Text}
-use Rattle.metric.specs.Distance.{IsCost}
-use Rattle.script.specs.Commands.{NamesTextAndNumber, NamesBadPrefix, AsksStep, AsksBadStep, AsksNoStep, AsksBadCost}
+use Rattle.std.proofs.Common.{◌≡◌, ◌≢◌, ℕ, ◌+◌, List, [], ◌∷◌, ◌++◌, length, codes, decimal, arith, refl, sym, ap, subst, ◌∙◌, inl, inr, false, bytes_eq, append_assoc}
+use Rattle.script.proofs.Common.{decimal_injective, all_zipped_more, Prefix, SpellsPrefix, IsFirstFault, PrefixFault, IsFirstFault-spelled, LinkSpec, Step, LinkUp, LinkDown, SetCost, Deliver, Publish, Release, Attach, Detach, Text, IsCost, NamesTextAndNumber, NamesBadPrefix, AsksStep, AsksBadStep, AsksNoStep, AsksBadCost, lines_of}
 use Rattle.script.specs.declared.fault.Fault.{Fault}
 use Rattle.script.specs.declared.fault.Fault.TheVariants.{BadName, BadLine, BadCost, Prefix as OfPrefix, BadCommand, TooLarge, NoMemory}
 use Rattle.script.proofs.StepTexts.{clash, parts_unique, text_unique}
 use Rattle.journal.specs.declared.read.Version.{Version}
-use Rattle.journal.specs.Lines.{lines_of}
 use Rattle.journal.specs.Steps.{SaysStep}
 use Rattle.journal.specs.Journal.{heading, ending, HasSteps, IsBadAt}
 

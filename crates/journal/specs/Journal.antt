@@ -4,13 +4,13 @@ use Rattle.std.specs.List.{AllZip}
 use Rattle.ipv4_prefix.specs.Prefix.{Prefix}
 use Rattle.network_model.specs.declared.network.LinkSpec.{LinkSpec}
 use Rattle.network_model.specs.declared.step.Step.{Step}
-use Rattle.script.specs.Words.{Text}
+use Rattle.texts.specs.Words.{Text}
 use Rattle.script.specs.Directories.{Directory}
 use Rattle.journal.specs.declared.fault.JournalFault.{JournalFault}
 use Rattle.journal.specs.declared.fault.JournalFault.TheVariants.{BadText, BadLine, NoMemory}
 use Rattle.journal.specs.declared.read.Version.{Version}
 use Rattle.journal.specs.declared.read.Version.TheVariants.{One, Two}
-use Rattle.journal.specs.Lines.{lines_of}
+use Rattle.texts.specs.Lines.{lines_of}
 use Rattle.journal.specs.Steps.{steps_text, SaysStep}
 
 -- the first line
@@ -67,10 +67,10 @@ IsBadAt names links attachments text line =
     ⊎ StopsPastSteps names links attachments text line
 
 -- why the text is not that of a journal: it is not UTF-8, or else a line; that memory runs out can come anywhere
-abbrev pub IsFaultOf : List Text → List LinkSpec → List (Prefix × ℕ × ℕ) → Text → JournalFault → Type 0
-IsFaultOf names links attachments text BadText = ¬ (IsUtf8 text)
-IsFaultOf names links attachments text (BadLine line) = IsUtf8 text × IsBadAt names links attachments text line
-IsFaultOf names links attachments text NoMemory = ⊥
+abbrev pub IsJournalFault : List Text → List LinkSpec → List (Prefix × ℕ × ℕ) → Text → JournalFault → Type 0
+IsJournalFault names links attachments text BadText = ¬ (IsUtf8 text)
+IsJournalFault names links attachments text (BadLine line) = IsUtf8 text × IsBadAt names links attachments text line
+IsJournalFault names links attachments text NoMemory = ⊥
 
 -- ---- compared
 

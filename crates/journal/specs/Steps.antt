@@ -5,9 +5,9 @@ use Rattle.ipv4_prefix.specs.Texts.{prefix_text}
 use Rattle.network_model.specs.declared.network.LinkSpec.{LinkSpec}
 use Rattle.network_model.specs.declared.step.Step.{Step}
 use Rattle.network_model.specs.declared.step.Step.TheVariants.{LinkUp, LinkDown, SetCost, Deliver, Publish, Release, Attach, Detach}
-use Rattle.script.specs.Words.{Text}
+use Rattle.texts.specs.Words.{Text, words_of}
+use Rattle.texts.specs.Lines.{lines_text}
 use Rattle.script.specs.Commands.{AsksStep}
-use Rattle.script.specs.Words.{words_of}
 use Rattle.script.specs.Directories.{Directory, name_text, neighbour_at, source_at}
 
 -- the routers at the ends of a link
@@ -46,8 +46,7 @@ step_text d links (Detach router prefix) = codes "detach " ++ home_text d router
 
 -- steps, a line each
 abbrev pub steps_text : Directory → List LinkSpec → List Step → Text
-steps_text d links [] = []
-steps_text d links (s ∷ ss) = (step_text d links s ++ 10 ∷ []) ++ steps_text d links ss
+steps_text d links steps = lines_text (step_text d links) steps
 
 -- a line says a step
 abbrev pub SaysStep : List Text → List LinkSpec → List (Prefix × ℕ × ℕ) → Text → Step → Type 0

@@ -3,7 +3,6 @@
 
 mod compare;
 mod fault;
-mod lines;
 mod read;
 mod step_text;
 mod write;

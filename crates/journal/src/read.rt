@@ -3,16 +3,16 @@
 ghost use Rattle.std.specs.Prelude.{◌≡◌, ◌≢◌, ◌⊎◌, ◌∷◌, Some, IfOk, IfErr, IfSome, IfNone, IsUtf8, slice_get};
 ghost use Rattle.journal.specs.declared.fault.JournalFault.TheVariants.{NoMemory as OutOfMemory};
 ghost use Rattle.journal.specs.declared.read.Version.{Version as Versions};
-ghost use Rattle.journal.specs.Lines.{lines_of};
-ghost use Rattle.journal.specs.Journal.{heading, IsJournal, IsFaultOf};
+ghost use Rattle.texts.specs.Lines.{lines_of};
+ghost use Rattle.journal.specs.Journal.{heading, IsJournal, IsJournalFault};
 
 use crate::fault::JournalFault;
-use crate::lines::next_line;
 use ipv4_prefix::Prefix;
 use metric::Cost;
 use network_model::{LinkSpec, Step};
 use script::{Names, parse_step};
 use std::alloc::Global;
+use texts::next_line;
 
 /// The first line of a journal.
 pub(crate) const HEADING: &str = "dualnet journal 2";
@@ -58,7 +58,7 @@ pub fn read_journal<'a>(
     ensures ok { IfOk result (λ j. IsJournal names.now links.now attachments.now text.now
         j.version j.steps.items j.report.now) }
     ensures err { IfErr result (λ e. (e ≡ OutOfMemory)
-        ⊎ IsFaultOf names.now links.now attachments.now text.now e) }
+        ⊎ IsJournalFault names.now links.now attachments.now text.now e) }
 {
     match str::from_utf8(text) {
         Ok(text) => read_text(alloc, names, links, attachments, text),
@@ -78,7 +78,7 @@ fn read_text<'a>(
     ensures ok { IfOk result (λ j. IsJournal names.now links.now attachments.now text.now
         j.version j.steps.items j.report.now) }
     ensures err { IfErr result (λ e. (e ≡ OutOfMemory)
-        ⊎ IsFaultOf names.now links.now attachments.now text.now e) }
+        ⊎ IsJournalFault names.now links.now attachments.now text.now e) }
 {
     let Some((version, mut rest)) = after_heading(text) else {
         return Err(JournalFault::BadLine { line: 1 });
@@ -106,7 +106,8 @@ fn read_text<'a>(
 // The version that the heading says, and what follows it; nothing where the first line is no heading.
 fn after_heading(text: &str) -> Option<(Version, &str)>
     ensures some { IfSome result (λ w. lines_of text.now ≡ heading w.0 ∷ lines_of w.1.now) }
-    ensures none { IfNone result ((v : Versions) → slice_get (lines_of text.now) 0 ≢ Some (heading v)) }
+    ensures none { IfNone result ((v : Versions)
+        → slice_get (lines_of text.now) 0 ≢ Some (heading v)) }
 {
     let (first, rest) = next_line(text)?;
     let version = headed_version(first)?;

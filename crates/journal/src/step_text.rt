@@ -19,7 +19,7 @@ pub struct StepText<'a> {
 }
 
 impl<'a> Model for StepText<'a> {
-    ghost use Rattle.script.specs.Words.{Text};
+    ghost use Rattle.texts.specs.Words.{Text};
     ghost use Rattle.journal.specs.Steps.{step_text};
 
     ghost Value = { Text };

@@ -1,15 +1,11 @@
 -- The law at rest: in a quiet network each router's successors lead along a cheapest way to an attached router.
-use Rattle.std.proofs.Common.{◌≡◌, ◌⊎◌, ℕ, zero, suc, ◌+◌, ◌*◌, ◌<◌, ◌≤◌, Bool, true, false, List, [], ◌∷◌, Option, Some, None, length, refl, ap, sym, inl, inr, arith, ◌∙◌, eq-eqb, lt-ltb}
-use Rattle.std.specs.Prelude.{slice_get, is_some, nat_lt, if◌then◌else◌}
-use Rattle.std.proofs.lemmas.Bool.{both_ways, cases_lt, false≢true}
+use Rattle.std.proofs.Common.{◌≡◌, ◌⊎◌, ℕ, zero, suc, ◌+◌, ◌*◌, ◌<◌, ◌≤◌, Bool, true, false, List, [], ◌∷◌, Option, Some, None, length, refl, ap, sym, inl, inr, arith, ◌∙◌, eq-eqb, lt-ltb, slice_get, is_some, nat_lt, if◌then◌else◌}
+use Rattle.network_model.proofs.Common.{both_ways, cases_lt, false≢true, Machine, distance, least, ways, port_count, at_home, home_ways, least-append, LinkEnd, State, NextHop, at_port, infinity, plus}
 use Rattle.network_model.specs.declared.machine.Neighbour.{Neighbour}
-use Rattle.network_model.specs.Machine.{Machine, distance, least, ways, degree, at_home, home_ways}
-use Rattle.network_model.proofs.MachineLaws.{least-append}
-use Rattle.metric.specs.Distance.{infinity, plus}
 use Rattle.machine_laws.specs.Laws.{is_up_at, reported_at}
-use Rattle.loop_freedom.specs.Network.{LinkEnd, Topology, State, IsWalk, NextHop, next_hop_of, at_port}
+use Rattle.loop_freedom.specs.Network.{Topology, IsEdgeWalk, next_hop_of}
 use Rattle.loop_freedom.proofs.Walks.{walk_map}
-use Rattle.least_cost.specs.Quiet.{LeadsHome, Follows, IsQuiet, IsHome, IsRouted, IsCutOff, IsOptimal, OptimalAtQuiet, walk_end, walk_cost}
+use Rattle.least_cost.specs.Quiet.{LeadsHome, Follows, IsQuiet, IsHome, IsRouted, IsCutOff, IsOptimal, OptimalAtQuiet, walk_end, edges_cost}
 use Rattle.machine_laws.proofs.Distances.{distance_cases, least_below}
 use Rattle.machine_laws.proofs.Successors.{port_successor_is, port_successor_none, port_successor_home}
 use Rattle.machine_laws.proofs.Lists.{append_within, append_last}
@@ -115,7 +111,7 @@ module _ (t : Topology) (n : ℕ) (s : State) (k : Kept t s) (q : IsQuiet t n s)
       omega (arith, (k.sound i).passive_least (q.passive i l), least-append (s.machine i).ports (home_ways (s.machine i).attachment), here, plus_under 0 c)
 
   -- no walk to an attached router costs less than the distance
-  walk_under : (i : ℕ) → i < n → (es : List LinkEnd) (w : LeadsHome t s i es) → rd i ≤ walk_cost s es + w.cost
+  walk_under : (i : ℕ) → i < n → (es : List LinkEnd) (w : LeadsHome t s i es) → rd i ≤ edges_cost s es + w.cost
   unfolding rd
   walk_under i l [] w = omega (arith, home_under i w.cost l w.home)
   walk_under i l (e ∷ es) w =
@@ -132,7 +128,7 @@ module _ (t : Topology) (n : ℕ) (s : State) (k : Kept t s) (q : IsQuiet t n s)
     adds : rd i ≡ s.cost place + rd (t.far place).router
 
   -- a router that is not out of reach, whose successor is a port, hops to it
-  hop_by : (i p : ℕ) → i < n → p < degree (s.machine i) → rd i < infinity → (s.machine i).successor ≡ Some p → Hop i
+  hop_by : (i p : ℕ) → i < n → p < port_count (s.machine i) → rd i < infinity → (s.machine i).successor ≡ Some p → Hop i
   unfolding rd
   hop_by i p l far b h = record {
     place = at_port i p;
@@ -172,14 +168,14 @@ module _ (t : Topology) (n : ℕ) (s : State) (k : Kept t s) (q : IsQuiet t n s)
     at : rd i ≡ cost
 
   -- a router that is not out of reach, whose successor is no port, is at its attachment
-  home_by : (i p : ℕ) → i < n → degree (s.machine i) ≤ p → rd i < infinity → (s.machine i).successor ≡ Some p → Home i
+  home_by : (i p : ℕ) → i < n → port_count (s.machine i) ≤ p → rd i < infinity → (s.machine i).successor ≡ Some p → Home i
   unfolding rd
   home_by i p l past b h = go (s.machine i).attachment refl ((k.sound i).successor_attached chosen)
     where
-      last : p ≡ degree (s.machine i)
+      last : p ≡ port_count (s.machine i)
       last = omega (arith, past, (k.sound i).successor_within p h)
 
-      chosen : (s.machine i).successor ≡ Some (degree (s.machine i))
+      chosen : (s.machine i).successor ≡ Some (port_count (s.machine i))
       chosen = h ∙ ap (λ (x : ℕ). Some x) last
 
       at_cost : (c : ℕ) → ((◌≡◌ {A = Bool} true true) × (distance (at_home c) ≡ 0 + c) × (distance (at_home c) < infinity)) ⊎ (distance (at_home c) ≡ infinity)
@@ -190,15 +186,15 @@ module _ (t : Topology) (n : ℕ) (s : State) (k : Kept t s) (q : IsQuiet t n s)
       go : (a : Option ℕ) → (s.machine i).attachment ≡ a → is_some (s.machine i).attachment ≡ true → Home i
       go None e some = absurd (false≢true (rw e at some))
       go (Some c) e some =
-          let here : slice_get (ways (s.machine i)) (degree (s.machine i)) ≡ Some (at_home c) = rw e (append_last (s.machine i).ports (at_home c)) in
-          let attains = (k.sound i).passive_attains (degree (s.machine i)) (at_home c) (q.passive i l) chosen here ∙ sym ((k.sound i).passive_least (q.passive i l)) in
+          let here : slice_get (ways (s.machine i)) (port_count (s.machine i)) ≡ Some (at_home c) = rw e (append_last (s.machine i).ports (at_home c)) in
+          let attains = (k.sound i).passive_attains (port_count (s.machine i)) (at_home c) (q.passive i l) chosen here ∙ sym ((k.sound i).passive_least (q.passive i l)) in
           record { cost = c; is_home = record { attached = e; chosen = chosen; no_next_hop = q.published_is i l ∙ ap (next_hop_of (λ x. s.seen (at_port i x))) (port_successor_home (s.machine i) chosen) }; at = at_cost c (distance_cases (at_home c)) attains }
 
   -- a router with a successor that is not out of reach hops to it, or is at its attachment
   hop_or_home : (i p : ℕ) → i < n → rd i < infinity → (s.machine i).successor ≡ Some p → (Hop i) ⊎ (Home i)
-  hop_or_home i p l b h = go (cases_lt p (degree (s.machine i)))
+  hop_or_home i p l b h = go (cases_lt p (port_count (s.machine i)))
     where
-      go : (p < degree (s.machine i)) ⊎ (degree (s.machine i) ≤ p) → (Hop i) ⊎ (Home i)
+      go : (p < port_count (s.machine i)) ⊎ (port_count (s.machine i) ≤ p) → (Hop i) ⊎ (Home i)
       go (inl f) = inl (hop_by i p l f b h)
       go (inr f) = inr (home_by i p l f b h)
 
@@ -214,10 +210,10 @@ module _ (t : Topology) (n : ℕ) (s : State) (k : Kept t s) (q : IsQuiet t n s)
   -- links followed from router i lead to a router at its attachment, at the distance of i, past no more routers than are nearer
   record Chain (i : ℕ) : Type 0 where
     places : List LinkEnd
-    follows : IsWalk t (Follows s) i places
+    follows : IsEdgeWalk t (Follows s) i places
     cost : ℕ
     reaches : IsHome s (walk_end t i places) cost
-    cost_is : walk_cost s places + cost ≡ rd i
+    cost_is : edges_cost s places + cost ≡ rd i
     few_hops : length places ≤ count_below rd (rd i) n
     near : rd i ≤ 65535 + 65535 * count_below rd (rd i) n
 
@@ -296,9 +292,9 @@ module _ (t : Topology) (n : ℕ) (s : State) (k : Kept t s) (q : IsQuiet t n s)
   -- a router with a successor is not out of reach
   successor_reached : (i p : ℕ) → i < n → (s.machine i).successor ≡ Some p → rd i < infinity
   unfolding rd
-  successor_reached i p l h = go (cases_lt p (degree (s.machine i)))
+  successor_reached i p l h = go (cases_lt p (port_count (s.machine i)))
     where
-      by_port : p < degree (s.machine i) → (s.machine i).rd < infinity
+      by_port : p < port_count (s.machine i) → (s.machine i).rd < infinity
       by_port f =
           let on = (k.sound i).successor_up p h f in
           let v = k.up_valid (at_port i p) on in
@@ -310,10 +306,10 @@ module _ (t : Topology) (n : ℕ) (s : State) (k : Kept t s) (q : IsQuiet t n s)
       by_home None e some = absurd (false≢true (rw e at some))
       by_home (Some c) e some = omega (arith, home_under i c l e, cheap_home i c l e)
 
-      go : (p < degree (s.machine i)) ⊎ (degree (s.machine i) ≤ p) → (s.machine i).rd < infinity
+      go : (p < port_count (s.machine i)) ⊎ (port_count (s.machine i) ≤ p) → (s.machine i).rd < infinity
       go (inl f) = by_port f
       go (inr f) =
-          let last : p ≡ degree (s.machine i) = omega (arith, f, (k.sound i).successor_within p h) in
+          let last : p ≡ port_count (s.machine i) = omega (arith, f, (k.sound i).successor_within p h) in
           by_home (s.machine i).attachment refl ((k.sound i).successor_attached (h ∙ ap (λ (x : ℕ). Some x) last))
 
   -- a router that is out of reach is cut off

@@ -1,8 +1,6 @@
 -- How many of the first numbers have a value below a bound.
-use Rattle.std.proofs.Common.{◌≡◌, ◌⊎◌, ℕ, zero, suc, ◌+◌, ◌<◌, ◌≤◌, Bool, true, false, refl, inl, inr, arith, ltb-true, lt-ltb}
-use Rattle.std.specs.Prelude.{nat_lt}
-use Rattle.std.proofs.lemmas.Bool.{both_ways, cases_eq}
-use Rattle.machine_laws.specs.Laws.{one_if}
+use Rattle.std.proofs.Common.{◌≡◌, ◌⊎◌, ℕ, zero, suc, ◌+◌, ◌<◌, ◌≤◌, Bool, true, false, refl, inl, inr, arith, ltb-true, lt-ltb, nat_lt}
+use Rattle.network_model.proofs.Common.{both_ways, cases_eq, one_if}
 
 -- how many numbers below n have a value below d
 abbrev pub count_below : (ℕ → ℕ) → ℕ → ℕ → ℕ

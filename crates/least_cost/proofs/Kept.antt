@@ -1,9 +1,9 @@
 -- What every state of a run keeps of each link and of what its ends were told.
 use Rattle.std.proofs.Common.{◌≡◌, ℕ, zero, suc, ◌<◌, ◌≤◌, Bool, true, false, List, [], ◌∷◌, ◌++◌, length, refl, ap, sym, arith, ◌∙◌}
 use Rattle.network_model.specs.declared.machine.Outgoing.{Outgoing}
-use Rattle.metric.specs.Distance.{infinity}
+use Rattle.network_model.proofs.Common.{LinkEnd, SeenItem, SeenHeld, State, infinity}
 use Rattle.machine_laws.specs.Laws.{is_up_at, IsSound}
-use Rattle.loop_freedom.specs.Network.{LinkEnd, Topology, Item, Held, State, SameMachines, SameInboxes, SameLinks, SameCosts, SameHeld, held_for}
+use Rattle.loop_freedom.specs.Network.{Topology, SameMachines, SameInboxes, SameLinks, SameCosts, SameHeld, held_for}
 use Rattle.machine_laws.proofs.Sends.{EachSend}
 use Rattle.least_cost.proofs.Replay.{Port, Fits, replay, port_in, session_rises, session_down}
 use Rattle.least_cost.proofs.Told.{last_held, expected}
@@ -11,7 +11,7 @@ use Rattle.least_cost.proofs.Told.{last_held, expected}
 -- a link as one end has it, and as it is
 pub record Line : Type 0 where
   pub port : Port
-  pub inbox : List Item
+  pub inbox : List SeenItem
   pub up : Bool
   pub session : ℕ
   pub cost : ℕ
@@ -37,26 +37,26 @@ abbrev pub line : State → LinkEnd → Line
 line s e = record { port = port_at s e; inbox = s.inbox e; up = s.up e; session = s.session e; cost = s.cost e }
 
 -- what is held at place e: ripe first, then unripe
-abbrev pub held : State → LinkEnd → List Held
+abbrev pub held : State → LinkEnd → List SeenHeld
 held s e = s.ripe e ++ s.unripe e
 
 -- held for no later session than n, and with no value above infinity
-pub record IsRecent (n : ℕ) (h : Held) : Type 0 where
+pub record IsRecent (n : ℕ) (h : SeenHeld) : Type 0 where
   pub past : h.session ≤ n
   pub bounded : h.message.value ≤ infinity
 
 -- all that is held is for no later session, with no value above infinity
-abbrev pub AllRecent : ℕ → List Held → Type 0
+abbrev pub AllRecent : ℕ → List SeenHeld → Type 0
 AllRecent n [] = Unit {0}
 AllRecent n (h ∷ hs) = (IsRecent n h) × (AllRecent n hs)
 
 -- two such lists are such a list in a row
-pub recent_append : (n : ℕ) (xs ys : List Held) → AllRecent n xs → AllRecent n ys → AllRecent n (xs ++ ys)
+pub recent_append : (n : ℕ) (xs ys : List SeenHeld) → AllRecent n xs → AllRecent n ys → AllRecent n (xs ++ ys)
 recent_append n [] ys f g = g
 recent_append n (x ∷ xs) ys f g = (f.0, recent_append n xs ys f.1 g)
 
 -- what is held for no later session than n is held for none later than k
-pub recent_more : (n k : ℕ) (xs : List Held) → n ≤ k → AllRecent n xs → AllRecent k xs
+pub recent_more : (n k : ℕ) (xs : List SeenHeld) → n ≤ k → AllRecent n xs → AllRecent k xs
 recent_more n k [] l f = tt
 recent_more n k (x ∷ xs) l f = (record { past = omega (arith, l, f.0.past); bounded = f.0.bounded }, recent_more n k xs l f.1)
 

@@ -1,6 +1,7 @@
 pub mod Replay
 pub mod Told
 pub mod Kept
+pub mod Meeting
 pub mod Takes
 pub mod TakesAtHome
 pub mod Releases

@@ -1,9 +1,7 @@
 -- Steps in which a link comes up, goes down or changes its cost keep the state.
-use Rattle.std.proofs.Common.{◌≡◌, ◌⊎◌, ℕ, suc, ◌<◌, Bool, true, false, List, [], ◌∷◌, refl, ap, sym, inl, inr, arith, subst, ◌∙◌, ne_eqb}
-use Rattle.std.specs.Prelude.{if◌then◌else◌}
-use Rattle.std.proofs.lemmas.Bool.{both_ways}
-use Rattle.metric.specs.Distance.{infinity}
-use Rattle.loop_freedom.specs.Network.{LinkEnd, Topology, UpNotice, DownNotice, CostNotice, Held, State, LinkUp, LinkDown, SetCost, IsEnd, notices}
+use Rattle.std.proofs.Common.{◌≡◌, ◌⊎◌, ℕ, suc, ◌<◌, Bool, true, false, List, [], ◌∷◌, refl, ap, sym, inl, inr, arith, subst, ◌∙◌, ne_eqb, if◌then◌else◌}
+use Rattle.network_model.proofs.Common.{both_ways, infinity, LinkEnd, UpNotice, DownNotice, CostNotice, SeenHeld, State}
+use Rattle.loop_freedom.specs.Network.{Topology, LinkUp, LinkDown, SetCost, IsEnd, notices}
 use Rattle.loop_freedom.proofs.Ends.{place_cases, end_cases, end_far, end_near, end_valid}
 use Rattle.least_cost.proofs.Replay.{Fits, Alike, replay, port_after, replay_append, fits_append, notices_alike, notices_fit}
 use Rattle.least_cost.proofs.Told.{last_held, expected_past}
@@ -18,7 +16,7 @@ end_up_is t s a e b k v u (inl h) = ap s.up h ∙ u
 end_up_is t s a e b k v u (inr h) = ap s.up h ∙ k.ends_up a v ∙ u
 
 -- nothing is held for a session to come
-last_none : (n k v : ℕ) (hs : List Held) → AllRecent n hs → n < k → last_held k v hs ≡ v
+last_none : (n k v : ℕ) (hs : List SeenHeld) → AllRecent n hs → n < k → last_held k v hs ≡ v
 last_none n k v [] f l = refl
 last_none n k v (h ∷ hs) f l = ap (λ b. last_held k (if b then h.message.value else v) hs) (ne_eqb h.session k (λ e. omega (arith, e, l, f.0.past))) ∙ last_none n k v hs f.1 l
 

@@ -1,16 +1,14 @@
 -- A step in which a held message is released keeps the state.
-use Rattle.std.proofs.Common.{◌≡◌, ◌⊎◌, Bool, true, false, ◌&&◌, [], ◌∷◌, ◌++◌, refl, ap, sym, inl, inr, subst, ◌∙◌}
-use Rattle.std.specs.Prelude.{◌==◌, if◌then◌else◌}
-use Rattle.std.proofs.lemmas.Bool.{and_parts}
-use Rattle.std.proofs.lemmas.List.{append-nil}
-use Rattle.loop_freedom.specs.Network.{LinkEnd, Topology, Item, Reported, State, Release}
+use Rattle.std.proofs.Common.{◌≡◌, ◌⊎◌, Bool, true, false, ◌&&◌, [], ◌∷◌, ◌++◌, refl, ap, sym, inl, inr, subst, ◌∙◌, ◌==◌, if◌then◌else◌, append-nil}
+use Rattle.network_model.proofs.Common.{and_parts, LinkEnd, SeenItem, Reported, State}
+use Rattle.loop_freedom.specs.Network.{Topology, Release}
 use Rattle.loop_freedom.proofs.Ends.{place_cases}
 use Rattle.least_cost.proofs.Replay.{Fits, FitsOne, port_after, replay_append, fits_append}
 use Rattle.least_cost.proofs.Told.{last_held}
 use Rattle.least_cost.proofs.Kept.{Line, LineKept, pending, line, held, IsRecent, AllRecent, Sees, Kept, far_same, line_same, sees_same, port_same, kept_links, ends_up_same, ends_session_same}
 
 -- a port at which one more item waits, that fits, will be as the item leaves it
-pub line_gains : (l r : Line) (x : Item) → r.port ≡ l.port → r.inbox ≡ l.inbox ++ x ∷ [] → LineKept l → FitsOne x (pending l) → (Fits r.inbox r.port) × (pending r ≡ port_after x (pending l))
+pub line_gains : (l r : Line) (x : SeenItem) → r.port ≡ l.port → r.inbox ≡ l.inbox ++ x ∷ [] → LineKept l → FitsOne x (pending l) → (Fits r.inbox r.port) × (pending r ≡ port_after x (pending l))
 line_gains l r x hp hi k f = rw (hp, hi) (fits_append l.inbox (x ∷ []) l.port k.fits (f, tt), replay_append l.inbox (x ∷ []) l.port)
 
 -- ---- a message is released

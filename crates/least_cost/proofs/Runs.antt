@@ -1,11 +1,9 @@
 -- Every state of a run from an opening is kept.
-use Rattle.std.proofs.Common.{◌≡◌, ◌⊎◌, inl, inr, ℕ, false, List, ◌++◌, Option, Some, None, refl, sym, arith, ◌∙◌}
-use Rattle.std.specs.Prelude.{slice_get}
-use Rattle.std.proofs.lemmas.Bool.{both_ways, cases_eq}
-use Rattle.std.proofs.lemmas.List.{append-nil}
+use Rattle.std.proofs.Common.{◌≡◌, ◌⊎◌, inl, inr, ℕ, false, List, ◌++◌, Option, Some, None, refl, sym, arith, ◌∙◌, slice_get, append-nil}
+use Rattle.network_model.proofs.Common.{both_ways, cases_eq, LinkEnd, State}
 use Rattle.network_model.specs.declared.machine.Neighbour.{Neighbour}
 use Rattle.machine_laws.specs.Laws.{test_at, is_up_at}
-use Rattle.loop_freedom.specs.Network.{LinkEnd, Topology, State, Publish, Skip, Step, Takes, TakesAtHome, Publishes, Releases, LinkComes, LinkGoes, CostChanges, Skips, Run, Start, Then, OpeningPorts, Opening}
+use Rattle.loop_freedom.specs.Network.{Topology, Publish, Skip, Step, Takes, TakesAtHome, Publishes, Releases, LinkComes, LinkGoes, CostChanges, Skips, Run, Start, Then, OpeningPorts, Opening}
 use Rattle.machine_laws.proofs.Distances.{AllSound}
 use Rattle.machine_laws.proofs.Opened.{opened_sound}
 use Rattle.least_cost.proofs.Kept.{held, Kept, kept_same}

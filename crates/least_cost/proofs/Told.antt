@@ -1,15 +1,10 @@
 -- What a neighbour was told last: the distance, once it has taken all that is sent to it.
-use Rattle.std.proofs.Common.{◌≡◌, ◌≢◌, ◌⊎◌, ℕ, zero, suc, ◌<◌, ◌≤◌, Bool, true, false, List, [], ◌∷◌, ◌++◌, Some, refl, ap, sym, inl, inr, arith, ◌∙◌, eqb-true, eq-eqb, ne_eqb}
-use Rattle.std.specs.Prelude.{◌==◌, if◌then◌else◌}
-use Rattle.std.proofs.lemmas.Bool.{cases_eq}
-use Rattle.std.proofs.lemmas.Option.{none-some}
+use Rattle.std.proofs.Common.{◌≡◌, ◌≢◌, ◌⊎◌, ℕ, zero, suc, ◌<◌, ◌≤◌, Bool, true, false, List, [], ◌∷◌, ◌++◌, Some, refl, ap, sym, inl, inr, arith, ◌∙◌, eqb-true, eq-eqb, ne_eqb, ◌==◌, if◌then◌else◌}
+use Rattle.network_model.proofs.Common.{cases_eq, none-some, Update, Machine, one_to, greeting, reaction, SeenHeld, infinity}
 use Rattle.network_model.specs.declared.machine.Event.{Event}
-use Rattle.metric.specs.declared.kind.Kind.TheVariants.{Update}
-use Rattle.network_model.specs.Machine.{Machine, one_to, greeting, reaction}
 use Rattle.network_model.specs.declared.machine.Outgoing.{Outgoing}
-use Rattle.metric.specs.Distance.{infinity}
 use Rattle.machine_laws.specs.Laws.{sent_to, is_up_at, Meets, IsSound}
-use Rattle.loop_freedom.specs.Network.{Held, held_for}
+use Rattle.loop_freedom.specs.Network.{held_for}
 use Rattle.machine_laws.proofs.Sends.{EachSend, eqb_same}
 use Rattle.machine_laws.proofs.Sending.{sends_distance, tells_all}
 
@@ -19,12 +14,12 @@ last_sent v [] = v
 last_sent v (s ∷ ss) = last_sent s.value ss
 
 -- the last value that is held for session n, after v
-abbrev pub last_held : ℕ → ℕ → List Held → ℕ
+abbrev pub last_held : ℕ → ℕ → List SeenHeld → ℕ
 last_held n v [] = v
 last_held n v (h ∷ hs) = last_held n (if h.session == n then h.message.value else v) hs
 
 -- the last value held in two lists in a row is the last of the second, after that of the first
-pub last_append : (n v : ℕ) (xs ys : List Held) → last_held n v (xs ++ ys) ≡ last_held n (last_held n v xs) ys
+pub last_append : (n v : ℕ) (xs ys : List SeenHeld) → last_held n v (xs ++ ys) ≡ last_held n (last_held n v xs) ys
 last_append n v [] ys = refl
 last_append n v (h ∷ xs) ys = last_append n (if h.session == n then h.message.value else v) xs ys
 

@@ -1,6 +1,5 @@
 -- What a call on a link answers, by what its tests found.
-use Rattle.std.proofs.Common.{◌≡◌, ℕ, zero, suc, ◌<◌, Bool, List, [], ◌∷◌, arith, Result, Ok, Err, length, sym, subst}
-use Rattle.std.specs.Prelude.{IfSome, MatchBool, OnOk, OnErr, IfNone, Option, Some, None, slice_get}
+use Rattle.std.proofs.Common.{◌≡◌, ℕ, zero, suc, ◌<◌, Bool, List, [], ◌∷◌, arith, Result, Ok, Err, length, sym, subst, IfSome, MatchBool, OnOk, OnErr, IfNone, Option, Some, None, slice_get}
 use Rattle.std.specs.Option.{ok_or}
 use Rattle.network_model.specs.World.{Link}
 use Rattle.network_model.specs.Step.{is_up_in}

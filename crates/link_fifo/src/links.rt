@@ -78,7 +78,8 @@ impl<S: Allocator> Links<S> {
     /// The router at an end of the link.
     pub fn router(&self, link: u16, end: End) -> u16
         requires known { link < length self.now.links }
-        ensures router { IfSome (slice_get self.now.links link) (λ k. result ≡ (world.side end k).router) }
+        ensures router { IfSome (slice_get self.now.links link)
+            (λ k. result ≡ (world.side end k).router) }
     {
         self.links[usize::from(link)].router(end)
     }
@@ -86,7 +87,8 @@ impl<S: Allocator> Links<S> {
     /// The cost of the link from one end, which it keeps while it is down.
     pub fn cost(&self, link: u16, end: End) -> Cost
         requires known { link < length self.now.links }
-        ensures cost { IfSome (slice_get self.now.links link) (λ k. result ≡ (world.side end k).cost) }
+        ensures cost { IfSome (slice_get self.now.links link)
+            (λ k. result ≡ (world.side end k).cost) }
     {
         self.links[usize::from(link)].cost(end)
     }
@@ -94,7 +96,8 @@ impl<S: Allocator> Links<S> {
     /// How many items the end `to` has yet to take.
     pub fn queued(&self, link: u16, to: End) -> usize
         requires known { link < length self.now.links }
-        ensures queued { IfSome (slice_get self.now.links link) (λ k. result ≡ length (world.side to k).inbox) }
+        ensures queued { IfSome (slice_get self.now.links link)
+            (λ k. result ≡ length (world.side to k).inbox) }
     {
         self.links[usize::from(link)].queued(to)
     }
@@ -102,10 +105,12 @@ impl<S: Allocator> Links<S> {
     /// The link comes up in its next session, and each end is told so with the cost from there. Refused
     /// with `UnknownLink`, `AlreadyUp`, `SessionsSpent` and `NoMemory`, in this order.
     pub fn up(&mut self, link: u16) -> Result<(), LinkRefusal>
-        ensures ok { OnOk result (self.new.links ≡ changed_at link step.link_come_up self.old.links) }
+        ensures ok { OnOk result (self.new.links
+            ≡ changed_at link step.link_come_up self.old.links) }
         ensures err { OnErr result (self.new.links ≡ self.old.links) }
         ensures cause { IsDoneUnless (refusal_to_come_up self.old.links link) result }
-        ensures full { result ≡ Err OutOfMemory → (room_at self.old link A ≡ 0) ⊎ (room_at self.old link B ≡ 0) }
+        ensures full { result ≡ Err OutOfMemory → (room_at self.old link A ≡ 0)
+            ⊎ (room_at self.old link B ≡ 0) }
         ensures room { KeepsRooms 1 self.old self.new }
     {
         if usize::from(link) >= self.len() {
@@ -124,10 +129,12 @@ impl<S: Allocator> Links<S> {
     /// The link goes down: the messages on it are lost, the notices stay in order, and each end is told.
     /// Refused with `UnknownLink`, `IsDown` and `NoMemory`, in this order.
     pub fn down(&mut self, link: u16) -> Result<(), LinkRefusal>
-        ensures ok { OnOk result (self.new.links ≡ changed_at link step.link_gone_down self.old.links) }
+        ensures ok { OnOk result (self.new.links
+            ≡ changed_at link step.link_gone_down self.old.links) }
         ensures err { OnErr result (self.new.links ≡ self.old.links) }
         ensures cause { IsDoneUnless (refusal_to_change self.old.links link) result }
-        ensures full { result ≡ Err OutOfMemory → (room_at self.old link A ≡ 0) ⊎ (room_at self.old link B ≡ 0) }
+        ensures full { result ≡ Err OutOfMemory → (room_at self.old link A ≡ 0)
+            ⊎ (room_at self.old link B ≡ 0) }
         ensures room { KeepsRooms 1 self.old self.new }
     {
         if usize::from(link) >= self.len() {
@@ -143,7 +150,8 @@ impl<S: Allocator> Links<S> {
     /// The link has another cost from this end, which is told it. Refused with `UnknownLink`, `IsDown`
     /// and `NoMemory`, in this order.
     pub fn set_cost(&mut self, link: u16, end: End, cost: Cost) -> Result<(), LinkRefusal>
-        ensures ok { OnOk result (self.new.links ≡ changed_at link (step.with_cost cost end) self.old.links) }
+        ensures ok { OnOk result (self.new.links
+            ≡ changed_at link (step.with_cost cost end) self.old.links) }
         ensures err { OnErr result (self.new.links ≡ self.old.links) }
         ensures cause { IsDoneUnless (refusal_to_change self.old.links link) result }
         ensures full { result ≡ Err OutOfMemory → room_at self.old link end ≡ 0 }
@@ -162,7 +170,8 @@ impl<S: Allocator> Links<S> {
     // Whether the link is up in this session.
     fn is_up_in(&self, link: u16, session: u16) -> bool
         requires known { link < length self.now.links }
-        ensures answer { IfSome (slice_get self.now.links link) (λ k. result ≡ step.is_up_in session k) }
+        ensures answer { IfSome (slice_get self.now.links link)
+            (λ k. result ≡ step.is_up_in session k) }
     {
         self.links[usize::from(link)].is_up_in(session)
     }
@@ -178,7 +187,8 @@ impl<S: Allocator> Links<S> {
         message: Message,
     ) -> Result<Put, LinkRefusal>
         ensures ok { let held = sent_in session message in
-            OnOk result (self.new.links ≡ changed_at link (step.with_message held from) self.old.links) }
+            OnOk result (self.new.links ≡ changed_at link
+            (step.with_message held from) self.old.links) }
         ensures err { OnErr result (self.new.links ≡ self.old.links) }
         ensures answer { AnswersPut session (slice_get self.old.links link) result }
         ensures full { result ≡ Err OutOfMemory → room_at self.old link (world.other from) ≡ 0 }
@@ -208,7 +218,8 @@ impl<S: Allocator> Links<S> {
     /// Takes the front item towards the end `to`. Refused with `UnknownLink` and `NothingToDeliver`.
     pub fn take(&mut self, link: u16, to: End) -> Result<Item, LinkRefusal>
         ensures answer { result ≡ front_of to (slice_get self.old.links link) }
-        ensures ok { OnOk result (self.new.links ≡ changed_at link (step.with_front_taken to) self.old.links) }
+        ensures ok { OnOk result (self.new.links
+            ≡ changed_at link (step.with_front_taken to) self.old.links) }
         ensures err { OnErr result (self.new.links ≡ self.old.links) }
         ensures room { KeepsRooms 0 self.old self.new }
     {

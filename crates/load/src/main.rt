@@ -6,7 +6,7 @@
 ghost use Rattle.std.specs.Prelude.{◌≡◌, ◌+◌, ◌<◌, ◌≤◌, ◌∷◌, [], length, IfOk};
 ghost use Rattle.publication.specs.Lists.{opening_of};
 
-use forwarder::{ForwardPort, ImageReader, Job, Naming};
+use forwarder::{FabricName, ForwardPort, ImageReader, Job};
 use network_model::{Entry, Prefix};
 use publication::{ImageWriter, Patch, Told, Unnamed, open};
 use std::alloc::{AllocError, Global};
@@ -21,7 +21,7 @@ use tree_bitmap::Image;
 use tree_bitmap::parts::{empty, set_row};
 
 fn main(rt: HostRuntime) -> ExitCode {
-    let (workers, answers) = asked(&rt);
+    let (workers, answers) = read_numbers(&rt);
     let (alloc, unnamed) = (rt.alloc(), Unnamed::new());
     let Ok(image) = table(alloc) else {
         return ExitCode::from(2);
@@ -37,7 +37,7 @@ fn main(rt: HostRuntime) -> ExitCode {
 }
 
 // The numbers of workers and of jobs for each; 1 and 1000 where they are not asked for.
-fn asked(rt: &HostRuntime) -> (u8, u32) {
+fn read_numbers(rt: &HostRuntime) -> (u8, u32) {
     let mut numbers = (1, 1000);
     let Ok(args) = env::args(rt) else {
         return numbers;
@@ -74,12 +74,12 @@ fn table(alloc: Global) -> Result<Image, network_model::NoMemory>
 
 // A worker, and how many jobs it answered.
 #[derive(Drop)]
-struct Lane<B: Naming> {
+struct Lane<B: FabricName> {
     port: ForwardPort<B>,
     answered: u64,
 }
 
-impl<B: Naming> Lane<B> {
+impl<B: FabricName> Lane<B> {
     // Answers so many jobs, each for another address below 10.0.0.0/8.
     fn run(&mut self, told: &Told<B>, answers: u32)
         ensures few { self.new.answered ≤ self.old.answered + answers }
@@ -102,7 +102,10 @@ impl<B: Naming> Lane<B> {
 }
 
 // A port of a fabric's only router.
-fn port_of<B: Naming>(alloc: Global, reader: ImageReader<B>) -> Result<ForwardPort<B>, AllocError>
+fn port_of<B: FabricName>(
+    alloc: Global,
+    reader: ImageReader<B>,
+) -> Result<ForwardPort<B>, AllocError>
     requires { length B.books ≡ 1 }
 {
     let first = reader.view().router();
@@ -116,7 +119,7 @@ fn port_of<B: Naming>(alloc: Global, reader: ImageReader<B>) -> Result<ForwardPo
 }
 
 // A lane for each reader.
-fn lanes_of<B: Naming>(
+fn lanes_of<B: FabricName>(
     alloc: Global,
     readers: Vec<ImageReader<B>>,
 ) -> Result<Vec<Lane<B>>, AllocError>
@@ -131,7 +134,7 @@ fn lanes_of<B: Naming>(
 }
 
 // Publishes one row of 10.0.0.0/8 or another until it is told to stop. How often it did.
-fn publish_until<B: Naming, R: Wait>(
+fn publish_until<B: FabricName, R: Wait>(
     rt: &R,
     alloc: Global,
     writer: &mut ImageWriter<B>,
@@ -165,7 +168,7 @@ fn publish_until<B: Naming, R: Wait>(
 }
 
 // How many jobs were answered, and how often the writer published; none without memory.
-fn measure<B: Naming + Send + Sync, R: Threads + Wait + Sync>(
+fn measure<B: FabricName + Send + Sync, R: Threads + Wait + Sync>(
     rt: &R,
     alloc: Global,
     unnamed: Unnamed,

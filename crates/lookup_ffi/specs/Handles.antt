@@ -9,5 +9,5 @@ held true image = Some image
 held false image = None
 
 -- the image that a handle holds, if any
-abbrev pub image_of : ImageHandle → Option Image
-image_of h = held h.holds h.value
+abbrev pub handle_image : ImageHandle → Option Image
+handle_image h = held h.holds h.value

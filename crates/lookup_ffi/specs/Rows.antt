@@ -16,17 +16,17 @@ row_fault r =
     else Some HostBits
 
 -- where packets go by a row: 0 is local, 1 via a port in a session, 2 unreachable
-abbrev pub entry_of : Row → Entry
-entry_of r = if r.kind == 0 then Local else if r.kind == 1 then Via r.port r.session else Unreachable
+abbrev pub row_target : Row → Entry
+row_target r = if r.kind == 0 then Local else if r.kind == 1 then Via r.port r.session else Unreachable
 
 -- the prefix and the entry of a row
 abbrev pub row_entry : Row → Prefix × Entry
-row_entry r = (record { addr = r.addr; len = r.len }, entry_of r)
+row_entry r = (record { addr = r.addr; len = r.len }, row_target r)
 
 -- the fault of the first row that has one
-abbrev pub first_fault : List Row → Option Fault
-first_fault [] = None
-first_fault (r ∷ rs) = first_of (row_fault r) (first_fault rs) where
+abbrev pub first_row_fault : List Row → Option Fault
+first_row_fault [] = None
+first_row_fault (r ∷ rs) = first_of (row_fault r) (first_row_fault rs) where
   first_of : Option Fault → Option Fault → Option Fault
   first_of None other = other
   first_of (Some f) other = Some f

@@ -26,11 +26,11 @@ impl Model for ImageHandle {
 }
 
 impl ImageHandle {
-    ghost use Rattle.lookup_ffi.specs.Handles.{image_of};
+    ghost use Rattle.lookup_ffi.specs.Handles.{handle_image};
 
     /// A handle that holds no image.
     pub fn none(alloc: Global) -> ImageHandle
-        ensures { image_of result ≡ None }
+        ensures { handle_image result ≡ None }
     {
         ImageHandle {
             image: null_mut(),
@@ -41,7 +41,7 @@ impl ImageHandle {
 
     // A handle that holds this image.
     fn of(image: Box<Shared>) -> ImageHandle
-        ensures { image_of result ≡ Some image.value }
+        ensures { handle_image result ≡ Some image.value }
     {
         let (ptr, alloc) = Box::into_raw_with_allocator(image);
         ImageHandle {
@@ -53,7 +53,8 @@ impl ImageHandle {
 
     // The image that the handle holds, if any.
     fn into_box(self) -> Option<Box<Shared>>
-        ensures { MatchOption result (image_of self ≡ None) (λ b. image_of self ≡ Some b.value) }
+        ensures { MatchOption result (handle_image self ≡ None)
+            (λ b. handle_image self ≡ Some b.value) }
     {
         let ImageHandle {
             image,
@@ -69,15 +70,16 @@ impl ImageHandle {
 
     /// Takes the image out of the handle, which then holds none.
     pub fn take(&mut self, alloc: Global) -> Option<Box<Shared>>
-        ensures taken { MatchOption result (image_of self.old ≡ None) (λ b. image_of self.old ≡ Some b.value) }
-        ensures empty { image_of self.new ≡ None }
+        ensures taken { MatchOption result (handle_image self.old ≡ None)
+            (λ b. handle_image self.old ≡ Some b.value) }
+        ensures empty { handle_image self.new ≡ None }
     {
         replace(self, ImageHandle::none(alloc)).into_box()
     }
 
     /// Puts an image into the handle. The one that it held is freed.
     pub fn put(&mut self, image: Box<Shared>)
-        ensures { image_of self.new ≡ Some image.value }
+        ensures { handle_image self.new ≡ Some image.value }
     {
         *self = ImageHandle::of(image);
     }

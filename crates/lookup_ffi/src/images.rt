@@ -2,7 +2,7 @@
 
 ghost use Rattle.std.specs.Prelude.{◌≡◌, None, IfOk, IsOkUnless, map};
 ghost use Rattle.lookup_ffi.specs.Images.{new_image};
-ghost use Rattle.lookup_ffi.specs.Rows.{row_entry, first_fault};
+ghost use Rattle.lookup_ffi.specs.Rows.{row_entry, first_row_fault};
 
 use crate::fault::Fault;
 use crate::row::Row;
@@ -13,7 +13,7 @@ use tree_bitmap::parts::{empty, set_rows};
 
 /// An image of generation 0 of these rows, set in order.
 pub fn image_of_rows(alloc: Global, rows: &[Row]) -> Result<Box<Shared>, Fault>
-    requires { first_fault rows.now ≡ None }
+    requires { first_row_fault rows.now ≡ None }
     ensures ok { IfOk result (λ image. image.value ≡ new_image (map row_entry rows.now)) }
     ensures err { IsOkUnless result Fault.NoMemory }
 {

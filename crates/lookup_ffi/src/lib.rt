@@ -6,12 +6,12 @@
 
 ghost use Rattle.std.specs.Prelude.{◌≡◌, ◌≢◌, ◌<◌, None, Some, OnOk, OnErr, IfErr, IfSome, IfNone, length, map};
 ghost use Rattle.std.specs.Option.{option_map};
-ghost use Rattle.lookup_ffi.specs.Handles.{image_of};
+ghost use Rattle.lookup_ffi.specs.Handles.{handle_image};
 ghost use Rattle.image_patch.specs.Patches.{patched};
 ghost use Rattle.lookup_ffi.specs.Images.{new_image};
 ghost use Rattle.lookup_ffi.specs.Faults.{fault_number, IsMakeStatus, IsApplyStatus};
 ghost use Rattle.lookup_ffi.specs.Faults.{IsShareStatus, IsLookupStatus};
-ghost use Rattle.lookup_ffi.specs.Rows.{row_entry, answer_rows, first_fault};
+ghost use Rattle.lookup_ffi.specs.Rows.{row_entry, answer_rows, first_row_fault};
 
 use std::alloc::Global;
 
@@ -41,10 +41,11 @@ fn status(outcome: Result<(), Fault>) -> u32
 
 // Makes an image of rows and puts it into a handle.
 fn make(alloc: Global, rows: &[Row], image: &mut ImageHandle) -> Result<(), Fault>
-    ensures ok { OnOk result (first_fault rows.now ≡ None) }
-    ensures made { OnOk result (image_of image.new ≡ Some (new_image (map row_entry rows.now))) }
-    ensures unchanged { OnErr result (image_of image.new ≡ image_of image.old) }
-    ensures err { IfErr result (λ f. IsMakeStatus (first_fault rows.now) (fault_number f)) }
+    ensures ok { OnOk result (first_row_fault rows.now ≡ None) }
+    ensures made { OnOk result (handle_image image.new
+        ≡ Some (new_image (map row_entry rows.now))) }
+    ensures unchanged { OnErr result (handle_image image.new ≡ handle_image image.old) }
+    ensures err { IfErr result (λ f. IsMakeStatus (first_row_fault rows.now) (fault_number f)) }
 {
     check_rows(rows)?;
     image.put(image_of_rows(alloc, rows)?);
@@ -56,21 +57,21 @@ fn make(alloc: Global, rows: &[Row], image: &mut ImageHandle) -> Result<(), Faul
 /// was refused.
 #[unsafe(no_mangle)]
 pub extern "C" fn tuhvondi_image_new(alloc: Global, rows: &[Row], image: &mut ImageHandle) -> u32
-    ensures status { IsMakeStatus (first_fault rows.now) result }
-    ensures done { result ≡ 0 → image_of image.new ≡ Some (new_image (map row_entry rows.now)) }
-    ensures refused { result ≢ 0 → image_of image.new ≡ image_of image.old }
+    ensures status { IsMakeStatus (first_row_fault rows.now) result }
+    ensures done { result ≡ 0 → handle_image image.new ≡ Some (new_image (map row_entry rows.now)) }
+    ensures refused { result ≢ 0 → handle_image image.new ≡ handle_image image.old }
 {
     status(make(alloc, rows, image))
 }
 
 // Sets rows over those of a handle's image, and its generation.
 fn apply(alloc: Global, image: &mut ImageHandle, generation: u64, rows: &[Row]) -> Result<(), Fault>
-    ensures ok { OnOk result (IsApplyStatus (first_fault rows.now) (image_of image.old) 0) }
-    ensures patched { OnOk result (image_of image.new
-        ≡ option_map (patched generation (map row_entry rows.now)) (image_of image.old)) }
-    ensures unchanged { OnErr result (image_of image.new ≡ image_of image.old) }
+    ensures ok { OnOk result (IsApplyStatus (first_row_fault rows.now) (handle_image image.old) 0) }
+    ensures patched { OnOk result (handle_image image.new
+        ≡ option_map (patched generation (map row_entry rows.now)) (handle_image image.old)) }
+    ensures unchanged { OnErr result (handle_image image.new ≡ handle_image image.old) }
     ensures err { IfErr result (λ f.
-        IsApplyStatus (first_fault rows.now) (image_of image.old) (fault_number f)) }
+        IsApplyStatus (first_row_fault rows.now) (handle_image image.old) (fault_number f)) }
 {
     check_rows(rows)?;
     let Some(mut held) = image.take(alloc) else {
@@ -91,21 +92,21 @@ pub extern "C" fn tuhvondi_image_apply(
     generation: u64,
     rows: &[Row],
 ) -> u32
-    ensures status { IsApplyStatus (first_fault rows.now) (image_of image.old) result }
-    ensures done { result ≡ 0 → image_of image.new
-        ≡ option_map (patched generation (map row_entry rows.now)) (image_of image.old) }
-    ensures refused { result ≢ 0 → image_of image.new ≡ image_of image.old }
+    ensures status { IsApplyStatus (first_row_fault rows.now) (handle_image image.old) result }
+    ensures done { result ≡ 0 → handle_image image.new
+        ≡ option_map (patched generation (map row_entry rows.now)) (handle_image image.old) }
+    ensures refused { result ≢ 0 → handle_image image.new ≡ handle_image image.old }
 {
     status(apply(alloc, image, generation, rows))
 }
 
 // Has another handle hold an image too.
 fn share(alloc: Global, image: &mut ImageHandle, other: &mut ImageHandle) -> Result<(), Fault>
-    ensures image { image_of image.new ≡ image_of image.old }
-    ensures ok { OnOk result (IsShareStatus (image_of image.old) 0) }
-    ensures shared { OnOk result (image_of other.new ≡ image_of image.old) }
-    ensures unchanged { OnErr result (image_of other.new ≡ image_of other.old) }
-    ensures err { IfErr result (λ f. IsShareStatus (image_of image.old) (fault_number f)) }
+    ensures image { handle_image image.new ≡ handle_image image.old }
+    ensures ok { OnOk result (IsShareStatus (handle_image image.old) 0) }
+    ensures shared { OnOk result (handle_image other.new ≡ handle_image image.old) }
+    ensures unchanged { OnErr result (handle_image other.new ≡ handle_image other.old) }
+    ensures err { IfErr result (λ f. IsShareStatus (handle_image image.old) (fault_number f)) }
 {
     let Some(held) = image.take(alloc) else {
         return Err(Fault::NoImage);
@@ -124,10 +125,10 @@ pub extern "C" fn tuhvondi_image_share(
     image: &mut ImageHandle,
     other: &mut ImageHandle,
 ) -> u32
-    ensures status { IsShareStatus (image_of image.old) result }
-    ensures done { result ≡ 0 → image_of other.new ≡ image_of image.old }
-    ensures refused { result ≢ 0 → image_of other.new ≡ image_of other.old }
-    ensures image { image_of image.new ≡ image_of image.old }
+    ensures status { IsShareStatus (handle_image image.old) result }
+    ensures done { result ≡ 0 → handle_image other.new ≡ handle_image image.old }
+    ensures refused { result ≢ 0 → handle_image other.new ≡ handle_image other.old }
+    ensures image { handle_image image.new ≡ handle_image image.old }
 {
     status(share(alloc, image, other))
 }
@@ -139,14 +140,14 @@ fn look_up(
     addrs: &[u32],
     answers: &mut [Row],
 ) -> Result<(), Fault>
-    ensures image { image_of image.new ≡ image_of image.old }
+    ensures image { handle_image image.new ≡ handle_image image.old }
     ensures ok { OnOk result
-        (IsLookupStatus (image_of image.old) (length addrs.now) (length answers.old) 0) }
+        (IsLookupStatus (handle_image image.old) (length addrs.now) (length answers.old) 0) }
     ensures answers { OnOk result
-        (IfSome (image_of image.old) (λ i. answers.new ≡ answer_rows i addrs.now)) }
+        (IfSome (handle_image image.old) (λ i. answers.new ≡ answer_rows i addrs.now)) }
     ensures unchanged { OnErr result (answers.new ≡ answers.old) }
     ensures err { IfErr result (λ f. IsLookupStatus
-        (image_of image.old) (length addrs.now) (length answers.old) (fault_number f)) }
+        (handle_image image.old) (length addrs.now) (length answers.old) (fault_number f)) }
 {
     let Some(held) = image.take(alloc) else {
         return Err(Fault::NoImage);
@@ -172,11 +173,11 @@ pub extern "C" fn tuhvondi_image_lookup(
     answers: &mut [Row],
 ) -> u32
     ensures status { IsLookupStatus
-        (image_of image.old) (length addrs.now) (length answers.old) result }
+        (handle_image image.old) (length addrs.now) (length answers.old) result }
     ensures done { result ≡ 0 →
-        IfSome (image_of image.old) (λ i. answers.new ≡ answer_rows i addrs.now) }
+        IfSome (handle_image image.old) (λ i. answers.new ≡ answer_rows i addrs.now) }
     ensures refused { result ≢ 0 → answers.new ≡ answers.old }
-    ensures image { image_of image.new ≡ image_of image.old }
+    ensures image { handle_image image.new ≡ handle_image image.old }
 {
     status(look_up(alloc, image, addrs, answers))
 }
@@ -189,11 +190,11 @@ pub extern "C" fn tuhvondi_image_generation(
     image: &mut ImageHandle,
     generation: &mut u64,
 ) -> u32
-    ensures some { IfSome (image_of image.old) (λ i.
+    ensures some { IfSome (handle_image image.old) (λ i.
         (result ≡ 0) × (generation.new ≡ i.generation)) }
-    ensures none { IfNone (image_of image.old)
+    ensures none { IfNone (handle_image image.old)
         ((result ≡ fault_number Fault.NoImage) × (generation.new ≡ generation.old)) }
-    ensures image { image_of image.new ≡ image_of image.old }
+    ensures image { handle_image image.new ≡ handle_image image.old }
 {
     let Some(held) = image.take(alloc) else {
         return Fault::NoImage.number();
@@ -206,7 +207,7 @@ pub extern "C" fn tuhvondi_image_generation(
 /// Frees the image, if there is one. The handle then holds none.
 #[unsafe(no_mangle)]
 pub extern "C" fn tuhvondi_image_free(alloc: Global, image: &mut ImageHandle)
-    ensures { image_of image.new ≡ None }
+    ensures { handle_image image.new ≡ None }
 {
     *image = ImageHandle::none(alloc);
 }

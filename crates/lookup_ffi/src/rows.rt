@@ -1,7 +1,7 @@
 //! Lists of rows, and answers to lists of addresses.
 
 ghost use Rattle.std.specs.Prelude.{◌≡◌, None, Some, IfOk, IfErr, OnOk, IsOkUnless, length, map};
-ghost use Rattle.lookup_ffi.specs.Rows.{row_entry, answer_rows, first_fault};
+ghost use Rattle.lookup_ffi.specs.Rows.{row_entry, answer_rows, first_row_fault};
 
 use crate::fault::Fault;
 use crate::row::Row;
@@ -11,8 +11,8 @@ use tree_bitmap::Image;
 
 /// Finds the first row that has a fault.
 pub fn check_rows(rows: &[Row]) -> Result<(), Fault>
-    ensures ok { OnOk result (first_fault rows.now ≡ None) }
-    ensures err { IfErr result (λ f. first_fault rows.now ≡ Some f) }
+    ensures ok { OnOk result (first_row_fault rows.now ≡ None) }
+    ensures err { IfErr result (λ f. first_row_fault rows.now ≡ Some f) }
 {
     for &row in rows {
         let _ = row.read()?;
@@ -22,7 +22,7 @@ pub fn check_rows(rows: &[Row]) -> Result<(), Fault>
 
 /// The prefixes and entries of rows.
 pub fn read_rows(alloc: Global, rows: &[Row]) -> Result<Vec<(Prefix, Entry)>, Fault>
-    requires { first_fault rows.now ≡ None }
+    requires { first_row_fault rows.now ≡ None }
     ensures ok { IfOk result (λ v. v.items ≡ map row_entry rows.now) }
     ensures err { IsOkUnless result Fault.NoMemory }
 {

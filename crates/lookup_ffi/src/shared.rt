@@ -29,7 +29,7 @@ impl Model for Shared {
 impl Shared {
     ghost use Rattle.lookup_ffi.specs.Faults.{IsPatchFault};
     ghost use Rattle.image_patch.specs.Patches.{patched};
-    ghost use Rattle.lookup_ffi.specs.Rows.{row_entry, first_fault};
+    ghost use Rattle.lookup_ffi.specs.Rows.{row_entry, first_row_fault};
 
     /// The only holder of an image.
     pub fn new(alloc: Global, image: Image) -> Result<Shared, AllocError>
@@ -58,7 +58,7 @@ impl Shared {
 
     /// Sets rows over those of the image, in order, and its generation, where nobody else holds it.
     pub fn apply(&mut self, alloc: Global, generation: u64, rows: &[Row]) -> Result<(), Fault>
-        requires { first_fault rows.now ≡ None }
+        requires { first_row_fault rows.now ≡ None }
         ensures ok { OnOk result (self.new ≡ patched generation (map row_entry rows.now) self.old) }
         ensures unchanged { OnErr result (self.new ≡ self.old) }
         ensures err { IfErr result IsPatchFault }

@@ -1,8 +1,7 @@
 -- The two ends of a link.
-use Rattle.std.specs.Prelude.{◌≡◌, ◌⊎◌, ℕ, true}
-use Rattle.std.proofs.Common.{sym, ◌∙◌, ap, subst, inl, inr}
-use Rattle.std.proofs.lemmas.Bool.{cases_eq}
-use Rattle.loop_freedom.specs.Network.{LinkEnd, Topology, IsEnd, at_port}
+use Rattle.std.proofs.Common.{sym, ◌∙◌, ap, subst, inl, inr, ◌≡◌, ◌⊎◌, ℕ, true}
+use Rattle.network_model.proofs.Common.{cases_eq, LinkEnd, at_port}
+use Rattle.loop_freedom.specs.Network.{Topology, IsEnd}
 
 -- two link ends are one or they are not
 pub place_cases : (e a : LinkEnd) → (e ≡ a) ⊎ (e ≡ a → ⊥)

@@ -1,13 +1,9 @@
--- Each kind of step can be done, and a run of two routers at the end of which traffic goes out.
-use Rattle.std.specs.Prelude.{◌≡◌, ℕ, zero, suc, ◌<◌, Bool, true, false, ◌&&◌, ◌||◌, ◌==◌, if◌then◌else◌, List, [], ◌∷◌, ◌++◌, Some, None, slice_get, Option}
-use Rattle.std.proofs.Common.{refl, sym, ◌∙◌, ap, subst, arith, inl, inr}
-use Rattle.std.proofs.lemmas.Bool.{and_parts, and_from, eqb-true, eq-eqb, ne_eqb, false_from_ne_true, or_left, or_right, or_from, or_cases}
+-- Each kind of step can be done, and a run of two routers, with a link of cost 7 between them, at the end of which traffic goes out.
+use Rattle.std.proofs.Common.{refl, sym, ◌∙◌, ap, subst, arith, inl, inr, ◌≡◌, ℕ, zero, suc, ◌<◌, Bool, true, false, ◌&&◌, ◌||◌, ◌==◌, if◌then◌else◌, List, [], ◌∷◌, ◌++◌, Some, None, slice_get, Option, eqb-true, eq-eqb, ne_eqb}
+use Rattle.network_model.proofs.Common.{and_parts, and_from, false_from_ne_true, or_left, or_right, or_from, or_cases, Update, reaction, opening_machine, port_successor, Report, SeenHeld, SeenItem, UpNotice, DownNotice, CostNotice, Reported, LinkEnd, State, at_port, infinity}
 use Rattle.network_model.specs.declared.machine.Neighbour.{Neighbour}
-use Rattle.metric.specs.declared.kind.Kind.TheVariants.{Update}
-use Rattle.network_model.specs.Machine.{reaction, opening_machine, port_successor}
-use Rattle.metric.specs.Distance.{infinity}
 use Rattle.machine_laws.specs.Laws.{sent_to}
-use Rattle.loop_freedom.specs.Network.{Report, Held, Item, UpNotice, DownNotice, CostNotice, Reported, LinkEnd, Topology, State, Take, Publish, Release, LinkUp, LinkDown, SetCost, Takes, Publishes, Releases, LinkComes, Run, Start, Then, Opening, OpeningPorts, PublishedEdge, SomeRouteIsPublished, IsEnd, event_of, seen_after, held_for, next_hop_of, at_port, arriving, notices}
+use Rattle.loop_freedom.specs.Network.{Topology, Take, Publish, Release, LinkUp, LinkDown, SetCost, Takes, Publishes, Releases, LinkComes, Run, Start, Then, Opening, OpeningPorts, PublishedEdge, SomeRouteIsPublished, IsEnd, event_of, seen_after, held_for, next_hop_of, arriving, notices}
 
 -- whether e is the link end a
 abbrev pub is_place : LinkEnd → LinkEnd → Bool
@@ -36,7 +32,7 @@ put_other : {A : Type 0} (a : LinkEnd) (v : A) (f : LinkEnd → A) (e : LinkEnd)
 put_other a v f e d = rw (is_place_other a e d) refl
 
 -- the state after an item is taken at end a, where the rest remains
-abbrev pub do_take : State → LinkEnd → Item → List Item → State
+abbrev pub do_take : State → LinkEnd → SeenItem → List SeenItem → State
 do_take s a item rest =
     let r = reaction (s.machine a.router) (event_of a.port item) in
     let seen' : LinkEnd → ℕ = put a (seen_after item (s.seen a)) s.seen in
@@ -48,7 +44,7 @@ do_take s a item rest =
     }
 
 -- an item that waits can be taken
-pub takes : (t : Topology) (s : State) (a : LinkEnd) (item : Item) (rest : List Item) → t.valid a ≡ true → s.inbox a ≡ item ∷ rest → Take t s (do_take s a item rest)
+pub takes : (t : Topology) (s : State) (a : LinkEnd) (item : SeenItem) (rest : List SeenItem) → t.valid a ≡ true → s.inbox a ≡ item ∷ rest → Take t s (do_take s a item rest)
 takes t s a item rest v h = record {
   a = a;
   item = item;
@@ -95,14 +91,14 @@ publishes t s j = record {
 }
 
 -- the state after a held message leaves for end a, where the rest remains
-abbrev pub do_release : Topology → State → LinkEnd → Held → List Held → State
+abbrev pub do_release : Topology → State → LinkEnd → SeenHeld → List SeenHeld → State
 do_release t s a h rest = record s {
   ripe = put a rest s.ripe;
   inbox = put (t.far a) (s.inbox (t.far a) ++ arriving s a h) s.inbox;
 }
 
 -- a ripe message can be released
-pub releases : (t : Topology) (s : State) (a : LinkEnd) (h : Held) (rest : List Held) → t.valid a ≡ true → s.ripe a ≡ h ∷ rest → Release t s (do_release t s a h rest)
+pub releases : (t : Topology) (s : State) (a : LinkEnd) (h : SeenHeld) (rest : List SeenHeld) → t.valid a ≡ true → s.ripe a ≡ h ∷ rest → Release t s (do_release t s a h rest)
 releases t s a h rest v e = record {
   a = a;
   first = h;
@@ -215,7 +211,7 @@ across_valid true = refl
 across_valid false = refl
 
 -- an end that is there is at port 0
-port_zero : (e : LinkEnd) → is_there e ≡ true → e.port ≡ 0
+pub port_zero : (e : LinkEnd) → is_there e ≡ true → e.port ≡ 0
 port_zero e v = eqb-true e.port 0 ((and_parts ((e.router == 0) || (e.router == 1)) (e.port == 0) v).1)
 
 -- across the link and back is the same end
@@ -268,13 +264,13 @@ home_range true c e = let f : 1 ≡ c = cc in (omega (arith, f), omega (arith, f
 home_range false c e = cc
 
 -- the opening of the two routers
-abbrev s0 : State
+abbrev pub s0 : State
 s0 = record {
   machine = λ i. opening_machine (home i) (down_port ∷ []);
   seen = λ e. 0;
   up = λ e. false;
   session = λ e. 0;
-  cost = λ e. 1;
+  cost = λ e. 7;
   inbox = λ e. [];
   ripe = λ e. [];
   unripe = λ e. [];
@@ -283,7 +279,7 @@ s0 = record {
 }
 
 -- it is an opening
-opens : Opening pair s0
+pub opens : Opening pair s0
 opens = record {
   attachment = home;
   attachment_range = λ i. home_range (i == 0);
@@ -303,11 +299,11 @@ opens = record {
 }
 
 -- the attached router's end of the link
-abbrev here : LinkEnd
+abbrev pub here : LinkEnd
 here = at_port 0 0
 
 -- the other router's end of the link
-abbrev beyond : LinkEnd
+abbrev pub beyond : LinkEnd
 beyond = at_port 1 0
 
 -- the attached router's message: it is at distance 1
@@ -320,11 +316,11 @@ s1 = do_link_up pair s0 here
 
 -- the attached router has taken the notice
 abbrev s2 : State
-s2 = do_take s1 here (UpNotice 1 1) []
+s2 = do_take s1 here (UpNotice 1 7) []
 
 -- the other router has taken the notice
 abbrev s3 : State
-s3 = do_take s2 beyond (UpNotice 1 1) []
+s3 = do_take s2 beyond (UpNotice 1 7) []
 
 -- the attached router has published
 abbrev s4 : State
@@ -346,8 +342,8 @@ s7 = do_publish s6 1
 pub reaches : Run pair s0 s7
 reaches = Then (Then (Then (Then (Then (Then (Then Start
     (LinkComes (comes_up pair s0 here refl refl)))
-    (Takes (takes pair s1 here (UpNotice 1 1) [] refl refl)))
-    (Takes (takes pair s2 beyond (UpNotice 1 1) [] refl refl)))
+    (Takes (takes pair s1 here (UpNotice 1 7) [] refl refl)))
+    (Takes (takes pair s2 beyond (UpNotice 1 7) [] refl refl)))
     (Publishes (publishes pair s3 0)))
     (Releases (releases pair s4 here (record { session = 1; message = one_away }) [] refl refl)))
     (Takes (takes pair s5 beyond (Reported one_away) [] refl refl)))

@@ -1,10 +1,8 @@
 -- The four facts, from what every state keeps.
-use Rattle.std.specs.Prelude.{◌≡◌, ◌⊎◌, ◌+◌, ◌<◌, ◌≤◌, false}
-use Rattle.std.proofs.Common.{ap, subst, ◌∙◌, arith, inl, inr}
-use Rattle.metric.specs.declared.kind.Kind.TheVariants.{Query, Reply}
-use Rattle.machine_laws.specs.Laws.{one_if}
+use Rattle.std.proofs.Common.{ap, subst, ◌∙◌, arith, inl, inr, ◌≡◌, ◌⊎◌, ◌+◌, ◌<◌, ◌≤◌, false}
+use Rattle.network_model.proofs.Common.{Query, Reply, LinkEnd, State, one_if}
 use Rattle.machine_laws.proofs.MachineLaws.{machine_laws}
-use Rattle.loop_freedom.specs.Network.{AlwaysHolds, LinkEnd, Topology, State}
+use Rattle.loop_freedom.specs.Network.{HoldsInEveryState, Topology}
 use Rattle.loop_freedom.specs.Facts.{End, count, pipe, LinkFacts, HasFacts, end_at}
 use Rattle.loop_freedom.proofs.Lists.{one_if_at_most_one}
 use Rattle.loop_freedom.proofs.Link.{EndInvariant}
@@ -50,5 +48,5 @@ facts_kept t s I e valid up =
     (subst (λ (x : LinkEnd). EndInvariant (end_at t s (t.far e)) (end_at t s x)) (t.far_far e valid) (I.links (t.far e) (t.far_valid e valid) (I.up_far e valid ∙ up)))
 
 -- the facts hold in every state of every run
-pub always_facts : AlwaysHolds HasFacts
+pub always_facts : HoldsInEveryState HasFacts
 always_facts t first last O r = facts_kept t last (run_keeps machine_laws t first last (opening_keeps t first O) r)

@@ -1,11 +1,8 @@
 -- What every state of a run keeps, and when two states show the same of a link.
-use Rattle.std.specs.Prelude.{◌≡◌, ℕ, ◌<◌, ◌≤◌, true, false, List, [], ◌++◌, Option, length}
-use Rattle.std.proofs.Common.{refl, sym, subst}
-use Rattle.std.proofs.lemmas.Bool.{both_ways}
-use Rattle.network_model.specs.Machine.{Machine}
-use Rattle.metric.specs.Distance.{infinity}
+use Rattle.std.proofs.Common.{refl, sym, subst, ◌≡◌, ℕ, ◌<◌, ◌≤◌, true, false, List, [], ◌++◌, Option, length}
+use Rattle.network_model.proofs.Common.{both_ways, Machine, SeenHeld, SeenItem, NextHop, LinkEnd, State, infinity}
 use Rattle.machine_laws.specs.Laws.{IsSound, is_up_at}
-use Rattle.loop_freedom.specs.Network.{Held, Item, NextHop, LinkEnd, Topology, State}
+use Rattle.loop_freedom.specs.Network.{Topology}
 use Rattle.loop_freedom.specs.Facts.{AtLeast, AtLeastFromLastQuery, End, pipe, messages, live, is_next_hop, end_of, end_at}
 use Rattle.loop_freedom.proofs.Lists.{at_least_left}
 use Rattle.loop_freedom.proofs.Link.{EndInvariant}
@@ -30,7 +27,7 @@ pub record Invariant (t : Topology) (s : State) : Type 0 where
   pub links : (e : LinkEnd) → t.valid e ≡ true → s.up e ≡ true → EndInvariant (end_at t s e) (end_at t s (t.far e))
 
 -- ends with equal parts, and with the same on its way, are equal
-pub end_cong : {m m' : Machine} {seen seen' n n' : ℕ} {o o' : Option NextHop} {pfd pfd' : ℕ} (q : ℕ) (items items' : List Item) (ripe ripe' unripe unripe' : List Held)
+pub end_cong : {m m' : Machine} {seen seen' n n' : ℕ} {o o' : Option NextHop} {pfd pfd' : ℕ} (q : ℕ) (items items' : List SeenItem) (ripe ripe' unripe unripe' : List SeenHeld)
     → m' ≡ m → seen' ≡ seen → n' ≡ n → o' ≡ o → pfd' ≡ pfd
     → messages items' ++ live n' ripe' ≡ messages items ++ live n ripe → live n' unripe' ≡ live n unripe
     → end_of m' q seen' n' o' pfd' items' ripe' unripe' ≡ end_of m q seen n o pfd items ripe unripe

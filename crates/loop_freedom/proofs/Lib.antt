@@ -8,6 +8,7 @@ pub mod Reacts
 pub mod Notices
 pub mod Ports
 pub mod Invariant
+pub mod Meeting
 pub mod Taking
 pub mod TakingAtHome
 pub mod StillMachines

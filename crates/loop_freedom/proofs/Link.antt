@@ -1,9 +1,6 @@
 -- What is kept between the two ends of a live link, and what a step does to an end.
-use Rattle.std.specs.Prelude.{◌≡◌, ◌⊎◌, ℕ, ◌+◌, ◌<◌, ◌≤◌, true, false, List, [], ◌++◌, Option, Some, None}
-use Rattle.metric.specs.declared.kind.Kind.TheVariants.{Query, Reply}
-use Rattle.metric.specs.Distance.{infinity}
-use Rattle.machine_laws.specs.Laws.{one_if}
-use Rattle.loop_freedom.specs.Network.{Report}
+use Rattle.std.proofs.Common.{◌≡◌, ◌⊎◌, ℕ, ◌+◌, ◌<◌, ◌≤◌, true, false, List, [], ◌++◌, Option, Some, None}
+use Rattle.network_model.proofs.Common.{Query, Reply, infinity, Report, one_if}
 use Rattle.loop_freedom.specs.Facts.{count, AtLeast, AtLeastFromLastQuery, End, pipe}
 use Rattle.loop_freedom.proofs.Lists.{front}
 

@@ -1,12 +1,6 @@
 -- A step at either end of a live link keeps the invariant of the link; a name with ' says what holds after the step.
-use Rattle.std.specs.Prelude.{◌≡◌, ℕ, ◌+◌, ◌<◌, ◌≤◌, true, false, List, [], ◌∷◌, ◌++◌, Option, Some, None}
-use Rattle.std.proofs.Common.{refl, sym, ◌∙◌, ap, arith, append_assoc, inl, inr}
-use Rattle.std.proofs.lemmas.Bool.{cases_Bool, cases_lt, both_ways, false_from_ne_true}
-use Rattle.metric.specs.declared.kind.Kind.{Kind}
-use Rattle.metric.specs.declared.kind.Kind.TheVariants.{Query, Reply}
-use Rattle.metric.specs.Distance.{infinity}
-use Rattle.machine_laws.specs.Laws.{one_if}
-use Rattle.loop_freedom.specs.Network.{Report}
+use Rattle.std.proofs.Common.{refl, sym, ◌∙◌, ap, arith, append_assoc, inl, inr, ◌≡◌, ℕ, ◌+◌, ◌<◌, ◌≤◌, true, false, List, [], ◌∷◌, ◌++◌, Option, Some, None}
+use Rattle.network_model.proofs.Common.{cases_Bool, cases_lt, both_ways, false_from_ne_true, Kind, Query, Reply, infinity, Report, one_if}
 use Rattle.loop_freedom.specs.Facts.{count, AtLeast, AtLeastFromLastQuery, End, pipe}
 use Rattle.loop_freedom.proofs.Lists.{front, one_if_at_most_one, count-append, at_least_append, at_least_right, at_least_less, from_last_query_of_all, at_least_without_query, from_last_query_right, from_last_query_append}
 use Rattle.loop_freedom.proofs.Link.{EndInvariant, heard, Keeps, GoesOn, EndStep}

@@ -1,12 +1,8 @@
 -- A link that comes up or goes down keeps the invariant.
-use Rattle.std.specs.Prelude.{◌≡◌, ℕ, suc, ◌<◌, ◌≤◌, true, false, ◌==◌, [], ◌∷◌}
-use Rattle.std.proofs.Common.{refl, sym, ◌∙◌, ap, subst, arith, inl, inr}
-use Rattle.std.proofs.lemmas.List.{append-nil}
-use Rattle.std.proofs.lemmas.Bool.{both_ways, ne_eqb, and_left, and_right, false_from_ne_true}
-use Rattle.network_model.specs.Machine.{Machine, is_port}
-use Rattle.metric.specs.Distance.{infinity}
+use Rattle.std.proofs.Common.{refl, sym, ◌∙◌, ap, subst, arith, inl, inr, ◌≡◌, ℕ, suc, ◌<◌, ◌≤◌, true, false, ◌==◌, [], ◌∷◌, append-nil, ne_eqb}
+use Rattle.network_model.proofs.Common.{both_ways, and_left, and_right, false_from_ne_true, Machine, is_port, UpNotice, LinkEnd, State, infinity}
 use Rattle.machine_laws.specs.Laws.{is_up_at, awaits, owes}
-use Rattle.loop_freedom.specs.Network.{UpNotice, LinkEnd, Topology, State, LinkUp, LinkDown, IsEnd}
+use Rattle.loop_freedom.specs.Network.{Topology, LinkUp, LinkDown, IsEnd}
 use Rattle.loop_freedom.proofs.Ends.{end_cases, end_far, end_near, end_valid}
 use Rattle.loop_freedom.proofs.Link.{EndInvariant}
 use Rattle.loop_freedom.specs.Facts.{pipe, messages, live, is_current, is_next_hop, end_at}

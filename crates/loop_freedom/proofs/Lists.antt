@@ -1,10 +1,6 @@
 -- Bounds and counts of lists of messages.
-use Rattle.std.specs.Prelude.{◌≡◌, ℕ, ◌+◌, ◌≤◌, Bool, true, false, List, [], ◌∷◌, ◌++◌, Option, Some, None}
-use Rattle.std.proofs.Common.{arith}
-use Rattle.metric.specs.declared.kind.Kind.{Kind}
-use Rattle.metric.specs.declared.kind.Kind.TheVariants.{Query}
-use Rattle.machine_laws.specs.Laws.{one_if}
-use Rattle.loop_freedom.specs.Network.{Report}
+use Rattle.std.proofs.Common.{arith, ◌≡◌, ℕ, ◌+◌, ◌≤◌, Bool, true, false, List, [], ◌∷◌, ◌++◌, Option, Some, None}
+use Rattle.network_model.proofs.Common.{Kind, Query, Report, one_if}
 use Rattle.loop_freedom.specs.Facts.{count, AtLeast, AtLeastFromLastQuery}
 
 -- a message that may have been taken, as the list of what was taken

@@ -1,15 +1,13 @@
 -- What an end has on its way, where items are queued, messages are held, and a machine sends.
-use Rattle.std.specs.Prelude.{◌≡◌, ℕ, suc, ◌+◌, Bool, true, false, ◌==◌, if◌then◌else◌, List, [], ◌∷◌, ◌++◌, Some, slice_get}
-use Rattle.std.proofs.Common.{refl, ap, arith}
-use Rattle.std.proofs.lemmas.Bool.{eq-eqb, ne_eqb}
-use Rattle.metric.specs.declared.kind.Kind.{Kind}
+use Rattle.std.proofs.Common.{refl, ap, arith, ◌≡◌, ℕ, suc, ◌+◌, Bool, true, false, ◌==◌, if◌then◌else◌, List, [], ◌∷◌, ◌++◌, Some, slice_get, eq-eqb, ne_eqb}
+use Rattle.network_model.proofs.Common.{Kind, Report, SeenHeld, SeenItem, UpNotice, DownNotice, CostNotice, Reported, one_if}
 use Rattle.network_model.specs.declared.machine.Outgoing.{Outgoing}
-use Rattle.machine_laws.specs.Laws.{one_if, is_kind, sent_to, count_kind}
-use Rattle.loop_freedom.specs.Network.{Report, Held, Item, UpNotice, DownNotice, CostNotice, Reported, held_for}
+use Rattle.machine_laws.specs.Laws.{is_kind, sent_to, count_kind}
+use Rattle.loop_freedom.specs.Network.{held_for}
 use Rattle.loop_freedom.specs.Facts.{messages, live, count, AtLeast}
 
 -- the messages among two lists of items are those of the one, then of the other
-pub messages-append : (xs ys : List Item) → messages (xs ++ ys) ≡ messages xs ++ messages ys
+pub messages-append : (xs ys : List SeenItem) → messages (xs ++ ys) ≡ messages xs ++ messages ys
 messages-append [] ys = refl
 messages-append (UpNotice s c ∷ xs) ys = messages-append xs ys
 messages-append (DownNotice s ∷ xs) ys = messages-append xs ys
@@ -17,7 +15,7 @@ messages-append (CostNotice s c ∷ xs) ys = messages-append xs ys
 messages-append (Reported m ∷ xs) ys = ap (λ ms. m ∷ ms) (messages-append xs ys)
 
 -- the messages for a session among two lists of held ones are those of the one, then of the other
-pub live-append : (n : ℕ) (xs ys : List Held) → live n (xs ++ ys) ≡ live n xs ++ live n ys
+pub live-append : (n : ℕ) (xs ys : List SeenHeld) → live n (xs ++ ys) ≡ live n xs ++ live n ys
 live-append n [] ys = refl
 live-append n (x ∷ xs) ys = by_session (x.session == n) (live-append n xs ys)
   where

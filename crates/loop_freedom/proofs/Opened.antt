@@ -1,14 +1,10 @@
 -- The invariant holds at the opening.
-use Rattle.std.specs.Prelude.{◌≡◌, ℕ, ◌≤◌, ◌<◌, false, List, Option, Some, None, slice_get}
-use Rattle.std.specs.Option.{option_map_or}
-use Rattle.std.proofs.Common.{refl, sym, ◌∙◌, arith}
-use Rattle.std.proofs.lemmas.Bool.{false≢true, both_ways}
+use Rattle.std.proofs.Common.{refl, sym, ◌∙◌, arith, ◌≡◌, ℕ, ◌≤◌, ◌<◌, false, List, Option, Some, None, slice_get}
+use Rattle.network_model.proofs.Common.{option_map_or, false≢true, both_ways, infinity, opening_machine, State}
 use Rattle.network_model.specs.declared.machine.Neighbour.{Neighbour}
-use Rattle.metric.specs.Distance.{infinity}
-use Rattle.network_model.specs.Machine.{opening_machine}
 use Rattle.machine_laws.specs.Laws.{IsSound, test_at}
 use Rattle.machine_laws.proofs.Opened.{opened_sound}
-use Rattle.loop_freedom.specs.Network.{Topology, State, Opening, OpeningPorts}
+use Rattle.loop_freedom.specs.Network.{Topology, Opening, OpeningPorts}
 use Rattle.loop_freedom.proofs.Invariant.{Invariant}
 
 -- a port that is down, or not there, is not up

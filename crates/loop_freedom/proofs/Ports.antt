@@ -1,57 +1,51 @@
 -- What an item that is taken does to the ports of a machine: to the one where it is taken, and to the others.
-use Rattle.std.specs.Prelude.{◌≡◌, ℕ, zero, suc, ◌+◌, ◌<◌, Bool, true, false, ◌&&◌, ◌==◌, List, [], ◌∷◌, Option, Some, None, length, slice_get, option_map}
-use Rattle.std.proofs.Common.{refl, sym, ◌∙◌, ap, subst, arith}
-use Rattle.std.proofs.lemmas.Bool.{both_ways, eq-eqb, ne_eqb, and_from, and_left, false≢true}
-use Rattle.metric.specs.declared.kind.Kind.{Kind}
-use Rattle.metric.specs.declared.kind.Kind.TheVariants.{Update, Query, Reply}
-use Rattle.metric.specs.Distance.{infinity}
+use Rattle.std.proofs.Common.{refl, sym, ◌∙◌, ap, subst, arith, ◌≡◌, ℕ, zero, suc, ◌+◌, ◌<◌, Bool, true, false, ◌&&◌, ◌==◌, List, [], ◌∷◌, Option, Some, None, length, slice_get, option_map, eq-eqb, ne_eqb}
+use Rattle.network_model.proofs.Common.{both_ways, and_from, and_left, false≢true, Kind, Update, Query, Reply, infinity, Machine, records_after, reaction, length-changed_at, slice_get-changed_at, slice_get-changed_at_other, Report, SeenItem, UpNotice, DownNotice, CostNotice, Reported, one_if}
 use Rattle.network_model.specs.declared.machine.Neighbour.{Neighbour}
-use Rattle.network_model.specs.Machine.{Machine, records_after, reaction}
 use Rattle.network_model.specs.declared.machine.Event.TheVariants.{Message}
-use Rattle.network_model.proofs.ListLaws.{length-changed_at, slice_get-changed_at, slice_get-changed_at_other}
-use Rattle.machine_laws.specs.Laws.{released, one_if, is_kind, is_up_at, reported_at, reported_of, test_at, is_message, is_down, Meets, MachineLaws}
-use Rattle.loop_freedom.specs.Network.{Report, Item, UpNotice, DownNotice, CostNotice, Reported, event_of, seen_after}
+use Rattle.machine_laws.specs.Laws.{released, is_kind, is_up_at, reported_at, reported_of, test_at, is_message, is_down, Meets, MachineLaws}
+use Rattle.loop_freedom.specs.Network.{event_of, seen_after}
 use Rattle.loop_freedom.specs.Facts.{is_current}
 use Rattle.loop_freedom.proofs.Notices.{IsLawfulInbox, lawful_later}
 use Rattle.loop_freedom.proofs.Reacts.{PortStep}
 
 -- an item leaves the number of ports
-pub ports_length : (p : ℕ) (item : Item) (ns : List Neighbour) → length (records_after (event_of p item) ns) ≡ length ns
+pub ports_length : (p : ℕ) (item : SeenItem) (ns : List Neighbour) → length (records_after (event_of p item) ns) ≡ length ns
 ports_length p (UpNotice s c) ns = length-changed_at _ p ns
 ports_length p (DownNotice s) ns = length-changed_at _ p ns
 ports_length p (CostNotice s c) ns = length-changed_at _ p ns
 ports_length p (Reported m) ns = length-changed_at _ p ns
 
 -- an item leaves the records of the other ports
-pub ports_other : (p q : ℕ) (item : Item) (ns : List Neighbour) → (p ≡ q → ⊥) → slice_get (records_after (event_of p item) ns) q ≡ slice_get ns q
+pub ports_other : (p q : ℕ) (item : SeenItem) (ns : List Neighbour) → (p ≡ q → ⊥) → slice_get (records_after (event_of p item) ns) q ≡ slice_get ns q
 ports_other p q (UpNotice s c) ns d = slice_get-changed_at_other _ p q ns (λ e. d (sym e))
 ports_other p q (DownNotice s) ns d = slice_get-changed_at_other _ p q ns (λ e. d (sym e))
 ports_other p q (CostNotice s c) ns d = slice_get-changed_at_other _ p q ns (λ e. d (sym e))
 ports_other p q (Reported m) ns d = slice_get-changed_at_other _ p q ns (λ e. d (sym e))
 
 -- the record of a port after an item is taken there
-abbrev pub changed_by : Item → Neighbour → Neighbour
+abbrev pub changed_by : SeenItem → Neighbour → Neighbour
 changed_by (UpNotice s c) n = record { up = true; cost = c; reported = infinity }
 changed_by (DownNotice s) n = record { up = false; cost = n.cost; reported = n.reported }
 changed_by (CostNotice s c) n = record { up = n.up; cost = c; reported = n.reported }
 changed_by (Reported m) n = record { up = n.up; cost = n.cost; reported = m.value }
 
 -- the record of the port where an item is taken is changed by it
-pub ports_same : (p : ℕ) (item : Item) (ns : List Neighbour) → slice_get (records_after (event_of p item) ns) p ≡ option_map (changed_by item) (slice_get ns p)
+pub ports_same : (p : ℕ) (item : SeenItem) (ns : List Neighbour) → slice_get (records_after (event_of p item) ns) p ≡ option_map (changed_by item) (slice_get ns p)
 ports_same p (UpNotice s c) ns = slice_get-changed_at _ p ns
 ports_same p (DownNotice s) ns = slice_get-changed_at _ p ns
 ports_same p (CostNotice s c) ns = slice_get-changed_at _ p ns
 ports_same p (Reported m) ns = slice_get-changed_at _ p ns
 
 -- an item at one port is no message at another
-other_message : (k : Kind) (p q : ℕ) (item : Item) → (p ≡ q → ⊥) → is_message k q (event_of p item) ≡ false
+other_message : (k : Kind) (p q : ℕ) (item : SeenItem) → (p ≡ q → ⊥) → is_message k q (event_of p item) ≡ false
 other_message k p q (UpNotice s c) d = refl
 other_message k p q (DownNotice s) d = refl
 other_message k p q (CostNotice s c) d = refl
 other_message k p q (Reported m) d = and_left (p == q) (is_kind k m.kind) (ne_eqb p q d)
 
 -- an item at one port does not take the link of another away
-other_down : (p q : ℕ) (item : Item) → (p ≡ q → ⊥) → is_down q (event_of p item) ≡ false
+other_down : (p q : ℕ) (item : SeenItem) → (p ≡ q → ⊥) → is_down q (event_of p item) ≡ false
 other_down p q (UpNotice s c) d = refl
 other_down p q (DownNotice s) d = ne_eqb p q d
 other_down p q (CostNotice s c) d = refl
@@ -64,14 +58,14 @@ released_message Query p v q e = (cc, cc)
 released_message Reply p v q e = (cc, refl)
 
 -- an item ends the wait for its own port alone
-other_released : (p q : ℕ) (item : Item) → released (event_of p item) ≡ Some q → p ≡ q
+other_released : (p q : ℕ) (item : SeenItem) → released (event_of p item) ≡ Some q → p ≡ q
 other_released p q (UpNotice s c) e = cc
 other_released p q (DownNotice s) e = cc
 other_released p q (CostNotice s c) e = cc
 other_released p q (Reported m) e = (released_message m.kind p m.value q e).0
 
 -- an event at another port of the same router takes no message here, and leaves the port as it was
-pub port_step_other : MachineLaws → (m : Machine) (p q : ℕ) (item : Item) (seen n : ℕ) → (p ≡ q → ⊥) → PortStep m (event_of p item) q seen seen n None
+pub port_step_other : MachineLaws → (m : Machine) (p q : ℕ) (item : SeenItem) (seen n : ℕ) → (p ≡ q → ⊥) → PortStep m (event_of p item) q seen seen n None
 port_step_other laws m p q item seen n d =
     let slice : slice_get (reaction m (event_of p item)).machine.ports q ≡ slice_get m.ports q =
     ap (λ ns. slice_get ns q) (laws.keeps_records m (event_of p item)) ∙ ports_other p q item m.ports d in
@@ -88,7 +82,7 @@ port_step_other laws m p q item seen n d =
     }
 
 -- the message that an item is, if it is one
-abbrev pub message_of : Item → Option Report
+abbrev pub message_of : SeenItem → Option Report
 message_of (UpNotice s c) = None
 message_of (DownNotice s) = None
 message_of (CostNotice s c) = None
@@ -141,26 +135,26 @@ port_there (x ∷ xs) (suc p) h e = port_there xs p (omega (arith, h)) e
 
 module _ (laws : MachineLaws) (m : Machine) (p : ℕ) where
   -- the record of the port after the reaction is that which the item leaves
-  slice_after : (item : Item) → slice_get (reaction m (event_of p item)).machine.ports p ≡ option_map (changed_by item) (slice_get m.ports p)
+  slice_after : (item : SeenItem) → slice_get (reaction m (event_of p item)).machine.ports p ≡ option_map (changed_by item) (slice_get m.ports p)
   slice_after item = ap (λ ns. slice_get ns p) (laws.keeps_records m (event_of p item)) ∙ ports_same p item m.ports
 
   -- whether the port is up after the reaction is as the item leaves it
-  up_after : (item : Item) → is_up_at (reaction m (event_of p item)).machine p ≡ is_up (option_map (changed_by item) (slice_get m.ports p))
+  up_after : (item : SeenItem) → is_up_at (reaction m (event_of p item)).machine p ≡ is_up (option_map (changed_by item) (slice_get m.ports p))
   up_after item = ap is_up (slice_after item)
 
   -- what is reported at the port after the reaction is as the item leaves it
-  reported_after : (item : Item) → reported_at (reaction m (event_of p item)).machine p ≡ reported_of (option_map (changed_by item) (slice_get m.ports p))
+  reported_after : (item : SeenItem) → reported_at (reaction m (event_of p item)).machine p ≡ reported_of (option_map (changed_by item) (slice_get m.ports p))
   reported_after item = ap reported_of (slice_after item)
 
   -- an item that may be taken is an event that the machine may meet
-  pub meets_item : (item : Item) (rest : List Item) (seen n : ℕ) (up : Bool) → p < length m.ports → IsLawfulInbox (is_up_at m p) seen up n (item ∷ rest) → Meets m (event_of p item)
+  pub meets_item : (item : SeenItem) (rest : List SeenItem) (seen n : ℕ) (up : Bool) → p < length m.ports → IsLawfulInbox (is_up_at m p) seen up n (item ∷ rest) → Meets m (event_of p item)
   meets_item (UpNotice s c) rest seen n up there h = (there, h.0, h.2)
   meets_item (DownNotice s) rest seen n up there h = h.0
   meets_item (CostNotice s c) rest seen n up there h = (h.0, h.2)
   meets_item (Reported w) rest seen n up there h = (h.0, h.3)
 
   -- the items that remain are lawful after one is taken
-  pub lawful_after : (item : Item) (rest : List Item) (seen n : ℕ) (up : Bool) → p < length m.ports → IsLawfulInbox (is_up_at m p) seen up n (item ∷ rest)
+  pub lawful_after : (item : SeenItem) (rest : List SeenItem) (seen n : ℕ) (up : Bool) → p < length m.ports → IsLawfulInbox (is_up_at m p) seen up n (item ∷ rest)
       → IsLawfulInbox (is_up_at (reaction m (event_of p item)).machine p) (seen_after item seen) up n rest
   lawful_after (UpNotice s c) rest seen n up there h =
       let e : is_up_at (reaction m (event_of p (UpNotice s c))).machine p ≡ true = up_after (UpNotice s c) ∙ up_of_up s c (slice_get m.ports p) (port_there m.ports p there) in
@@ -186,7 +180,7 @@ module _ (laws : MachineLaws) (m : Machine) (p : ℕ) where
   one_of false c e = cc
 
   -- what an item does to the port at which it is taken, on a live link
-  pub port_step_same : (item : Item) (rest : List Item) (seen n : ℕ) → p < length m.ports → IsLawfulInbox (is_up_at m p) seen true n (item ∷ rest)
+  pub port_step_same : (item : SeenItem) (rest : List SeenItem) (seen n : ℕ) → p < length m.ports → IsLawfulInbox (is_up_at m p) seen true n (item ∷ rest)
       → PortStep m (event_of p item) p seen (seen_after item seen) n (message_of item)
   port_step_same (UpNotice s c) rest seen n there h =
       let off : is_current m p seen n ≡ false = and_left (is_up_at m p) (seen == n) h.0 in

@@ -1,10 +1,6 @@
 -- A publication keeps the invariant of a live link.
-use Rattle.std.specs.Prelude.{◌≡◌, ◌+◌, ◌≤◌, true, [], ◌++◌}
-use Rattle.std.proofs.Common.{sym, ◌∙◌, ap, subst, arith}
-use Rattle.std.proofs.lemmas.List.{append-nil}
-use Rattle.metric.specs.declared.kind.Kind.TheVariants.{Query}
-use Rattle.metric.specs.Distance.{infinity}
-use Rattle.machine_laws.specs.Laws.{one_if}
+use Rattle.std.proofs.Common.{sym, ◌∙◌, ap, subst, arith, ◌≡◌, ◌+◌, ◌≤◌, true, [], ◌++◌, append-nil}
+use Rattle.network_model.proofs.Common.{Query, infinity, one_if}
 use Rattle.loop_freedom.specs.Facts.{count, AtLeast, AtLeastFromLastQuery, End, pipe}
 use Rattle.loop_freedom.proofs.Lists.{one_if_at_most_one}
 use Rattle.loop_freedom.proofs.Link.{EndInvariant}

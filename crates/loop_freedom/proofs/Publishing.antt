@@ -1,13 +1,9 @@
 -- A router that publishes keeps the invariant.
-use Rattle.std.specs.Prelude.{◌≡◌, ℕ, ◌≤◌, true, ◌&&◌, ◌==◌, List, [], ◌++◌, Option, Some, None}
-use Rattle.std.proofs.Common.{refl, sym, ◌∙◌, ap, subst, arith, append_assoc, inl, inr}
-use Rattle.std.proofs.lemmas.Bool.{cases_eq, false≢true, and_parts, eqb-true, eq-eqb, ne_eqb}
-use Rattle.std.proofs.Math.Bool.{and-true, and-false}
-use Rattle.network_model.specs.Machine.{Machine, is_port, port_successor}
-use Rattle.metric.specs.Distance.{infinity}
+use Rattle.std.proofs.Common.{refl, sym, ◌∙◌, ap, subst, arith, append_assoc, inl, inr, ◌≡◌, ℕ, ◌≤◌, true, ◌&&◌, ◌==◌, List, [], ◌++◌, Option, Some, None, eqb-true, eq-eqb, ne_eqb}
+use Rattle.network_model.proofs.Common.{cases_eq, false≢true, and_parts, and-true, and-false, Machine, is_port, port_successor, SeenHeld, SeenItem, NextHop, LinkEnd, State, at_port, infinity}
 use Rattle.machine_laws.specs.Laws.{is_up_at}
 use Rattle.machine_laws.proofs.Successors.{port_successor_from, is_port_successor}
-use Rattle.loop_freedom.specs.Network.{Held, Item, NextHop, LinkEnd, Topology, State, Publish, next_hop_of, at_port}
+use Rattle.loop_freedom.specs.Network.{Topology, Publish, next_hop_of}
 use Rattle.loop_freedom.proofs.Link.{EndInvariant}
 use Rattle.loop_freedom.proofs.Published.{shown_as_chosen, publish_here, publish_there}
 use Rattle.loop_freedom.specs.Facts.{messages, live, is_current, is_next_hop, end_of, end_at}
@@ -35,7 +31,7 @@ next_hop_session q k seen (Some p) e =
     sym k_is ∙ ap seen p_is
 
 -- an end with the parts that a publication makes is the old end, as published
-published_end : {m m' : Machine} {seen seen' n n' : ℕ} {pfd' : ℕ} (q : ℕ) (o o' : Option NextHop) (pfd : ℕ) (items items' : List Item) (ripe ripe' unripe unripe' : List Held)
+published_end : {m m' : Machine} {seen seen' n n' : ℕ} {pfd' : ℕ} (q : ℕ) (o o' : Option NextHop) (pfd : ℕ) (items items' : List SeenItem) (ripe ripe' unripe unripe' : List SeenHeld)
     → m' ≡ m → seen' ≡ seen → n' ≡ n → is_next_hop q n' o' ≡ (is_current m q seen n && is_port q m.successor) → pfd' ≡ m.fd
     → messages items' ++ live n' ripe' ≡ (messages items ++ live n ripe) ++ live n unripe → live n' unripe' ≡ []
     → end_of m' q seen' n' o' pfd' items' ripe' unripe' ≡ shown_as_chosen (end_of m q seen n o pfd items ripe unripe)

@@ -1,16 +1,10 @@
 -- What an event of its machine does to an end of a live link, by the laws of machines.
-use Rattle.std.specs.Prelude.{◌≡◌, ◌⊎◌, ℕ, ◌+◌, ◌<◌, ◌≤◌, Bool, true, false, ◌&&◌, ◌==◌, List, [], ◌∷◌, ◌++◌, Option, Some, None}
-use Rattle.std.proofs.Common.{refl, sym, ◌∙◌, ap, subst, arith, inl, inr}
-use Rattle.std.proofs.lemmas.List.{append-nil}
-use Rattle.std.proofs.lemmas.Bool.{cases_Bool, both_ways, eqb-true, eq-eqb, cases_eq, and_parts, and_from, and_left, true_from_ne_false, false_from_ne_true}
-use Rattle.metric.specs.declared.kind.Kind.{Kind}
-use Rattle.metric.specs.declared.kind.Kind.TheVariants.{Query, Reply}
-use Rattle.metric.specs.Distance.{infinity}
-use Rattle.network_model.specs.Machine.{Machine, degree, is_port, reaction}
+use Rattle.std.proofs.Common.{refl, sym, ◌∙◌, ap, subst, arith, inl, inr, ◌≡◌, ◌⊎◌, ℕ, ◌+◌, ◌<◌, ◌≤◌, Bool, true, false, ◌&&◌, ◌==◌, List, [], ◌∷◌, ◌++◌, Option, Some, None, append-nil, eqb-true, eq-eqb}
+use Rattle.network_model.proofs.Common.{cases_Bool, both_ways, cases_eq, and_parts, and_from, and_left, true_from_ne_false, false_from_ne_true, Kind, Query, Reply, infinity, Machine, port_count, is_port, reaction, Report, SeenHeld, SeenItem, NextHop, one_if}
 use Rattle.network_model.specs.declared.machine.Event.{Event}
 use Rattle.network_model.specs.declared.machine.Outgoing.{Outgoing}
-use Rattle.machine_laws.specs.Laws.{released, one_if, is_up_at, reported_at, awaits, owes, is_active, sent_to, count_kind, is_message, is_down, IsSound, Meets, MachineLaws}
-use Rattle.loop_freedom.specs.Network.{Report, Held, Item, NextHop, held_for}
+use Rattle.machine_laws.specs.Laws.{released, is_up_at, reported_at, awaits, owes, is_active, sent_to, count_kind, is_message, is_down, IsSound, Meets, MachineLaws}
+use Rattle.loop_freedom.specs.Network.{held_for}
 use Rattle.machine_laws.proofs.Events.{is_port-Some, is_port_same}
 use Rattle.loop_freedom.specs.Facts.{count, AtLeast, End, live, is_current, end_of}
 use Rattle.loop_freedom.proofs.Lists.{front}
@@ -56,7 +50,7 @@ counts_last : (ss : List Outgoing) (s : Outgoing) → s.kind ≡ Query → 1 ≤
 counts_last [] s e = rw e (omega arith)
 counts_last (x ∷ ss) s e = omega (arith, counts_last ss s e)
 
-module _ (laws : MachineLaws) (m : Machine) (ev : Event) (sound : IsSound m) (meets : Meets m ev) (q seen seen' n : ℕ) (taken : Option Report) (P : PortStep m ev q seen seen' n taken) (there : q < degree m) where
+module _ (laws : MachineLaws) (m : Machine) (ev : Event) (sound : IsSound m) (meets : Meets m ev) (q seen seen' n : ℕ) (taken : Option Report) (P : PortStep m ev q seen seen' n taken) (there : q < port_count m) where
   -- the machine after the event
   abbrev after : Machine
   after = (reaction m ev).machine
@@ -199,7 +193,7 @@ module _ (laws : MachineLaws) (m : Machine) (ev : Event) (sound : IsSound m) (me
   ]
 
   -- a successor at the port reported less than the feasible distance, or it is the one that an active machine keeps
-  chooses : (o : Option NextHop) (pfd : ℕ) (items items' : List Item) (ripe unripe : List Held) → (current' && is_port q after.successor) ≡ true
+  chooses : (o : Option NextHop) (pfd : ℕ) (items items' : List SeenItem) (ripe unripe : List SeenHeld) → (current' && is_port q after.successor) ≡ true
       → (reported_at after q < after.fd) ⊎ Keeps (end_of m q seen n o pfd items ripe unripe) (end_of after q seen' n o pfd items' ripe (unripe ++ held_for seen' (sent_to q sends))) added_at
   chooses o pfd items items' ripe unripe e =
       let parts = and_parts current' (is_port q after.successor) e in
@@ -217,7 +211,7 @@ module _ (laws : MachineLaws) (m : Machine) (ev : Event) (sound : IsSound m) (me
       ]
 
   -- what an event of its machine does to the end at port q
-  pub reacts : (o : Option NextHop) (pfd : ℕ) (items items' : List Item) (ripe unripe : List Held)
+  pub reacts : (o : Option NextHop) (pfd : ℕ) (items items' : List SeenItem) (ripe unripe : List SeenHeld)
       → EndStep (end_of m q seen n o pfd items ripe unripe) (end_of after q seen' n o pfd items' ripe (unripe ++ held_for seen' (sent_to q sends))) taken added_at
   reacts o pfd items items' ripe unripe = record {
     kept_is = live-append n unripe (held_for seen' (sent_to q sends));
@@ -240,7 +234,7 @@ module _ (laws : MachineLaws) (m : Machine) (ev : Event) (sound : IsSound m) (me
   }
 
 -- an end whose machine does nothing makes a step that takes and adds nothing
-pub rests : (m : Machine) → IsSound m → (q seen n : ℕ) (o : Option NextHop) (pfd : ℕ) (items items' : List Item) (ripe unripe : List Held)
+pub rests : (m : Machine) → IsSound m → (q seen n : ℕ) (o : Option NextHop) (pfd : ℕ) (items items' : List SeenItem) (ripe unripe : List SeenHeld)
     → EndStep (end_of m q seen n o pfd items ripe unripe) (end_of m q seen n o pfd items' ripe unripe) None []
 rests m sound q seen n o pfd items items' ripe unripe = record {
   kept_is = sym (append-nil (live n unripe));

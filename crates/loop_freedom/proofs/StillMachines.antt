@@ -1,11 +1,8 @@
 -- Steps that leave every machine as it is keep the invariant: a release, a new cost, and one that concerns another destination.
-use Rattle.std.specs.Prelude.{◌≡◌, ℕ, ◌<◌, ◌≤◌, Bool, true, false, ◌&&◌, ◌==◌, if◌then◌else◌, List, [], ◌∷◌, ◌++◌}
-use Rattle.std.proofs.Common.{refl, sym, ◌∙◌, ap, subst, append_assoc, inl, inr}
-use Rattle.std.proofs.lemmas.List.{append-nil}
-use Rattle.std.proofs.lemmas.Bool.{and_parts}
-use Rattle.metric.specs.Distance.{infinity}
+use Rattle.std.proofs.Common.{refl, sym, ◌∙◌, ap, subst, append_assoc, inl, inr, ◌≡◌, ℕ, ◌<◌, ◌≤◌, Bool, true, false, ◌&&◌, ◌==◌, if◌then◌else◌, List, [], ◌∷◌, ◌++◌, append-nil}
+use Rattle.network_model.proofs.Common.{and_parts, infinity, SeenHeld, SeenItem, Reported, CostNotice, LinkEnd, State}
 use Rattle.machine_laws.specs.Laws.{is_up_at}
-use Rattle.loop_freedom.specs.Network.{Held, Item, Reported, CostNotice, LinkEnd, Topology, State, SameLinks, SameMachines, SamePublished, Skip, SetCost, Release}
+use Rattle.loop_freedom.specs.Network.{Topology, SameLinks, SameMachines, SamePublished, Skip, SetCost, Release}
 use Rattle.loop_freedom.specs.Facts.{messages, live, end_at}
 use Rattle.loop_freedom.proofs.OnTheWay.{messages-append}
 use Rattle.loop_freedom.proofs.Notices.{IsLawfulInbox, lawful_cost, lawful_message, IsLawfullyHeld}
@@ -55,7 +52,7 @@ skip_keeps t old new I S =
     S.holdings.unripe_same
 
 -- a cost notice adds no message
-messages_cost : (xs : List Item) (n c : ℕ) → messages (xs ++ CostNotice n c ∷ []) ≡ messages xs
+messages_cost : (xs : List SeenItem) (n c : ℕ) → messages (xs ++ CostNotice n c ∷ []) ≡ messages xs
 messages_cost xs n c = messages-append xs (CostNotice n c ∷ []) ∙ append-nil (messages xs)
 
 -- a new cost keeps the invariant
@@ -89,16 +86,16 @@ set_cost_keeps t old new I S =
     ]
 
 -- what a released message adds across the link, by whether it arrives
-abbrev arriving_if : Bool → Held → List Item
+abbrev arriving_if : Bool → SeenHeld → List SeenItem
 arriving_if b h = if b then Reported h.message ∷ [] else []
 
 -- items stay lawful where a released message arrives on a link that is up, or is lost
-lawful_arriving : (u : Bool) (s : ℕ) (up : Bool) (n : ℕ) (xs : List Item) (h : Held) (b : Bool) → (b ≡ true → up ≡ true) → h.message.value ≤ infinity → IsLawfulInbox u s up n xs → IsLawfulInbox u s up n (xs ++ arriving_if b h)
+lawful_arriving : (u : Bool) (s : ℕ) (up : Bool) (n : ℕ) (xs : List SeenItem) (h : SeenHeld) (b : Bool) → (b ≡ true → up ≡ true) → h.message.value ≤ infinity → IsLawfulInbox u s up n xs → IsLawfulInbox u s up n (xs ++ arriving_if b h)
 lawful_arriving u s up n xs h false f le l = rw (append-nil xs) l
 lawful_arriving u s up n xs h true f le l = rw (f refl) (lawful_message u s n h.message xs le (rw (f refl) at l))
 
 -- what is on its way is the same before and after a release on a live link
-outs_arriving : (xs : List Item) (n : ℕ) (h : Held) (hs : List Held) → messages (xs ++ arriving_if (h.session == n) h) ++ live n hs ≡ messages xs ++ live n (h ∷ hs)
+outs_arriving : (xs : List SeenItem) (n : ℕ) (h : SeenHeld) (hs : List SeenHeld) → messages (xs ++ arriving_if (h.session == n) h) ++ live n hs ≡ messages xs ++ live n (h ∷ hs)
 outs_arriving xs n h hs = by_session (h.session == n)
   where
     by_session : (b : Bool) → messages (xs ++ arriving_if b h) ++ live n hs ≡ messages xs ++ (if b then h.message ∷ live n hs else live n hs)

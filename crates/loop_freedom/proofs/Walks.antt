@@ -1,10 +1,8 @@
 -- Every run keeps the invariant, and so no walk along its edges meets a router twice.
-use Rattle.std.specs.Prelude.{◌≡◌, ◌⊎◌, ℕ, ◌<◌, max, true, false, ◌==◌, List, [], ◌∷◌}
-use Rattle.std.proofs.Common.{refl, ap, arith, inl, inr}
-use Rattle.std.proofs.lemmas.Bool.{and_from, ne_eqb, eq-eqb, or_from}
-use Rattle.network_model.specs.Machine.{is_port}
+use Rattle.std.proofs.Common.{refl, ap, arith, inl, inr, ◌≡◌, ◌⊎◌, ℕ, ◌<◌, max, true, false, ◌==◌, List, [], ◌∷◌, ne_eqb, eq-eqb}
+use Rattle.network_model.proofs.Common.{and_from, or_from, is_port, LinkEnd, State}
 use Rattle.machine_laws.specs.Laws.{MachineLaws, is_up_at}
-use Rattle.loop_freedom.specs.Network.{LinkEnd, Topology, State, Step, Takes, TakesAtHome, Publishes, Releases, LinkComes, LinkGoes, CostChanges, Skips, Run, Start, Then, PublishedEdge, ControlEdge, IsWalk, met, is_met, meets_twice, AlwaysHolds, PublishedLoopFree, MixedLoopFree}
+use Rattle.loop_freedom.specs.Network.{Topology, Step, Takes, TakesAtHome, Publishes, Releases, LinkComes, LinkGoes, CostChanges, Skips, Run, Start, Then, PublishedEdge, ControlEdge, IsEdgeWalk, met, is_met, meets_twice, HoldsInEveryState, PublishedLoopFree, MixedLoopFree}
 use Rattle.loop_freedom.specs.Facts.{is_current, is_next_hop}
 use Rattle.loop_freedom.proofs.Invariant.{Invariant}
 use Rattle.loop_freedom.proofs.Taking.{take_keeps}
@@ -31,7 +29,7 @@ run_keeps laws t first last I Start = I
 run_keeps laws t first last I (Then {middle = b} r s) = steps_keep laws t b last (run_keeps laws t first b I r) s
 
 -- a walk along edges of one kind is one along edges of each wider kind
-pub walk_map : (t : Topology) (f g : LinkEnd → Type 0) → ((e : LinkEnd) → f e → g e) → (i : ℕ) (es : List LinkEnd) → IsWalk t f i es → IsWalk t g i es
+pub walk_map : (t : Topology) (f g : LinkEnd → Type 0) → ((e : LinkEnd) → f e → g e) → (i : ℕ) (es : List LinkEnd) → IsEdgeWalk t f i es → IsEdgeWalk t g i es
 walk_map t f g h i [] w = tt
 walk_map t f g h i (e ∷ es) w = (w.0, w.1, h e w.2, walk_map t f g h (t.far e).router es w.3)
 
@@ -57,7 +55,7 @@ control_falls t s I e v E =
 
 -- a walk along edges that fall, from a router lower than j, does not meet j
 meets_lower : (t : Topology) (edge : LinkEnd → Type 0) (h : ℕ → ℕ) → ((e : LinkEnd) → t.valid e ≡ true → edge e → h (t.far e).router < h e.router)
-    → (i j : ℕ) (es : List LinkEnd) → IsWalk t edge i es → h i < h j → is_met j (met t es) ≡ false
+    → (i j : ℕ) (es : List LinkEnd) → IsEdgeWalk t edge i es → h i < h j → is_met j (met t es) ≡ false
 meets_lower t edge h f i j [] w lt = refl
 meets_lower t edge h f i j (e ∷ es) w lt =
     let k = (t.far e).router in
@@ -70,7 +68,7 @@ meets_lower t edge h f i j (e ∷ es) w lt =
 
 -- a walk along edges that fall meets no router twice
 walk_distinct : (t : Topology) (edge : LinkEnd → Type 0) (h : ℕ → ℕ) → ((e : LinkEnd) → t.valid e ≡ true → edge e → h (t.far e).router < h e.router)
-    → (i : ℕ) (es : List LinkEnd) → IsWalk t edge i es → meets_twice (i ∷ met t es) ≡ false
+    → (i : ℕ) (es : List LinkEnd) → IsEdgeWalk t edge i es → meets_twice (i ∷ met t es) ≡ false
 walk_distinct t edge h f i [] w = refl
 walk_distinct t edge h f i (e ∷ es) w =
     let k = (t.far e).router in
@@ -96,9 +94,9 @@ pub published_loop_free : (t : Topology) (s : State) → Invariant t s → Publi
 published_loop_free t s I = walk_distinct t (PublishedEdge s) (height s) (published_falls t s I)
 
 -- published edges are free of loops in every state of every run
-pub always_published : MachineLaws → AlwaysHolds PublishedLoopFree
+pub always_published : MachineLaws → HoldsInEveryState PublishedLoopFree
 always_published laws t first last O r = published_loop_free t last (run_keeps laws t first last (opening_keeps t first O) r)
 
 -- published and chosen edges together are free of loops in every state of every run
-pub always_mixed : MachineLaws → AlwaysHolds MixedLoopFree
+pub always_mixed : MachineLaws → HoldsInEveryState MixedLoopFree
 always_mixed laws t first last O r = mixed_loop_free t last (run_keeps laws t first last (opening_keeps t first O) r)

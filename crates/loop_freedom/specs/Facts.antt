@@ -3,8 +3,10 @@ use Rattle.std.specs.Prelude.{◌≡◌, ◌⊎◌, ℕ, ◌+◌, ◌<◌, ◌�
 use Rattle.metric.specs.declared.kind.Kind.{Kind}
 use Rattle.metric.specs.declared.kind.Kind.TheVariants.{Query, Reply}
 use Rattle.network_model.specs.Machine.{Machine, is_port}
-use Rattle.machine_laws.specs.Laws.{one_if, is_kind, is_up_at, reported_at, awaits, owes, is_active}
-use Rattle.loop_freedom.specs.Network.{Report, Held, Item, UpNotice, DownNotice, CostNotice, Reported, NextHop, LinkEnd, Topology, State}
+use Rattle.network_model.specs.View.{Report, SeenHeld, SeenItem, UpNotice, DownNotice, CostNotice, Reported, NextHop, LinkEnd, State}
+use Rattle.network_model.specs.Numbers.{one_if}
+use Rattle.machine_laws.specs.Laws.{is_kind, is_up_at, reported_at, awaits, owes, is_active}
+use Rattle.loop_freedom.specs.Network.{Topology}
 
 -- ---- lists of messages
 
@@ -51,7 +53,7 @@ abbrev pub pipe : End → List Report
 pipe x = x.out ++ x.kept
 
 -- the messages among the items
-abbrev pub messages : List Item → List Report
+abbrev pub messages : List SeenItem → List Report
 messages [] = []
 messages (UpNotice s c ∷ is) = messages is
 messages (DownNotice s ∷ is) = messages is
@@ -59,7 +61,7 @@ messages (CostNotice s c ∷ is) = messages is
 messages (Reported m ∷ is) = m ∷ messages is
 
 -- the messages among those held that are meant for session n
-abbrev pub live : ℕ → List Held → List Report
+abbrev pub live : ℕ → List SeenHeld → List Report
 live n [] = []
 live n (h ∷ hs) = if h.session == n then h.message ∷ live n hs else live n hs
 
@@ -73,7 +75,7 @@ is_next_hop q n None = false
 is_next_hop q n (Some o) = (o.port == q) && (o.session == n)
 
 -- the end at port q of a live link in session n, where the other end has yet to take the items
-abbrev pub end_of : Machine → ℕ → ℕ → ℕ → Option NextHop → ℕ → List Item → List Held → List Held → End
+abbrev pub end_of : Machine → ℕ → ℕ → ℕ → Option NextHop → ℕ → List SeenItem → List SeenHeld → List SeenHeld → End
 end_of m q seen n o pfd items ripe unripe = record {
   current = is_current m q seen n;
   fd = m.fd;
@@ -89,9 +91,13 @@ end_of m q seen n o pfd items ripe unripe = record {
   kept = live n unripe;
 }
 
+-- the end e in a state, where f is across the link
+abbrev pub end_towards : State → LinkEnd → LinkEnd → End
+end_towards s e f = end_of (s.machine e.router) e.port (s.seen e) (s.session e) (s.published e.router) (s.published_fd e.router) (s.inbox f) (s.ripe e) (s.unripe e)
+
 -- the end e in a state
 abbrev pub end_at : Topology → State → LinkEnd → End
-end_at t s e = end_of (s.machine e.router) e.port (s.seen e) (s.session e) (s.published e.router) (s.published_fd e.router) (s.inbox (t.far e)) (s.ripe e) (s.unripe e)
+end_at t s e = end_towards s e (t.far e)
 
 -- ---- the four facts
 

@@ -1,4 +1,4 @@
--- A network as one destination sees it: its states, its steps and runs, and the walks along which traffic goes.
+-- How a network as one prefix sees it moves: its steps and runs, and the walks along which traffic goes.
 use Rattle.std.specs.Prelude.{◌≡◌, ◌⊎◌, ℕ, suc, ◌<◌, Bool, true, false, ◌&&◌, ◌||◌, ◌==◌, if◌then◌else◌, List, [], ◌∷◌, ◌++◌, Option, Some, None, slice_get, length}
 use Rattle.network_model.specs.declared.machine.Neighbour.{Neighbour}
 use Rattle.network_model.specs.declared.machine.Event.{Event}
@@ -7,12 +7,8 @@ use Rattle.metric.specs.declared.kind.Kind.{Kind}
 use Rattle.network_model.specs.Machine.{Machine, reaction, opening_machine, port_successor, event_at_home}
 use Rattle.network_model.specs.declared.machine.Outgoing.{Outgoing}
 use Rattle.metric.specs.Distance.{infinity}
+use Rattle.network_model.specs.View.{LinkEnd, Report, SeenItem, UpNotice, DownNotice, CostNotice, Reported, SeenHeld, NextHop, State, at_port}
 use Rattle.machine_laws.specs.Laws.{sent_to, is_up_at}
-
--- one end of a link: a router and a port of it
-pub record LinkEnd : Type 0 where
-  pub router : ℕ
-  pub port : ℕ
 
 -- which link ends there are, and which end is across each link
 pub record Topology : Type 0 where
@@ -21,60 +17,22 @@ pub record Topology : Type 0 where
   pub far_valid : (e : LinkEnd) → valid e ≡ true → valid (far e) ≡ true
   pub far_far : (e : LinkEnd) → valid e ≡ true → far (far e) ≡ e
 
--- what one router says to another of the destination: an update, a query or a reply, with a distance
-pub record Report : Type 0 where
-  pub kind : Kind
-  pub value : ℕ
-
--- what a router has yet to take at a port: a notice of its link, or a message
-pub data Item : Type 0 where
-  UpNotice : (session : ℕ) (cost : ℕ) → Item
-  DownNotice : (session : ℕ) → Item
-  CostNotice : (session : ℕ) (cost : ℕ) → Item
-  Reported : (message : Report) → Item
-
--- a message that a router holds for a port, meant for one session of the link there
-pub record Held : Type 0 where
-  pub session : ℕ
-  pub message : Report
-
--- a published successor: the port, and the session of the link there
-pub record NextHop : Type 0 where
-  pub port : ℕ
-  pub session : ℕ
-
--- a network at one moment: the machine of each router, what it published, and what is queued or held at each link end
-pub record State : Type 0 where
-  pub machine : ℕ → Machine
-  -- the session of which the router's notices told last
-  pub seen : LinkEnd → ℕ
-  pub up : LinkEnd → Bool
-  pub session : LinkEnd → ℕ
-  pub cost : LinkEnd → ℕ
-  pub inbox : LinkEnd → List Item
-  -- what the router holds for the port: what it may release, and what it may not yet
-  pub ripe : LinkEnd → List Held
-  pub unripe : LinkEnd → List Held
-  pub published : ℕ → Option NextHop
-  -- the feasible distance of the machine when the router published last
-  pub published_fd : ℕ → ℕ
-
 -- the event that an item is to the machine, at port q
-abbrev pub event_of : ℕ → Item → Event
+abbrev pub event_of : ℕ → SeenItem → Event
 event_of q (UpNotice s c) = Up q c
 event_of q (DownNotice s) = Down q
 event_of q (CostNotice s c) = Cost q c
 event_of q (Reported m) = Message q m.kind m.value
 
 -- the session seen at a port after an item is taken there
-abbrev pub seen_after : Item → ℕ → ℕ
+abbrev pub seen_after : SeenItem → ℕ → ℕ
 seen_after (UpNotice s c) old = s
 seen_after (DownNotice s) old = old
 seen_after (CostNotice s c) old = old
 seen_after (Reported m) old = old
 
 -- the items without the messages
-abbrev pub notices : List Item → List Item
+abbrev pub notices : List SeenItem → List SeenItem
 notices [] = []
 notices (UpNotice s c ∷ is) = UpNotice s c ∷ notices is
 notices (DownNotice s ∷ is) = DownNotice s ∷ notices is
@@ -82,7 +40,7 @@ notices (CostNotice s c ∷ is) = CostNotice s c ∷ notices is
 notices (Reported m ∷ is) = notices is
 
 -- what is sent, as held for one session
-abbrev pub held_for : ℕ → List Outgoing → List Held
+abbrev pub held_for : ℕ → List Outgoing → List SeenHeld
 held_for n [] = []
 held_for n (s ∷ ss) = record { session = n; message = record { kind = s.kind; value = s.value } } ∷ held_for n ss
 
@@ -90,10 +48,6 @@ held_for n (s ∷ ss) = record { session = n; message = record { kind = s.kind; 
 abbrev pub next_hop_of : (ℕ → ℕ) → Option ℕ → Option NextHop
 next_hop_of seen None = None
 next_hop_of seen (Some q) = Some (record { port = q; session = seen q })
-
--- the link end at port q of router i
-abbrev pub at_port : ℕ → ℕ → LinkEnd
-at_port i q = record { router = i; port = q }
 
 -- ---- what a step leaves alone
 
@@ -130,7 +84,7 @@ pub record SameCosts (old new : State) : Type 0 where
 -- the router at end a takes its oldest item there: its machine reacts, and what it sends is held, unripe
 pub record Take (t : Topology) (old new : State) : Type 0 where
   pub a : LinkEnd
-  pub item : Item
+  pub item : SeenItem
   pub valid_place : t.valid a ≡ true
   pub inbox_at : old.inbox a ≡ item ∷ new.inbox a
   pub inbox_elsewhere : (e : LinkEnd) → (e ≡ a → ⊥) → new.inbox e ≡ old.inbox e
@@ -178,13 +132,13 @@ pub record Publish (t : Topology) (old new : State) : Type 0 where
   pub costs : SameCosts old new
 
 -- what a released message adds across the link: itself, where the link is up in the message's session, else nothing
-abbrev pub arriving : State → LinkEnd → Held → List Item
+abbrev pub arriving : State → LinkEnd → SeenHeld → List SeenItem
 arriving s a h = if s.up a && (h.session == s.session a) then Reported h.message ∷ [] else []
 
 -- the oldest ripe message for end a leaves its router
 pub record Release (t : Topology) (old new : State) : Type 0 where
   pub a : LinkEnd
-  pub first : Held
+  pub first : SeenHeld
   pub valid_place : t.valid a ≡ true
   pub ripe_at : old.ripe a ≡ first ∷ new.ripe a
   pub ripe_elsewhere : (e : LinkEnd) → (e ≡ a → ⊥) → new.ripe e ≡ old.ripe e
@@ -311,9 +265,9 @@ pub record ControlEdge (s : State) (e : LinkEnd) : Type 0 where
   pub chosen : (s.machine e.router).successor ≡ Some e.port
 
 -- a walk from router i: each link end leads, by an edge, to the router at which the next one begins
-abbrev pub IsWalk : Topology → (LinkEnd → Type 0) → ℕ → List LinkEnd → Type 0
-IsWalk t edge i [] = Unit {0}
-IsWalk t edge i (e ∷ es) = (e.router ≡ i) × (t.valid e ≡ true) × (edge e) × (IsWalk t edge (t.far e).router es)
+abbrev pub IsEdgeWalk : Topology → (LinkEnd → Type 0) → ℕ → List LinkEnd → Type 0
+IsEdgeWalk t edge i [] = Unit {0}
+IsEdgeWalk t edge i (e ∷ es) = (e.router ≡ i) × (t.valid e ≡ true) × (edge e) × (IsEdgeWalk t edge (t.far e).router es)
 
 -- the routers that a walk meets, after the first
 abbrev pub met : Topology → List LinkEnd → List ℕ
@@ -332,11 +286,11 @@ meets_twice (i ∷ is) = is_met i is || meets_twice is
 
 -- no walk along such edges meets a router twice
 abbrev pub IsLoopFree : Topology → (LinkEnd → Type 0) → Type 0
-IsLoopFree t edge = (i : ℕ) (es : List LinkEnd) → IsWalk t edge i es → meets_twice (i ∷ met t es) ≡ false
+IsLoopFree t edge = (i : ℕ) (es : List LinkEnd) → IsEdgeWalk t edge i es → meets_twice (i ∷ met t es) ≡ false
 
 -- the property holds of every state that steps lead to from an opening
-abbrev pub AlwaysHolds : (Topology → State → Type 0) → Type 0
-AlwaysHolds P = (t : Topology) (first last : State) → Opening t first → Run t first last → P t last
+abbrev pub HoldsInEveryState : (Topology → State → Type 0) → Type 0
+HoldsInEveryState P = (t : Topology) (first last : State) → Opening t first → Run t first last → P t last
 
 -- no walk along published successors meets a router twice
 abbrev pub PublishedLoopFree : Topology → State → Type 0

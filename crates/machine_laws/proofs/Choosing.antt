@@ -1,15 +1,10 @@
 -- When the feasible distance rises, and what the successor reported.
-use Rattle.std.proofs.Common.{◌≡◌, ◌⊎◌, ℕ, ◌<◌, ◌≤◌, min, Bool, true, false, List, [], Option, Some, refl, ap, sym, inl, inr, arith, subst, ◌∙◌}
-use Rattle.std.specs.Prelude.{slice_get}
-use Rattle.std.proofs.lemmas.Bool.{both_ways}
-use Rattle.std.proofs.lemmas.Option.{none-some}
+use Rattle.std.proofs.Common.{◌≡◌, ◌⊎◌, ℕ, ◌<◌, ◌≤◌, min, Bool, true, false, List, [], Option, Some, refl, ap, sym, inl, inr, arith, subst, ◌∙◌, slice_get}
+use Rattle.network_model.proofs.Common.{both_ways, none-some, Machine, Reaction, chosen_successor, least, ways, port_count, home_ways, records_after, attachment_after, with_records, reaction, infinity, slice_get-changed_at_other}
 use Rattle.network_model.specs.declared.machine.Neighbour.{Neighbour}
 use Rattle.network_model.specs.declared.machine.Event.{Event}
 use Rattle.network_model.specs.declared.machine.Event.TheVariants.{Up}
-use Rattle.network_model.specs.Machine.{Machine, Reaction, chosen_successor, least, ways, degree, home_ways, records_after, attachment_after, with_records, reaction}
-use Rattle.metric.specs.Distance.{infinity}
 use Rattle.machine_laws.specs.Laws.{released, test_at, is_up_at, reported_of, reported_at, awaits, is_active, Meets, IsSound, RisesAtCompletion, KeepsOrChooses}
-use Rattle.network_model.proofs.ListLaws.{slice_get-changed_at_other}
 use Rattle.machine_laws.proofs.Lists.{append_within, test_within}
 use Rattle.machine_laws.proofs.Distances.{AllSound, chosen_feasible, feasible_below_least, ways_sound}
 use Rattle.machine_laws.proofs.Events.{sound_after, attachment_sound_after, successor_kept}
@@ -53,7 +48,7 @@ pub up_other : (m : Machine) (q cost p : ℕ) → (p ≡ q → ⊥) → is_up_at
 up_other m q cost p other = ap (test_at (λ n. n.up)) (slice_get-changed_at_other (λ n. record { up = true; cost = cost; reported = infinity }) q p m.ports other)
 
 -- the successor is another port than one that is down
-pub successor_other : (m : Machine) (q p : ℕ) → IsSound m → q < degree m → is_up_at m q ≡ false → m.successor ≡ Some p → p ≡ q → ⊥
+pub successor_other : (m : Machine) (q p : ℕ) → IsSound m → q < port_count m → is_up_at m q ≡ false → m.successor ≡ Some p → p ≡ q → ⊥
 successor_other m q p sound there down s e = both_ways (is_up_at m q) down (subst (λ x. is_up_at m x ≡ true) e (sound.successor_up p s (omega (arith, there, e))))
 
 -- the ways after an event are sound
@@ -84,9 +79,9 @@ keeps_of m e r sound meets (came_up q cost) p s up = go (is_active m) refl
     go false act =
         let other = successor_other m q p sound meets.0 meets.1 s in
         inl (rw (reported_other m q cost p other) (sound.passive_feasible p act s (sym (up_other m q cost p other) ∙ up)))
-keeps_of m e r sound meets (goes_on _ c debt answer h some a) p s up = inr ((successor_kept (degree m) e m.successor p s).0, refl, omega arith)
+keeps_of m e r sound meets (goes_on _ c debt answer h some a) p s up = inr ((successor_kept (port_count m) e m.successor p s).0, refl, omega arith)
 keeps_of m e r sound meets (settles _ fd owed dec a f) p s up = inl (settled_reported m e fd p sound meets s up)
-keeps_of m e r sound meets (asks _ fd debt answer dec a f some) p s up = inr ((successor_kept (degree m) e m.successor p s).0, refl, dec.above)
+keeps_of m e r sound meets (asks _ fd debt answer dec a f some) p s up = inr ((successor_kept (port_count m) e m.successor p s).0, refl, dec.above)
 keeps_of m e r sound meets (is_alone _ fd debt answer dec a f none) p s up = absurd (none-some p s)
 
 -- a neighbour that is the successor after an event reported less than the feasible distance, or was the successor of a machine that is active

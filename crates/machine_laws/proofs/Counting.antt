@@ -1,18 +1,10 @@
 -- Queries and replies are counted exactly: what is awaited and what is owed, at each port.
-use Rattle.std.proofs.Common.{◌≡◌, ℕ, zero, suc, ◌+◌, Bool, true, false, List, [], ◌∷◌, ◌++◌, Option, Some, None, map, refl, ap, sym, arith, ◌∙◌}
-use Rattle.std.specs.Option.{option_map_or}
-use Rattle.std.specs.Prelude.{slice_get, ◌==◌, if◌then◌else◌}
-use Rattle.std.specs.List.{list_any}
-use Rattle.std.proofs.Math.Bool.{and-true}
-use Rattle.std.proofs.lemmas.Bool.{both_ways, true≢false, false_from_ne_true}
+use Rattle.std.proofs.Common.{◌≡◌, ℕ, zero, suc, ◌+◌, Bool, true, false, List, [], ◌∷◌, ◌++◌, Option, Some, None, map, refl, ap, sym, arith, ◌∙◌, slice_get, ◌==◌, if◌then◌else◌, true≢false}
+use Rattle.network_model.proofs.Common.{option_map_or, list_any, and-true, both_ways, false_from_ne_true, Kind, Update, Query, Reply, Machine, Computation, Reaction, is_port, via_successor, ways, records_after, with_records, one_to, all_from, changed_at, news_to_others, least, awaited_after, greeting, reaction, one_if, infinity}
 use Rattle.network_model.specs.declared.machine.Neighbour.{Neighbour}
 use Rattle.network_model.specs.declared.machine.Event.{Event}
-use Rattle.metric.specs.declared.kind.Kind.{Kind}
-use Rattle.metric.specs.declared.kind.Kind.TheVariants.{Update, Query, Reply}
-use Rattle.network_model.specs.Machine.{Machine, Computation, Reaction, is_port, via_successor, ways, records_after, with_records, one_to, all_from, changed_at, news_to_others, least, awaited_after, greeting, reaction}
 use Rattle.network_model.specs.declared.machine.Outgoing.{Outgoing}
-use Rattle.metric.specs.Distance.{infinity}
-use Rattle.machine_laws.specs.Laws.{released, one_if, is_kind, sent_to, count_kind, test_at, is_up_at, awaits, owes, is_active, is_message, is_down, IsSound, CountsQueries, CountsReplies}
+use Rattle.machine_laws.specs.Laws.{released, is_kind, sent_to, count_kind, test_at, is_up_at, awaits, owes, is_active, is_message, is_down, IsSound, CountsQueries, CountsReplies}
 use Rattle.machine_laws.proofs.Sends.{sent_append, count_append, count_one, count_all}
 use Rattle.machine_laws.proofs.Events.{is_port-Some, replied_by, released_by}
 use Rattle.machine_laws.proofs.Outcomes.{Account, Outcome, came_up, goes_on, settles, asks, is_alone, outcome, active_awaits, awaited_kept, test_nowhere, waiting, awaited_after_is}

@@ -1,10 +1,6 @@
 -- Lists: where a test passes, and two lists in a row.
-use Rattle.std.proofs.Common.{◌≡◌, ◌⊎◌, ℕ, zero, suc, ◌+◌, ◌<◌, Bool, true, false, cond, ◌||◌, List, [], ◌∷◌, ◌++◌, length, Some, None, refl, ap, sym, inl, inr, arith, subst}
-use Rattle.std.specs.Prelude.{slice_get}
-use Rattle.std.specs.List.{list_any, position_from}
-use Rattle.std.proofs.lemmas.Bool.{or_cases, or_parts}
-use Rattle.std.proofs.lemmas.Option.{same_Some, none-some}
-use Rattle.network_model.specs.Machine.{changed_at}
+use Rattle.std.proofs.Common.{◌≡◌, ◌⊎◌, ℕ, zero, suc, ◌+◌, ◌<◌, Bool, true, false, cond, ◌||◌, List, [], ◌∷◌, ◌++◌, length, Some, None, refl, ap, sym, inl, inr, arith, subst, slice_get}
+use Rattle.network_model.proofs.Common.{list_any, position_from, or_cases, or_parts, same_Some, none-some, changed_at}
 use Rattle.machine_laws.specs.Laws.{test_at}
 
 -- some element passes the test

@@ -1,12 +1,7 @@
 -- A machine that has heard nothing is sound, so the laws speak of some machine.
-use Rattle.std.proofs.Common.{◌≡◌, ◌⊎◌, ℕ, zero, suc, ◌+◌, ◌<◌, min, Bool, true, false, List, [], ◌∷◌, ◌++◌, length, Some, None, refl, ap, sym, inl, inr, arith, subst, ◌∙◌, lt-ltb}
-use Rattle.std.specs.Prelude.{slice_get, nat_lt, if◌then◌else◌}
-use Rattle.std.proofs.lemmas.Bool.{false≢true}
-use Rattle.std.proofs.lemmas.Option.{same_Some, none-some}
+use Rattle.std.proofs.Common.{◌≡◌, ◌⊎◌, ℕ, zero, suc, ◌+◌, ◌<◌, min, Bool, true, false, List, [], ◌∷◌, ◌++◌, length, Some, None, refl, ap, sym, inl, inr, arith, subst, ◌∙◌, lt-ltb, slice_get, nat_lt, if◌then◌else◌}
+use Rattle.network_model.proofs.Common.{false≢true, same_Some, none-some, infinity, distance, least, at_home, home_ways, least-append, distance-bounded}
 use Rattle.network_model.specs.declared.machine.Neighbour.{Neighbour}
-use Rattle.metric.specs.Distance.{infinity}
-use Rattle.network_model.specs.Machine.{distance, least, at_home, home_ways}
-use Rattle.network_model.proofs.MachineLaws.{least-append, distance-bounded}
 use Rattle.machine_laws.specs.Laws.{NothingHeard, OpensSound}
 use Rattle.machine_laws.proofs.Lists.{append_last, test_within}
 use Rattle.machine_laws.proofs.Distances.{distance_cases}

@@ -1,18 +1,10 @@
 -- The ways in which a machine can react to an event, with the facts that each of them comes with.
-use Rattle.std.proofs.Common.{◌≡◌, ◌⊎◌, ℕ, ◌+◌, ◌<◌, ◌≤◌, Bool, true, false, List, [], ◌++◌, Option, Some, None, map, refl, ap, sym, inl, inr, arith, subst, ◌∙◌}
-use Rattle.std.specs.Option.{option_map_or}
-use Rattle.std.specs.Prelude.{slice_get, if◌then◌else◌}
-use Rattle.std.specs.List.{list_any}
-use Rattle.std.proofs.lemmas.Bool.{cases_eq, both_ways, false_from_ne_true}
-use Rattle.std.proofs.lemmas.Option.{same_Some, none-some}
+use Rattle.std.proofs.Common.{◌≡◌, ◌⊎◌, ℕ, ◌+◌, ◌<◌, ◌≤◌, Bool, true, false, List, [], ◌++◌, Option, Some, None, map, refl, ap, sym, inl, inr, arith, subst, ◌∙◌, slice_get, if◌then◌else◌}
+use Rattle.network_model.proofs.Common.{option_map_or, list_any, cases_eq, both_ways, false_from_ne_true, same_Some, none-some, Update, Query, Reply, Machine, Computation, Reaction, ways, port_count, is_port, condition_holds, via_successor, records_after, with_records, asker, one_to, all_from, passive_result, new_computation, with_first, started_computation, passive_reaction, completion, awaited_after, debt_after, answers_at_once, active_reaction, greeting, decision, reaction, changed_at, infinity, slice_get-changed_at_other, one_if}
 use Rattle.network_model.specs.declared.machine.Neighbour.{Neighbour}
 use Rattle.network_model.specs.declared.machine.Event.{Event}
 use Rattle.network_model.specs.declared.machine.Event.TheVariants.{Message, Up, Down, Cost, Attached, Detached}
-use Rattle.metric.specs.declared.kind.Kind.TheVariants.{Update, Query, Reply}
-use Rattle.network_model.specs.Machine.{Machine, Computation, Reaction, ways, degree, is_port, condition_holds, via_successor, records_after, with_records, asker, one_to, all_from, passive_result, new_computation, with_first, started_computation, passive_reaction, completion, awaited_after, debt_after, answers_at_once, active_reaction, greeting, decision, reaction, changed_at}
-use Rattle.metric.specs.Distance.{infinity}
-use Rattle.machine_laws.specs.Laws.{released, one_if, test_at, is_up_at, awaits, owes, is_active, is_message, is_down, Meets, IsSound}
-use Rattle.network_model.proofs.ListLaws.{slice_get-changed_at_other}
+use Rattle.machine_laws.specs.Laws.{released, test_at, is_up_at, awaits, owes, is_active, is_message, is_down, Meets, IsSound}
 use Rattle.machine_laws.proofs.Lists.{list_any_nowhere, test_within}
 use Rattle.machine_laws.proofs.Sends.{eqb_same}
 use Rattle.machine_laws.proofs.Events.{is_port-Some, is_port_same, asked_by, asked_event, asker_up, released_alone, successor_stays, stays_up}
@@ -119,7 +111,7 @@ account_paid m e debt a = record {
 account_same : (m : Machine) (e : Event) (c : Computation) → IsSound m → m.computation ≡ Some c → asker e ≡ None → ((p : ℕ) → c.debt ≡ Some p → is_down p e ≡ false) → Account m e c.debt None
 account_same m e c sound h a stays = record {
   balance = λ p d ask. rw (active_owes m c p h, asked_by p e, a) (omega arith);
-  debt_successor = λ p k. let o = active_owes m c p h ∙ is_port_same p c.debt k in successor_stays (degree m) e m.successor p (sound.owes_successor p o) (stays p k) (test_within (λ n. n.up) m.ports p (sound.owes_up p o));
+  debt_successor = λ p k. let o = active_owes m c p h ∙ is_port_same p c.debt k in successor_stays (port_count m) e m.successor p (sound.owes_successor p o) (stays p k) (test_within (λ n. n.up) m.ports p (sound.owes_up p o));
   debt_up = λ p k. stays_up m e p (stays p k) (sound.owes_up p (active_owes m c p h ∙ is_port_same p c.debt k));
   answer_up = λ p k. absurd (none-some p k);
 }
@@ -142,7 +134,7 @@ account_asked m e c q sound meets h a s = record {
       let owed_to_asker : owes m p ≡ true → is_message Query p e ≡ true = λ t. asked_by p e ∙ is_port_same p (asker e) (a ∙ sym s ∙ sound.owes_successor p t) in
       let none : owes m p ≡ false = false_from_ne_true (owes m p) (λ t. both_ways (owes m p) (ask (owed_to_asker t)) t) in
       rw (none, asked_by p e, a) (omega arith);
-  debt_successor = λ p k. (asked_event q e a).successor_same (degree m) m.successor ∙ s ∙ k;
+  debt_successor = λ p k. (asked_event q e a).successor_same (port_count m) m.successor ∙ s ∙ k;
   debt_up = λ p k. let by : asker e ≡ Some p = a ∙ k in stays_up m e p ((asked_event p e by).none_down p) (asker_up m p e meets by);
   answer_up = λ p k. absurd (none-some p k);
 }
@@ -151,7 +143,7 @@ account_asked m e c q sound meets h a s = record {
 account_other : (m : Machine) (e : Event) (c : Computation) (q : ℕ) → IsSound m → Meets m e → m.computation ≡ Some c → asker e ≡ Some q → Account m e c.debt (Some q)
 account_other m e c q sound meets h a = record {
   balance = λ p d ask. rw (active_owes m c p h, asked_by p e, a) (omega arith);
-  debt_successor = λ p k. let o = active_owes m c p h ∙ is_port_same p c.debt k in successor_stays (degree m) e m.successor p (sound.owes_successor p o) ((asked_event q e a).none_down p) (test_within (λ n. n.up) m.ports p (sound.owes_up p o));
+  debt_successor = λ p k. let o = active_owes m c p h ∙ is_port_same p c.debt k in successor_stays (port_count m) e m.successor p (sound.owes_successor p o) ((asked_event q e a).none_down p) (test_within (λ n. n.up) m.ports p (sound.owes_up p o));
   debt_up = λ p k. stays_up m e p ((asked_event q e a).none_down p) (sound.owes_up p (active_owes m c p h ∙ is_port_same p c.debt k));
   answer_up = λ p k. let by : asker e ≡ Some p = a ∙ k in stays_up m e p ((asked_event p e by).none_down p) (asker_up m p e meets by);
 }

@@ -1,17 +1,11 @@
 -- A sound machine stays sound.
-use Rattle.std.proofs.Common.{◌≡◌, ℕ, min, ◌<◌, ◌≤◌, Bool, true, false, List, Option, Some, refl, ap, sym, arith, subst, ◌∙◌}
-use Rattle.std.specs.Prelude.{slice_get, length, is_some}
-use Rattle.std.specs.List.{list_any}
-use Rattle.std.proofs.lemmas.Bool.{both_ways, true≢false, false≢true, false_from_ne_true}
-use Rattle.std.proofs.lemmas.Option.{same_Some, none-some}
+use Rattle.std.proofs.Common.{◌≡◌, ℕ, min, ◌<◌, ◌≤◌, Bool, true, false, List, Option, Some, refl, ap, sym, arith, subst, ◌∙◌, slice_get, length, is_some, true≢false}
+use Rattle.network_model.proofs.Common.{list_any, both_ways, false≢true, false_from_ne_true, same_Some, none-some, Machine, Computation, Reaction, condition_holds, distance, via_successor, least, ways, port_count, home_ways, records_after, attachment_after, with_records, awaited_after, passive_result, reaction, infinity, least_bounded, least-append, least_ways-none_up}
 use Rattle.network_model.specs.declared.machine.Neighbour.{Neighbour}
 use Rattle.network_model.specs.declared.machine.Event.{Event}
 use Rattle.network_model.specs.declared.machine.Event.TheVariants.{Up}
-use Rattle.network_model.specs.Machine.{Machine, Computation, Reaction, condition_holds, distance, via_successor, least, ways, degree, home_ways, records_after, attachment_after, with_records, awaited_after, passive_result, reaction}
-use Rattle.metric.specs.Distance.{infinity}
 use Rattle.machine_laws.specs.Laws.{released, test_at, is_up_at, awaits, is_down, Meets, IsSound, StaysSound}
 use Rattle.machine_laws.proofs.Lists.{list_any_place, append_within, changed_append_other}
-use Rattle.network_model.proofs.MachineLaws.{least_bounded, least-append, least_ways-none_up}
 use Rattle.machine_laws.proofs.Distances.{AllSound, chosen_feasible, chosen_none, condition_fails, via_range, least_came_up, least_positive, way_within, way_last}
 use Rattle.machine_laws.proofs.Events.{sound_after, attachment_sound_after, successor_kept, attachment_kept, ports_length, stays_up, is_port-Some, down_released}
 use Rattle.machine_laws.proofs.Outcomes.{Account, Decision, Outcome, came_up, goes_on, settles, asks, is_alone, waiting, asked, alone, outcome, active_awaits, awaited_kept}
@@ -23,17 +17,17 @@ any_at : {A : Type 0} (test : A → Bool) (xs : List A) → list_any test xs ≡
 any_at test xs h = let (p, x, at, t) = list_any_place test xs h in (p, rw at t)
 
 -- a successor after an event is a port that is up, or the attachment
-successor_kept_up : (m : Machine) (e : Event) → IsSound m → (p : ℕ) → (with_records m e).successor ≡ Some p → (p < degree (with_records m e) → is_up_at (with_records m e) p ≡ true) × (p ≤ degree (with_records m e))
+successor_kept_up : (m : Machine) (e : Event) → IsSound m → (p : ℕ) → (with_records m e).successor ≡ Some p → (p < port_count (with_records m e) → is_up_at (with_records m e) p ≡ true) × (p ≤ port_count (with_records m e))
 successor_kept_up m e sound p h =
-    let kept = successor_kept (degree m) e m.successor p h in
-    let same : degree (with_records m e) ≡ degree m = ports_length e m.ports in
+    let kept = successor_kept (port_count m) e m.successor p h in
+    let same : port_count (with_records m e) ≡ port_count m = ports_length e m.ports in
     (λ l. stays_up m e p kept.1 (sound.successor_up p kept.0 (omega (arith, l, same))), omega (arith, same, sound.successor_within p kept.0))
 
 -- an attachment that is the successor after an event is there
-successor_kept_attached : (m : Machine) (e : Event) → IsSound m → (with_records m e).successor ≡ Some (degree (with_records m e)) → is_some (with_records m e).attachment ≡ true
+successor_kept_attached : (m : Machine) (e : Event) → IsSound m → (with_records m e).successor ≡ Some (port_count (with_records m e)) → is_some (with_records m e).attachment ≡ true
 successor_kept_attached m e sound h =
-    let here : (with_records m e).successor ≡ Some (degree m) = h ∙ ap (λ (n : ℕ). Some n) (ports_length e m.ports) in
-    attachment_kept (degree m) e m.successor m.attachment here (sound.successor_attached (successor_kept (degree m) e m.successor (degree m) here).0)
+    let here : (with_records m e).successor ≡ Some (port_count m) = h ∙ ap (λ (n : ℕ). Some n) (ports_length e m.ports) in
+    attachment_kept (port_count m) e m.successor m.attachment here (sound.successor_attached (successor_kept (port_count m) e m.successor (port_count m) here).0)
 
 -- a machine stays sound where a link comes up
 sound_came_up : (m : Machine) (q cost : ℕ) → IsSound m → Meets m (Up q cost) → IsSound (with_records m (Up q cost))

@@ -5,8 +5,9 @@ use Rattle.network_model.specs.declared.machine.Event.{Event}
 use Rattle.network_model.specs.declared.machine.Event.TheVariants.{Message, Up, Down, Cost, Attached, Detached}
 use Rattle.metric.specs.declared.kind.Kind.{Kind}
 use Rattle.metric.specs.declared.kind.Kind.TheVariants.{Update, Query, Reply}
-use Rattle.network_model.specs.Machine.{Machine, Computation, opening_machine, reaction, distance, least, ways, degree, records_after, attachment_after, is_port}
+use Rattle.network_model.specs.Machine.{Machine, Computation, opening_machine, reaction, distance, least, ways, port_count, records_after, attachment_after, is_port}
 use Rattle.network_model.specs.declared.machine.Outgoing.{Outgoing}
+use Rattle.network_model.specs.Numbers.{one_if}
 use Rattle.metric.specs.Distance.{infinity}
 
 -- the port that an event ends the wait for: its reply came, or its link is lost
@@ -14,11 +15,6 @@ abbrev pub released : Event → Option ℕ
 released (Message q Reply value) = Some q
 released (Down q) = Some q
 released _ = None
-
--- a truth value as a number: 1 or 0
-abbrev pub one_if : Bool → ℕ
-one_if true = 1
-one_if false = 0
 
 -- whether two kinds of message are the same
 abbrev pub is_kind : Kind → Kind → Bool
@@ -122,9 +118,9 @@ pub record IsSound (m : Machine) : Type 0 where
   pub fd_below : m.fd ≤ m.rd
   pub fd_positive : 0 < m.fd
   -- the successor is a port that is up, or the attachment, which is there
-  pub successor_up : (p : ℕ) → m.successor ≡ Some p → p < degree m → is_up_at m p ≡ true
-  pub successor_within : (p : ℕ) → m.successor ≡ Some p → p ≤ degree m
-  pub successor_attached : m.successor ≡ Some (degree m) → is_some m.attachment ≡ true
+  pub successor_up : (p : ℕ) → m.successor ≡ Some p → p < port_count m → is_up_at m p ≡ true
+  pub successor_within : (p : ℕ) → m.successor ≡ Some p → p ≤ port_count m
+  pub successor_attached : m.successor ≡ Some (port_count m) → is_some m.attachment ≡ true
   -- passive: at the least distance, by way of the attachment, or of a neighbour that reported less than the feasible distance
   pub passive_least : is_active m ≡ false → m.rd ≡ least (ways m)
   pub passive_feasible : (p : ℕ) → is_active m ≡ false → m.successor ≡ Some p → is_up_at m p ≡ true → reported_at m p < m.fd

@@ -1,6 +1,5 @@
 -- The first cause of a list of tests, by its parts.
-use Rattle.std.specs.Prelude.{◌≡◌, Bool, true, false, List, [], ◌∷◌, ◌++◌, Some, None}
-use Rattle.std.proofs.Common.{refl, sym}
+use Rattle.std.proofs.Common.{refl, sym, ◌≡◌, Bool, true, false, List, [], ◌∷◌, ◌++◌, Some, None}
 use Rattle.network_model.specs.Network.{first_cause}
 use Rattle.network_model.proofs.ListLaws.{None_not_Some}
 

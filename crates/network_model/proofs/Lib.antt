@@ -10,3 +10,4 @@ pub mod MachineLaws
 pub mod RecordsLaws
 mod MachineRows
 mod NetworkRows
+pub mod Common

@@ -1,11 +1,9 @@
 -- Networks of two to four routers at work: worked examples, each with the steps that it takes shown to be lawful.
-use Rattle.std.specs.Prelude.{◌≡◌, ℕ, zero, suc, ◌+◌, ◌*◌, ◌^◌, Bool, true, false, if◌then◌else◌, List, [], ◌∷◌, ◌++◌, Option, Some, None, map, length, option_map, option_and_then, slice_get, is_some, is_none}
+use Rattle.std.proofs.Common.{refl, ◌≡◌, ℕ, zero, suc, ◌+◌, ◌*◌, ◌^◌, Bool, true, false, if◌then◌else◌, List, [], ◌∷◌, ◌++◌, Option, Some, None, map, length, option_map, option_and_then, slice_get, is_some, is_none}
 use Rattle.std.specs.FinMap.{find as row_of}
-use Rattle.std.proofs.Common.{refl}
 use Rattle.metric.specs.Distance.{infinity}
 use Rattle.metric.specs.declared.kind.Kind.TheVariants.{Update}
 use Rattle.ipv4_prefix.specs.Prefix.{Prefix, prefix_cmp}
-use Rattle.network_model.specs.declared.item.Item.{Item}
 use Rattle.network_model.specs.declared.route.Entry.{Entry}
 use Rattle.network_model.specs.declared.route.Entry.TheVariants.{Local, Via}
 use Rattle.network_model.specs.declared.network.End.TheVariants.{A, B}
@@ -15,14 +13,16 @@ use Rattle.network_model.specs.declared.step.Step.{Step}
 use Rattle.network_model.specs.declared.step.Step.TheVariants.{LinkUp, LinkDown, SetCost, Deliver, Publish, Release, Attach, Detach}
 use Rattle.network_model.specs.declared.step.Refusal.{Refusal}
 use Rattle.network_model.specs.declared.step.Refusal.TheVariants.{AlreadyUp, IsDown, NothingToDeliver, NothingDue, NothingRipe, UnknownRouter, UnknownLink, UnknownPrefix, NotAttached}
+use Rattle.network_model.specs.declared.trace.Ending.{Ending}
+use Rattle.network_model.specs.declared.trace.Ending.TheVariants.{Delivered, DeadLink, Crossed}
 use Rattle.network_model.specs.Machine.{Machine}
 use Rattle.network_model.specs.World.{World, Network, Link, Router, opening, attachment_at}
 use Rattle.network_model.specs.Network.{network_fault}
 use Rattle.network_model.specs.Step.{entry_of, refusal, next}
 use Rattle.network_model.specs.Run.{History, history, run}
 use Rattle.network_model.specs.Turns.{settling_steps, is_settled}
-use Rattle.network_model.specs.Forwarding.{Trace, Ending, Delivered, DeadLink, Crossed, trace, row_for, hop, is_quiet, walk_cost, IsWalkHome}
-use Rattle.network_model.specs.View.{destination_view, machine_at, published_hop, published_fd, inbox_at, far_router, pipe}
+use Rattle.network_model.specs.Forwarding.{Trace, trace, row_for, hop, is_quiet, walk_cost, IsWalkHome}
+use Rattle.network_model.specs.View.{SeenItem, Reported, State, at_port, destination_view}
 use Rattle.network_model.specs.Journal.{step_number, journal_sum, steps_in_sum}
 
 -- ---- scripts
@@ -88,7 +88,7 @@ line : World → ℕ → Prefix → Option Line
 line w i p = option_and_then (λ r. option_map (line_of r) (row_of prefix_cmp p r.machines)) (slice_get w.routers i)
 
 trace_is : List ℕ → Ending → Trace
-trace_is path end = record { path = path; end = end }
+trace_is path end = record { path = path; end = Some end }
 
 -- ---- the networks
 
@@ -406,27 +406,36 @@ home_refused = refl
 half_way : List Command
 half_way = Do (LinkUp 0) ∷ Do (Deliver 0 0) ∷ Do (Deliver 1 0) ∷ Do (Publish 0) ∷ Do (Release 0) ∷ []
 
-told_one : Item
-told_one = Item.Message (record { kind = Update; prefix = ten; value = 1 })
+told_one : List SeenItem
+told_one = Reported (record { kind = Update; value = 1 }) ∷ []
+
+-- what a prefix sees then
+half_way_view : Prefix → State
+half_way_view p = destination_view two p (played two half_way)
 
 half_way_seen : (refused_in two half_way ≡ None)
-    × (inbox_at (destination_view ten (played two half_way)).world 1 0 ≡ told_one ∷ [])
-    × (pipe (destination_view ten (played two half_way)).world 0 0 ≡ told_one ∷ [])
-    × (inbox_at (destination_view everything (played two half_way)).world 1 0 ≡ [])
-    × ((machine_at (destination_view ten (played two half_way)).world 1).fd ≡ infinity)
-    × (published_fd (destination_view ten (played two half_way)) 0 ≡ 1)
-    × (far_router (destination_view ten (played two half_way)).world 0 0 ≡ Some 1)
-unfolding half_way told_one refused_in played steps_of script_steps two network link ten everything
-half_way_seen = (refl, refl, refl, refl, refl, refl, refl)
+    × ((half_way_view ten).inbox (at_port 1 0) ≡ told_one)
+    × ((half_way_view ten).ripe (at_port 0 0) ≡ [])
+    × ((half_way_view ten).unripe (at_port 0 0) ≡ [])
+    × ((half_way_view everything).inbox (at_port 1 0) ≡ [])
+    × (((half_way_view ten).machine 1).fd ≡ infinity)
+    × ((half_way_view ten).published_fd 0 ≡ 1)
+    × ((half_way_view ten).up (at_port 0 0) ≡ true)
+    × ((half_way_view ten).session (at_port 1 0) ≡ 1)
+    × ((half_way_view ten).seen (at_port 1 0) ≡ 1)
+    × ((half_way_view ten).cost (at_port 1 0) ≡ 5)
+    × ((half_way_view ten).up (at_port 2 0) ≡ false)
+unfolding half_way half_way_view told_one refused_in played steps_of script_steps two network link ten everything
+half_way_seen = (refl, refl, refl, refl, refl, refl, refl, refl, refl, refl, refl, refl)
 
 -- b published its row at distance 6; its machine has none once the link is lost
 cut_off : List Command
 cut_off = two_settled ++ Do (LinkDown 0) ∷ Do (Deliver 1 0) ∷ []
 
 cut_off_seen : (refused_in two cut_off ≡ None)
-    × (published_hop (destination_view ten (played two cut_off)).world 1 ≡ Some (record { port = 0; session = 1 }))
-    × (published_fd (destination_view ten (played two cut_off)) 1 ≡ 6)
-    × ((machine_at (destination_view ten (played two cut_off)).world 1).fd ≡ infinity)
+    × ((destination_view two ten (played two cut_off)).published 1 ≡ Some (record { port = 0; session = 1 }))
+    × ((destination_view two ten (played two cut_off)).published_fd 1 ≡ 6)
+    × (((destination_view two ten (played two cut_off)).machine 1).fd ≡ infinity)
     × (hop (world_of two cut_off) address 1 ≡ None)
     × (hop (world_of two two_settled) address 1 ≡ Some 0)
 unfolding cut_off two_settled refused_in world_of played steps_of script_steps world_after two network link ten address

@@ -1,7 +1,5 @@
 -- The port of a place: which of a router's ports lies at an end of a link.
-use Rattle.std.specs.Prelude.{◌≡◌, ℕ, zero, suc, ◌+◌, Bool, true, false, ◌==◌, if◌then◌else◌, List, [], ◌∷◌, ◌++◌, Some, slice_get}
-use Rattle.std.proofs.Common.{refl, sym, ap, subst, arith}
-use Rattle.std.proofs.lemmas.Bool.{eqb-true}
+use Rattle.std.proofs.Common.{refl, sym, ap, subst, arith, ◌≡◌, ℕ, zero, suc, ◌+◌, Bool, true, false, ◌==◌, if◌then◌else◌, List, [], ◌∷◌, ◌++◌, Some, slice_get, eqb-true}
 use Rattle.network_model.specs.declared.network.End.{End}
 use Rattle.network_model.specs.declared.network.End.TheVariants.{A, B}
 use Rattle.network_model.specs.declared.network.LinkSpec.{LinkSpec}

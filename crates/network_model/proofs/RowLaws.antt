@@ -1,5 +1,5 @@
 -- Rows in the order of their keys: a key before all of them, values that are changed, and a row that is put.
-use Rattle.std.proofs.Common.{◌++◌, sym, append_assoc, ◌≡◌, true, false, cond, ◌&&◌, List, [], ◌∷◌, map, Some, None, refl, ap, ◌∙◌}
+use Rattle.std.proofs.Common.{◌++◌, sym, append_assoc, ◌≡◌, true, false, cond, ◌&&◌, List, [], ◌∷◌, map, Some, None, refl, ap, ◌∙◌, append-nil}
 use Rattle.std.specs.declared.cmp.Ordering.{Ordering}
 use Rattle.std.specs.declared.cmp.Ordering.TheVariants.{Less, Equal, Greater}
 use Rattle.std.specs.FinMap.{find, put, is_sorted}
@@ -7,7 +7,6 @@ use Rattle.std.specs.FinMap.Entries.{below_all, by_order, is_sorted-put}
 use Rattle.std.specs.Option.{option_map}
 use Rattle.std.specs.Ordering.{is_eq, is_lt, eq_by_cmp, ordering_reverse}
 use Rattle.std.proofs.lemmas.Bool.{and_parts}
-use Rattle.std.proofs.lemmas.List.{append-nil}
 use Rattle.ipv4_prefix.specs.Prefix.{Prefix, prefix_cmp}
 use Rattle.ipv4_prefix.proofs.SortedRows.{to_T, from_T}
 use Rattle.ipv4_prefix.proofs.PrefixOrder.{prefix_cmp_total, less_from_test}

@@ -1,6 +1,5 @@
 -- What a change of one part of a world leaves of the others.
-use Rattle.std.specs.Prelude.{◌≡◌, ℕ}
-use Rattle.std.proofs.Common.{refl}
+use Rattle.std.proofs.Common.{refl, ◌≡◌, ℕ}
 use Rattle.network_model.specs.declared.network.End.{End}
 use Rattle.network_model.specs.Machine.{changed_at}
 use Rattle.network_model.specs.World.{Link, World, place_at}

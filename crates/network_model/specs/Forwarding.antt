@@ -6,6 +6,9 @@ use Rattle.ipv4_prefix.specs.Prefix.{Prefix, prefix_eq}
 use Rattle.ipv4_prefix.specs.LongestMatch.{longest_match}
 use Rattle.network_model.specs.declared.route.Entry.{Entry}
 use Rattle.network_model.specs.declared.network.Place.{Place}
+use Rattle.network_model.specs.declared.trace.Ending.{Ending}
+use Rattle.network_model.specs.declared.trace.Ending.TheVariants.{Delivered, NoRoute, Unreachable, DeadLink, Crossed}
+use Rattle.network_model.specs.declared.trace.Trace.{Trace as TraceFields}
 use Rattle.network_model.specs.World.{Link, Router, Attachments, World, other, side, link_at, far_side_at, attachment_at}
 use Rattle.network_model.specs.Step.{is_up_in, changed_rows}
 
@@ -41,21 +44,14 @@ IsPacketWalk w addr p (i ∷ k ∷ ks) = IsForwarded w addr p i k × IsPacketWal
 
 -- ---- traces
 
--- why a trace ends
-pub data Ending : Type 0 where
-  Delivered : Ending
-  NoRoute : Ending
-  Unreachable : Ending
-  DeadLink : Ending
-  -- another prefix than the first router's matched
-  Crossed : Ending
-  -- the trace was given too few routers
-  Unfinished : Ending
-
--- the routers that a packet passes, and why it ends
+-- the routers that a packet passes, and why it ends; none where it was given too few routers
 pub record Trace : Type 0 where
   pub path : List ℕ
-  pub end : Ending
+  pub end : Option Ending
+
+-- a trace as code has it, which has ended
+abbrev pub trace_of : TraceFields → Trace
+trace_of t = record { path = t.path.items; end = Some t.end }
 
 -- what a trace does at a router: it ends, or goes on to another
 pub data Onward : Type 0 where
@@ -89,12 +85,12 @@ onward w addr first i = by_row w i first (row_for w i addr)
 
 -- the trace that passes router i: it ends there, or goes on as told
 abbrev pub traced_by : (Prefix → ℕ → Trace) → ℕ → Onward → Trace
-traced_by rest i (Ends end) = record { path = i ∷ []; end = end }
+traced_by rest i (Ends end) = record { path = i ∷ []; end = Some end }
 traced_by rest i (Goes p k) = record { path = i ∷ (rest p k).path; end = (rest p k).end }
 
 -- the trace of a packet from router i through at most n routers
 abbrev pub trace_from : ℕ → World → ℕ → Option Prefix → ℕ → Trace
-trace_from zero w addr first i = record { path = []; end = Unfinished }
+trace_from zero w addr first i = record { path = []; end = None }
 trace_from (suc n) w addr first i = traced_by (λ p k. trace_from n w addr (Some p) k) i (onward w addr first i)
 
 -- the trace of a packet for an address from router i

@@ -1,3 +1,4 @@
+pub mod Numbers
 pub mod Machine
 pub mod Memory
 pub mod World

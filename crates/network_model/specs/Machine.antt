@@ -62,12 +62,12 @@ abbrev pub ways : Machine → List Neighbour
 ways m = m.ports ++ home_ways m.attachment
 
 -- how many ports a router has: the number that its attachment has among the ways
-abbrev pub degree : Machine → ℕ
-degree m = length m.ports
+abbrev pub port_count : Machine → ℕ
+port_count m = length m.ports
 
 -- the successor where it is a port of a link; none where it is the attachment
 abbrev pub port_successor : Machine → Option ℕ
-port_successor m = option_and_then (λ q. if q == degree m then None else Some q) m.successor
+port_successor m = option_and_then (λ q. if q == port_count m then None else Some q) m.successor
 
 -- the distance by way of a neighbour; infinity while its link is down, whatever it reported before
 abbrev pub distance : Neighbour → ℕ
@@ -159,13 +159,13 @@ attachment_after _ attachment = attachment
 
 -- a successor whose link is lost is none, and so is a lost attachment, whose number is the degree
 abbrev pub successor_after : ℕ → Event → Option ℕ → Option ℕ
-successor_after degree (Down q) successor = if is_port q successor then None else successor
-successor_after degree Detached successor = if is_port degree successor then None else successor
-successor_after degree _ successor = successor
+successor_after port_count (Down q) successor = if is_port q successor then None else successor
+successor_after port_count Detached successor = if is_port port_count successor then None else successor
+successor_after port_count _ successor = successor
 
 -- the machine with its records after an event, before it decides
 abbrev pub with_records : Machine → Event → Machine
-with_records m e = record m { attachment = attachment_after e m.attachment; ports = records_after e m.ports; successor = successor_after (degree m) e m.successor }
+with_records m e = record m { attachment = attachment_after e m.attachment; ports = records_after e m.ports; successor = successor_after (port_count m) e m.successor }
 
 -- the port whose query the event is
 abbrev pub asker : Event → Option ℕ

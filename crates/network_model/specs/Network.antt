@@ -24,6 +24,10 @@ most_prefixes = 4096
 abbrev pub most_attachments : ℕ
 most_attachments = 16384
 
+-- the greatest number of workers
+abbrev pub most_workers : ℕ
+most_workers = 16
+
 -- of tests with causes, in order, the cause of the first that passes
 abbrev pub first_cause : {X : Type 0} → List (Bool × X) → Option X
 first_cause [] = None

@@ -3,6 +3,7 @@ use Rattle.std.specs.Prelude.{ℕ, List, [], ◌∷◌, Option}
 use Rattle.std.specs.FinMap.{put}
 use Rattle.ipv4_prefix.specs.Prefix.{Prefix, prefix_cmp}
 use Rattle.ipv4_prefix.specs.LongestMatch.{longest_match}
+use Rattle.network_model.specs.declared.route.Answer.{Answer}
 use Rattle.network_model.specs.declared.route.Entry.{Entry}
 
 -- rows to set, with the generation that they make
@@ -33,6 +34,10 @@ pub record Image : Type 0 where
 -- what an image answers for an address
 abbrev pub image_answer : Image → ℕ → Option (Prefix × Entry)
 image_answer image addr = longest_match addr image.rows
+
+-- and with its generation
+abbrev pub answer_of : Image → ℕ → Answer
+answer_of image addr = record { generation = image.generation; matched = image_answer image addr }
 
 -- the image of a list of patches over an opening table, whose generation is 0
 abbrev pub published_image : List (Prefix × Entry) → List Patch → Image

@@ -20,8 +20,8 @@ use Rattle.network_model.specs.declared.step.Step.{Step}
 use Rattle.network_model.specs.declared.step.Step.TheVariants.{LinkUp, LinkDown, SetCost, Deliver, Publish, Release, Attach, Detach}
 use Rattle.network_model.specs.declared.step.Refusal.{Refusal}
 use Rattle.network_model.specs.declared.step.Refusal.TheVariants.{UnknownRouter, UnknownLink, AlreadyUp, IsDown, SessionsSpent, NothingToDeliver, NothingDue, NothingRipe, UnknownPrefix, NotAttached}
-use Rattle.network_model.specs.Machine.{Machine, Reaction, reaction, changed_at, degree, event_at_home}
-use Rattle.network_model.specs.World.{Side, Link, Table, Router, Attachments, World, other, place_at, link_at, side_at, degree_of, attachment_at, is_known, machine_of}
+use Rattle.network_model.specs.Machine.{Machine, Reaction, reaction, changed_at, port_count, event_at_home}
+use Rattle.network_model.specs.World.{Gate, Side, Link, Table, Router, Attachments, World, other, place_at, link_at, side_at, degree_of, attachment_at, is_known, machine_of}
 use Rattle.network_model.specs.Network.{first_cause}
 
 -- ---- links
@@ -84,7 +84,7 @@ session_at ports q = option_map_or (λ p. p.session) (slice_get ports q) 0
 -- the entry of a machine: local where the successor is its attachment, else by way of the successor where there is one,
 -- also while a computation runs, else unreachable
 abbrev pub entry_of : List Port → Machine → Entry
-entry_of ports m = option_map_or (λ q. if q == degree m then Local else Via q (session_at ports q)) m.successor Unreachable
+entry_of ports m = option_map_or (λ q. if q == port_count m then Local else Via q (session_at ports q)) m.successor Unreachable
 
 -- what a machine sends becomes held for the session of its port
 abbrev pub held_of : List Port → Prefix → Outgoing → Held
@@ -138,21 +138,33 @@ router_accepting q (Item.Down session) r = router_noticing (Event.Down q) (chang
 router_accepting q (Item.Cost session cost) r = router_noticing (Event.Cost q cost) (changed_at q (λ p. record p { session = session; cost = cost }) r.ports) r
 router_accepting q (Item.Message m) r = router_told q m r
 
+-- all that a gate holds is ripe
+abbrev pub with_all_ripe : Gate → Gate
+with_all_ripe g = record g { ripe = length g.held }
+
+-- the oldest message that a gate holds, where it is ripe
+abbrev pub gate_front : Gate → Option Held
+gate_front g = if nat_lt 0 g.ripe then slice_get g.held 0 else None
+
+-- a gate without that message
+abbrev pub with_front_released : Gate → Gate
+with_front_released g = record { held = drop 1 g.held; ripe = g.ripe - 1 }
+
 -- a router that publishes: its control rows are in force, and all that it holds is ripe
 abbrev pub router_publishing : Router → Router
 router_publishing r = record r {
   table = record r.table { published = (r.table).control };
-  gate = record r.gate { ripe = length (r.gate).held };
+  gate = with_all_ripe r.gate;
   generation = r.generation + 1;
 }
 
 -- a router without the front of what it holds
 abbrev pub router_releasing : Router → Router
-router_releasing r = record r { gate = record { held = drop 1 (r.gate).held; ripe = (r.gate).ripe - 1 } }
+router_releasing r = record r { gate = with_front_released r.gate }
 
 -- the oldest message that a router holds, where it is ripe
 abbrev pub ripe_front : Router → Option Held
-ripe_front r = if nat_lt 0 (r.gate).ripe then slice_get (r.gate).held 0 else None
+ripe_front r = gate_front r.gate
 
 -- whether two entries are one
 abbrev pub entry_eq : Entry → Entry → Bool

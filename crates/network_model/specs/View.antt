@@ -1,167 +1,156 @@
--- A network as one prefix sees it: its machines, and what stands between them.
-use Rattle.std.specs.Prelude.{ℕ, Bool, true, false, ◌==◌, List, [], ◌++◌, map, take, drop, Option, Some, None, slice_get, filter, option_and_then, option_map}
+-- A network as one prefix sees it: the machines of its routers, and what is on the way between them.
+use Rattle.std.specs.Prelude.{ℕ, Bool, false, ◌&&◌, ◌==◌, if◌then◌else◌, List, [], ◌∷◌, ◌++◌, take, drop, Option, Some, None, slice_get, option_and_then}
 use Rattle.std.specs.Option.{option_map_or}
 use Rattle.std.specs.FinMap.{find as row_of}
 use Rattle.ipv4_prefix.specs.Prefix.{Prefix, prefix_cmp, prefix_eq}
-use Rattle.network_model.specs.declared.machine.Event.{Event}
+use Rattle.metric.specs.declared.kind.Kind.{Kind}
+use Rattle.metric.specs.Distance.{infinity}
+use Rattle.network_model.specs.declared.item.Message.{Message}
 use Rattle.network_model.specs.declared.item.Item.{Item}
 use Rattle.network_model.specs.declared.item.Held.{Held}
 use Rattle.network_model.specs.declared.route.Entry.{Entry}
 use Rattle.network_model.specs.declared.route.Entry.TheVariants.{Local, Via, Unreachable}
+use Rattle.network_model.specs.declared.network.End.{End}
 use Rattle.network_model.specs.declared.network.Place.{Place}
-use Rattle.network_model.specs.declared.network.Port.{Port}
 use Rattle.network_model.specs.Machine.{Machine, opening_machine}
-use Rattle.network_model.specs.World.{Side, Link, Router, World, other, side, machine_of}
+use Rattle.network_model.specs.World.{Link, Router, World, Network, side, machine_of, place_at, opening}
+use Rattle.network_model.specs.Step.{session_at}
 use Rattle.network_model.specs.Run.{History}
 
--- ---- what is left of a world
+-- ---- what is seen
 
--- whether an item is a notice, or speaks of the prefix
-abbrev pub concerns : Prefix → Item → Bool
-concerns p (Item.Up session cost) = true
-concerns p (Item.Down session) = true
-concerns p (Item.Cost session cost) = true
-concerns p (Item.Message m) = prefix_eq p m.prefix
+-- one end of a link: a router and a port of it
+pub record LinkEnd : Type 0 where
+  pub router : ℕ
+  pub port : ℕ
 
--- whether a held message speaks of the prefix
-abbrev pub is_held_for : Prefix → Held → Bool
-is_held_for p h = prefix_eq p (h.message).prefix
+-- the link end at port q of router i
+abbrev pub at_port : ℕ → ℕ → LinkEnd
+at_port i q = record { router = i; port = q }
 
--- an end of a link without the messages of other prefixes
-abbrev pub seen_side : Prefix → Side → Side
-seen_side p s = record s { inbox = filter (concerns p) s.inbox }
+-- what one router says to another of the prefix: an update, a query or a reply, with a distance
+pub record Report : Type 0 where
+  pub kind : Kind
+  pub value : ℕ
 
--- a link without the messages of other prefixes
-abbrev pub seen_link : Prefix → Link → Link
-seen_link p k = record k { a = seen_side p k.a; b = seen_side p k.b }
+-- what a router has yet to take at a port: a notice of its link, or a message of the prefix
+pub data SeenItem : Type 0 where
+  UpNotice : (session : ℕ) (cost : ℕ) → SeenItem
+  DownNotice : (session : ℕ) → SeenItem
+  CostNotice : (session : ℕ) (cost : ℕ) → SeenItem
+  Reported : (message : Report) → SeenItem
 
--- a next hop: over which port, in which session
-pub record Hop : Type 0 where
+-- a message of the prefix that a router holds for a port, meant for one session of the link there
+pub record SeenHeld : Type 0 where
+  pub session : ℕ
+  pub message : Report
+
+-- a next hop: over which port, in which session of the link there
+pub record NextHop : Type 0 where
   pub port : ℕ
   pub session : ℕ
 
--- the next hop of an entry, if it has one
-abbrev pub hop_of : Entry → Option Hop
-hop_of Local = None
-hop_of (Via q session) = Some (record { port = q; session = session })
-hop_of Unreachable = None
+-- a network at one moment: the machine of each router, what it published, and what is queued or held at each link end
+pub record State : Type 0 where
+  pub machine : ℕ → Machine
+  -- the session of which the router's notices told last
+  pub seen : LinkEnd → ℕ
+  pub up : LinkEnd → Bool
+  pub session : LinkEnd → ℕ
+  pub cost : LinkEnd → ℕ
+  pub inbox : LinkEnd → List SeenItem
+  -- what the router holds for the port: what it may release, and what it may not yet
+  pub ripe : LinkEnd → List SeenHeld
+  pub unripe : LinkEnd → List SeenHeld
+  pub published : ℕ → Option NextHop
+  -- the feasible distance of the machine when the router published last
+  pub published_fd : ℕ → ℕ
 
--- a router as one prefix sees it: its ports, the prefix's machine, the next hop in force, and the messages that it may and may not release
-pub record SeenRouter : Type 0 where
-  pub ports : List Port
-  pub machine : Machine
-  pub published : Option Hop
-  pub ripe : List Held
-  pub unripe : List Held
+-- ---- what a prefix sees of items, of held messages and of rows
 
--- what a prefix sees of a router
-abbrev pub seen_router : Prefix → Router → SeenRouter
-seen_router p r = record {
-  ports = r.ports;
-  machine = machine_of r p;
-  published = option_and_then hop_of (row_of prefix_cmp p (r.table).published);
-  ripe = filter (is_held_for p) (take (r.gate).ripe (r.gate).held);
-  unripe = filter (is_held_for p) (drop (r.gate).ripe (r.gate).held);
+-- a message without its prefix
+abbrev pub msg_of : Message → Report
+msg_of m = record { kind = m.kind; value = m.value }
+
+-- what the prefix hears of an item: each notice, and a message of its own
+abbrev pub heard_item : Prefix → Item → List SeenItem
+heard_item p (Item.Up session cost) = UpNotice session cost ∷ []
+heard_item p (Item.Down session) = DownNotice session ∷ []
+heard_item p (Item.Cost session cost) = CostNotice session cost ∷ []
+heard_item p (Item.Message m) = if prefix_eq p m.prefix then Reported (msg_of m) ∷ [] else []
+
+-- what the prefix hears of a list of items: the notices, and its own messages
+abbrev pub heard : Prefix → List Item → List SeenItem
+heard p [] = []
+heard p (x ∷ xs) = heard_item p x ++ heard p xs
+
+-- whether a held message is for port q and speaks of the prefix
+abbrev pub is_kept : Prefix → ℕ → Held → Bool
+is_kept p q h = (h.port == q) && prefix_eq p (h.message).prefix
+
+-- a held message without its prefix and its port
+abbrev pub held_as : Held → SeenHeld
+held_as h = record { session = h.session; message = msg_of h.message }
+
+-- the messages of the prefix that are held for port q
+abbrev pub kept : Prefix → ℕ → List Held → List SeenHeld
+kept p q [] = []
+kept p q (h ∷ hs) = if is_kept p q h then held_as h ∷ kept p q hs else kept p q hs
+
+-- the port and the session of an entry, if it leads on
+abbrev pub next_hop : Entry → Option NextHop
+next_hop Local = None
+next_hop (Via q session) = Some (record { port = q; session = session })
+next_hop Unreachable = None
+
+-- ---- parts of routers and links
+
+-- what f says of the link at a place, seen from its end there; d where there is none
+abbrev pub on_link : {X : Type 0} → (End → Link → X) → X → Option Place → List Link → X
+on_link f d None links = d
+on_link f d (Some x) links = option_map_or (f x.end) (slice_get links x.link) d
+
+-- the messages that a router may release, oldest first
+abbrev pub ripe_of : Router → List Held
+ripe_of r = take (r.gate).ripe (r.gate).held
+
+-- the messages that a router may not release yet, oldest first
+abbrev pub unripe_of : Router → List Held
+unripe_of r = drop (r.gate).ripe (r.gate).held
+
+-- the next hop that a router published for the prefix
+abbrev pub next_hop_at : Prefix → Router → Option NextHop
+next_hop_at p r = option_and_then next_hop (row_of prefix_cmp p (r.table).published)
+
+-- what the prefix hears of the items that this end of a link has yet to take
+abbrev pub inbox_of : Prefix → End → Link → List SeenItem
+inbox_of p e k = heard p (side e k).inbox
+
+-- the place at which a port lies, if there is such a port
+abbrev pub lay : Network → LinkEnd → Option Place
+lay n e = place_at (opening n) e.router e.port
+
+-- ---- a network
+
+-- a world of the network as the prefix sees it, with the feasible distance of each router when it published last
+abbrev pub view : Network → Prefix → World → (ℕ → ℕ) → State
+view n p w pfd = record {
+  machine = λ i. option_map_or (λ r. machine_of r p) (slice_get w.routers i) (opening_machine None []);
+  seen = λ e. option_map_or (λ r. session_at r.ports e.port) (slice_get w.routers e.router) 0;
+  up = λ e. on_link (λ en k. k.up) false (lay n e) w.links;
+  session = λ e. on_link (λ en k. k.session) 0 (lay n e) w.links;
+  cost = λ e. on_link (λ en k. (side en k).cost) 0 (lay n e) w.links;
+  inbox = λ e. on_link (inbox_of p) [] (lay n e) w.links;
+  ripe = λ e. option_map_or (λ r. kept p e.port (ripe_of r)) (slice_get w.routers e.router) [];
+  unripe = λ e. option_map_or (λ r. kept p e.port (unripe_of r)) (slice_get w.routers e.router) [];
+  published = λ i. option_map_or (next_hop_at p) (slice_get w.routers i) None;
+  published_fd = pfd;
 }
 
--- a world as one prefix sees it
-pub record SeenWorld : Type 0 where
-  pub places : List (List Place)
-  pub links : List Link
-  pub routers : List SeenRouter
+-- the feasible distance of router i of this list for the prefix; infinity where there is no such router
+abbrev pub fd_in : List Router → Prefix → ℕ → ℕ
+fd_in rs p i = option_map_or (λ r. (machine_of r p).fd) (slice_get rs i) infinity
 
--- what a prefix sees of a world
-abbrev pub seen_world : Prefix → World → SeenWorld
-seen_world p w = record { places = w.places; links = map (seen_link p) w.links; routers = map (seen_router p) w.routers }
-
--- a history as one prefix sees it: the world, and the feasible distance of each router when it published last
-pub record DestinationView : Type 0 where
-  pub world : SeenWorld
-  pub published_fds : List ℕ
-
--- what a prefix sees of a history
-abbrev pub destination_view : Prefix → History → DestinationView
-destination_view p h = record { world = seen_world p h.world; published_fds = map (λ r. (machine_of r p).fd) h.published }
-
--- ---- by router
-
--- the machine of a router; of one that is not there, a machine with no ports
-abbrev pub machine_at : SeenWorld → ℕ → Machine
-machine_at v i = option_map_or (λ r. r.machine) (slice_get v.routers i) (opening_machine None [])
-
--- the next hop that a router published
-abbrev pub published_hop : SeenWorld → ℕ → Option Hop
-published_hop v i = option_and_then (λ r. r.published) (slice_get v.routers i)
-
--- the feasible distance of a router when it published last
-abbrev pub published_fd : DestinationView → ℕ → ℕ
-published_fd v i = option_map_or (λ d. d) (slice_get v.published_fds i) (opening_machine None []).fd
-
--- ---- by place: a router and one of its ports
-
--- what the router's notices said last of the port; a port that is not there is down
-abbrev pub seen_port : SeenWorld → ℕ → ℕ → Port
-seen_port v i q = option_map_or (λ p. p) (option_and_then (λ r. slice_get r.ports q) (slice_get v.routers i)) (record { up = false; session = 0; cost = 0 })
-
--- the end of the link at which the port lies
-abbrev pub place_of : SeenWorld → ℕ → ℕ → Option Place
-place_of v i q = option_and_then (λ ps. slice_get ps q) (slice_get v.places i)
-
--- the link at the port
-abbrev pub link_of : SeenWorld → ℕ → ℕ → Option Link
-link_of v i q = option_and_then (λ p. slice_get v.links p.link) (place_of v i q)
-
--- whether that link is up
-abbrev pub is_link_up : SeenWorld → ℕ → ℕ → Bool
-is_link_up v i q = option_map_or (λ k. k.up) (link_of v i q) false
-
--- its present session
-abbrev pub link_session : SeenWorld → ℕ → ℕ → ℕ
-link_session v i q = option_map_or (λ k. k.session) (link_of v i q) 0
-
--- the link's end here
-abbrev pub near_side : SeenWorld → ℕ → ℕ → Option Side
-near_side v i q = option_and_then (λ p. option_map (side p.end) (slice_get v.links p.link)) (place_of v i q)
-
--- the end of the link across
-abbrev pub far_side : SeenWorld → ℕ → ℕ → Option Side
-far_side v i q = option_and_then (λ p. option_map (side (other p.end)) (slice_get v.links p.link)) (place_of v i q)
-
--- the router across the link
-abbrev pub far_router : SeenWorld → ℕ → ℕ → Option ℕ
-far_router v i q = option_map (λ s. s.router) (far_side v i q)
-
--- the link's cost from here
-abbrev pub link_cost : SeenWorld → ℕ → ℕ → ℕ
-link_cost v i q = option_map_or (λ s. s.cost) (near_side v i q) 0
-
--- the items that this port has yet to take
-abbrev pub inbox_at : SeenWorld → ℕ → ℕ → List Item
-inbox_at v i q = option_map_or (λ s. s.inbox) (near_side v i q) []
-
--- the items that the far end has yet to take
-abbrev pub outbox_at : SeenWorld → ℕ → ℕ → List Item
-outbox_at v i q = option_map_or (λ s. s.inbox) (far_side v i q) []
-
--- the messages that the router holds for the port and may release
-abbrev pub ripe_at : SeenWorld → ℕ → ℕ → List Held
-ripe_at v i q = filter (λ h. h.port == q) (option_map_or (λ r. r.ripe) (slice_get v.routers i) [])
-
--- the messages that the router holds for the port and may not release yet
-abbrev pub unripe_at : SeenWorld → ℕ → ℕ → List Held
-unripe_at v i q = filter (λ h. h.port == q) (option_map_or (λ r. r.unripe) (slice_get v.routers i) [])
-
--- those of them that are for the link's present session, as items
-abbrev pub still_valid : SeenWorld → ℕ → ℕ → List Held → List Item
-still_valid v i q hs = map (λ h. Item.Message h.message) (filter (λ h. h.session == link_session v i q) hs)
-
--- all that is on its way from a place: on the link to its other end, then held for the link's present session
-abbrev pub pipe : SeenWorld → ℕ → ℕ → List Item
-pipe v i q = outbox_at v i q ++ still_valid v i q (ripe_at v i q) ++ still_valid v i q (unripe_at v i q)
-
--- what a machine meets where its router takes an item at port q
-abbrev pub event_of : ℕ → Item → Event
-event_of q (Item.Up session cost) = Event.Up q cost
-event_of q (Item.Down session) = Event.Down q
-event_of q (Item.Cost session cost) = Event.Cost q cost
-event_of q (Item.Message m) = Event.Message q m.kind m.value
+-- a history of the network as the prefix sees it
+abbrev pub destination_view : Network → Prefix → History → State
+destination_view n p h = view n p h.world (fd_in h.published p)

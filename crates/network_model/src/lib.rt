@@ -8,6 +8,7 @@ mod memory;
 mod network;
 mod route;
 mod step;
+mod trace;
 
 pub use ipv4_prefix::Prefix;
 pub use item::{Held, Item, Message, Notice};
@@ -17,3 +18,4 @@ pub use metric::{BadCost, Cost, Distance, Kind};
 pub use network::{End, LinkSpec, NetworkFault, Place, Port};
 pub use route::{Answer, Entry};
 pub use step::{Refusal, Step};
+pub use trace::{Ending, Trace};

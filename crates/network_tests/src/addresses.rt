@@ -3,7 +3,7 @@
 use ipv4_prefix::{Prefix, PrefixFault};
 
 #[test]
-fn refuses_texts(rt: HostRuntime) {
+fn texts_that_are_no_prefix_are_refused(rt: HostRuntime) {
     for (text, fault) in [
         ("", PrefixFault::NoSlash),
         ("10.0.0.0", PrefixFault::NoSlash),

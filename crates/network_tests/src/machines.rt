@@ -219,7 +219,7 @@ fn the_attachment_is_lost(rt: HostRuntime) -> Result<(), Fail> {
 }
 
 #[test]
-fn room_is_made(rt: HostRuntime) -> Result<(), Fail> {
+fn room_for_messages_is_made(rt: HostRuntime) -> Result<(), Fail> {
     let mut sends = Sends::new(rt.alloc());
     sends.reserve(3)?;
     assert!(rt; sends.as_slice().is_empty());

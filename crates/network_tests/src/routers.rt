@@ -45,7 +45,7 @@ pub(crate) fn ten_is_there() -> Result<Item, Fail> {
 }
 
 #[test]
-fn learns_a_prefix(rt: HostRuntime) -> Result<(), Fail> {
+fn a_router_learns_a_prefix(rt: HostRuntime) -> Result<(), Fail> {
     let ten = Prefix::parse("10.0.0.0/8")?;
     let via = Entry::Via {
         port: 0,

@@ -48,7 +48,7 @@ fn publishes(rt: &impl Abort, table: &mut RouteTable) -> Result<(), Fail> {
 }
 
 #[test]
-fn publishes_what_changed(rt: HostRuntime) -> Result<(), Fail> {
+fn a_table_publishes_what_changed(rt: HostRuntime) -> Result<(), Fail> {
     let mut table = RouteTable::new(rt.alloc());
     publishes(&rt, &mut table)
 }

@@ -57,7 +57,7 @@ fn learns(rt: &impl Abort, world: &mut World) -> Result<(), Fail> {
 }
 
 #[test]
-fn learns_the_way(rt: HostRuntime) -> Result<(), Fail> {
+fn a_world_learns_the_way(rt: HostRuntime) -> Result<(), Fail> {
     let network = two_routers(rt.alloc())?;
     let mut world = World::open(rt.alloc(), &network)?;
     let nothing = Step::Deliver { router: 0, port: 0 };

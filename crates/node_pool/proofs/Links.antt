@@ -1,6 +1,5 @@
 -- What the lists of free blocks keep when a block is taken or given back.
-use Rattle.std.proofs.Common.{ℕ, zero, suc, ◌≡◌, ◌≢◌, ◌⊎◌, inl, inr, ⊎_elim, ◌+◌, ◌-◌, ◌<◌, ◌≤◌, List, length, set, is_some, true, false, cond, eqb, arith, sym, ap, subst, ◌∙◌}
-use Rattle.std.proofs.lemmas.List.{get_or-set_same, get_or-set_other}
+use Rattle.std.proofs.Common.{ℕ, zero, suc, ◌≡◌, ◌≢◌, ◌⊎◌, inl, inr, ⊎_elim, ◌+◌, ◌-◌, ◌<◌, ◌≤◌, List, length, set, is_some, true, false, cond, eqb, arith, sym, ap, subst, ◌∙◌, get_or-set_same, get_or-set_other}
 use Rattle.std.proofs.lemmas.Bool.{cases_eq, cases_lt, false≢true, eq-eqb, ne_eqb}
 use Rattle.node_pool.specs.Cell.{entry, at, link_of, value_of, IsFilled}
 use Rattle.node_pool.specs.FreeLists.{list_at, count_at, InBlock, IsLinked}

@@ -1,32 +1,12 @@
 -- What a router does with an item, as one prefix sees it.
-use Rattle.std.specs.Prelude.{◌≡◌, ◌≢◌, ℕ, ◌<◌, true, false, cond, List, [], ◌++◌, map, length, Option, Some, None, slice_get, option_map, unwrap_or, get_or}
-use Rattle.std.specs.Option.{option_map_or}
+use Rattle.std.proofs.Common.{refl, sym, ap, ◌∙◌, arith, length-append, ◌≡◌, ◌≢◌, ℕ, ◌<◌, true, false, cond, List, [], ◌++◌, map, length, Option, Some, None, slice_get, option_map, unwrap_or, get_or, append-nil}
+use Rattle.packet_loops.proofs.Common.{option_map_or, take-append-le, drop-append-le, slice_get-get_or, Prefix, prefix_cmp, prefix_eq, Machine, Reaction, reaction, opening_machine, changed_at, Neighbour, Event, Outgoing, Message, Held, Port, Router, Network, neighbours, machine_of, session_at, held_of, with_machines, reactions, router_noticing, router_meeting, router_told, length-changed_at, slice_get-changed_at, slice_get-changed_at_other, prefix_cmp_total, sent_to, machine_laws, event_of, seen_after, held_for, find-map, sorted-map, sorted-put, SeenItem, Reported, at_port, msg_of, kept, ripe_of, unripe_of, lay}
 use Rattle.std.specs.FinMap.{find as row_of, put}
 use Rattle.std.specs.FinMap.Entries.{find-put, is_sorted}
-use Rattle.std.proofs.Common.{refl, sym, ap, ◌∙◌, arith, length-append}
-use Rattle.std.proofs.lemmas.List.{append-nil, take-append-le, drop-append-le}
-use Rattle.std.proofs.lemmas.Option.{slice_get-get_or}
-use Rattle.ipv4_prefix.specs.Prefix.{Prefix, prefix_cmp, prefix_eq}
-use Rattle.network_model.specs.Machine.{Machine, Reaction, reaction, opening_machine, changed_at}
-use Rattle.network_model.specs.declared.machine.Neighbour.{Neighbour}
-use Rattle.network_model.specs.declared.machine.Event.{Event}
-use Rattle.network_model.specs.declared.machine.Outgoing.{Outgoing}
-use Rattle.network_model.specs.declared.item.Message.{Message}
-use Rattle.network_model.specs.declared.item.Held.{Held}
-use Rattle.network_model.specs.declared.network.Port.{Port}
-use Rattle.network_model.specs.World.{Router, Network, neighbours, machine_of}
-use Rattle.network_model.specs.Step.{session_at, held_of, with_machines, reactions, router_noticing, router_meeting, router_told}
-use Rattle.network_model.proofs.ListLaws.{length-changed_at, slice_get-changed_at, slice_get-changed_at_other}
-use Rattle.ipv4_prefix.proofs.PrefixOrder.{prefix_cmp_total}
 use Rattle.packet_loops.proofs.WorldLaws.{row_of-put_other}
-use Rattle.machine_laws.specs.Laws.{sent_to}
-use Rattle.machine_laws.proofs.MachineLaws.{machine_laws}
 use Rattle.machine_laws.proofs.Events.{ports_length as records_length}
-use Rattle.loop_freedom.specs.Network.{Item as NetItem, Reported, event_of, seen_after, held_for, at_port}
 use Rattle.loop_freedom.proofs.Ports.{ports_length}
-use Rattle.packet_loops.proofs.Places.{lay}
-use Rattle.packet_loops.proofs.View.{msg_of, kept, ripe_of, unripe_of, kept-append, kept-sent, kept-other}
-use Rattle.network_model.proofs.RowLaws.{find-map, sorted-map, sorted-put}
+use Rattle.packet_loops.proofs.View.{kept-append, kept-sent, kept-other}
 use Rattle.packet_loops.proofs.Machines.{StaysOpened, prefix_same, sent, kept_reactions}
 use Rattle.packet_loops.proofs.Kept.{RouterKept}
 
@@ -35,7 +15,7 @@ abbrev pub Silent : Network → ℕ → List Outgoing → Type 0
 Silent n i sends = (j : ℕ) → lay n (at_port i j) ≡ None → sent_to j sends ≡ []
 
 -- from r to the next state the machine of the prefix reacts to the item, what it sends is held unripe, and all else stays
-pub record Reacted (n : Network) (p : Prefix) (i q : ℕ) (item : NetItem) (r r' : Router) : Type 0 where
+pub record Reacted (n : Network) (p : Prefix) (i q : ℕ) (item : SeenItem) (r r' : Router) : Type 0 where
   pub machine_is : machine_of r' p ≡ (reaction (machine_of r p) (event_of q item)).machine
   pub published_is : (r'.table).published ≡ (r.table).published
   pub seen_here : session_at r'.ports q ≡ seen_after item (session_at r.ports q)
@@ -97,7 +77,7 @@ session_changed q change ports lt s sees =
     ap (λ o. option_map_or (λ (y : Port). y.session) o 0) (slice_get-changed_at change q ports ∙ ap (option_map change) at) ∙ sees x at
 
 module _ (n : Network) (p : Prefix) (i : ℕ) (r : Router) (R : RouterKept n p i r) (q : ℕ) (there : q < length r.ports)
-    (item : NetItem) (change : Port → Port) (S : StaysOpened (event_of q item) q change r.ports) (sees : (x : Port) → slice_get r.ports q ≡ Some x → (change x).session ≡ seen_after item x.session) where
+    (item : SeenItem) (change : Port → Port) (S : StaysOpened (event_of q item) q change r.ports) (sees : (x : Port) → slice_get r.ports q ≡ Some x → (change x).session ≡ seen_after item x.session) where
   -- the ports after the notice
   abbrev ports' : List Port
   ports' = changed_at q change r.ports

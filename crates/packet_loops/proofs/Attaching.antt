@@ -1,20 +1,9 @@
 -- A router that is attached to a prefix, or no longer is, leaves the view as it was until it takes the notice.
-use Rattle.std.specs.Prelude.{◌≡◌, ℕ, zero, suc, Bool, true, false, not, cond, if◌then◌else◌, List, [], ◌∷◌, ◌++◌, Option, Some, None, slice_get}
+use Rattle.std.proofs.Common.{refl, sym, ap, subst, ◌∙◌, ◌≡◌, ℕ, zero, suc, Bool, true, false, not, cond, if◌then◌else◌, List, [], ◌∷◌, ◌++◌, Option, Some, None, slice_get}
 use Rattle.std.specs.declared.cmp.Ordering.TheVariants.{Equal}
 use Rattle.std.specs.Ordering.{is_eq}
 use Rattle.std.specs.FinMap.{find as row_of, put}
-use Rattle.std.specs.FinMap.Entries.{find-put, find-where_key, where_key}
-use Rattle.std.proofs.Common.{refl, sym, ap, subst, ◌∙◌}
-use Rattle.ipv4_prefix.specs.Prefix.{Prefix, prefix_cmp, prefix_eq}
-use Rattle.ipv4_prefix.proofs.PrefixOrder.{prefix_cmp_total}
-use Rattle.metric.specs.Distance.{IsCost}
-use Rattle.network_model.specs.Machine.{changed_at}
-use Rattle.network_model.specs.declared.item.Notice.{Notice}
-use Rattle.network_model.specs.declared.step.Step.TheVariants.{Attach, Detach}
-use Rattle.network_model.specs.World.{Router, Attachments, World, Network, machine_of}
-use Rattle.network_model.specs.Step.{next, with_attachment, without_attachment}
-use Rattle.network_model.proofs.ListLaws.{Some_injective, None_not_Some}
-use Rattle.loop_freedom.specs.Network.{Skips}
+use Rattle.packet_loops.proofs.Common.{find-put, find-where_key, where_key, Prefix, prefix_cmp, prefix_eq, prefix_cmp_total, IsCost, changed_at, Notice, Attach, Detach, Router, Attachments, World, Network, machine_of, next, with_attachment, without_attachment, Some_injective, None_not_Some, Skips}
 use Rattle.packet_loops.proofs.Wiring.{IsWired}
 use Rattle.packet_loops.proofs.Machines.{prefix_same}
 use Rattle.packet_loops.proofs.Kept.{AttachmentsKept, WorldKept, StepKept, attachment_then, each_changed}

@@ -1,19 +1,8 @@
 -- Two routers and the link between them: the one that is attached to all addresses tells the other, which sends its packets there.
-use Rattle.std.specs.Prelude.{ℕ, zero, suc, List, [], ◌∷◌, slice_get, unwrap_or, All}
-use Rattle.std.proofs.Common.{refl, arith, inl}
-use Rattle.ipv4_prefix.specs.Prefix.{Prefix, IsPrefix}
-use Rattle.metric.specs.Distance.{IsCost}
-use Rattle.metric.specs.declared.kind.Kind.TheVariants.{Update}
-use Rattle.network_model.specs.declared.route.Entry.TheVariants.{Via}
-use Rattle.network_model.specs.World.{Link, Router, World, Network, opening, opening_link, opening_router}
-use Rattle.network_model.specs.declared.item.Held.{Held}
-use Rattle.network_model.specs.declared.item.Item.{Item}
-use Rattle.network_model.specs.declared.network.LinkSpec.{LinkSpec}
+use Rattle.std.proofs.Common.{refl, arith, inl, ℕ, zero, suc, List, [], ◌∷◌, slice_get, unwrap_or, All}
+use Rattle.packet_loops.proofs.Common.{Prefix, IsPrefix, IsCost, Update, Via, Link, Router, World, Network, opening, opening_link, opening_router, Held, Item, LinkSpec, next, front_at, release_at, HasCosts, IsNetwork, Runs}
 use Rattle.network_model.specs.declared.step.Step.{Step}
 use Rattle.network_model.specs.declared.step.Step.TheVariants.{LinkUp, Deliver, Publish, Release}
-use Rattle.network_model.specs.Step.{next, front_at, release_at}
-use Rattle.network_model.specs.Network.{HasCosts, IsNetwork}
-use Rattle.network_model.specs.Run.{Runs}
 use Rattle.packet_loops.specs.Packets.{SomePacketGoes}
 
 -- a link of cost 1 between routers 0 and 1

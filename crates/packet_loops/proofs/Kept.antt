@@ -1,28 +1,12 @@
 -- What every world of a run keeps, for one prefix.
-use Rattle.std.specs.Prelude.{◌≡◌, ◌≢◌, ◌⊎◌, ℕ, ◌≤◌, true, if◌then◌else◌, List, [], ◌∷◌, map, length, Option, Some, None, slice_get, option_map}
-use Rattle.std.specs.Option.{option_map_or}
+use Rattle.std.proofs.Common.{refl, sym, ap, subst, ◌∙◌, inl, inr, ◌≡◌, ◌≢◌, ◌⊎◌, ℕ, ◌≤◌, true, if◌then◌else◌, List, [], ◌∷◌, map, length, Option, Some, None, slice_get, option_map}
+use Rattle.packet_loops.proofs.Common.{option_map_or, cases_eq, slice_get-map, Prefix, prefix_cmp, prefix_eq, IsCost, Notice, changed_at, End, A, B, Side, Link, Router, Attachments, World, Network, other, side, machine_of, places_from, opening, Place, LinkSpec, chosen_rows, changed_side, Some_injective, None_not_Some, map-changed_at, slice_get-changed_at, slice_get-changed_at_other, router_end, LinkEnd, at_port, kept, view, lay}
 use Rattle.std.specs.FinMap.{find as row_of}
 use Rattle.std.specs.FinMap.Entries.{is_sorted}
-use Rattle.std.proofs.Common.{refl, sym, ap, subst, ◌∙◌, inl, inr}
-use Rattle.std.proofs.lemmas.Bool.{cases_eq}
-use Rattle.std.proofs.lemmas.Option.{slice_get-map}
-use Rattle.ipv4_prefix.specs.Prefix.{Prefix, prefix_cmp, prefix_eq}
-use Rattle.metric.specs.Distance.{IsCost}
-use Rattle.network_model.specs.declared.item.Notice.{Notice}
-use Rattle.network_model.specs.Machine.{changed_at}
-use Rattle.network_model.specs.declared.network.End.{End}
-use Rattle.network_model.specs.declared.network.End.TheVariants.{A, B}
-use Rattle.network_model.specs.World.{Side, Link, Router, Attachments, World, Network, other, side, machine_of, places_from, opening}
-use Rattle.network_model.specs.declared.network.Place.{Place}
-use Rattle.network_model.specs.declared.network.LinkSpec.{LinkSpec}
-use Rattle.network_model.specs.Step.{chosen_rows, changed_side}
-use Rattle.network_model.proofs.ListLaws.{Some_injective, None_not_Some, map-changed_at, slice_get-changed_at, slice_get-changed_at_other}
-use Rattle.loop_freedom.specs.Network.{LinkEnd, Step as NetStep, at_port, IsEnd}
+use Rattle.loop_freedom.specs.Network.{Step as NetStep, IsEnd}
 use Rattle.packet_loops.proofs.Wiring.{IsWired}
-use Rattle.network_model.proofs.PortPlaces.{router_end}
 use Rattle.packet_loops.specs.LinkEnds.{across}
-use Rattle.packet_loops.proofs.Places.{lay, spot, far, laid, far_laid, topology}
-use Rattle.packet_loops.proofs.View.{kept, view}
+use Rattle.packet_loops.proofs.Places.{spot, far, laid, far_laid, topology}
 
 -- the two routers of a link
 abbrev pub ends : Link → ℕ × ℕ

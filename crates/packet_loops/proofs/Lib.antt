@@ -18,3 +18,4 @@ pub mod Walks
 pub mod Example
 pub mod Traces
 pub mod FourFacts
+pub mod Common

@@ -1,20 +1,11 @@
 -- A link that comes up, goes down or has a new cost does so in the view.
-use Rattle.std.specs.Prelude.{◌≡◌, ℕ, ◌+◌, ◌≤◌, true, false, List, [], ◌∷◌, ◌++◌, Some, is_some, slice_get, filter}
-use Rattle.std.proofs.Common.{refl, ap, ◌∙◌, arith}
-use Rattle.ipv4_prefix.specs.Prefix.{Prefix}
-use Rattle.network_model.specs.Machine.{changed_at}
-use Rattle.network_model.specs.declared.item.Item.{Item}
-use Rattle.network_model.specs.declared.network.End.{End}
-use Rattle.network_model.specs.declared.network.End.TheVariants.{A, B}
-use Rattle.network_model.specs.World.{Side, Link, World, Network, side}
-use Rattle.network_model.specs.declared.network.Place.{Place}
+use Rattle.std.proofs.Common.{refl, ap, ◌∙◌, arith, ◌≡◌, ℕ, ◌+◌, ◌≤◌, true, false, List, [], ◌∷◌, ◌++◌, Some, is_some, slice_get, filter}
+use Rattle.packet_loops.proofs.Common.{Prefix, changed_at, Item, End, A, B, Side, Link, World, Network, side, Place, next, link_come_up, link_gone_down, with_cost, is_notice, place_of, LinkEnd, SeenItem, UpNotice, DownNotice, CostNotice, view, heard, inbox_of, lay}
 use Rattle.network_model.specs.declared.step.Step.TheVariants.{LinkUp, LinkDown}
-use Rattle.network_model.specs.Step.{next, link_come_up, link_gone_down, with_cost, is_notice}
-use Rattle.loop_freedom.specs.Network.{LinkEnd, Item as NetItem, UpNotice, DownNotice, CostNotice, LinkComes, LinkGoes, CostChanges, LinkUp as NetLinkUp, LinkDown as NetLinkDown, SetCost as NetSetCost, IsEnd, notices}
+use Rattle.loop_freedom.specs.Network.{LinkComes, LinkGoes, CostChanges, LinkUp as NetLinkUp, LinkDown as NetLinkDown, SetCost as NetSetCost, IsEnd, notices}
 use Rattle.packet_loops.proofs.Wiring.{IsWired}
-use Rattle.network_model.proofs.PortPlaces.{place_of}
-use Rattle.packet_loops.proofs.Places.{lay, spot, lay-spot, topology}
-use Rattle.packet_loops.proofs.View.{view, heard, inbox_of, heard-append, heard-notices, on_link-there, on_link-hit, on_link-miss, on_link-same}
+use Rattle.packet_loops.proofs.Places.{spot, lay-spot, topology}
+use Rattle.packet_loops.proofs.View.{heard-append, heard-notices, on_link-there, on_link-hit, on_link-miss, on_link-same}
 use Rattle.packet_loops.proofs.Kept.{WorldKept, StepKept, with_links, changed_side-ends, changed_beside, up_beside, session_beside, specified, on_link, off_link, other_end}
 
 -- a link that comes up keeps the cost from each end
@@ -38,11 +29,11 @@ inbox_down A k = refl
 inbox_down B k = refl
 
 -- equal inboxes with equal Up notices more are equal
-up_notice : (i x : List NetItem) (s s' c c' : ℕ) → i ≡ x → s ≡ s' → c ≡ c' → x ++ UpNotice s' c' ∷ [] ≡ i ++ UpNotice s c ∷ []
+up_notice : (i x : List SeenItem) (s s' c c' : ℕ) → i ≡ x → s ≡ s' → c ≡ c' → x ++ UpNotice s' c' ∷ [] ≡ i ++ UpNotice s c ∷ []
 up_notice i x s s' c c' a b d = cc
 
 -- the notices of equal inboxes with equal Down notices more are equal
-down_notice : (i x : List NetItem) (s s' : ℕ) → i ≡ x → s ≡ s' → notices x ++ DownNotice s' ∷ [] ≡ notices i ++ DownNotice s ∷ []
+down_notice : (i x : List SeenItem) (s s' : ℕ) → i ≡ x → s ≡ s' → notices x ++ DownNotice s' ∷ [] ≡ notices i ++ DownNotice s ∷ []
 down_notice i x s s' a b = cc
 
 module _ (n : Network) (N : IsWired n) (p : Prefix) (w : World) (pfd : ℕ → ℕ) (K : WorldKept n p w) (l : ℕ) (k : Link) (at : slice_get w.links l ≡ Some k) where
@@ -156,7 +147,7 @@ inbox_set c A k = refl
 inbox_set c B k = refl
 
 -- equal inboxes with equal Cost notices more are equal
-cost_notice : (i x : List NetItem) (s s' c c' : ℕ) → i ≡ x → s ≡ s' → c ≡ c' → x ++ CostNotice s' c' ∷ [] ≡ i ++ CostNotice s c ∷ []
+cost_notice : (i x : List SeenItem) (s s' c c' : ℕ) → i ≡ x → s ≡ s' → c ≡ c' → x ++ CostNotice s' c' ∷ [] ≡ i ++ CostNotice s c ∷ []
 cost_notice i x s s' c c' a b d = cc
 
 module _ (n : Network) (N : IsWired n) (p : Prefix) (w : World) (pfd : ℕ → ℕ) (K : WorldKept n p w) (a : LinkEnd) (x0 : Place) (laid_a : lay n a ≡ Some x0) (k : Link) (at : slice_get w.links x0.link ≡ Some k) (cost : ℕ) where

@@ -1,29 +1,11 @@
 -- Machines by prefix: one that was not heard of stays as it was opened, and what all of them send.
-use Rattle.std.specs.Prelude.{◌≡◌, ℕ, zero, suc, Bool, true, false, cond, List, [], ◌∷◌, ◌++◌, map, Some, None}
+use Rattle.std.proofs.Common.{refl, sym, ap, ◌∙◌, ◌≡◌, ℕ, zero, suc, Bool, true, false, cond, List, [], ◌∷◌, ◌++◌, map, Some, None, append-nil}
 use Rattle.std.specs.List.{flat_map}
-use Rattle.std.specs.Option.{option_map_or}
+use Rattle.packet_loops.proofs.Common.{option_map_or, and_parts, Prefix, prefix_cmp, prefix_eq, Neighbour, Event, Up, Down, Cost, Reaction, reaction, opening_machine, least, records_after, changed_at, infinity, Held, Port, neighbours, session_at, held_of, Some_injective, None_not_Some, changed_at-map, kept, prefix_cmp_total, prefix_eq-Decides, equal_from_test, less_from_test, sent_to, NothingHeard, least_unheard, held_for}
 use Rattle.std.specs.Ordering.{is_eq, is_lt}
 use Rattle.std.specs.FinMap.{find as row_of}
 use Rattle.std.specs.FinMap.Entries.{is_sorted, below_all}
-use Rattle.std.proofs.Common.{refl, sym, ap, ◌∙◌}
-use Rattle.std.proofs.lemmas.Bool.{and_parts}
-use Rattle.std.proofs.lemmas.List.{append-nil}
-use Rattle.ipv4_prefix.specs.Prefix.{Prefix, prefix_cmp, prefix_eq}
-use Rattle.network_model.specs.declared.machine.Neighbour.{Neighbour}
-use Rattle.network_model.specs.declared.machine.Event.{Event}
-use Rattle.network_model.specs.declared.machine.Event.TheVariants.{Up, Down, Cost}
-use Rattle.network_model.specs.Machine.{Reaction, reaction, opening_machine, least, records_after, changed_at}
-use Rattle.metric.specs.Distance.{infinity}
-use Rattle.network_model.specs.declared.item.Held.{Held}
-use Rattle.network_model.specs.declared.network.Port.{Port}
-use Rattle.network_model.specs.World.{neighbours}
-use Rattle.network_model.specs.Step.{session_at, held_of}
-use Rattle.network_model.proofs.ListLaws.{Some_injective, None_not_Some, changed_at-map}
-use Rattle.ipv4_prefix.proofs.PrefixOrder.{prefix_cmp_total, prefix_eq-Decides, equal_from_test, less_from_test}
-use Rattle.machine_laws.specs.Laws.{sent_to, NothingHeard}
-use Rattle.machine_laws.proofs.Opened.{least_unheard}
-use Rattle.loop_freedom.specs.Network.{held_for}
-use Rattle.packet_loops.proofs.View.{kept, kept-append, kept-sent, kept-other}
+use Rattle.packet_loops.proofs.View.{kept-append, kept-sent, kept-other}
 
 -- ---- a machine that has heard nothing
 

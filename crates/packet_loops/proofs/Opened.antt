@@ -1,32 +1,10 @@
 -- The view of the opening of a network is an opening.
-use Rattle.std.specs.Prelude.{◌≡◌, ℕ, suc, ◌<◌, ◌==◌, if◌then◌else◌, filter, Bool, true, false, cond, List, [], ◌∷◌, map, length, Option, Some, None, is_some, slice_get, option_map, option_and_then, unwrap_or}
-use Rattle.std.specs.List.{range_with_len}
-use Rattle.std.specs.Option.{option_map_or}
+use Rattle.std.proofs.Common.{refl, sym, ap, subst, ◌∙◌, arith, ◌≡◌, ℕ, suc, ◌<◌, ◌==◌, if◌then◌else◌, filter, Bool, true, false, cond, List, [], ◌∷◌, map, length, Option, Some, None, is_some, slice_get, option_map, option_and_then, unwrap_or, eq-eqb}
+use Rattle.packet_loops.proofs.Common.{range_with_len, option_map_or, find-put, length-map, false≢true, slice_get-map, slice_get_within, Prefix, prefix_cmp, prefix_eq, Machine, opening_machine, Neighbour, infinity, IsCost, Entry, End, A, B, Link, Router, Attachments, Network, side, neighbours, machine_of, places_from, opening_link, opening_port, rows_of, opening_router, costs_of, opening, Place, Port, LinkSpec, session_at, entry_of, chosen_rows, Some_injective, None_not_Some, listed_at, listed_within, prefix_cmp_total, Opening, OpeningPorts, find-map, sorted-map, sorted-rows_of, LinkEnd, State, at_port, next_hop, on_link, inbox_of, kept, ripe_of, unripe_of, next_hop_at, view, lay}
 use Rattle.std.specs.FinMap.{find as row_of}
-use Rattle.std.specs.FinMap.Entries.{find-put}
-use Rattle.std.proofs.Common.{refl, sym, ap, subst, ◌∙◌, arith}
-use Rattle.std.proofs.lemmas.List.{length-map}
-use Rattle.std.proofs.lemmas.Bool.{false≢true, eq-eqb}
-use Rattle.std.proofs.lemmas.Option.{slice_get-map, slice_get_within}
-use Rattle.ipv4_prefix.specs.Prefix.{Prefix, prefix_cmp, prefix_eq}
-use Rattle.network_model.specs.Machine.{Machine, opening_machine}
-use Rattle.network_model.specs.declared.machine.Neighbour.{Neighbour}
-use Rattle.metric.specs.Distance.{infinity, IsCost}
-use Rattle.network_model.specs.declared.route.Entry.{Entry}
-use Rattle.network_model.specs.declared.network.End.{End}
-use Rattle.network_model.specs.declared.network.End.TheVariants.{A, B}
-use Rattle.network_model.specs.World.{Link, Router, Attachments, Network, side, neighbours, machine_of, places_from, opening_link, opening_port, rows_of, opening_router, costs_of, opening}
-use Rattle.network_model.specs.declared.network.Place.{Place}
-use Rattle.network_model.specs.declared.network.Port.{Port}
-use Rattle.network_model.specs.declared.network.LinkSpec.{LinkSpec}
-use Rattle.network_model.specs.Step.{session_at, entry_of, chosen_rows}
-use Rattle.network_model.proofs.ListLaws.{Some_injective, None_not_Some, listed_at, listed_within}
-use Rattle.ipv4_prefix.proofs.PrefixOrder.{prefix_cmp_total}
-use Rattle.loop_freedom.specs.Network.{LinkEnd, State, Opening, OpeningPorts, at_port}
-use Rattle.network_model.proofs.RowLaws.{find-map, sorted-map, sorted-rows_of}
 use Rattle.packet_loops.proofs.Wiring.{IsWiredLink, IsWired}
-use Rattle.packet_loops.proofs.Places.{lay, laid, topology}
-use Rattle.packet_loops.proofs.View.{next_hop, on_link, inbox_of, kept, ripe_of, unripe_of, next_hop_at, view, on_link-there, on_router-there}
+use Rattle.packet_loops.proofs.Places.{laid, topology}
+use Rattle.packet_loops.proofs.View.{on_link-there, on_router-there}
 use Rattle.packet_loops.proofs.Kept.{ends, spec_ends, RouterKept, AttachmentsKept, WorldKept}
 
 -- ---- the attachments of one router at the start

@@ -1,16 +1,6 @@
 -- The places of a network's links: each end of each link is one port of one router.
-use Rattle.std.specs.Prelude.{◌≡◌, ◌≢◌, ℕ, zero, suc, ◌+◌, ◌<◌, Bool, true, false, ◌==◌, if◌then◌else◌, List, [], ◌∷◌, ◌++◌, Option, Some, None, is_some, slice_get, option_and_then}
-use Rattle.std.specs.Option.{option_map_or}
-use Rattle.std.proofs.Common.{refl, sym, ap, ◌∙◌, arith}
-use Rattle.std.proofs.lemmas.Bool.{eq-eqb, ne_eqb, false≢true}
-use Rattle.network_model.specs.declared.network.End.{End}
-use Rattle.network_model.specs.declared.network.End.TheVariants.{A, B}
-use Rattle.network_model.specs.declared.network.Place.{Place}
-use Rattle.network_model.specs.declared.network.LinkSpec.{LinkSpec}
-use Rattle.network_model.specs.World.{Network, other, place_at, places_from, opening}
-use Rattle.network_model.proofs.ListLaws.{Some_injective, None_not_Some, listed_at, listed_within}
-use Rattle.network_model.proofs.PortPlaces.{router_end, one_if_at, ports_before, place_of, IsPort, place_to_IsPort}
-use Rattle.loop_freedom.specs.Network.{LinkEnd, Topology, at_port}
+use Rattle.std.proofs.Common.{refl, sym, ap, ◌∙◌, arith, ◌≡◌, ◌≢◌, ℕ, zero, suc, ◌+◌, ◌<◌, Bool, true, false, ◌==◌, if◌then◌else◌, List, [], ◌∷◌, ◌++◌, Option, Some, None, is_some, slice_get, option_and_then, eq-eqb, ne_eqb}
+use Rattle.packet_loops.proofs.Common.{option_map_or, false≢true, End, A, B, Place, LinkSpec, Network, other, places_from, opening, Some_injective, None_not_Some, listed_at, listed_within, router_end, one_if_at, ports_before, place_of, IsPort, place_to_IsPort, LinkEnd, at_port, lay, Topology}
 use Rattle.packet_loops.specs.LinkEnds.{across}
 use Rattle.packet_loops.proofs.Wiring.{IsWiredLink, IsWired}
 
@@ -51,10 +41,6 @@ port_there l i (x ∷ xs) (suc k) s e is at apart =
     behind l i x xs (ports_before k i xs) ∙ port_there (l + 1) i xs k s e is at apart ∙ ap (λ (m : ℕ). Some (place_of m e)) sum
 
 -- ---- a network
-
--- the place at which a port lies, if there is such a port
-abbrev pub lay : Network → LinkEnd → Option Place
-lay n e = place_at (opening n) e.router e.port
 
 -- the router and the port of a place, on a link that is known
 abbrev pub spot_on : Network → Place → LinkSpec → LinkEnd

@@ -1,25 +1,13 @@
 -- A router that publishes does so in the view.
-use Rattle.std.specs.Prelude.{◌≡◌, ℕ, Bool, true, false, ◌==◌, if◌then◌else◌, List, [], ◌++◌, length, Option, Some, None, slice_get, option_map, option_and_then, unwrap_or}
-use Rattle.std.specs.Option.{option_map_or}
+use Rattle.std.proofs.Common.{refl, sym, ap, subst, ◌∙◌, arith, take_all, take-append-drop, ◌≡◌, ℕ, Bool, true, false, ◌==◌, if◌then◌else◌, List, [], ◌++◌, length, Option, Some, None, slice_get, option_map, option_and_then, unwrap_or, eq-eqb, ne_eqb}
+use Rattle.packet_loops.proofs.Common.{option_map_or, drop_all, Prefix, prefix_cmp, Machine, opening_machine, port_count, port_successor, Entry, Port, Router, World, Network, machine_of, neighbours, next, router_publishing, entry_of, session_at, chosen_rows, Some_injective, slice_get-changed_at, Invariant, find-map, sorted-map, LinkEnd, State, at_port, next_hop, kept, ripe_of, unripe_of, next_hop_at, view}
 use Rattle.std.specs.FinMap.{find as row_of}
 use Rattle.std.specs.FinMap.Entries.{is_sorted}
-use Rattle.std.proofs.Common.{refl, sym, ap, subst, ◌∙◌, arith, take_all, take-append-drop}
-use Rattle.std.proofs.lemmas.Bool.{eq-eqb, ne_eqb}
-use Rattle.std.proofs.lemmas.List.{drop_all}
-use Rattle.ipv4_prefix.specs.Prefix.{Prefix, prefix_cmp}
-use Rattle.network_model.specs.Machine.{Machine, opening_machine, degree, port_successor}
-use Rattle.network_model.specs.declared.route.Entry.{Entry}
-use Rattle.network_model.specs.declared.network.Port.{Port}
-use Rattle.network_model.specs.World.{Router, World, Network, machine_of, neighbours}
 use Rattle.network_model.specs.declared.step.Step.TheVariants.{Publish}
-use Rattle.network_model.specs.Step.{next, router_publishing, entry_of, session_at, chosen_rows}
-use Rattle.network_model.proofs.ListLaws.{Some_injective, slice_get-changed_at}
-use Rattle.loop_freedom.specs.Network.{LinkEnd, State, Publish as NetPublish, Publishes, next_hop_of, at_port}
-use Rattle.loop_freedom.proofs.Invariant.{Invariant}
+use Rattle.loop_freedom.specs.Network.{Publish as NetPublish, Publishes, next_hop_of}
 use Rattle.packet_loops.proofs.Wiring.{IsWired}
 use Rattle.packet_loops.proofs.Places.{topology}
-use Rattle.packet_loops.proofs.View.{next_hop, kept, ripe_of, unripe_of, next_hop_at, view, kept-append, on_router-there, on_router-miss, on_router-same}
-use Rattle.network_model.proofs.RowLaws.{find-map, sorted-map}
+use Rattle.packet_loops.proofs.View.{kept-append, on_router-there, on_router-miss, on_router-same}
 use Rattle.packet_loops.proofs.Kept.{RouterKept, WorldKept, StepKept, with_router}
 
 -- the next hop of a machine's entry is its successor, where that is a port, in the session seen there
@@ -30,9 +18,9 @@ next_hop_entry ports m seen same = by_successor m.successor
     by_port true q = refl
     by_port false q = ap (λ (n : ℕ). Some (record { port = q; session = n })) (sym (same q))
 
-    by_successor : (s : Option ℕ) → next_hop (option_map_or (λ q. if q == degree m then Entry.Local else Entry.Via q (session_at ports q)) s Entry.Unreachable) ≡ next_hop_of seen (option_and_then (λ q. if q == degree m then None else Some q) s)
+    by_successor : (s : Option ℕ) → next_hop (option_map_or (λ q. if q == port_count m then Entry.Local else Entry.Via q (session_at ports q)) s Entry.Unreachable) ≡ next_hop_of seen (option_and_then (λ q. if q == port_count m then None else Some q) s)
     by_successor None = refl
-    by_successor (Some q) = by_port (q == degree m) q
+    by_successor (Some q) = by_port (q == port_count m) q
 
 -- the next hop of the row that a router has chosen is its machine's successor, where that is a port, in the session seen there
 pub control_hop : (p : Prefix) (r : Router) (seen : ℕ → ℕ) → (r.table).control ≡ chosen_rows r.ports r.machines → ((q : ℕ) → seen q ≡ session_at r.ports q)

@@ -1,24 +1,10 @@
 -- A router that releases a message does so in the view, or nothing of the prefix changes.
-use Rattle.std.specs.Prelude.{◌≡◌, ℕ, zero, suc, ◌-◌, Bool, true, false, ◌&&◌, ◌==◌, nat_lt, if◌then◌else◌, List, [], ◌∷◌, ◌++◌, take, drop, Some, None, is_some, slice_get, option_map}
-use Rattle.std.proofs.Common.{refl, sym, ap, subst, ◌∙◌, arith, inl, inr}
-use Rattle.std.proofs.lemmas.Bool.{cases_eq, eq-eqb, ne_eqb, and_from, and_left, and_right}
-use Rattle.std.proofs.lemmas.List.{append-nil, length-drop}
-use Rattle.ipv4_prefix.specs.Prefix.{Prefix, prefix_eq}
-use Rattle.network_model.specs.Machine.{changed_at, opening_machine}
-use Rattle.network_model.specs.declared.item.Item.{Item}
-use Rattle.network_model.specs.declared.item.Held.{Held}
-use Rattle.network_model.specs.declared.network.End.{End}
-use Rattle.network_model.specs.declared.network.End.TheVariants.{A, B}
-use Rattle.network_model.specs.World.{Side, Link, Router, World, Network, other, side, machine_of}
-use Rattle.network_model.specs.declared.network.Place.{Place}
-use Rattle.network_model.specs.Step.{session_at, changed_side, with_item, with_message, router_releasing, ripe_front}
-use Rattle.network_model.proofs.ListLaws.{Some_injective, None_not_Some, slice_get-changed_at}
-use Rattle.machine_laws.proofs.Sends.{eqb_sym}
-use Rattle.loop_freedom.specs.Network.{LinkEnd, State, Reported, Releases, Skips, SameLinks, SameCosts, SameMachines, SamePublished, arriving, at_port}
+use Rattle.std.proofs.Common.{refl, sym, ap, subst, ◌∙◌, arith, inl, inr, ◌≡◌, ℕ, zero, suc, ◌-◌, Bool, true, false, ◌&&◌, ◌==◌, nat_lt, if◌then◌else◌, List, [], ◌∷◌, ◌++◌, take, drop, Some, None, is_some, slice_get, option_map, eq-eqb, ne_eqb, append-nil, length-drop}
+use Rattle.packet_loops.proofs.Common.{cases_eq, and_from, and_left, and_right, Prefix, prefix_eq, changed_at, opening_machine, Item, Held, End, A, B, Side, Link, Router, World, Network, other, side, machine_of, Place, session_at, changed_side, with_item, with_message, router_releasing, ripe_front, Some_injective, None_not_Some, slice_get-changed_at, LinkEnd, State, Reported, at_port, msg_of, held_as, heard, inbox_of, is_kept, kept, ripe_of, unripe_of, next_hop_at, view, lay, eqb_sym, Releases, Skips, SameLinks, SameCosts, SameMachines, SamePublished, arriving}
 use Rattle.packet_loops.proofs.Wiring.{IsWired}
 use Rattle.packet_loops.specs.LinkEnds.{across}
-use Rattle.packet_loops.proofs.Places.{lay, far, far_laid}
-use Rattle.packet_loops.proofs.View.{msg_of, held_as, heard, inbox_of, is_kept, kept, ripe_of, unripe_of, next_hop_at, view, heard-append, on_link-there, on_link-hit, on_link-same, on_router-there, on_router-miss, on_router-same}
+use Rattle.packet_loops.proofs.Places.{far, far_laid}
+use Rattle.packet_loops.proofs.View.{heard-append, on_link-there, on_link-hit, on_link-same, on_router-there, on_router-miss, on_router-same}
 use Rattle.packet_loops.proofs.Kept.{ends, RouterKept, WorldKept, StepKept, with_links, with_router, changed_side-ends, changed_beside, changed_here, up_beside, session_beside, other_end}
 
 -- ---- the front of what a router holds

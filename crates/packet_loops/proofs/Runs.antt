@@ -1,33 +1,12 @@
 -- Every run of a network is a run of the view, which shows the feasible distances that were published last.
-use Rattle.std.specs.Prelude.{◌<◌, zero, suc, length, slice_set, if◌then◌else◌, ◌==◌, false, ◌≡◌, ℕ, ◌≤◌, true, List, [], ◌∷◌, Option, Some, None, slice_get, option_map, option_and_then, ◌⊎◌}
-use Rattle.std.specs.Option.{option_map_or}
-use Rattle.std.proofs.Common.{refl, sym, ap, subst, ◌∙◌, arith, inl, inr, length-set}
-use Rattle.std.proofs.lemmas.Bool.{cases_eq, eq-eqb, eqb-true, ne_eqb, false≢true}
-use Rattle.std.proofs.lemmas.Option.{slice_get_within}
-use Rattle.ipv4_prefix.specs.Prefix.{Prefix}
-use Rattle.network_model.specs.Machine.{Machine, opening_machine, changed_at}
-use Rattle.metric.specs.Distance.{infinity}
-use Rattle.network_model.specs.World.{machine_of, Link, Router, Attachments, World, Network, side, place_at, places_from, link_at, opening}
-use Rattle.network_model.specs.declared.item.Item.{Item}
-use Rattle.network_model.specs.declared.item.Held.{Held}
-use Rattle.network_model.specs.declared.item.Notice.{Notice}
-use Rattle.network_model.specs.declared.network.Place.{Place}
+use Rattle.std.proofs.Common.{refl, sym, ap, subst, ◌∙◌, arith, inl, inr, length-set, ◌<◌, zero, suc, length, slice_set, if◌then◌else◌, ◌==◌, false, ◌≡◌, ℕ, ◌≤◌, true, List, [], ◌∷◌, Option, Some, None, slice_get, option_map, option_and_then, ◌⊎◌, eq-eqb, eqb-true, ne_eqb}
+use Rattle.packet_loops.proofs.Common.{option_map_or, cases_eq, false≢true, slice_get_within, Prefix, Machine, opening_machine, changed_at, infinity, machine_of, Link, Router, Attachments, World, Network, side, place_at, places_from, link_at, opening, Item, Held, Notice, Place, Lawful, next, with_cost, with_front_taken, with_message, router_releasing, with_delivered, with_noticed, with_released, router_accepting, front_at, notice_at, is_at_home, release_at, ripe_front, changed_router, Runs, History, history_from, published_after, with_step, with_steps, history, option_map_or-ind, None_not_Some, listed_within, at_home_there, at_port, view, lay, fd_in, machine_laws, Run, Start, Then, Invariant, opening_keeps, steps_keep}
 use Rattle.network_model.specs.declared.step.Step.{Step}
 use Rattle.network_model.specs.declared.step.Step.TheVariants.{LinkUp, LinkDown, SetCost, Deliver, Publish, Release, Attach, Detach}
-use Rattle.network_model.specs.Step.{Lawful, next, with_cost, with_front_taken, with_message, router_releasing, with_delivered, with_noticed, with_released, router_accepting, front_at, notice_at, is_at_home, release_at, ripe_front, changed_router}
-use Rattle.network_model.specs.Run.{Runs, History, history_from, published_after, with_step, with_steps, history}
 use Rattle.packet_loops.proofs.WorldLaws.{next-shape}
-use Rattle.network_model.proofs.ListLaws.{option_map_or-ind, None_not_Some, listed_within}
-use Rattle.network_model.proofs.Lawful.{at_home_there}
-use Rattle.machine_laws.proofs.MachineLaws.{machine_laws}
-use Rattle.loop_freedom.specs.Network.{Run, Start, Then, at_port}
-use Rattle.loop_freedom.proofs.Invariant.{Invariant}
-use Rattle.loop_freedom.proofs.Opened.{opening_keeps}
-use Rattle.loop_freedom.proofs.Walks.{steps_keep}
-use Rattle.packet_loops.specs.Packets.{fd_in}
 use Rattle.packet_loops.proofs.Wiring.{IsWired}
-use Rattle.packet_loops.proofs.Places.{lay, topology, laid}
-use Rattle.packet_loops.proofs.View.{view, on_router-there}
+use Rattle.packet_loops.proofs.Places.{topology, laid}
+use Rattle.packet_loops.proofs.View.{on_router-there}
 use Rattle.packet_loops.proofs.Kept.{WorldKept, StepKept, linked}
 use Rattle.packet_loops.proofs.Linking.{link_up, link_down, cost_set_at}
 use Rattle.packet_loops.proofs.Taking.{takes_item}

@@ -1,34 +1,11 @@
 -- A router that takes an item takes it in the view too, or nothing of the prefix changes.
-use Rattle.std.specs.Prelude.{◌≡◌, ℕ, zero, suc, ◌<◌, Bool, true, false, List, [], ◌∷◌, ◌++◌, length, drop, Option, Some, None, is_some, slice_get, option_map, option_and_then}
-use Rattle.std.specs.Option.{option_map_or}
+use Rattle.std.proofs.Common.{refl, sym, ap, subst, ◌∙◌, arith, inl, inr, ◌≡◌, ℕ, zero, suc, ◌<◌, Bool, true, false, List, [], ◌∷◌, ◌++◌, length, drop, Option, Some, None, is_some, slice_get, option_map, option_and_then}
+use Rattle.packet_loops.proofs.Common.{option_map_or, cases_eq, false≢true, slice_get_within, Prefix, prefix_cmp, prefix_eq, Machine, reaction, changed_at, opening_machine, attachment_after, Neighbour, Event, Item, Entry, End, Side, Link, Router, World, Network, side, machine_of, places_from, Place, Port, router_accepting, with_front_taken, session_at, Some_injective, None_not_Some, slice_get-changed_at, listed_at, LinkEnd, State, SeenItem, UpNotice, DownNotice, CostNotice, Reported, at_port, msg_of, next_hop, heard, heard_item, inbox_of, kept, ripe_of, unripe_of, next_hop_at, view, lay, Meets, IsSound, is_up_at, test_at, sent_to, machine_laws, Takes, Skips, event_of, seen_after, held_for, SameLinks, SameCosts, none_sent, IsLawfulInbox, meets_item, place_cases, Invariant}
 use Rattle.std.specs.FinMap.{find as row_of}
-use Rattle.std.proofs.Common.{refl, sym, ap, subst, ◌∙◌, arith, inl, inr}
-use Rattle.std.proofs.lemmas.Bool.{cases_eq, false≢true}
-use Rattle.std.proofs.lemmas.Option.{slice_get_within}
-use Rattle.ipv4_prefix.specs.Prefix.{Prefix, prefix_cmp, prefix_eq}
-use Rattle.network_model.specs.Machine.{Machine, reaction, changed_at, opening_machine, attachment_after}
-use Rattle.network_model.specs.declared.machine.Neighbour.{Neighbour}
-use Rattle.network_model.specs.declared.machine.Event.{Event}
-use Rattle.network_model.specs.declared.item.Item.{Item}
-use Rattle.network_model.specs.declared.route.Entry.{Entry}
-use Rattle.network_model.specs.declared.network.End.{End}
-use Rattle.network_model.specs.World.{Side, Link, Router, World, Network, side, machine_of, places_from}
-use Rattle.network_model.specs.declared.network.Place.{Place}
-use Rattle.network_model.specs.declared.network.Port.{Port}
-use Rattle.network_model.specs.Step.{router_accepting, with_front_taken, session_at}
-use Rattle.network_model.proofs.ListLaws.{Some_injective, None_not_Some, slice_get-changed_at, listed_at}
-use Rattle.machine_laws.specs.Laws.{Meets, IsSound, is_up_at, test_at, sent_to}
-use Rattle.machine_laws.proofs.MachineLaws.{machine_laws}
 use Rattle.machine_laws.proofs.Events.{ports_length as records_length}
-use Rattle.loop_freedom.specs.Network.{LinkEnd, State, Item as NetItem, UpNotice, DownNotice, CostNotice, Reported, Takes, Skips, event_of, seen_after, held_for, at_port, SameLinks, SameCosts}
-use Rattle.loop_freedom.proofs.OnTheWay.{none_sent}
-use Rattle.loop_freedom.proofs.Notices.{IsLawfulInbox}
-use Rattle.loop_freedom.proofs.Ports.{meets_item}
-use Rattle.loop_freedom.proofs.Ends.{place_cases}
-use Rattle.loop_freedom.proofs.Invariant.{Invariant}
 use Rattle.packet_loops.proofs.Wiring.{IsWired}
-use Rattle.packet_loops.proofs.Places.{lay, laid, topology}
-use Rattle.packet_loops.proofs.View.{msg_of, next_hop, heard, heard_item, inbox_of, kept, ripe_of, unripe_of, next_hop_at, view, on_link-there, on_link-hit, on_link-same, on_router-there, on_router-miss, on_router-same}
+use Rattle.packet_loops.proofs.Places.{laid, topology}
+use Rattle.packet_loops.proofs.View.{on_link-there, on_link-hit, on_link-same, on_router-there, on_router-miss, on_router-same}
 use Rattle.packet_loops.proofs.Machines.{up_opened, down_opened, cost_opened}
 use Rattle.packet_loops.proofs.Kept.{RouterKept, WorldKept, StepKept, with_links, with_router, changed_side-ends, changed_beside, changed_here, up_beside, session_beside, other_end}
 use Rattle.packet_loops.proofs.Accepting.{Silent, Reacted, Unmoved, reacts_to_notice, reacts_to_message, unmoved_by_message}
@@ -65,7 +42,7 @@ silent_to_none n p i r R known e sound meets j out =
     omega (arith, lt, same, lengths)))
 
 -- no item of a link changes an attachment
-item_leaves : (q : ℕ) (item : NetItem) (a : Option ℕ) → attachment_after (event_of q item) a ≡ a
+item_leaves : (q : ℕ) (item : SeenItem) (a : Option ℕ) → attachment_after (event_of q item) a ≡ a
 item_leaves q (UpNotice s c) a = refl
 item_leaves q (DownNotice s) a = refl
 item_leaves q (CostNotice s c) a = refl
@@ -199,7 +176,7 @@ module _ (n : Network) (N : IsWired n) (p : Prefix) (w : World) (pfd : ℕ → �
   pub port_there : q < length r.ports
   port_there = (let c = kept_r.port_count in let lt = slice_get_within (places_from 0 i n.links) q x0 listed_here in omega (arith, c, lt))
 
-  module _ (hears : NetItem) (heard_is : heard_item p item ≡ hears ∷ []) where
+  module _ (hears : SeenItem) (heard_is : heard_item p item ≡ hears ∷ []) where
     -- the front of what port a has to take is what the prefix hears of the item
     inbox_front : old.inbox a ≡ hears ∷ new.inbox a
     inbox_front = inbox_was ∙ ap (λ xs. xs ++ heard p (drop 1 (side x0.end k).inbox)) heard_is ∙ ap (λ xs. hears ∷ xs) (sym inbox_now)
@@ -208,7 +185,7 @@ module _ (n : Network) (N : IsWired n) (p : Prefix) (w : World) (pfd : ℕ → �
     pub lawful_front : IsLawfulInbox (is_up_at (machine_of r p) q) (session_at r.ports q) (old.up a) (old.session a) (hears ∷ new.inbox a)
     lawful_front =
         let h : IsLawfulInbox (is_up_at (old.machine i) q) (old.seen a) (old.up a) (old.session a) (old.inbox a) = I.lawful a (ap is_some laid_a) in
-        let h2 = subst (λ (xs : List NetItem). IsLawfulInbox (is_up_at (old.machine i) q) (old.seen a) (old.up a) (old.session a) xs) inbox_front h in
+        let h2 = subst (λ (xs : List SeenItem). IsLawfulInbox (is_up_at (old.machine i) q) (old.seen a) (old.up a) (old.session a) xs) inbox_front h in
         let h3 = subst (λ (m : Machine). IsLawfulInbox (is_up_at m q) (old.seen a) (old.up a) (old.session a) (hears ∷ new.inbox a)) machine_was h2 in
         subst (λ (s : ℕ). IsLawfulInbox (is_up_at (machine_of r p) q) s (old.up a) (old.session a) (hears ∷ new.inbox a)) seen_was h3
 

@@ -1,25 +1,10 @@
 -- A router that takes a notice of its attachment takes it in the view too, or nothing of the prefix changes.
-use Rattle.std.specs.Prelude.{◌≡◌, ℕ, suc, ◌<◌, Bool, true, false, if◌then◌else◌, List, [], ◌∷◌, ◌++◌, drop, Option, Some, None, slice_get, option_map, option_and_then}
-use Rattle.std.specs.Option.{option_map_or}
+use Rattle.std.proofs.Common.{refl, sym, ap, subst, ◌∙◌, ◌≡◌, ℕ, suc, ◌<◌, Bool, true, false, if◌then◌else◌, List, [], ◌∷◌, ◌++◌, drop, Option, Some, None, slice_get, option_map, option_and_then}
+use Rattle.packet_loops.proofs.Common.{option_map_or, Prefix, prefix_cmp, prefix_eq, IsCost, Machine, reaction, changed_at, opening_machine, attachment_after, event_at_home, Event, Notice, Entry, Router, Attachments, World, Network, machine_of, router_at_home, with_notice_taken, session_at, Some_injective, None_not_Some, slice_get-changed_at, slice_get-changed_at_other, LinkEnd, State, next_hop, kept, ripe_of, unripe_of, next_hop_at, view, IsSound, sent_to, machine_laws, TakesAtHome, Skips, held_for, meets_home, Invariant}
 use Rattle.std.specs.FinMap.{find as row_of}
-use Rattle.std.proofs.Common.{refl, sym, ap, subst, ◌∙◌}
-use Rattle.ipv4_prefix.specs.Prefix.{Prefix, prefix_cmp, prefix_eq}
-use Rattle.metric.specs.Distance.{IsCost}
-use Rattle.network_model.specs.Machine.{Machine, reaction, changed_at, opening_machine, attachment_after, event_at_home}
-use Rattle.network_model.specs.declared.machine.Event.{Event}
-use Rattle.network_model.specs.declared.item.Notice.{Notice}
-use Rattle.network_model.specs.declared.route.Entry.{Entry}
-use Rattle.network_model.specs.World.{Router, Attachments, World, Network, machine_of}
-use Rattle.network_model.specs.Step.{router_at_home, with_notice_taken, session_at}
-use Rattle.network_model.proofs.ListLaws.{Some_injective, None_not_Some, slice_get-changed_at, slice_get-changed_at_other}
-use Rattle.machine_laws.specs.Laws.{IsSound, sent_to}
-use Rattle.machine_laws.proofs.MachineLaws.{machine_laws}
-use Rattle.loop_freedom.specs.Network.{LinkEnd, State, TakesAtHome, Skips, held_for}
-use Rattle.loop_freedom.proofs.TakingAtHome.{meets_home}
-use Rattle.loop_freedom.proofs.Invariant.{Invariant}
 use Rattle.packet_loops.proofs.Wiring.{IsWired}
 use Rattle.packet_loops.proofs.Places.{topology}
-use Rattle.packet_loops.proofs.View.{next_hop, kept, ripe_of, unripe_of, next_hop_at, view, on_router-there, on_router-miss, on_router-same}
+use Rattle.packet_loops.proofs.View.{on_router-there, on_router-miss, on_router-same}
 use Rattle.packet_loops.proofs.Kept.{RouterKept, AttachmentsKept, WorldKept, StepKept, attachment_then, each_changed}
 use Rattle.packet_loops.proofs.Accepting.{Met, Unmoved, meets_here, unmoved_elsewhere}
 use Rattle.packet_loops.proofs.Taking.{silent_to_none}

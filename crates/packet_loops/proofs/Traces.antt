@@ -1,21 +1,10 @@
 -- Traces are ways of packets, so they meet no router twice, and end.
-use Rattle.std.specs.Prelude.{◌≡◌, ◌≢◌, ℕ, zero, suc, ◌<◌, ◌≤◌, Bool, true, false, not, ◌==◌, if◌then◌else◌, List, [], ◌∷◌, length, Option, Some, None, ⊤}
-use Rattle.std.specs.List.{list_any, IsDistinct, AllByRecursion}
-use Rattle.std.proofs.Common.{refl, sym, ap, subst, ◌∙◌, arith, inl, inr, eqb}
-use Rattle.std.proofs.lemmas.Map.Steps.{length-le_from_distinct_below}
-use Rattle.std.proofs.lemmas.Bool.{or_parts, or_cases, eqb-true, false≢true}
-use Rattle.std.proofs.lemmas.List.FromFn.{length-map-range_with_len}
-use Rattle.ipv4_prefix.specs.Prefix.{Prefix, prefix_eq}
-use Rattle.network_model.specs.declared.route.Entry.{Entry}
-use Rattle.network_model.specs.declared.route.Entry.TheVariants.{Local, Via, Unreachable}
-use Rattle.network_model.specs.World.{World, opening}
-use Rattle.network_model.specs.Forwarding.{row_for, entry_leads, IsForwarded, IsPacketWalk, Ending, Unfinished, Onward, Ends, Goes, is_crossed, over_link, by_entry, by_row, onward, Trace, traced_by, trace_from, trace}
-use Rattle.network_model.proofs.ListLaws.{Some_injective, None_not_Some}
+use Rattle.std.proofs.Common.{refl, sym, ap, subst, ◌∙◌, arith, inl, inr, eqb, ◌≡◌, ◌≢◌, ℕ, zero, suc, ◌<◌, ◌≤◌, Bool, true, false, not, ◌==◌, if◌then◌else◌, List, [], ◌∷◌, length, Option, Some, None, IsSome, eqb-true}
+use Rattle.packet_loops.proofs.Common.{⊤, list_any, AllByRecursion, length-le_from_distinct_below, or_parts, or_cases, false≢true, length-map-range_with_len, Prefix, prefix_eq, Entry, Local, Via, Unreachable, Ending, World, opening, row_for, entry_leads, IsForwarded, IsPacketWalk, Onward, Ends, Goes, over_link, by_entry, by_row, onward, Trace, traced_by, trace_from, trace, Some_injective, None_not_Some, history, is_met, meets_twice}
+use Rattle.std.specs.List.{IsDistinct}
 use Rattle.packet_loops.proofs.Wiring.{wired}
 use Rattle.packet_loops.proofs.WorldLaws.{Runs-shape}
-use Rattle.network_model.specs.Run.{history}
-use Rattle.loop_freedom.specs.Network.{is_met, meets_twice}
-use Rattle.packet_loops.specs.Packets.{AlwaysHolds, NoPacketLoops, TracesEnd}
+use Rattle.packet_loops.specs.Packets.{HoldsInEveryWorld, NoPacketLoops, TracesEnd}
 use Rattle.packet_loops.proofs.Machines.{prefix_same}
 use Rattle.packet_loops.proofs.Runs.{reached}
 use Rattle.packet_loops.proofs.Walks.{leads_known, always_packets_free}
@@ -64,12 +53,12 @@ ends_not_goes : {X : Type 0} (end : Ending) (q : Prefix) (k : ℕ) → Ends end 
 ends_not_goes end q k h = absurd (let f : ⊥ = cc in f)
 
 -- a trace that goes on over a link goes to its far end
-over_link-goes : (q : Prefix) (o : Option ℕ) (q' : Prefix) (k : ℕ) → over_link q o ≡ Goes q' k → (q ≡ q') × (o ≡ Some k)
+pub over_link-goes : (q : Prefix) (o : Option ℕ) (q' : Prefix) (k : ℕ) → over_link q o ≡ Goes q' k → (q ≡ q') × (o ≡ Some k)
 over_link-goes q None q' k h = ends_not_goes Ending.DeadLink q' k h
 over_link-goes q (Some j) q' k h = (let e : q ≡ q' = cc in e, (let e : j ≡ k = cc in ap Some e))
 
 -- a trace that goes on by an entry goes where the entry leads
-by_entry-goes : (w : World) (i : ℕ) (q : Prefix) (e : Entry) (q' : Prefix) (k : ℕ) → by_entry w i q e ≡ Goes q' k → (q ≡ q') × (entry_leads w i e ≡ Some k)
+pub by_entry-goes : (w : World) (i : ℕ) (q : Prefix) (e : Entry) (q' : Prefix) (k : ℕ) → by_entry w i q e ≡ Goes q' k → (q ≡ q') × (entry_leads w i e ≡ Some k)
 by_entry-goes w i q Local q' k h = ends_not_goes Ending.Delivered q' k h
 by_entry-goes w i q Unreachable q' k h = ends_not_goes Ending.Unreachable q' k h
 by_entry-goes w i q (Via port session) q' k h = over_link-goes q (entry_leads w i (Via port session)) q' k h
@@ -87,26 +76,6 @@ went_on w i (Some p) (Some r) q k h = by_cross (prefix_eq p r.0) refl h
     by_cross true is f =
         let g = by_entry-goes w i r.0 r.1 q k f in
         record { entry = r.1; is_row = λ z. Some (g.0 z, r.1); leads_to = g.1; same = λ p' e. sym (Some_injective e) ∙ prefix_same p r.0 is ∙ g.0 }
-
--- no trace is left unfinished at a link
-over_link-ends : (q : Prefix) (o : Option ℕ) → over_link q o ≢ Ends Unfinished
-over_link-ends q None h = cc
-over_link-ends q (Some j) h = cc
-
--- no trace is left unfinished by an entry
-by_entry-ends : (w : World) (i : ℕ) (q : Prefix) (e : Entry) → by_entry w i q e ≢ Ends Unfinished
-by_entry-ends w i q Local h = cc
-by_entry-ends w i q Unreachable h = cc
-by_entry-ends w i q (Via port session) h = over_link-ends q (entry_leads w i (Via port session)) h
-
--- no trace is left unfinished by the row of a router
-never_unfinished : (w : World) (i : ℕ) (first : Option Prefix) (row : Option (Prefix × Entry)) → by_row w i first row ≢ Ends Unfinished
-never_unfinished w i first None h = cc
-never_unfinished w i first (Some r) h = by_cross (is_crossed first r.0) h
-  where
-    by_cross : (b : Bool) → (if b then Ends Ending.Crossed else by_entry w i r.0 r.1) ≢ Ends Unfinished
-    by_cross true f = cc
-    by_cross false f = by_entry-ends w i r.0 r.1 f
 
 -- the trace that does this at router i, and then may pass m routers more
 abbrev traced : ℕ → World → ℕ → ℕ → Onward → Trace
@@ -170,29 +139,29 @@ module _ (w : World) (addr : ℕ) where
 
   module _ (m : ℕ) (first : Option Prefix) (i : ℕ) (p : Prefix) (one : (q : Prefix) (k : ℕ) → onward w addr first i ≡ Goes q k → q ≡ p) where
     -- an unfinished trace of m + 1 routers by prefix p is a way that long, if the traces of m routers behind it are
-    long_step : ((k : ℕ) → (trace_from m w addr (Some p) k).end ≡ Unfinished → Long m k p) → (trace_from (suc m) w addr first i).end ≡ Unfinished → Long (suc m) i p
+    long_step : ((k : ℕ) → (trace_from m w addr (Some p) k).end ≡ None → Long m k p) → (trace_from (suc m) w addr first i).end ≡ None → Long (suc m) i p
     long_step deeper h = by_onward (onward w addr first i) refl h
       where
-        by_onward : (o : Onward) → onward w addr first i ≡ o → (traced m w addr i o).end ≡ Unfinished → Long (suc m) i p
-        by_onward (Ends end) is g = absurd (never_unfinished w i first (row_for w i addr) (is ∙ ap Ends g))
+        by_onward : (o : Onward) → onward w addr first i ≡ o → (traced m w addr i o).end ≡ None → Long (suc m) i p
+        by_onward (Ends end) is g = absurd (None_not_Some (sym g))
         by_onward (Goes q k) is g =
             let same : q ≡ p = one q k is in
             let F : IsForwarded w addr p i k = subst (λ (z : Prefix). IsForwarded w addr z i k) same (forwards first i q k is).0 in
-            let L = deeper k (subst (λ (z : Prefix). (trace_from m w addr (Some z) k).end ≡ Unfinished) same g) in
+            let L = deeper k (subst (λ (z : Prefix). (trace_from m w addr (Some z) k).end ≡ None) same g) in
             record { rest = k ∷ L.rest; length_is = ap suc L.length_is; walk = (F, L.walk) }
 
   -- a trace by prefix p that is left unfinished after m routers is a way of a packet that long
-  long_from : (m i : ℕ) (p : Prefix) → (trace_from m w addr (Some p) i).end ≡ Unfinished → Long m i p
+  long_from : (m i : ℕ) (p : Prefix) → (trace_from m w addr (Some p) i).end ≡ None → Long m i p
   long_from zero i p h = record { rest = []; length_is = refl; walk = tt }
   long_from (suc m) i p h = long_step m (Some p) i p (λ q k is. sym ((forwards (Some p) i q k is).1 p refl)) (λ k. long_from m k p) h
 
   -- every trace that is left unfinished after m routers is a way of a packet that long, by one prefix
-  long_trace : (m i : ℕ) → (trace_from m w addr None i).end ≡ Unfinished → (p : Prefix) × Long m i p
+  long_trace : (m i : ℕ) → (trace_from m w addr None i).end ≡ None → (p : Prefix) × Long m i p
   long_trace zero i h = (record { addr = 0; len = 0 }, record { rest = []; length_is = refl; walk = tt })
   long_trace (suc m) i h = by_onward (onward w addr None i) refl
     where
       by_onward : (o : Onward) → onward w addr None i ≡ o → (p : Prefix) × Long (suc m) i p
-      by_onward (Ends end) is = absurd (never_unfinished w i None (row_for w i addr) (is ∙ ap Ends (sym (ap (λ (o : Onward). (traced m w addr i o).end) is) ∙ h)))
+      by_onward (Ends end) is = absurd (None_not_Some (sym h ∙ ap (λ (o : Onward). (traced m w addr i o).end) is))
       by_onward (Goes q k) is = (q, long_step m None i q (λ q' k' is'. goes_same q q' k k' (sym is ∙ is')) (λ j. long_from m j q) h)
 
 -- where packets are forwarded to routers below n alone, a way of a packet that starts below n stays there
@@ -204,16 +173,20 @@ all_below w addr p n known i (k ∷ ks) lt h = (lt, all_below w addr p n known k
 pub traces_end : (w : World) → NoPacketLoops w → ((addr : ℕ) (p : Prefix) (i k : ℕ) → IsForwarded w addr p i k → k < length w.routers) → TracesEnd w
 traces_end w free known = record {
   none_twice = λ i addr. (let W = trace_walk w addr (length w.routers) i in free addr W.0 (trace w i addr).path W.1);
-  ends = λ i addr lt h.
+  ends = λ i addr lt. not_none (trace w i addr).end (λ h.
       (let L = long_trace w addr (length w.routers) i h in
       let below : AllBelow (length w.routers) (i ∷ (L.1).rest) = all_below w addr L.0 (length w.routers) (known addr L.0) i (L.1).rest lt (L.1).walk in
       let le : length (i ∷ (L.1).rest) ≤ length w.routers = few (length w.routers) (i ∷ (L.1).rest) below (free addr L.0 (i ∷ (L.1).rest) (L.1).walk) in
       let m : length (L.1).rest ≡ length w.routers = (L.1).length_is in
-      omega (arith, le, m));
+      omega (arith, le, m)));
 }
+  where
+    not_none : {A : Type 0} (o : Option A) → (o ≡ None → ⊥) → IsSome o
+    not_none None never = absurd (never refl)
+    not_none (Some x) never = refl
 
 -- no trace meets a router twice, and every trace from a router ends, in every world of every run
-pub always_traces_end : AlwaysHolds TracesEnd
+pub always_traces_end : HoldsInEveryWorld TracesEnd
 always_traces_end n ss w valid r = traces_end w (always_packets_free n ss w valid r) known
   where
     count : length w.routers ≡ n.routers

@@ -1,39 +1,18 @@
 -- Ways of packets are walks of the view, so they meet no router twice; along rows the feasible distances fall.
-use Rattle.std.specs.Prelude.{◌<◌, ◌≡◌, ◌⊎◌, ℕ, Bool, true, false, cond, ◌&&◌, ◌==◌, nat_lt, if◌then◌else◌, List, [], ◌∷◌, Option, Some, None, is_some, slice_get, option_map, option_and_then, ⊤}
-use Rattle.std.specs.Option.{option_map_or}
+use Rattle.std.proofs.Common.{refl, sym, ap, subst, ◌∙◌, inl, inr, arith, ◌<◌, ◌≡◌, ◌⊎◌, ℕ, Bool, true, false, cond, ◌&&◌, ◌==◌, nat_lt, if◌then◌else◌, List, [], ◌∷◌, Option, Some, None, is_some, slice_get, option_map, option_and_then, eqb-true, eq-eqb}
+use Rattle.packet_loops.proofs.Common.{⊤, option_map_or, and_parts, false≢true, and_from, Prefix, prefix_cmp, prefix_eq, covers, longer_row, longest_match, Machine, opening_machine, port_successor, is_port, port_successor_from, Entry, Local, Via, Unreachable, Link, Side, Router, World, Network, other, side, machine_of, opening, Place, session_at, entry_of, entry_leads, IsForwarded, IsPacketWalk, Some_injective, None_not_Some, is_up_at, machine_laws, Topology, PublishedEdge, ControlEdge, IsEdgeWalk, met, meets_twice, next_hop_of, always_mixed, router_end, find_below, sorted-map, history, LinkEnd, State, NextHop, at_port, next_hop, next_hop_at, view, lay, fd_in, is_next_hop, is_current}
 use Rattle.std.specs.FinMap.{find as row_of}
 use Rattle.std.specs.FinMap.Entries.{is_sorted, below_all}
-use Rattle.std.proofs.Common.{refl, sym, ap, subst, ◌∙◌, inl, inr, arith}
-use Rattle.std.proofs.lemmas.Bool.{and_parts, eqb-true, false≢true, and_from, eq-eqb}
-use Rattle.ipv4_prefix.specs.Prefix.{Prefix, prefix_cmp, prefix_eq, covers}
-use Rattle.ipv4_prefix.specs.LongestMatch.{longer_row, longest_match}
-use Rattle.network_model.specs.Machine.{Machine, opening_machine, port_successor, is_port}
-use Rattle.machine_laws.proofs.Successors.{port_successor_from}
-use Rattle.network_model.specs.declared.route.Entry.{Entry}
-use Rattle.network_model.specs.declared.route.Entry.TheVariants.{Local, Via, Unreachable}
-use Rattle.network_model.specs.World.{Link, Side, Router, World, Network, other, side, machine_of, opening}
-use Rattle.network_model.specs.declared.network.Place.{Place}
-use Rattle.network_model.specs.Step.{session_at, entry_of}
-use Rattle.network_model.specs.Forwarding.{entry_leads, IsForwarded, IsPacketWalk}
-use Rattle.network_model.proofs.ListLaws.{Some_injective, None_not_Some}
-use Rattle.machine_laws.specs.Laws.{is_up_at}
-use Rattle.machine_laws.proofs.MachineLaws.{machine_laws}
-use Rattle.loop_freedom.specs.Network.{LinkEnd, State, Topology, NextHop, PublishedEdge, ControlEdge, IsWalk, met, meets_twice, next_hop_of, at_port}
-use Rattle.loop_freedom.proofs.Walks.{always_mixed}
-use Rattle.packet_loops.specs.Packets.{AlwaysHolds, NoPacketLoops, NoMixtureLoops, IsForwardedBy, IsMixtureWalk, published_entry, control_entry, fd_in, DistancesAlwaysFall}
+use Rattle.packet_loops.specs.Packets.{HoldsInEveryWorld, NoPacketLoops, NoMixtureLoops, IsForwardedBy, IsMixtureWalk, published_entry, control_entry, DistancesAlwaysFall}
 use Rattle.packet_loops.proofs.Wiring.{IsWired, wired}
-use Rattle.network_model.proofs.PortPlaces.{router_end}
 use Rattle.packet_loops.specs.LinkEnds.{across}
-use Rattle.packet_loops.proofs.Places.{lay, laid, far, far_laid, spot_on, topology}
-use Rattle.packet_loops.proofs.View.{next_hop, next_hop_at, view, on_link-there, on_router-there}
-use Rattle.network_model.proofs.RowLaws.{find_below, sorted-map}
+use Rattle.packet_loops.proofs.Places.{laid, far, far_laid, spot_on, topology}
+use Rattle.packet_loops.proofs.View.{on_link-there, on_router-there}
 use Rattle.packet_loops.proofs.Machines.{prefix_same, prefix_itself}
 use Rattle.packet_loops.proofs.Kept.{specified, far_is}
 use Rattle.packet_loops.proofs.Publishing.{control_hop}
 use Rattle.packet_loops.proofs.Opened.{first_fd, opening_view}
 use Rattle.packet_loops.proofs.Runs.{Reached, reached, place_is, fd_is, history_world}
-use Rattle.network_model.specs.Run.{history}
-use Rattle.loop_freedom.specs.Facts.{is_next_hop, is_current}
 
 -- ---- routers that forward by what they published, or by what they chose since, hop by hop
 
@@ -234,7 +213,7 @@ module _ (n : Network) (N : IsWired n) (p : Prefix) (w : World) (rs : List Route
   -- a walk of the view from router i meets these routers
   record Walked (i : ℕ) (ks : List ℕ) : Type 0 where
     spots : List LinkEnd
-    is_walk : IsWalk t edge i spots
+    is_walk : IsEdgeWalk t edge i spots
     meets : met t spots ≡ ks
 
   -- a way of a packet by published or chosen rows is a walk of the view
@@ -245,7 +224,7 @@ module _ (n : Network) (N : IsWired n) (p : Prefix) (w : World) (rs : List Route
       let W = walked k ks h.1 in
       record {
         spots = H.spot_at ∷ W.spots;
-        is_walk = (H.from, H.valid, H.is_edge, subst (λ (j : ℕ). IsWalk t edge j W.spots) (sym H.to) W.is_walk);
+        is_walk = (H.from, H.valid, H.is_edge, subst (λ (j : ℕ). IsEdgeWalk t edge j W.spots) (sym H.to) W.is_walk);
         meets = λ z. H.to z ∷ W.meets z;
       }
 
@@ -359,9 +338,9 @@ distances_fall n ss w valid r = record {
     here p = subst (λ (v : World). Reached n N p v (history n ss).published) (sym (history_world n ss w r)) (reached n N p ss w r)
 
 -- no packet meets a router twice in a mixture, in every world of every run
-pub always_mixtures_free : AlwaysHolds NoMixtureLoops
+pub always_mixtures_free : HoldsInEveryWorld NoMixtureLoops
 always_mixtures_free n ss w valid r by_control addr p walk h = no_mixture_loops n (wired n valid) p w (history n ss).published (reached n (wired n valid) p ss w r) by_control addr walk h
 
 -- no packet meets a router twice, in every world of every run
-pub always_packets_free : AlwaysHolds NoPacketLoops
+pub always_packets_free : HoldsInEveryWorld NoPacketLoops
 always_packets_free n ss w valid r addr p walk h = no_packet_loops n (wired n valid) p w (history n ss).published (reached n (wired n valid) p ss w r) addr walk h

@@ -1,17 +1,6 @@
 -- What a network without faults is, as the laws use it: each link joins two routers and costs something, and so does each attachment.
-use Rattle.std.specs.Prelude.{◌≡◌, ◌≢◌, ℕ, zero, suc, ◌<◌, ◌≤◌, Bool, true, false, not, ◌&&◌, ◌||◌, ◌==◌, nat_lt, nat_le, List, [], ◌∷◌, ◌++◌, length, Some, None, slice_get, All}
-use Rattle.std.specs.List.{list_any}
-use Rattle.std.proofs.Common.{refl, sym, subst, ◌∙◌, arith}
-use Rattle.std.proofs.lemmas.Bool.{true≢false, ltb-true, leb-true, eq-eqb}
-use Rattle.metric.specs.Distance.{IsCost}
-use Rattle.ipv4_prefix.specs.Prefix.{Prefix}
-use Rattle.network_model.specs.declared.network.LinkSpec.{LinkSpec}
-use Rattle.network_model.specs.declared.network.NetworkFault.{NetworkFault}
-use Rattle.network_model.specs.declared.network.NetworkFault.TheVariants.{BadRouters, BadLink, TooManyLinks}
-use Rattle.network_model.specs.World.{Network}
-use Rattle.network_model.specs.Network.{first_cause, link_causes, attachment_causes, is_bad_link, is_link_too_many, has_same_ends, most_routers, HasCosts, IsNetwork}
-use Rattle.network_model.proofs.Causes.{first_none, none_in_both}
-use Rattle.network_model.proofs.ListLaws.{Some_injective, None_not_Some}
+use Rattle.std.proofs.Common.{refl, sym, subst, ◌∙◌, arith, ◌≡◌, ◌≢◌, ℕ, zero, suc, ◌<◌, ◌≤◌, Bool, true, false, not, ◌&&◌, ◌||◌, ◌==◌, nat_lt, nat_le, List, [], ◌∷◌, ◌++◌, length, Some, None, slice_get, All, true≢false, ltb-true, leb-true, eq-eqb}
+use Rattle.packet_loops.proofs.Common.{list_any, IsCost, Prefix, LinkSpec, NetworkFault, BadRouters, BadLink, TooManyLinks, Network, first_cause, link_causes, attachment_causes, is_bad_link, is_link_too_many, has_same_ends, most_routers, HasCosts, IsNetwork, first_none, none_in_both, Some_injective, None_not_Some}
 
 -- a link whose two ends are routers of the network, and not one and the same, and that costs at least 1 each way
 pub record IsWiredLink (routers : ℕ) (s : LinkSpec) : Type 0 where

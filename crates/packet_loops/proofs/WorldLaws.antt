@@ -1,17 +1,9 @@
 -- Steps keep the shape of a world.
-use Rattle.std.specs.Prelude.{◌≡◌, ℕ, false, cond, List, [], ◌∷◌, length, Some}
+use Rattle.std.proofs.Common.{refl, ap, subst, ◌∙◌, ◌≡◌, ℕ, false, cond, List, [], ◌∷◌, length, Some}
 use Rattle.std.specs.FinMap.{find as row_of, put}
-use Rattle.std.specs.FinMap.Entries.{find-put}
-use Rattle.std.proofs.Common.{refl, ap, subst, ◌∙◌}
-use Rattle.ipv4_prefix.specs.Prefix.{Prefix, prefix_cmp, prefix_eq}
-use Rattle.ipv4_prefix.proofs.PrefixOrder.{prefix_cmp_total}
-use Rattle.network_model.specs.declared.network.End.{End}
+use Rattle.packet_loops.proofs.Common.{find-put, Prefix, prefix_cmp, prefix_eq, prefix_cmp_total, End, Link, Router, Attachments, World, place_at, next, changed_link, changed_router, changed_attachments, router_accepting, router_at_home, with_delivered, with_noticed, with_released, with_front_taken, with_notice_taken, with_cost, with_message, front_at, notice_at, Runs, length-changed_at, option_map_or-ind}
 use Rattle.network_model.specs.declared.step.Step.{Step}
 use Rattle.network_model.specs.declared.step.Step.TheVariants.{LinkUp, LinkDown, SetCost, Deliver, Publish, Release, Attach, Detach}
-use Rattle.network_model.specs.World.{Link, Router, Attachments, World, place_at}
-use Rattle.network_model.specs.Step.{next, changed_link, changed_router, changed_attachments, router_accepting, router_at_home, with_delivered, with_noticed, with_released, with_front_taken, with_notice_taken, with_cost, with_message, front_at, notice_at}
-use Rattle.network_model.specs.Run.{Runs}
-use Rattle.network_model.proofs.ListLaws.{length-changed_at, option_map_or-ind}
 
 -- ---- look-ups
 

@@ -1,21 +1,21 @@
 -- What holds of the packets of every network, after every list of lawful steps.
-use Rattle.std.specs.Prelude.{◌≡◌, ◌≢◌, ℕ, ◌<◌, Bool, if◌then◌else◌, List, [], ◌∷◌, Option, Some, slice_get, option_and_then, length, false, ⊤}
+use Rattle.std.specs.Prelude.{◌≡◌, ℕ, ◌<◌, Bool, if◌then◌else◌, List, [], ◌∷◌, Option, Some, IsSome, slice_get, option_and_then, length, false, ⊤}
 use Rattle.std.specs.Option.{option_map_or}
 use Rattle.std.specs.FinMap.{find as row_of}
 use Rattle.ipv4_prefix.specs.Prefix.{Prefix, prefix_cmp}
 use Rattle.ipv4_prefix.specs.LongestMatch.{longest_match}
-use Rattle.metric.specs.Distance.{infinity}
 use Rattle.network_model.specs.declared.route.Entry.{Entry}
-use Rattle.network_model.specs.World.{Router, World, Network, opening, machine_of}
+use Rattle.network_model.specs.World.{World, Network, opening}
 use Rattle.network_model.specs.declared.step.Step.{Step}
 use Rattle.network_model.specs.Network.{IsNetwork}
 use Rattle.network_model.specs.Run.{Runs, History, history}
-use Rattle.network_model.specs.Forwarding.{entry_leads, IsForwarded, IsPacketWalk, Unfinished, trace}
+use Rattle.network_model.specs.Forwarding.{entry_leads, IsForwarded, IsPacketWalk, trace}
+use Rattle.network_model.specs.View.{fd_in}
 use Rattle.loop_freedom.specs.Network.{meets_twice}
 
 -- what holds of every world that lawful steps lead to from the opening of a network
-abbrev pub AlwaysHolds : (World → Type 0) → Type 0
-AlwaysHolds P = (n : Network) (ss : List Step) (w : World) → IsNetwork n → Runs (opening n) ss w → P w
+abbrev pub HoldsInEveryWorld : (World → Type 0) → Type 0
+HoldsInEveryWorld P = (n : Network) (ss : List Step) (w : World) → IsNetwork n → Runs (opening n) ss w → P w
 
 -- no packet meets a router twice along routers that match its address by one prefix
 abbrev pub NoPacketLoops : World → Type 0
@@ -53,10 +53,6 @@ published_entry w i p = option_and_then (λ r. row_of prefix_cmp p (r.table).pub
 abbrev pub control_entry : World → ℕ → Prefix → Option Entry
 control_entry w i p = option_and_then (λ r. row_of prefix_cmp p (r.table).control) (slice_get w.routers i)
 
--- the feasible distance of router i of this list for the prefix; infinity where there is no such router
-abbrev pub fd_in : List Router → Prefix → ℕ → ℕ
-fd_in rs p i = option_map_or (λ r. (machine_of r p).fd) (slice_get rs i) infinity
-
 -- along each row that leads to a router, its feasible distances, present and published, are below that of the row
 pub record DistancesFall (h : History) : Type 0 where
   pub by_published : (p : Prefix) (i k : ℕ) (e : Entry) → published_entry h.world i p ≡ Some e → entry_leads h.world i e ≡ Some k
@@ -73,7 +69,7 @@ DistancesAlwaysFall = (n : Network) (ss : List Step) (w : World) → IsNetwork n
 -- no trace meets a router twice; one from a router of the network ends: delivered, lost, or where another prefix matches
 pub record TracesEnd (w : World) : Type 0 where
   pub none_twice : (i addr : ℕ) → meets_twice (trace w i addr).path ≡ false
-  pub ends : (i addr : ℕ) → i < length w.routers → (trace w i addr).end ≢ Unfinished
+  pub ends : (i addr : ℕ) → i < length w.routers → IsSome (trace w i addr).end
 
 -- ---- that there is something to say
 

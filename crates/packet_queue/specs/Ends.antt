@@ -8,8 +8,8 @@ use Rattle.crossbeam_channel.specs.Claims.{view}
 use Rattle.crossbeam_channel.specs.Ends.{sends_on, receives_on}
 use Rattle.publication.specs.declared.job.Job.{Job}
 use Rattle.packet_queue.specs.declared.message.Taken.{Taken}
-use Rattle.packet_queue.specs.declared.ends.Injector.{Injector}
-use Rattle.packet_queue.specs.declared.ends.Taker.{Taker}
+use Rattle.packet_queue.specs.declared.injector.Injector.{Injector}
+use Rattle.packet_queue.specs.declared.taker.Taker.{Taker}
 use Rattle.packet_queue.specs.Jobs.{jobs_of}
 
 -- which queue it is

@@ -2,17 +2,17 @@
 //! in.
 #![tactic(auto)]
 
-mod ends;
+mod injector;
 mod message;
-mod opening;
+mod queue;
 mod reckoning;
 mod rule;
-mod sending;
-mod taking;
+mod taker;
 
-pub use ends::{Injector, Taker};
+pub use injector::Injector;
 pub use message::Taken;
 pub use network_model::NoMemory;
-pub use opening::PacketQueue;
-pub use publication::{Job, Naming};
+pub use publication::{FabricName, Job};
+pub use queue::PacketQueue;
 pub use reckoning::reckon;
+pub use taker::Taker;

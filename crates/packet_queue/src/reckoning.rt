@@ -6,20 +6,22 @@ ghost use Rattle.packet_queue.specs.declared.message.Taken.{Taken};
 ghost use Rattle.packet_queue.specs.Jobs.{jobs_of};
 ghost use Rattle.packet_queue.specs.Ends.{AreAllEnds, AreJobsLeft, AreMessagesLeft};
 
-use crate::ends::{Injector, Taker};
+use crate::injector::Injector;
 use crate::rule::{Cut, Total};
-use publication::Naming;
+use crate::taker::Taker;
+use publication::FabricName;
 use std::alloc::Allocator;
 
 /// The number of jobs that are left in a queue, whose ends these are. It ends the queue.
-pub fn reckon<B: Naming, A: Allocator>(
+pub fn reckon<B: FabricName, A: Allocator>(
     injector: Injector<B, A>,
     mut takers: Vec<Taker<B, A>, A>,
 ) -> u64
     requires { AreAllEnds injector takers.items }
     ensures messages { (left : List (Taken B)) × AreMessagesLeft injector takers.items left
         × (result ≡ length (jobs_of left)) }
-    ensures jobs { (left : List (Job B)) × AreJobsLeft injector takers.items left × (result ≡ length left) }
+    ensures jobs { (left : List (Job B)) × AreJobsLeft injector takers.items left
+        × (result ≡ length left) }
 {
     let Injector {
         sender,

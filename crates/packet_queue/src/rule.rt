@@ -2,12 +2,12 @@
 
 use crate::message::Taken;
 use crossbeam_channel::protocol::{Join, Lesson, Outcome, Protocol, Split};
-use publication::Naming;
+use publication::FabricName;
 use std::collections::LinkedList;
 
 /// What a pass has put and taken, and its parts of the right to know the whole. No value of it is
 /// made.
-pub struct Hand<B: Naming> {
+pub struct Hand<B: FabricName> {
     pub parts: u64,
     pub put: LinkedList<Taken<B>>,
     pub taken: LinkedList<Taken<B>>,
@@ -16,7 +16,7 @@ pub struct Hand<B: Naming> {
 /// The rule.
 pub struct Fair;
 
-impl<B: Naming> Protocol<Taken<B>, Hand<B>> for Fair {
+impl<B: FabricName> Protocol<Taken<B>, Hand<B>> for Fair {
     ghost use Rattle.std.specs.Prelude.{[]};
     ghost use Rattle.packet_queue.specs.Hands.{hand, Balanced};
 
@@ -28,7 +28,7 @@ impl<B: Naming> Protocol<Taken<B>, Hand<B>> for Fair {
 /// Cuts one part off.
 pub struct Cut;
 
-impl<B: Naming> Split<Hand<B>> for Cut {
+impl<B: FabricName> Split<Hand<B>> for Cut {
     ghost use Rattle.std.specs.Prelude.{[], ◌-◌};
     ghost use Rattle.packet_queue.specs.Hands.{hand};
 
@@ -37,7 +37,7 @@ impl<B: Naming> Split<Hand<B>> for Cut {
     ghost right = { λ v. hand 1 [] [] };
 }
 
-impl<B: Naming> Join<Hand<B>> for Cut {
+impl<B: FabricName> Join<Hand<B>> for Cut {
     ghost use Rattle.std.specs.Prelude.{[], ◌+◌, ◌++◌};
     ghost use Rattle.packet_queue.specs.Hands.{hand};
 
@@ -49,14 +49,14 @@ impl<B: Naming> Join<Hand<B>> for Cut {
 /// A message was put.
 pub struct Puts;
 
-impl<B: Naming> Outcome<Taken<B>, Hand<B>> for Puts {
+impl<B: FabricName> Outcome<Taken<B>, Hand<B>> for Puts {
     ghost use Rattle.std.specs.Prelude.{◌≡◌, [], ◌∷◌, ◌++◌};
     ghost use Rattle.packet_queue.specs.Hands.{hand};
 
     ghost then = { λ v x w. w ≡ hand v.parts (v.put ++ x ∷ []) v.taken };
 }
 
-impl<B: Naming> Lesson<Taken<B>, Hand<B>> for Puts {
+impl<B: FabricName> Lesson<Taken<B>, Hand<B>> for Puts {
     ghost use Rattle.std.specs.Prelude.{⊤};
 
     ghost fact = { λ v items. ⊤ };
@@ -65,14 +65,14 @@ impl<B: Naming> Lesson<Taken<B>, Hand<B>> for Puts {
 /// A message was taken.
 pub struct Takes;
 
-impl<B: Naming> Outcome<Taken<B>, Hand<B>> for Takes {
+impl<B: FabricName> Outcome<Taken<B>, Hand<B>> for Takes {
     ghost use Rattle.std.specs.Prelude.{◌≡◌, [], ◌∷◌, ◌++◌};
     ghost use Rattle.packet_queue.specs.Hands.{hand};
 
     ghost then = { λ v x w. w ≡ hand v.parts v.put (v.taken ++ x ∷ []) };
 }
 
-impl<B: Naming> Lesson<Taken<B>, Hand<B>> for Takes {
+impl<B: FabricName> Lesson<Taken<B>, Hand<B>> for Takes {
     ghost use Rattle.std.specs.Prelude.{⊤};
 
     ghost fact = { λ v items. ⊤ };
@@ -81,7 +81,7 @@ impl<B: Naming> Lesson<Taken<B>, Hand<B>> for Takes {
 /// What the queue holds is what was put and not taken.
 pub struct Total;
 
-impl<B: Naming> Lesson<Taken<B>, Hand<B>> for Total {
+impl<B: FabricName> Lesson<Taken<B>, Hand<B>> for Total {
     ghost use Rattle.packet_queue.specs.Hands.{AreLeft};
 
     ghost fact = { λ v items. AreLeft v.put v.taken items };

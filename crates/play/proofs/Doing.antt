@@ -1,9 +1,6 @@
 -- Commands done one after another.
-use Rattle.std.specs.Prelude.{⊤}
-use Rattle.std.proofs.Common.{◌≡◌, ◌⊎◌, List, [], ◌∷◌, ◌++◌, Option, Result, Ok, Err, IsOk, IfErr, OnErr, MatchResult, refl, sym, subst}
-use Rattle.std.proofs.lemmas.Bool.{true≢false}
-use Rattle.network_model.specs.declared.step.Refusal.{Refusal}
-use Rattle.network_model.specs.declared.step.Refusal.TheVariants.{NoMemory}
+use Rattle.packet_loops.proofs.Common.{⊤, Refusal, NoMemory}
+use Rattle.std.proofs.Common.{◌≡◌, ◌⊎◌, List, [], ◌∷◌, ◌++◌, Option, Result, Ok, Err, IsOk, IfErr, OnErr, MatchResult, refl, sym, subst, true≢false}
 use Rattle.world.specs.Steps.{CanBeRefused, IsDoneOr}
 use Rattle.fabric.specs.Fabric.{Fabric}
 use Rattle.control.proofs.Sharing.{refused_for}

@@ -5,3 +5,4 @@ mod Dispatching
 mod Stops
 mod Running
 mod Trying
+pub mod Sessions

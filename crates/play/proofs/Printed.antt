@@ -1,28 +1,11 @@
 -- Texts that are printed one after another.
-use Rattle.std.proofs.Common.{◌≡◌, List, [], ◌∷◌, ◌++◌, Option, Some, None, Result, Ok, Err, OnOk, Bool, false, is_err, refl, sym, ap, subst, ◌∙◌}
-use Rattle.std.proofs.lemmas.Bool.{true≢false}
-use Rattle.std.proofs.lemmas.List.{append_assoc, append-nil}
-use Rattle.script.specs.Words.{Text}
-use Rattle.journal.proofs.Printed.{Appends-append}
+use Rattle.std.proofs.Common.{◌≡◌, [], ◌∷◌, ◌++◌, Option, Some, None, Result, Ok, Err, OnOk, Bool, false, is_err, sym, ap, ◌∙◌, true≢false, append-nil}
+use Rattle.texts.specs.Words.{Text}
+use Rattle.texts.proofs.Printed.{Appends-append}
 use Rattle.play.specs.Report.{Prints}
-use Rattle.std.specs.Io.KnownBytes.{Appends}
-use Rattle.play.specs.Texts.{lines_text}
+use Rattle.packet_loops.proofs.Common.{Appends}
 
--- lines before lines
-pub lines_text-append : {A : Type 0} (line : A → Text) (xs ys : List A) → lines_text line (xs ++ ys) ≡ lines_text line xs ++ lines_text line ys
-lines_text-append line [] ys = refl
-lines_text-append line (x ∷ xs) ys =
-    ap (λ t. (line x ++ 10 ∷ []) ++ t) (lines_text-append line xs ys)
-    ∙ sym (append_assoc (line x ++ 10 ∷ []) (lines_text line xs) (lines_text line ys))
-
--- one line more
-pub line_more : {A : Type 0} (line : A → Text) (xs : List A) (x : A) (old mid new : Option Text) → Appends old mid (lines_text line xs) → Appends mid new (line x ++ 10 ∷ []) → Appends old new (lines_text line (xs ++ x ∷ []))
-line_more line xs x old mid new before more =
-    subst (Appends old new) (sym (lines_text-append line xs (x ∷ [])))
-    (Appends-append old mid new (lines_text line xs) (lines_text line (x ∷ [])) before (subst (Appends mid new) (sym (append-nil (line x ++ 10 ∷ []))) more))
-
--- ---- something that is printed
-
+-- nothing that is printed
 pub prints_none : (old : Option Text) → Prints old old
 prints_none None = ([], tt)
 prints_none (Some xs) = ([], sym (append-nil xs))

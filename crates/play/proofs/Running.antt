@@ -1,21 +1,16 @@
 -- How runs and replays end.
 use Rattle.std.proofs.Common.{◌≡◌, ℕ, ◌≤◌, ◌⊎◌, inl, inr, Option, Some, None, MatchOption, List, length, refl, ap, subst, ◌∙◌}
-use Rattle.ipv4_prefix.specs.Prefix.{Prefix}
-use Rattle.network_model.specs.declared.network.LinkSpec.{LinkSpec}
+use Rattle.packet_loops.proofs.Common.{Prefix, LinkSpec, Refusal, NoMemory as NoMemoryForStep, opening, Runs}
 use Rattle.network_model.specs.declared.step.Step.{Step}
-use Rattle.network_model.specs.declared.step.Refusal.{Refusal}
-use Rattle.network_model.specs.declared.step.Refusal.TheVariants.{NoMemory as NoMemoryForStep}
-use Rattle.network_model.specs.World.{opening}
-use Rattle.network_model.specs.Run.{Runs}
 use Rattle.fabric.specs.Fabric.{Fabric, opening_fabric}
-use Rattle.script.specs.Words.{Text}
+use Rattle.texts.specs.Words.{Text}
 use Rattle.script.specs.Reading.{Parts}
 use Rattle.script.specs.declared.command.Command.{Command}
 use Rattle.journal.specs.declared.fault.JournalFault.{JournalFault}
 use Rattle.journal.specs.declared.fault.JournalFault.TheVariants.{NoMemory as NoMemoryForJournal}
 use Rattle.journal.specs.declared.read.Version.{Version}
 use Rattle.journal.specs.declared.read.Version.TheVariants.{Two}
-use Rattle.journal.specs.Journal.{IsJournal, IsFaultOf as IsJournalFault}
+use Rattle.journal.specs.Journal.{IsJournal, IsJournalFault as IsJournalFault}
 use Rattle.play.specs.declared.fault.Cause.{Cause}
 use Rattle.play.specs.declared.fault.Fault.{Fault}
 use Rattle.play.specs.declared.fault.Cause.TheVariants.{Refused as OfRefusal, Journal as OfJournal}

@@ -2,7 +2,7 @@
 use Rattle.std.specs.Prelude.{⊤}
 use Rattle.std.proofs.Common.{◌≡◌, ◌≤◌, ◌⊎◌, inl, inr, List, [], ◌∷◌, ◌++◌, Result, Ok, Err, IfErr, OnOk, length, refl, ap, subst, ◌∙◌}
 use Rattle.fabric.specs.Fabric.{Fabric, opening_fabric}
-use Rattle.script.specs.Words.{Text}
+use Rattle.texts.specs.Words.{Text}
 use Rattle.script.specs.declared.command.Command.{Command}
 use Rattle.play.specs.declared.fault.Cause.{Cause}
 use Rattle.play.specs.declared.fault.Fault.{Fault}
@@ -10,7 +10,6 @@ use Rattle.play.specs.declared.plan.Plan.{Plan}
 use Rattle.play.specs.Faults.{most_bytes}
 use Rattle.play.specs.Commands.{IsDone, IsRefused}
 use Rattle.play.specs.Ends.{KeepsJournal}
-use Rattle.play.specs.Scenarios.{network_read}
 use Rattle.play.specs.Shell.{AreTried, IsShellEnd, IsTried, StopsShell, StopsShellPlan, TriesPlan}
 use Rattle.play.proofs.Running.{IsPlanned}
 

@@ -1,9 +1,8 @@
 -- A text that a limit does not cut.
-use Rattle.std.proofs.lemmas.List.{length-take}
+use Rattle.std.proofs.Common.{◌≡◌, ℕ, ◌<◌, List, [], ◌∷◌, ◌++◌, length, take, zero, suc, Option, Some, None, IfSome, option_map, refl, ap, ◌∙◌, arith, length-take}
 use Rattle.play.specs.declared.fault.Cause.{Cause}
 use Rattle.play.specs.declared.fault.Cause.TheVariants.{Memory, Unreadable, TooLarge, Document, Lines, Network, Refused, Journal, Unwritable, Workers}
 use Rattle.play.specs.Faults.{Gives, CannotRead, IsUnread}
-use Rattle.std.proofs.Common.{◌≡◌, ℕ, ◌<◌, List, [], ◌∷◌, ◌++◌, length, take, zero, suc, Option, Some, None, IfSome, option_map, refl, ap, ◌∙◌, arith}
 
 -- what a limit does not reach is whole
 take_short : (n : ℕ) (xs : List ℕ) → length (take n xs) < n → take n xs ≡ xs

@@ -9,7 +9,7 @@ use Rattle.network_model.specs.Step.{Lawful}
 use Rattle.world.specs.Steps.{CanBeRefused}
 use Rattle.fabric.specs.Fabric.{Fabric, after_step, fabric_refusal}
 use Rattle.fabric.specs.Images.{answer_at}
-use Rattle.script.specs.Words.{Text}
+use Rattle.texts.specs.Words.{Text}
 use Rattle.script.specs.Directories.{Directory, row_text}
 use Rattle.script.specs.declared.command.Command.{Command}
 use Rattle.script.specs.declared.command.Command.TheVariants.{Step, Try, Settle, State, Table, Lookup, Inject, Trace, Drain, Report}
@@ -17,7 +17,7 @@ use Rattle.script.specs.declared.place.Key.TheVariants.{Script}
 use Rattle.play.specs.declared.fault.Cause.{Cause}
 use Rattle.play.specs.declared.fault.Fault.{Fault}
 use Rattle.play.specs.Faults.{at_line, OfRefusal, OfWorkers}
-use Rattle.play.specs.Texts.{lines_text}
+use Rattle.texts.specs.Lines.{lines_text}
 use Rattle.play.specs.Dispatching.{CannotInject}
 use Rattle.play.specs.Settling.{Settles, StopsSettling}
 

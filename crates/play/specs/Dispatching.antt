@@ -8,12 +8,12 @@ use Rattle.world.specs.Steps.{CanBeRefused}
 use Rattle.publication.specs.declared.job.Job.{Job}
 use Rattle.publication.specs.Lists.{image_of}
 use Rattle.forwarder.specs.Replies.{Replied}
-use Rattle.script.specs.Words.{Text}
+use Rattle.texts.specs.Words.{Text}
 use Rattle.script.specs.Directories.{Directory, packet_text}
 use Rattle.worker_pool.specs.Faults.{IsBeginFault, IsInjectFault}
 use Rattle.play.specs.declared.fault.Cause.{Cause}
 use Rattle.play.specs.Faults.{OfRefusal, OfWorkers}
-use Rattle.play.specs.Texts.{lines_text}
+use Rattle.texts.specs.Lines.{lines_text}
 
 -- the jobs that wait until the workers have answered them, in order, and the number of the last job that was given
 pub record Dispatched (X : Type 0) : Type 0 where

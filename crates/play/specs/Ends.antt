@@ -8,13 +8,13 @@ use Rattle.world.specs.Steps.{StopsAt}
 use Rattle.fabric.specs.Fabric.{Fabric, fabric_refusal, opening_fabric}
 use Rattle.play.specs.declared.plan.Plan.{Plan}
 use Rattle.play.specs.Commands.{AreDone}
-use Rattle.script.specs.Words.{Text}
+use Rattle.texts.specs.Words.{Text}
 use Rattle.script.specs.Reading.{Parts}
 use Rattle.script.specs.Directories.{Directory, directory_of}
 use Rattle.journal.specs.declared.fault.JournalFault.{JournalFault}
 use Rattle.journal.specs.declared.read.Version.{Version}
 use Rattle.journal.specs.declared.read.Version.TheVariants.{Two}
-use Rattle.journal.specs.Journal.{journal_text, IsJournal, IsFaultOf as IsJournalFault}
+use Rattle.journal.specs.Journal.{journal_text, IsJournal, IsJournalFault as IsJournalFault}
 use Rattle.play.specs.declared.fault.Fault.{Fault}
 use Rattle.play.specs.declared.fault.Cause.TheVariants.{Journal as OfJournal}
 use Rattle.play.specs.declared.program.End.{End}

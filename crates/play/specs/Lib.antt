@@ -1,5 +1,4 @@
 pub mod Faults
-pub mod Texts
 pub mod Settling
 pub mod Shell
 pub mod Dispatching

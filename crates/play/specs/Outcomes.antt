@@ -1,6 +1,6 @@
 -- How the program ends, whatever it is asked for.
 use Rattle.std.specs.Prelude.{◌≡◌, Option}
-use Rattle.script.specs.Words.{Text}
+use Rattle.texts.specs.Words.{Text}
 use Rattle.words.specs.declared.words.Words.{Words}
 use Rattle.words.specs.declared.words.Words.TheVariants.{Check, Run, Replay, Explain, Shell}
 use Rattle.play.specs.declared.fault.Fault.{Fault}

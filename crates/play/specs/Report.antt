@@ -3,11 +3,11 @@ use Rattle.std.specs.Prelude.{◌≡◌, ℕ, [], ◌∷◌, ◌++◌, ◌⊎◌
 use Rattle.std.specs.FinMap.{find as row_of}
 use Rattle.std.specs.Io.KnownBytes.{Appends}
 use Rattle.ipv4_prefix.specs.Prefix.{Prefix, prefix_cmp}
-use Rattle.diffusing_replies.specs.Origin.{number_of}
+use Rattle.diffusing_replies.specs.Origin.{origin_number}
 use Rattle.network_model.specs.Machine.{Machine}
 use Rattle.network_model.specs.World.{Link, Router}
-use Rattle.dual_machine.specs.State.{State}
-use Rattle.script.specs.Words.{Text}
+use Rattle.dual_machine.specs.State.{MachineState}
+use Rattle.texts.specs.Words.{Text}
 use Rattle.script.specs.Directories.{Directory}
 use Rattle.script.specs.Lines.{machine_text, unheard_text}
 use Rattle.script.specs.declared.lines.LinkLine.{LinkLine}
@@ -38,9 +38,9 @@ router_line number r notices = record {
 }
 
 -- the number of the origin state of the computation under way, if one is
-abbrev pub IsOriginNumber : State → Option ℕ → Type 0
+abbrev pub IsOriginNumber : MachineState → Option ℕ → Type 0
 IsOriginNumber s None = (s.machine).computation ≡ None
-IsOriginNumber s (Some number) = IsSome (s.machine).computation × (option_map number_of s.origin ≡ Some number)
+IsOriginNumber s (Some number) = IsSome (s.machine).computation × (option_map origin_number s.origin ≡ Some number)
 
 -- a line that tells of a router's machine for a prefix: an origin state is named exactly while a computation is under way
 pub record TellsOfMachine (number : ℕ) (r : Router) (p : Prefix) (line : MachineLine) : Type 0 where

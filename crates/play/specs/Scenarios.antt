@@ -2,11 +2,12 @@
 use Rattle.std.specs.Prelude.{◌≡◌, ◌≤◌, Bool, true, false, if◌then◌else◌, Option, Some, None, ◌⊎◌, min, length, option_map, option_and_then}
 use Rattle.std.specs.Option.{option_map_or}
 use Rattle.toml.specs.Parse.{parse_document}
-use Rattle.scenario.specs.Scenario.{Lists as Document, lists_in, HasNoLists}
+use Rattle.scenario.specs.Scenario.{lists_in, HasNoLists}
 use Rattle.scenario.specs.declared.fault.Fault.TheVariants.{BadToml as IsNoToml, BadKey as HasBadKey}
-use Rattle.script.specs.Words.{Text}
+use Rattle.texts.specs.Words.{Text}
+use Rattle.texts.specs.Lists.{Lists}
 use Rattle.script.specs.Routers.{no_router}
-use Rattle.script.specs.Reading.{Lists, Parts, AreParts, Stops}
+use Rattle.script.specs.Reading.{Parts, AreParts, ReadingStops}
 use Rattle.script.specs.Directories.{directory_of}
 use Rattle.script.specs.declared.fault.Fault.{Fault as TextFault}
 use Rattle.script.specs.declared.fault.Fault.TheVariants.{BadName}
@@ -24,20 +25,16 @@ use Rattle.play.specs.Commands.{AreDone, StopsAtCommand}
 
 -- ---- what was read
 
--- the lists of a document, as the script's reader takes them
-abbrev pub lists_of : Document → Lists
-lists_of d = record { routers = d.routers; links = d.links; prefixes = d.prefixes; script = d.script }
-
 -- the network of what was read
 abbrev pub network_read : Parts → Network
 network_read parts = network_of (min no_router (length parts.names)) parts.links parts.attachments
 
 -- what was read of a text, up to the first fault of a line
 pub record IsRead (text : Text) (parts : Parts) (stop : Option Located) : Type 0 where
-  pub document : Document
-  pub is_document : option_and_then lists_in (parse_document text) ≡ Some document
-  pub read : AreParts (lists_of document) parts
-  pub stops : Stops (lists_of document) parts stop
+  pub lists : Lists
+  pub are_lists : option_and_then lists_in (parse_document text) ≡ Some lists
+  pub read : AreParts lists parts
+  pub stops : ReadingStops lists parts stop
 
 -- ---- the first fault
 
@@ -52,8 +49,8 @@ first_fault network None = option_map opening_fault network
 first_fault network (Some at) = Some (if is_name_fault at.fault then line_fault at else option_map_or opening_fault network (line_fault at))
 
 -- why no network can be opened of a text: it is no scenario, or the first fault of what was read
-abbrev pub IsFaultOf : Text → Fault → Type 0
-IsFaultOf text fault =
+abbrev pub IsScenarioFault : Text → Fault → Type 0
+IsScenarioFault text fault =
     ((fault ≡ unplaced (OfDocument IsNoToml)) × (parse_document text ≡ None))
     ⊎ ((fault ≡ unplaced (OfDocument HasBadKey)) × HasNoLists (parse_document text))
     ⊎ ((parts : Parts) × (stop : Option Located) × IsRead text parts stop × (first_fault (network_fault (network_read parts)) stop ≡ Some fault))
@@ -91,7 +88,7 @@ abbrev pub StopsReading : Text → Fault → Type 0
 StopsReading bytes fault =
     ((fault.place ≡ None) × IsUnread bytes fault.cause)
     ⊎ IsWantOfMemory fault
-    ⊎ ((length bytes ≤ most_bytes) × IsFaultOf bytes fault)
+    ⊎ ((length bytes ≤ most_bytes) × IsScenarioFault bytes fault)
 
 -- why a run of a plan stops: its network cannot be opened, its journal not kept, a command is refused, or workers do not answer its last jobs
 abbrev pub StopsPlan : Plan → Fault → Type 0

@@ -1,7 +1,7 @@
 -- How a shell ends.
 use Rattle.std.specs.Prelude.{◌≡◌, ℕ, ◌≤◌, ◌⊎◌, List, [], ◌∷◌, None, length}
 use Rattle.fabric.specs.Fabric.{Fabric, opening_fabric}
-use Rattle.script.specs.Words.{Text}
+use Rattle.texts.specs.Words.{Text}
 use Rattle.script.specs.Reading.{Parts}
 use Rattle.script.specs.Directories.{directory_of}
 use Rattle.script.specs.declared.command.Command.{Command}

@@ -4,16 +4,17 @@ ghost use Rattle.std.specs.Prelude.{◌≡◌, ◌≤◌, ◌++◌, ◌∷◌, [
 ghost use Rattle.std.specs.List.{list_any};
 ghost use Rattle.std.specs.List.Sorted.{IsStrictlyIncreasing};
 ghost use Rattle.std.specs.Io.KnownBytes.{Appends};
+ghost use Rattle.network_model.specs.Network.{most_workers};
 ghost use Rattle.publication.specs.Lists.{image_of};
-ghost use Rattle.fabric.specs.Writers.{IsPort};
-ghost use Rattle.forwarder.specs.Gathering.{is_reply_to, number_of};
+ghost use Rattle.fabric.specs.Writers.{IsReaderPort};
+ghost use Rattle.forwarder.specs.Gathering.{is_reply_to, job_number};
 ghost use Rattle.worker_pool.specs.Faults.{IsBeginFault, IsDrainFault};
 ghost use Rattle.play.specs.Dispatching.{CannotInject, IsNextJob, packets_text};
 ghost use Rattle.play.specs.Commands.{unknown_router};
 
 use crate::fault::Cause;
 use crate::host::Host;
-use fabric::{Fabric, Naming};
+use fabric::{Fabric, FabricName};
 use network_model::NoMemory;
 use publication::ImageReader;
 use script::Directory;
@@ -27,28 +28,30 @@ use worker_pool::{ForwardPort, PoolFault, Reply, WorkerPool};
 /// `drain`; until then they are at rest, and their ports are here. Contracts see the jobs that wait for
 /// a `drain`, in order, and the number of the last job that was given. It is not `Drop`: end it by
 /// `close`, so that no worker is left running.
-pub struct Dispatcher<B: Naming> {
+pub struct Dispatcher<B: FabricName> {
     at_rest: Vec<ForwardPort<B>>,
     pool: Option<WorkerPool<B>>,
     last: u64,
 }
 
-impl<B: Naming> Model for Dispatcher<B> {
+impl<B: FabricName> Model for Dispatcher<B> {
     ghost use Rattle.std.specs.Prelude.{◌≤◌, [], IfSome, vec_len};
     ghost use Rattle.std.specs.Option.{option_map_or};
+    ghost use Rattle.network_model.specs.Network.{most_workers};
     ghost use Rattle.play.specs.Dispatching.{Dispatched};
 
     ghost Value = { Dispatched B };
 
     ghost view = { λ d. record { jobs = option_map_or (λ p. p.jobs) d.pool []; last = d.last } };
 
-    ghost invariant = { λ d. (vec_len d.at_rest ≤ 16) × IfSome d.pool (λ p. p.workers ≤ 16) };
+    ghost invariant = { λ d. (vec_len d.at_rest ≤ most_workers)
+        × IfSome d.pool (λ p. p.workers ≤ most_workers) };
 }
 
-impl<B: Naming + Send + Sync + 'static> Dispatcher<B> {
+impl<B: FabricName + Send + Sync + 'static> Dispatcher<B> {
     /// Of workers with these ports, at most 16, which are at rest.
     pub fn new(ports: Vec<ForwardPort<B>>) -> Dispatcher<B>
-        requires { vec_len ports ≤ 16 }
+        requires { vec_len ports ≤ most_workers }
         ensures jobs { result.jobs ≡ [] }
         ensures last { result.last ≡ 0 }
     {
@@ -69,14 +72,16 @@ impl<B: Naming + Send + Sync + 'static> Dispatcher<B> {
         router: u16,
         addr: u32,
     ) -> Result<(), Cause>
-        ensures ok { OnOk result ((job : _) × IsNextJob B.openings (fabric.now).images self.old.last router addr job
+        ensures ok { OnOk result ((job : _)
+            × IsNextJob B.openings (fabric.now).images self.old.last router addr job
             × (self.new.jobs ≡ self.old.jobs ++ job ∷ []) × (self.new.last ≡ job.number)) }
-        ensures refused { OnErr result ((self.new.jobs ≡ self.old.jobs) × (self.new.last ≡ self.old.last)) }
+        ensures refused { OnErr result ((self.new.jobs ≡ self.old.jobs)
+            × (self.new.last ≡ self.old.last)) }
         ensures err { IfErr result (CannotInject (unknown_router fabric.now router)) }
     {
         let job = fabric.job(self.last.saturating_add(1), router, addr)?;
         let number = job.number;
-        let mut pool = self.begun(rt, alloc)?;
+        let mut pool = self.take_or_begin(rt, alloc)?;
         let given = pool.inject(&rt, job);
         // There are no others, since they were taken.
         if let Some(others) = self.pool.replace(pool) {
@@ -88,9 +93,9 @@ impl<B: Naming + Send + Sync + 'static> Dispatcher<B> {
     }
 
     // The workers, which begin where they are at rest.
-    fn begun<H: Host>(&mut self, rt: H, alloc: Global) -> Result<WorkerPool<B>, PoolFault>
+    fn take_or_begin<H: Host>(&mut self, rt: H, alloc: Global) -> Result<WorkerPool<B>, PoolFault>
         ensures jobs { IfOk result (λ p. p.jobs ≡ self.old.jobs) }
-        ensures few { IfOk result (λ p. p.workers ≤ 16) }
+        ensures few { IfOk result (λ p. p.workers ≤ most_workers) }
         ensures refused { OnErr result (self.new.jobs ≡ self.old.jobs) }
         ensures err { IfErr result IsBeginFault }
         ensures last { self.new.last ≡ self.old.last }
@@ -107,9 +112,11 @@ impl<B: Naming + Send + Sync + 'static> Dispatcher<B> {
     /// Waits until the workers have answered all jobs, and answers their replies: one to each job, in
     /// order of the jobs' numbers. Then the workers are at rest.
     pub fn drain<H: Host>(&mut self, rt: &H, alloc: Global) -> Result<Vec<Reply<B>>, PoolFault>
-        ensures order { IfOk result (λ rs. IsStrictlyIncreasing (map number_of rs.items)) }
-        ensures each { IfOk result (λ rs. All (λ j. count_by (is_reply_to j) rs.items ≡ 1) self.old.jobs) }
-        ensures only { IfOk result (λ rs. All (λ r. list_any (λ j. is_reply_to j r) self.old.jobs ≡ true) rs.items) }
+        ensures order { IfOk result (λ rs. IsStrictlyIncreasing (map job_number rs.items)) }
+        ensures each { IfOk result (λ rs. All
+            (λ j. count_by (is_reply_to j) rs.items ≡ 1) self.old.jobs) }
+        ensures only { IfOk result (λ rs. All
+            (λ r. list_any (λ j. is_reply_to j r) self.old.jobs ≡ true) rs.items) }
         ensures fault { IfErr result (IsDrainFault self.old.jobs) }
         ensures jobs { self.new.jobs ≡ [] }
         ensures last { self.new.last ≡ self.old.last }
@@ -125,9 +132,11 @@ impl<B: Naming + Send + Sync + 'static> Dispatcher<B> {
     /// Waits until the workers have answered all jobs, answers their replies as `drain` does, and lets
     /// their ports go.
     pub fn close<H: Host>(self, rt: &H, alloc: Global) -> Result<Vec<Reply<B>>, PoolFault>
-        ensures order { IfOk result (λ rs. IsStrictlyIncreasing (map number_of rs.items)) }
-        ensures each { IfOk result (λ rs. All (λ j. count_by (is_reply_to j) rs.items ≡ 1) self.jobs) }
-        ensures only { IfOk result (λ rs. All (λ r. list_any (λ j. is_reply_to j r) self.jobs ≡ true) rs.items) }
+        ensures order { IfOk result (λ rs. IsStrictlyIncreasing (map job_number rs.items)) }
+        ensures each { IfOk result (λ rs. All
+            (λ j. count_by (is_reply_to j) rs.items ≡ 1) self.jobs) }
+        ensures only { IfOk result (λ rs. All
+            (λ r. list_any (λ j. is_reply_to j r) self.jobs ≡ true) rs.items) }
         ensures fault { IfErr result (IsDrainFault self.jobs) }
     {
         let mut drained = self;
@@ -146,11 +155,11 @@ impl<B: Naming + Send + Sync + 'static> Dispatcher<B> {
 }
 
 /// The ports of workers that look up by these readers.
-pub fn ports_of<B: Naming>(
+pub fn ports_of<B: FabricName>(
     alloc: Global,
     lists: Vec<Vec<ImageReader<B>>>,
 ) -> Result<Vec<ForwardPort<B>>, NoMemory>
-    requires { All (λ readers. IsPort (length B.books) readers.items) lists.items }
+    requires { All (λ readers. IsReaderPort (length B.books) readers.items) lists.items }
     ensures { IfOk result (λ ports. vec_len ports ≡ vec_len lists) }
 {
     let mut ports = Vec::with_capacity(alloc, lists.len())?;
@@ -161,12 +170,13 @@ pub fn ports_of<B: Naming>(
 }
 
 /// Prints what workers answered, a line for each reply, up to the first write that fails.
-pub fn print_replies<B: Naming, W: Write>(
+pub fn print_replies<B: FabricName, W: Write>(
     directory: &Directory,
     replies: &[Reply<B>],
     out: &mut W,
 ) -> io::Result<()>
-    ensures { OnOk result (Appends (W.contents out.old) (W.contents out.new) (packets_text directory.now replies.now)) }
+    ensures { OnOk result (Appends (W.contents out.old) (W.contents out.new)
+        (packets_text directory.now replies.now)) }
 {
     for reply in replies {
         let job = reply.job();

@@ -4,13 +4,13 @@ ghost use Rattle.std.specs.Prelude.{OnOk};
 ghost use Rattle.play.specs.Ends.{KeepsJournal};
 
 use crate::report::print_report;
-use fabric::{Fabric, Naming};
+use fabric::{Fabric, FabricName};
 use journal::write_steps;
 use network_model::NoMemory;
 use script::Directory;
 
 /// Adds the text of the journal to `kept`: the steps done, and the report of what they made.
-pub fn keep<B: Naming>(
+pub fn keep<B: FabricName>(
     fabric: &Fabric<B>,
     directory: &Directory,
     kept: &mut Vec<u8>,

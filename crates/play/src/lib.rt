@@ -16,6 +16,7 @@ mod read;
 mod reasons;
 mod replay;
 mod report;
+mod session;
 mod shell;
 
 pub use fault::{Cause, Fault};

@@ -2,9 +2,9 @@
 
 ghost use Rattle.std.specs.Prelude.{◌≡◌, ◌⊎◌, Err, IfOk, IfErr, MatchOption};
 ghost use Rattle.network_model.specs.Network.{network_fault};
-ghost use Rattle.script.specs.Seen.{parts_of};
+ghost use Rattle.script.specs.Seen.{script_parts};
 ghost use Rattle.play.specs.Faults.{IsWantOfMemory};
-ghost use Rattle.play.specs.Scenarios.{IsScenario, IsPlanOf, IsFaultOf, first_fault, network_read, is_name_fault as is_of_name};
+ghost use Rattle.play.specs.Scenarios.{IsScenario, IsPlanOf, IsScenarioFault, first_fault, network_read, is_name_fault as is_of_name};
 
 use crate::fault::Fault;
 use fabric::Network;
@@ -23,7 +23,7 @@ pub struct Plan {
 /// The network that the text of a scenario describes, and its commands.
 pub fn read_plan(alloc: Global, text: &str) -> Result<Plan, Fault>
     ensures ok { IfOk result (λ o. (parts : _) × IsScenario text.now parts × IsPlanOf parts o) }
-    ensures fault { IfErr result (λ e. IsWantOfMemory e ⊎ IsFaultOf text.now e) }
+    ensures fault { IfErr result (λ e. IsWantOfMemory e ⊎ IsScenarioFault text.now e) }
 {
     let lines = read_scenario(alloc, text)?;
     let reading = read_script(
@@ -39,8 +39,9 @@ pub fn read_plan(alloc: Global, text: &str) -> Result<Plan, Fault>
 // The network of what was read. A fault in a router's name comes before the faults of the
 // network, the fault of any other line after them.
 fn plan_of(alloc: Global, reading: Reading) -> Result<Plan, Fault>
-    ensures ok { IfOk result (IsPlanOf (parts_of reading.script)) }
-    ensures fault { MatchOption (first_fault (network_fault (network_read (parts_of reading.script))) reading.fault)
+    ensures ok { IfOk result (IsPlanOf (script_parts reading.script)) }
+    ensures fault { MatchOption (first_fault
+        (network_fault (network_read (script_parts reading.script))) reading.fault)
         (IfErr result IsWantOfMemory) (λ fault. result ≡ Err fault) }
 {
     let Reading { script, fault } = reading;

@@ -1,27 +1,24 @@
 //! What the program does, over any readers and writers.
 
-ghost use Rattle.std.specs.Prelude.{◌≡◌, ◌⊎◌, ◌≤◌, All, IfOk, IfErr, OnOk, length, vec_len};
-ghost use Rattle.fabric.specs.Writers.{opening_tables, IsPort};
+ghost use Rattle.std.specs.Prelude.{◌≡◌, ◌⊎◌, IfOk, IfErr, OnOk, vec_len};
+ghost use Rattle.fabric.specs.Writers.{opening_tables};
 ghost use Rattle.play.specs.Commands.{AreDone, StopsAtCommand};
 ghost use Rattle.play.specs.Faults.{status_of, IsUnanswered, IsWantOfMemory};
 ghost use Rattle.play.specs.Scenarios.{StopsFor, StopsPlan, StopsReading};
 ghost use Rattle.play.specs.Ends.{status_at, OfBytes, IsChecked, IsRunToEnd, KeepsJournal, RunsPlan};
 ghost use Rattle.play.specs.Outcomes.{Ends, Stops};
 
-use crate::commands::do_commands;
-use crate::dispatch::{Dispatcher, ports_of};
 use crate::fault::{Cause, Fault};
 use crate::host::Host;
-use crate::keep::keep;
 use crate::options::Options;
 use crate::plan::{Plan, read_plan};
 use crate::read::read_text;
 use crate::replay::replay;
+use crate::session::Session;
 use crate::shell::shell;
-use fabric::{Fabric, MOST_STEPS, Naming, Unnamed};
+use fabric::{Fabric, FabricName, MOST_STEPS, Unnamed};
 use network_model::Refusal;
-use publication::ImageReader;
-use script::{Command, Directory};
+use script::Command;
 use std::alloc::Global;
 use std::io::{Read, Write};
 use std::marker::Brand;
@@ -73,11 +70,12 @@ where
     W: Write,
     E: Write,
     ensures { ((end : End) × (result ≡ status_at end)
-        × Ends words.now (R.remaining scenario) (J.remaining journal) kept.old.items kept.new.items end)
+        × Ends words.now (R.remaining scenario)
+        (J.remaining journal) kept.old.items kept.new.items end)
         ⊎ ((fault : Fault) × (result ≡ status_of fault.cause)
         × Stops words.now (R.remaining scenario) (J.remaining journal) fault) }
 {
-    match asked(rt, alloc, words, scenario, journal, out, err, kept) {
+    match do_words(rt, alloc, words, scenario, journal, out, err, kept) {
         Ok(end) => end.status(),
         Err(fault) => {
             // What was printed comes before the fault, also where `out` keeps it for a while.
@@ -89,7 +87,7 @@ where
 }
 
 // Does what the words ask for.
-fn asked<H, R, J, W, E>(
+fn do_words<H, R, J, W, E>(
     rt: &H,
     alloc: Global,
     words: &Words<'_>,
@@ -106,7 +104,8 @@ where
     W: Write,
     E: Write,
     ensures ok { IfOk result
-        (Ends words.now (R.remaining scenario) (J.remaining journal) kept.old.items kept.new.items) }
+        (Ends words.now (R.remaining scenario)
+        (J.remaining journal) kept.old.items kept.new.items) }
     ensures fault { IfErr result (Stops words.now (R.remaining scenario) (J.remaining journal)) }
 {
     match *words {
@@ -149,7 +148,8 @@ where
 fn check<R: Read + Drop, W: Write>(alloc: Global, scenario: R, out: &mut W) -> Result<End, Fault>
     ensures ok { IfOk result (λ end. (end ≡ End.Done)
         × OfBytes (R.remaining scenario) IsChecked) }
-    ensures fault { IfErr result (λ e. OfBytes (R.remaining scenario) (λ bytes. StopsReading bytes e)) }
+    ensures fault { IfErr result (λ e. OfBytes (R.remaining scenario)
+        (λ bytes. StopsReading bytes e)) }
 {
     let text = read_text(alloc, scenario)?;
     let Plan {
@@ -183,7 +183,8 @@ where
     R: Read + Drop,
     W: Write,
     ensures ok { IfOk result (λ end. (end ≡ End.Done)
-        × OfBytes (R.remaining scenario) (λ bytes. IsRunToEnd bytes kept.old.items kept.new.items)) }
+        × OfBytes (R.remaining scenario)
+        (λ bytes. IsRunToEnd bytes kept.old.items kept.new.items)) }
     ensures fault { IfErr result (λ e. OfBytes (R.remaining scenario) (λ bytes. StopsFor bytes e)) }
 {
     let text = read_text(alloc, scenario)?;
@@ -204,7 +205,7 @@ fn run_plan<B, H, W>(
     kept: &mut Vec<u8>,
 ) -> Result<(), Fault>
 where
-    B: Naming + Send + Sync + 'static,
+    B: FabricName + Send + Sync + 'static,
     H: Host,
     W: Write,
     requires books { unnamed.items ≡ B.books }
@@ -219,63 +220,36 @@ where
         commands,
     } = plan;
     let workers = options.workers.max(1).min(16);
-    let (fabric, readers) = Fabric::<B>::open(rt, alloc, network, unnamed, workers)?;
-    let (fabric, ended) = run_commands(
-        rt, alloc, fabric, readers, &directory, &commands, options, out, kept,
-    );
+    let (mut fabric, readers) = Fabric::<B>::open(rt, alloc, network, unnamed, workers)?;
+    let ended = match Session::new(rt, alloc, &directory, readers, options) {
+        Ok(session) => run_commands(session, &mut fabric, &commands, out, kept),
+        Err(memory) => Err(Fault::from(memory)),
+    };
     fabric.close(rt);
     ended
 }
 
-// Does the commands, waits for the workers, says how many steps were done, and keeps their journal.
+// Does the commands, and keeps the journal of their steps.
 fn run_commands<B, H, W>(
-    rt: &H,
-    alloc: Global,
-    fabric: Fabric<B>,
-    readers: Vec<Vec<ImageReader<B>>>,
-    directory: &Directory,
+    session: Session<'_, B, H>,
+    fabric: &mut Fabric<B>,
     commands: &[Command],
-    options: Options,
     out: &mut W,
     kept: &mut Vec<u8>,
-) -> (Fabric<B>, Result<(), Fault>)
+) -> Result<(), Fault>
 where
-    B: Naming + Send + Sync + 'static,
+    B: FabricName + Send + Sync + 'static,
     H: Host,
     W: Write,
-    requires ports { All (λ port. IsPort (length B.books) port.items) readers.items }
-    requires few { vec_len readers ≤ 16 }
-    ensures ok { OnOk result.1 (AreDone commands.now fabric result.0
-        × KeepsJournal directory.now result.0 kept.old.items kept.new.items) }
-    ensures fault { IfErr result.1 (λ e. StopsAtCommand commands.now fabric result.0 e ⊎ IsUnanswered e ⊎ IsWantOfMemory e) }
+    ensures ok { OnOk result (AreDone commands.now fabric.old fabric.new) }
+    ensures keeps { OnOk result (KeepsJournal (session.entry.directory).now fabric.new
+        kept.old.items kept.new.items) }
+    ensures fault { IfErr result (λ e. StopsAtCommand commands.now fabric.old fabric.new e
+        ⊎ IsUnanswered e ⊎ IsWantOfMemory e) }
 {
-    let mut dispatcher = match ports_of(alloc, readers) {
-        Ok(ports) => Dispatcher::new(ports),
-        Err(memory) => return (fabric, Err(Fault::from(memory))),
-    };
-    let (fabric, done) = do_commands(
-        rt,
-        alloc,
-        fabric,
-        &mut dispatcher,
-        directory,
-        commands,
-        options,
-        out,
-    );
-    // No worker is left running, whatever became of the commands.
-    let answered = dispatcher.close(rt, alloc);
-    if let Err(fault) = done {
-        return (fabric, Err(fault));
-    }
-    if let Err(fault) = answered {
-        return (fabric, Err(Fault::from(Cause::Workers(fault))));
-    }
-    let _ = writeln!(out, "done: {} steps", fabric.journal().len());
-    match keep(&fabric, directory, kept) {
-        Ok(()) => (fabric, Ok(())),
-        Err(memory) => (fabric, Err(Fault::from(memory))),
-    }
+    let mut session = session;
+    let done = session.do_commands(fabric, commands, out);
+    session.finish(fabric, done, out, kept)
 }
 
 /// Says on `err` why the program stops, and answers its exit status. Where the journal is full, a

@@ -2,7 +2,7 @@
 
 ghost use Rattle.std.specs.Prelude.{◌≡◌, ◌≤◌, ◌↔◌, IsTrue, IfOk, IfErr, length, string_bytes};
 ghost use Rattle.std.specs.IoError.{error_kind};
-ghost use Rattle.script.specs.Words.{Text};
+ghost use Rattle.texts.specs.Words.{Text};
 ghost use Rattle.play.specs.Faults.{Gives, IsUnread, CannotRead, is_memory};
 
 use crate::fault::Cause;
@@ -19,7 +19,8 @@ const MOST_BYTES: usize = 4_194_304;
 pub fn read_text<R: Read + Drop>(alloc: Global, reader: R) -> Result<String, Cause>
     ensures whole { IfOk result (λ text. Gives (R.remaining reader) (string_bytes text)) }
     ensures short { IfOk result (λ text. length (string_bytes text) ≤ MOST_BYTES) }
-    ensures fault { IfErr result (λ cause. (bytes : Text) × Gives (R.remaining reader) bytes × IsUnread bytes cause) }
+    ensures fault { IfErr result (λ cause. (bytes : Text) × Gives (R.remaining reader) bytes
+        × IsUnread bytes cause) }
 {
     let mut bytes = Vec::new(alloc);
     let mut reader = reader.take(MOST_BYTES as u64 + 1);

@@ -11,7 +11,7 @@ use crate::plan::{Plan, read_plan};
 use crate::program::End;
 use crate::read::{read_bytes, read_text};
 use crate::report::print_report;
-use fabric::{Fabric, Naming, Network, Unnamed};
+use fabric::{Fabric, FabricName, Network, Unnamed};
 use journal::{Journal, Version, first_difference, read_journal};
 use network_model::NoMemory;
 use script::Directory;
@@ -55,7 +55,7 @@ pub fn replay<H: Wait, R: Read + Drop, J: Read + Drop, W: Write>(
 }
 
 // Opens a network under a name, does the steps of a journal, and compares the reports.
-fn replay_named<B: Naming, H: Wait, W: Write>(
+fn replay_named<B: FabricName, H: Wait, W: Write>(
     rt: &H,
     alloc: Global,
     network: Network,
@@ -67,7 +67,8 @@ fn replay_named<B: Naming, H: Wait, W: Write>(
     requires books { unnamed.items ≡ B.books }
     requires each { vec_len unnamed ≡ network.routers }
     requires openings { opening_tables network ≡ B.openings }
-    ensures ok { IfOk result (λ end. (g : _) × StepsReplay journal.now.version journal.now.steps.items (opening_fabric network) g end) }
+    ensures ok { IfOk result (λ end. (g : _)
+        × StepsReplay journal.now.version journal.now.steps.items (opening_fabric network) g end) }
     ensures fault { IfErr result (λ e. IsWantOfMemory e ⊎ IsWithoutReaders e) }
 {
     let (mut fabric, _ports) = Fabric::<B>::open(rt, alloc, network, unnamed, 0)?;
@@ -78,7 +79,7 @@ fn replay_named<B: Naming, H: Wait, W: Write>(
 
 // Does the steps of a journal. Its report is compared with that of what they made, but for the first
 // version, whose reports tell of other distances.
-fn replay_steps<B: Naming, H: Wait, W: Write>(
+fn replay_steps<B: FabricName, H: Wait, W: Write>(
     rt: &H,
     alloc: Global,
     fabric: &mut Fabric<B>,
@@ -104,7 +105,7 @@ fn replay_steps<B: Naming, H: Wait, W: Write>(
 }
 
 // Compares the report of what the steps of a journal made with the journal's.
-fn compare<B: Naming, W: Write>(
+fn compare<B: FabricName, W: Write>(
     alloc: Global,
     fabric: &Fabric<B>,
     directory: &Directory,

@@ -6,7 +6,7 @@ ghost use Rattle.play.specs.Report.{link_line as line_of_link, router_line as li
 
 use crate::reasons::print_reasons;
 use dual_machine::{Machine, Mode};
-use fabric::{Fabric, Naming, Refusal};
+use fabric::{Fabric, FabricName, Refusal};
 use ipv4_prefix::Prefix;
 use link_fifo::Links;
 use network_model::End;
@@ -18,7 +18,7 @@ use world::World;
 
 /// Prints what a router's machine for a prefix is at, on a line, and why, where more is to be told.
 /// Refused with `UnknownRouter`. A write that fails is lost.
-pub fn print_state<B: Naming, W: Write>(
+pub fn print_state<B: FabricName, W: Write>(
     fabric: &Fabric<B>,
     directory: &Directory,
     router: u16,
@@ -26,24 +26,24 @@ pub fn print_state<B: Naming, W: Write>(
     explain: bool,
     out: &mut W,
 ) -> Result<(), Refusal>
-    ensures cause { MatchOption (unknown_router fabric.now router) (IsOk result) (λ e. result ≡ Err e) }
+    ensures cause { MatchOption (unknown_router fabric.now router) (IsOk result)
+        (λ e. result ≡ Err e) }
     ensures err { OnErr result (out.new ≡ out.old) }
 {
     let routers = fabric.world().routers();
     let found = routers
         .get(usize::from(router))
         .ok_or(Refusal::UnknownRouter)?;
-    let again = prefix;
     let _ = print_machine(directory, router, found, prefix, out);
     if explain {
-        let _ = print_reasons(directory, router, found, again, out);
+        let _ = print_reasons(directory, router, found, prefix, out);
     }
     Ok(())
 }
 
 /// Prints each link, and each router with its machines in the order of their prefixes, a line each, up
 /// to the first write that fails.
-pub fn print_report<B: Naming, W: Write>(
+pub fn print_report<B: FabricName, W: Write>(
     fabric: &Fabric<B>,
     directory: &Directory,
     out: &mut W,
@@ -107,12 +107,12 @@ fn print_machine<W: Write>(
     prefix: Prefix,
     out: &mut W,
 ) -> io::Result<()>
-    ensures { OnOk result (PrintsMachine directory.now number router.now prefix (W.contents out.old) (W.contents out.new)) }
+    ensures { OnOk result (PrintsMachine directory.now number router.now prefix (W.contents out.old)
+        (W.contents out.new)) }
 {
-    let again = prefix;
     match machine_line(number, router, prefix) {
         Some(line) => writeln!(out, "{}", directory.machine(line)),
-        None => writeln!(out, "{}", directory.unheard(number, again)),
+        None => writeln!(out, "{}", directory.unheard(number, prefix)),
     }
 }
 
@@ -150,12 +150,11 @@ fn router_line(number: u16, router: &Router, notices: usize) -> RouterLine
 fn machine_line(number: u16, router: &Router, prefix: Prefix) -> Option<MachineLine>
     ensures { IsMachineLine number router.now prefix result }
 {
-    let (again, told) = (prefix, prefix);
     let entry = router.table().get(prefix)?;
-    let machine = router.machine(again)?;
+    let machine = router.machine(prefix)?;
     Some(MachineLine {
         router: number,
-        prefix: told,
+        prefix,
         origin: origin_number(machine),
         rd: machine.rd(),
         fd: machine.fd(),

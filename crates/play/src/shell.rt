@@ -1,24 +1,21 @@
 //! Does commands as they come, a line each, on the network of a scenario.
 
-ghost use Rattle.std.specs.Prelude.{◌≡◌, ◌⊎◌, ◌≤◌, All, IfErr, IfOk, List, OnOk, None, length, vec_len};
-ghost use Rattle.fabric.specs.Writers.{opening_tables, IsPort};
+ghost use Rattle.std.specs.Prelude.{◌≡◌, ◌⊎◌, IfErr, IfOk, List, OnOk, None, vec_len};
+ghost use Rattle.fabric.specs.Writers.{opening_tables};
 ghost use Rattle.script.specs.declared.command.Command.{Command as CommandOf};
 ghost use Rattle.play.specs.Shell.{AreTried, CannotReadOn, IsShellEnd, StopsShell, StopsShellPlan, TriesPlan};
 ghost use Rattle.play.specs.Ends.{KeepsJournal, OfBytes};
 ghost use Rattle.play.specs.Faults.{IsUnanswered, IsWantOfMemory};
 
-use crate::commands::do_command;
-use crate::dispatch::{Dispatcher, ports_of};
 use crate::fault::{Cause, Fault};
 use crate::host::Host;
-use crate::keep::keep;
 use crate::options::Options;
 use crate::plan::{Plan, read_plan};
 use crate::program::{End, refuse};
 use crate::read::{read_failure, read_text};
-use fabric::{Fabric, Naming, Unnamed};
-use publication::ImageReader;
-use script::{Directory, read_command};
+use crate::session::Session;
+use fabric::{Fabric, FabricName, Unnamed};
+use script::read_command;
 use std::alloc::Global;
 use std::io::{BufRead, BufReader, Read, Write};
 use std::marker::Brand;
@@ -43,8 +40,10 @@ where
     W: Write,
     E: Write,
     ensures ok { IfOk result (λ end. (end ≡ End.Done)
-        × OfBytes (R.remaining scenario) (λ bytes. IsShellEnd bytes kept.old.items kept.new.items)) }
-    ensures fault { IfErr result (λ e. OfBytes (R.remaining scenario) (λ bytes. StopsShell bytes e)) }
+        × OfBytes (R.remaining scenario)
+        (λ bytes. IsShellEnd bytes kept.old.items kept.new.items)) }
+    ensures fault { IfErr result (λ e. OfBytes (R.remaining scenario)
+        (λ bytes. StopsShell bytes e)) }
 {
     let text = read_text(alloc, scenario)?;
     let plan = read_plan(alloc, text.as_str())?;
@@ -66,7 +65,7 @@ fn open_shell<B, H, J, W, E>(
     kept: &mut Vec<u8>,
 ) -> Result<(), Fault>
 where
-    B: Naming + Send + Sync + 'static,
+    B: FabricName + Send + Sync + 'static,
     H: Host,
     J: Read + Drop,
     W: Write,
@@ -82,166 +81,116 @@ where
         directory,
         commands: _,
     } = plan;
-    let (fabric, readers) = Fabric::<B>::open(rt, alloc, network, unnamed, 1)?;
-    let (fabric, ended) = run_lines(
-        rt, alloc, fabric, readers, &directory, input, explain, out, err, kept,
-    );
+    let options = Options {
+        threads: 1,
+        workers: 1,
+        explain,
+    };
+    let (mut fabric, readers) = Fabric::<B>::open(rt, alloc, network, unnamed, 1)?;
+    let ended = match Session::new(rt, alloc, &directory, readers, options) {
+        Ok(session) => run_lines(session, &mut fabric, input, out, err, kept),
+        Err(memory) => Err(Fault::from(memory)),
+    };
     fabric.close(rt);
     ended
 }
 
-// Does the commands of the lines, waits for the workers, says how many steps were done, and keeps their
-// journal.
+// Does the commands of the lines, and keeps the journal of their steps.
 fn run_lines<B, H, J, W, E>(
-    rt: &H,
-    alloc: Global,
-    fabric: Fabric<B>,
-    readers: Vec<Vec<ImageReader<B>>>,
-    directory: &Directory,
+    session: Session<'_, B, H>,
+    fabric: &mut Fabric<B>,
     input: J,
-    explain: bool,
     out: &mut W,
     err: &mut E,
     kept: &mut Vec<u8>,
-) -> (Fabric<B>, Result<(), Fault>)
+) -> Result<(), Fault>
 where
-    B: Naming + Send + Sync + 'static,
+    B: FabricName + Send + Sync + 'static,
     H: Host,
     J: Read + Drop,
     W: Write,
     E: Write,
-    requires ports { All (λ port. IsPort (length B.books) port.items) readers.items }
-    requires few { vec_len readers ≤ 16 }
-    ensures ok { OnOk result.1 ((commands : List CommandOf) × AreTried commands fabric result.0
-        × KeepsJournal directory.now result.0 kept.old.items kept.new.items) }
-    ensures fault { IfErr result.1 (λ e. CannotReadOn e ⊎ IsUnanswered e ⊎ IsWantOfMemory e) }
+    ensures ok { OnOk result ((commands : List CommandOf)
+        × AreTried commands fabric.old fabric.new) }
+    ensures keeps { OnOk result (KeepsJournal (session.entry.directory).now fabric.new
+        kept.old.items kept.new.items) }
+    ensures fault { IfErr result (λ e. CannotReadOn e ⊎ IsUnanswered e ⊎ IsWantOfMemory e) }
 {
-    let mut dispatcher = match ports_of(alloc, readers) {
-        Ok(ports) => Dispatcher::new(ports),
-        Err(memory) => return (fabric, Err(Fault::from(memory))),
-    };
-    let (fabric, read) = do_lines(
-        rt,
-        alloc,
-        fabric,
-        &mut dispatcher,
-        directory,
-        input,
-        explain,
-        out,
-        err,
-    );
-    // No worker is left running, whatever became of the input.
-    let answered = dispatcher.close(rt, alloc);
-    if let Err(fault) = read {
-        return (fabric, Err(fault));
-    }
-    if let Err(fault) = answered {
-        return (fabric, Err(Fault::from(Cause::Workers(fault))));
-    }
-    let _ = writeln!(out, "done: {} steps", fabric.journal().len());
-    match keep(&fabric, directory, kept) {
-        Ok(()) => (fabric, Ok(())),
-        Err(memory) => (fabric, Err(Fault::from(memory))),
-    }
+    let mut session = session;
+    let read = do_lines(&mut session, fabric, input, out, err);
+    session.finish(fabric, read, out, kept)
 }
 
 // Does the commands of the lines in order, to the end of the input.
 fn do_lines<B, H, J, W, E>(
-    rt: &H,
-    alloc: Global,
-    fabric: Fabric<B>,
-    dispatcher: &mut Dispatcher<B>,
-    directory: &Directory,
+    session: &mut Session<'_, B, H>,
+    fabric: &mut Fabric<B>,
     input: J,
-    explain: bool,
     out: &mut W,
     err: &mut E,
-) -> (Fabric<B>, Result<(), Fault>)
+) -> Result<(), Fault>
 where
-    B: Naming + Send + Sync + 'static,
+    B: FabricName + Send + Sync + 'static,
     H: Host,
     J: Read + Drop,
     W: Write,
     E: Write,
-    ensures tried { (commands : List CommandOf) × AreTried commands fabric result.0 }
-    ensures fault { IfErr result.1 CannotReadOn }
+    ensures tried { (commands : List CommandOf) × AreTried commands fabric.old fabric.new }
+    ensures fault { IfErr result CannotReadOn }
+    ensures names { session.new.directory ≡ session.old.directory }
 {
-    let mut fabric = fabric;
+    let alloc = session.alloc;
     let reader = match BufReader::new(alloc, input) {
         Ok(reader) => reader,
-        Err(error) => return (fabric, Err(Fault::from(read_failure(&error)))),
+        Err(error) => return Err(Fault::from(read_failure(&error))),
     };
     for line in reader.lines(alloc) {
         match line {
             Ok(line) => {
-                fabric = do_line(
-                    rt,
-                    alloc,
-                    fabric,
-                    dispatcher,
-                    directory,
-                    line.as_str(),
-                    explain,
-                    out,
-                    err,
-                );
+                do_line(session, fabric, line.as_str(), out, err);
                 let _ = out.flush();
             }
-            Err(error) => return (fabric, Err(Fault::from(read_failure(&error)))),
+            Err(error) => return Err(Fault::from(read_failure(&error))),
         }
     }
-    (fabric, Ok(()))
+    Ok(())
 }
 
 // Does the command of a line, and tells of it where it cannot be read or is refused. An empty line says
 // nothing.
 fn do_line<B, H, W, E>(
-    rt: &H,
-    alloc: Global,
-    fabric: Fabric<B>,
-    dispatcher: &mut Dispatcher<B>,
-    directory: &Directory,
+    session: &mut Session<'_, B, H>,
+    fabric: &mut Fabric<B>,
     line: &str,
-    explain: bool,
     out: &mut W,
     err: &mut E,
-) -> Fabric<B>
+)
 where
-    B: Naming + Send + Sync + 'static,
+    B: FabricName + Send + Sync + 'static,
     H: Host,
     W: Write,
     E: Write,
-    ensures { (commands : List CommandOf) × AreTried commands fabric result }
+    ensures tried { (commands : List CommandOf) × AreTried commands fabric.old fabric.new }
+    ensures names { session.new.directory ≡ session.old.directory }
 {
     if line.is_empty() {
-        return fabric;
+        return;
     }
+    let explain = session.options.explain;
     let network = fabric.network();
     match read_command(
-        directory.names(),
+        session.directory.names(),
         network.links(),
         network.attachments(),
         line,
     ) {
         Ok(command) => {
-            let options = Options {
-                threads: 1,
-                workers: 1,
-                explain,
-            };
-            let (fabric, done) = do_command(
-                rt, alloc, fabric, dispatcher, directory, command, options, out,
-            );
+            let done = session.do_command(fabric, command, out);
             if let Err(cause) = done {
                 tell(cause, explain, out, err);
             }
-            fabric
         }
-        Err(fault) => {
-            tell(Cause::Lines(fault), explain, out, err);
-            fabric
-        }
+        Err(fault) => tell(Cause::Lines(fault), explain, out, err),
     }
 }
 

@@ -3,7 +3,7 @@
 use play::Host;
 use std::alloc::{AllocError, Global};
 use std::process::Abort;
-use trial::{asked, played};
+use trial::{play_in_memory, run_in_memory};
 use words::Words;
 
 const LEAVES: u16 = 6;
@@ -47,7 +47,7 @@ fn is_settled_by<H: Host + Abort>(rt: &H, alloc: Global, threads: u8) {
         journal: None,
         explain: false,
     };
-    let ran = asked(rt, alloc, &run, text.as_bytes());
+    let ran = run_in_memory(rt, alloc, &run, text.as_bytes());
     assert_eq!(rt; ran.err.as_slice(), b"".as_slice());
     assert_eq!(rt; ran.status, 0);
     assert!(rt;
@@ -59,27 +59,27 @@ fn is_settled_by<H: Host + Abort>(rt: &H, alloc: Global, threads: u8) {
         journal: "",
         explain: false,
     };
-    let again = played(rt, alloc, &replay, text.as_bytes(), ran.kept.as_slice());
+    let again = play_in_memory(rt, alloc, &replay, text.as_bytes(), ran.kept.as_slice());
     assert_eq!(rt; again.err.as_slice(), b"".as_slice());
     assert_eq!(rt; again.status, 0);
 }
 
 #[test]
-fn one_thread(rt: HostRuntime) {
+fn one_thread_settles_a_crowd(rt: HostRuntime) {
     is_settled_by(&rt, rt.alloc(), 1);
 }
 
 #[test]
-fn two_threads(rt: HostRuntime) {
+fn two_threads_settle_a_crowd(rt: HostRuntime) {
     is_settled_by(&rt, rt.alloc(), 2);
 }
 
 #[test]
-fn four_threads(rt: HostRuntime) {
+fn four_threads_settle_a_crowd(rt: HostRuntime) {
     is_settled_by(&rt, rt.alloc(), 4);
 }
 
 #[test]
-fn sixteen_threads(rt: HostRuntime) {
+fn sixteen_threads_settle_a_crowd(rt: HostRuntime) {
     is_settled_by(&rt, rt.alloc(), 16);
 }

@@ -4,7 +4,7 @@ use play::{Host, Source, play};
 use std::alloc::Global;
 use std::io::{self, Read, Write};
 use std::process::Abort;
-use trial::{Outcome, asked, played};
+use trial::{Outcome, play_in_memory, run_in_memory};
 use words::{Words, exit_status, not_utf8};
 
 pub const CHECK: Words<'static> = Words::Check {
@@ -63,17 +63,17 @@ fn scenario_cannot_be_read(rt: HostRuntime) {
     let alloc = rt.alloc();
     tells(
         &rt,
-        &asked(&rt, alloc, &CHECK, MISSING),
+        &run_in_memory(&rt, alloc, &CHECK, MISSING),
         "dualnet: 47 Unreadable\n",
     );
     tells(
         &rt,
-        &asked(&rt, alloc, &RUN, BROKEN),
+        &run_in_memory(&rt, alloc, &RUN, BROKEN),
         "dualnet: 47 Unreadable\n",
     );
     tells(
         &rt,
-        &asked(&rt, alloc, &RUN, b"\xff".as_slice()),
+        &run_in_memory(&rt, alloc, &RUN, b"\xff".as_slice()),
         "dualnet: 40 BadToml\n",
     );
 }
@@ -81,12 +81,12 @@ fn scenario_cannot_be_read(rt: HostRuntime) {
 #[test]
 fn journal_cannot_be_read(rt: HostRuntime) {
     let alloc = rt.alloc();
-    let got = played(&rt, alloc, &REPLAY, SCENARIO, MISSING);
+    let got = play_in_memory(&rt, alloc, &REPLAY, SCENARIO, MISSING);
     tells(&rt, &got, "dualnet: 47 Unreadable\n");
-    let got = played(&rt, alloc, &REPLAY, SCENARIO, BROKEN);
+    let got = play_in_memory(&rt, alloc, &REPLAY, SCENARIO, BROKEN);
     tells(&rt, &got, "dualnet: 47 Unreadable\n");
     let bytes = b"dualnet journal 2\nend\n\xff\n".as_slice();
-    let got = played(&rt, alloc, &REPLAY, SCENARIO, bytes);
+    let got = play_in_memory(&rt, alloc, &REPLAY, SCENARIO, bytes);
     tells(&rt, &got, "dualnet: 48 BadJournal\n");
 }
 
@@ -95,7 +95,7 @@ fn journal_cannot_be_read(rt: HostRuntime) {
 fn journal_without_its_last_line_feed(rt: HostRuntime) {
     let journal =
         b"dualnet journal 2\nend\na gen 0 held 0 ripe 0 attach 0\na 0.0.0.0/0 passive RD 1 FD 1 local";
-    let got = played(&rt, rt.alloc(), &REPLAY, SCENARIO, journal.as_slice());
+    let got = play_in_memory(&rt, rt.alloc(), &REPLAY, SCENARIO, journal.as_slice());
     assert_eq!(rt; got.out.as_slice(), b"replay agrees: 0 steps\n".as_slice());
     assert_eq!(rt; got.status, 0);
 }
@@ -141,7 +141,7 @@ fn lost<H: Host>(rt: &H, alloc: Global, scenario: &[u8]) -> u8 {
 
 // What cannot be written is lost, and the status stays.
 #[test]
-fn writes_fail(rt: HostRuntime) {
+fn writes_that_fail_leave_the_status(rt: HostRuntime) {
     let refused =
         b"routers = [\"a\"]\nlinks = []\nprefixes = []\nscript = [\"table a\", \"publish a\"]\n";
     assert_eq!(rt; lost(&rt, rt.alloc(), SCENARIO), 0);

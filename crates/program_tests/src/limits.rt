@@ -4,17 +4,17 @@ use crate::files::{CHECK, RUN, tells};
 use std::alloc::{AllocError, Global};
 use std::io::{self, Read};
 use std::process::Abort;
-use trial::asked;
+use trial::run_in_memory;
 
 const SHORT: &[u8] =
     b"routers = [\"a\"]\nlinks = []\nprefixes = []\nscript = [\"lookup a 0.0.0.0\"]\n";
 
 // A file at the limit, and one with a byte more.
 #[test]
-fn files(rt: HostRuntime) {
+fn the_largest_file_is_read(rt: HostRuntime) {
     let more = 4_194_304u64.saturating_sub(SHORT.len() as u64);
     let file = SHORT.chain(io::repeat(b'\n').take(more));
-    let got = asked(&rt, rt.alloc(), &RUN, file);
+    let got = run_in_memory(&rt, rt.alloc(), &RUN, file);
     assert_eq!(rt;
         got.out.as_slice(),
         b"lookup a 0.0.0.0: none\ndone: 0 steps\n".as_slice()
@@ -23,7 +23,7 @@ fn files(rt: HostRuntime) {
     let file = SHORT.chain(io::repeat(b'\n').take(more.saturating_add(1)));
     tells(
         &rt,
-        &asked(&rt, rt.alloc(), &CHECK, file),
+        &run_in_memory(&rt, rt.alloc(), &CHECK, file),
         "dualnet: 46 TooLarge\n",
     );
 }
@@ -128,18 +128,18 @@ fn network(rt: &impl Abort, alloc: Global, counts: Counts) -> String {
 
 // In the largest network all links come up, and each router publishes and releases a message.
 #[test]
-fn largest_network(rt: HostRuntime) {
+fn the_largest_network_is_opened(rt: HostRuntime) {
     let mut text = network(&rt, rt.alloc(), MOST);
     push_ups(&mut text, 1024).expect(&rt, "memory");
     push_publications(&mut text, 256).expect(&rt, "memory");
     text.push_str("]\n").expect(&rt, "memory");
-    let got = asked(&rt, rt.alloc(), &RUN, text.as_bytes());
+    let got = run_in_memory(&rt, rt.alloc(), &RUN, text.as_bytes());
     assert_eq!(rt; got.out.as_slice(), b"done: 3584 steps\n".as_slice());
     assert_eq!(rt; got.status, 0);
 }
 
 #[test]
-fn too_large_networks(rt: HostRuntime) {
+fn networks_that_are_too_large_are_refused(rt: HostRuntime) {
     let routers = Counts {
         routers: 257,
         ..MOST
@@ -164,28 +164,32 @@ fn too_large_networks(rt: HostRuntime) {
     ] {
         let mut text = network(&rt, rt.alloc(), counts);
         text.push_str("]\n").expect(&rt, "memory");
-        tells(&rt, &asked(&rt, rt.alloc(), &CHECK, text.as_bytes()), fault);
+        tells(
+            &rt,
+            &run_in_memory(&rt, rt.alloc(), &CHECK, text.as_bytes()),
+            fault,
+        );
     }
 }
 
 #[test]
-fn longest_script(rt: HostRuntime) {
+fn the_longest_script_is_done(rt: HostRuntime) {
     let mut text = network(&rt, rt.alloc(), ONE);
     push_tables(&mut text, 10_000).expect(&rt, "memory");
     text.push_str("]\n").expect(&rt, "memory");
-    let got = asked(&rt, rt.alloc(), &RUN, text.as_bytes());
+    let got = run_in_memory(&rt, rt.alloc(), &RUN, text.as_bytes());
     assert_eq!(rt; got.out.as_slice(), b"done: 0 steps\n".as_slice());
     assert_eq!(rt; got.status, 0);
 }
 
 #[test]
-fn too_long_script(rt: HostRuntime) {
+fn a_script_that_is_too_long_is_refused(rt: HostRuntime) {
     let mut text = network(&rt, rt.alloc(), ONE);
     push_tables(&mut text, 10_001).expect(&rt, "memory");
     text.push_str("]\n").expect(&rt, "memory");
     tells(
         &rt,
-        &asked(&rt, rt.alloc(), &RUN, text.as_bytes()),
+        &run_in_memory(&rt, rt.alloc(), &RUN, text.as_bytes()),
         "dualnet: 46 TooLarge\n",
     );
 }

@@ -26,7 +26,7 @@ fn directory(rt: &impl Abort, alloc: Global) -> Directory {
 }
 
 #[test]
-fn link(rt: HostRuntime) {
+fn the_line_of_a_link(rt: HostRuntime) {
     let line = LinkLine {
         a: 1,
         b: 0,
@@ -43,7 +43,7 @@ fn link(rt: HostRuntime) {
 }
 
 #[test]
-fn router(rt: HostRuntime) {
+fn the_line_of_a_router(rt: HostRuntime) {
     let line = RouterLine {
         router: 1,
         generation: u64::MAX,
@@ -57,7 +57,7 @@ fn router(rt: HostRuntime) {
 }
 
 #[test]
-fn machine(rt: HostRuntime) {
+fn the_line_of_a_machine(rt: HostRuntime) {
     let line = MachineLine {
         router: 1,
         prefix: Prefix::new(0x0a00_0000, 8).expect(&rt, "a prefix"),
@@ -72,7 +72,7 @@ fn machine(rt: HostRuntime) {
 }
 
 #[test]
-fn packet(rt: HostRuntime) {
+fn the_line_of_a_packet(rt: HostRuntime) {
     let directory = directory(&rt, rt.alloc());
     let want = "packet 18446744073709551615 a 255.255.255.255: none";
     is_written(

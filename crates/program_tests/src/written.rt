@@ -21,7 +21,7 @@ pub fn is_written<T: Display>(rt: &impl Abort, alloc: Global, value: &T, want: &
 }
 
 #[test]
-fn costs_and_distances(rt: HostRuntime) {
+fn how_costs_and_distances_are_written(rt: HostRuntime) {
     let most = Cost::new(65535).expect(&rt, "a cost");
     is_written(&rt, rt.alloc(), &most, "65535");
     is_written(&rt, rt.alloc(), &BadCost, "5 BadCost");
@@ -30,7 +30,7 @@ fn costs_and_distances(rt: HostRuntime) {
 }
 
 #[test]
-fn faults_of_prefixes(rt: HostRuntime) {
+fn how_faults_of_prefixes_are_written(rt: HostRuntime) {
     for (fault, text) in [
         (PrefixFault::NoSlash, "1 NoSlash"),
         (PrefixFault::BadAddress, "2 BadAddress"),
@@ -42,7 +42,7 @@ fn faults_of_prefixes(rt: HostRuntime) {
 }
 
 #[test]
-fn refusals_of_links(rt: HostRuntime) {
+fn how_refusals_of_links_are_written(rt: HostRuntime) {
     for (refusal, text) in [
         (LinkRefusal::UnknownLink, "11 UnknownLink"),
         (LinkRefusal::AlreadyUp, "13 AlreadyUp"),
@@ -58,7 +58,7 @@ fn refusals_of_links(rt: HostRuntime) {
 
 // Those that no link has.
 #[test]
-fn refusals(rt: HostRuntime) {
+fn how_refusals_are_written(rt: HostRuntime) {
     for (refusal, text) in [
         (Refusal::UnknownRouter, "10 UnknownRouter"),
         (Refusal::NothingDue, "17 NothingDue"),
@@ -85,7 +85,7 @@ fn is_told(rt: &impl Abort, alloc: Global, fault: Fault, text: &str) {
 }
 
 #[test]
-fn faults_of_journals(rt: HostRuntime) {
+fn how_faults_of_journals_are_written(rt: HostRuntime) {
     let alloc = rt.alloc();
     is_told(&rt, alloc, Fault::from(Refusal::JournalFull), FULL);
     let unwritable = "dualnet: 49 Unwritable\n";
@@ -93,7 +93,7 @@ fn faults_of_journals(rt: HostRuntime) {
 }
 
 #[test]
-fn faults_of_images(rt: HostRuntime) {
+fn how_faults_of_images_are_written(rt: HostRuntime) {
     is_written(&rt, rt.alloc(), &NoImage, "34 NoImage");
     is_written(&rt, rt.alloc(), &OpenFault::NoMemory, "20 NoMemory");
     is_written(
@@ -105,7 +105,7 @@ fn faults_of_images(rt: HostRuntime) {
 }
 
 #[test]
-fn faults_of_traces(rt: HostRuntime) {
+fn how_faults_of_traces_are_written(rt: HostRuntime) {
     for (fault, text) in [
         (TraceFault::UnknownRouter, "10 UnknownRouter"),
         (TraceFault::NoMemory, "20 NoMemory"),
@@ -117,7 +117,7 @@ fn faults_of_traces(rt: HostRuntime) {
 }
 
 #[test]
-fn faults_of_workers(rt: HostRuntime) {
+fn how_faults_of_workers_are_written(rt: HostRuntime) {
     for (fault, text) in [
         (PoolFault::NoThread, "12 NoThread"),
         (PoolFault::Memory(NoMemory), "20 NoMemory"),

@@ -1,14 +1,12 @@
 -- What a writer that is out keeps, while its publication is tried.
-use Rattle.std.specs.Prelude.{◌≡◌, ◌⊎◌, ◌||◌, Bool, true, false, List, [], ◌∷◌, ◌++◌, map}
+use Rattle.std.proofs.Common.{inl, inr, refl, sym, ap, subst, ◌∙◌, ◌≡◌, ◌⊎◌, ◌||◌, Bool, true, false, List, [], ◌∷◌, ◌++◌, map, append-nil}
 use Rattle.std.specs.List.{list_any}
-use Rattle.std.proofs.Common.{inl, inr, refl, sym, ap, subst, ◌∙◌}
-use Rattle.std.proofs.lemmas.List.{append-nil}
 use Rattle.std.proofs.lemmas.List.Folds.{list_any-append}
 use Rattle.ipv4_prefix.specs.Prefix.{Prefix, prefix_eq}
 use Rattle.network_model.specs.declared.route.Entry.{Entry}
 use Rattle.network_model.specs.Publication.{Patch}
 use Rattle.publication.specs.declared.known.Known.{Known}
-use Rattle.publication.specs.Lists.{Covers, Writing, is_named, prefixes_of, with_publication}
+use Rattle.publication.specs.Lists.{Covers, Writing, is_named, patched_prefixes, with_publication}
 use Rattle.publication.specs.Outings.{HasPublished, IsOuting, Outing}
 use Rattle.publication.proofs.Waiting.{prefixes-append}
 
@@ -17,7 +15,7 @@ pub named-more : (ws : List Patch) (p : Patch) (q : Prefix) → is_named (ws ++ 
 named-more ws p q =
     let keys : List Prefix = map (λ (r : Prefix × Entry). r.0) p.rows in
     ap (list_any (λ k. prefix_eq k q)) (prefixes-append ws p)
-    ∙ list_any-append (λ k. prefix_eq k q) (prefixes_of ws) keys
+    ∙ list_any-append (λ k. prefix_eq k q) (patched_prefixes ws) keys
     ∙ ap (λ ks. is_named ws q || list_any (λ k. prefix_eq k q) ks) (sym (append-nil keys))
 
 -- a patch that names all that waits names all that waits with it

@@ -1,6 +1,5 @@
 -- Patches that set the same rows are one.
-use Rattle.std.specs.Prelude.{◌≡◌, true, ◌&&◌}
-use Rattle.std.proofs.Common.{refl, ap, sym, subst, ◌∙◌}
+use Rattle.std.proofs.Common.{refl, ap, sym, subst, ◌∙◌, ◌≡◌, true, ◌&&◌}
 use Rattle.std.specs.Bool.{Decides}
 use Rattle.std.proofs.lemmas.Bool.{and_from, and_parts}
 use Rattle.ipv4_prefix.specs.contracts.prefix.PrefixPartialEq.TheImpl as PrefixEq

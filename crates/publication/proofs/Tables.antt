@@ -1,7 +1,6 @@
 -- The images of lists of patches.
-use Rattle.std.proofs.Common.{◌≡◌, ◌∙◌, ◌||◌, ℕ, ◌+◌, true, List, [], ◌∷◌, ◌++◌, length, map, refl, ap, sym, append_assoc, length-append}
+use Rattle.std.proofs.Common.{◌≡◌, ◌∙◌, ◌||◌, ℕ, ◌+◌, true, List, [], ◌∷◌, ◌++◌, length, map, refl, ap, sym, append_assoc, length-append, append-nil}
 use Rattle.std.specs.List.{list_any}
-use Rattle.std.proofs.lemmas.List.{append-nil}
 use Rattle.std.proofs.lemmas.List.Folds.{list_any-append}
 use Rattle.std.proofs.Math.Bool.{or-true}
 use Rattle.ipv4_prefix.specs.Prefix.{Prefix, prefix_eq}
@@ -9,7 +8,7 @@ use Rattle.network_model.specs.declared.route.Entry.{Entry}
 use Rattle.network_model.specs.Publication.{Patch, with_rows, published_generation, published_table}
 use Rattle.image_patch.specs.Patches.{patched}
 use Rattle.publication.specs.declared.known.Known.{Known}
-use Rattle.publication.specs.Lists.{Covers, generation_of, image_of, is_named, opening_of, patches_of, prefixes_of, with_publication}
+use Rattle.publication.specs.Lists.{Covers, generation_of, image_of, is_named, opening_of, patches_of, patched_prefixes, with_publication}
 use Rattle.publication.proofs.RowsAgain.{has_row, rows_again}
 
 -- the last patch makes the generation
@@ -30,7 +29,7 @@ patches-more (qs ∷ rest) ps = ap (λ l. qs ++ l) (patches-more rest ps) ∙ sy
 patches_again : (waiting : List Patch) (rows table : List (Prefix × Entry)) → ((q : Prefix) → is_named waiting q ≡ true → has_row rows q ≡ true) → with_rows rows (published_table table waiting) ≡ with_rows rows table
 patches_again [] rows table covered = refl
 patches_again (p ∷ ps) rows table covered =
-    let split : (q : Prefix) → is_named (p ∷ ps) q ≡ (has_row p.rows q || is_named ps q) = λ q. list_any-append (λ k. prefix_eq k q) (map (λ (r : Prefix × Entry). r.0) p.rows) (prefixes_of ps) in
+    let split : (q : Prefix) → is_named (p ∷ ps) q ≡ (has_row p.rows q || is_named ps q) = λ q. list_any-append (λ k. prefix_eq k q) (map (λ (r : Prefix × Entry). r.0) p.rows) (patched_prefixes ps) in
     patches_again ps rows (with_rows p.rows table) (λ q h. covered q (split q ∙ (ap (λ b. has_row p.rows q || b) h ∙ or-true (has_row p.rows q))))
     ∙ rows_again p.rows rows table (λ q h. covered q (split q ∙ ap (λ b. b || is_named ps q) h))
 

@@ -3,8 +3,7 @@ use Rattle.std.specs.Prelude.{◌≡◌, ℕ, Bool, true, List, [], ◌∷◌, �
 use Rattle.std.specs.List.{list_any}
 use mathlib.Core.List.{IsPrefix}
 use Rattle.ipv4_prefix.specs.Prefix.{Prefix, prefix_eq}
-use Rattle.network_model.specs.Publication.{Patch, Image, image_answer, published_generation, published_image}
-use Rattle.network_model.specs.declared.route.Answer.{Answer}
+use Rattle.network_model.specs.Publication.{Patch, Image, published_generation, published_image}
 use Rattle.network_model.specs.declared.route.Entry.{Entry}
 use Rattle.image_patch.specs.Patches.{patched}
 use Rattle.image_patch.specs.declared.Patch.{Patch as PatchFields}
@@ -48,18 +47,14 @@ image_of openings known = published_image (opening_of openings known.router) (pa
 abbrev pub generation_of : Known → ℕ
 generation_of known = published_generation 0 (patches_of known.publications)
 
--- what an image answers for an address, with its generation
-abbrev pub answer_of : Image → ℕ → Answer
-answer_of image addr = record { generation = image.generation; matched = image_answer image addr }
-
 -- the prefixes that patches name
-abbrev pub prefixes_of : List Patch → List Prefix
-prefixes_of [] = []
-prefixes_of (p ∷ ps) = map (λ (r : Prefix × Entry). r.0) p.rows ++ prefixes_of ps
+abbrev pub patched_prefixes : List Patch → List Prefix
+patched_prefixes [] = []
+patched_prefixes (p ∷ ps) = map (λ (r : Prefix × Entry). r.0) p.rows ++ patched_prefixes ps
 
 -- whether one of the patches names the prefix
 abbrev pub is_named : List Patch → Prefix → Bool
-is_named ps prefix = list_any (λ p. prefix_eq p prefix) (prefixes_of ps)
+is_named ps prefix = list_any (λ p. prefix_eq p prefix) (patched_prefixes ps)
 
 -- the patch names each prefix that one of these names
 abbrev pub Covers : Patch → List Patch → Type 0

@@ -11,8 +11,8 @@ abbrev pub book_of : List Book → ℕ → Book
 book_of books router = slice_index_or books router no_book
 
 -- the first word is the length of the list. A book has two words, of which this one leaves the second at 0
-abbrev pub IsKept : List Cell → List (List Patch) → Type 0
-IsKept cells log = cells ≡ (length log, true) ∷ (0, true) ∷ []
+abbrev pub IsBookOf : List Cell → List (List Patch) → Type 0
+IsBookOf cells log = cells ≡ (length log, true) ∷ (0, true) ∷ []
 
 -- the first word of a book
 abbrev pub head_of : Book → Named

@@ -1,9 +1,11 @@
 //! One of the two copies: an image, and the list that it is the image of.
 
 ghost use Rattle.std.specs.Prelude.{◌≡◌};
-ghost use Rattle.publication.specs.Lists.{image_of, answer_of};
+ghost use Rattle.network_model.specs.Publication.{answer_of};
+ghost use Rattle.publication.specs.Lists.{image_of};
 
-use crate::book::{Naming, Told};
+use crate::name::FabricName;
+use crate::told::Told;
 use left_right::Absorb;
 use network_model::Answer;
 use std::alloc::{AllocError, Allocator};
@@ -11,12 +13,12 @@ use tree_bitmap::Image;
 
 /// An image and a list. In the copy that readers take, it is the image of that list.
 #[derive(Drop)]
-pub struct Edition<B: Naming, A: Allocator> {
+pub struct Edition<B: FabricName, A: Allocator> {
     pub(crate) image: Image<A>,
     pub(crate) told: Told<B>,
 }
 
-impl<B: Naming, A: Allocator> Edition<B, A> {
+impl<B: FabricName, A: Allocator> Edition<B, A> {
     /// What this copy answers for an address, and its list.
     pub(crate) fn answer(&self, addr: u32) -> (Answer, Told<B>)
         requires { self.now.image ≡ image_of B.openings self.now.told }
@@ -32,7 +34,7 @@ impl<B: Naming, A: Allocator> Edition<B, A> {
 }
 
 /// `left_right` keeps no patches: the writer itself has its hidden copy follow, and appends nothing.
-impl<B: Naming, A: Allocator> Absorb<()> for Edition<B, A> {
+impl<B: FabricName, A: Allocator> Absorb<()> for Edition<B, A> {
     type State = ();
 
     ghost state = { λ _. tt };

@@ -3,17 +3,18 @@
 ghost use Rattle.std.specs.Prelude.{◌≡◌, ◌<◌, length};
 ghost use Rattle.publication.specs.Lists.{generation_of};
 
-use crate::book::{Naming, Told};
+use crate::name::FabricName;
+use crate::told::Told;
 
 /// An address to look up at the router of `told`, in an image no older than that.
 #[derive(Drop)]
-pub struct Job<B: Naming> {
+pub struct Job<B: FabricName> {
     pub number: u64,
     pub addr: u32,
     pub told: Told<B>,
 }
 
-impl<B: Naming> Job<B> {
+impl<B: FabricName> Job<B> {
     /// A copy.
     pub fn again(&self) -> Job<B>
         ensures { result ≡ self.now }

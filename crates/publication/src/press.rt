@@ -5,10 +5,12 @@ ghost use Rattle.std.specs.Vec.{vec_capacity};
 ghost use Rattle.image_patch.specs.Patches.{patched};
 ghost use Rattle.publication.specs.Lists.{Covers, bundle_of, followed, image_of, patch_of, with_publication};
 
-use crate::book::{Coming, Ledger, Naming, Told};
+use crate::book::{Coming, Head};
 use crate::edition::Edition;
 use crate::known::Known;
+use crate::name::FabricName;
 use crate::rule::{Sees, Shown};
+use crate::told::Told;
 use core::mem::replace_with;
 use image_patch::{Apply, Patch};
 use left_right::Absorb;
@@ -22,22 +24,23 @@ use tree_bitmap::parts::{copy, empty};
 pub(crate) type Copies<B, A> = Writer<Edition<B, A>, (), Option<Known>, Shown<B>, A>;
 
 /// The copies, and what waits for the next publication.
-pub struct Press<B: Naming, A: Allocator>
+pub struct Press<B: FabricName, A: Allocator>
 where
     Edition<B, A>: Absorb<(), State = ()>,
 {
     writer: Copies<B, A>,
     // The patch that the hidden copy is wanting.
     last: Option<Patch<A>>,
-    ledger: Ledger<B>,
+    ledger: Head<B>,
     waiting: Vec<Patch<A>, A>,
-    ghost image: { writer.desk.shown.value.image ≡ image_of B.openings writer.desk.shown.value.told },
+    ghost image: { writer.desk.shown.value.image
+        ≡ image_of B.openings writer.desk.shown.value.told },
     ghost hidden: { followed last writer.desk.spare.value.image ≡ writer.desk.shown.value.image },
     ghost word: { ledger.router ≡ writer.desk.shown.value.told.router },
 }
 
 // Two copies of an image, of which no reader has one.
-pub(crate) fn two<B: Naming, A: Allocator + Copy, R: Wait>(
+pub(crate) fn two<B: FabricName, A: Allocator + Copy, R: Wait>(
     rt: &R,
     alloc: A,
     image: Image<A>,
@@ -45,7 +48,8 @@ pub(crate) fn two<B: Naming, A: Allocator + Copy, R: Wait>(
     readers: u8,
 ) -> Result<Copies<B, A>, NoMemory>
     requires { image ≡ image_of B.openings told.now }
-    ensures shown { IfOk result (λ w. (w.desk.shown.value.image ≡ image) × (w.desk.shown.value.told ≡ told.now)) }
+    ensures shown { IfOk result (λ w. (w.desk.shown.value.image ≡ image)
+        × (w.desk.shown.value.told ≡ told.now)) }
     ensures hidden { IfOk result (λ w. w.desk.spare.value.image ≡ image) }
 {
     let second = copy(&image, alloc)?;
@@ -70,14 +74,15 @@ pub(crate) fn two<B: Naming, A: Allocator + Copy, R: Wait>(
 
 // The list with one more publication. It waits for ever where the list is longer than this, as no
 // writer's own is, or has 2^64 - 1 publications.
-fn announce<B: Naming, A: Allocator, R: Wait>(
+fn announce<B: FabricName, A: Allocator, R: Wait>(
     rt: &R,
     told: &Told<B>,
-    ledger: &Ledger<B>,
+    ledger: &Head<B>,
     coming: &Coming<A>,
 ) -> Told<B>
     requires { ledger.now.router ≡ told.now.router }
-    ensures { result ≡ with_publication told.now (bundle_of coming.now.waiting.items coming.now.patch) }
+    ensures { result ≡ with_publication told.now
+        (bundle_of coming.now.waiting.items coming.now.patch) }
 {
     if let Some(longer) = told.add(ledger, coming) {
         return longer;
@@ -93,7 +98,8 @@ fn follow<A: Allocator>(
     patch: &Patch<A>,
 ) -> Result<(), Option<Patch<A>>>
     ensures { MatchResult result
-        (λ _. image.new ≡ patched patch.now.generation patch.now.rows.items (followed last image.old))
+        (λ _. image.new ≡ patched patch.now.generation patch.now.rows.items
+        (followed last image.old))
         (λ left. followed left image.new ≡ followed last image.old) }
 {
     if let Some(missed) = &last
@@ -109,7 +115,7 @@ fn follow<A: Allocator>(
 
 // Has the hidden copy follow, and then shows it to readers. The list goes on only where nothing can
 // be refused any more.
-fn turn<B: Naming, A: Allocator, R: Wait>(
+fn turn<B: FabricName, A: Allocator, R: Wait>(
     press: Press<B, A>,
     work: (&R, Patch<A>),
 ) -> (Press<B, A>, Result<(), NoMemory>)
@@ -117,7 +123,8 @@ fn turn<B: Naming, A: Allocator, R: Wait>(
     requires covers { Covers (patch_of work.1) (map patch_of press.waiting.items) }
     ensures { MatchResult result.1
         (λ _. (result.0.writer.desk.shown.value.told
-        ≡ with_publication press.writer.desk.shown.value.told (bundle_of press.waiting.items work.entry.1))
+        ≡ with_publication press.writer.desk.shown.value.told
+        (bundle_of press.waiting.items work.entry.1))
         × (result.0.waiting.items ≡ []))
         (λ _. (result.0.writer.desk.shown.value.told ≡ press.writer.desk.shown.value.told)
         × (result.0.waiting.items ≡ press.waiting.items ++ work.entry.1 ∷ [])) }
@@ -155,9 +162,10 @@ fn turn<B: Naming, A: Allocator, R: Wait>(
     (press, Ok(()))
 }
 
-impl<B: Naming, A: Allocator> Press<B, A> {
-    pub(crate) fn new(writer: Copies<B, A>, ledger: Ledger<B>, alloc: A) -> Press<B, A>
-        requires image { writer.desk.shown.value.image ≡ image_of B.openings writer.desk.shown.value.told }
+impl<B: FabricName, A: Allocator> Press<B, A> {
+    pub(crate) fn new(writer: Copies<B, A>, ledger: Head<B>, alloc: A) -> Press<B, A>
+        requires image { writer.desk.shown.value.image
+            ≡ image_of B.openings writer.desk.shown.value.told }
         requires hidden { writer.desk.spare.value.image ≡ writer.desk.shown.value.image }
         requires word { ledger.router ≡ writer.desk.shown.value.told.router }
         ensures writer { result.writer ≡ writer }
@@ -191,7 +199,8 @@ impl<B: Naming, A: Allocator> Press<B, A> {
 
     // Makes room for one more patch among those that wait.
     pub(crate) fn reserve(&mut self) -> Result<(), NoMemory>
-        ensures shown { self.new.writer.desk.shown.value.told ≡ self.old.writer.desk.shown.value.told }
+        ensures shown { self.new.writer.desk.shown.value.told
+            ≡ self.old.writer.desk.shown.value.told }
         ensures waiting { self.new.waiting.items ≡ self.old.waiting.items }
         ensures room { OnOk result (vec_len self.new.waiting < vec_capacity self.new.waiting) }
     {
@@ -205,11 +214,13 @@ impl<B: Naming, A: Allocator> Press<B, A> {
         requires room { vec_len self.old.waiting < vec_capacity self.old.waiting }
         requires covers { Covers (patch_of patch) (map patch_of self.old.waiting.items) }
         ensures shown { OnOk result (self.new.writer.desk.shown.value.told
-            ≡ with_publication self.old.writer.desk.shown.value.told (bundle_of self.old.waiting.items patch)) }
+            ≡ with_publication self.old.writer.desk.shown.value.told
+            (bundle_of self.old.waiting.items patch)) }
         ensures empty { OnOk result (self.new.waiting.items ≡ []) }
         ensures same { OnErr result
             (self.new.writer.desk.shown.value.told ≡ self.old.writer.desk.shown.value.told) }
-        ensures waiting { OnErr result (self.new.waiting.items ≡ self.old.waiting.items ++ patch ∷ []) }
+        ensures waiting { OnErr result (self.new.waiting.items ≡ self.old.waiting.items
+            ++ patch ∷ []) }
     {
         replace_with(self, (rt, patch), turn)
     }

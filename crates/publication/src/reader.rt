@@ -2,12 +2,14 @@
 
 ghost use Rattle.std.specs.Prelude.{◌≡◌, ◌⊎◌, ◌↔◌, false, None, IfOk, IsTrue, OnErr};
 ghost use Rattle.left_right.specs.Sides.{view};
-ghost use Rattle.publication.specs.Lists.{Begins, answer_of, image_of};
+ghost use Rattle.network_model.specs.Publication.{answer_of};
+ghost use Rattle.publication.specs.Lists.{Begins, image_of};
 
-use crate::book::{Naming, Told};
 use crate::edition::Edition;
 use crate::known::Known;
+use crate::name::FabricName;
 use crate::rule::{Sees, Shown};
+use crate::told::Told;
 use left_right::reader::Reader;
 use network_model::{Answer, Refusal};
 use std::alloc::{Allocator, Global};
@@ -46,14 +48,14 @@ impl ReadGate for NoGate {
 /// Looks addresses up, with no lock and no wait. Contracts see it as its view: the list that its
 /// writer had after some of its publications, or before the first.
 #[derive(Drop)]
-pub struct ImageReader<B: Naming, A: Allocator = Global> {
+pub struct ImageReader<B: FabricName, A: Allocator = Global> {
     reader: Option<Reader<Edition<B, A>, Option<Known>, Shown<B>, A>>,
     told: Told<B>,
     // It has seen no copy since it was told of its list.
     ahead: bool,
 }
 
-impl<B: Naming, A: Allocator> Model for ImageReader<B, A> {
+impl<B: FabricName, A: Allocator> Model for ImageReader<B, A> {
     ghost use Rattle.std.specs.Prelude.{◌≡◌, Some, false, IfSome};
     ghost use Rattle.publication.specs.declared.known.Known.{Known};
 
@@ -61,19 +63,20 @@ impl<B: Naming, A: Allocator> Model for ImageReader<B, A> {
 
     ghost view = { λ r. r.told };
 
-    ghost invariant = { λ r. r.ahead ≡ false → IfSome r.reader (λ x. x.place.me.0.client ≡ Some r.told) };
+    ghost invariant = { λ r. r.ahead ≡ false
+        → IfSome r.reader (λ x. x.place.me.0.client ≡ Some r.told) };
 }
 
 // Whether what was seen begins a copy's list. By the rule it does, but where it was told of more than
 // it has seen.
-fn goes_on<B: Naming>(seen: &Told<B>, shown: &Told<B>, ahead: bool) -> bool
+fn goes_on<B: FabricName>(seen: &Told<B>, shown: &Told<B>, ahead: bool) -> bool
     requires { ahead ≡ false → Begins seen.now shown.now }
     ensures { IsTrue result ↔ Begins seen.now shown.now }
 {
     if ahead { seen.begins(shown) } else { true }
 }
 
-impl<B: Naming, A: Allocator> ImageReader<B, A> {
+impl<B: FabricName, A: Allocator> ImageReader<B, A> {
     pub(crate) fn new(
         reader: Reader<Edition<B, A>, Option<Known>, Shown<B>, A>,
         told: Told<B>,

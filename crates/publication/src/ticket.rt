@@ -5,8 +5,9 @@ ghost use Rattle.image_patch.specs.Patches.{patched};
 ghost use Rattle.publication.specs.Lists.{Covers, generation_of, image_of, patch_of, with_publication};
 ghost use Rattle.publication.specs.Outings.{IsOuting, new_outing};
 
-use crate::book::{Naming, Told};
 use crate::edition::Edition;
+use crate::name::FabricName;
+use crate::told::Told;
 use crate::writer::ImageWriter;
 use image_patch::Patch;
 use left_right::Absorb;
@@ -18,7 +19,7 @@ use std::sync::Wait;
 /// A writer, and the patch that it is to publish. It is not `Drop`: give the writer back, or end it by
 /// `close`. Contracts see what it had published when it went out, the patch, whether it has published
 /// that, and what it has published and what waits now.
-pub struct Ticket<B: Naming, A: Allocator = Global>
+pub struct Ticket<B: FabricName, A: Allocator = Global>
 where
     Edition<B, A>: Absorb<(), State = ()>,
 {
@@ -28,7 +29,7 @@ where
     published: bool,
 }
 
-impl<B: Naming, A: Allocator> Model for Ticket<B, A>
+impl<B: FabricName, A: Allocator> Model for Ticket<B, A>
 where
     Edition<B, A>: Absorb<(), State = ()>,
 {
@@ -39,17 +40,18 @@ where
 
     ghost view = { λ t. record { before = t.before; patch = patch_of t.patch; is_published = t.published; writing = t.writer } };
 
-    ghost invariant = { λ t. IsOuting (record { before = t.before; patch = patch_of t.patch; is_published = t.published; writing = t.writer }) };
+    ghost invariant = { λ t. IsOuting
+        (record { before = t.before; patch = patch_of t.patch; is_published = t.published; writing = t.writer }) };
 }
 
 /// What stays of a writer that is out: the list that it had published, and a copy of its ticket's patch.
 #[derive(Drop)]
-pub struct Stub<B: Naming, A: Allocator = Global> {
+pub struct Stub<B: FabricName, A: Allocator = Global> {
     before: Told<B>,
     patch: Patch<A>,
 }
 
-impl<B: Naming, A: Allocator> Model for Stub<B, A> {
+impl<B: FabricName, A: Allocator> Model for Stub<B, A> {
     ghost use Rattle.publication.specs.Lists.{patch_of};
     ghost use Rattle.publication.specs.Outings.{IsNext, Stub as StubState};
 
@@ -60,7 +62,7 @@ impl<B: Naming, A: Allocator> Model for Stub<B, A> {
     ghost invariant = { λ s. IsNext s.before (patch_of s.patch) };
 }
 
-impl<B: Naming, A: Allocator> Stub<B, A> {
+impl<B: FabricName, A: Allocator> Stub<B, A> {
     /// What will stay of a writer that goes out with such a patch.
     pub fn new(writer: &ImageWriter<B, A>, patch: Patch<A>) -> Stub<B, A>
         requires { patch.generation ≡ generation_of writer.now.published + 1 }
@@ -103,7 +105,7 @@ fn is_patch<A: Allocator>(patch: &Patch<A>, other: &Patch<A>) -> bool
     patch.generation == other.generation && patch.rows.as_slice() == other.rows.as_slice()
 }
 
-impl<B: Naming, A: Allocator> Ticket<B, A> {
+impl<B: FabricName, A: Allocator> Ticket<B, A> {
     /// The writer goes out with the patch, which has the next generation and names all that waits.
     pub fn new(writer: ImageWriter<B, A>, patch: Patch<A>) -> Ticket<B, A>
         requires number { patch.generation ≡ generation_of writer.published + 1 }
@@ -138,7 +140,8 @@ impl<B: Naming, A: Allocator> Ticket<B, A> {
     /// Whether this is what stays of the writer: it is of the same router, and has the same patch. Then
     /// it has the list, too, that the writer had published.
     pub fn is_of(&self, stub: &Stub<B, A>) -> bool
-        ensures its { IsTrue result ↔ ((self.now.before.router ≡ stub.now.before.router) × (self.now.patch ≡ stub.now.patch)) }
+        ensures its { IsTrue result ↔ ((self.now.before.router ≡ stub.now.before.router)
+            × (self.now.patch ≡ stub.now.patch)) }
         ensures list { IsTrue result → self.now.before ≡ stub.now.before }
     {
         if self.before.router() != stub.before.router() || !is_patch(&self.patch, &stub.patch) {
@@ -149,7 +152,7 @@ impl<B: Naming, A: Allocator> Ticket<B, A> {
     }
 }
 
-impl<B: Naming, A: Allocator + Copy> Ticket<B, A> {
+impl<B: FabricName, A: Allocator + Copy> Ticket<B, A> {
     /// Puts the patch in force, and just before it what waits. It waits for readers that still look up in
     /// the copy to be changed. Refused, readers see what they saw, and it may be tried again.
     pub fn publish<R: Wait>(&mut self, rt: &R) -> Result<(), NoMemory>
@@ -158,7 +161,8 @@ impl<B: Naming, A: Allocator + Copy> Ticket<B, A> {
         ensures list { OnOk result (self.new.writing.published
             ≡ with_publication self.old.before (self.old.writing.waiting ++ self.old.patch ∷ [])) }
         ensures image { OnOk result (image_of B.openings self.new.writing.published
-            ≡ patched self.old.patch.generation self.old.patch.rows (image_of B.openings self.old.before)) }
+            ≡ patched self.old.patch.generation self.old.patch.rows
+            (image_of B.openings self.old.before)) }
         ensures err { OnErr result (self.new.is_published ≡ false) }
         ensures unseen { OnErr result (self.new.writing.published ≡ self.old.writing.published) }
         ensures before { self.new.before ≡ self.old.before }
@@ -171,7 +175,7 @@ impl<B: Naming, A: Allocator + Copy> Ticket<B, A> {
     }
 }
 
-impl<B: Naming, A: Allocator> Ticket<B, A> {
+impl<B: FabricName, A: Allocator> Ticket<B, A> {
     /// The writer comes back.
     pub fn into_writer(self) -> ImageWriter<B, A>
         ensures writer { result ≡ self.writing }

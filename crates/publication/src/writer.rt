@@ -3,16 +3,17 @@
 ghost use Rattle.std.specs.Prelude.{◌≡◌, ◌⊎◌, ◌+◌, ◌++◌, ◌∷◌, ◌≤◌, ◌<◌, [], length, map, All, IfOk, OnOk, OnErr, vec_len};
 ghost use Rattle.std.specs.Vec.{vec_capacity};
 ghost use Rattle.image_patch.specs.Patches.{patched};
-ghost use Rattle.publication.specs.Lists.{Covers, generation_of, image_of, is_named, new_writing, no_patches, opening_of, patch_of, prefixes_of, with_publication};
+ghost use Rattle.publication.specs.Lists.{Covers, generation_of, image_of, is_named, new_writing, no_patches, opening_of, patch_of, patched_prefixes, with_publication};
 ghost use Rattle.publication.specs.Names.{book_of};
 ghost use Rattle.publication.specs.declared.writer.OpenFault.TheVariants.{NoMemory as OutOfMemory, NoReaderPlace as NoPlace};
 
-use crate::book::{Naming, Told, Unnamed};
 use crate::edition::Edition;
 use crate::known::Known;
+use crate::name::{FabricName, Unnamed};
 use crate::press::{Press, two};
 use crate::reader::ImageReader;
 use crate::rule::Shown;
+use crate::told::Told;
 use image_patch::Patch;
 use left_right::Absorb;
 use left_right::reader::Factory;
@@ -45,7 +46,8 @@ impl From<NoMemory> for OpenFault {
 impl From<OpenFault> for Refusal {
     ghost use Rattle.network_model.specs.declared.step.Refusal.TheVariants.{NoMemory as NoRoom, NoReaderPlace as NoSeat};
 
-    ghost from_gives = { λ fault e. ((fault ≡ OutOfMemory) × (e ≡ NoRoom)) ⊎ ((fault ≡ NoPlace) × (e ≡ NoSeat)) };
+    ghost from_gives = { λ fault e. ((fault ≡ OutOfMemory) × (e ≡ NoRoom))
+        ⊎ ((fault ≡ NoPlace) × (e ≡ NoSeat)) };
 
     fn from(fault: OpenFault) -> Refusal {
         match fault {
@@ -57,7 +59,7 @@ impl From<OpenFault> for Refusal {
 
 /// Publishes patches. It is not `Drop`: end it by `close`. Contracts see the list of its
 /// publications, and the patches that wait since one was refused.
-pub struct ImageWriter<B: Naming, A: Allocator = Global>
+pub struct ImageWriter<B: FabricName, A: Allocator = Global>
 where
     Edition<B, A>: Absorb<(), State = ()>,
 {
@@ -66,12 +68,12 @@ where
     prefixes: Vec<Prefix, A>,
 }
 
-impl<B: Naming, A: Allocator> Model for ImageWriter<B, A>
+impl<B: FabricName, A: Allocator> Model for ImageWriter<B, A>
 where
     Edition<B, A>: Absorb<(), State = ()>,
 {
     ghost use Rattle.std.specs.Prelude.{◌≡◌, length, map};
-    ghost use Rattle.publication.specs.Lists.{Writing, generation_of, patch_of, prefixes_of};
+    ghost use Rattle.publication.specs.Lists.{Writing, generation_of, patch_of, patched_prefixes};
 
     ghost Value = { Writing };
 
@@ -80,8 +82,10 @@ where
       waiting = map patch_of w.press.waiting.items;
     } };
 
-    ghost invariant = { λ w. (w.prefixes.items ≡ prefixes_of (map patch_of w.press.waiting.items))
-        × (length w.press.writer.desk.shown.value.told.publications ≡ generation_of w.press.writer.desk.shown.value.told) };
+    ghost invariant = { λ w. (w.prefixes.items
+        ≡ patched_prefixes (map patch_of w.press.waiting.items))
+        × (length w.press.writer.desk.shown.value.told.publications
+        ≡ generation_of w.press.writer.desk.shown.value.told) };
 }
 
 // Adds the prefixes that a patch names.
@@ -94,7 +98,7 @@ fn note_prefixes<A: Allocator>(prefixes: &mut Vec<Prefix, A>, patch: &Patch<A>)
     }
 }
 
-impl<B: Naming, A: Allocator> ImageWriter<B, A> {
+impl<B: FabricName, A: Allocator> ImageWriter<B, A> {
     /// What was published, for readers to learn.
     pub fn tell(&self) -> Told<B>
         ensures { result ≡ self.now.published }
@@ -120,7 +124,7 @@ impl<B: Naming, A: Allocator> ImageWriter<B, A> {
 
     /// The prefixes that waiting patches name.
     pub fn waiting(&self) -> &[Prefix]
-        ensures { result.now ≡ prefixes_of self.now.waiting }
+        ensures { result.now ≡ patched_prefixes self.now.waiting }
     {
         &self.prefixes
     }
@@ -161,13 +165,14 @@ impl<B: Naming, A: Allocator> ImageWriter<B, A> {
 }
 
 // So many readers, with nothing published.
-fn make_readers<B: Naming, A: Allocator>(
+fn make_readers<B: FabricName, A: Allocator>(
     alloc: A,
     factory: &Factory<Edition<B, A>, Option<Known>, Shown<B>, A>,
     told: &Told<B>,
     count: u8,
 ) -> Result<Vec<ImageReader<B, A>, A>, OpenFault>
-    ensures { IfOk result (λ readers. (vec_len readers ≡ count) × All (λ r. r ≡ told.now) readers.items) }
+    ensures { IfOk result (λ readers. (vec_len readers ≡ count)
+        × All (λ r. r ≡ told.now) readers.items) }
 {
     let mut readers = Vec::new(alloc);
     for _ in 0..count {
@@ -186,7 +191,7 @@ fn make_readers<B: Naming, A: Allocator>(
 
 /// The writer of a router, whose image in force is the one given, and so many readers of it. The image
 /// is the router's opening table, with generation 0.
-pub fn open<B: Naming, A: Allocator + Copy, R: Wait>(
+pub fn open<B: FabricName, A: Allocator + Copy, R: Wait>(
     rt: &R,
     alloc: A,
     unnamed: Unnamed,
@@ -202,7 +207,7 @@ pub fn open<B: Naming, A: Allocator + Copy, R: Wait>(
     ensures count { IfOk result (λ o. vec_len o.1 ≡ readers) }
     ensures readers { IfOk result (λ o. All (λ r. r ≡ no_patches router) o.1.items) }
 {
-    let (ledger, told) = unnamed.named::<B>(router);
+    let (ledger, told) = unnamed.with_name::<B>(router);
     let writer = two(rt, alloc, image, &told, readers)?;
     match make_readers(alloc, writer.factory(), &told, readers) {
         Ok(list) => {

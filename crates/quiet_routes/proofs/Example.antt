@@ -1,16 +1,9 @@
 -- Three routers and a link between two of them: it comes up, and all comes to rest; then the attachment moves, or the link goes
 -- down, and all comes to rest again.
-use Rattle.std.specs.Prelude.{List, [], ◌∷◌, ◌++◌}
-use Rattle.std.proofs.Common.{refl, arith}
-use Rattle.ipv4_prefix.specs.Prefix.{Prefix, IsPrefix}
-use Rattle.metric.specs.Distance.{IsCost}
-use Rattle.network_model.specs.World.{World, Network, opening}
-use Rattle.network_model.specs.declared.network.LinkSpec.{LinkSpec}
+use Rattle.std.proofs.Common.{refl, arith, List, [], ◌∷◌, ◌++◌}
+use Rattle.packet_loops.proofs.Common.{Prefix, IsPrefix, IsCost, World, Network, opening, LinkSpec, HasCosts, IsNetwork, run, run-Runs}
 use Rattle.network_model.specs.declared.step.Step.{Step}
 use Rattle.network_model.specs.declared.step.Step.TheVariants.{LinkUp, LinkDown, Deliver, Publish, Release, Attach, Detach}
-use Rattle.network_model.specs.Network.{HasCosts, IsNetwork}
-use Rattle.network_model.specs.Run.{run}
-use Rattle.network_model.proofs.Lawful.{run-Runs}
 use Rattle.packet_loops.proofs.Example.{all_of_one}
 use Rattle.quiet_routes.specs.Routes.{SomeQuietRuns}
 

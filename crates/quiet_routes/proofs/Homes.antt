@@ -1,18 +1,8 @@
 -- In a quiet world the attachment of each machine is that of the world's record.
-use Rattle.std.specs.Prelude.{◌≡◌, ℕ, ◌<◌, true, List, [], length, Option, Some, None, slice_get, option_and_then}
-use Rattle.std.specs.Option.{option_map_or}
+use Rattle.std.proofs.Common.{refl, sym, ap, ◌∙◌, arith, ◌≡◌, ℕ, ◌<◌, true, List, [], length, Option, Some, None, slice_get, option_and_then}
+use Rattle.packet_loops.proofs.Common.{option_map_or, slice_get_within, Prefix, prefix_cmp, IsCost, opening_machine, Router, Attachments, World, Network, machine_of, attachment_at, is_quiet, None_not_Some, element_there, State, view}
 use Rattle.std.specs.FinMap.{find as row_of}
-use Rattle.std.proofs.Common.{refl, sym, ap, ◌∙◌, arith}
-use Rattle.std.proofs.lemmas.Option.{slice_get_within}
-use Rattle.ipv4_prefix.specs.Prefix.{Prefix, prefix_cmp}
-use Rattle.metric.specs.Distance.{IsCost}
-use Rattle.network_model.specs.Machine.{opening_machine}
-use Rattle.network_model.specs.World.{Router, Attachments, World, Network, machine_of, attachment_at}
-use Rattle.network_model.specs.Forwarding.{is_quiet}
-use Rattle.network_model.proofs.ListLaws.{None_not_Some, element_there}
-use Rattle.loop_freedom.specs.Network.{State}
 use Rattle.packet_loops.proofs.Wiring.{IsWired}
-use Rattle.packet_loops.proofs.View.{view}
 use Rattle.packet_loops.proofs.Kept.{attachment_then}
 use Rattle.packet_loops.proofs.Runs.{Reached}
 use Rattle.quiet_routes.proofs.Worlds.{Good}

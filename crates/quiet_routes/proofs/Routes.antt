@@ -1,40 +1,19 @@
 -- At a quiet world each router has its best row.
-use Rattle.std.specs.Prelude.{◌≡◌, ◌⊎◌, ℕ, ◌+◌, ◌<◌, ◌≤◌, true, ◌==◌, if◌then◌else◌, List, [], map, length, Option, Some, None, is_some, slice_get, option_map, option_and_then, unwrap_or}
-use Rattle.std.specs.List.{range_with_len}
-use Rattle.std.specs.Option.{option_map_or}
+use Rattle.std.proofs.Common.{refl, sym, ap, ◌∙◌, inl, inr, arith, ◌≡◌, ◌⊎◌, ℕ, ◌+◌, ◌<◌, ◌≤◌, true, ◌==◌, if◌then◌else◌, List, [], map, length, Option, Some, None, is_some, slice_get, option_map, option_and_then, unwrap_or, eq-eqb}
+use Rattle.packet_loops.proofs.Common.{range_with_len, option_map_or, false≢true, length-map, Prefix, prefix_cmp, Machine, opening_machine, port_count, Local, Via, Unreachable, End, A, B, Link, Router, World, Network, side, machine_of, neighbours, costs_of, opening_router_of, opening, Place, Port, entry_of, session_at, IsWalkHome, walk_cost as way_cost, is_quiet, None_not_Some, Topology, IsEdgeWalk as NetWalk, IsNetwork, find-map, history, LinkEnd, State, on_link, view, lay, walk_map}
 use Rattle.std.specs.FinMap.{find as row_of}
-use Rattle.std.proofs.Common.{refl, sym, ap, ◌∙◌, inl, inr, arith}
-use Rattle.std.proofs.lemmas.Bool.{false≢true, eq-eqb}
-use Rattle.std.proofs.lemmas.List.{length-map}
-use Rattle.ipv4_prefix.specs.Prefix.{Prefix, prefix_cmp}
-use Rattle.network_model.specs.Machine.{Machine, opening_machine, degree}
-use Rattle.network_model.specs.declared.route.Entry.TheVariants.{Local, Via, Unreachable}
-use Rattle.network_model.specs.declared.network.End.{End}
-use Rattle.network_model.specs.declared.network.End.TheVariants.{A, B}
-use Rattle.network_model.specs.World.{Link, Router, World, Network, side, machine_of, neighbours, costs_of, opening_router_of, opening}
-use Rattle.network_model.specs.declared.network.Place.{Place}
-use Rattle.network_model.specs.declared.network.Port.{Port}
-use Rattle.network_model.specs.Step.{entry_of, session_at}
-use Rattle.network_model.specs.Forwarding.{IsWalkHome, walk_cost as way_cost, is_quiet}
-use Rattle.network_model.proofs.ListLaws.{None_not_Some}
-use Rattle.loop_freedom.specs.Network.{LinkEnd, State, Topology, IsWalk as NetWalk}
-use Rattle.network_model.specs.Network.{IsNetwork}
 use Rattle.packet_loops.specs.Packets.{published_entry}
 use Rattle.packet_loops.proofs.Wiring.{IsWired, wired, few_routers}
-use Rattle.network_model.proofs.RowLaws.{find-map}
-use Rattle.packet_loops.proofs.Places.{lay, laid, spot, topology}
+use Rattle.packet_loops.proofs.Places.{laid, spot, topology}
 use Rattle.packet_loops.proofs.Opened.{first_fd, opening_view}
-use Rattle.packet_loops.proofs.View.{on_link, view}
 use Rattle.packet_loops.proofs.Runs.{Reached, reached}
 use Rattle.packet_loops.proofs.WorldLaws.{SameShape, Runs-shape}
-use Rattle.network_model.specs.Run.{history}
-use Rattle.least_cost.specs.Quiet.{LeadsHome, Follows, IsRouted as IsNetRouted, IsOptimal, walk_end, walk_cost}
+use Rattle.least_cost.specs.Quiet.{LeadsHome, Follows, IsRouted as IsNetRouted, IsOptimal, walk_end, edges_cost}
 use Rattle.least_cost.proofs.AtQuiet.{optimal_at_quiet}
-use Rattle.quiet_routes.specs.Routes.{IsRouted, IsUnheard, HasBestRow, QuietRoutes}
+use Rattle.quiet_routes.specs.Routes.{HasRoute, IsUnheard, HasBestRow, QuietRoutes}
 use Rattle.quiet_routes.proofs.Worlds.{CheapLink, Good, good}
 use Rattle.quiet_routes.proofs.Homes.{home_is, home_cost}
 use Rattle.quiet_routes.proofs.Still.{row_now, quiet_now}
-use Rattle.loop_freedom.proofs.Walks.{walk_map}
 use Rattle.quiet_routes.proofs.Ways.{IsUp, place_for, to_walk, to_cost, from_walk, from_cost, from_chain}
 
 module _ (n : Network) (V : IsNetwork n) (p : Prefix) (w : World) (rs : List Router) (R : Reached n (wired n V) p w rs) (G : Good p w) (quiet : is_quiet w ≡ true) (count : length w.attachments ≡ length w.routers) where
@@ -118,17 +97,17 @@ module _ (n : Network) (V : IsNetwork n) (p : Prefix) (w : World) (rs : List Rou
       by_router (Some r) at = by_row r at (row_of prefix_cmp p r.machines) refl
 
   -- the entry of a machine whose successor is its attachment is Local
-  entry_local : (ports : List Port) (m : Machine) → m.successor ≡ Some (degree m) → entry_of ports m ≡ Local
+  entry_local : (ports : List Port) (m : Machine) → m.successor ≡ Some (port_count m) → entry_of ports m ≡ Local
   entry_local ports m h =
-      ap (λ x. option_map_or (λ q. if q == degree m then Local else Via q (session_at ports q)) x Unreachable) h
-      ∙ ap (λ b. if b then Local else Via (degree m) (session_at ports (degree m))) (eq-eqb (degree m) (degree m) refl)
+      ap (λ x. option_map_or (λ q. if q == port_count m then Local else Via q (session_at ports q)) x Unreachable) h
+      ∙ ap (λ b. if b then Local else Via (port_count m) (session_at ports (port_count m))) (eq-eqb (port_count m) (port_count m) refl)
 
   -- the entry of a machine without a successor is Unreachable
   entry_lost : (ports : List Port) (m : Machine) → m.successor ≡ None → entry_of ports m ≡ Unreachable
-  entry_lost ports m none = ap (λ x. option_map_or (λ q. if q == degree m then Local else Via q (session_at ports q)) x Unreachable) none
+  entry_lost ports m none = ap (λ x. option_map_or (λ q. if q == port_count m then Local else Via q (session_at ports q)) x Unreachable) none
 
   -- the row of a router whose successor is its attachment is Local
-  local_row : (o : ℕ) → (s.machine o).successor ≡ Some (degree (s.machine o)) → published_entry w o p ≡ Some Local
+  local_row : (o : ℕ) → (s.machine o).successor ≡ Some (port_count (s.machine o)) → published_entry w o p ≡ Some Local
   local_row o h = by_shows (shows o)
     where
       by_shows : Shows o → published_entry w o p ≡ Some Local
@@ -144,12 +123,12 @@ module _ (n : Network) (V : IsNetwork n) (p : Prefix) (w : World) (rs : List Rou
       record { live = W.0; cost = h.attachment; home = ap (λ (j : ℕ). (s.machine j).attachment) W.1 ∙ home_is n N p w rs R G quiet count o ∙ h.attached }
 
   -- a router that has a least way in the view is routed in the world
-  routed : (i : ℕ) → IsNetRouted t n.routers s i → IsRouted w p i
+  routed : (i : ℕ) → IsNetRouted t n.routers s i → HasRoute w p i
   unfolding leads_home
   routed i Q =
       let o : ℕ = walk_end t i Q.chain in
       let up : NetWalk t (IsUp n N p w rs R) i Q.chain = walk_map t (Follows s) (IsUp n N p w rs R) (λ e f. f.sends.linked) i Q.chain Q.follows in
-      let cost : way_cost w (map (place_for n N p w rs R) Q.chain) ≡ walk_cost s Q.chain = from_cost n N p w rs R i Q.chain up in
+      let cost : way_cost w (map (place_for n N p w rs R) Q.chain) ≡ edges_cost s Q.chain = from_cost n N p w rs R i Q.chain up in
       record {
         home = o;
         chain = map (place_for n N p w rs R) Q.chain;
@@ -162,8 +141,8 @@ module _ (n : Network) (V : IsNetwork n) (p : Prefix) (w : World) (rs : List Rou
             cost_is = (let e = Q.cost_is in omega (arith, cost, e));
           };
           least = λ others end other_cost h. (
-              let under : (s.machine i).rd ≤ walk_cost s (map (spot n) others) + h.attachment = Q.least_cost (map (spot n) others) (leads_home i others end other_cost h) in
-              let same : walk_cost s (map (spot n) others) ≡ way_cost w others = to_cost n N p w rs R i others end h.walk in
+              let under : (s.machine i).rd ≤ edges_cost s (map (spot n) others) + h.attachment = Q.least_cost (map (spot n) others) (leads_home i others end other_cost h) in
+              let same : edges_cost s (map (spot n) others) ≡ way_cost w others = to_cost n N p w rs R i others end h.walk in
               let all : way_cost w others + h.attachment ≡ other_cost = h.cost_is in
               omega (arith, under, same, all)
               );

@@ -1,32 +1,13 @@
 -- A quiet world is a quiet state of the view, and its published rows are those of its machines.
-use Rattle.std.specs.Prelude.{◌≡◌, ℕ, zero, suc, Bool, true, false, cond, not, ◌&&◌, List, [], ◌∷◌, take, drop, Option, Some, None, slice_get, filter, option_map, option_and_then, unwrap_or, is_none, is_some}
-use Rattle.std.specs.List.{list_all}
-use Rattle.std.specs.Option.{option_map_or}
+use Rattle.std.proofs.Common.{refl, sym, ap, ◌∙◌, ◌≡◌, ℕ, zero, suc, Bool, true, false, cond, not, ◌&&◌, List, [], ◌∷◌, take, drop, Option, Some, None, slice_get, filter, option_map, option_and_then, unwrap_or, is_none, is_some}
+use Rattle.packet_loops.proofs.Common.{list_all, option_map_or, take-nil, drop-nil, and_parts, false≢true, Prefix, prefix_cmp, prefix_eq, Machine, Computation, opening_machine, port_successor, Held, Entry, End, A, B, Link, Router, Attachments, World, Network, side, machine_of, neighbours, Place, entry_eq, has_row, changed_rows, entry_of, session_at, is_empty, is_quiet_router, is_quiet_link, has_no_notice, is_quiet, entry_from_eq, Some_injective, None_not_Some, is_active, next_hop_of, find-map, State, at_port, next_hop, next_hop_at, on_link, inbox_of, heard, kept, ripe_of, unripe_of, view, lay}
 use Rattle.std.specs.FinMap.{find as row_of}
-use Rattle.std.proofs.Common.{refl, sym, ap, ◌∙◌}
-use Rattle.std.proofs.Math.Seq.{take-nil, drop-nil}
-use Rattle.std.proofs.lemmas.Bool.{and_parts, false≢true}
-use Rattle.ipv4_prefix.specs.Prefix.{Prefix, prefix_cmp, prefix_eq}
-use Rattle.network_model.specs.Machine.{Machine, Computation, opening_machine, port_successor}
-use Rattle.network_model.specs.declared.item.Held.{Held}
-use Rattle.network_model.specs.declared.route.Entry.{Entry}
-use Rattle.network_model.specs.declared.network.End.{End}
-use Rattle.network_model.specs.declared.network.End.TheVariants.{A, B}
-use Rattle.network_model.specs.World.{Link, Router, Attachments, World, Network, side, machine_of, neighbours}
-use Rattle.network_model.specs.declared.network.Place.{Place}
-use Rattle.network_model.specs.Step.{entry_eq, has_row, changed_rows, entry_of, session_at}
-use Rattle.network_model.specs.Forwarding.{is_empty, is_quiet_router, is_quiet_link, has_no_notice, is_quiet}
-use Rattle.network_model.proofs.EntryLaws.{entry_from_eq}
-use Rattle.network_model.proofs.ListLaws.{Some_injective, None_not_Some}
-use Rattle.machine_laws.specs.Laws.{is_active}
-use Rattle.loop_freedom.specs.Network.{State, next_hop_of, at_port}
 use Rattle.packet_loops.proofs.Wiring.{IsWired}
-use Rattle.network_model.proofs.RowLaws.{find-map}
 use Rattle.packet_loops.proofs.Machines.{prefix_same}
-use Rattle.packet_loops.proofs.Places.{lay, topology}
+use Rattle.packet_loops.proofs.Places.{topology}
 use Rattle.packet_loops.proofs.Publishing.{control_hop}
 use Rattle.packet_loops.proofs.Runs.{Reached}
-use Rattle.packet_loops.proofs.View.{next_hop, next_hop_at, on_link, inbox_of, heard, kept, ripe_of, unripe_of, view, on_router-there}
+use Rattle.packet_loops.proofs.View.{on_router-there}
 use Rattle.least_cost.specs.Quiet.{IsQuiet}
 use Rattle.quiet_routes.proofs.Worlds.{Good}
 

@@ -1,27 +1,15 @@
 -- Walks of the world are walks of the view, and the other way round.
-use Rattle.std.specs.Prelude.{◌≡◌, ℕ, ◌+◌, true, false, List, [], ◌∷◌, map, Option, Some, None, is_some, slice_get, option_and_then}
-use Rattle.std.specs.Option.{option_map_or}
+use Rattle.std.proofs.Common.{refl, sym, ap, subst, ◌∙◌, ◌≡◌, ℕ, ◌+◌, true, false, List, [], ◌∷◌, map, Option, Some, None, is_some, slice_get, option_and_then}
+use Rattle.packet_loops.proofs.Common.{option_map_or, false≢true, Prefix, prefix_cmp, Entry, Local, Via, Unreachable, A, Link, Router, World, Network, other, side, Place, IsWalk as IsWay, walk_cost as way_cost, Some_injective, None_not_Some, Topology, IsEdgeWalk, router_end, place_of, LinkEnd, State, NextHop, at_port, next_hop, next_hop_at, on_link, view, lay}
 use Rattle.std.specs.FinMap.{find as row_of}
-use Rattle.std.proofs.Common.{refl, sym, ap, subst, ◌∙◌}
-use Rattle.std.proofs.lemmas.Bool.{false≢true}
-use Rattle.ipv4_prefix.specs.Prefix.{Prefix, prefix_cmp}
-use Rattle.network_model.specs.declared.route.Entry.{Entry}
-use Rattle.network_model.specs.declared.route.Entry.TheVariants.{Local, Via, Unreachable}
-use Rattle.network_model.specs.declared.network.End.TheVariants.{A}
-use Rattle.network_model.specs.World.{Link, Router, World, Network, other, side}
-use Rattle.network_model.specs.declared.network.Place.{Place}
-use Rattle.network_model.specs.Forwarding.{IsWalk as IsWay, walk_cost as way_cost}
-use Rattle.network_model.proofs.ListLaws.{Some_injective, None_not_Some}
-use Rattle.loop_freedom.specs.Network.{LinkEnd, State, Topology, NextHop, IsWalk, at_port}
 use Rattle.packet_loops.specs.Packets.{published_entry}
 use Rattle.packet_loops.proofs.Wiring.{IsWired}
-use Rattle.network_model.proofs.PortPlaces.{router_end, place_of}
 use Rattle.packet_loops.specs.LinkEnds.{across}
-use Rattle.packet_loops.proofs.Places.{lay, laid, lay-spot, far, spot, spot_on, topology}
+use Rattle.packet_loops.proofs.Places.{laid, lay-spot, far, spot, spot_on, topology}
 use Rattle.packet_loops.proofs.Kept.{specified, linked, far_is}
-use Rattle.packet_loops.proofs.View.{next_hop, next_hop_at, on_link, view, on_link-there}
+use Rattle.packet_loops.proofs.View.{on_link-there}
 use Rattle.packet_loops.proofs.Runs.{Reached, place_is}
-use Rattle.least_cost.specs.Quiet.{Follows, walk_end, walk_cost}
+use Rattle.least_cost.specs.Quiet.{Follows, walk_end, edges_cost}
 use Rattle.quiet_routes.specs.Routes.{SendsBy, IsChain}
 
 module _ (n : Network) (N : IsWired n) (p : Prefix) (w : World) (rs : List Router) (R : Reached n N p w rs) where
@@ -57,7 +45,7 @@ module _ (n : Network) (N : IsWired n) (p : Prefix) (w : World) (rs : List Route
       }
 
   -- a walk of the world is one of the view, to the same router
-  pub to_walk : (i : ℕ) (ps : List Place) (o : ℕ) → IsWay w i ps o → IsWalk t IsUp i (map (spot n) ps) × (walk_end t i (map (spot n) ps) ≡ o)
+  pub to_walk : (i : ℕ) (ps : List Place) (o : ℕ) → IsWay w i ps o → IsEdgeWalk t IsUp i (map (spot n) ps) × (walk_end t i (map (spot n) ps) ≡ o)
   to_walk i [] o h = (tt, h)
   to_walk i (x ∷ xs) o (l, at, up, from, rest) =
       let P = of_place x l at in
@@ -66,13 +54,13 @@ module _ (n : Network) (N : IsWired n) (p : Prefix) (w : World) (rs : List Route
           P.near ∙ from,
           ap is_some P.laid_at,
           on_link-there (λ en k. k.up) false w.links (lay n (spot n x)) x l P.laid_at at ∙ up,
-          subst (λ (j : ℕ). IsWalk t IsUp j (map (spot n) xs)) (sym P.across_from) W.0,
+          subst (λ (j : ℕ). IsEdgeWalk t IsUp j (map (spot n) xs)) (sym P.across_from) W.0,
         ),
         ap (λ (j : ℕ). walk_end t j (map (spot n) xs)) P.across_from ∙ W.1,
       )
 
   -- a walk of the world costs as much in the view
-  pub to_cost : (i : ℕ) (ps : List Place) (o : ℕ) → IsWay w i ps o → walk_cost s (map (spot n) ps) ≡ way_cost w ps
+  pub to_cost : (i : ℕ) (ps : List Place) (o : ℕ) → IsWay w i ps o → edges_cost s (map (spot n) ps) ≡ way_cost w ps
   to_cost i [] o h = refl
   to_cost i (x ∷ xs) o (l, at, up, from, rest) =
       let cost : s.cost (spot n x) ≡ option_map_or (λ k. (side x.end k).cost) (slice_get w.links x.link) 0 = ap (λ y. on_link (λ en k. (side en k).cost) 0 y w.links) (of_place x l at).laid_at in
@@ -116,7 +104,7 @@ module _ (n : Network) (N : IsWired n) (p : Prefix) (w : World) (rs : List Route
       }
 
   -- a walk of the view is one of the world, to the same router
-  pub from_walk : (i : ℕ) (es : List LinkEnd) → IsWalk t IsUp i es → IsWay w i (map place_for es) (walk_end t i es)
+  pub from_walk : (i : ℕ) (es : List LinkEnd) → IsEdgeWalk t IsUp i es → IsWay w i (map place_for es) (walk_end t i es)
   from_walk i [] h = refl
   from_walk i (e ∷ es) h =
       let P = of_spot e h.1 in (
@@ -128,7 +116,7 @@ module _ (n : Network) (N : IsWired n) (p : Prefix) (w : World) (rs : List Route
       )
 
   -- a walk of the view costs as much in the world
-  pub from_cost : (i : ℕ) (es : List LinkEnd) → IsWalk t IsUp i es → way_cost w (map place_for es) ≡ walk_cost s es
+  pub from_cost : (i : ℕ) (es : List LinkEnd) → IsEdgeWalk t IsUp i es → way_cost w (map place_for es) ≡ edges_cost s es
   from_cost i [] h = refl
   from_cost i (e ∷ es) h =
       let cost : s.cost e ≡ option_map_or (λ k. (side (place_for e).end k).cost) (slice_get w.links (place_for e).link) 0 = ap (λ y. on_link (λ en k. (side en k).cost) 0 y w.links) (of_spot e h.1).laid_at in
@@ -152,7 +140,7 @@ module _ (n : Network) (N : IsWired n) (p : Prefix) (w : World) (rs : List Route
       by_router (Some r) e = by_row (row_of prefix_cmp p (r.table).published) e
 
   -- a walk of the view along published successors to a Local row is a chain of rows of the world
-  pub from_chain : (i : ℕ) (es : List LinkEnd) → IsWalk t (Follows s) i es → published_entry w (walk_end t i es) p ≡ Some Local → IsChain w p i (map place_for es) (walk_end t i es)
+  pub from_chain : (i : ℕ) (es : List LinkEnd) → IsEdgeWalk t (Follows s) i es → published_entry w (walk_end t i es) p ≡ Some Local → IsChain w p i (map place_for es) (walk_end t i es)
   from_chain i [] h local = (refl, local)
   from_chain i (e ∷ es) h local =
       let P = of_spot e h.1 in

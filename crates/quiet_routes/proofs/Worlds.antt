@@ -1,29 +1,9 @@
 -- What every world of a run keeps besides: costs have 16 bits, and no row is published or chosen of a prefix that was not heard of.
-use Rattle.std.specs.Prelude.{◌≡◌, ℕ, ◌≤◌, Bool, true, false, cond, ◌&&◌, ◌==◌, List, [], ◌∷◌, map, Option, Some, None, slice_get, option_map}
+use Rattle.std.proofs.Common.{refl, sym, ap, subst, ◌∙◌, ◌≡◌, ℕ, ◌≤◌, Bool, true, false, cond, ◌&&◌, ◌==◌, List, [], ◌∷◌, map, Option, Some, None, slice_get, option_map}
 use Rattle.std.specs.FinMap.{find as row_of, put}
-use Rattle.std.specs.FinMap.Entries.{find-put}
-use Rattle.std.proofs.Common.{refl, sym, ap, subst, ◌∙◌}
-use Rattle.std.proofs.lemmas.Option.{slice_get-map}
-use Rattle.ipv4_prefix.specs.Prefix.{Prefix, prefix_cmp, prefix_eq}
-use Rattle.network_model.specs.Machine.{Machine, Reaction, reaction, changed_at, event_at_home, opening_machine}
-use Rattle.network_model.specs.declared.machine.Event.{Event}
-use Rattle.network_model.specs.declared.item.Item.{Item}
-use Rattle.network_model.specs.declared.item.Held.{Held}
-use Rattle.network_model.specs.declared.route.Entry.{Entry}
-use Rattle.network_model.specs.declared.network.End.{End}
-use Rattle.network_model.specs.declared.network.End.TheVariants.{A, B}
-use Rattle.network_model.specs.World.{Side, Link, Router, World, Network, other, place_at, neighbours, machine_of, opening_link, costs_of, opening_router_of, opening}
-use Rattle.network_model.specs.declared.network.Place.{Place}
-use Rattle.network_model.specs.declared.network.Port.{Port}
-use Rattle.network_model.specs.declared.network.LinkSpec.{LinkSpec}
+use Rattle.packet_loops.proofs.Common.{find-put, slice_get-map, Prefix, prefix_cmp, prefix_eq, Machine, Reaction, reaction, changed_at, event_at_home, opening_machine, Event, Item, Held, Entry, End, A, B, Side, Link, Router, World, Network, other, place_at, neighbours, machine_of, opening_link, costs_of, opening_router_of, opening, Place, Port, LinkSpec, Lawful, next, changed_side, with_item, link_come_up, link_gone_down, with_cost, with_front_taken, with_message, entry_of, reactions, router_noticing, router_meeting, router_at_home, router_accepting, router_publishing, router_releasing, changed_router, changed_link, changed_attachments, with_notice_taken, front_at, notice_at, release_at, with_delivered, with_noticed, with_released, Runs, option_map_or-ind, Some_injective, None_not_Some, listed_within, changed_keeps, prefix_cmp_total, find-map, IsNetwork}
 use Rattle.network_model.specs.declared.step.Step.{Step}
 use Rattle.network_model.specs.declared.step.Step.TheVariants.{LinkUp, LinkDown, SetCost, Deliver, Publish, Release, Attach, Detach}
-use Rattle.network_model.specs.Step.{Lawful, next, changed_side, with_item, link_come_up, link_gone_down, with_cost, with_front_taken, with_message, entry_of, reactions, router_noticing, router_meeting, router_at_home, router_accepting, router_publishing, router_releasing, changed_router, changed_link, changed_attachments, with_notice_taken, front_at, notice_at, release_at, with_delivered, with_noticed, with_released}
-use Rattle.network_model.specs.Run.{Runs}
-use Rattle.network_model.proofs.ListLaws.{option_map_or-ind, Some_injective, None_not_Some, listed_within, changed_keeps}
-use Rattle.ipv4_prefix.proofs.PrefixOrder.{prefix_cmp_total}
-use Rattle.network_model.proofs.RowLaws.{find-map}
-use Rattle.network_model.specs.Network.{IsNetwork}
 use Rattle.packet_loops.proofs.Wiring.{link_has_costs}
 
 -- ---- lists each of whose elements has a property

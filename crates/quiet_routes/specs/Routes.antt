@@ -35,7 +35,7 @@ IsChain w p i (x ∷ xs) o = (h : SendsBy w p i x) × IsChain w p (side (other x
 
 -- the row of the router is Local, at a router that is attached, or begins a chain of Via rows to such a row; the cost of the
 -- chain, that of the attachment included, is the reported distance, and least
-pub record IsRouted (w : World) (p : Prefix) (i : ℕ) : Type 0 where
+pub record HasRoute (w : World) (p : Prefix) (i : ℕ) : Type 0 where
   pub home : ℕ
   pub chain : List Place
   pub leads : IsChain w p i chain home
@@ -49,7 +49,7 @@ pub record IsUnheard (w : World) (p : Prefix) (i : ℕ) : Type 0 where
 
 -- where links that are up lead from the router to one that is attached, it is routed; else its row is Unreachable, or the prefix unheard
 pub record HasBestRow (w : World) (p : Prefix) (i : ℕ) : Type 0 where
-  pub connected : (ps : List Place) (o cost : ℕ) → IsWalkHome w p i ps o cost → IsRouted w p i
+  pub connected : (ps : List Place) (o cost : ℕ) → IsWalkHome w p i ps o cost → HasRoute w p i
   pub cut_off : ((ps : List Place) (o cost : ℕ) → IsWalkHome w p i ps o cost → ⊥) → (published_entry w i p ≡ Some Unreachable) ⊎ IsUnheard w p i
 
 -- in every quiet world to which a run leads, each router has its best row for each prefix
@@ -60,7 +60,7 @@ QuietRoutes = (n : Network) (ss : List Step) (w : World) → IsNetwork n → Run
 -- ---- runs to worlds that are quiet
 
 -- a lawful run from the opening of the network to a world that is quiet
-pub record QuietRun (n : Network) (w : World) : Type 0 where
+pub record QuietWorldRun (n : Network) (w : World) : Type 0 where
   pub steps : List Step
   pub runs : Runs (opening n) steps w
   pub quiet : is_quiet w ≡ true
@@ -72,7 +72,7 @@ pub record SomeQuietRuns : Type 0 where
   pub valid : IsNetwork network
   pub prefix : Prefix
   pub routed : World
-  pub routed_run : QuietRun network routed
+  pub routed_run : QuietWorldRun network routed
   pub attached : attachment_at routed 0 prefix ≡ Some 1
   pub is_local : published_entry routed 0 prefix ≡ Some Local
   pub sends_on : published_entry routed 1 prefix ≡ Some (Via 0 1)
@@ -80,11 +80,11 @@ pub record SomeQuietRuns : Type 0 where
   pub is_there : 2 < network.routers
   pub unheard : IsUnheard routed prefix 2
   pub moved : World
-  pub moved_run : QuietRun network moved
+  pub moved_run : QuietWorldRun network moved
   pub detached : attachment_at moved 0 prefix ≡ None
   pub gone : published_entry moved 0 prefix ≡ Some Unreachable
   pub attached_later : attachment_at moved 2 prefix ≡ Some 4
   pub local_later : published_entry moved 2 prefix ≡ Some Local
   pub lost : World
-  pub lost_run : QuietRun network lost
+  pub lost_run : QuietWorldRun network lost
   pub has_no_way : published_entry lost 1 prefix ≡ Some Unreachable

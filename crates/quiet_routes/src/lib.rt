@@ -1,4 +1,4 @@
-// What holds of a network of routers that has come to rest: published rows lead along cheapest ways.
+//! What holds of a network of routers that has come to rest: published rows lead along cheapest ways.
 #![tactic(auto)]
 
 ghost use Rattle.quiet_routes.specs.Routes.{QuietRoutes, SomeQuietRuns};

@@ -1,7 +1,8 @@
 //! A gate that messages pass once they are ripe.
 
 ghost use Rattle.std.specs.Prelude.{◌^◌, ◌≡◌, ◌+◌, ◌<◌, ◌≤◌, length, OnOk, OnErr, OnSome, IfNone};
-ghost use Rattle.release_gate.specs.GateState.{empty, with_held, with_all_ripe, ripe_front, with_front_released};
+ghost use Rattle.network_model.specs.Step.{gate_front, with_all_ripe, with_front_released};
+ghost use Rattle.release_gate.specs.GateState.{empty, with_held};
 
 use network_model::{Held, NoMemory};
 use std::alloc::{Allocator, Global};
@@ -67,7 +68,7 @@ impl<A: Allocator> Gate<A> {
 
     /// What `release` would give: the oldest message, where it is ripe.
     pub fn front(&self) -> Option<Held>
-        ensures { result ≡ ripe_front (self.now).gate }
+        ensures { result ≡ gate_front (self.now).gate }
     {
         if self.ripe > 0 {
             self.messages.front().copied()
@@ -86,7 +87,7 @@ impl<A: Allocator> Gate<A> {
 
     /// Takes the oldest message, where it is ripe.
     pub fn release(&mut self) -> Option<Held>
-        ensures released { result ≡ ripe_front (self.old).gate }
+        ensures released { result ≡ gate_front (self.old).gate }
         ensures some { OnSome result ((self.new).gate ≡ with_front_released (self.old).gate) }
         ensures none { IfNone result ((self.new).gate ≡ (self.old).gate) }
         ensures room { (self.old).room ≤ (self.new).room }

@@ -10,7 +10,7 @@ use Rattle.ipv4_prefix.specs.Prefix.{Prefix, prefix_cmp}
 use Rattle.network_model.specs.declared.route.Entry.{Entry}
 use Rattle.route_table.specs.declared.row.Row.{Row}
 use Rattle.route_table.specs.Place.{without}
-use Rattle.route_table.specs.Rows.{control_rows, differs, differing_rows, with_change, with_in_force, IsKept}
+use Rattle.route_table.specs.Rows.{control_rows, differs, differing_rows, with_change, with_in_force, IsTable}
 use Rattle.ipv4_prefix.proofs.SortedRows.{to_T}
 use Rattle.network_model.proofs.RowLaws.{find-map}
 use Rattle.ipv4_prefix.proofs.PrefixOrder.{prefix_cmp_total}
@@ -39,7 +39,7 @@ length-differing rows =
     let chosen : Prefix × Row → Prefix × Entry = λ r. (r.0, (r.1).control) in
     omega (arith, both, length-map (filter (λ (r : Prefix × Row). differs r.1) rows) chosen)
 
-module _ (rows : List (Prefix × Row)) (row_capacity : ℕ) (changed : List (Prefix × Entry)) (changed_capacity : ℕ) (s : is_sorted prefix_cmp rows ≡ true) (kept : IsKept rows row_capacity changed changed_capacity) where
+module _ (rows : List (Prefix × Row)) (row_capacity : ℕ) (changed : List (Prefix × Entry)) (changed_capacity : ℕ) (s : is_sorted prefix_cmp rows ≡ true) (kept : IsTable rows row_capacity changed changed_capacity) where
   -- ---- one row is put
 
   module _ (p : Prefix) (row : Row) (room : IsNone (find prefix_cmp p (control_rows rows)) → 0 < changed_capacity - length rows) where
@@ -56,7 +56,7 @@ module _ (rows : List (Prefix × Row)) (row_capacity : ℕ) (changed : List (Pre
     pub change_fits : length (with_change p row changed) ≤ changed_capacity
     change_fits = let here = put_fits in omega (arith, ap length (changed_is (differs row) refl), length-differing (put prefix_cmp p row rows))
 
-    pub kept_put : IsKept (put prefix_cmp p row rows) row_capacity (with_change p row changed) changed_capacity
+    pub kept_put : IsTable (put prefix_cmp p row rows) row_capacity (with_change p row changed) changed_capacity
     kept_put = record { differing = changed_is (differs row) refl; can_change = put_fits; can_be_kept = kept.can_be_kept }
 
   -- ---- the rows are published
@@ -70,5 +70,5 @@ module _ (rows : List (Prefix × Row)) (row_capacity : ℕ) (changed : List (Pre
   pub in_force_fits : length (with_in_force changed rows) ≤ row_capacity
   in_force_fits = let a = kept.can_change in let b = kept.can_be_kept in omega (arith, length-in_force)
 
-  pub kept_published : IsKept (with_in_force changed rows) row_capacity [] changed_capacity
+  pub kept_published : IsTable (with_in_force changed rows) row_capacity [] changed_capacity
   kept_published = record { differing = sym (ap differing_rows all_in_force ∙ differing-marked rows); can_change = let a = kept.can_change in omega (arith, length-in_force); can_be_kept = kept.can_be_kept }

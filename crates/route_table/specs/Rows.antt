@@ -49,7 +49,7 @@ with_in_force [] rows = rows
 with_in_force (c ∷ cs) rows = with_in_force cs (put prefix_cmp c.0 (row_in_force c.1) rows)
 
 -- the changed rows are those that differ, and there is room for each row to change
-pub record IsKept (rows : List (Prefix × Row)) (row_capacity : ℕ) (changed : List (Prefix × Entry)) (changed_capacity : ℕ) : Type 0 where
+pub record IsTable (rows : List (Prefix × Row)) (row_capacity : ℕ) (changed : List (Prefix × Entry)) (changed_capacity : ℕ) : Type 0 where
   pub differing : changed ≡ differing_rows rows
   pub can_change : length rows ≤ changed_capacity
   pub can_be_kept : changed_capacity ≤ row_capacity

@@ -65,7 +65,8 @@ impl<X: Copy, A: Allocator> PrefixMap<X, A> {
 
     /// Writes the value of a prefix that is there, or of one for which there is room.
     pub fn put(&mut self, prefix: Prefix, value: X)
-        requires { length (put prefix_cmp prefix value (map_rows self.old)) ≤ map_capacity self.old }
+        requires { length (put prefix_cmp prefix value
+            (map_rows self.old)) ≤ map_capacity self.old }
         ensures rows { map_rows self.new ≡ put prefix_cmp prefix value (map_rows self.old) }
         ensures capacity { map_capacity self.new ≡ map_capacity self.old }
     {

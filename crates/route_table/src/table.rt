@@ -27,13 +27,18 @@ pub struct RouteTable<A: Allocator = Global> {
 impl<A: Allocator> Model for RouteTable<A> {
     ghost use Rattle.std.specs.Prelude.{◌-◌, length};
     ghost use Rattle.route_table.specs.PrefixMap.{map_rows, map_capacity};
-    ghost use Rattle.route_table.specs.Rows.{TableAndRoom, table_of, IsKept};
+    ghost use Rattle.route_table.specs.Rows.{TableAndRoom, table_of, IsTable};
 
     ghost Value = { TableAndRoom };
 
-    ghost view = { λ t. record { table = table_of (map_rows t.rows); room = map_capacity t.changed - length (map_rows t.rows) } };
+    ghost view = { λ t. record {
+      table = table_of
+          (map_rows t.rows);
+      room = map_capacity t.changed - length (map_rows t.rows);
+    } };
 
-    ghost invariant = { λ t. IsKept (map_rows t.rows) (map_capacity t.rows) (map_rows t.changed) (map_capacity t.changed) };
+    ghost invariant = { λ t. IsTable (map_rows t.rows) (map_capacity t.rows) (map_rows t.changed)
+        (map_capacity t.changed) };
 }
 
 impl<A: Allocator + Copy> RouteTable<A> {
@@ -137,11 +142,13 @@ impl<A: Allocator> RouteTable<A> {
 
     /// Sets the control row of the prefix. Only a new prefix can need memory.
     pub fn set(&mut self, prefix: Prefix, entry: Entry) -> Result<(), NoMemory>
-        ensures control { OnOk result ((self.new).table.control ≡ put prefix_cmp prefix entry (self.old).table.control) }
+        ensures control { OnOk result ((self.new).table.control
+            ≡ put prefix_cmp prefix entry (self.old).table.control) }
         ensures published { (self.new).table.published ≡ (self.old).table.published }
         ensures known { IsSome (row_of prefix_cmp prefix (self.old).table.control) → IsOk result }
         ensures fits { 0 < (self.old).room → IsOk result }
-        ensures room_of_known { IsSome (row_of prefix_cmp prefix (self.old).table.control) → (self.old).room ≤ (self.new).room }
+        ensures room_of_known { IsSome (row_of prefix_cmp prefix (self.old).table.control)
+            → (self.old).room ≤ (self.new).room }
         ensures room { (self.old).room ≤ (self.new).room + 1 }
         ensures err { OnErr result (self.new ≡ self.old) }
     {
@@ -158,10 +165,13 @@ impl<A: Allocator> RouteTable<A> {
     // Sets the control row of a prefix that is known or for which there is room.
     fn write(&mut self, prefix: Prefix, entry: Entry, published: Option<Entry>)
         requires in_force { published ≡ row_of prefix_cmp prefix (self.old).table.published }
-        requires fits { IsNone (row_of prefix_cmp prefix (self.old).table.control) → 0 < (self.old).room }
-        ensures control { (self.new).table.control ≡ put prefix_cmp prefix entry (self.old).table.control }
+        requires fits { IsNone (row_of prefix_cmp prefix (self.old).table.control)
+            → 0 < (self.old).room }
+        ensures control { (self.new).table.control
+            ≡ put prefix_cmp prefix entry (self.old).table.control }
         ensures published { (self.new).table.published ≡ (self.old).table.published }
-        ensures room_of_known { IsSome (row_of prefix_cmp prefix (self.old).table.control) → (self.new).room ≡ (self.old).room }
+        ensures room_of_known { IsSome (row_of prefix_cmp prefix (self.old).table.control)
+            → (self.new).room ≡ (self.old).room }
         ensures room { (self.old).room ≤ (self.new).room + 1 }
     {
         let row = Row {
@@ -174,7 +184,8 @@ impl<A: Allocator> RouteTable<A> {
 
     /// Publishes: the published rows become the control rows.
     pub fn mark_published(&mut self)
-        ensures table { (self.new).table ≡ record (self.old).table { published = (self.old).table.control } }
+        ensures table { (self.new).table
+            ≡ record (self.old).table { published = (self.old).table.control } }
         ensures room { (self.new).room ≡ (self.old).room }
     {
         put_in_force(&mut self.rows, self.changed.as_slice());

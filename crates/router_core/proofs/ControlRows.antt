@@ -1,15 +1,7 @@
 -- The control rows that a notice makes: each machine's row set in turn is all of them set at once.
-use Rattle.std.specs.Prelude.{◌≡◌, true, List, [], ◌∷◌, map}
-use Rattle.std.specs.FinMap.{is_sorted}
-use Rattle.std.specs.FinMap.Entries.{below_all}
-use Rattle.std.proofs.Common.{refl, ap, ◌∙◌}
-use Rattle.std.proofs.lemmas.Bool.{and_parts, and_from}
-use Rattle.std.proofs.lemmas.Cmp.{tied_itself}
-use Rattle.ipv4_prefix.specs.Prefix.{Prefix, prefix_cmp}
+use Rattle.std.proofs.Common.{refl, ap, ◌∙◌, ◌≡◌, true, List, [], ◌∷◌, map}
+use Rattle.network_model.proofs.Common.{is_sorted, below_all, and_parts, and_from, tied_itself, Prefix, prefix_cmp, with_rows, prefix_cmp_total, with_rows-past}
 use Rattle.network_model.specs.declared.route.Entry.{Entry}
-use Rattle.network_model.specs.Publication.{with_rows}
-use Rattle.ipv4_prefix.proofs.PrefixOrder.{prefix_cmp_total}
-use Rattle.network_model.proofs.RowLaws.{with_rows-past}
 use Rattle.route_table.proofs.Places.{put_here}
 
 -- a row for each element, in the order of its prefix

@@ -1,23 +1,13 @@
 -- What every router keeps, whatever it takes, publishes or releases.
-use Rattle.std.specs.Prelude.{◌≡◌, ℕ, zero, suc, ◌<◌, ◌≤◌, Bool, true, false, cond, if◌then◌else◌, List, [], ◌∷◌, map, length, get_or, Some, None, unwrap_or}
-use Rattle.std.specs.List.{AllByRecursion}
+use Rattle.std.proofs.Common.{refl, sym, ap, ◌∙◌, arith, ◌≡◌, ℕ, zero, suc, ◌<◌, ◌≤◌, Bool, true, false, cond, if◌then◌else◌, List, [], ◌∷◌, map, length, get_or, Some, None, unwrap_or, eq-eqb}
+use Rattle.network_model.proofs.Common.{AllByRecursion, by_order, eq_by_cmp, Prefix, prefix_cmp, Machine, reaction, opening_machine, Router, machine_of, neighbours, opening_router, chosen_rows, entry_of, session_at, reactions, router_noticing, router_meeting, router_publishing, router_releasing, with_rows, map-put, sorted-map, sorted-put}
 use Rattle.std.specs.FinMap.{find as row_of, put, is_sorted}
-use Rattle.std.specs.FinMap.Entries.{by_order}
 use Rattle.std.specs.declared.cmp.Ordering.{Ordering}
 use Rattle.std.specs.declared.cmp.Ordering.TheVariants.{Less, Equal, Greater}
-use Rattle.std.specs.Ordering.{eq_by_cmp}
-use Rattle.std.proofs.Common.{refl, sym, ap, ◌∙◌, arith}
-use Rattle.std.proofs.lemmas.Bool.{eq-eqb}
-use Rattle.ipv4_prefix.specs.Prefix.{Prefix, prefix_cmp}
 use Rattle.network_model.specs.declared.machine.Event.{Event}
 use Rattle.network_model.specs.declared.network.Port.{Port}
 use Rattle.network_model.specs.declared.route.Entry.TheVariants.{Local, Via}
-use Rattle.network_model.specs.Machine.{Machine, reaction, opening_machine}
-use Rattle.network_model.specs.World.{Router, machine_of, neighbours, opening_router}
-use Rattle.network_model.specs.Step.{chosen_rows, entry_of, session_at, reactions, router_noticing, router_meeting, router_publishing, router_releasing}
-use Rattle.network_model.specs.Publication.{with_rows}
-use Rattle.network_model.proofs.RowLaws.{map-put, sorted-map, sorted-put}
-use Rattle.router_core.specs.Parts.{HasPorts, IsKept, ups, port_ups, ups_after}
+use Rattle.router_core.specs.Parts.{HasPorts, IsRouter, ups, port_ups, ups_after}
 use Rattle.router_core.proofs.Ports.{ups-reaction, ups-neighbours}
 use Rattle.router_core.proofs.ControlRows.{with_rows-rows_by}
 use Rattle.router_core.proofs.Meetings.{reacted, chosen}
@@ -64,14 +54,14 @@ chosen-reacted e ports [] = refl
 chosen-reacted e ports (m ∷ ms) = ap (λ rs. (m.0, entry_of ports (reaction m.1 e).machine) ∷ rs) (chosen-reacted e ports ms)
 
 -- the rows set one after another are the rows that the machines choose now
-pub control-noticing : (e : Event) (ports : List Port) (r : Router) → IsKept r → with_rows (chosen e ports r.machines) (r.table).control ≡ chosen e ports r.machines
+pub control-noticing : (e : Event) (ports : List Port) (r : Router) → IsRouter r → with_rows (chosen e ports r.machines) (r.table).control ≡ chosen e ports r.machines
 control-noticing e ports r kept =
     ap (with_rows (chosen e ports r.machines)) kept.rows
     ∙ ap (λ rs. with_rows rs (chosen_rows r.ports r.machines)) (chosen-reacted e ports r.machines)
     ∙ with_rows-rows_by (λ m. entry_of ports (reaction m.1 e).machine) (λ m. entry_of r.ports m.1) r.machines kept.sorted
     ∙ sym (chosen-reacted e ports r.machines)
 
-pub kept-noticing : (e : Event) (ports : List Port) (r : Router) → IsKept r → length ports ≤ 32 → port_ups ports ≡ ups_after e (port_ups r.ports) → IsKept (router_noticing e ports r)
+pub kept-noticing : (e : Event) (ports : List Port) (r : Router) → IsRouter r → length ports ≤ 32 → port_ups ports ≡ ups_after e (port_ups r.ports) → IsRouter (router_noticing e ports r)
 kept-noticing e ports r kept few moves = record {
   few = few;
   sorted = sorted-reacted e r.machines ∙ kept.sorted;
@@ -81,10 +71,10 @@ kept-noticing e ports r kept few moves = record {
 
 -- ---- an event of one prefix
 
-machine_of-ports : (r : Router) (p : Prefix) → IsKept r → ups (machine_of r p).ports ≡ port_ups r.ports
+machine_of-ports : (r : Router) (p : Prefix) → IsRouter r → ups (machine_of r p).ports ≡ port_ups r.ports
 machine_of-ports r p kept = found_has (HasPorts r.ports) (λ m. ups m.ports ≡ port_ups r.ports) p r.machines (opening_machine None (neighbours r.ports)) (λ m h. h) kept.same_ports (ups-neighbours r.ports)
 
-pub kept-meeting : (p : Prefix) (e : Event) (r : Router) → IsKept r → ups_after e (port_ups r.ports) ≡ port_ups r.ports → IsKept (router_meeting p e r)
+pub kept-meeting : (p : Prefix) (e : Event) (r : Router) → IsRouter r → ups_after e (port_ups r.ports) ≡ port_ups r.ports → IsRouter (router_meeting p e r)
 kept-meeting p e r kept still = record {
   few = kept.few;
   sorted = sorted-put r.machines p _ kept.sorted;
@@ -93,7 +83,7 @@ kept-meeting p e r kept still = record {
 }
 
 -- the rows that it makes: that of its prefix is set
-pub control-meeting : (p : Prefix) (e : Event) (r : Router) → IsKept r → put prefix_cmp p (entry_of r.ports (reaction (machine_of r p) e).machine) (r.table).control ≡ ((router_meeting p e r).table).control
+pub control-meeting : (p : Prefix) (e : Event) (r : Router) → IsRouter r → put prefix_cmp p (entry_of r.ports (reaction (machine_of r p) e).machine) (r.table).control ≡ ((router_meeting p e r).table).control
 control-meeting p e r kept =
     ap (put prefix_cmp p _) kept.rows
     ∙ sym (map-put prefix_cmp (entry_of r.ports) p (reaction (machine_of r p) e).machine r.machines)
@@ -113,7 +103,7 @@ entries-opening ports (a ∷ rest) = λ i. (a.0, local i) ∷ entries-opening po
     local : Local ≡ entry_of ports (opening_machine (Some a.1) (neighbours ports))
     local = sym (ap (λ b. if b then Local else Via (length (neighbours ports)) (session_at ports (length (neighbours ports)))) (eq-eqb (length (neighbours ports)) (length (neighbours ports)) refl))
 
-pub kept-opening : (ports : List Port) (costs : List (Prefix × ℕ)) → length ports ≤ 32 → is_sorted prefix_cmp costs ≡ true → IsKept (opening_router ports costs)
+pub kept-opening : (ports : List Port) (costs : List (Prefix × ℕ)) → length ports ≤ 32 → is_sorted prefix_cmp costs ≡ true → IsRouter (opening_router ports costs)
 kept-opening ports costs few sorted = record {
   few = few;
   sorted = sorted-map prefix_cmp (λ cost. opening_machine (Some cost) (neighbours ports)) costs ∙ sorted;
@@ -123,8 +113,8 @@ kept-opening ports costs few sorted = record {
 
 -- ---- a publication, and a release
 
-pub kept-publishing : (r : Router) → IsKept r → IsKept (router_publishing r)
+pub kept-publishing : (r : Router) → IsRouter r → IsRouter (router_publishing r)
 kept-publishing r kept = record { few = kept.few; sorted = kept.sorted; same_ports = kept.same_ports; rows = kept.rows }
 
-pub kept-releasing : (r : Router) → IsKept r → IsKept (router_releasing r)
+pub kept-releasing : (r : Router) → IsRouter r → IsRouter (router_releasing r)
 kept-releasing r kept = record { few = kept.few; sorted = kept.sorted; same_ports = kept.same_ports; rows = kept.rows }

@@ -1,23 +1,16 @@
 -- What a router's machines do at an event, one after another.
-use Rattle.std.specs.Prelude.{◌≡◌, ℕ, suc, ◌+◌, ◌*◌, ◌<◌, ◌≤◌, Bool, true, false, cond, List, [], ◌∷◌, ◌++◌, map, length, take, drop, get_or, set, Some, is_some, IsSome}
+use Rattle.std.proofs.Common.{refl, sym, ap, ◌∙◌, arith, append_assoc, add-one, ◌≡◌, ℕ, suc, ◌+◌, ◌*◌, ◌<◌, ◌≤◌, Bool, true, false, cond, List, [], ◌∷◌, ◌++◌, map, length, take, drop, get_or, set, Some, is_some, IsSome}
 use Rattle.std.specs.List.{flat_map}
 use Rattle.std.specs.FinMap.{find as row_of, put}
-use Rattle.std.specs.FinMap.Entries.{find-put}
-use Rattle.std.proofs.Common.{refl, sym, ap, ◌∙◌, arith, append_assoc, add-one}
+use Rattle.network_model.proofs.Common.{find-put, map-append, Prefix, prefix_cmp, prefix_eq, Machine, reaction, reactions, held_of, chosen_rows, entry_of, with_rows, prefix_cmp_total}
 use Rattle.std.proofs.Math.Seq.{take-suc-set, drop-cons}
 use Rattle.std.proofs.Math.Nat.{mul-le-mul_right}
-use Rattle.std.proofs.lemmas.List.{map-append}
-use Rattle.ipv4_prefix.specs.Prefix.{Prefix, prefix_cmp, prefix_eq}
 use Rattle.network_model.specs.declared.machine.Event.{Event}
 use Rattle.network_model.specs.declared.item.Held.{Held}
 use Rattle.network_model.specs.declared.network.Port.{Port}
 use Rattle.network_model.specs.declared.route.Entry.{Entry}
-use Rattle.network_model.specs.Machine.{Machine, reaction}
-use Rattle.network_model.specs.Step.{reactions, held_of, chosen_rows, entry_of}
-use Rattle.network_model.specs.Publication.{with_rows}
-use Rattle.dual_machine.specs.State.{State}
+use Rattle.dual_machine.specs.State.{MachineState}
 use Rattle.router_core.specs.Parts.{machines_of}
-use Rattle.ipv4_prefix.proofs.PrefixOrder.{prefix_cmp_total}
 
 -- the machines after the event
 abbrev pub reacted : Event → List (Prefix × Machine) → List (Prefix × Machine)
@@ -57,7 +50,7 @@ one_more_room n i each room below enough =
     omega (arith, up_to, enough)
 
 -- machine number i, which is m, met the event, and is machine y now
-module _ (e : Event) (ports : List Port) (before now : List (Prefix × State)) (i : ℕ) (m : Prefix × State) (y : State)
+module _ (e : Event) (ports : List Port) (before now : List (Prefix × MachineState)) (i : ℕ) (m : Prefix × MachineState) (y : MachineState)
     (below : i < length before) (at : m ≡ get_or before i m) (met : y.machine ≡ (reaction (m.1).machine e).machine) where
   pub left : drop i before ≡ m ∷ drop (i + 1) before
   left = drop-cons before i m below ∙ ap (λ x. x ∷ drop (suc i) before) (sym at) ∙ ap (λ n. m ∷ drop n before) (sym (add-one i))
@@ -66,7 +59,7 @@ module _ (e : Event) (ports : List Port) (before now : List (Prefix × State)) (
       → machines_of (take (i + 1) (set now i (m.0, y))) ++ reacted e (machines_of (drop (i + 1) before)) ≡ reacted e (machines_of before)
   machines-met there so_far =
       ap (λ xs. machines_of xs ++ reacted e (machines_of (drop (i + 1) before))) (ap (λ n. take n (set now i (m.0, y))) (add-one i) ∙ take-suc-set now i (m.0, y) there)
-      ∙ ap (λ xs. xs ++ reacted e (machines_of (drop (i + 1) before))) (map-append (λ (x : Prefix × State). (x.0, (x.1).machine)) (take i now) ((m.0, y) ∷ []))
+      ∙ ap (λ xs. xs ++ reacted e (machines_of (drop (i + 1) before))) (map-append (λ (x : Prefix × MachineState). (x.0, (x.1).machine)) (take i now) ((m.0, y) ∷ []))
       ∙ append_assoc (machines_of (take i now)) ((m.0, y.machine) ∷ []) (reacted e (machines_of (drop (i + 1) before)))
       ∙ ap (λ x. machines_of (take i now) ++ (m.0, x) ∷ reacted e (machines_of (drop (i + 1) before))) met
       ∙ ap (λ xs. machines_of (take i now) ++ reacted e (machines_of xs)) (sym left)

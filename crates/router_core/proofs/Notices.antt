@@ -1,39 +1,28 @@
 -- What a notice and an event of one prefix make of the parts of a router.
-use Rattle.std.specs.Prelude.{◌≡◌, ℕ, zero, suc, ◌+◌, ◌<◌, ◌≤◌, Bool, true, List, [], ◌∷◌, ◌++◌, map, length, take, drop, get_or, set, Some, None, option_map, is_some, IsSome, unwrap_or, count_by}
-use Rattle.std.specs.List.{AllByRecursion}
+use Rattle.std.proofs.Common.{refl, sym, ap, subst, ◌∙◌, arith, ◌≡◌, ℕ, zero, suc, ◌+◌, ◌<◌, ◌≤◌, Bool, true, List, [], ◌∷◌, ◌++◌, map, length, take, drop, get_or, set, Some, None, option_map, is_some, IsSome, unwrap_or, count_by}
+use Rattle.network_model.proofs.Common.{AllByRecursion, tied_itself, count_by-le-length, Prefix, prefix_cmp, Machine, reaction, changed_at, Table, Gate, Router, machine_of, chosen_rows, entry_of, held_of, router_noticing, router_meeting, with_rows, changed_at_written, map-changed_at, changed_at-map, sorted-map, find-map, prefix_cmp_total}
 use Rattle.std.specs.FinMap.{find as row_of, put, is_sorted}
-use Rattle.std.proofs.Common.{refl, sym, ap, subst, ◌∙◌, arith}
-use Rattle.std.proofs.lemmas.Cmp.{tied_itself}
-use Rattle.std.proofs.lemmas.List.Sums.{count_by-le-length}
-use Rattle.ipv4_prefix.specs.Prefix.{Prefix, prefix_cmp}
 use Rattle.network_model.specs.declared.machine.Event.{Event}
 use Rattle.network_model.specs.declared.machine.Neighbour.{Neighbour}
 use Rattle.network_model.specs.declared.network.Port.{Port}
-use Rattle.network_model.specs.Machine.{Machine, reaction, changed_at}
-use Rattle.network_model.specs.World.{Table, Gate, Router, machine_of}
-use Rattle.network_model.specs.Step.{chosen_rows, entry_of, held_of, router_noticing, router_meeting}
-use Rattle.network_model.specs.Publication.{with_rows}
-use Rattle.network_model.proofs.ListLaws.{changed_at_written, map-changed_at, changed_at-map}
-use Rattle.dual_machine.specs.State.{State}
-use Rattle.dual_machine.specs.Event.{IsKnown, IsTimely}
+use Rattle.dual_machine.specs.State.{MachineState}
+use Rattle.dual_machine.specs.Event.{IsKnown, IsTimely, is_neighbour_up}
 use Rattle.dual_machine.specs.Outbox.{most_sent}
-use Rattle.network_model.proofs.RowLaws.{sorted-map, find-map}
 use Rattle.route_table.proofs.Places.{find-at}
-use Rattle.ipv4_prefix.proofs.PrefixOrder.{prefix_cmp_total}
-use Rattle.router_core.specs.Parts.{machines_of, router_of, HasPorts, IsKept, ups, port_ups}
-use Rattle.router_core.specs.Router.{IsTimelyAt}
+use Rattle.router_core.specs.Parts.{machines_of, router_of, HasPorts, IsRouter, ups, port_ups}
+use Rattle.router_core.specs.Router.{is_port_up}
 use Rattle.router_core.proofs.Ports.{length-ups, up_at-ups}
 use Rattle.router_core.proofs.Meetings.{reacted, sent, chosen}
 use Rattle.router_core.proofs.Kept.{control-noticing, control-meeting}
 
 -- ---- the machines of a router may meet the event
 
-pub has_ports_at : (ports : List Port) (ms : List (Prefix × State)) → AllByRecursion (HasPorts ports) (machines_of ms) → (k : ℕ) (d : Prefix × State) → k < length ms → ups ((get_or ms k d).1).machine.ports ≡ port_ups ports
+pub has_ports_at : (ports : List Port) (ms : List (Prefix × MachineState)) → AllByRecursion (HasPorts ports) (machines_of ms) → (k : ℕ) (d : Prefix × MachineState) → k < length ms → ups ((get_or ms k d).1).machine.ports ≡ port_ups ports
 has_ports_at ports [] all k d h = absurd (omega arith)
 has_ports_at ports (m ∷ ms) all zero d h = all.0
 has_ports_at ports (m ∷ ms) all (suc k) d h = has_ports_at ports ms all.1 k d (omega arith)
 
-pub timely_over : (ns : List Neighbour) (ports : List Port) (e : Event) → ups ns ≡ port_ups ports → IsTimelyAt ports e → IsTimely ns e
+pub timely_over : (ns : List Neighbour) (ports : List Port) (e : Event) → ups ns ≡ port_ups ports → IsTimely (is_port_up ports) e → IsTimely (is_neighbour_up ns) e
 timely_over ns ports (Event.Message q kind value) same up = up_at-ups ns ports q same ∙ up
 timely_over ns ports (Event.Up q cost) same down = up_at-ups ns ports q same ∙ down
 timely_over ns ports (Event.Down q) same up = up_at-ups ns ports q same ∙ up
@@ -51,13 +40,13 @@ most_sent_over ns ports same =
     omega (arith, ups_fit, as_many)
 
 -- each machine's prefix has a row
-pub row_there : (ports : List Port) (ms : List (Prefix × State)) → is_sorted prefix_cmp (machines_of ms) ≡ true → (k : ℕ) (d : Prefix × State) → k < length ms
+pub row_there : (ports : List Port) (ms : List (Prefix × MachineState)) → is_sorted prefix_cmp (machines_of ms) ≡ true → (k : ℕ) (d : Prefix × MachineState) → k < length ms
     → IsSome (row_of prefix_cmp (get_or ms k d).0 (chosen_rows ports (machines_of ms)))
 row_there ports ms sorted k d h =
     let in_order : is_sorted prefix_cmp ms ≡ true = sym (sorted-map prefix_cmp (λ s. s.machine) ms) ∙ sorted in
     let there : row_of prefix_cmp (get_or ms k d).0 ms ≡ Some (get_or ms k d).1 = find-at prefix_cmp_total ms k (get_or ms k d).0 d in_order h (tied_itself prefix_cmp_total (get_or ms k d).0) in
     ap is_some (find-map prefix_cmp (entry_of ports) (get_or ms k d).0 (machines_of ms)
-    ∙ ap (option_map (entry_of ports)) (find-map prefix_cmp (λ s. s.machine) (get_or ms k d).0 ms ∙ ap (option_map (λ (s : State). s.machine)) there))
+    ∙ ap (option_map (entry_of ports)) (find-map prefix_cmp (λ s. s.machine) (get_or ms k d).0 ms ∙ ap (option_map (λ (s : MachineState). s.machine)) there))
 
 -- ---- the parts of the router then
 
@@ -69,7 +58,7 @@ refilled {A = A} n new old same is = ap (λ k. take k (new ++ drop (length new) 
     whole [] ys = refl
     whole (x ∷ xs) ys = ap (λ zs. x ∷ zs) (whole xs ys)
 
-pub noticing_parts : (e : Event) (ports : List Port) (r : Router) (machines : List (Prefix × State)) (table : Table) (gate : Gate) → IsKept r
+pub noticing_parts : (e : Event) (ports : List Port) (r : Router) (machines : List (Prefix × MachineState)) (table : Table) (gate : Gate) → IsRouter r
     → machines_of machines ≡ reacted e r.machines
     → table.control ≡ with_rows (chosen_rows ports (machines_of machines)) (r.table).control → table.published ≡ (r.table).published
     → gate.held ≡ (r.gate).held ++ sent e ports r.machines → gate.ripe ≡ (r.gate).ripe
@@ -84,7 +73,7 @@ noticing_parts e ports r machines table gate kept machines_are control published
       generation = r.generation;
     }
 
-pub meeting_parts : (p : Prefix) (e : Event) (r : Router) (machines : List (Prefix × State)) (state : Machine) (table : Table) (gate : Gate) → IsKept r
+pub meeting_parts : (p : Prefix) (e : Event) (r : Router) (machines : List (Prefix × MachineState)) (state : Machine) (table : Table) (gate : Gate) → IsRouter r
     → state ≡ (reaction (machine_of r p) e).machine
     → machines_of machines ≡ put prefix_cmp p state r.machines
     → table.control ≡ put prefix_cmp p (entry_of r.ports state) (r.table).control → table.published ≡ (r.table).published
@@ -114,11 +103,11 @@ noticing_written e f q r was read = ap (λ ports. router_noticing e ports r) (sy
 
 -- ---- the machine of one prefix
 
-pub machine_there : (p : Prefix) (ms : List (Prefix × State)) (s : State) (d : Machine) → row_of prefix_cmp p ms ≡ Some s → unwrap_or (row_of prefix_cmp p (machines_of ms)) d ≡ s.machine
-machine_there p ms s d there = ap (λ o. unwrap_or o d) (find-map prefix_cmp (λ x. x.machine) p ms ∙ ap (option_map (λ (x : State). x.machine)) there)
+pub machine_there : (p : Prefix) (ms : List (Prefix × MachineState)) (s : MachineState) (d : Machine) → row_of prefix_cmp p ms ≡ Some s → unwrap_or (row_of prefix_cmp p (machines_of ms)) d ≡ s.machine
+machine_there p ms s d there = ap (λ o. unwrap_or o d) (find-map prefix_cmp (λ x. x.machine) p ms ∙ ap (option_map (λ (x : MachineState). x.machine)) there)
 
-pub machine_new : (p : Prefix) (ms : List (Prefix × State)) (d : Machine) → row_of prefix_cmp p ms ≡ None → unwrap_or (row_of prefix_cmp p (machines_of ms)) d ≡ d
-machine_new p ms d none = ap (λ o. unwrap_or o d) (find-map prefix_cmp (λ x. x.machine) p ms ∙ ap (option_map (λ (x : State). x.machine)) none)
+pub machine_new : (p : Prefix) (ms : List (Prefix × MachineState)) (d : Machine) → row_of prefix_cmp p ms ≡ None → unwrap_or (row_of prefix_cmp p (machines_of ms)) d ≡ d
+machine_new p ms d none = ap (λ o. unwrap_or o d) (find-map prefix_cmp (λ x. x.machine) p ms ∙ ap (option_map (λ (x : MachineState). x.machine)) none)
 
-pub row_known : (ports : List Port) (p : Prefix) (ms : List (Prefix × State)) (s : State) → row_of prefix_cmp p ms ≡ Some s → IsSome (row_of prefix_cmp p (chosen_rows ports (machines_of ms)))
-row_known ports p ms s there = ap is_some (find-map prefix_cmp (entry_of ports) p (machines_of ms) ∙ ap (option_map (entry_of ports)) (find-map prefix_cmp (λ x. x.machine) p ms ∙ ap (option_map (λ (x : State). x.machine)) there))
+pub row_known : (ports : List Port) (p : Prefix) (ms : List (Prefix × MachineState)) (s : MachineState) → row_of prefix_cmp p ms ≡ Some s → IsSome (row_of prefix_cmp p (chosen_rows ports (machines_of ms)))
+row_known ports p ms s there = ap is_some (find-map prefix_cmp (entry_of ports) p (machines_of ms) ∙ ap (option_map (entry_of ports)) (find-map prefix_cmp (λ x. x.machine) p ms ∙ ap (option_map (λ (x : MachineState). x.machine)) there))

@@ -1,17 +1,11 @@
 -- A router that opens, one of its attachments after another, from the last to the first.
-use Rattle.std.specs.Prelude.{◌≡◌, ℕ, suc, ◌-◌, ◌<◌, ◌≤◌, true, List, [], ◌∷◌, map, drop, length, get_or, Some}
-use Rattle.std.specs.FinMap.{put, is_sorted}
-use Rattle.std.proofs.Common.{refl, sym, ap, ◌∙◌, arith}
+use Rattle.std.proofs.Common.{refl, sym, ap, ◌∙◌, arith, ◌≡◌, ℕ, suc, ◌-◌, ◌<◌, ◌≤◌, true, List, [], ◌∷◌, map, drop, length, get_or, Some}
+use Rattle.network_model.proofs.Common.{put, is_sorted, infinity, Prefix, prefix_cmp, Machine, opening_machine, neighbours, rows_of, map-put, sorted-map}
 use Rattle.std.proofs.Math.Seq.{drop-cons}
-use Rattle.metric.specs.Distance.{infinity}
-use Rattle.ipv4_prefix.specs.Prefix.{Prefix, prefix_cmp}
 use Rattle.network_model.specs.declared.network.Port.{Port}
 use Rattle.network_model.specs.declared.route.Entry.{Entry}
 use Rattle.network_model.specs.declared.route.Entry.TheVariants.{Local}
-use Rattle.network_model.specs.Machine.{Machine, opening_machine}
-use Rattle.network_model.specs.World.{neighbours, rows_of}
-use Rattle.dual_machine.specs.State.{State, opening_neighbours}
-use Rattle.network_model.proofs.RowLaws.{map-put, sorted-map}
+use Rattle.dual_machine.specs.State.{MachineState, opening_neighbours}
 use Rattle.router_core.specs.Parts.{machines_of}
 
 -- the ports as machines meet them first
@@ -40,8 +34,8 @@ pub local_rows-put : (p : Prefix) (cost : ℕ) (costs : List (Prefix × ℕ)) �
 local_rows-put p cost costs = map-put prefix_cmp (λ (x : ℕ). Local) p cost costs
 
 -- machines that are those of these prefixes are in order
-pub sorted-machines : (ms : List (Prefix × State)) (rows : List (Prefix × Machine)) → machines_of ms ≡ rows → is_sorted prefix_cmp rows ≡ true → is_sorted prefix_cmp ms ≡ true
+pub sorted-machines : (ms : List (Prefix × MachineState)) (rows : List (Prefix × Machine)) → machines_of ms ≡ rows → is_sorted prefix_cmp rows ≡ true → is_sorted prefix_cmp ms ≡ true
 sorted-machines ms rows same sorted = sym (sorted-map prefix_cmp (λ s. s.machine) ms) ∙ ap (is_sorted prefix_cmp) same ∙ sorted
 
-pub machines_of-put : (p : Prefix) (s : State) (ms : List (Prefix × State)) → machines_of (put prefix_cmp p s ms) ≡ put prefix_cmp p s.machine (machines_of ms)
+pub machines_of-put : (p : Prefix) (s : MachineState) (ms : List (Prefix × MachineState)) → machines_of (put prefix_cmp p s ms) ≡ put prefix_cmp p s.machine (machines_of ms)
 machines_of-put p s ms = map-put prefix_cmp (λ x. x.machine) p s ms

@@ -1,18 +1,11 @@
 -- The machines of a router have its ports, up and down as the notices said.
-use Rattle.std.specs.Prelude.{◌≡◌, ℕ, Bool, true, false, List, [], ◌∷◌, length, Option, Some, None, slice_get, option_map}
-use Rattle.std.specs.Option.{option_map_or}
-use Rattle.std.proofs.Common.{refl, sym, ap, ◌∙◌}
-use Rattle.std.proofs.lemmas.List.{length-map}
-use Rattle.std.proofs.lemmas.Option.{slice_get-map}
+use Rattle.std.proofs.Common.{refl, sym, ap, ◌∙◌, ◌≡◌, ℕ, Bool, true, false, List, [], ◌∷◌, length, Option, Some, None, slice_get, option_map}
+use Rattle.network_model.proofs.Common.{option_map_or, length-map, slice_get-map, Machine, changed_at, records_after, reaction, neighbours, map-changed_at, changed_at-map, reaction-keeps}
 use Rattle.network_model.specs.declared.machine.Event.{Event}
 use Rattle.network_model.specs.declared.machine.Event.TheVariants.{Message, Up, Down, Cost, Attached, Detached}
 use Rattle.network_model.specs.declared.machine.Neighbour.{Neighbour}
 use Rattle.network_model.specs.declared.network.Port.{Port}
-use Rattle.network_model.specs.Machine.{Machine, changed_at, records_after, reaction}
-use Rattle.network_model.specs.World.{neighbours}
 use Rattle.router_core.specs.Parts.{ups, port_ups, ups_after}
-use Rattle.network_model.proofs.ListLaws.{map-changed_at, changed_at-map}
-use Rattle.network_model.proofs.RecordsLaws.{reaction-keeps}
 
 pub ups-records_after : (e : Event) (ns : List Neighbour) → ups (records_after e ns) ≡ ups_after e (ups ns)
 ups-records_after (Message q kind value) ns = map-changed_at _ (λ n. n.up) q ns (λ n _. refl)

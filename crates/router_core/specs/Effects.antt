@@ -11,6 +11,6 @@ pub record HasRoomFor {A : Type 0} (n : ℕ) (p : Prefix) (e : Effects A) : Type
   pub table : (is_some (row_of prefix_cmp p (e.table).table.control) || nat_lt 0 (e.table).room) ≡ true
 
 -- a reaction that sends at most n messages takes no more room than that
-pub record KeepsRoom {A : Type 0} (n : ℕ) (before after : Effects A) : Type 0 where
+pub record KeepsEffectsRoom {A : Type 0} (n : ℕ) (before after : Effects A) : Type 0 where
   pub sends : (before.sends).capacity ≤ (after.sends).capacity
   pub gate : (before.gate).room ≤ (after.gate).room + n

@@ -10,10 +10,11 @@ use Rattle.network_model.specs.declared.machine.Event.TheVariants.{Message, Up, 
 use Rattle.network_model.specs.Machine.{Machine, changed_at}
 use Rattle.network_model.specs.World.{Table, Gate, Router}
 use Rattle.network_model.specs.Step.{chosen_rows}
-use Rattle.dual_machine.specs.State.{State}
+use Rattle.network_model.specs.Network.{most_ports}
+use Rattle.dual_machine.specs.State.{MachineState}
 
 -- the machines without their origin states
-abbrev pub machines_of : List (Prefix × State) → List (Prefix × Machine)
+abbrev pub machines_of : List (Prefix × MachineState) → List (Prefix × Machine)
 machines_of ms = map (λ m. (m.0, (m.1).machine)) ms
 
 -- whether each neighbour, or each port, is up
@@ -28,14 +29,14 @@ abbrev pub HasPorts : List Port → Prefix × Machine → Type 0
 HasPorts ports m = ups (m.1).ports ≡ port_ups ports
 
 -- what every router keeps: at most 32 ports, machines in the order of their prefixes, each over the router's ports, and the control rows that they choose
-pub record IsKept (r : Router) : Type 0 where
-  pub few : length r.ports ≤ 32
+pub record IsRouter (r : Router) : Type 0 where
+  pub few : length r.ports ≤ most_ports
   pub sorted : is_sorted prefix_cmp r.machines ≡ true
   pub same_ports : AllByRecursion (HasPorts r.ports) r.machines
   pub rows : (r.table).control ≡ chosen_rows r.ports r.machines
 
 -- a router of its parts
-abbrev pub router_of : List Port → List (Prefix × State) → Table → Gate → ℕ → Router
+abbrev pub router_of : List Port → List (Prefix × MachineState) → Table → Gate → ℕ → Router
 router_of ports machines table gate generation = record { ports = ports; machines = machines_of machines; table = table; gate = gate; generation = generation }
 
 -- what an event makes of whether each port is up

@@ -2,7 +2,6 @@
 use Rattle.std.specs.Prelude.{◌≡◌, ℕ, Bool, true, false, List, slice_get}
 use Rattle.std.specs.Option.{option_map_or}
 use Rattle.network_model.specs.declared.item.Item.{Item}
-use Rattle.network_model.specs.declared.machine.Event.{Event}
 use Rattle.network_model.specs.declared.network.Port.{Port}
 
 -- whether the router's port is up
@@ -15,12 +14,3 @@ CanTake ports q (Item.Up session cost) = is_port_up ports q ≡ false
 CanTake ports q (Item.Down session) = is_port_up ports q ≡ true
 CanTake ports q (Item.Cost session cost) = is_port_up ports q ≡ true
 CanTake ports q (Item.Message message) = is_port_up ports q ≡ true
-
--- a router's port is as the event asks: down where its link comes up, else up. An event of the attachment asks for nothing
-abbrev pub IsTimelyAt : List Port → Event → Type 0
-IsTimelyAt ports (Event.Message q kind value) = is_port_up ports q ≡ true
-IsTimelyAt ports (Event.Up q cost) = is_port_up ports q ≡ false
-IsTimelyAt ports (Event.Down q) = is_port_up ports q ≡ true
-IsTimelyAt ports (Event.Cost q cost) = is_port_up ports q ≡ true
-IsTimelyAt ports (Event.Attached cost) = Unit {0}
-IsTimelyAt ports Event.Detached = Unit {0}

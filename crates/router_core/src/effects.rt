@@ -4,12 +4,12 @@ ghost use Rattle.std.specs.Prelude.{◌^◌, ◌≡◌, ◌≤◌, ◌<◌, ◌+
 ghost use Rattle.std.specs.List.{flat_map};
 ghost use Rattle.std.specs.FinMap.{find as row_of, put};
 ghost use Rattle.ipv4_prefix.specs.Prefix.{prefix_cmp};
-ghost use Rattle.network_model.specs.Machine.{reaction, degree};
+ghost use Rattle.network_model.specs.Machine.{reaction, port_count};
 ghost use Rattle.network_model.specs.Step as step;
-ghost use Rattle.dual_machine.specs.Event.{IsKnown, IsTimely};
+ghost use Rattle.dual_machine.specs.Event.{IsKnown, IsTimely, is_neighbour_up};
 ghost use Rattle.dual_machine.specs.Outbox.{most_sent};
 ghost use Rattle.network_model.specs.Publication.{with_rows};
-ghost use Rattle.router_core.specs.Effects.{HasRoomFor, KeepsRoom};
+ghost use Rattle.router_core.specs.Effects.{HasRoomFor, KeepsEffectsRoom};
 ghost use Rattle.router_core.specs.Parts.{machines_of};
 
 use dual_machine::{Machine, Sends};
@@ -73,7 +73,8 @@ fn held_of(ports: &[Port], prefix: Prefix, sent: &Outgoing) -> Held
 // Holds what a machine sent, in order.
 fn hold_all<A: Allocator>(gate: &mut Gate<A>, ports: &[Port], prefix: Prefix, sent: &[Outgoing])
     requires { length sent.now ≤ gate.old.room }
-    ensures held { gate.new.gate.held ≡ gate.old.gate.held ++ map (step.held_of ports.now prefix) sent.now }
+    ensures held { gate.new.gate.held ≡ gate.old.gate.held
+        ++ map (step.held_of ports.now prefix) sent.now }
     ensures ripe { gate.new.gate.ripe ≡ gate.old.gate.ripe }
     ensures room { gate.old.room ≤ gate.new.room + length sent.now }
 {
@@ -90,7 +91,8 @@ impl<A: SmallAllocator> Effects<A> {
         ensures sends { OnOk result (each ≤ self.new.sends.capacity) }
         ensures room { OnOk result (all ≤ self.new.gate.room) }
         ensures fits { OnOk result (self.new.gate.room < 2 ^ 63) }
-        ensures full { OnErr result ((self.old.sends.capacity < each) ⊎ (self.old.gate.room < all)) }
+        ensures full { OnErr result ((self.old.sends.capacity < each)
+            ⊎ (self.old.gate.room < all)) }
     {
         self.sends.clear();
         self.sends.reserve(each)?;
@@ -99,15 +101,17 @@ impl<A: SmallAllocator> Effects<A> {
 
     /// A machine meets an event: its row is set, and what it sends is held.
     pub fn meet(&mut self, machine: &mut Machine<A>, event: &Event, prefix: Prefix, ports: &[Port])
-        requires known { IsKnown (degree machine.old.machine) event.now }
-        requires timely { IsTimely machine.old.machine.ports event.now }
+        requires known { IsKnown (port_count machine.old.machine) event.now }
+        requires timely { IsTimely (is_neighbour_up machine.old.machine.ports) event.now }
         requires room { HasRoomFor (most_sent machine.old.machine.ports) prefix self.old }
         ensures machine { machine.new.machine ≡ (reaction machine.old.machine event.now).machine }
-        ensures control { self.new.table.table.control ≡ put prefix_cmp prefix (step.entry_of ports.now machine.new.machine) self.old.table.table.control }
+        ensures control { self.new.table.table.control ≡ put prefix_cmp prefix
+            (step.entry_of ports.now machine.new.machine) self.old.table.table.control }
         ensures published { self.new.table.table.published ≡ self.old.table.table.published }
-        ensures held { self.new.gate.gate.held ≡ self.old.gate.gate.held ++ map (step.held_of ports.now prefix) (reaction machine.old.machine event.now).sends }
+        ensures held { self.new.gate.gate.held ≡ self.old.gate.gate.held
+            ++ map (step.held_of ports.now prefix) (reaction machine.old.machine event.now).sends }
         ensures ripe { self.new.gate.gate.ripe ≡ self.old.gate.gate.ripe }
-        ensures room { KeepsRoom (most_sent machine.old.machine.ports) self.old self.new }
+        ensures room { KeepsEffectsRoom (most_sent machine.old.machine.ports) self.old self.new }
     {
         self.sends.clear();
         machine.event(*event, &mut self.sends).unwrap();
@@ -124,16 +128,21 @@ pub fn meet_all<A: SmallAllocator>(
     effects: &mut Effects<A>,
     each: usize,
 )
-    requires known { All (λ m. IsKnown (degree (m.1).machine) event.now) machines.old }
-    requires timely { All (λ m. IsTimely ((m.1).machine).ports event.now) machines.old }
+    requires known { All (λ m. IsKnown (port_count (m.1).machine) event.now) machines.old }
+    requires timely { All (λ m. IsTimely (is_neighbour_up ((m.1).machine).ports) event.now) machines.old }
     requires each { All (λ m. most_sent ((m.1).machine).ports ≤ each) machines.old }
     requires sends { each ≤ effects.old.sends.capacity }
     requires gate { length machines.old * each ≤ effects.old.gate.room }
-    requires rows { All (λ m. IsSome (row_of prefix_cmp m.0 effects.old.table.table.control)) machines.old }
-    ensures machines { machines_of machines.new ≡ map (λ x. (x.0, (x.1).machine)) (step.reactions event.now (machines_of machines.old)) }
-    ensures control { effects.new.table.table.control ≡ with_rows (step.chosen_rows ports.now (machines_of machines.new)) effects.old.table.table.control }
+    requires rows { All (λ m. IsSome
+        (row_of prefix_cmp m.0 effects.old.table.table.control)) machines.old }
+    ensures machines { machines_of machines.new
+        ≡ map (λ x. (x.0, (x.1).machine)) (step.reactions event.now (machines_of machines.old)) }
+    ensures control { effects.new.table.table.control ≡ with_rows
+        (step.chosen_rows ports.now (machines_of machines.new)) effects.old.table.table.control }
     ensures published { effects.new.table.table.published ≡ effects.old.table.table.published }
-    ensures held { effects.new.gate.gate.held ≡ effects.old.gate.gate.held ++ flat_map (λ x. map (step.held_of ports.now x.0) (x.1).sends) (step.reactions event.now (machines_of machines.old)) }
+    ensures held { effects.new.gate.gate.held ≡ effects.old.gate.gate.held
+        ++ flat_map (λ x. map (step.held_of ports.now x.0) (x.1).sends)
+        (step.reactions event.now (machines_of machines.old)) }
     ensures ripe { effects.new.gate.gate.ripe ≡ effects.old.gate.gate.ripe }
 {
     for row in machines.iter_mut() {

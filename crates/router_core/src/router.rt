@@ -9,10 +9,11 @@ ghost use Rattle.network_model.specs.Machine.{opening_machine};
 ghost use Rattle.network_model.specs.Publication.{with_rows};
 ghost use Rattle.network_model.specs.World as world;
 ghost use Rattle.network_model.specs.Step as step;
-ghost use Rattle.dual_machine.specs.Event.{port_of, IsKnown};
+ghost use Rattle.network_model.specs.Network.{most_ports};
+ghost use Rattle.dual_machine.specs.Event.{port_of, IsKnown, IsTimely};
 ghost use Rattle.route_table.specs.Place.{IsPlace};
-ghost use Rattle.router_core.specs.Parts.{ups_after, port_ups, IsKept};
-ghost use Rattle.router_core.specs.Router.{CanTake, IsTimelyAt};
+ghost use Rattle.router_core.specs.Parts.{ups_after, port_ups, IsRouter};
+ghost use Rattle.router_core.specs.Router.{CanTake, is_port_up};
 
 use crate::effects::{Effects, meet_all};
 use dual_machine::{Machine, Sends};
@@ -37,18 +38,20 @@ pub struct Router<A: SmallAllocator = Global> {
 
 impl<A: SmallAllocator> Model for Router<A> {
     ghost use Rattle.network_model.specs.World.{Router as WorldRouter};
-    ghost use Rattle.router_core.specs.Parts.{router_of, IsKept};
+    ghost use Rattle.router_core.specs.Parts.{router_of, IsRouter};
 
     ghost Value = { WorldRouter };
 
     ghost view = { λ r. router_of r.ports.items r.machines.items r.effects.table.table r.effects.gate.gate r.generation };
 
-    ghost invariant = { λ r. IsKept (router_of r.ports.items r.machines.items r.effects.table.table r.effects.gate.gate r.generation) };
+    ghost invariant = { λ r. IsRouter
+        (router_of r.ports.items r.machines.items r.effects.table.table r.effects.gate.gate r.generation) };
 }
 
 // The ports as a machine meets them first.
 fn port_infos<A: Allocator>(alloc: A, ports: &[Port]) -> Result<Vec<PortInfo, A>, AllocError>
-    ensures { IfOk result (λ v. v.items ≡ map (λ p. record { up = p.up; cost = p.cost }) ports.now) }
+    ensures { IfOk result (λ v. v.items
+        ≡ map (λ p. record { up = p.up; cost = p.cost }) ports.now) }
 {
     ports
         .iter()
@@ -83,7 +86,8 @@ fn put_machine<A: SmallAllocator>(
     machine: Machine<A>,
 ) -> Result<(), AllocError>
     requires { is_sorted prefix_cmp machines.old.items ≡ true }
-    ensures ok { OnOk result (machines.new.items ≡ put prefix_cmp prefix machine machines.old.items) }
+    ensures ok { OnOk result (machines.new.items
+        ≡ put prefix_cmp prefix machine machines.old.items) }
     ensures err { OnErr result (machines.new.items ≡ machines.old.items) }
 {
     match place_of(machines, prefix) {
@@ -101,8 +105,9 @@ impl<A: SmallAllocator> Router<A> {
         ports: Vec<Port, A>,
         attachments: &[(Prefix, Cost)],
     ) -> Result<Router<A>, NoMemory>
-        requires { length ports.items ≤ 32 }
-        ensures { IfOk result (λ r. r ≡ world.opening_router ports.items (world.rows_of attachments.now)) }
+        requires { length ports.items ≤ most_ports }
+        ensures { IfOk result (λ r. r ≡ world.opening_router ports.items
+            (world.rows_of attachments.now)) }
     {
         let infos = port_infos(alloc, &ports)?;
         let mut machines = Vec::new(alloc);
@@ -129,7 +134,7 @@ impl<A: SmallAllocator> Router<A> {
     /// How many ports the router has, at most 32.
     pub fn port_count(&self) -> usize
         ensures count { result ≡ length (self.now).ports }
-        ensures few { result ≤ 32 }
+        ensures few { result ≤ most_ports }
     {
         self.ports.len()
     }
@@ -181,7 +186,8 @@ impl<A: SmallAllocator> Router<A> {
     /// published rows, they make them the chosen ones.
     pub fn patch_rows(&self, alloc: A) -> Result<Vec<(Prefix, Entry), A>, NoMemory>
         ensures rows { IfOk result (λ rows. rows.items ≡ step.changed_rows (self.now).table) }
-        ensures patch { IfOk result (λ rows. with_rows rows.items (self.now).table.published ≡ (self.now).table.control) }
+        ensures patch { IfOk result (λ rows. with_rows rows.items (self.now).table.published
+            ≡ (self.now).table.control) }
 
         // Where no row has changed it takes no memory.
         ensures full { OnErr result (0 < length (step.changed_rows (self.now).table)) }
@@ -222,7 +228,8 @@ impl<A: SmallAllocator> Router<A> {
 
     /// The machine of the prefix, where the router has heard of it.
     pub fn machine(&self, prefix: Prefix) -> Option<&Machine<A>>
-        ensures { option_map (λ m. m.machine) (option_copied result) ≡ row_of prefix_cmp prefix (self.now).machines }
+        ensures { option_map (λ m. m.machine) (option_copied result)
+            ≡ row_of prefix_cmp prefix (self.now).machines }
     {
         match place_of(&self.machines, prefix) {
             Ok(place) => Some(&self.machines[place].1),
@@ -233,7 +240,8 @@ impl<A: SmallAllocator> Router<A> {
     /// Whether the router may take the item from this port: the port is known, and the item is the
     /// notice that its link came up where the port is down, and any other where it is up.
     pub fn can_take(&self, port: u8, item: &Item) -> bool
-        ensures { IsTrue result ↔ ((port < length (self.now).ports) × CanTake (self.now).ports port item.now) }
+        ensures { IsTrue result ↔ ((port < length (self.now).ports)
+            × CanTake (self.now).ports port item.now) }
     {
         match self.ports.get(usize::from(port)) {
             Some(found) => found.up != matches!(item, Item::Up { .. }),
@@ -283,7 +291,8 @@ impl<A: SmallAllocator> Router<A> {
     /// name that prefix, whatever it says. All growth is made first: refused, the router stays as it
     /// was.
     pub fn notice(&mut self, prefix: Prefix, cost: Option<Cost>) -> Result<(), NoMemory>
-        ensures ok { OnOk result (self.new ≡ step.router_at_home (record { prefix = prefix; cost = cost }) self.old) }
+        ensures ok { OnOk result (self.new
+            ≡ step.router_at_home (record { prefix = prefix; cost = cost }) self.old) }
         ensures err { OnErr result (self.new ≡ self.old) }
     {
         let event = match cost {
@@ -297,9 +306,11 @@ impl<A: SmallAllocator> Router<A> {
     fn take_notice(&mut self, port: u8, changed: Port, event: &Event) -> Result<(), NoMemory>
         requires known { port < length (self.old).ports }
         requires at_port { port_of event.now ≡ Some port }
-        requires timely { IsTimelyAt (self.old).ports event.now }
-        requires moves { port_ups (slice_set (self.old).ports port changed) ≡ ups_after event.now (port_ups (self.old).ports) }
-        ensures ok { OnOk result (self.new ≡ step.router_noticing event.now (slice_set (self.old).ports port changed) self.old) }
+        requires timely { IsTimely (is_port_up (self.old).ports) event.now }
+        requires moves { port_ups (slice_set (self.old).ports port changed)
+            ≡ ups_after event.now (port_ups (self.old).ports) }
+        ensures ok { OnOk result (self.new
+            ≡ step.router_noticing event.now (slice_set (self.old).ports port changed) self.old) }
         ensures err { OnErr result (self.new ≡ self.old) }
     {
         // A machine sends at most one message more than it has ports.
@@ -321,8 +332,9 @@ impl<A: SmallAllocator> Router<A> {
     // opened where the router has not heard of the prefix.
     fn tell(&mut self, prefix: Prefix, event: &Event) -> Result<(), NoMemory>
         requires known { IsKnown (length (self.old).ports) event.now }
-        requires timely { IsTimelyAt (self.old).ports event.now }
-        requires still { ups_after event.now (port_ups (self.old).ports) ≡ port_ups (self.old).ports }
+        requires timely { IsTimely (is_port_up (self.old).ports) event.now }
+        requires still { ups_after event.now (port_ups (self.old).ports)
+            ≡ port_ups (self.old).ports }
         ensures ok { OnOk result (self.new ≡ step.router_meeting prefix event.now self.old) }
         ensures err { OnErr result (self.new ≡ self.old) }
     {
@@ -334,7 +346,7 @@ impl<A: SmallAllocator> Router<A> {
                 self.effects.meet(&mut row.1, event, prefix, &self.ports);
             }
             Err(place) => {
-                let mut machine = self.opened()?;
+                let mut machine = self.open_machine()?;
                 self.machines.reserve(1)?;
                 self.effects.table.reserve(1)?;
                 self.effects.reserve(each, each)?;
@@ -347,8 +359,9 @@ impl<A: SmallAllocator> Router<A> {
 
     // A machine over the router's ports that has heard nothing, of a prefix to which the router is not
     // attached.
-    fn opened(&self) -> Result<Machine<A>, NoMemory>
-        ensures { IfOk result (λ m. m.machine ≡ opening_machine None (world.neighbours (self.now).ports)) }
+    fn open_machine(&self) -> Result<Machine<A>, NoMemory>
+        ensures { IfOk result (λ m. m.machine
+            ≡ opening_machine None (world.neighbours (self.now).ports)) }
     {
         let alloc = *self.machines.allocator();
         let infos = port_infos(alloc, &self.ports)?;

@@ -1,8 +1,8 @@
 -- What a document's table says of the four lists.
-use Rattle.std.proofs.Common.{◌≡◌, List, Option, Some, None, option_and_then, refl, sym, ap, ◌∙◌, codes}
-use Rattle.std.proofs.lemmas.Bool.{ne_eqb}
+use Rattle.std.proofs.Common.{◌≡◌, List, Option, Some, None, option_and_then, refl, sym, ap, ◌∙◌, codes, ne_eqb}
 use Rattle.toml.specs.Data.{Data, string, integer, float, boolean, datetime, array, table, as_array, Items, Members, get_member}
-use Rattle.scenario.specs.Scenario.{Text, texts_of, array_texts, texts_at, key_count, lists_in}
+use Rattle.texts.specs.Words.{Text}
+use Rattle.scenario.specs.Scenario.{texts_of, array_texts, texts_at, key_count, lists_in}
 
 of_array : (d : Data) (ds : Items) → Some ds ≡ as_array d → array_texts d ≡ texts_of ds
 of_array (string t) ds e = cc

@@ -4,7 +4,8 @@ use Rattle.toml.specs.Data.{Data, string, integer, float, boolean, datetime, arr
 use Rattle.toml.specs.View.{view, items_view, members_view}
 use Rattle.toml.proofs.Views.{items_view-drop, Entry}
 use Rattle.toml.specs.declared.value.Value.{Value}
-use Rattle.scenario.specs.Scenario.{Text, texts_of, text_before, key_count}
+use Rattle.texts.specs.Words.{Text}
+use Rattle.scenario.specs.Scenario.{texts_of, text_before, key_count}
 
 -- the texts so far, before the texts of the rest
 abbrev pub after : List Text → Option (List Text) → Option (List Text)

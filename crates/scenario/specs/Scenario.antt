@@ -1,17 +1,8 @@
 -- What a document says as a scenario.
 use Rattle.std.specs.Prelude.{◌≡◌, ℕ, ◌+◌, ◌==◌, if◌then◌else◌, List, [], ◌∷◌, Option, Some, None, codes, option_map, option_and_then}
 use Rattle.toml.specs.Data.{Data, string, array, Items, no_items, item, Members, no_members, member, get_member}
-
--- a text as its bytes
-abbrev pub Text : Type 0
-Text = List ℕ
-
--- the lists of a scenario's lines
-pub record Lists : Type 0 where
-  pub routers : List Text
-  pub links : List Text
-  pub prefixes : List Text
-  pub script : List Text
+use Rattle.texts.specs.Words.{Text}
+use Rattle.texts.specs.Lists.{Lists}
 
 -- a string's text, put before other texts
 abbrev pub text_before : Data → Option (List Text) → Option (List Text)

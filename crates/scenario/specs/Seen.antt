@@ -1,7 +1,6 @@
--- The lists that lines stand for.
-use Rattle.std.specs.Prelude.{map, string_bytes}
-use Rattle.scenario.specs.Scenario.{Lists}
+-- The lists that the lines of a scenario are.
+use Rattle.texts.specs.Lists.{Lists, lists_of}
 use Rattle.scenario.specs.declared.lines.Lines.{Lines}
 
-abbrev pub lists_of : Lines → Lists
-lists_of l = record { routers = map string_bytes l.routers.items; links = map string_bytes l.links.items; prefixes = map string_bytes l.prefixes.items; script = map string_bytes l.script.items }
+abbrev pub lists_in_lines : Lines → Lists
+lists_in_lines l = lists_of l.routers.items l.links.items l.prefixes.items l.script.items

@@ -4,7 +4,7 @@ ghost use Rattle.std.specs.Prelude.{◌≡◌, ◌≢◌, IfOk, Some, None, map,
 ghost use Rattle.toml.specs.Parse.{parse_document};
 ghost use Rattle.toml.specs.View.{table_view, items_view};
 ghost use Rattle.scenario.specs.Scenario.{lists_in, texts_of, texts_at, HasNoLists};
-ghost use Rattle.scenario.specs.Seen.{lists_of};
+ghost use Rattle.scenario.specs.Seen.{lists_in_lines};
 
 use crate::fault::Fault;
 use std::alloc::Global;
@@ -26,7 +26,8 @@ pub struct Lines {
 /// The lines of a scenario's text. A text that is no TOML document is a `BadToml`, a document with
 /// other keys or values a `BadKey`.
 pub fn read_scenario(alloc: Global, text: &str) -> Result<Lines, Fault>
-    ensures ok { IfOk result (λ lines. option_and_then lists_in (parse_document text.now) ≡ Some (lists_of lines)) }
+    ensures ok { IfOk result (λ lines. option_and_then lists_in (parse_document text.now)
+        ≡ Some (lists_in_lines lines)) }
     ensures bad_key { result ≡ Err Fault.BadKey → HasNoLists (parse_document text.now) }
     ensures bad_toml { result ≡ Err Fault.BadToml → parse_document text.now ≡ None }
 {
@@ -57,7 +58,8 @@ pub fn read_scenario(alloc: Global, text: &str) -> Result<Lines, Fault>
 
 // The strings of the array at a key.
 fn lines_at(alloc: Global, table: &Table, key: &str) -> Result<Vec<String>, Fault>
-    ensures ok { IfOk result (λ v. texts_at key.now (table_view table.now) ≡ Some (map string_bytes v.items)) }
+    ensures ok { IfOk result (λ v. texts_at key.now (table_view table.now)
+        ≡ Some (map string_bytes v.items)) }
     ensures bad_key { result ≡ Err Fault.BadKey → texts_at key.now (table_view table.now) ≡ None }
     ensures no_toml { result ≢ Err Fault.BadToml }
 {
@@ -72,7 +74,8 @@ fn lines_at(alloc: Global, table: &Table, key: &str) -> Result<Vec<String>, Faul
 
 // The strings of an array, in order.
 fn strings(alloc: Global, values: &[Value]) -> Result<Vec<String>, Fault>
-    ensures ok { IfOk result (λ v. texts_of (items_view values.now) ≡ Some (map string_bytes v.items)) }
+    ensures ok { IfOk result (λ v. texts_of (items_view values.now)
+        ≡ Some (map string_bytes v.items)) }
     ensures bad_key { result ≡ Err Fault.BadKey → texts_of (items_view values.now) ≡ None }
     ensures no_toml { result ≢ Err Fault.BadToml }
 {

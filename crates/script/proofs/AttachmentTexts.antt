@@ -1,20 +1,10 @@
 -- The words of a prefix's line, and the prefixes of a network.
 use Rattle.std.proofs.Common.{◌≡◌, ◌≢◌, ℕ, ◌^◌, ◌<◌, true, false, List, [], Some, Contains, Result, Ok, Err, refl, sym, ap, subst, ◌∙◌}
-use Rattle.std.specs.List.{list_any}
-use Rattle.std.proofs.lemmas.Bool.{false≢true}
-use Rattle.std.proofs.lemmas.List.Folds.{Any-from_list_any, list_any_at}
-use Rattle.ipv4_prefix.specs.Prefix.{Prefix, prefix_eq}
-use Rattle.ipv4_prefix.specs.Faults.{SpellsPrefix, IsFirstFault}
-use Rattle.ipv4_prefix.specs.declared.fault.PrefixFault.{PrefixFault}
-use Rattle.ipv4_prefix.proofs.PrefixOrder.{prefix_eq-Decides}
-use Rattle.script.specs.Words.{Text}
-use Rattle.script.specs.Routers.{number_of}
-use Rattle.script.specs.Attachments.{AreWords, AttachmentLine}
-use Rattle.script.specs.Commands.{IsKnown}
+use Rattle.script.proofs.Common.{list_any, false≢true, Any-from_list_any, list_any_at, Prefix, prefix_eq, SpellsPrefix, IsFirstFault, PrefixFault, prefix_eq-Decides, Text, router_number, AreWords, AttachmentLine, IsKnownPrefix}
 use Rattle.script.proofs.StepTexts.{IsStrange}
 
 -- a line whose prefix is not empty and whose router is known
-abbrev pub attachment_line : (names : List Text) (line prefix name : Text) (cost router : ℕ) → AreWords line prefix name cost → prefix ≢ [] → number_of names name ≡ Some router → cost < 2 ^ 32 → AttachmentLine names line
+abbrev pub attachment_line : (names : List Text) (line prefix name : Text) (cost router : ℕ) → AreWords line prefix name cost → prefix ≢ [] → router_number names name ≡ Some router → cost < 2 ^ 32 → AttachmentLine names line
 attachment_line names line prefix name cost router words has_prefix known small = record {
   prefix = prefix;
   name = name;
@@ -29,13 +19,13 @@ attachment_line names line prefix name cost router words has_prefix known small 
 -- ---- prefixes of the network
 
 module _ (attachments : List (Prefix × ℕ × ℕ)) (prefix : Prefix) where
-  pub known_by_test : list_any (λ a. prefix_eq a.0 prefix) attachments ≡ true → IsKnown attachments prefix
+  pub known_by_test : list_any (λ a. prefix_eq a.0 prefix) attachments ≡ true → IsKnownPrefix attachments prefix
   known_by_test passes =
       let at = Any-from_list_any (λ a. prefix_eq a.0 prefix) attachments passes in
       let same = (prefix_eq-Decides at.1.0 prefix).0 at.4 in
       (at.1.1, at.1.2, subst (Contains attachments) (λ i. (same i, at.1.1, at.1.2)) (at.0, at.2, at.3))
 
-  pub test_of_known : IsKnown attachments prefix → list_any (λ a. prefix_eq a.0 prefix) attachments ≡ true
+  pub test_of_known : IsKnownPrefix attachments prefix → list_any (λ a. prefix_eq a.0 prefix) attachments ≡ true
   test_of_known (router, cost, (k, within, is)) =
       list_any_at (λ a. prefix_eq a.0 prefix) attachments k (prefix, router, cost) within (ap (λ a. prefix_eq a.0 prefix) is ∙ (prefix_eq-Decides prefix prefix).1 refl)
 
@@ -46,7 +36,7 @@ module _ (attachments : List (Prefix × ℕ × ℕ)) (prefix : Prefix) where
     λ p spelled known.
         let same : Ok prefix ≡ Ok p = sym is ∙ every p spelled in
         let same_prefix : p ≡ prefix = cc in
-        false≢true (sym fails ∙ test_of_known (subst (IsKnown attachments) same_prefix known)),
+        false≢true (sym fails ∙ test_of_known (subst (IsKnownPrefix attachments) same_prefix known)),
     λ fault wrong.
         let both : Ok prefix ≡ Err fault = sym is ∙ every_fault fault wrong in
         cc,

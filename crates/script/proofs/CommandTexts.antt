@@ -1,17 +1,9 @@
 -- What a line asks for, by its first word.
 use Rattle.std.proofs.Common.{◌≡◌, ◌≢◌, ℕ, false, inl, inr, List, [], ◌∷◌, All, Contains, bytes_eq, codes, refl, sym, subst, ◌∙◌, arith}
-use Rattle.std.specs.List.{list_any}
-use Rattle.std.proofs.lemmas.Bool.{false≢true}
-use Rattle.std.proofs.lemmas.Slice.Eq.{bytes_eq-Decides}
-use Rattle.std.proofs.lemmas.List.Elements.{All-nil, All-cons, All-contains}
-use Rattle.std.proofs.lemmas.List.Folds.{list_any_at}
-use Rattle.ipv4_prefix.specs.Prefix.{Prefix}
-use Rattle.network_model.specs.declared.network.LinkSpec.{LinkSpec}
+use Rattle.script.proofs.Common.{list_any, false≢true, bytes_eq-Decides, All-nil, All-cons, All-contains, list_any_at, Prefix, LinkSpec, Text, NamesRouter, NamesText, NamesNoAddress, NamesNoPrefix, AsksNoStep, AsksBadQuestion, Asks, address_verbs, HasBadValue, AsksNothing}
 use Rattle.script.specs.declared.command.Command.{Command}
 use Rattle.script.specs.declared.fault.Fault.{Fault}
 use Rattle.script.specs.declared.fault.Fault.TheVariants.{BadName, BadLine, BadCost, BadCommand, TooLarge, NoMemory, Prefix as OfPrefix}
-use Rattle.script.specs.Words.{Text}
-use Rattle.script.specs.Commands.{NamesRouter, NamesText, NamesNoAddress, NamesNoPrefix, AsksNoStep, AsksBadQuestion, Asks, address_verbs, HasBadValue, AsksNothing}
 use Rattle.script.proofs.StepTexts.{clash, first_same, rest_same, no_prefix, no_verb, other_router, other_prefix}
 
 -- the words name no router and text after a verb that takes an address

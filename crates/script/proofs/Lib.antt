@@ -1,4 +1,3 @@
-pub mod Splits
 pub mod NameTexts
 pub mod NameNumbers
 pub mod ReadLines
@@ -10,3 +9,4 @@ pub mod CommandTexts
 pub mod Exits
 pub mod Ranges
 pub mod Rows
+pub mod Common

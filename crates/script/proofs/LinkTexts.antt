@@ -1,8 +1,6 @@
 -- The words of a link's line.
 use Rattle.std.proofs.Common.{◌≡◌, ◌≢◌, ℕ, [], ◌∷◌, decimal, ap, ◌∙◌}
-use Rattle.decimal_text.specs.Number.{Spells}
-use Rattle.script.specs.Words.{Text, words_of}
-use Rattle.script.specs.Links.{LinkLine}
+use Rattle.script.proofs.Common.{Spells, Text, words_of, LinkLine}
 
 -- a line of two words and two numbers
 abbrev pub link_line : (line a b first second : Text) (from_a from_b : ℕ) → words_of line ≡ a ∷ b ∷ first ∷ second ∷ [] → a ≢ [] → b ≢ [] → Spells first from_a → Spells second from_b → LinkLine line

@@ -1,19 +1,7 @@
 -- The numbers of names: what a name that is added changes.
-use Rattle.std.proofs.Common.{◌≡◌, ◌≢◌, ℕ, zero, suc, ◌+◌, ◌<◌, min, Bool, true, false, cond, List, [], ◌∷◌, ◌++◌, length, get_or, Option, Some, None, OnSome, is_some, option_map, position, Contains, String, BTreeMap, string_bytes, bytes_eq, refl, sym, ap, subst, ◌∙◌, arith}
-use Rattle.std.specs.List.{position_from}
-use Rattle.std.specs.Option.{option_or}
-use Rattle.std.specs.BTreeMap.{get_by_text, UpdatesBy}
+use Rattle.std.proofs.Common.{◌≡◌, ◌≢◌, ℕ, zero, suc, ◌+◌, ◌<◌, min, Bool, true, false, cond, List, [], ◌∷◌, ◌++◌, length, get_or, Option, Some, None, OnSome, is_some, option_map, position, Contains, String, BTreeMap, string_bytes, bytes_eq, refl, sym, ap, subst, ◌∙◌, arith, true≢false}
+use Rattle.script.proofs.Common.{position_from, option_or, get_by_text, UpdatesBy, false≢true, same_from_decides, get_or_default, bytes_eq-Decides, position_from-zero, All-push, position-Some, all_pairs_push, btree_map_updates_text, Text, IsName, AreNames, no_router, router_number, FindsNames}
 use Rattle.std.specs.String.{string_cmp}
-use Rattle.std.proofs.lemmas.Bool.{true≢false, false≢true}
-use Rattle.std.proofs.lemmas.Bool.Decides.{same_from_decides}
-use Rattle.std.proofs.lemmas.List.{get_or_default}
-use Rattle.std.proofs.lemmas.Slice.Eq.{bytes_eq-Decides}
-use Rattle.std.proofs.lemmas.Iterator.Adapters.{position_from-zero}
-use Rattle.std.proofs.lemmas.List.Elements.{All-push}
-use Rattle.std.proofs.lemmas.List.Quantifiers.{position-Some, all_pairs_push}
-use Rattle.std.proofs.lemmas.Map.Text.{btree_map_updates_text}
-use Rattle.script.specs.Words.{Text}
-use Rattle.script.specs.Routers.{IsName, AreNames, no_router, number_of, FindsNames}
 
 -- ---- positions
 
@@ -49,14 +37,14 @@ none-unless_some None e = refl
 none-unless_some (Some x) e = absurd (true≢false e)
 
 -- a word with a number is a name
-pub given_before : (names : List Text) (word : Text) (r : Option ℕ) → r ≡ number_of names word → is_some r ≡ true → Contains names word
+pub given_before : (names : List Text) (word : Text) (r : Option ℕ) → r ≡ router_number names word → is_some r ≡ true → Contains names word
 given_before names word r is some =
     place-named names word (position (bytes_eq word) names) refl (sym (is_some-map (min no_router) (position (bytes_eq word) names)) ∙ ap is_some (sym is) ∙ some)
 
-pub not_given : (names : List Text) (word : Text) (r : Option ℕ) → r ≡ number_of names word → is_some r ≡ false → number_of names word ≡ None
+pub not_given : (names : List Text) (word : Text) (r : Option ℕ) → r ≡ router_number names word → is_some r ≡ false → router_number names word ≡ None
 not_given names word r is none = sym is ∙ none-unless_some r none
 
-pub IsName-number_of : (names : List Text) (word : Text) (r : Option ℕ) → AreNames names → r ≡ number_of names word → OnSome r (IsName word)
+pub IsName-number_of : (names : List Text) (word : Text) (r : Option ℕ) → AreNames names → r ≡ router_number names word → OnSome r (IsName word)
 IsName-number_of names word None are is = tt
 IsName-number_of names word (Some n) are is =
     let at = given_before names word (Some n) is refl in
@@ -76,7 +64,7 @@ none-mapped f None e = refl
 none-mapped f (Some k) e = cc
 
 -- a name has a number
-pub not_among : (names : List Text) (word : Text) → number_of names word ≡ None → ¬ (Contains names word)
+pub not_among : (names : List Text) (word : Text) → router_number names word ≡ None → ¬ (Contains names word)
 not_among names word none (k, within, is) =
     let nowhere = sym (position_from-zero (bytes_eq word) names) ∙ none-mapped (min no_router) (position (bytes_eq word) names) none in
     true≢false (sym ((bytes_eq-Decides word (get_or names k word)).1 (sym is)) ∙ none_before (bytes_eq word) 0 names nowhere k word within)
@@ -102,11 +90,11 @@ pushed_new : (f : ℕ → ℕ) (b : Bool) (n : ℕ) → option_map f (cond b (So
 pushed_new f true n = refl
 pushed_new f false n = refl
 
-unless_same : (names : List Text) (name word : Text) (b : Bool) → bytes_eq name word ≡ b → number_of names name ≡ None → Contains names word → b ≡ false
-unless_same names name word true same new has = absurd (not_among names word (ap (number_of names) (sym ((bytes_eq-Decides name word).0 same)) ∙ new) has)
+unless_same : (names : List Text) (name word : Text) (b : Bool) → bytes_eq name word ≡ b → router_number names name ≡ None → Contains names word → b ≡ false
+unless_same names name word true same new has = absurd (not_among names word (ap (router_number names) (sym ((bytes_eq-Decides name word).0 same)) ∙ new) has)
 unless_same names name word false same new has = refl
 
-module _ (names : List Text) (name word : Text) (new : number_of names name ≡ None) where
+module _ (names : List Text) (name word : Text) (new : router_number names name ≡ None) where
   pushed_cases : (o : Option ℕ) → position (bytes_eq word) names ≡ o
       → option_map (min no_router) (option_or o (cond (bytes_eq word name) (Some (length names)) None))
       ≡ cond (bytes_eq name word) (Some (min no_router (length names))) (option_map (min no_router) o)
@@ -116,12 +104,12 @@ module _ (names : List Text) (name word : Text) (new : number_of names name ≡ 
       let apart = unless_same names name word (bytes_eq name word) refl new (place-named names word (Some k) is refl) in
       ap (λ b. cond b (Some (min no_router (length names))) (Some (min no_router k))) (sym apart)
 
-  number_of-push : number_of (names ++ name ∷ []) word ≡ cond (bytes_eq name word) (Some (min no_router (length names))) (number_of names word)
+  number_of-push : router_number (names ++ name ∷ []) word ≡ cond (bytes_eq name word) (Some (min no_router (length names))) (router_number names word)
   number_of-push = ap (option_map (min no_router)) (position-push (bytes_eq word) names name) ∙ pushed_cases (position (bytes_eq word) names) refl
 
 -- a look-up after a name was added
 pub FindsNames-push : {Y : Type 0} (names : List Text) (name : Text) (key : String Y) (old new : BTreeMap (String Y) ℕ) (count : ℕ)
-    → FindsNames names (get_by_text old) → IsName name → number_of names name ≡ None → string_bytes key ≡ name → count ≡ min no_router (length names)
+    → FindsNames names (get_by_text old) → IsName name → router_number names name ≡ None → string_bytes key ≡ name → count ≡ min no_router (length names)
     → UpdatesBy string_cmp (string_cmp key) old new (Some count)
     → FindsNames (names ++ name ∷ []) (get_by_text new)
 FindsNames-push names name key old new count finds is absent spelled count_is updates = record {

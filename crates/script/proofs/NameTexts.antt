@@ -1,8 +1,6 @@
 -- Names are single words.
 use Rattle.std.proofs.Common.{◌≡◌, ℕ, [], ◌∷◌, ◌⊎◌, inl, inr, false, get_or, arith, ne_eqb}
-use Rattle.std.proofs.lemmas.List.Splits.{slice_split_none}
-use Rattle.script.specs.Words.{Text, is_space, words_of}
-use Rattle.script.specs.Routers.{IsSmallLetter, IsDigit, IsName}
+use Rattle.script.proofs.Common.{slice_split_none, Text, is_space, words_of, IsSmallLetter, IsDigit, IsName}
 
 no_space : (b : ℕ) → IsSmallLetter b ⊎ IsDigit b → is_space b ≡ false
 no_space b (inl letter) = ne_eqb b 32 (omega arith)

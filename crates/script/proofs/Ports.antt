@@ -1,20 +1,6 @@
 -- The ports of a router, by the links before each.
-use Rattle.std.specs.Prelude.{◌≡◌, ℕ, zero, suc, ◌+◌, ◌≤◌, ◌<◌, min, Bool, true, false, ◌==◌, ◌&&◌, ◌||◌, cond, if◌then◌else◌, List, [], ◌∷◌, ◌++◌, length, take, filter, Option, Some, None, slice_get, option_map, get_or, filter_map}
-use Rattle.std.specs.List.{cons_option}
-use Rattle.std.proofs.Common.{refl, sym, ap, ◌∙◌, arith, append_assoc, length-append}
-use Rattle.std.proofs.lemmas.Bool.{true≢false}
-use Rattle.std.proofs.lemmas.List.{length-take, get_or-take, take_all}
-use Rattle.std.proofs.lemmas.List.Quantifiers.{position-Some}
-use Rattle.std.proofs.lemmas.List.Sums.{length-filter}
-use Rattle.std.proofs.lemmas.Option.{slice_get-get_or}
-use Rattle.network_model.specs.declared.network.End.TheVariants.{A, B}
-use Rattle.network_model.specs.declared.network.LinkSpec.{LinkSpec}
-use Rattle.network_model.specs.declared.network.Place.{Place}
-use Rattle.network_model.specs.Network.{touches, degree}
-use Rattle.network_model.specs.World.{places_from}
-use Rattle.network_model.proofs.ListLaws.{Some_injective, None_not_Some}
-use Rattle.script.specs.Directories.{across, far_end, neighbours_of}
-use Rattle.script.specs.Commands.{joins, link_between, port_on, IsPortOn}
+use Rattle.std.proofs.Common.{refl, sym, ap, ◌∙◌, arith, append_assoc, length-append, ◌≡◌, ℕ, zero, suc, ◌+◌, ◌≤◌, ◌<◌, min, Bool, true, false, ◌==◌, ◌&&◌, ◌||◌, cond, if◌then◌else◌, List, [], ◌∷◌, ◌++◌, length, take, filter, Option, Some, None, slice_get, option_map, get_or, filter_map, true≢false, length-take, get_or-take, take_all}
+use Rattle.script.proofs.Common.{cons_option, position-Some, length-filter, slice_get-get_or, A, B, LinkSpec, Place, touches, degree, places_from, Some_injective, None_not_Some, router_across, far_end, neighbours_of, joins, link_between, port_on, IsPortOn}
 
 -- ---- the place of a link
 
@@ -131,15 +117,15 @@ after_first [] s ss = refl
 after_first (b ∷ bs) s ss = after_first bs s ss
 
 module _ (i : ℕ) where
-  far_from : (before ss : List LinkSpec) (l : ℕ) → l ≡ length before → filter_map (across (before ++ ss)) (places_from l i ss) ≡ filter_map (far_end i) ss
+  far_from : (before ss : List LinkSpec) (l : ℕ) → l ≡ length before → filter_map (router_across (before ++ ss)) (places_from l i ss) ≡ filter_map (far_end i) ss
   far_from before [] l at = refl
   far_from before (s ∷ ss) l at =
       by_ends (s.a == i) (s.b == i) (ap (slice_get (before ++ s ∷ ss)) at ∙ after_first before s ss)
-      (ap (λ all. filter_map (across all) (places_from (l + 1) i ss)) (sym (push-append before s ss))
+      (ap (λ all. filter_map (router_across all) (places_from (l + 1) i ss)) (sym (push-append before s ss))
       ∙ far_from (before ++ s ∷ []) ss (l + 1) (omega (arith, at, length-append before (s ∷ []))))
     where
-      by_ends : (a b : Bool) → slice_get (before ++ s ∷ ss) l ≡ Some s → filter_map (across (before ++ s ∷ ss)) (places_from (l + 1) i ss) ≡ filter_map (far_end i) ss
-          → filter_map (across (before ++ s ∷ ss)) (places_with l a b (places_from (l + 1) i ss))
+      by_ends : (a b : Bool) → slice_get (before ++ s ∷ ss) l ≡ Some s → filter_map (router_across (before ++ s ∷ ss)) (places_from (l + 1) i ss) ≡ filter_map (far_end i) ss
+          → filter_map (router_across (before ++ s ∷ ss)) (places_with l a b (places_from (l + 1) i ss))
           ≡ cons_option (if a then Some s.b else (if b then Some s.a else None)) (filter_map (far_end i) ss)
       by_ends true b there rest = rw (there, rest) refl
       by_ends false true there rest = rw (there, rest) refl

@@ -1,8 +1,6 @@
 -- One more number in a range.
-use Rattle.std.proofs.Common.{◌≡◌, ℕ, ◌+◌, [], ◌∷◌, ◌++◌, List, Vec, get_or, map, sym, ap, ◌∙◌, arith}
-use Rattle.std.specs.List.{range_with_len}
-use Rattle.std.proofs.lemmas.List.{take_all, take_more, map_push}
-use Rattle.std.proofs.lemmas.List.FromFn.{length-map-range_with_len, take-map-range_with_len, get_or-map-range_with_len}
+use Rattle.std.proofs.Common.{◌≡◌, ℕ, ◌+◌, [], ◌∷◌, ◌++◌, List, Vec, get_or, map, sym, ap, ◌∙◌, arith, take_all}
+use Rattle.script.proofs.Common.{range_with_len, take_more, map_push, length-map-range_with_len, take-map-range_with_len, get_or-map-range_with_len}
 
 pub map-range_more : {X : Type 0} (f : ℕ → X) (k : ℕ) → map f (range_with_len 0 (k + 1)) ≡ map f (range_with_len 0 k) ++ f k ∷ []
 map-range_more {X} f k =

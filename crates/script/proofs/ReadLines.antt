@@ -1,15 +1,9 @@
 -- One more line read.
-use Rattle.std.proofs.Common.{◌≡◌, ℕ, ◌+◌, ◌<◌, ◌≤◌, min, inl, inr, List, [], ◌∷◌, ◌++◌, length, get_or, take, Some, String, string_bytes, refl, sym, ap, ◌∙◌, arith, slice_get, None}
-use Rattle.std.proofs.lemmas.Bool.{cases_lt}
-use Rattle.std.proofs.lemmas.List.{take_more, length_push, length-map, take_all}
-use Rattle.std.proofs.lemmas.Option.{slice_get-map, slice_get_read, slice_get_within, get_or_from_slice_get}
-use Rattle.std.proofs.lemmas.Slice.Zip.{all_zipped_more}
-use Rattle.script.specs.Words.{Text}
+use Rattle.std.proofs.Common.{◌≡◌, ℕ, ◌+◌, ◌<◌, ◌≤◌, min, inl, inr, List, [], ◌∷◌, ◌++◌, length, get_or, take, Some, String, string_bytes, refl, sym, ap, ◌∙◌, arith, slice_get, None, take_all}
+use Rattle.script.proofs.Common.{cases_lt, take_more, length_push, length-map, slice_get-map, slice_get_read, slice_get_within, get_or_from_slice_get, all_zipped_more, Text, texts, ReadsFirst, StopsHere, IsWhole}
 use Rattle.script.specs.declared.fault.Fault.{Fault}
 use Rattle.script.specs.declared.place.Key.{Key}
 use Rattle.script.specs.declared.place.Located.{Located}
-use Rattle.script.specs.Reading.{ReadsFirst, StopsHere, IsWhole}
-use Rattle.script.specs.Seen.{texts}
 
 pub reads_none : {X : Type 0} (Says : Text → X → Type 0) (lines : List Text) (items : List X) → items ≡ [] → ReadsFirst Says lines items
 reads_none Says lines items none = rw none tt

@@ -1,20 +1,10 @@
 -- Worked examples: each definition computes what it is to say.
 use Rattle.std.proofs.Common.{◌≡◌, ℕ, inl, inr, List, [], ◌∷◌, Some, None, codes, refl, ap, arith}
+use Rattle.script.proofs.Common.{Prefix, LinkSpec, Local, Via, LinkUp, SetCost, Deliver, Publish, Attach, Detach, Ending, Text, words_of, router_number, router_named, IsLink, IsAttachment, link_between, IsPortOn, IsCommand, IsCommandFault, Directory, neighbours_of, directory_of, source_at, lookup_text, packet_text, trace_text}
 use Rattle.std.specs.Fmt.{digits}
-use Rattle.ipv4_prefix.specs.Prefix.{Prefix}
-use Rattle.network_model.specs.declared.network.LinkSpec.{LinkSpec}
-use Rattle.network_model.specs.declared.route.Entry.TheVariants.{Local, Via}
-use Rattle.network_model.specs.declared.step.Step.TheVariants.{LinkUp, SetCost, Deliver, Publish, Attach, Detach}
 use Rattle.script.specs.declared.command.Command.{Command}
 use Rattle.script.specs.declared.fault.Fault.TheVariants.{BadCost}
-use Rattle.packet_trace.specs.declared.End.{End}
-use Rattle.script.specs.Words.{Text, words_of}
-use Rattle.script.specs.Routers.{number_of}
-use Rattle.script.specs.Links.{end_of, IsLink}
-use Rattle.script.specs.Attachments.{IsAttachment}
-use Rattle.script.specs.Commands.{link_between, IsPortOn, IsCommand, IsCommandFault}
 use Rattle.script.proofs.StepTexts.{clash}
-use Rattle.script.specs.Directories.{Directory, neighbours_of, directory_of, source_at, lookup_text, packet_text, trace_text}
 
 four_words : words_of (codes "a b 1 20") ≡ codes "a" ∷ codes "b" ∷ codes "1" ∷ codes "20" ∷ []
 four_words = refl
@@ -26,10 +16,10 @@ empty_word = refl
 abbrev names : List Text
 names = codes "a" ∷ codes "b" ∷ codes "c" ∷ []
 
-second_name : number_of names (codes "b") ≡ Some 1
+second_name : router_number names (codes "b") ≡ Some 1
 second_name = refl
 
-no_name : end_of names (codes "d") ≡ 65535
+no_name : router_named names (codes "d") ≡ 65535
 no_name = refl
 
 -- a to b, b to c, a to c
@@ -202,11 +192,11 @@ packet_missed : packet_text directory 12 0 0 None ≡ codes "packet 12 a 0.0.0.0
 unfolding digits
 packet_missed = refl
 
-trace_lost : trace_text directory 2 167772161 (2 ∷ 1 ∷ []) End.DeadLink ≡ codes "trace c 10.0.0.1: c b dead link"
+trace_lost : trace_text directory 2 167772161 (2 ∷ 1 ∷ []) Ending.DeadLink ≡ codes "trace c 10.0.0.1: c b dead link"
 unfolding digits
 trace_lost = refl
 
-trace_missed : trace_text directory 0 0 (0 ∷ []) End.NoRoute ≡ codes "trace a 0.0.0.0: a no route"
+trace_missed : trace_text directory 0 0 (0 ∷ []) Ending.NoRoute ≡ codes "trace a 0.0.0.0: a no route"
 unfolding digits
 trace_missed = refl
 

@@ -1,24 +1,8 @@
 -- What the words of a line ask for, by the first of them.
-use Rattle.std.proofs.Common.{◌≡◌, ◌≢◌, ℕ, inl, inr, subst, ◌<◌, ◌≤◌, false, List, [], ◌∷◌, Some, None, bytes_eq, codes, decimal, refl, sym, ap, ◌∙◌, arith}
-use Rattle.decimal_text.specs.Number.{Spells}
-use Rattle.network_model.specs.declared.network.LinkSpec.{LinkSpec}
-use Rattle.network_model.specs.declared.step.Step.{Step}
-use Rattle.network_model.specs.declared.step.Step.TheVariants.{LinkUp, LinkDown, SetCost, Deliver, Publish, Release, Attach, Detach}
-use Rattle.ipv4_prefix.specs.Prefix.{Prefix}
-use Rattle.ipv4_prefix.specs.Faults.{SpellsPrefix, IsFirstFault}
-use Rattle.ipv4_prefix.specs.declared.fault.PrefixFault.{PrefixFault}
-use Rattle.metric.specs.Distance.{IsCost}
-use Rattle.network_model.specs.Network.{degree}
+use Rattle.std.proofs.Common.{◌≡◌, ◌≢◌, ℕ, inl, inr, subst, ◌<◌, ◌≤◌, false, List, [], ◌∷◌, Some, None, bytes_eq, codes, decimal, refl, sym, ap, ◌∙◌, arith, true≢false}
+use Rattle.script.proofs.Common.{Spells, LinkSpec, Step, LinkUp, LinkDown, SetCost, Deliver, Publish, Release, Attach, Detach, Prefix, SpellsPrefix, IsFirstFault, PrefixFault, IsCost, degree, join_with_byte, decimal_injective, bytes_eq-Decides, join_with_byte-slice_split, Text, words_of, IsName, router_number, NamesRouter, NamesText, NamesTextAndNumber, NamesTwice, IsWay, NamesLink, NamesNumber, IsKnownPrefix, NamesNoPrefix, AsksCost, AsksNoCost, AsksDelivery, AsksBadAttachment, AsksNoAttachment, AsksStep, AsksBadStep, AsksNoStep, IsPortOn, port_on, link_between}
 use Rattle.script.specs.declared.fault.Fault.{Fault}
 use Rattle.script.specs.declared.fault.Fault.TheVariants.{BadName, BadLine, BadCost, BadCommand, TooLarge, NoMemory, Prefix as OfPrefix}
-use Rattle.std.specs.List.{join_with_byte}
-use Rattle.std.proofs.lemmas.Bool.{true≢false}
-use Rattle.std.proofs.lemmas.Fmt.{decimal_injective}
-use Rattle.std.proofs.lemmas.Slice.Eq.{bytes_eq-Decides}
-use Rattle.std.proofs.lemmas.List.Splits.{join_with_byte-slice_split}
-use Rattle.script.specs.Words.{Text, words_of}
-use Rattle.script.specs.Routers.{IsName, number_of}
-use Rattle.script.specs.Commands.{NamesRouter, NamesText, NamesTextAndNumber, NamesTwice, IsWay, NamesLink, NamesNumber, IsKnown, NamesNoPrefix, AsksCost, AsksNoCost, AsksDelivery, AsksBadAttachment, AsksNoAttachment, AsksStep, AsksBadStep, AsksNoStep, IsPortOn, port_on, link_between}
 use Rattle.script.proofs.NameTexts.{words-name}
 use Rattle.script.proofs.Ports.{is_port, port_is}
 
@@ -37,15 +21,15 @@ words-single : (line word : Text) → words_of line ≡ word ∷ [] → line ≡
 words-single line word is = sym (join_with_byte-slice_split 32 line) ∙ ap (join_with_byte 32) is
 
 -- operands that are a known name
-pub names_router : (names : List Text) (verb operands : Text) (router : ℕ) → number_of names operands ≡ Some router → IsName operands → NamesRouter names verb (verb ∷ words_of operands) router
+pub names_router : (names : List Text) (verb operands : Text) (router : ℕ) → router_number names operands ≡ Some router → IsName operands → NamesRouter names verb (verb ∷ words_of operands) router
 names_router names verb operands router known is = record { name = operands; spelled = ap (λ ws. verb ∷ ws) (words-name operands is); known = known }
 
 -- operands that are no known name
-pub names_no_router : (names : List Text) (verb operands : Text) (router : ℕ) → number_of names operands ≡ None → NamesRouter names verb (verb ∷ words_of operands) router → ⊥
+pub names_no_router : (names : List Text) (verb operands : Text) (router : ℕ) → router_number names operands ≡ None → NamesRouter names verb (verb ∷ words_of operands) router → ⊥
 names_no_router names verb operands router unknown h =
     let spelled = h.spelled in
     let same : operands ≡ h.name = words-single operands h.name (let rest : words_of operands ≡ h.name ∷ [] = cc in rest) in
-    let known : number_of names operands ≡ Some router = ap (number_of names) same ∙ h.known in
+    let known : router_number names operands ≡ Some router = ap (router_number names) same ∙ h.known in
     cc
 
 -- one pair of names has one way
@@ -121,12 +105,12 @@ asks_cost names links name neighbour text ops router link number port is way spe
 -- ---- a router's port, to take from
 
 module _ (names : List Text) (links : List LinkSpec) (name neighbour : Text) (ops : List Text) (two : ops ≡ name ∷ neighbour ∷ []) where
-  twice_same : (router : ℕ) → NamesTwice names (codes "deliver") (codes "deliver" ∷ ops) router → (name ≡ neighbour) × (number_of names name ≡ Some router)
+  twice_same : (router : ℕ) → NamesTwice names (codes "deliver") (codes "deliver" ∷ ops) router → (name ≡ neighbour) × (router_number names name ≡ Some router)
   twice_same router h =
       let words : codes "deliver" ∷ name ∷ neighbour ∷ [] ≡ codes "deliver" ∷ h.name ∷ h.name ∷ [] = sym (ap (λ ws. codes "deliver" ∷ ws) two) ∙ h.spelled in
       let near : name ≡ h.name = cc in
       let far : neighbour ≡ h.name = cc in
-      (near ∙ sym far, ap (number_of names) near ∙ h.known)
+      (near ∙ sym far, ap (router_number names) near ∙ h.known)
 
   link_apart : (router link : ℕ) (h : NamesLink names links (codes "deliver") (codes "deliver" ∷ ops) router link) → name ≡ neighbour → h.name ≡ h.neighbour
   link_apart router link h same =
@@ -136,7 +120,7 @@ module _ (names : List Text) (links : List LinkSpec) (name neighbour : Text) (op
       sym near ∙ same ∙ far
 
   -- a router named twice, which is not known, or has too many ports
-  pub no_home : name ≡ neighbour → ((router : ℕ) → number_of names name ≡ Some router → degree router links < 256 → ⊥)
+  pub no_home : name ≡ neighbour → ((router : ℕ) → router_number names name ≡ Some router → degree router links < 256 → ⊥)
       → (router port : ℕ) → ¬ (AsksDelivery names links (codes "deliver" ∷ ops) router port)
   no_home same none router port (inl h, small) = h.2 (link_apart router h.0 h.1 same)
   no_home same none router port (inr h, small) = none router (twice_same router h.0).1 (subst (λ n. n < 256) h.1 small)
@@ -151,7 +135,7 @@ module _ (names : List Text) (links : List LinkSpec) (name neighbour : Text) (op
 
 -- the text has no fault, but is that of no prefix of the network
 abbrev pub IsStrange : List (Prefix × ℕ × ℕ) → Text → Type 0
-IsStrange attachments text = ((p : Prefix) → SpellsPrefix text p → ¬ (IsKnown attachments p)) × ((fault : PrefixFault) → ¬ (IsFirstFault text fault))
+IsStrange attachments text = ((p : Prefix) → SpellsPrefix text p → ¬ (IsKnownPrefix attachments p)) × ((fault : PrefixFault) → ¬ (IsFirstFault text fault))
 
 module _ (names : List Text) (attachments : List (Prefix × ℕ × ℕ)) where
   pub no_prefix : (verb : Text) (words : List Text) → ((router : ℕ) (text : Text) → NamesText names verb words router text → IsStrange attachments text) → NamesNoPrefix names attachments verb words BadCommand
@@ -173,7 +157,7 @@ module _ (names : List Text) (attachments : List (Prefix × ℕ × ℕ)) where
 
 -- three words after a verb: a router, a text that is not empty, and a number
 abbrev pub names_parts : (names : List Text) (verb name text digits : Text) (ops : List Text) (router number : ℕ)
-    → ops ≡ name ∷ text ∷ digits ∷ [] → Spells digits number → text ≢ [] → number_of names name ≡ Some router → NamesTextAndNumber names verb (verb ∷ ops) router text number
+    → ops ≡ name ∷ text ∷ digits ∷ [] → Spells digits number → text ≢ [] → router_number names name ≡ Some router → NamesTextAndNumber names verb (verb ∷ ops) router text number
 names_parts names verb name text digits ops router number is spells has_text known = record {
   name = name;
   spelled = ap (λ ws. verb ∷ ws) is ∙ ap (λ t. verb ∷ name ∷ text ∷ t ∷ []) spells.1;

@@ -5,8 +5,8 @@ use Rattle.ipv4_prefix.specs.Faults.{SpellsPrefix, IsFirstFault}
 use Rattle.metric.specs.Distance.{IsCost}
 use Rattle.script.specs.declared.fault.Fault.{Fault}
 use Rattle.script.specs.declared.fault.Fault.TheVariants.{BadLine, BadCost, Prefix as OfPrefix}
-use Rattle.script.specs.Words.{Text, words_of}
-use Rattle.script.specs.Routers.{number_of}
+use Rattle.texts.specs.Words.{Text, words_of}
+use Rattle.script.specs.Routers.{router_number}
 
 -- the words of a line: a prefix, a router's name, and the cost of its attachment, which is 1 where the line does not say it
 abbrev pub AreWords : Text → Text → Text → ℕ → Type 0
@@ -21,7 +21,7 @@ pub record AttachmentLine (names : List Text) (line : Text) : Type 0 where
   pub cost : ℕ
   pub words : AreWords line prefix name cost
   pub has_prefix : prefix ≢ []
-  pub known : number_of names name ≡ Some router
+  pub known : router_number names name ≡ Some router
   pub small : cost < 2 ^ 32
 
 -- the attachment that a line says: a prefix, its router, and its cost

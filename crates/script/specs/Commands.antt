@@ -13,8 +13,8 @@ use Rattle.network_model.specs.World.{places_from}
 use Rattle.script.specs.declared.command.Command.{Command}
 use Rattle.script.specs.declared.fault.Fault.{Fault}
 use Rattle.script.specs.declared.fault.Fault.TheVariants.{BadCommand, BadCost, Prefix as OfPrefix}
-use Rattle.script.specs.Words.{Text, words_of}
-use Rattle.script.specs.Routers.{number_of}
+use Rattle.texts.specs.Words.{Text, words_of}
+use Rattle.script.specs.Routers.{router_number}
 
 -- ---- links and ports
 
@@ -40,13 +40,13 @@ port_on router link links = degree router (take link links)
 pub record NamesRouter (names : List Text) (verb : Text) (words : List Text) (router : ℕ) : Type 0 where
   pub name : Text
   pub spelled : words ≡ verb ∷ name ∷ []
-  pub known : number_of names name ≡ Some router
+  pub known : router_number names name ≡ Some router
 
 -- the two names are those of a router and of another, and the link is theirs
 pub record IsWay (names : List Text) (links : List LinkSpec) (name neighbour : Text) (router link : ℕ) : Type 0 where
   pub far : ℕ
-  pub known : number_of names name ≡ Some router
-  pub far_known : number_of names neighbour ≡ Some far
+  pub known : router_number names name ≡ Some router
+  pub far_known : router_number names neighbour ≡ Some far
   pub joined : link_between router far links ≡ Some link
 
 -- the words name two routers after the verb, and the link is theirs
@@ -69,30 +69,30 @@ pub record NamesText (names : List Text) (verb : Text) (words : List Text) (rout
   pub name : Text
   pub spelled : words ≡ verb ∷ name ∷ text ∷ []
   pub has_text : text ≢ []
-  pub known : number_of names name ≡ Some router
+  pub known : router_number names name ≡ Some router
 
 -- the words name a router twice after the verb
 pub record NamesTwice (names : List Text) (verb : Text) (words : List Text) (router : ℕ) : Type 0 where
   pub name : Text
   pub spelled : words ≡ verb ∷ name ∷ name ∷ []
-  pub known : number_of names name ≡ Some router
+  pub known : router_number names name ≡ Some router
 
 -- the words name a router, then a text that is not empty, and then the decimal text of a number of 32 bits, after the verb
 pub record NamesTextAndNumber (names : List Text) (verb : Text) (words : List Text) (router : ℕ) (text : Text) (number : ℕ) : Type 0 where
   pub name : Text
   pub spelled : words ≡ verb ∷ name ∷ text ∷ decimal number ∷ []
   pub has_text : text ≢ []
-  pub known : number_of names name ≡ Some router
+  pub known : router_number names name ≡ Some router
   pub small : number < 2 ^ 32
 
 -- the prefix is one of the network's: some router is attached to it at the opening
-abbrev pub IsKnown : List (Prefix × ℕ × ℕ) → Prefix → Type 0
-IsKnown attachments prefix = (router cost : ℕ) × Contains attachments (prefix, router, cost)
+abbrev pub IsKnownPrefix : List (Prefix × ℕ × ℕ) → Prefix → Type 0
+IsKnownPrefix attachments prefix = (router cost : ℕ) × Contains attachments (prefix, router, cost)
 
 -- the words name a router, and then a prefix of the network, after the verb
 abbrev pub NamesPrefix : List Text → List (Prefix × ℕ × ℕ) → Text → List Text → ℕ → Prefix → Type 0
 NamesPrefix names attachments verb words router prefix =
-    (text : Text) × NamesText names verb words router text × SpellsPrefix text prefix × IsKnown attachments prefix
+    (text : Text) × NamesText names verb words router text × SpellsPrefix text prefix × IsKnownPrefix attachments prefix
 
 -- the words name a router after the verb, and the text that follows has the fault of a prefix
 abbrev pub NamesBadPrefix : List Text → Text → List Text → PrefixFault → Type 0
@@ -157,7 +157,7 @@ AsksDelivery names links words router port = (TakesFromLink names links words ro
 -- the words ask to attach a router to a prefix of the network at a cost
 abbrev pub AsksAttachment : List Text → List (Prefix × ℕ × ℕ) → List Text → ℕ → Prefix → ℕ → Type 0
 AsksAttachment names attachments words router prefix cost =
-    (text : Text) × NamesTextAndNumber names (codes "attach") words router text cost × SpellsPrefix text prefix × IsCost cost × IsKnown attachments prefix
+    (text : Text) × NamesTextAndNumber names (codes "attach") words router text cost × SpellsPrefix text prefix × IsCost cost × IsKnownPrefix attachments prefix
 
 -- the words ask to attach a router, but the text of the prefix has a fault, or, where it has none, the number is no cost
 abbrev pub AsksBadAttachment : List Text → List Text → Fault → Type 0

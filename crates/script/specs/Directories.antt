@@ -10,8 +10,8 @@ use Rattle.network_model.specs.declared.network.Place.{Place}
 use Rattle.network_model.specs.declared.route.Entry.{Entry}
 use Rattle.network_model.specs.declared.route.Entry.TheVariants.{Local, Via, Unreachable}
 use Rattle.network_model.specs.World.{other, places_from}
-use Rattle.packet_trace.specs.declared.End.{End as Ending}
-use Rattle.script.specs.Words.{Text}
+use Rattle.network_model.specs.declared.trace.Ending.{Ending}
+use Rattle.texts.specs.Words.{Text}
 use Rattle.script.specs.Routers.{no_router}
 
 -- names by router, and by router and port the router at the other end
@@ -29,12 +29,12 @@ router_at A s = s.a
 router_at B s = s.b
 
 -- the router across the link at the place of a port
-abbrev pub across : List LinkSpec → Place → Option ℕ
-across links p = option_map (router_at (other p.end)) (slice_get links p.link)
+abbrev pub router_across : List LinkSpec → Place → Option ℕ
+router_across links p = option_map (router_at (other p.end)) (slice_get links p.link)
 
 -- the routers across a router's ports, in a network of these links
 abbrev pub neighbours_of : List LinkSpec → ℕ → List ℕ
-neighbours_of links router = filter_map (across links) (places_from 0 router links)
+neighbours_of links router = filter_map (router_across links) (places_from 0 router links)
 
 -- the directory of routers of these names, joined by these links
 abbrev pub directory_of : List Text → List LinkSpec → Directory

@@ -1,4 +1,3 @@
-pub mod Words
 pub mod Routers
 pub mod Links
 pub mod Attachments

@@ -3,7 +3,7 @@ use Rattle.std.specs.Prelude.{ℕ, Bool, true, false, ◌++◌, Option, Some, No
 use Rattle.metric.specs.Distance.{distance_text}
 use Rattle.ipv4_prefix.specs.Prefix.{Prefix}
 use Rattle.ipv4_prefix.specs.Texts.{prefix_text}
-use Rattle.script.specs.Words.{Text}
+use Rattle.texts.specs.Words.{Text}
 use Rattle.script.specs.Directories.{Directory, name_text, entry_text}
 use Rattle.script.specs.declared.lines.LinkLine.{LinkLine}
 use Rattle.script.specs.declared.lines.RouterLine.{RouterLine}
@@ -21,9 +21,9 @@ abbrev pub pair_text : ℕ → ℕ → Text
 pair_text a b = decimal a ++ codes " " ++ decimal b
 
 -- whether a computation is under way, and in which origin state
-abbrev pub state_text : Option ℕ → Text
-state_text None = codes "passive"
-state_text (Some origin) = codes "active " ++ decimal origin
+abbrev pub origin_text : Option ℕ → Text
+origin_text None = codes "passive"
+origin_text (Some origin) = codes "active " ++ decimal origin
 
 -- a link but for its ends: whether it is up, its session, its cost from each end, and how many items each end has yet to take
 abbrev pub link_state_text : LinkLine → Text
@@ -45,7 +45,7 @@ router_text d r =
 -- a router's machine for a prefix: its state, its reported and its feasible distance, and the entry that the router chose
 abbrev pub machine_text : Directory → MachineLine → Text
 machine_text d m =
-    name_text d (Some m.router) ++ codes " " ++ prefix_text m.prefix ++ codes " " ++ state_text m.origin
+    name_text d (Some m.router) ++ codes " " ++ prefix_text m.prefix ++ codes " " ++ origin_text m.origin
     ++ codes " RD " ++ distance_text m.rd ++ codes " FD " ++ distance_text m.fd
     ++ codes " " ++ entry_text d m.router m.entry
 

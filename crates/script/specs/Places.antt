@@ -2,7 +2,7 @@
 use Rattle.std.specs.Prelude.{ℕ, ◌++◌, codes, decimal}
 use Rattle.script.specs.declared.place.Key.{Key}
 use Rattle.script.specs.declared.place.Key.TheVariants.{Routers, Links, Prefixes, Script}
-use Rattle.script.specs.Words.{Text}
+use Rattle.texts.specs.Words.{Text}
 
 -- the key of a list in a scenario's document
 abbrev pub key_text : Key → Text

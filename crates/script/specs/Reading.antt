@@ -10,7 +10,8 @@ use Rattle.script.specs.declared.place.Key.{Key}
 use Rattle.script.specs.declared.place.Key.TheVariants.{Routers, Links, Prefixes, Script}
 use Rattle.script.specs.declared.place.Place.{Place}
 use Rattle.script.specs.declared.place.Located.{Located}
-use Rattle.script.specs.Words.{Text}
+use Rattle.texts.specs.Words.{Text}
+use Rattle.texts.specs.Lists.{Lists}
 use Rattle.script.specs.Routers.{AreNames, IsBadName}
 use Rattle.script.specs.Links.{IsLink, IsLinkFault}
 use Rattle.script.specs.Attachments.{IsAttachment, IsAttachmentFault}
@@ -20,14 +21,7 @@ use Rattle.script.specs.Commands.{IsCommand, IsCommandFault}
 abbrev pub most_commands : ℕ
 most_commands = 10000
 
--- the lines of a scenario's four lists
-pub record Lists : Type 0 where
-  pub routers : List Text
-  pub links : List Text
-  pub prefixes : List Text
-  pub script : List Text
-
--- what was read of them
+-- what was read of a scenario's lists
 pub record Parts : Type 0 where
   pub names : List Text
   pub links : List LinkSpec
@@ -72,34 +66,34 @@ abbrev pub IsNameFault : List Text → Text → Fault → Type 0
 IsNameFault names line fault = (fault ≡ BadName) × IsBadName names line
 
 -- reading stopped in the list of the key: what stands before was read whole, and nothing after
-abbrev pub StopsIn : Lists → Parts → Key → ℕ → Fault → Type 0
-StopsIn lists parts Routers position fault =
+abbrev pub ReadingStopsIn : Lists → Parts → Key → ℕ → Fault → Type 0
+ReadingStopsIn lists parts Routers position fault =
     IsStopped (IsNameFault parts.names) lists.routers parts.names position fault
     × (parts.links ≡ []) × (parts.attachments ≡ []) × (parts.commands ≡ [])
-StopsIn lists parts Links position fault =
+ReadingStopsIn lists parts Links position fault =
     IsWhole lists.routers parts.names
     × IsStopped IsLinkFault lists.links parts.links position fault
     × (parts.attachments ≡ []) × (parts.commands ≡ [])
-StopsIn lists parts Prefixes position fault =
+ReadingStopsIn lists parts Prefixes position fault =
     IsWhole lists.routers parts.names × IsWhole lists.links parts.links
     × IsStopped (IsAttachmentFault parts.names) lists.prefixes parts.attachments position fault
     × (parts.commands ≡ [])
-StopsIn lists parts Script position fault =
+ReadingStopsIn lists parts Script position fault =
     IsWhole lists.routers parts.names × IsWhole lists.links parts.links × IsWhole lists.prefixes parts.attachments
     × (length lists.script ≤ most_commands)
     × IsStopped (IsCommandFault parts.names parts.links parts.attachments) lists.script parts.commands position fault
 
 -- reading stopped at the place, or, without one, before the script, which is too long
-abbrev pub StopsAt : Lists → Parts → Fault → Option Place → Type 0
-StopsAt lists parts fault (Some place) = StopsIn lists parts place.key place.position fault
-StopsAt lists parts fault None =
+abbrev pub ReadingStopsAt : Lists → Parts → Fault → Option Place → Type 0
+ReadingStopsAt lists parts fault (Some place) = ReadingStopsIn lists parts place.key place.position fault
+ReadingStopsAt lists parts fault None =
     (fault ≡ TooLarge) × (most_commands < length lists.script)
     × IsWhole lists.routers parts.names × IsWhole lists.links parts.links × IsWhole lists.prefixes parts.attachments
     × (parts.commands ≡ [])
 
 -- reading came to the end, or stopped at the fault
-abbrev pub Stops : Lists → Parts → Option Located → Type 0
-Stops lists parts (Some at) = StopsAt lists parts at.fault at.place
-Stops lists parts None =
+abbrev pub ReadingStops : Lists → Parts → Option Located → Type 0
+ReadingStops lists parts (Some at) = ReadingStopsAt lists parts at.fault at.place
+ReadingStops lists parts None =
     IsWhole lists.routers parts.names × IsWhole lists.links parts.links × IsWhole lists.prefixes parts.attachments
     × IsWhole lists.script parts.commands × (length lists.script ≤ most_commands)

@@ -1,6 +1,6 @@
 -- The names of routers, and their numbers.
 use Rattle.std.specs.Prelude.{◌≡◌, ◌≢◌, ℕ, ◌≤◌, min, length, slice_index, List, Option, ◌⊎◌, All, AllPairs, Contains, position, option_map, bytes_eq}
-use Rattle.script.specs.Words.{Text}
+use Rattle.texts.specs.Words.{Text}
 
 abbrev pub IsSmallLetter : ℕ → Type 0
 IsSmallLetter b = (97 ≤ b) × (b ≤ 122)
@@ -24,8 +24,8 @@ abbrev pub no_router : ℕ
 no_router = 65535
 
 -- the number of the router of a name: its place among the names, from 0. Names past the last number share it
-abbrev pub number_of : List Text → Text → Option ℕ
-number_of names word = option_map (min no_router) (position (bytes_eq word) names)
+abbrev pub router_number : List Text → Text → Option ℕ
+router_number names word = option_map (min no_router) (position (bytes_eq word) names)
 
 -- why a text cannot be the next name: it is no name, or was given before
 abbrev pub IsBadName : List Text → Text → Type 0
@@ -34,4 +34,4 @@ IsBadName names text = (¬ (IsName text)) ⊎ Contains names text
 -- the names can be, and a look-up finds the number of each
 pub record FindsNames (names : List Text) (found : Text → Option ℕ) : Type 0 where
   pub valid : AreNames names
-  pub finds : (word : Text) → found word ≡ number_of names word
+  pub finds : (word : Text) → found word ≡ router_number names word

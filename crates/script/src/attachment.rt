@@ -3,16 +3,14 @@
 ghost use Rattle.std.specs.Prelude.{◌≡◌, ℕ, ◌<◌, ◌^◌, [], ◌⊎◌, IfOk, IfErr, OnOk};
 ghost use Rattle.script.specs.Attachments.{AreWords, IsAttachment, IsAttachmentFault};
 ghost use Rattle.script.specs.Reading.{StopsHere, ReadsFirst, IsWhole};
-ghost use Rattle.script.specs.Seen.{texts};
-ghost use Rattle.script.specs.Words.{Text};
+ghost use Rattle.texts.specs.Words.{Text, texts};
 
 use crate::fault::Fault;
 use crate::names::Names;
 use crate::place::{Key, Located};
-use crate::words::{three_words, two_words};
-use decimal_text::read_number;
 use ipv4_prefix::Prefix;
 use metric::Cost;
+use texts::{read_number, three_words, two_words};
 
 /// Reads the lines of prefixes, up to the first fault.
 pub(crate) fn read_attachments(

@@ -1,20 +1,19 @@
 //! The lines of the script.
 
 ghost use Rattle.std.specs.Prelude.{◌≡◌, ◌≢◌, [], ◌∷◌, ◌⊎◌, IfOk, IfErr, OnOk, codes};
-ghost use Rattle.script.specs.Words.{Text, words_of};
+ghost use Rattle.texts.specs.Words.{Text, words_of, texts};
 ghost use Rattle.script.specs.Commands.{Asks, AsksNothing, IsCommand, IsCommandFault, NamesAddress, NamesNoAddress};
 ghost use Rattle.script.specs.Reading.{StopsHere, ReadsFirst, IsWhole};
-ghost use Rattle.script.specs.Seen.{texts};
 
 use crate::fault::Fault;
 use crate::names::Names;
 use crate::operand::{read_prefix, read_router, read_text};
 use crate::place::{Key, Located};
 use crate::step::read_step;
-use crate::words::first_word;
 use ipv4_prefix::{Prefix, parse_addr};
 use metric::Cost;
 use network_model::{LinkSpec, Step};
+use texts::first_word;
 
 /// One command of a script. Routers go by their numbers, from 0.
 #[derive(Clone, Copy, Debug, PartialEq, Eq)]
@@ -54,7 +53,8 @@ pub(crate) fn read_commands(
         commands.new.items }
     ensures whole { OnOk result (IsWhole (texts lines.now) commands.new.items) }
     ensures stop { IfErr result (λ at. (at.fault ≡ Fault.NoMemory)
-        ⊎ StopsHere (IsCommandFault names.now links.now attachments.now) Key.Script (texts lines.now)
+        ⊎ StopsHere (IsCommandFault names.now links.now attachments.now) Key.Script
+        (texts lines.now)
         commands.new.items at) }
 {
     // Names the type of a command's step, without which the checker has no plan for the list.
@@ -111,7 +111,8 @@ fn read_words(
     verb: &str,
     operands: &str,
 ) -> Result<Command, Fault>
-    ensures ok { IfOk result (Asks names.now links.now attachments.now (verb.now ∷ words_of operands.now)) }
+    ensures ok { IfOk result (Asks names.now links.now attachments.now
+        (verb.now ∷ words_of operands.now)) }
     ensures err { IfErr result
         (AsksNothing names.now links.now attachments.now (verb.now ∷ words_of operands.now)) }
 {

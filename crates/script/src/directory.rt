@@ -23,7 +23,11 @@ impl Model for Directory {
 
     ghost Value = { Contents };
 
-    ghost view = { λ d. record { names = d.names; neighbours = map (λ v. v.items) d.neighbours.items } };
+    ghost view = { λ d. record {
+      names = d.names;
+      neighbours = map
+          (λ v. v.items) d.neighbours.items;
+    } };
 }
 
 impl Directory {
@@ -171,7 +175,7 @@ pub(crate) struct EntryText<'a> {
 }
 
 impl<'a> Model for EntryText<'a> {
-    ghost use Rattle.script.specs.Words.{Text};
+    ghost use Rattle.texts.specs.Words.{Text};
     ghost use Rattle.script.specs.Directories.{entry_text};
 
     ghost Value = { Text };
@@ -205,7 +209,7 @@ pub struct RowText<'a> {
 }
 
 impl<'a> Model for RowText<'a> {
-    ghost use Rattle.script.specs.Words.{Text};
+    ghost use Rattle.texts.specs.Words.{Text};
     ghost use Rattle.script.specs.Directories.{row_text};
 
     ghost Value = { Text };
@@ -234,7 +238,7 @@ struct AnswerText<'a> {
 }
 
 impl<'a> Model for AnswerText<'a> {
-    ghost use Rattle.script.specs.Words.{Text};
+    ghost use Rattle.texts.specs.Words.{Text};
     ghost use Rattle.script.specs.Directories.{answer_text};
 
     ghost Value = { Text };
@@ -266,7 +270,7 @@ pub struct LookupText<'a> {
 
 impl<'a> Model for LookupText<'a> {
     ghost use Rattle.std.specs.Prelude.{◌++◌, codes};
-    ghost use Rattle.script.specs.Words.{Text};
+    ghost use Rattle.texts.specs.Words.{Text};
 
     ghost Value = { Text };
 
@@ -290,7 +294,7 @@ pub struct PacketText<'a> {
 
 impl<'a> Model for PacketText<'a> {
     ghost use Rattle.std.specs.Prelude.{◌++◌, codes, decimal};
-    ghost use Rattle.script.specs.Words.{Text};
+    ghost use Rattle.texts.specs.Words.{Text};
 
     ghost Value = { Text };
 

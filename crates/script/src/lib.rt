@@ -13,7 +13,6 @@ mod place;
 mod reading;
 mod step;
 mod tracing;
-mod words;
 
 pub use command::{Command, read_command};
 pub use directory::{Directory, LookupText, PacketText, RowText};

@@ -76,7 +76,7 @@ pub struct Line<'a> {
 }
 
 impl<'a> Model for Line<'a> {
-    ghost use Rattle.script.specs.Words.{Text};
+    ghost use Rattle.texts.specs.Words.{Text};
     ghost use Rattle.script.specs.Lines.{told_text};
 
     ghost Value = { Text };
@@ -185,9 +185,9 @@ struct StateText(Option<u8>);
 
 impl fmt::Display for StateText {
     ghost use Rattle.std.specs.Prelude.{Some};
-    ghost use Rattle.script.specs.Lines.{state_text};
+    ghost use Rattle.script.specs.Lines.{origin_text};
 
-    ghost output = { λ t. Some (state_text t.0) };
+    ghost output = { λ t. Some (origin_text t.0) };
 
     fn fmt<W: fmt::Write>(&self, f: &mut fmt::Formatter<W>) -> fmt::Result {
         match self.0 {

@@ -3,15 +3,14 @@
 ghost use Rattle.std.specs.Prelude.{◌≡◌, [], ◌⊎◌, IfOk, IfErr, OnOk};
 ghost use Rattle.script.specs.Links.{IsLink, IsLinkFault};
 ghost use Rattle.script.specs.Reading.{StopsHere, ReadsFirst, IsWhole};
-ghost use Rattle.script.specs.Seen.{texts};
+ghost use Rattle.texts.specs.Words.{texts};
 
 use crate::fault::Fault;
 use crate::names::Names;
 use crate::place::{Key, Located};
-use crate::words::four_words;
-use decimal_text::read_number;
 use metric::Cost;
 use network_model::LinkSpec;
+use texts::{four_words, read_number};
 
 /// Reads the lines of links, up to the first fault.
 pub(crate) fn read_links(

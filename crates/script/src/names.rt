@@ -2,9 +2,9 @@
 
 ghost use Rattle.std.specs.Prelude.{◌≡◌, [], ◌∷◌, ◌++◌, ◌↔◌, ◌⊎◌, min, length, slice_get, Contains, take, IsTrue, IfErr, OnOk, OnErr, OnSome};
 ghost use Rattle.std.specs.Option.{option_copied};
-ghost use Rattle.script.specs.Routers.{IsName, AreNames, IsBadName, number_of, no_router};
+ghost use Rattle.script.specs.Routers.{IsName, AreNames, IsBadName, router_number, no_router};
 ghost use Rattle.script.specs.Reading.{StopsHere, IsWhole, IsNameFault};
-ghost use Rattle.script.specs.Seen.{texts};
+ghost use Rattle.texts.specs.Words.{texts};
 
 use crate::fault::Fault;
 use crate::place::{Key, Located};
@@ -23,7 +23,7 @@ pub struct Names {
 impl Model for Names {
     ghost use Rattle.std.specs.Prelude.{List, map, string_bytes};
     ghost use Rattle.std.specs.BTreeMap.{get_by_text};
-    ghost use Rattle.script.specs.Words.{Text};
+    ghost use Rattle.texts.specs.Words.{Text};
     ghost use Rattle.script.specs.Routers.{FindsNames};
 
     ghost Value = { List Text };
@@ -77,7 +77,7 @@ impl Names {
     /// The number of the router of this name; none where no router has it. Names past the 65535th
     /// have the number 65535.
     pub fn number(&self, name: &str) -> Option<u16>
-        ensures value { result ≡ number_of self.now name.now }
+        ensures value { result ≡ router_number self.now name.now }
         ensures name { OnSome result (IsName name.now) }
     {
         self.numbers.get(name).copied()
@@ -85,7 +85,8 @@ impl Names {
 
     /// Adds a router. The text is a `BadName` where it is no name or is among the names.
     pub(crate) fn add(&mut self, alloc: Global, name: &str) -> Result<(), Fault>
-        ensures ok { OnOk result ((self.new ≡ self.old ++ name.now ∷ []) × IsName name.now × ¬ (Contains self.old name.now)) }
+        ensures ok { OnOk result ((self.new ≡ self.old ++ name.now ∷ []) × IsName name.now
+            × ¬ (Contains self.old name.now)) }
         ensures err { OnErr result (self.new ≡ self.old) }
         ensures bad_name { result ≡ Err Fault.BadName → IsBadName self.old name.now }
         ensures faults { IfErr result (λ e. (e ≡ Fault.BadName) ⊎ (e ≡ Fault.NoMemory)) }

@@ -3,20 +3,22 @@
 ghost use Rattle.std.specs.Prelude.{◌≡◌, ℕ, ◌∷◌, IfOk, IfErr, None, Some};
 ghost use Rattle.std.specs.List.{list_any};
 ghost use Rattle.ipv4_prefix.specs.Prefix.{prefix_eq};
-ghost use Rattle.script.specs.Words.{Text, words_of};
-ghost use Rattle.script.specs.Routers.{IsName, number_of};
+ghost use Rattle.texts.specs.Words.{Text, words_of};
+ghost use Rattle.script.specs.Routers.{IsName, router_number};
 ghost use Rattle.script.specs.Commands.{NamesText, NamesPrefix, NamesNoPrefix};
 
 use crate::fault::Fault;
 use crate::names::Names;
-use crate::words::two_words;
 use ipv4_prefix::Prefix;
 use metric::Cost;
+use texts::two_words;
 
 /// The number of the router of this name.
 pub(crate) fn read_router(names: &Names, name: &str) -> Result<u16, Fault>
-    ensures ok { IfOk result (λ router. (number_of names.now name.now ≡ Some router) × IsName name.now) }
-    ensures err { IfErr result (λ e. (e ≡ Fault.BadCommand) × (number_of names.now name.now ≡ None)) }
+    ensures ok { IfOk result (λ router. (router_number names.now name.now ≡ Some router)
+        × IsName name.now) }
+    ensures err { IfErr result (λ e. (e ≡ Fault.BadCommand)
+        × (router_number names.now name.now ≡ None)) }
 {
     names.number(name).ok_or(Fault::BadCommand)
 }
@@ -25,7 +27,8 @@ pub(crate) fn read_router(names: &Names, name: &str) -> Result<u16, Fault>
 pub(crate) fn read_text<'a>(names: &Names, operands: &'a str) -> Result<(u16, &'a str), Fault>
     ensures ok { IfOk result (λ w. (verb : Text)
         → NamesText names.now verb (verb ∷ words_of operands.now) w.0 w.1.now) }
-    ensures err { IfErr result (λ e. (e ≡ Fault.BadCommand) × ((verb : Text) (router : ℕ) (text : Text)
+    ensures err { IfErr result (λ e. (e ≡ Fault.BadCommand)
+        × ((verb : Text) (router : ℕ) (text : Text)
         → ¬ (NamesText names.now verb (verb ∷ words_of operands.now) router text))) }
 {
     let (name, text) = two_words(operands).ok_or(Fault::BadCommand)?;

@@ -1,8 +1,9 @@
 //! Reads the four lists of a scenario.
 
 ghost use Rattle.std.specs.Prelude.{◌≡◌, IfOk, IfErr, OnOk, ◌⊎◌, None, Some};
-ghost use Rattle.script.specs.Reading.{AreParts, Stops, no_parts};
-ghost use Rattle.script.specs.Seen.{lists_of, parts_of};
+ghost use Rattle.script.specs.Reading.{AreParts, ReadingStops, no_parts};
+ghost use Rattle.texts.specs.Lists.{lists_of};
+ghost use Rattle.script.specs.Seen.{script_parts};
 
 use crate::attachment::read_attachments;
 use crate::command::{Command, read_commands};
@@ -51,9 +52,10 @@ pub fn read_script(
     script: &[String],
 ) -> Result<Reading, NoMemory>
     ensures parts { IfOk result (λ r.
-        AreParts (lists_of routers.now links.now prefixes.now script.now) (parts_of r.script)) }
+        AreParts (lists_of routers.now links.now prefixes.now script.now) (script_parts r.script)) }
     ensures stop { IfOk result (λ r.
-        Stops (lists_of routers.now links.now prefixes.now script.now) (parts_of r.script) r.fault) }
+        ReadingStops (lists_of routers.now links.now prefixes.now script.now)
+        (script_parts r.script) r.fault) }
 {
     let mut read = Script::new(alloc);
     match read.read(alloc, routers, links, prefixes, script) {
@@ -73,7 +75,7 @@ pub fn read_script(
 
 impl Script {
     fn new(alloc: Global) -> Script
-        ensures { parts_of result ≡ no_parts }
+        ensures { script_parts result ≡ no_parts }
     {
         Script {
             names: Names::new(alloc),
@@ -92,12 +94,15 @@ impl Script {
         prefixes: &[String],
         script: &[String],
     ) -> Result<(), Located>
-        requires { parts_of self.old ≡ no_parts }
-        ensures parts { AreParts (lists_of routers.now links.now prefixes.now script.now) (parts_of self.new) }
+        requires { script_parts self.old ≡ no_parts }
+        ensures parts { AreParts (lists_of routers.now links.now prefixes.now script.now)
+            (script_parts self.new) }
         ensures whole { OnOk result
-            (Stops (lists_of routers.now links.now prefixes.now script.now) (parts_of self.new) None) }
+            (ReadingStops (lists_of routers.now links.now prefixes.now script.now)
+            (script_parts self.new) None) }
         ensures stop { IfErr result (λ at. (at.fault ≡ Fault.NoMemory)
-            ⊎ Stops (lists_of routers.now links.now prefixes.now script.now) (parts_of self.new) (Some at)) }
+            ⊎ ReadingStops (lists_of routers.now links.now prefixes.now script.now)
+            (script_parts self.new) (Some at)) }
     {
         read_names(alloc, &mut self.names, routers)?;
         read_links(&self.names, &mut self.links, links)?;

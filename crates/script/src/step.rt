@@ -2,17 +2,16 @@
 
 ghost use Rattle.std.specs.Prelude.{◌≡◌, ◌≤◌, ℕ, ◌∷◌, IfOk, IfErr, IfSome, ◌<◌, length, position, codes};
 ghost use Rattle.metric.specs.Distance.{IsCost};
-ghost use Rattle.script.specs.Words.{Text, words_of};
+ghost use Rattle.texts.specs.Words.{Text, words_of};
 ghost use Rattle.script.specs.Commands.{joins as joins_both, link_between as first_between, port_on as number_on, AsksStep, AsksNoStep, AsksCost, AsksNoCost, AsksDelivery, AsksAttachment, AsksNoAttachment, IsWay, NamesLink};
 
 use crate::fault::Fault;
 use crate::names::Names;
 use crate::operand::{is_known, read_prefix, read_router};
-use crate::words::{first_word, three_words, two_words};
-use decimal_text::read_number;
 use ipv4_prefix::Prefix;
 use metric::Cost;
 use network_model::{LinkSpec, Step};
+use texts::{first_word, read_number, three_words, two_words};
 
 // The greatest number of links of a network.
 const MOST_LINKS: usize = 1024;
@@ -35,7 +34,8 @@ pub fn parse_step(
     line: &str,
 ) -> Result<Step, Fault>
     ensures ok { IfOk result (AsksStep names.now links.now attachments.now (words_of line.now)) }
-    ensures err { IfErr result (AsksNoStep names.now links.now attachments.now (words_of line.now)) }
+    ensures err { IfErr result (AsksNoStep names.now links.now attachments.now
+        (words_of line.now)) }
 {
     let (verb, operands) = first_word(line).ok_or(Fault::BadCommand)?;
     read_step(names, links, attachments, verb, operands)
@@ -99,8 +99,10 @@ pub(crate) fn read_step(
 // the link to the second.
 fn read_cost(names: &Names, links: &[LinkSpec], operands: &str) -> Result<(u16, u8, Cost), Fault>
     ensures ok { IfOk result (λ w.
-        AsksCost names.now links.now (codes "cost" ∷ words_of operands.now) w.0 w.1 w.2 × IsCost w.2) }
-    ensures err { IfErr result (AsksNoCost names.now links.now (codes "cost" ∷ words_of operands.now)) }
+        AsksCost names.now links.now (codes "cost" ∷ words_of operands.now) w.0 w.1 w.2
+        × IsCost w.2) }
+    ensures err { IfErr result (AsksNoCost names.now links.now
+        (codes "cost" ∷ words_of operands.now)) }
 {
     let (name, neighbour, number) = three_words(operands).ok_or(Fault::BadCommand)?;
     let way = way_between(names, links, name, neighbour)?;
@@ -116,7 +118,8 @@ fn read_port(names: &Names, links: &[LinkSpec], operands: &str) -> Result<(u16, 
     ensures ok { IfOk result (λ w.
         AsksDelivery names.now links.now (codes "deliver" ∷ words_of operands.now) w.0 w.1) }
     ensures err { IfErr result (λ e. (e ≡ Fault.BadCommand) × ((router port : ℕ)
-        → ¬ (AsksDelivery names.now links.now (codes "deliver" ∷ words_of operands.now) router port))) }
+        → ¬ (AsksDelivery names.now links.now
+        (codes "deliver" ∷ words_of operands.now) router port))) }
 {
     let (name, neighbour) = two_words(operands).ok_or(Fault::BadCommand)?;
     if name == neighbour {
@@ -136,7 +139,8 @@ fn read_attach(
     operands: &str,
 ) -> Result<(u16, Prefix, Cost), Fault>
     ensures ok { IfOk result (λ w.
-        AsksAttachment names.now attachments.now (codes "attach" ∷ words_of operands.now) w.0 w.1 w.2) }
+        AsksAttachment names.now attachments.now
+        (codes "attach" ∷ words_of operands.now) w.0 w.1 w.2) }
     ensures err { IfErr result
         (AsksNoAttachment names.now attachments.now (codes "attach" ∷ words_of operands.now)) }
 {
@@ -205,7 +209,8 @@ fn joins(link: &LinkSpec, a: u16, b: u16) -> bool
 // the link of that number, and past all links that of the router's own attachments.
 fn port_on(links: &[LinkSpec], router: u16, link: usize) -> Result<u8, Fault>
     ensures ok { IfOk result (λ port. (port ≡ number_on router link links.now) × (port < 256)) }
-    ensures err { IfErr result (λ e. (e ≡ Fault.BadCommand) × (256 ≤ number_on router link links.now)) }
+    ensures err { IfErr result (λ e. (e ≡ Fault.BadCommand)
+        × (256 ≤ number_on router link links.now)) }
 {
     match u8::try_from(earlier_links(links, router, link)) {
         Ok(port) => Ok(port),

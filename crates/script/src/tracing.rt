@@ -5,7 +5,7 @@ ghost use Rattle.script.specs.Directories.{end_text, trace_text};
 
 use crate::directory::Directory;
 use ipv4_prefix::Addr;
-use packet_trace::{End, Trace};
+use network_model::{Ending, Trace};
 use std::fmt;
 use std::marker::Model;
 
@@ -37,7 +37,7 @@ struct PathText<'a> {
 }
 
 impl<'a> Model for PathText<'a> {
-    ghost use Rattle.script.specs.Words.{Text};
+    ghost use Rattle.texts.specs.Words.{Text};
     ghost use Rattle.script.specs.Directories.{path_text};
 
     ghost Value = { Text };
@@ -60,15 +60,15 @@ impl fmt::Display for PathText<'_> {
 }
 
 // The words for the end of a trace.
-fn end_words(end: End) -> &'static str
+fn end_words(end: Ending) -> &'static str
     ensures { result.now ≡ end_text end }
 {
     match end {
-        End::Delivered => "delivered",
-        End::NoRoute => "no route",
-        End::Unreachable => "unreachable",
-        End::DeadLink => "dead link",
-        End::Crossed => "crossed",
+        Ending::Delivered => "delivered",
+        Ending::NoRoute => "no route",
+        Ending::Unreachable => "unreachable",
+        Ending::DeadLink => "dead link",
+        Ending::Crossed => "crossed",
     }
 }
 
@@ -79,18 +79,19 @@ pub struct TraceText<'a> {
     router: u16,
     addr: u32,
     path: PathText<'a>,
-    end: End,
+    end: Ending,
 }
 
 impl<'a> Model for TraceText<'a> {
     ghost use Rattle.std.specs.Prelude.{◌++◌, Some, codes};
     ghost use Rattle.ipv4_prefix.specs.Texts.{address_text};
-    ghost use Rattle.script.specs.Words.{Text};
+    ghost use Rattle.texts.specs.Words.{Text};
     ghost use Rattle.script.specs.Directories.{name_text, end_text};
 
     ghost Value = { Text };
 
-    ghost view = { λ t. codes "trace " ++ name_text t.directory.now (Some t.router) ++ codes " " ++ address_text t.addr ++ codes ": " ++ t.path ++ end_text t.end };
+    ghost view = { λ t. codes "trace " ++ name_text t.directory.now (Some t.router) ++ codes " "
+        ++ address_text t.addr ++ codes ": " ++ t.path ++ end_text t.end };
 }
 
 impl fmt::Display for TraceText<'_> {

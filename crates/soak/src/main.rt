@@ -9,13 +9,13 @@ mod traces;
 ghost use Rattle.std.specs.Prelude.{◌≡◌, ◌↔◌, true};
 
 use crate::random::Scenario;
-use crate::traces::{PART, are_straight, step_lines, traced};
+use crate::traces::{PART, are_straight, step_lines, trace_all};
 use play::Host;
 use std::alloc::{AllocError, Global};
 use std::env;
 use std::io::Write;
 use std::process::ExitCode;
-use trial::played;
+use trial::play_in_memory;
 use words::Words;
 
 const THREADS: u8 = 4;
@@ -23,13 +23,13 @@ const THREADS: u8 = 4;
 const WORKERS: u8 = 4;
 
 fn main(rt: HostRuntime) -> ExitCode {
-    let (seed, count) = asked(&rt);
+    let (seed, count) = read_numbers(&rt);
     let mut out = rt.stdout();
     let _ = writeln!(&mut out, "seed {seed}");
     let mut good = 0u32;
     for number in 0..count {
         match random::draw(rt.alloc(), seed.wrapping_add(u64::from(number))) {
-            Ok(scenario) => match tried(&rt, rt.alloc(), &scenario) {
+            Ok(scenario) => match try_scenario(&rt, rt.alloc(), &scenario) {
                 Ok(true) => good = good.saturating_add(1),
                 _ => {
                     let _ = write!(&mut out, "scenario {number}:\n{}", scenario.text);
@@ -48,7 +48,7 @@ fn main(rt: HostRuntime) -> ExitCode {
 }
 
 // The seed, and how many scenarios; 1 and 20 where they are not asked for.
-fn asked(rt: &HostRuntime) -> (u64, u32) {
+fn read_numbers(rt: &HostRuntime) -> (u64, u32) {
     let mut numbers = (1, 20);
     let Ok(args) = env::args(rt) else {
         return numbers;
@@ -65,7 +65,7 @@ fn asked(rt: &HostRuntime) -> (u64, u32) {
 
 // Whether a scenario is run to its end, what its journal tells is done again, and no packet that is
 // traced after a step of it meets a router twice.
-fn tried<H: Host>(rt: &H, alloc: Global, scenario: &Scenario) -> Result<bool, AllocError> {
+fn try_scenario<H: Host>(rt: &H, alloc: Global, scenario: &Scenario) -> Result<bool, AllocError> {
     let words = Words::Run {
         file: "",
         threads: THREADS,
@@ -74,13 +74,13 @@ fn tried<H: Host>(rt: &H, alloc: Global, scenario: &Scenario) -> Result<bool, Al
         explain: false,
     };
     let text = scenario.text.as_bytes();
-    let ran = trial::asked(rt, alloc, &words, text);
+    let ran = trial::run_in_memory(rt, alloc, &words, text);
     let words = Words::Replay {
         file: "",
         journal: "",
         explain: false,
     };
-    let replayed = played(rt, alloc, &words, text, ran.kept.as_slice());
+    let replayed = play_in_memory(rt, alloc, &words, text, ran.kept.as_slice());
     let straight = is_straight(rt, alloc, scenario, &ran.kept)?;
     Ok(is_good(ran.status, replayed.status, straight))
 }
@@ -101,7 +101,7 @@ fn is_straight<H: Host>(
     };
     let last = steps.lines().count().saturating_sub(1) / PART;
     for part in 0..=last {
-        let Some(text) = traced(alloc, scenario, steps, part)? else {
+        let Some(text) = trace_all(alloc, scenario, steps, part)? else {
             return Ok(false);
         };
         if !is_run_straight(rt, alloc, &text) {
@@ -120,7 +120,7 @@ fn is_run_straight<H: Host>(rt: &H, alloc: Global, text: &str) -> bool {
         journal: None,
         explain: false,
     };
-    let ran = trial::asked(rt, alloc, &words, text.as_bytes());
+    let ran = trial::run_in_memory(rt, alloc, &words, text.as_bytes());
     let Ok(out) = str::from_utf8(&ran.out) else {
         return false;
     };

@@ -15,7 +15,7 @@ pub fn step_lines(journal: &str) -> Option<&str> {
 
 /// The text of the scenario with these steps for its script, up to those of this part, and a trace from
 /// each router after each step of the part; none where the scenario has no script.
-pub fn traced(
+pub fn trace_all(
     alloc: Global,
     scenario: &Scenario,
     steps: &str,

@@ -1,15 +1,7 @@
 -- What traces rest on, in the world of every run.
-use Rattle.std.specs.Prelude.{◌≡◌, ◌<◌, List, length, slice_get, option_and_then}
-use Rattle.std.proofs.Common.{sym, ap, ◌∙◌, arith}
-use Rattle.std.proofs.lemmas.List.{length-map}
-use Rattle.std.proofs.lemmas.List.FromFn.{length-map-range_with_len}
-use Rattle.std.proofs.lemmas.Option.{slice_get_within}
-use Rattle.network_model.specs.declared.network.Place.{Place}
+use Rattle.std.proofs.Common.{sym, ap, ◌∙◌, arith, ◌≡◌, ◌<◌, List, length, slice_get, option_and_then}
+use Rattle.packet_loops.proofs.Common.{length-map, length-map-range_with_len, slice_get_within, Place, Network, World, opening, opening_link, IsNetwork, Runs, history, at_port}
 use Rattle.network_model.specs.declared.step.Step.{Step}
-use Rattle.network_model.specs.World.{Network, World, opening, opening_link}
-use Rattle.network_model.specs.Network.{IsNetwork}
-use Rattle.network_model.specs.Run.{Runs, history}
-use Rattle.loop_freedom.specs.Network.{at_port}
 use Rattle.packet_loops.proofs.Places.{laid}
 use Rattle.packet_loops.proofs.Runs.{reached}
 use Rattle.packet_loops.proofs.Walks.{leads_known}

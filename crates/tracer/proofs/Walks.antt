@@ -1,16 +1,7 @@
 -- What a trace that has passed some routers is, and where it goes.
-use Rattle.std.specs.Prelude.{◌≡◌, ℕ, suc, ◌<◌, Bool, true, false, if◌then◌else◌, List, [], ◌∷◌, ◌++◌, length, Option, Some, None, slice_get, option_and_then}
-use Rattle.std.proofs.Common.{refl, sym, ap, subst, ◌∙◌}
-use Rattle.std.proofs.lemmas.List.{append_assoc}
-use Rattle.std.proofs.lemmas.Option.{slice_get_within}
-use Rattle.ipv4_prefix.specs.Prefix.{Prefix}
-use Rattle.ipv4_prefix.specs.LongestMatch.{longest_match}
-use Rattle.network_model.specs.declared.route.Entry.{Entry}
-use Rattle.network_model.specs.declared.route.Entry.TheVariants.{Local, Via, Unreachable}
-use Rattle.network_model.specs.World.{Router, World}
-use Rattle.network_model.specs.Publication.{image_answer}
-use Rattle.network_model.specs.Forwarding.{Ending, Onward, Ends, Goes, Trace, row_for, entry_leads, is_crossed, over_link, by_entry, by_row, onward, traced_by, trace_from, IsPacketWalk}
-use Rattle.network_model.proofs.ListLaws.{None_not_Some, element_there}
+use Rattle.std.proofs.Common.{refl, sym, ap, subst, ◌∙◌, ◌≡◌, ℕ, suc, ◌<◌, Bool, true, false, if◌then◌else◌, List, [], ◌∷◌, ◌++◌, length, Option, Some, None, slice_get, option_and_then, append_assoc}
+use Rattle.packet_loops.proofs.Common.{slice_get_within, Prefix, longest_match, Entry, Ending, Router, World, image_answer, Onward, Ends, Goes, Trace, row_for, entry_leads, is_crossed, by_entry, by_row, onward, traced_by, trace_from, IsPacketWalk, None_not_Some, element_there}
+use Rattle.packet_loops.proofs.Traces.{by_entry-goes}
 use Rattle.fabric.specs.Fabric.{Fabric, ForwardsAsPublished}
 use Rattle.fabric.specs.Headline.{image_row, none_published, IsImageWalk}
 use Rattle.tracer.specs.Tracing.{LeadsToRouters}
@@ -25,7 +16,7 @@ module _ (w : World) (addr m : ℕ) (first : Option Prefix) (i : ℕ) (before : 
   done o = behind before (traced_by (λ p k. trace_from m w addr (Some p) k) i o)
 
   -- where it ends at the router
-  pub ends_here : (end : Ending) → onward w addr first i ≡ Ends end → behind before (trace_from (suc m) w addr first i) ≡ record { path = before ++ i ∷ []; end = end }
+  pub ends_here : (end : Ending) → onward w addr first i ≡ Ends end → behind before (trace_from (suc m) w addr first i) ≡ record { path = before ++ i ∷ []; end = Some end }
   ends_here end is = ap done is
 
   -- where it goes on from the router
@@ -36,17 +27,6 @@ module _ (w : World) (addr m : ℕ) (first : Option Prefix) (i : ℕ) (before : 
 
 -- ---- where a trace goes on, it goes to a router
 
--- over a link to its far end
-over_link-goes : (p : Prefix) (o : Option ℕ) (q : Prefix) (k : ℕ) → over_link p o ≡ Goes q k → o ≡ Some k
-over_link-goes p None q k h = absurd (let f : ⊥ = cc in f)
-over_link-goes p (Some j) q k h = let e : j ≡ k = cc in ap Some e
-
--- by an entry to where the entry leads
-by_entry-goes : (w : World) (i : ℕ) (p : Prefix) (e : Entry) (q : Prefix) (k : ℕ) → by_entry w i p e ≡ Goes q k → entry_leads w i e ≡ Some k
-by_entry-goes w i p Local q k h = absurd (let f : ⊥ = cc in f)
-by_entry-goes w i p Unreachable q k h = absurd (let f : ⊥ = cc in f)
-by_entry-goes w i p (Via port session) q k h = over_link-goes p (entry_leads w i (Via port session)) q k h
-
 -- by a row to a router to which some entry leads
 by_row-goes : (w : World) (i : ℕ) (first : Option Prefix) (row : Option (Prefix × Entry)) (q : Prefix) (k : ℕ) → by_row w i first row ≡ Goes q k → (e : Entry) × (entry_leads w i e ≡ Some k)
 by_row-goes w i first None q k h = absurd (let f : ⊥ = cc in f)
@@ -54,7 +34,7 @@ by_row-goes w i first (Some r) q k h = by_cross (is_crossed first r.0) h
   where
     by_cross : (b : Bool) → (if b then Ends Ending.Crossed else by_entry w i r.0 r.1) ≡ Goes q k → (e : Entry) × (entry_leads w i e ≡ Some k)
     by_cross true g = absurd (let f : ⊥ = cc in f)
-    by_cross false g = (r.1, by_entry-goes w i r.0 r.1 q k g)
+    by_cross false g = (r.1, (by_entry-goes w i r.0 r.1 q k g).1)
 
 -- a trace that goes on goes to a router of the world
 pub goes_known : (w : World) → LeadsToRouters w → (addr : ℕ) (first : Option Prefix) (i : ℕ) (p : Prefix) (k : ℕ) → onward w addr first i ≡ Goes p k → k < length w.routers

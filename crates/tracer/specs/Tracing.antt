@@ -4,12 +4,11 @@ use Rattle.network_model.specs.declared.route.Entry.{Entry}
 use Rattle.network_model.specs.declared.network.Place.{Place}
 use Rattle.network_model.specs.World.{World, place_at}
 use Rattle.network_model.specs.Forwarding.{Onward as PacketOnward, Ends, Goes, entry_leads}
-use Rattle.packet_trace.specs.Traces.{ending_of}
 use Rattle.tracer.specs.declared.onward.Onward.{Onward}
 
 -- what a trace does at a router
 abbrev pub onward_of : Onward → PacketOnward
-onward_of (Onward.Ends end) = Ends (ending_of end)
+onward_of (Onward.Ends end) = Ends end
 onward_of (Onward.Goes prefix router) = Goes prefix router
 
 -- the link at each port is one of the world's

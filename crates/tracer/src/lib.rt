@@ -5,7 +5,7 @@ mod fault;
 mod onward;
 mod walk;
 
-pub use fabric::{Fabric, Naming};
+pub use fabric::{Fabric, FabricName};
 pub use fault::TraceFault;
-pub use packet_trace::{End, Trace};
+pub use network_model::{Ending, Trace};
 pub use walk::trace;

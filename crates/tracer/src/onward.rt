@@ -6,15 +6,14 @@ ghost use Rattle.network_model.specs.Forwarding.{by_row, entry_leads, onward};
 ghost use Rattle.tracer.specs.Tracing.{HasLinksOfPorts, onward_of};
 
 use crate::fault::{TraceFault, lookup_fault};
-use fabric::{Fabric, Naming};
-use network_model::{End as LinkEnd, Entry, Prefix};
-use packet_trace::End;
+use fabric::{Fabric, FabricName};
+use network_model::{End, Ending, Entry, Prefix};
 use world::World;
 
 /// What a trace does at a router.
 #[derive(Clone, Copy)]
 pub enum Onward {
-    Ends(End),
+    Ends(Ending),
     // By the row of this prefix, to this router.
     Goes { prefix: Prefix, router: u16 },
 }
@@ -30,8 +29,8 @@ fn far_router(world: &World, router: u16, port: u8, session: u16) -> Option<u16>
         return None;
     }
     let far = match place.end {
-        LinkEnd::A => LinkEnd::B,
-        LinkEnd::B => LinkEnd::A,
+        End::A => End::B,
+        End::B => End::A,
     };
     Some(links.router(place.link, far))
 }
@@ -47,23 +46,23 @@ fn by_row(
     ensures { onward_of result ≡ by_row world.now router first matched }
 {
     let Some((prefix, entry)) = matched else {
-        return Onward::Ends(End::NoRoute);
+        return Onward::Ends(Ending::NoRoute);
     };
     if first.is_some_and(|first| first != prefix) {
-        return Onward::Ends(End::Crossed);
+        return Onward::Ends(Ending::Crossed);
     }
     match entry {
-        Entry::Local => Onward::Ends(End::Delivered),
-        Entry::Unreachable => Onward::Ends(End::Unreachable),
+        Entry::Local => Onward::Ends(Ending::Delivered),
+        Entry::Unreachable => Onward::Ends(Ending::Unreachable),
         Entry::Via { port, session } => match far_router(world, router, port, session) {
             Some(router) => Onward::Goes { prefix, router },
-            None => Onward::Ends(End::DeadLink),
+            None => Onward::Ends(Ending::DeadLink),
         },
     }
 }
 
 /// Asks the image in force at a router, once the first router matched this prefix, if it left one.
-pub fn ask<B: Naming>(
+pub fn ask<B: FabricName>(
     fabric: &mut Fabric<B>,
     addr: u32,
     first: Option<Prefix>,

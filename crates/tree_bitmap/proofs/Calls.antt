@@ -1,6 +1,5 @@
 -- What the calls of a tree leave, as its code computes it.
-use Rattle.std.proofs.Common.{ℕ, suc, ◌≡◌, ◌≢◌, ⊎_elim, ◌+◌, ◌*◌, ◌^◌, ◌<◌, ◌≤◌, Option, Some, true, is_some, count_ones, arith, refl, sym, ap, subst, ◌∙◌}
-use Rattle.std.specs.Prelude.{Result, Ok, Err, OnErr}
+use Rattle.std.proofs.Common.{ℕ, suc, ◌≡◌, ◌≢◌, ⊎_elim, ◌+◌, ◌*◌, ◌^◌, ◌<◌, ◌≤◌, Option, Some, true, is_some, count_ones, arith, refl, sym, ap, subst, ◌∙◌, Result, Ok, Err, OnErr}
 use Rattle.std.specs.Int.{bit_at}
 use Rattle.std.proofs.lemmas.Nat.{ones-le}
 use Rattle.std.proofs.lemmas.Nat.Bits.{bit_at-lt}
@@ -8,7 +7,7 @@ use Rattle.std.proofs.lemmas.Bool.{cases_order}
 use mathlib.Core.Path.{fun_ext}
 use Rattle.node_pool.specs.Pool.{IsGrown, IsWritten}
 use Rattle.tree_bitmap.specs.Bits.{rank, nibble, path_start, internal_bit}
-use Rattle.tree_bitmap.specs.Tree.{blank, node_at, row_at, IsSound, SetsRow, with_child, with_result, IsChild, IsResult}
+use Rattle.tree_bitmap.specs.Tree.{blank, node_at, row_at, IsLaidOut, SetsRow, with_child, with_result, IsChild, IsResult}
 use Rattle.tree_bitmap.specs.declared.node.Node.{Node}
 use Rattle.network_model.specs.declared.route.Entry.{Entry}
 use Rattle.tree_bitmap.proofs.Ranks.{ones-add, add_lt, bit_at-add_same, rank-add_below}
@@ -46,8 +45,8 @@ pub blank_count : (o : Option Node) (a : Node) → o ≡ Some a → o ≡ Some b
 blank_count o a e f = ap (λ x. count_ones x.external) (Some_same o a blank e f) ∙ ones_of_zero
 
 -- cells with the same contents are as sound
-pub same_sound : (N N' : ℕ → Option Node) (G G' : ℕ → Option Entry) → ((k : ℕ) → N' k ≡ N k) → ((k : ℕ) → G' k ≡ G k) → IsSound N G → IsSound N' G'
-same_sound N N' G G' e f s = subst (λ n. IsSound n G') (fun_ext (λ k. sym (e k))) (subst (λ g. IsSound N g) (fun_ext (λ k. sym (f k))) s)
+pub same_sound : (N N' : ℕ → Option Node) (G G' : ℕ → Option Entry) → ((k : ℕ) → N' k ≡ N k) → ((k : ℕ) → G' k ≡ G k) → IsLaidOut N G → IsLaidOut N' G'
+same_sound N N' G G' e f s = subst (λ n. IsLaidOut n G') (fun_ext (λ k. sym (e k))) (subst (λ g. IsLaidOut N g) (fun_ext (λ k. sym (f k))) s)
 
 -- what holds holds on a refusal
 pub on_err_from : {T E P : Type 0} (r : Result T E) → P → OnErr r P
@@ -64,7 +63,7 @@ child_place_after N path depth index a four below at here f b has =
     ∙ ap (λ r. Some (a.child_base + r)) (ap (rank a.external) (sym f) ∙ sym b)
 
 -- the child of a node is in use
-pub child_used : (N : ℕ → Option Node) (G : ℕ → Option Entry) (index : ℕ) (a : Node) (four below : ℕ) → IsSound N G → N index ≡ Some a
+pub child_used : (N : ℕ → Option Node) (G : ℕ → Option Entry) (index : ℕ) (a : Node) (four below : ℕ) → IsLaidOut N G → N index ≡ Some a
     → below ≡ rank a.external four → bit_at a.external four ≡ 1 → is_some (N (a.child_base + below)) ≡ true
 child_used N G index a four below sound here b has =
     sound.children_used index a here (a.child_base + below) (subst (λ r. IsChild a (a.child_base + r)) (sym b) (child_in_block a four has))
@@ -74,7 +73,7 @@ pub same_cells : {T : Type 0} (f g : ℕ → Option T) → ((k : ℕ) → g k �
 same_cells f g h = fun_ext h
 
 module _ (N M N' : ℕ → Option Node) (G : ℕ → Option Entry) (index path depth : ℕ) (a : Node) (four below size external base : ℕ)
-    (sound : IsSound N G) (at : node_at N path depth ≡ Some index) (here : N index ≡ Some a)
+    (sound : IsLaidOut N G) (at : node_at N path depth ≡ Some index) (here : N index ≡ Some a)
     (f : four ≡ nibble path depth) (b : below ≡ rank a.external four) (s : size ≡ count_ones a.external) (x : external ≡ a.external + 2 ^ four)
     (unset : bit_at a.external four ≢ 1)
     (grown : IsGrown N M a.child_base size below blank base)
@@ -92,7 +91,7 @@ module _ (N M N' : ℕ → Option Node) (G : ℕ → Option Entry) (index path d
   written' = subst (λ e. IsWritten M N' index (record { internal = a.internal; external = e; child_base = base; result_base = a.result_base })) x written
 
   -- the tree is sound with the new child
-  pub made_sound : IsSound N' G
+  pub made_sound : IsLaidOut N' G
   made_sound = sound_after N M N' G index four base a sound here clear grown' written'
 
   -- no row has changed
@@ -114,7 +113,7 @@ module _ (N M N' : ℕ → Option Node) (G : ℕ → Option Entry) (index path d
 
 -- what a change of one bit of the node of a path makes of the rows
 pub sets_row : (N N' : ℕ → Option Node) (G G' : ℕ → Option Entry) (index bit : ℕ) (entry : Entry) (a a' : Node) (path depth len : ℕ)
-    → IsSound N G → depth ≤ 8 → len < 4 → path < 2 ^ 36 → node_at N path depth ≡ Some index → bit ≡ internal_bit (nibble path depth) len
+    → IsLaidOut N G → depth ≤ 8 → len < 4 → path < 2 ^ 36 → node_at N path depth ≡ Some index → bit ≡ internal_bit (nibble path depth) len
     → SetsBit N N' G G' index bit entry a a' → SetsRow (row_at N G) (row_at N' G') path (4 * depth + len) entry
 sets_row N N' G G' index bit entry a a' path depth len sound deep short p at b sets =
     let sets' = subst (λ k. SetsBit N N' G G' index k entry a a') b sets in
@@ -124,7 +123,7 @@ sets_row N N' G G' index bit entry a a' path depth len sound deep short p at b s
     }
 
 module _ (N N' : ℕ → Option Node) (G G' : ℕ → Option Entry) (index bit : ℕ) (entry : Entry) (a : Node) (below size internal base : ℕ)
-    (sound : IsSound N G) (here : N index ≡ Some a)
+    (sound : IsLaidOut N G) (here : N index ≡ Some a)
     (b : below ≡ rank a.internal bit) (s : size ≡ count_ones a.internal) (x : internal ≡ a.internal + 2 ^ bit)
     (unset : bit_at a.internal bit ≢ 1)
     (grown : IsGrown G G' a.result_base size below entry base)
@@ -142,7 +141,7 @@ module _ (N N' : ℕ → Option Node) (G G' : ℕ → Option Entry) (index bit :
   written'' = subst (λ e. IsWritten N N' index (record { internal = e; external = a.external; child_base = a.child_base; result_base = base })) x written
 
   -- the tree is sound with the new result
-  pub put_sound : bit < 15 → IsSound N' G'
+  pub put_sound : bit < 15 → IsLaidOut N' G'
   put_sound = insert_sound N N' G G' index bit base entry a sound here clear' grown'' written''
 
   -- the new result is set, and nothing else
@@ -150,7 +149,7 @@ module _ (N N' : ℕ → Option Node) (G G' : ℕ → Option Entry) (index bit :
   put_sets = insert_sets N N' G G' index bit base entry a sound here clear' grown'' written''
 
 module _ (N : ℕ → Option Node) (G G' : ℕ → Option Entry) (index bit : ℕ) (entry : Entry) (a : Node) (below : ℕ)
-    (sound : IsSound N G) (here : N index ≡ Some a) (b : below ≡ rank a.internal bit) (has : bit_at a.internal bit ≡ 1) where
+    (sound : IsLaidOut N G) (here : N index ≡ Some a) (b : below ≡ rank a.internal bit) (has : bit_at a.internal bit ≡ 1) where
   -- the result of a bit that is set is in use
   pub result_used : is_some (G (a.result_base + below)) ≡ true
   result_used = sound.results_used index a here (a.result_base + below)
@@ -161,7 +160,7 @@ module _ (N : ℕ → Option Node) (G G' : ℕ → Option Entry) (index bit : �
   written_over w = subst (λ r. IsWritten G G' (a.result_base + r) entry) b w
 
   -- the tree is sound with the other result
-  pub over_sound : IsWritten G G' (a.result_base + below) entry → IsSound N G'
+  pub over_sound : IsWritten G G' (a.result_base + below) entry → IsLaidOut N G'
   over_sound w = replace_sound N G G' index bit entry a sound here has (written_over w)
 
   -- the result is set, and nothing else

@@ -1,7 +1,7 @@
 -- The rows of a tree.
 use Rattle.std.proofs.Common.{ℕ, zero, suc, subst, ◌≡◌, ◌+◌, ◌-◌, ◌/◌, ◌<◌, Option, Some, None, arith, sym, ap, ◌∙◌, ⊎_elim}
 use Rattle.std.proofs.lemmas.Bool.{cases_lt}
-use Rattle.tree_bitmap.specs.Tree.{blank, node_at, row_at, IsChild, IsResult, IsSound}
+use Rattle.tree_bitmap.specs.Tree.{blank, node_at, row_at, IsChild, IsResult, IsLaidOut}
 use Rattle.tree_bitmap.specs.declared.node.Node.{Node}
 use Rattle.network_model.specs.declared.route.Entry.{Entry}
 use Rattle.tree_bitmap.proofs.Paths.{is_some-from, none≢some, Some_same, blank_has_no_child, blank_has_no_result, root_at, blank_ends, entry-blank, row-some, row-none}
@@ -32,7 +32,7 @@ module _ (nodes : ℕ → Option Node) (results : ℕ → Option Entry) (root : 
   no_result j a e k q = blank_has_no_result k (subst (λ x. IsResult x k) (is_blank j a e) q)
 
   -- a tree of a blank root alone is sound
-  pub root_sound : IsSound nodes results
+  pub root_sound : IsLaidOut nodes results
   root_sound = record {
     root = is_some-from (nodes 0) blank root;
     children_used = λ j a e k q. absurd (no_child j a e k q);

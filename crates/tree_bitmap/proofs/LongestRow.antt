@@ -4,7 +4,7 @@ use Rattle.std.specs.Int.{bit_at}
 use Rattle.std.proofs.lemmas.Bool.{cases_lt, cases_eq}
 use Rattle.tree_bitmap.specs.Bits.{rank, nibble, path_start, internal_bit, width}
 use Rattle.tree_bitmap.specs.Greatest.{GreatestBelow, longer}
-use Rattle.tree_bitmap.specs.Tree.{node_at, entry_at_bit, result_place, place_at, row_at, node_cell, IsSound}
+use Rattle.tree_bitmap.specs.Tree.{node_at, entry_at_bit, result_place, place_at, row_at, node_cell, IsLaidOut}
 use Rattle.tree_bitmap.specs.declared.node.Node.{Node}
 use Rattle.network_model.specs.declared.route.Entry.{Entry}
 use Rattle.tree_bitmap.proofs.Paths.{cases_option, some-from, none≢some, Some_same, node_used, step_none, step_no, place-some, place-none, place-set, place-clear, result_in_block}
@@ -109,7 +109,7 @@ pub no_row : (nodes : ℕ → Option Node) (results : ℕ → Option Entry) (pat
 unfolding row_at
 no_row nodes results path b = λ k h. ap (option_and_then results) (b k h)
 
-module _ (nodes : ℕ → Option Node) (results : ℕ → Option Entry) (sound : IsSound nodes results) (path len place : ℕ) where
+module _ (nodes : ℕ → Option Node) (results : ℕ → Option Entry) (sound : IsLaidOut nodes results) (path len place : ℕ) where
   -- a bit that is set has its result in use
   used_at : (j : ℕ) (a : Node) (bit : ℕ) → nodes j ≡ Some a → result_place bit (Some a) ≡ Some place
       → (bit_at a.internal bit ≡ 1) ⊎ (bit_at a.internal bit ≡ 1 → ⊥) → is_some (results place) ≡ true

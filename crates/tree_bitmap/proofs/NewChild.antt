@@ -4,7 +4,7 @@ use Rattle.std.specs.Int.{bit_at}
 use Rattle.std.proofs.lemmas.Bool.{cases_eq, cases_order, cases_lt}
 use Rattle.node_pool.specs.Pool.{IsGrown, IsWritten}
 use Rattle.tree_bitmap.specs.Bits.{rank}
-use Rattle.tree_bitmap.specs.Tree.{blank, nibble, internal_bit, child, HasChild, IsChild, IsResult, node_at, entry_at_bit, row_at, IsSound, with_child}
+use Rattle.tree_bitmap.specs.Tree.{blank, nibble, internal_bit, child, HasChild, IsChild, IsResult, node_at, entry_at_bit, row_at, IsLaidOut, with_child}
 use Rattle.tree_bitmap.specs.declared.node.Node.{Node}
 use Rattle.network_model.specs.declared.route.Entry.{Entry}
 use Rattle.tree_bitmap.proofs.Ranks.{rank_lt, rank_le, rank_mono, rank_mono_lt, bit_at-add_same, bit_at-add_other, ones-add, rank-add_below, rank-add_above}
@@ -26,7 +26,7 @@ Back N index four base a j' b =
     ⊎ ((j : ℕ) × (N j ≡ Some b) × (j ≢ index) × Moves a four base j j'))
 
 module _ (N M N' : ℕ → Option Node) (G : ℕ → Option Entry) (index four base : ℕ) (a : Node)
-    (sound : IsSound N G) (here : N index ≡ Some a) (clear : bit_at a.external four ≡ 0)
+    (sound : IsLaidOut N G) (here : N index ≡ Some a) (clear : bit_at a.external four ≡ 0)
     (grown : IsGrown N M a.child_base (count_ones a.external) (rank a.external four) blank base)
     (written : IsWritten M N' index (with_child a four base)) where
   -- a used cell is not among the new ones
@@ -346,7 +346,7 @@ module _ (N M N' : ℕ → Option Node) (G : ℕ → Option Entry) (index four b
   fifteen_bits_of j' b (inr (inr (j, c, n, m))) = sound.fifteen_bits j b c
 
   -- the tree is sound with the new child
-  pub sound_after : IsSound N' G
+  pub sound_after : IsLaidOut N' G
   sound_after = record {
     root = still 0 sound.root (sound.root_apart index a here);
     children_used = λ j b e. children_of j b (back j b e);

@@ -4,7 +4,7 @@ use Rattle.std.specs.Int.{bit_at}
 use Rattle.std.proofs.lemmas.Bool.{cases_eq, cases_order}
 use Rattle.node_pool.specs.Pool.{IsGrown, IsWritten}
 use Rattle.tree_bitmap.specs.Bits.{rank}
-use Rattle.tree_bitmap.specs.Tree.{nibble, path_start, internal_bit, IsChild, IsResult, child_by, child_under, node_at, entry_at_bit, row_at, IsSound, with_result}
+use Rattle.tree_bitmap.specs.Tree.{nibble, path_start, internal_bit, IsChild, IsResult, child_by, child_under, node_at, entry_at_bit, row_at, IsLaidOut, with_result}
 use Rattle.tree_bitmap.specs.declared.node.Node.{Node}
 use Rattle.network_model.specs.declared.route.Entry.{Entry}
 use Rattle.tree_bitmap.proofs.Ranks.{rank_lt, rank_le, rank_mono, rank_mono_lt, bit_at-add_same, bit_at-add_other, ones-add, add_lt, rank-add_below, rank-add_above}
@@ -24,7 +24,7 @@ pub record SetsBit (N N' : ℕ → Option Node) (G G' : ℕ → Option Entry) (i
   pub others : (j : ℕ) (b : Node) → N j ≡ Some b → j ≢ index → (k : ℕ) → entry_at_bit G' k (Some b) ≡ entry_at_bit G k (Some b)
 
 module _ (N N' : ℕ → Option Node) (G G' : ℕ → Option Entry) (index : ℕ) (entry : Entry) (a a' : Node) (path depth len : ℕ)
-    (sound : IsSound N G) (deep : depth ≤ 8) (short : len < 4) (at : node_at N path depth ≡ Some index)
+    (sound : IsLaidOut N G) (deep : depth ≤ 8) (short : len < 4) (at : node_at N path depth ≡ Some index)
     (sets : SetsBit N N' G G' index (internal_bit (nibble path depth) len) entry a a') where
   -- the row that was set has the entry
   pub row_hit : (q m : ℕ) → m ≡ 4 * depth + len → path_start q m ≡ path_start path m → row_at N' G' q m ≡ Some entry
@@ -78,7 +78,7 @@ module _ (N N' : ℕ → Option Node) (G G' : ℕ → Option Entry) (index : ℕ
 
 -- ---- the bit is set: its result is written over
 module _ (N : ℕ → Option Node) (G G' : ℕ → Option Entry) (index bit : ℕ) (entry : Entry) (a : Node)
-    (sound : IsSound N G) (here : N index ≡ Some a) (has : bit_at a.internal bit ≡ 1)
+    (sound : IsLaidOut N G) (here : N index ≡ Some a) (has : bit_at a.internal bit ≡ 1)
     (written : IsWritten G G' (a.result_base + rank a.internal bit) entry) where
   -- where a result is written over, its entry is set, and nothing else
   pub replace_sets : SetsBit N N G G' index bit entry a a
@@ -109,7 +109,7 @@ module _ (N : ℕ → Option Node) (G G' : ℕ → Option Entry) (index bit : �
       others j b c n k (inr h) = entry-clear G' k b h ∙ sym (entry-clear G k b h)
 
   -- the tree stays sound
-  pub replace_sound : IsSound N G'
+  pub replace_sound : IsLaidOut N G'
   replace_sound = record {
     root = sound.root;
     children_used = sound.children_used;
@@ -127,7 +127,7 @@ module _ (N : ℕ → Option Node) (G G' : ℕ → Option Entry) (index bit : �
 
 -- ---- the bit is not set: the results move to a larger block
 module _ (N N' : ℕ → Option Node) (G G' : ℕ → Option Entry) (index bit base : ℕ) (entry : Entry) (a : Node)
-    (sound : IsSound N G) (here : N index ≡ Some a) (clear : bit_at a.internal bit ≡ 0)
+    (sound : IsLaidOut N G) (here : N index ≡ Some a) (clear : bit_at a.internal bit ≡ 0)
     (grown : IsGrown G G' a.result_base (count_ones a.internal) (rank a.internal bit) entry base)
     (written : IsWritten N N' index (with_result a bit base)) where
   -- the node keeps its children
@@ -256,7 +256,7 @@ module _ (N N' : ℕ → Option Node) (G G' : ℕ → Option Entry) (index bit b
   fifteen_bits_of l j b (inr (n, c)) = sound.fifteen_bits j b c
 
   -- the tree is sound with the new result
-  pub insert_sound : bit < 15 → IsSound N' G'
+  pub insert_sound : bit < 15 → IsLaidOut N' G'
   insert_sound small = record {
     root = still_at 0 sound.root (cases_eq 0 index);
     children_used = λ j b c k q. let w = same_children j b (was j b c) in still_at k (sound.children_used j w.0 w.1 k (w.2 k q)) (cases_eq k index);

@@ -3,7 +3,7 @@ use Rattle.std.proofs.Common.{ℕ, zero, suc, ◌≡◌, ◌⊎◌, inl, inr, �
 use Rattle.std.specs.Int.{bit_at}
 use Rattle.std.proofs.lemmas.Bool.{cases_eq, cases_order, cases_lt}
 use Rattle.tree_bitmap.specs.Bits.{rank}
-use Rattle.tree_bitmap.specs.Tree.{nibble, child, HasChild, IsChild, child_under, node_at, IsSound}
+use Rattle.tree_bitmap.specs.Tree.{nibble, child, HasChild, IsChild, child_under, node_at, IsLaidOut}
 use Rattle.tree_bitmap.specs.declared.node.Node.{Node}
 use Rattle.network_model.specs.declared.route.Entry.{Entry}
 use Rattle.tree_bitmap.proofs.Ranks.{rank_mono_lt}
@@ -36,7 +36,7 @@ pub record IsSameWalk (p q d e : ℕ) : Type 0 where
   pub depth : d ≡ e
   pub nibbles : (k : ℕ) → k < d → nibble p k ≡ nibble q k
 
-module _ (nodes : ℕ → Option Node) (results : ℕ → Option Entry) (sound : IsSound nodes results) where
+module _ (nodes : ℕ → Option Node) (results : ℕ → Option Entry) (sound : IsLaidOut nodes results) where
   -- no step leads to the root
   no_root_step : (p d j : ℕ) → IsStep nodes p d j → 0 ≡ j → ⊥
   no_root_step p d j s e =

@@ -5,7 +5,7 @@ use Rattle.std.specs.Int.RustNames.{count_ones}
 use Rattle.std.proofs.lemmas.Bool.{cond-true, cond-false, eq-eqb, ne_eqb, cases_eq, false≢true}
 use Rattle.std.proofs.lemmas.Nat.Bits.{bit_at-zero}
 use Rattle.tree_bitmap.specs.Bits.{rank}
-use Rattle.tree_bitmap.specs.Tree.{blank, nibble, child, HasChild, internal_bit, IsChild, IsResult, child_by, child_under, node_at, result_place, entry_at_bit, node_cell, place_at, row_at, IsSound, with_child}
+use Rattle.tree_bitmap.specs.Tree.{blank, nibble, child, HasChild, internal_bit, IsChild, IsResult, child_by, child_under, node_at, result_place, entry_at_bit, node_cell, place_at, row_at, IsLaidOut, with_child}
 use Rattle.tree_bitmap.specs.declared.node.Node.{Node}
 use Rattle.network_model.specs.declared.route.Entry.{Entry}
 use Rattle.tree_bitmap.proofs.Ranks.{rank_lt}
@@ -87,7 +87,7 @@ module _ (nodes : ℕ → Option Node) (path depth j : ℕ) (e : node_at nodes p
       let c = some-from (nodes w.0) (used w.0 w.1) in
       step_by_bit w.0 c.0 w.1 c.1 (cases_eq (bit_at c.0.external (nibble path depth)) 1)
 
-module _ (nodes : ℕ → Option Node) (results : ℕ → Option Entry) (sound : IsSound nodes results) (path : ℕ) where
+module _ (nodes : ℕ → Option Node) (results : ℕ → Option Entry) (sound : IsLaidOut nodes results) (path : ℕ) where
   -- the walk stays within the cells in use
   pub node_used : (depth j : ℕ) → node_at nodes path depth ≡ Some j → is_some (nodes j) ≡ true
   node_used zero j e = let z : 0 ≡ j = Some_same _ 0 j (root_at nodes path) e in subst (λ k. is_some (nodes k) ≡ true) z sound.root

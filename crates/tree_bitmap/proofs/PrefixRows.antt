@@ -1,9 +1,7 @@
 -- Rows of a tree by prefixes.
 use Rattle.std.specs.FinMap.{put}
-use Rattle.std.specs.Prelude.{Result, Err, IsOk}
+use Rattle.std.proofs.Common.{List, [], ◌∷◌, ◌++◌, length, take, get_or, ℕ, ◌≡◌, ◌+◌, ◌-◌, ◌*◌, ◌/◌, ◌^◌, ◌<◌, ◌≤◌, Bool, true, false, cond, Option, Some, None, IfSome, arith, refl, sym, ap, subst, ◌∙◌, Result, Err, IsOk, shr-shr}
 use Rattle.std.specs.Result.{is_ok}
-use Rattle.std.proofs.Common.{List, [], ◌∷◌, ◌++◌, length, take, get_or, ℕ, ◌≡◌, ◌+◌, ◌-◌, ◌*◌, ◌/◌, ◌^◌, ◌<◌, ◌≤◌, Bool, true, false, cond, Option, Some, None, IfSome, arith, refl, sym, ap, subst, ◌∙◌}
-use Rattle.std.proofs.lemmas.Nat.{shr-shr}
 use Rattle.std.proofs.lemmas.List.{take_more}
 use Rattle.std.proofs.Math.Seq.{take-length}
 use Rattle.std.proofs.lemmas.Bool.{eq-eqb, eqb-true, false≢true}

@@ -67,7 +67,7 @@ unfoldable pub row_at : (ℕ → Option Node) → (ℕ → Option Entry) → ℕ
 row_at nodes results path len = option_and_then results (place_at nodes path len)
 
 -- Each node's children and results are there, no two nodes share any, and the root is no one's child.
-pub record IsSound (nodes : ℕ → Option Node) (results : ℕ → Option Entry) : Type 0 where
+pub record IsLaidOut (nodes : ℕ → Option Node) (results : ℕ → Option Entry) : Type 0 where
   pub root : is_some (nodes 0) ≡ true
   pub children_used : (j : ℕ) (a : Node) → nodes j ≡ Some a → (k : ℕ) → IsChild a k → is_some (nodes k) ≡ true
   pub results_used : (j : ℕ) (a : Node) → nodes j ≡ Some a → (k : ℕ) → IsResult a k → is_some (results k) ≡ true
@@ -91,7 +91,7 @@ rows tree = row_at (cell tree.pool.nodes) (cell tree.pool.results)
 
 -- the cells of a tree are sound
 abbrev pub IsSoundTree : {A : Type 0} → Tree A → Type 0
-IsSoundTree tree = IsSound (cell tree.pool.nodes) (cell tree.pool.results)
+IsSoundTree tree = IsLaidOut (cell tree.pool.nodes) (cell tree.pool.results)
 
 -- where a tree's node for a path stands
 abbrev pub node_place : {A : Type 0} → Tree A → ℕ → ℕ → Option ℕ

@@ -112,7 +112,8 @@ pub(crate) fn internal_bit(four: u32, len: u8) -> u32
 pub(crate) fn covers(four: u32, depth: u32) -> u16
     requires small { four < 16 }
     requires deep { depth ≤ 8 }
-    ensures { (k : ℕ) → k < 16 → bit_at result k ≡ 1 ↔ ((len : ℕ) × (len < width depth) × (k ≡ internal_bit four len)) }
+    ensures { (k : ℕ) → k < 16 → bit_at result k ≡ 1
+        ↔ ((len : ℕ) × (len < width depth) × (k ≡ internal_bit four len)) }
 {
     if depth == 8 {
         return 1;

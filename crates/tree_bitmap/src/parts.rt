@@ -37,7 +37,8 @@ pub fn set_row<A: Allocator>(
     prefix: Prefix,
     entry: Entry,
 ) -> Result<(), NoMemory>
-    ensures ok { OnOk result (image.new ≡ record image.old { rows = put prefix_cmp prefix entry image.old.rows }) }
+    ensures ok { OnOk result (image.new
+        ≡ record image.old { rows = put prefix_cmp prefix entry image.old.rows }) }
     ensures err { OnErr result (image.new ≡ image.old) }
 {
     image.tree.set_row(prefix, entry)
@@ -48,7 +49,8 @@ pub fn set_rows<A: Allocator>(
     image: &mut Image<A>,
     rows: &[(Prefix, Entry)],
 ) -> Result<(), NoMemory>
-    ensures ok { OnOk result (image.new ≡ record image.old { rows = with_rows rows.now image.old.rows }) }
+    ensures ok { OnOk result (image.new
+        ≡ record image.old { rows = with_rows rows.now image.old.rows }) }
     ensures err { OnErr result (image.new ≡ image.old) }
 
     // No rows take no memory.

@@ -69,7 +69,8 @@ impl<A: Allocator> Tree<A> {
         ensures results { room self.new.pool.results ≡ room self.old.pool.results }
         ensures cost { IfOk result (λ child. IsChildCost self.old self.new index child) }
         ensures full { OnErr result (room self.old.pool.nodes < 16) }
-        ensures full_blank { OnErr result (cell self.old.pool.nodes index ≡ Some blank → room self.old.pool.nodes < 1) }
+        ensures full_blank { OnErr result
+            (cell self.old.pool.nodes index ≡ Some blank → room self.old.pool.nodes < 1) }
     {
         let node = self.pool.nodes.get(index);
         let four = nibble(path, depth);
@@ -114,7 +115,8 @@ impl<A: Allocator> Tree<A> {
         requires bit { bit ≡ internal_bit (nibble path depth) len }
         requires small { bit < 15 }
         ensures sound { IsSoundTree self.new }
-        ensures ok { OnOk result (SetsRow (rows self.old) (rows self.new) path (4 * depth + len) entry) }
+        ensures ok { OnOk result (SetsRow (rows self.old) (rows self.new) path
+            (4 * depth + len) entry) }
         ensures err { OnErr result ((q : ℕ) → (m : ℕ) → rows self.new q m ≡ rows self.old q m) }
         ensures nodes { room self.new.pool.nodes ≡ room self.old.pool.nodes }
         ensures cost { room self.old.pool.results ≤ room self.new.pool.results + 15 }
@@ -169,9 +171,12 @@ impl<A: Allocator> Tree<A> {
         ensures sound { IsSoundTree self.new }
         ensures ok { OnOk result (SetsRow (rows self.old) (rows self.new) path len entry) }
         ensures err { OnErr result ((q : ℕ) → (m : ℕ) → rows self.new q m ≡ rows self.old q m) }
-        ensures nodes_cost { OnOk result (room self.old.pool.nodes ≤ room self.new.pool.nodes + 23) }
-        ensures results_cost { OnOk result (room self.old.pool.results ≤ room self.new.pool.results + 15) }
-        ensures full { 23 ≤ room self.old.pool.nodes → 15 ≤ room self.old.pool.results → IsOk result }
+        ensures nodes_cost { OnOk result
+            (room self.old.pool.nodes ≤ room self.new.pool.nodes + 23) }
+        ensures results_cost { OnOk result
+            (room self.old.pool.results ≤ room self.new.pool.results + 15) }
+        ensures full { 23 ≤ room self.old.pool.nodes → 15 ≤ room self.old.pool.results
+            → IsOk result }
     {
         let depth = (len / 4) as u32;
         let mut index = 0;
@@ -187,11 +192,15 @@ impl<A: Allocator> Tree<A> {
     pub fn set_row(&mut self, prefix: Prefix, entry: Entry) -> Result<(), NoMemory>
         requires { IsSoundTree self.old }
         ensures sound { IsSoundTree self.new }
-        ensures ok { OnOk result (rows_in self.new ≡ put prefix_cmp prefix entry (rows_in self.old)) }
+        ensures ok { OnOk result (rows_in self.new
+            ≡ put prefix_cmp prefix entry (rows_in self.old)) }
         ensures err { OnErr result (rows_in self.new ≡ rows_in self.old) }
-        ensures nodes_cost { OnOk result (room self.old.pool.nodes ≤ room self.new.pool.nodes + 23) }
-        ensures results_cost { OnOk result (room self.old.pool.results ≤ room self.new.pool.results + 15) }
-        ensures full { 23 ≤ room self.old.pool.nodes → 15 ≤ room self.old.pool.results → IsOk result }
+        ensures nodes_cost { OnOk result
+            (room self.old.pool.nodes ≤ room self.new.pool.nodes + 23) }
+        ensures results_cost { OnOk result
+            (room self.old.pool.results ≤ room self.new.pool.results + 15) }
+        ensures full { 23 ≤ room self.old.pool.nodes → 15 ≤ room self.old.pool.results
+            → IsOk result }
     {
         self.set(path_of(prefix.addr()), prefix.len(), entry)
     }
@@ -215,7 +224,8 @@ impl<A: Allocator> Tree<A> {
     fn longest_bit(node: Node, four: u32, depth: u32) -> Option<u32>
         requires small { four < 16 }
         requires deep { depth ≤ 8 }
-        ensures best { GreatestBelow (λ len. result_place (internal_bit four len) (Some node)) (width depth) (bit_place node result) }
+        ensures best { GreatestBelow (λ len. result_place (internal_bit four len) (Some node))
+            (width depth) (bit_place node result) }
         ensures bound { IfSome result (λ bit. bit < 16) }
     {
         highest(node.internal & covers(four, depth))
@@ -236,7 +246,8 @@ impl<A: Allocator> Tree<A> {
     fn longest_hit(&self, path: u64, visits: &mut Visits) -> Option<Hit>
         requires sound { IsSoundTree self.now }
         requires fits { visits.old.count + 9 < 2 ^ 64 }
-        ensures best { GreatestBelow (place_at (cell self.now.pool.nodes) path) 33 (hit_place result) }
+        ensures best { GreatestBelow (place_at (cell self.now.pool.nodes) path) 33
+            (hit_place result) }
         ensures bound { IfSome result (λ hit. hit.bit < 16) }
         ensures some { visits.old.count < visits.new.count }
         ensures few { visits.new.count ≤ visits.old.count + 9 }
@@ -276,7 +287,8 @@ impl<A: Allocator> Tree<A> {
 /// What was found in a node at a depth, if anything, else what was found above.
 fn longer(bit: Option<u32>, node: Node, depth: u32, above: Option<Hit>) -> Option<Hit>
     ensures place { hit_place result ≡ longer (bit_place node bit) (4 * depth) (hit_place above) }
-    ensures bound { IfSome bit (λ b. b < 16) → IfSome above (λ hit. hit.bit < 16) → IfSome result (λ hit. hit.bit < 16) }
+    ensures bound { IfSome bit (λ b. b < 16) → IfSome above (λ hit. hit.bit < 16)
+        → IfSome result (λ hit. hit.bit < 16) }
 {
     match bit {
         None => above,

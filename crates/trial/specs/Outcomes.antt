@@ -1,6 +1,6 @@
 -- What the program gave.
 use Rattle.std.specs.Prelude.{◌≡◌, ℕ, ◌⊎◌, Option, []}
-use Rattle.script.specs.Words.{Text}
+use Rattle.texts.specs.Words.{Text}
 use Rattle.words.specs.declared.words.Words.{Words}
 use Rattle.play.specs.declared.program.End.{End}
 use Rattle.play.specs.declared.fault.Fault.{Fault}

@@ -2,7 +2,7 @@
 #![tactic(auto)]
 
 ghost use Rattle.std.specs.Prelude.{Option};
-ghost use Rattle.script.specs.Words.{Text};
+ghost use Rattle.texts.specs.Words.{Text};
 ghost use Rattle.trial.specs.Outcomes.{Gave};
 
 use play::{Fault, Host, Source, play};
@@ -27,12 +27,19 @@ pub struct Outcome {
 }
 
 /// Does what the words ask for, with the bytes of a scenario, and of a journal or the commands of a shell.
-pub fn played<H, R, J>(rt: &H, alloc: Global, words: &Words<'_>, scenario: R, journal: J) -> Outcome
+pub fn play_in_memory<H, R, J>(
+    rt: &H,
+    alloc: Global,
+    words: &Words<'_>,
+    scenario: R,
+    journal: J,
+) -> Outcome
 where
     H: Host,
     R: Read + Drop,
     J: Read + Drop,
-    ensures { Gave words.now (R.remaining scenario) (J.remaining journal) result.status result.kept.items }
+    ensures { Gave words.now (R.remaining scenario)
+        (J.remaining journal) result.status result.kept.items }
 {
     let mut out = Vec::new(alloc);
     let mut err = Vec::new(alloc);
@@ -51,14 +58,15 @@ where
 }
 
 /// The same where there is no journal to replay.
-pub fn asked<H: Host, R: Read + Drop>(
+pub fn run_in_memory<H: Host, R: Read + Drop>(
     rt: &H,
     alloc: Global,
     words: &Words<'_>,
     scenario: R,
 ) -> Outcome
-    ensures { (journal : Option Text) × Gave words.now (R.remaining scenario) journal result.status result.kept.items }
+    ensures { (journal : Option Text)
+        × Gave words.now (R.remaining scenario) journal result.status result.kept.items }
 {
     let missing: Source<io::Empty> = Source::Missing;
-    played(rt, alloc, words, scenario, missing)
+    play_in_memory(rt, alloc, words, scenario, missing)
 }

@@ -6,7 +6,7 @@ use Rattle.clap.specs.Matches.{ReadsOne}
 use Rattle.clap.specs.declared.parser.matches.Found.{Found}
 use Rattle.clap.proofs.WalkLemmas.{first_value-rows, one_text-rows}
 use Rattle.words.specs.Asked.{HasNumber, IsCheck, IsExplain, IsFlag, IsReplay, IsRun, IsShell}
-use Rattle.explanations.specs.Numbers.{number_of}
+use Rattle.explanations.specs.Numbers.{kind_number}
 use Rattle.explanations.specs.declared.kind.Kind.{Kind}
 use Rattle.words.specs.declared.words.Words.{Words}
 use Rattle.words.specs.declared.words.Words.TheVariants.{Check, Run, Replay, Explain, Shell}
@@ -115,14 +115,14 @@ pub no_explain : (rows : List Row) → ((n : ℕ) → HasNumber rows (codes "num
 no_explain rows none (Check f e) h = h
 no_explain rows none (Run f t k j e) h = h
 no_explain rows none (Replay f j e) h = h
-no_explain rows none (Explain k) h = none (number_of k) h
+no_explain rows none (Explain k) h = none (kind_number k) h
 no_explain rows none (Shell f j e) h = h
 
-pub no_kind : (rows : List Row) (n : ℕ) → ((m : ℕ) → HasNumber rows (codes "number") 49 m → n ≡ m) → ((k : Kind) → number_of k ≢ n) → (w : Words) → IsExplain rows w → ⊥
+pub no_kind : (rows : List Row) (n : ℕ) → ((m : ℕ) → HasNumber rows (codes "number") 49 m → n ≡ m) → ((k : Kind) → kind_number k ≢ n) → (w : Words) → IsExplain rows w → ⊥
 no_kind rows n same other (Check f e) h = h
 no_kind rows n same other (Run f t k j e) h = h
 no_kind rows n same other (Replay f j e) h = h
-no_kind rows n same other (Explain k) h = other k (sym (same (number_of k) h))
+no_kind rows n same other (Explain k) h = other k (sym (same (kind_number k) h))
 no_kind rows n same other (Shell f j e) h = h
 
 pub no_shell : (rows : List Row) → first_of (codes "file") rows ≡ None → (w : Words) → IsShell rows w → ⊥

@@ -1,6 +1,5 @@
 -- A parser of bytes that bounds make narrower.
-use Rattle.std.proofs.Common.{◌≡◌, pos, Some, Option}
-use Rattle.std.specs.Prelude.{ℤ}
+use Rattle.std.proofs.Common.{◌≡◌, pos, Some, Option, ℤ}
 use Rattle.std.proofs.Math.Path.{subst, subst₂}
 use Rattle.clap.specs.Values.{NarrowsTo}
 use Rattle.clap.specs.declared.builder.value_parser.ValueParser.{ValueParser}

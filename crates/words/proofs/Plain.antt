@@ -1,7 +1,6 @@
 -- What command lines with no options ask for.
-use Rattle.std.proofs.Common.{◌≡◌, ℕ, List, [], Option, Some, None, option_map, ◌*◌, ◌+◌, length, slice_index, Bor, false, refl, sym, ap, subst, ◌∙◌, codes, arith}
+use Rattle.std.proofs.Common.{◌≡◌, ℕ, List, [], Option, Some, None, option_map, ◌*◌, ◌+◌, length, slice_index, Bor, false, refl, sym, ap, subst, ◌∙◌, codes, arith, unwrap_or}
 use Rattle.std.specs.Option.{option_map_or}
-use Rattle.std.specs.Prelude.{unwrap_or}
 use Rattle.clap.specs.Words.{Row, Text, one_of}
 use Rattle.words.specs.Asked.{ChecksFile, HasNumber, IsAsked, IsFlag, IsNumberText, ReplaysFiles, RunsFile}
 use Rattle.words.specs.declared.words.Words.{Words}

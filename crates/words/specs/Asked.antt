@@ -4,12 +4,12 @@ use Rattle.std.specs.Borrow.{Bor}
 use Rattle.std.specs.Str.Parse.{IsNumeral, digits_value, without_leading_plus}
 use Rattle.clap.specs.Words.{Row, Text, first_of, one_of}
 use Rattle.words.specs.declared.words.Words.{Words}
-use Rattle.explanations.specs.Numbers.{number_of}
+use Rattle.explanations.specs.Numbers.{kind_number}
 use Rattle.words.specs.declared.words.Words.TheVariants.{Check, Run, Replay, Explain, Shell}
 
 -- the bytes of each word
-abbrev pub texts : List (Bor Text) → List Text
-texts words = map (λ w. w.now) words
+abbrev pub word_texts : List (Bor Text) → List Text
+word_texts words = map (λ w. w.now) words
 
 -- the text is the number in decimal digits, of which a plus may stand first
 abbrev pub IsNumberText : Text → ℕ → Type 0
@@ -49,7 +49,7 @@ IsReplay rows _ = ⊥
 
 -- the matches of `explain`: a number that the program prints
 abbrev pub IsExplain : List Row → Words → Type 0
-IsExplain rows (Explain kind) = HasNumber rows (codes "number") 49 (number_of kind)
+IsExplain rows (Explain kind) = HasNumber rows (codes "number") 49 (kind_number kind)
 IsExplain rows _ = ⊥
 
 -- the matches of `shell`: a file, and a path where one is given

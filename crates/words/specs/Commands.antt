@@ -65,8 +65,8 @@ program = with_subcommand (with_subcommand (with_subcommand (with_subcommand (wi
     check_app.top) run_app.top) replay_app.top) explain_app.top) shell_app.top
 
 -- a command that reads as this, with no global argument
-abbrev pub IsCommand : App → Command → Type 0
-IsCommand app c = (app_of c ≡ app) × ((out-Command c).has_globals ≡ false)
+abbrev pub IsProgramCommand : App → Command → Type 0
+IsProgramCommand app c = (app_of c ≡ app) × ((out-Command c).has_globals ≡ false)
 
 -- the kinds of error that the words may give: those of clap's definition, and where it gives none a number that is never printed
 abbrev pub kinds_of : List Text → Kinds

@@ -3,7 +3,7 @@
 ghost use Rattle.std.specs.Prelude.{◌≡◌, IfOk, codes, false, pos};
 ghost use Rattle.clap.specs.declared.builder.value_parser.ValueParser.TheVariants.{Signed};
 ghost use Rattle.clap.specs.Words.{app_of, kind_of, rule_of};
-ghost use Rattle.words.specs.Commands.{IsCommand, check_app, explain_app, file_rule, flag_rule, known_rule, number_rule, path_rule, program, replay_app, run_app, shell_app};
+ghost use Rattle.words.specs.Commands.{IsProgramCommand, check_app, explain_app, file_rule, flag_rule, known_rule, number_rule, path_rule, program, replay_app, run_app, shell_app};
 
 use clap::builder::ValueParser;
 use clap::error::ErrorKind;
@@ -65,7 +65,7 @@ pub(crate) fn program_command<'a>(alloc: Global) -> Result<Command<'a>, AllocErr
 }
 
 fn check_command<'a>(alloc: Global) -> Result<Command<'a>, AllocError>
-    ensures { IfOk result (IsCommand check_app) }
+    ensures { IfOk result (IsProgramCommand check_app) }
 {
     Command::new(alloc, "check")
         .about("Reads a scenario and says what it holds")
@@ -75,7 +75,7 @@ fn check_command<'a>(alloc: Global) -> Result<Command<'a>, AllocError>
 }
 
 fn run_command<'a>(alloc: Global) -> Result<Command<'a>, AllocError>
-    ensures { IfOk result (IsCommand run_app) }
+    ensures { IfOk result (IsProgramCommand run_app) }
 {
     let threads = number_arg(
         alloc,
@@ -100,7 +100,7 @@ fn run_command<'a>(alloc: Global) -> Result<Command<'a>, AllocError>
 }
 
 fn replay_command<'a>(alloc: Global) -> Result<Command<'a>, AllocError>
-    ensures { IfOk result (IsCommand replay_app) }
+    ensures { IfOk result (IsProgramCommand replay_app) }
 {
     let journal = file_arg(
         alloc,
@@ -117,7 +117,7 @@ fn replay_command<'a>(alloc: Global) -> Result<Command<'a>, AllocError>
 }
 
 fn explain_command<'a>(alloc: Global) -> Result<Command<'a>, AllocError>
-    ensures { IfOk result (IsCommand explain_app) }
+    ensures { IfOk result (IsProgramCommand explain_app) }
 {
     Command::new(alloc, "explain")
         .about("Tells of a number that the program prints: when it comes, and what to do")
@@ -126,7 +126,7 @@ fn explain_command<'a>(alloc: Global) -> Result<Command<'a>, AllocError>
 }
 
 fn shell_command<'a>(alloc: Global) -> Result<Command<'a>, AllocError>
-    ensures { IfOk result (IsCommand shell_app) }
+    ensures { IfOk result (IsProgramCommand shell_app) }
 {
     Command::new(alloc, "shell")
         .about("Opens the network of a scenario and does commands from the standard input")

@@ -10,10 +10,12 @@ use clap::error::ErrorKind;
 /// refused, else 1. `Error::print` writes help to the standard output and all else to the standard
 /// error.
 pub fn exit_status(error: &Error) -> u8
-    ensures help { (kind_of error.now ≡ ErrorKind.DisplayHelp) ⊎ (kind_of error.now ≡ ErrorKind.DisplayVersion)
+    ensures help { (kind_of error.now ≡ ErrorKind.DisplayHelp)
+        ⊎ (kind_of error.now ≡ ErrorKind.DisplayVersion)
         → result ≡ 0 }
     ensures memory { kind_of error.now ≡ ErrorKind.OutOfMemory → result ≡ 2 }
-    ensures mistake { kind_of error.now ≢ ErrorKind.DisplayHelp → kind_of error.now ≢ ErrorKind.DisplayVersion
+    ensures mistake { kind_of error.now ≢ ErrorKind.DisplayHelp
+        → kind_of error.now ≢ ErrorKind.DisplayVersion
         → kind_of error.now ≢ ErrorKind.OutOfMemory → result ≡ 1 }
 {
     match error.kind() {

@@ -3,7 +3,7 @@
 ghost use Rattle.std.specs.Prelude.{◌≡◌, IfOk, IfErr, IfSome, IfNone, MatchResult, List, ℕ, [], ⊤, codes};
 ghost use Rattle.clap.specs.Words.{HasKind, Text, fault_of, first_of, kind_of, rows_of, found_of, subcommand_of, subcommand_rows_of};
 ghost use Rattle.words.specs.Commands.{program, kinds_of};
-ghost use Rattle.words.specs.Asked.{ChecksFile, HasNumber, IsAsked, IsCheck, IsExplain, IsFileLine, IsFlag, IsReplay, IsReplayLine, IsRun, IsShell, ReplaysFiles, RunsFile, texts};
+ghost use Rattle.words.specs.Asked.{ChecksFile, HasNumber, IsAsked, IsCheck, IsExplain, IsFileLine, IsFlag, IsReplay, IsReplayLine, IsRun, IsShell, ReplaysFiles, RunsFile, word_texts};
 
 use crate::commands::program_command;
 use clap::error::ErrorKind;
@@ -52,29 +52,29 @@ pub enum Words<'a> {
 /// an error too, by whose kind `exit_status` knows it. A file whose name begins with a hyphen stands
 /// after `--`.
 pub fn read_words<'a>(alloc: Global, words: &'a [&'a str]) -> Result<Words<'a>, Error>
-    ensures asked { IfOk result (IsAsked (subcommand_of program (texts words.entry.now))) }
-    ensures taken { IfOk result (λ _. fault_of program (texts words.entry.now) ≡ []) }
-    ensures kinds { IfErr result (HasKind (kinds_of (texts words.entry.now))) }
-    ensures every { (asked : Words) → fault_of program (texts words.entry.now) ≡ []
-        → IsAsked (subcommand_of program (texts words.entry.now)) asked
+    ensures asked { IfOk result (IsAsked (subcommand_of program (word_texts words.entry.now))) }
+    ensures taken { IfOk result (λ _. fault_of program (word_texts words.entry.now) ≡ []) }
+    ensures kinds { IfErr result (HasKind (kinds_of (word_texts words.entry.now))) }
+    ensures every { (asked : Words) → fault_of program (word_texts words.entry.now) ≡ []
+        → IsAsked (subcommand_of program (word_texts words.entry.now)) asked
         → MatchResult result (λ _. ⊤) (λ e. kind_of e ≡ ErrorKind.OutOfMemory) }
-    ensures check { (file : Text) → IsFileLine (codes "check") file (texts words.entry.now)
+    ensures check { (file : Text) → IsFileLine (codes "check") file (word_texts words.entry.now)
         → MatchResult result (ChecksFile file) (λ e. kind_of e ≡ ErrorKind.OutOfMemory) }
-    ensures run { (file : Text) → IsFileLine (codes "run") file (texts words.entry.now)
+    ensures run { (file : Text) → IsFileLine (codes "run") file (word_texts words.entry.now)
         → MatchResult result (RunsFile file) (λ e. kind_of e ≡ ErrorKind.OutOfMemory) }
-    ensures replay { (file journal : Text) → IsReplayLine file journal (texts words.entry.now)
+    ensures replay { (file journal : Text) → IsReplayLine file journal (word_texts words.entry.now)
         → MatchResult result (ReplaysFiles file journal) (λ e. kind_of e ≡ ErrorKind.OutOfMemory) }
 {
     let mut command = program_command(alloc)?;
     let matches = command.try_get_matches_from_mut(words)?;
-    match asked(&matches) {
+    match read_matches(&matches) {
         Some(asked) => Ok(asked),
         None => Err(command.error(ErrorKind::InvalidValue, "no such number is printed")?),
     }
 }
 
 // None where the matches ask for nothing.
-fn asked<'a>(matches: &ArgMatches<'a>) -> Option<Words<'a>>
+fn read_matches<'a>(matches: &ArgMatches<'a>) -> Option<Words<'a>>
     ensures some { IfSome result (IsAsked (subcommand_rows_of matches.now)) }
     ensures none { IfNone result ((w : Words) → IsAsked (subcommand_rows_of matches.now) w → ⊥) }
 {
@@ -167,7 +167,8 @@ fn flag(matches: &ArgMatches<'_>, id: &str) -> bool
 // The number at the name, where it is at least 1, and no more than `most`.
 fn number(matches: &ArgMatches<'_>, id: &str, most: u8) -> Option<u8>
     ensures some { IfSome result (HasNumber (rows_of (found_of matches.now)) id.now most) }
-    ensures none { IfNone result ((n : ℕ) → HasNumber (rows_of (found_of matches.now)) id.now most n → ⊥) }
+    ensures none { IfNone result ((n : ℕ) → HasNumber (rows_of (found_of matches.now)) id.now most n
+        → ⊥) }
 {
     let number = matches.get_one::<u8>(id)?;
     if number < 1 || number > most {

@@ -5,12 +5,13 @@ ghost use Rattle.std.specs.List.{list_any};
 ghost use Rattle.std.specs.List.Sorted.{IsStrictlyIncreasing};
 ghost use Rattle.std.specs.Vec.{vec_capacity};
 ghost use Rattle.network_model.specs.declared.step.Refusal.TheVariants.{NoMemory as OutOfMemory, NoImage as WithoutImage};
-ghost use Rattle.forwarder.specs.Gathering.{is_reply_to, number_of};
+ghost use Rattle.network_model.specs.Network.{most_workers};
+ghost use Rattle.forwarder.specs.Gathering.{is_reply_to, job_number};
 ghost use Rattle.worker_pool.specs.declared.fault.PoolFault.TheVariants.{Closed as IsClosed};
 ghost use Rattle.worker_pool.specs.Faults.{IsBeginFault, IsInjectFault, IsWorkFault, IsDrainFault};
 
 use crate::fault::PoolFault;
-use forwarder::{ForwardPort, Job, JobGate, Naming, Reply, Worked, gather, work};
+use forwarder::{FabricName, ForwardPort, Job, JobGate, Reply, Worked, gather, work};
 use network_model::{NoMemory, Refusal};
 use packet_queue::{Injector, PacketQueue, Taker};
 use std::alloc::Global;
@@ -22,7 +23,7 @@ use std::thread::{Promise, PromisedHandle, Threads};
 /// Workers that take jobs from one queue, each in a thread of its own. It is not `Drop`: end it by
 /// `drain` or `end`, which wait for every thread. Contracts see how many workers there are, and the
 /// jobs that they were given, in order.
-pub struct WorkerPool<B: Naming> {
+pub struct WorkerPool<B: FabricName> {
     injector: Injector<B>,
     running: Vec<Running<B>>,
     jobs: Vec<Job<B>>,
@@ -30,7 +31,7 @@ pub struct WorkerPool<B: Naming> {
     ports: Vec<ForwardPort<B>>,
 }
 
-impl<B: Naming> Model for WorkerPool<B> {
+impl<B: FabricName> Model for WorkerPool<B> {
     ghost use Rattle.std.specs.Prelude.{◌≡◌, ◌≤◌, [], vec_len};
     ghost use Rattle.std.specs.Vec.{vec_capacity};
     ghost use Rattle.worker_pool.specs.Crews.{Crew};
@@ -55,7 +56,7 @@ impl JobGate for Unwatched {
 #[derive(Drop)]
 struct TellsWhy;
 
-impl<B: Naming> Promise<Worked<B>> for TellsWhy {
+impl<B: FabricName> Promise<Worked<B>> for TellsWhy {
     ghost use Rattle.std.specs.Prelude.{◌≡◌, ◌⊎◌, IfErr};
     ghost use Rattle.network_model.specs.declared.step.Refusal.TheVariants.{NoMemory as OutOfMemory, NoImage as WithoutImage};
 
@@ -72,7 +73,7 @@ fn begin<B, R>(
     taker: Taker<B>,
 ) -> Result<Running<B>, PoolFault>
 where
-    B: Naming + Send + Sync + 'static,
+    B: FabricName + Send + Sync + 'static,
     R: Threads + Wait + Copy + Send + 'static,
     ensures { IfErr result IsBeginFault }
 {
@@ -84,7 +85,7 @@ where
 }
 
 // Waits for workers whom nobody gives a job any more, and puts their ports into the room for them.
-fn end_all<B: Naming, R: Threads>(
+fn end_all<B: FabricName, R: Threads>(
     rt: &R,
     injector: Injector<B>,
     running: Vec<Running<B>>,
@@ -102,7 +103,7 @@ fn end_all<B: Naming, R: Threads>(
     ports
 }
 
-impl<B: Naming + Send + Sync + 'static> WorkerPool<B> {
+impl<B: FabricName + Send + Sync + 'static> WorkerPool<B> {
     /// Begins a worker for each port, at most 16; there may be none. Refused with `NoThread` where there
     /// is no thread for one of them, or with `Memory`: it has waited for those that it began, and their
     /// ports are let go.
@@ -113,7 +114,7 @@ impl<B: Naming + Send + Sync + 'static> WorkerPool<B> {
     ) -> Result<WorkerPool<B>, PoolFault>
     where
         R: Threads + Wait + Copy + Send + 'static,
-        requires few { vec_len ports ≤ 16 }
+        requires few { vec_len ports ≤ most_workers }
         ensures jobs { IfOk result (λ p. p.jobs ≡ []) }
         ensures workers { IfOk result (λ p. p.workers ≡ vec_len ports) }
         ensures err { IfErr result IsBeginFault }
@@ -147,7 +148,7 @@ impl<B: Naming + Send + Sync + 'static> WorkerPool<B> {
     }
 }
 
-impl<B: Naming> WorkerPool<B> {
+impl<B: FabricName> WorkerPool<B> {
     /// Gives the workers a job. It waits where 64 jobs wait already. Refused with `Closed` where there
     /// are no workers, or the queue hands the job back, or with `Memory`.
     pub fn inject<R: Wait>(&mut self, rt: &R, job: Job<B>) -> Result<(), PoolFault>
@@ -181,9 +182,11 @@ impl<B: Naming> WorkerPool<B> {
         alloc: Global,
     ) -> (Vec<ForwardPort<B>>, Result<Vec<Reply<B>>, PoolFault>)
         ensures ports { vec_len result.0 ≡ self.workers }
-        ensures order { IfOk result.1 (λ rs. IsStrictlyIncreasing (map number_of rs.items)) }
-        ensures each { IfOk result.1 (λ rs. All (λ j. count_by (is_reply_to j) rs.items ≡ 1) self.jobs) }
-        ensures only { IfOk result.1 (λ rs. All (λ r. list_any (λ j. is_reply_to j r) self.jobs ≡ true) rs.items) }
+        ensures order { IfOk result.1 (λ rs. IsStrictlyIncreasing (map job_number rs.items)) }
+        ensures each { IfOk result.1 (λ rs. All
+            (λ j. count_by (is_reply_to j) rs.items ≡ 1) self.jobs) }
+        ensures only { IfOk result.1 (λ rs. All
+            (λ r. list_any (λ j. is_reply_to j r) self.jobs ≡ true) rs.items) }
         ensures fault { IfErr result.1 (IsDrainFault self.jobs) }
     {
         let WorkerPool {
@@ -204,7 +207,7 @@ impl<B: Naming> WorkerPool<B> {
             ports.push_reserved(port);
             replies = with_replies(replies, own);
         }
-        (ports, gathered(&jobs, replies))
+        (ports, gather_all(&jobs, replies))
     }
 
     /// Waits until the workers have ended, and lets their replies go. They answer the jobs that wait
@@ -223,7 +226,7 @@ impl<B: Naming> WorkerPool<B> {
 }
 
 // The replies with those of one worker more.
-fn with_replies<B: Naming>(
+fn with_replies<B: FabricName>(
     replies: Result<Vec<Reply<B>>, PoolFault>,
     own: Result<Vec<Reply<B>>, Refusal>,
 ) -> Result<Vec<Reply<B>>, PoolFault>
@@ -243,14 +246,15 @@ fn with_replies<B: Naming>(
 }
 
 // The replies to these jobs, in order.
-fn gathered<B: Naming>(
+fn gather_all<B: FabricName>(
     jobs: &[Job<B>],
     replies: Result<Vec<Reply<B>>, PoolFault>,
 ) -> Result<Vec<Reply<B>>, PoolFault>
     requires { IfErr replies IsWorkFault }
-    ensures order { IfOk result (λ rs. IsStrictlyIncreasing (map number_of rs.items)) }
+    ensures order { IfOk result (λ rs. IsStrictlyIncreasing (map job_number rs.items)) }
     ensures each { IfOk result (λ rs. All (λ j. count_by (is_reply_to j) rs.items ≡ 1) jobs.now) }
-    ensures only { IfOk result (λ rs. All (λ r. list_any (λ j. is_reply_to j r) jobs.now ≡ true) rs.items) }
+    ensures only { IfOk result (λ rs. All
+        (λ r. list_any (λ j. is_reply_to j r) jobs.now ≡ true) rs.items) }
     ensures fault { IfErr result (IsDrainFault jobs.now) }
 {
     match gather(jobs, replies?) {

@@ -1,17 +1,6 @@
 -- In a network that can be opened no router has more ports than a router may have.
-use Rattle.std.specs.Prelude.{◌≡◌, ℕ, suc, ◌+◌, ◌<◌, ◌≤◌, Bool, true, false, cond, not, ◌&&◌, ◌||◌, ◌==◌, nat_lt, nat_le, if◌then◌else◌, List, [], ◌∷◌, ◌++◌, length, filter, None}
-use Rattle.std.proofs.Common.{refl, sym, ap, subst, ◌∙◌, arith, length-append, append_assoc}
-use Rattle.std.proofs.lemmas.Bool.{eqb-true, true≢false, ltb-true}
-use Rattle.std.proofs.lemmas.List.{append-nil}
-use Rattle.std.proofs.lemmas.List.Elements.{filter-append}
-use Rattle.std.proofs.lemmas.List.Sums.{length-filter}
-use Rattle.network_model.specs.declared.network.End.TheVariants.{A, B}
-use Rattle.network_model.specs.declared.network.LinkSpec.{LinkSpec}
-use Rattle.network_model.specs.declared.network.NetworkFault.{NetworkFault}
-use Rattle.network_model.specs.declared.network.NetworkFault.TheVariants.{BadRouters, BadLink, TooManyLinks}
-use Rattle.network_model.specs.World.{Network, places_from}
-use Rattle.network_model.specs.Network.{first_cause, link_causes, attachment_causes, most_routers, is_bad_link, is_link_too_many, touches, degree, most_ports, most_links, network_fault}
-use Rattle.network_model.proofs.Causes.{first_none, none_in_both}
+use Rattle.std.proofs.Common.{refl, sym, ap, subst, ◌∙◌, arith, length-append, append_assoc, ◌≡◌, ℕ, suc, ◌+◌, ◌<◌, ◌≤◌, Bool, true, false, cond, not, ◌&&◌, ◌||◌, ◌==◌, nat_lt, nat_le, if◌then◌else◌, List, [], ◌∷◌, ◌++◌, length, filter, None, eqb-true, true≢false, ltb-true, append-nil}
+use Rattle.packet_loops.proofs.Common.{filter-append, length-filter, A, B, LinkSpec, NetworkFault, BadRouters, BadLink, TooManyLinks, Network, places_from, first_cause, link_causes, attachment_causes, most_routers, is_bad_link, is_link_too_many, touches, degree, most_ports, most_links, network_fault, first_none, none_in_both}
 
 -- ---- a router has a port for each link that touches it
 

@@ -1,37 +1,17 @@
 -- What the answer of a call on a link, a port or a router says of the step that it is done for.
-use Rattle.std.specs.Prelude.{◌≡◌, ℕ, ◌<◌, Bool, true, false, not, ◌&&◌, ◌==◌, if◌then◌else◌, nat_lt, List, [], ◌∷◌, length, Option, Some, None, Result, Ok, Err, slice_get, is_none, is_ok, option_and_then, option_map, MatchOption, IfOk, IfErr, OnOk, OnSome, IsErrAnd, MatchBool, get_or, set}
+use Rattle.std.proofs.Common.{refl, sym, ap, subst, ◌∙◌, arith, inl, inr, ◌≡◌, ℕ, ◌<◌, Bool, true, false, not, ◌&&◌, ◌==◌, if◌then◌else◌, nat_lt, List, [], ◌∷◌, length, Option, Some, None, Result, Ok, Err, slice_get, is_none, is_ok, option_and_then, option_map, MatchOption, IfOk, IfErr, OnOk, OnSome, IsErrAnd, MatchBool, get_or, set, true≢false, eqb-true}
 use Rattle.std.specs.Option.{option_map_or, ok_or}
-use Rattle.std.proofs.Common.{refl, sym, ap, subst, ◌∙◌, arith, inl, inr}
-use Rattle.std.proofs.Math.Bool.{and-false}
-use Rattle.std.proofs.lemmas.Bool.{true≢false, eqb-true}
-use Rattle.std.proofs.lemmas.Option.{slice_get_within}
-use Rattle.metric.specs.Distance.{IsCost}
+use Rattle.packet_loops.proofs.Common.{and-false, slice_get_within, IsCost, Prefix, prefix_cmp, Item, Notice, Held, End, Place, Port, Refusal, changed_at, Side, Link, Router, Attachments, World, place_at, link_at, is_known, side, attachment_at, first_cause, CanBeAsked, Lawful, next, refusal, is_up, last_session, front_at, is_at_home, notice_at, release_at, link_come_up, link_gone_down, with_cost, with_message, with_front_taken, with_delivered, with_noticed, with_notice_taken, with_released, changed_router, router_accepting, router_at_home, router_releasing, is_due, is_up_in, None_not_Some, Some_injective, element_there, refusal_to_Lawful, Lawful_to_refusal, result_err, set-get_or}
 use Rattle.std.specs.FinMap.{find as row_of}
-use Rattle.ipv4_prefix.specs.Prefix.{Prefix, prefix_cmp}
-use Rattle.network_model.specs.declared.item.Item.{Item}
-use Rattle.network_model.specs.declared.item.Notice.{Notice}
-use Rattle.network_model.specs.declared.item.Held.{Held}
-use Rattle.network_model.specs.declared.network.End.{End}
-use Rattle.network_model.specs.declared.network.Place.{Place}
-use Rattle.network_model.specs.declared.network.Port.{Port}
 use Rattle.network_model.specs.declared.step.Step.{Step}
 use Rattle.network_model.specs.declared.step.Step.TheVariants.{LinkUp, LinkDown, SetCost, Deliver, Release, Detach, Publish}
-use Rattle.network_model.specs.declared.step.Refusal.{Refusal}
-use Rattle.network_model.specs.Machine.{changed_at}
-use Rattle.network_model.specs.World.{Side, Link, Router, Attachments, World, place_at, link_at, is_known, side, attachment_at}
-use Rattle.network_model.specs.Network.{first_cause}
-use Rattle.network_model.specs.Step.{CanBeAsked, Lawful, next, refusal, is_up, last_session, front_at, is_at_home, notice_at, release_at, link_come_up, link_gone_down, with_cost, with_message, with_front_taken, with_delivered, with_noticed, with_notice_taken, with_released, changed_router, router_accepting, router_at_home, router_releasing, is_due, is_up_in}
-use Rattle.network_model.proofs.ListLaws.{None_not_Some, Some_injective, element_there}
-use Rattle.network_model.proofs.Lawful.{refusal_to_Lawful, Lawful_to_refusal}
 use Rattle.link_fifo.specs.declared.refusal.LinkRefusal.{LinkRefusal}
 use Rattle.link_fifo.specs.Refusals.{refusal_to_come_up, refusal_to_change, front_of, sent_in, step_refusal, IsDoneUnless, AnswersPut}
 use Rattle.link_fifo.proofs.Changes.{front_of-Some}
 use Rattle.router_core.specs.Router.{is_port_up, CanTake}
-use Rattle.world.specs.Kept.{LeadsTo, IsKept}
+use Rattle.world.specs.Kept.{LeadsTo, IsWorld}
 use Rattle.world.specs.Steps.{IsDoneOr, IsPort, port_refusal, prefix_refusal, is_stale}
 use Rattle.world.proofs.Steps.{next-kept}
-use Rattle.std.specs.Result.{result_err}
-use Rattle.std.proofs.lemmas.List.{set-get_or}
 use Rattle.link_fifo.specs.declared.refusal.Put.{Put}
 
 -- ---- causes
@@ -91,8 +71,8 @@ no_port-deliver w i q r e away found answer = refused (refusal w (Deliver i q)) 
 
 -- ---- what a step that was done keeps
 
-step-keeps : (w : World) (s : Step) → CanBeAsked s → refusal w s ≡ None → (v : World) → v ≡ next w s → IsKept w → IsKept v
-step-keeps w s asked none v is h = subst IsKept (sym is) (next-kept w s (refusal_to_Lawful w s asked none) h)
+step-keeps : (w : World) (s : Step) → CanBeAsked s → refusal w s ≡ None → (v : World) → v ≡ next w s → IsWorld w → IsWorld v
+step-keeps w s asked none v is h = subst IsWorld (sym is) (next-kept w s (refusal_to_Lawful w s asked none) h)
 
 -- ---- what a link answers
 
@@ -146,13 +126,13 @@ refused_by_link o e r is cause answer = subst (λ c. IsDoneOr c r) (sym is) (by_
     by_cause (Some d) same (Err x) answer = let inner : ◌≡◌ {A = Result (Unit {0}) LinkRefusal} (Err e) (Err d) = same in let is : e ≡ d = cc in ap (λ y. Err y) (answer ∙ ap step_refusal is)
 
 -- and keeps what every world keeps
-pub up-keeps : (w : World) (l : ℕ) (links : List Link) → refusal_to_come_up w.links l ≡ None → links ≡ changed_at l link_come_up w.links → IsKept w → IsKept (record w { links = links })
+pub up-keeps : (w : World) (l : ℕ) (links : List Link) → refusal_to_come_up w.links l ≡ None → links ≡ changed_at l link_come_up w.links → IsWorld w → IsWorld (record w { links = links })
 up-keeps w l links none is = step-keeps w (LinkUp l) tt (up_refusal w l ∙ ap (option_map step_refusal) none) (record w { links = links }) (ap (λ ks. record w { links = ks }) is)
 
-pub down-keeps : (w : World) (l : ℕ) (links : List Link) → refusal_to_change w.links l ≡ None → links ≡ changed_at l link_gone_down w.links → IsKept w → IsKept (record w { links = links })
+pub down-keeps : (w : World) (l : ℕ) (links : List Link) → refusal_to_change w.links l ≡ None → links ≡ changed_at l link_gone_down w.links → IsWorld w → IsWorld (record w { links = links })
 down-keeps w l links none is = step-keeps w (LinkDown l) tt (down_refusal w l ∙ ap (option_map step_refusal) none) (record w { links = links }) (ap (λ ks. record w { links = ks }) is)
 
-pub set_cost-keeps : (w : World) (i q : ℕ) (p : Place) (cost : ℕ) (links : List Link) → IsCost cost → IsPort w i q p → refusal_to_change w.links p.link ≡ None → links ≡ changed_at p.link (with_cost cost p.end) w.links → IsKept w → IsKept (record w { links = links })
+pub set_cost-keeps : (w : World) (i q : ℕ) (p : Place) (cost : ℕ) (links : List Link) → IsCost cost → IsPort w i q p → refusal_to_change w.links p.link ≡ None → links ≡ changed_at p.link (with_cost cost p.end) w.links → IsWorld w → IsWorld (record w { links = links })
 set_cost-keeps w i q p cost links costs port none is =
     step-keeps w (SetCost i q cost) costs (set_cost_refusal w i q p cost port ∙ ap (option_map step_refusal) none)
     (record w { links = links }) (ap (λ ks. record w { links = ks }) is ∙ sym (ap (λ o. option_map_or (λ (x : Place). record w { links = changed_at x.link (with_cost cost x.end) w.links }) o w) port.is_place))
@@ -160,13 +140,13 @@ set_cost-keeps w i q p cost links costs port none is =
 -- ---- a port that is asked for
 
 -- a port whose place is known
-port_there : (w : World) (i q : ℕ) (p : Place) → IsKept w → i < length w.routers → place_at w i q ≡ Some p → IsPort w i q p
+port_there : (w : World) (i q : ℕ) (p : Place) → IsWorld w → i < length w.routers → place_at w i q ≡ Some p → IsPort w i q p
 port_there w i q p h below at =
     let r : _ = element_there w.routers i below in
     let k : _ = element_there w.links p.link (h.links_known i q p at) in
     record { router = r.0; is_router = r.1; link = k.0; is_link = k.1; is_place = at }
 
-pub port_answer : (w : World) (i q : ℕ) (r : Result Place Refusal) → IsKept w → i < length w.routers → r ≡ ok_or (place_at w i q) Refusal.UnknownLink → IfOk r (λ p. IsPort w i q p)
+pub port_answer : (w : World) (i q : ℕ) (r : Result Place Refusal) → IsWorld w → i < length w.routers → r ≡ ok_or (place_at w i q) Refusal.UnknownLink → IfOk r (λ p. IsPort w i q p)
 port_answer w i q r h below is = subst (λ a. IfOk a (λ p. IsPort w i q p)) (sym is) (by_place (place_at w i q) refl)
   where
     by_place : (o : Option Place) → place_at w i q ≡ o → IfOk (ok_or o Refusal.UnknownLink) (λ p. IsPort w i q p)
@@ -205,14 +185,14 @@ takes ports q x link (y ∷ ys) item at some leads = subst (λ z. CanTake ports 
     by_item (Item.Message m) leads = up_is ∙ leads.0
 
 -- the port is one that its router knows
-pub port_known : (w : World) (i q : ℕ) (p : Place) (r : Router) → IsKept w → slice_get w.routers i ≡ Some r → place_at w i q ≡ Some p → q < length r.ports
+pub port_known : (w : World) (i q : ℕ) (p : Place) (r : Router) → IsWorld w → slice_get w.routers i ≡ Some r → place_at w i q ≡ Some p → q < length r.ports
 port_known w i q p r h is_router at = by_places (slice_get w.places i) refl at
   where
     by_places : (o : Option (List Place)) → slice_get w.places i ≡ o → option_and_then (λ (ps : List Place). slice_get ps q) o ≡ Some p → q < length r.ports
     by_places None is none = absurd (None_not_Some none)
     by_places (Some ps) is some = subst (λ n. q < n) (sym (h.ports_placed i r ps is_router is)) (slice_get_within ps q p some)
 
-pub can_take : (w : World) (i q : ℕ) (p : Place) (r : Router) (item : Item) → IsKept w → IsPort w i q p → slice_get w.routers i ≡ Some r → front_of p.end (slice_get w.links p.link) ≡ Ok item → CanTake r.ports q item
+pub can_take : (w : World) (i q : ℕ) (p : Place) (r : Router) (item : Item) → IsWorld w → IsPort w i q p → slice_get w.routers i ≡ Some r → front_of p.end (slice_get w.links p.link) ≡ Ok item → CanTake r.ports q item
 can_take w i q p r item h port is_router answer =
     let x : _ = element_there r.ports q (port_known w i q p r h is_router port.is_place) in
     takes r.ports q x.0 _ _ item x.1 (front_is p.end (slice_get w.links p.link) port.link item port.is_link answer) (h.inboxes i q r x.0 p port.link is_router x.1 port.is_place port.is_link)
@@ -236,8 +216,8 @@ delivered w i q p item links routers port answer links_are routers_are =
 pub item_lawful : (w : World) (i q : ℕ) (p : Place) (item : Item) → IsPort w i q p → front_of p.end (slice_get w.links p.link) ≡ Ok item → Lawful w (Deliver i q)
 item_lawful w i q p item port answer = (port.router, port.is_router, inl (item, front_at_is w i q p item port answer))
 
-pub delivered-keeps : (w : World) (i q : ℕ) (p : Place) (item : Item) (v : World) → IsPort w i q p → front_of p.end (slice_get w.links p.link) ≡ Ok item → v ≡ next w (Deliver i q) → IsKept w → IsKept v
-delivered-keeps w i q p item v port answer is h = subst IsKept (sym is) (next-kept w (Deliver i q) (item_lawful w i q p item port answer) h)
+pub delivered-keeps : (w : World) (i q : ℕ) (p : Place) (item : Item) (v : World) → IsPort w i q p → front_of p.end (slice_get w.links p.link) ≡ Ok item → v ≡ next w (Deliver i q) → IsWorld w → IsWorld v
+delivered-keeps w i q p item v port answer is h = subst IsWorld (sym is) (next-kept w (Deliver i q) (item_lawful w i q p item port answer) h)
 
 -- ---- a notice
 
@@ -263,14 +243,14 @@ no_front : (w : World) (i q : ℕ) → is_at_home w i q ≡ true → front_at w 
 no_front w i q home = ap (λ o. option_and_then (λ (s : Side). slice_get s.inbox 0) (option_and_then (λ (p : Place). option_map (side p.end) (slice_get w.links p.link)) o)) (no_place w i q home)
 
 -- a router whose port it is is there, and so are its attachments
-pub router_within : (w : World) (i q : ℕ) → IsKept w → is_at_home w i q ≡ true → i < length w.routers
+pub router_within : (w : World) (i q : ℕ) → IsWorld w → is_at_home w i q ≡ true → i < length w.routers
 router_within w i q h home =
     let H = home_is w i q home in
     let within = slice_get_within w.places i H.0 H.1 in
     let as_many = h.routers_placed in
     omega (arith, within, as_many)
 
-pub attachments_within : (w : World) (i q : ℕ) → IsKept w → is_at_home w i q ≡ true → i < length w.attachments
+pub attachments_within : (w : World) (i q : ℕ) → IsWorld w → is_at_home w i q ≡ true → i < length w.attachments
 attachments_within w i q h home =
     let within = router_within w i q h home in
     let as_many = h.attachments_placed in
@@ -291,7 +271,7 @@ notice_refusal w i q r there home =
     ∙ ap (λ o. first_cause ((is_none o && is_none (notice_at w i q), Refusal.NothingToDeliver) ∷ [])) (no_front w i q home)
 
 -- none waits
-pub no_notice : (w : World) (i q : ℕ) → IsKept w → is_at_home w i q ≡ true → notice_at w i q ≡ None → refusal w (Deliver i q) ≡ Some Refusal.NothingToDeliver
+pub no_notice : (w : World) (i q : ℕ) → IsWorld w → is_at_home w i q ≡ true → notice_at w i q ≡ None → refusal w (Deliver i q) ≡ Some Refusal.NothingToDeliver
 no_notice w i q h home none =
     let r : _ = element_there w.routers i (router_within w i q h home) in
     notice_refusal w i q r.0 r.1 home ∙ ap (λ o. first_cause ((is_none o, Refusal.NothingToDeliver) ∷ [])) none
@@ -306,13 +286,13 @@ noticed w i q x attachments routers home waits attachments_are routers_are =
     ∙ ap (λ o. option_map_or (with_noticed i w) o w) waits)
 
 -- to take it is lawful
-pub notice_lawful : (w : World) (i q : ℕ) (x : Notice) → IsKept w → is_at_home w i q ≡ true → notice_at w i q ≡ Some x → Lawful w (Deliver i q)
+pub notice_lawful : (w : World) (i q : ℕ) (x : Notice) → IsWorld w → is_at_home w i q ≡ true → notice_at w i q ≡ Some x → Lawful w (Deliver i q)
 notice_lawful w i q x h home waits =
     let r : _ = element_there w.routers i (router_within w i q h home) in
     (r.0, r.1, inr (x, waits))
 
-pub noticed-keeps : (w : World) (i q : ℕ) (x : Notice) (v : World) → is_at_home w i q ≡ true → notice_at w i q ≡ Some x → v ≡ next w (Deliver i q) → IsKept w → IsKept v
-noticed-keeps w i q x v home waits is h = subst IsKept (sym is) (next-kept w (Deliver i q) (notice_lawful w i q x h home waits) h)
+pub noticed-keeps : (w : World) (i q : ℕ) (x : Notice) (v : World) → is_at_home w i q ≡ true → notice_at w i q ≡ Some x → v ≡ next w (Deliver i q) → IsWorld w → IsWorld v
+noticed-keeps w i q x v home waits is h = subst IsWorld (sym is) (next-kept w (Deliver i q) (notice_lawful w i q x h home waits) h)
 
 -- ---- attachments
 
@@ -327,7 +307,7 @@ known_there w i p none = by_tests (slice_get w.routers i) refl (is_known w p) re
     by_tests (Some r) there false known e = absurd (None_not_Some (sym e))
 
 -- the router has its attachments
-pub known_within : (w : World) (i : ℕ) (p : Prefix) → IsKept w → prefix_refusal w i p ≡ None → i < length w.attachments
+pub known_within : (w : World) (i : ℕ) (p : Prefix) → IsWorld w → prefix_refusal w i p ≡ None → i < length w.attachments
 known_within w i p h none =
     let K = (known_there w i p none).0 in
     let within = slice_get_within w.routers i K.0 K.1 in
@@ -354,17 +334,24 @@ not_attached w i p a none there unattached =
     ∙ ap (λ o. first_cause ((is_none (option_and_then (λ (x : Attachments). row_of prefix_cmp p x.costs) o), Refusal.NotAttached) ∷ [])) there
     ∙ ap (λ b. first_cause ((b, Refusal.NotAttached) ∷ [])) unattached
 
--- what is lawful is not refused
-pub is_done : (w : World) (s : Step) → Lawful w s → IsDoneOr (refusal w s) (Ok (tt {0}))
-is_done w s lawful = subst (λ c. IsDoneOr c (Ok (tt {0}))) (sym (Lawful_to_refusal w s lawful)) tt
+-- a call with no cause to be refused that was done
+pub not_caused : {X : Type 0} (cause : Option Refusal) (x : X) → cause ≡ None → IsDoneOr cause (Ok x)
+not_caused cause x none = subst (λ c. IsDoneOr c (Ok x)) (sym none) tt
 
--- unless memory runs out
-pub found_no_memory : (w : World) (s : Step) (r : Result (Unit {0}) Refusal) → Lawful w s → IsErrAnd r (λ e. e ≡ Refusal.NoMemory) → IsDoneOr (refusal w s) r
-found_no_memory w s r lawful failed = subst (λ c. IsDoneOr c r) (sym (Lawful_to_refusal w s lawful)) (by_result r failed)
+-- one that found no memory
+pub memory_lacked : {X : Type 0} (cause : Option Refusal) (r : Result X Refusal) → cause ≡ None → IsErrAnd r (λ e. e ≡ Refusal.NoMemory) → IsDoneOr cause r
+memory_lacked {X} cause r none failed = subst (λ c. IsDoneOr c r) (sym none) (by_result r failed)
   where
-    by_result : (r : Result (Unit {0}) Refusal) → IsErrAnd r (λ e. e ≡ Refusal.NoMemory) → IsDoneOr None r
+    by_result : (r : Result X Refusal) → IsErrAnd r (λ e. e ≡ Refusal.NoMemory) → IsDoneOr None r
     by_result (Ok x) none = absurd none
     by_result (Err e) full = full
+
+-- a lawful step is done, unless memory runs out
+pub is_done : (w : World) (s : Step) → Lawful w s → IsDoneOr (refusal w s) (Ok (tt {0}))
+is_done w s lawful = not_caused (refusal w s) (tt {0}) (Lawful_to_refusal w s lawful)
+
+pub found_no_memory : (w : World) (s : Step) (r : Result (Unit {0}) Refusal) → Lawful w s → IsErrAnd r (λ e. e ≡ Refusal.NoMemory) → IsDoneOr (refusal w s) r
+found_no_memory w s r lawful = memory_lacked (refusal w s) r (Lawful_to_refusal w s lawful)
 
 -- an element that is written back as it was read changes nothing
 pub written_back : {A : Type 0} (xs : List A) (i : ℕ) {x y : A} → x ≡ get_or xs i x → y ≡ x → set xs i y ≡ xs
@@ -376,8 +363,8 @@ in_bounds is below length = omega arith
 
 -- ---- a publication
 
-pub published-keeps : (w : World) (i : ℕ) (r : Router) (v : World) → slice_get w.routers i ≡ Some r → is_due r ≡ true → v ≡ next w (Publish i) → IsKept w → IsKept v
-published-keeps w i r v there due is h = subst IsKept (sym is) (next-kept w (Publish i) (r, there, due) h)
+pub published-keeps : (w : World) (i : ℕ) (r : Router) (v : World) → slice_get w.routers i ≡ Some r → is_due r ≡ true → v ≡ next w (Publish i) → IsWorld w → IsWorld v
+published-keeps w i r v there due is h = subst IsWorld (sym is) (next-kept w (Publish i) (r, there, due) h)
 
 -- ---- a release
 
@@ -399,7 +386,7 @@ put_nowhere w i m routers front at routers_are =
     ∙ ap (λ o. changed_router i router_releasing (option_map_or (λ (x : Place). record w { links = changed_at x.link (with_message m x.end) w.links }) o w)) at)
 
 -- a message that its link refuses found no memory, and is not stale
-pub put_refused : (w : World) (i : ℕ) (m : Held) (p : Place) (e : LinkRefusal) → IsKept w → place_at w i m.port ≡ Some p → AnswersPut m.session (slice_get w.links p.link) (Err e) → (e ≡ LinkRefusal.NoMemory) × (is_stale w i m ≡ false)
+pub put_refused : (w : World) (i : ℕ) (m : Held) (p : Place) (e : LinkRefusal) → IsWorld w → place_at w i m.port ≡ Some p → AnswersPut m.session (slice_get w.links p.link) (Err e) → (e ≡ LinkRefusal.NoMemory) × (is_stale w i m ≡ false)
 put_refused w i m p e h at answer =
     let k : _ = element_there w.links p.link (h.links_known i m.port p at) in
     by_test k.0 k.1 (is_up_in m.session k.0) refl (subst (λ o. AnswersPut m.session o (Err e)) k.1 answer)
@@ -408,8 +395,8 @@ put_refused w i m p e h at answer =
     by_test k there true live full = (full, ap (λ o. not (option_map_or (is_up_in m.session) o false)) (link_of w i m.port p at ∙ there) ∙ ap not live)
     by_test k there false over done = absurd (true≢false (sym (ap is_ok done)))
 
-pub released-keeps : (w : World) (i : ℕ) (m : Held) (v : World) → release_at w i ≡ Some m → v ≡ next w (Release i) → IsKept w → IsKept v
-released-keeps w i m v front is h = subst IsKept (sym is) (next-kept w (Release i) (m, front) h)
+pub released-keeps : (w : World) (i : ℕ) (m : Held) (v : World) → release_at w i ≡ Some m → v ≡ next w (Release i) → IsWorld w → IsWorld v
+released-keeps w i m v front is h = subst IsWorld (sym is) (next-kept w (Release i) (m, front) h)
 
 -- what is so on Ok is so
 pub on_ok : {T E P : Type 0} (r : Result T E) {x : T} → r ≡ Ok x → OnOk r P → P

@@ -1,11 +1,10 @@
 -- Runs that go on from a world to which a run of a network led.
-use Rattle.std.specs.Prelude.{List, ◌++◌}
+use Rattle.std.proofs.Common.{List, ◌++◌}
 use Rattle.network_model.specs.declared.step.Step.{Step}
-use Rattle.network_model.specs.World.{Network, World, opening}
-use Rattle.network_model.specs.Run.{Runs}
+use Rattle.packet_loops.proofs.Common.{Network, World, opening, Runs}
 use Rattle.packet_loops.proofs.Walks.{always_packets_free}
 use Rattle.quiet_routes.proofs.Routes.{quiet_routes}
-use Rattle.world.specs.Headline.{IsReached, IsSound}
+use Rattle.world.specs.Headline.{IsReached, HasWorldHeadline}
 use Rattle.world.proofs.Runs.{runs-append}
 
 -- a world to which more steps lead
@@ -17,7 +16,7 @@ reached_on n w v ss reached more = record {
 }
 
 -- what holds there
-pub sound_there : (n : Network) (w : World) → IsReached n w → IsSound n w
+pub sound_there : (n : Network) (w : World) → IsReached n w → HasWorldHeadline n w
 sound_there n w reached = record {
   no_loop = always_packets_free n reached.steps w reached.valid reached.runs;
   least_cost = quiet_routes n reached.steps w reached.valid reached.runs;

@@ -10,3 +10,4 @@ pub mod Runs
 pub mod Waiting
 pub mod Prefixes
 pub mod Insides
+pub mod Rest

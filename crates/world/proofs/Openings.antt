@@ -1,18 +1,7 @@
 -- A network that opens has ports and links that fit together.
-use Rattle.std.specs.Prelude.{◌≡◌, ℕ, ◌<◌, false, List, [], map, length, Option, Some, None, slice_get, option_and_then, option_map, get_or}
-use Rattle.std.proofs.Common.{refl, sym, ap, subst, ◌∙◌, arith}
-use Rattle.std.proofs.lemmas.List.{length-map}
-use Rattle.std.proofs.lemmas.List.FromFn.{length-map-range_with_len}
-use Rattle.std.proofs.lemmas.Option.{slice_get-map, slice_get-get_or, slice_get_within}
-use Rattle.network_model.specs.declared.network.End.{End}
-use Rattle.network_model.specs.declared.network.End.TheVariants.{A, B}
-use Rattle.network_model.specs.declared.network.LinkSpec.{LinkSpec}
-use Rattle.network_model.specs.declared.network.Place.{Place}
-use Rattle.network_model.specs.declared.network.Port.{Port}
-use Rattle.network_model.specs.World.{Link, Router, Network, side, place_at, places_from, opening, opening_link, opening_port, opening_router_of, costs_of}
-use Rattle.network_model.proofs.ListLaws.{Some_injective, None_not_Some, listed_within}
-use Rattle.network_model.proofs.PortPlaces.{router_end, ports_before, IsPort, place_to_IsPort}
-use Rattle.world.specs.Kept.{LeadsTo, IsKept}
+use Rattle.std.proofs.Common.{refl, sym, ap, subst, ◌∙◌, arith, ◌≡◌, ℕ, ◌<◌, false, List, [], map, length, Option, Some, None, slice_get, option_and_then, option_map, get_or}
+use Rattle.packet_loops.proofs.Common.{length-map, length-map-range_with_len, slice_get-map, slice_get-get_or, slice_get_within, End, A, B, LinkSpec, Place, Port, Link, Router, Network, side, place_at, places_from, opening, opening_link, opening_port, opening_router_of, costs_of, Some_injective, None_not_Some, listed_within, router_end, ports_before, IsPort, place_to_IsPort}
+use Rattle.world.specs.Kept.{LeadsTo, IsWorld}
 
 -- a part of an option that is there
 part_of : {A B : Type 0} (f : A → Option B) (o : Option A) (y : B) → option_and_then f o ≡ Some y → (x : A) × (o ≡ Some x) × (f x ≡ Some y)
@@ -34,7 +23,7 @@ opening_place n i q p at =
 opening_router_at : (n : Network) (i : ℕ) (r : Router) → slice_get (opening n).routers i ≡ Some r → r ≡ opening_router_of n i
 opening_router_at n i r at = sym (listed_within (opening_router_of n) n.routers i r at).1
 
-pub opening-kept : (n : Network) → IsKept (opening n)
+pub opening-kept : (n : Network) → IsWorld (opening n)
 opening-kept n = record {
   links_known = λ i q p at.
       let x : _ = opening_place n i q p at in

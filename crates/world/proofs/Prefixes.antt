@@ -1,18 +1,10 @@
 -- How many prefixes attachments are of, one attachment after another, and which.
-use Rattle.std.specs.Prelude.{◌≡◌, ℕ, suc, ◌+◌, ◌-◌, ◌<◌, ◌≤◌, Bool, true, false, cond, ◌||◌, List, [], ◌∷◌, ◌++◌, map, length, take, drop, get_or, if◌then◌else◌}
-use Rattle.std.specs.List.{list_any}
+use Rattle.std.proofs.Common.{refl, sym, ap, ◌∙◌, arith, append_assoc, ◌≡◌, ℕ, suc, ◌+◌, ◌-◌, ◌<◌, ◌≤◌, Bool, true, false, cond, ◌||◌, List, [], ◌∷◌, ◌++◌, map, length, take, drop, get_or, if◌then◌else◌, length-drop, take_all}
+use Rattle.packet_loops.proofs.Common.{list_any, length-map, map-append, list_any-append, Prefix, prefix_cmp, prefix_eq, prefix_cmp_total, prefix_eq-Decides, distinct, prefixes_of, rows_of, has_same_prefix, sorted-rows_of}
 use Rattle.std.specs.Ordering.{is_eq, ordering_reverse}
 use Rattle.std.specs.declared.cmp.Ordering.{Ordering}
 use Rattle.std.specs.declared.cmp.Ordering.TheVariants.{Less, Equal, Greater}
-use Rattle.std.proofs.Common.{refl, sym, ap, ◌∙◌, arith, append_assoc}
 use Rattle.std.proofs.Math.Seq.{drop-cons}
-use Rattle.std.proofs.lemmas.List.{length-drop, length-map, map-append, take_all}
-use Rattle.std.proofs.lemmas.List.Folds.{list_any-append}
-use Rattle.ipv4_prefix.specs.Prefix.{Prefix, prefix_cmp, prefix_eq}
-use Rattle.ipv4_prefix.proofs.PrefixOrder.{prefix_cmp_total, prefix_eq-Decides}
-use Rattle.network_model.specs.World.{distinct, prefixes_of, rows_of}
-use Rattle.network_model.specs.Network.{has_same_prefix}
-use Rattle.network_model.proofs.RowLaws.{sorted-rows_of}
 use Rattle.route_table.proofs.Kept.{length-put_at_most}
 
 -- the test does not ask which prefix comes first

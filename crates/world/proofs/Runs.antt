@@ -1,17 +1,8 @@
 -- Runs by more steps, and the room that a run leaves for generations.
-use Rattle.std.specs.Prelude.{◌≡◌, ℕ, zero, suc, ◌+◌, ◌<◌, ◌^◌, List, [], ◌∷◌, ◌++◌, map, length, get_or, All}
-use Rattle.std.specs.List.{range_with_len}
-use Rattle.std.proofs.Common.{refl, sym, subst, arith}
-use Rattle.network_model.specs.declared.item.Item.{Item}
-use Rattle.network_model.specs.declared.network.End.{End}
+use Rattle.std.proofs.Common.{refl, sym, subst, arith, ◌≡◌, ℕ, zero, suc, ◌+◌, ◌<◌, ◌^◌, List, [], ◌∷◌, ◌++◌, map, length, get_or, All}
+use Rattle.packet_loops.proofs.Common.{range_with_len, Item, End, changed_at, Link, Router, Network, World, opening, opening_router_of, Lawful, next, changed_router, changed_link, with_cost, with_front_taken, with_message, with_delivered, with_noticed, with_released, front_at, notice_at, release_at, changed_attachments, with_notice_taken, router_accepting, router_at_home, router_publishing, router_releasing, Runs, option_map_or-ind, routers-changed_link}
 use Rattle.network_model.specs.declared.step.Step.{Step}
 use Rattle.network_model.specs.declared.step.Step.TheVariants.{LinkUp, LinkDown, SetCost, Deliver, Publish, Release, Attach, Detach}
-use Rattle.network_model.specs.Machine.{changed_at}
-use Rattle.network_model.specs.World.{Link, Router, Network, World, opening, opening_router_of}
-use Rattle.network_model.specs.Step.{Lawful, next, changed_router, changed_link, with_cost, with_front_taken, with_message, with_delivered, with_noticed, with_released, front_at, notice_at, release_at, changed_attachments, with_notice_taken, router_accepting, router_at_home, router_publishing, router_releasing}
-use Rattle.network_model.specs.Run.{Runs}
-use Rattle.network_model.proofs.ListLaws.{option_map_or-ind}
-use Rattle.network_model.proofs.WorldLaws.{routers-changed_link}
 use Rattle.world.specs.Steps.{HasRoomForSteps}
 
 -- steps after steps

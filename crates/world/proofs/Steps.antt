@@ -1,19 +1,9 @@
 -- A lawful step leaves a world whose ports and links fit together one that does.
-use Rattle.std.specs.Prelude.{◌≡◌, ℕ, zero, suc, ◌<◌, Bool, true, false, ◌==◌, List, [], ◌∷◌, drop, length, Option, Some, None, slice_get, option_map, option_and_then}
-use Rattle.std.specs.Option.{option_map_or}
-use Rattle.std.proofs.Common.{refl, sym, ap, subst, ◌∙◌}
-use Rattle.std.proofs.lemmas.Bool.{eqb-true, eq-eqb, true≢false}
-use Rattle.network_model.specs.declared.item.Item.{Item}
-use Rattle.network_model.specs.declared.network.End.{End}
-use Rattle.network_model.specs.declared.network.Place.{Place}
-use Rattle.network_model.specs.declared.network.Port.{Port}
+use Rattle.std.proofs.Common.{refl, sym, ap, subst, ◌∙◌, ◌≡◌, ℕ, zero, suc, ◌<◌, Bool, true, false, ◌==◌, List, [], ◌∷◌, drop, length, Option, Some, None, slice_get, option_map, option_and_then, eqb-true, eq-eqb, true≢false}
+use Rattle.packet_loops.proofs.Common.{option_map_or, Item, End, Place, Port, changed_at, Side, Link, Router, Attachments, World, place_at, link_at, side, Lawful, next, link_come_up, link_gone_down, with_cost, with_message, with_front_taken, changed_link, changed_router, changed_attachments, with_delivered, with_noticed, with_released, with_attachment, without_attachment, with_notice_taken, router_accepting, router_at_home, router_publishing, router_releasing, front_at, notice_at, release_at, length-changed_at, slice_get-changed_at, slice_get-changed_at_other, option_map_or-ind, Some_injective, None_not_Some}
 use Rattle.network_model.specs.declared.step.Step.{Step}
 use Rattle.network_model.specs.declared.step.Step.TheVariants.{LinkUp, LinkDown, SetCost, Deliver, Publish, Release, Attach, Detach}
-use Rattle.network_model.specs.Machine.{changed_at}
-use Rattle.network_model.specs.World.{Side, Link, Router, Attachments, World, place_at, link_at, side}
-use Rattle.network_model.specs.Step.{Lawful, next, link_come_up, link_gone_down, with_cost, with_message, with_front_taken, changed_link, changed_router, changed_attachments, with_delivered, with_noticed, with_released, with_attachment, without_attachment, with_notice_taken, router_accepting, router_at_home, router_publishing, router_releasing, front_at, notice_at, release_at}
-use Rattle.network_model.proofs.ListLaws.{length-changed_at, slice_get-changed_at, slice_get-changed_at_other, option_map_or-ind, Some_injective, None_not_Some}
-use Rattle.world.specs.Kept.{LeadsTo, IsKept}
+use Rattle.world.specs.Kept.{LeadsTo, IsWorld}
 use Rattle.world.proofs.Inboxes.{KeepsLeading, come_up-keeps, gone_down-keeps, with_cost-keeps, with_message-keeps}
 
 -- ---- what stands at a place of a changed list
@@ -48,7 +38,7 @@ changed_element f k j xs y at = by_test (j == k) refl
 abbrev with_link : ℕ → (Link → Link) → World → World
 with_link l f w = record w { links = changed_at l f w.links }
 
-with_link-kept : (l : ℕ) (f : Link → Link) (w : World) → ((k : Link) → slice_get w.links l ≡ Some k → KeepsLeading f k) → IsKept w → IsKept (with_link l f w)
+with_link-kept : (l : ℕ) (f : Link → Link) (w : World) → ((k : Link) → slice_get w.links l ≡ Some k → KeepsLeading f k) → IsWorld w → IsWorld (with_link l f w)
 with_link-kept l f w keeps h = record {
   links_known = λ i q p at. subst (λ n. p.link < n) (sym (length-changed_at f l w.links)) (h.links_known i q p at);
   places_apart = h.places_apart;
@@ -74,13 +64,13 @@ with_link-kept l f w keeps h = record {
             subst (λ (y : Link). LeadsTo x.up y.up (side p.end y).inbox) (sym (c.elsewhere apart)) before
 
 -- the world with the link at a port changed
-changed_link-kept : (i q : ℕ) (f : End → Link → Link) (w : World) → ((p : Place) (k : Link) → place_at w i q ≡ Some p → slice_get w.links p.link ≡ Some k → KeepsLeading (f p.end) k) → IsKept w → IsKept (changed_link i q f w)
-changed_link-kept i q f w keeps h = option_map_or-ind IsKept (λ p. record w { links = changed_at p.link (f p.end) w.links }) (place_at w i q) w h (λ p at. with_link-kept p.link (f p.end) w (λ k is. keeps p k at is) h)
+changed_link-kept : (i q : ℕ) (f : End → Link → Link) (w : World) → ((p : Place) (k : Link) → place_at w i q ≡ Some p → slice_get w.links p.link ≡ Some k → KeepsLeading (f p.end) k) → IsWorld w → IsWorld (changed_link i q f w)
+changed_link-kept i q f w keeps h = option_map_or-ind IsWorld (λ p. record w { links = changed_at p.link (f p.end) w.links }) (place_at w i q) w h (λ p at. with_link-kept p.link (f p.end) w (λ k is. keeps p k at is) h)
 
 -- ---- a router changes
 
 -- a router changed by f, which leaves its ports
-changed_router-kept : (i : ℕ) (f : Router → Router) (w : World) → ((r : Router) → (f r).ports ≡ r.ports) → IsKept w → IsKept (changed_router i f w)
+changed_router-kept : (i : ℕ) (f : Router → Router) (w : World) → ((r : Router) → (f r).ports ≡ r.ports) → IsWorld w → IsWorld (changed_router i f w)
 changed_router-kept i f w ports h = record {
   links_known = h.links_known;
   places_apart = h.places_apart;
@@ -104,7 +94,7 @@ changed_router-kept i f w ports h = record {
 -- ---- a router's attachments change
 
 -- they are of no port and no link
-changed_attachments-kept : (i : ℕ) (f : Attachments → Attachments) (w : World) → IsKept w → IsKept (changed_attachments i f w)
+changed_attachments-kept : (i : ℕ) (f : Attachments → Attachments) (w : World) → IsWorld w → IsWorld (changed_attachments i f w)
 changed_attachments-kept i f w h = record {
   links_known = h.links_known;
   places_apart = h.places_apart;
@@ -158,7 +148,7 @@ front_taken-across End.B End.A k apart = refl
 front_taken-across End.B End.B k apart = absurd (apart refl)
 
 -- router i takes this item, which is the front one, from its port q at place p
-module _ (i q : ℕ) (p : Place) (item : Item) (w : World) (h : IsKept w) (at : place_at w i q ≡ Some p) (front : (k : Link) → slice_get w.links p.link ≡ Some k → slice_get (side p.end k).inbox 0 ≡ Some item) where
+module _ (i q : ℕ) (p : Place) (item : Item) (w : World) (h : IsWorld w) (at : place_at w i q ≡ Some p) (front : (k : Link) → slice_get w.links p.link ≡ Some k → slice_get (side p.end k).inbox 0 ≡ Some item) where
   -- the world then
   abbrev taking : World
   taking = record w { links = changed_at p.link (with_front_taken p.end) w.links; routers = changed_at i (router_accepting q item) w.routers }
@@ -233,7 +223,7 @@ module _ (i q : ℕ) (p : Place) (item : Item) (w : World) (h : IsKept w) (at : 
           let port : slice_get c.old.ports t ≡ Some x = ap (λ (z : Router). slice_get z.ports t) (sym (c.elsewhere apart)) ∙ is_port in
           other_place x.up y k (λ e. apart (h.places_apart j t i q p (at_y ∙ ap Some e) at).0) l (before x port)
 
-  taking-kept : IsKept taking
+  taking-kept : IsWorld taking
   taking-kept = record {
     links_known = λ j t y at_y. subst (λ n. y.link < n) (sym (length-changed_at (with_front_taken p.end) p.link w.links)) (h.links_known j t y at_y);
     places_apart = h.places_apart;
@@ -265,7 +255,7 @@ front_parts w i q item is = by_place (place_at w i q) refl is
     by_place (Some p) at some = (p, at, λ k there. sym (ap (λ o. option_and_then (λ (s : Side). slice_get s.inbox 0) (option_map (side p.end) o)) there) ∙ some)
 
 -- a lawful step keeps what every world keeps
-pub next-kept : (w : World) (s : Step) → Lawful w s → IsKept w → IsKept (next w s)
+pub next-kept : (w : World) (s : Step) → Lawful w s → IsWorld w → IsWorld (next w s)
 next-kept w (LinkUp l) lawful h = with_link-kept l link_come_up w (λ k is. come_up-keeps k (ap (λ (y : Link). y.up) (Some_injective (sym is ∙ lawful.1)) ∙ lawful.2)) h
 next-kept w (LinkDown l) lawful h = with_link-kept l link_gone_down w (λ k is. gone_down-keeps k (ap (λ (y : Link). y.up) (Some_injective (sym is ∙ lawful.1)) ∙ lawful.2)) h
 next-kept w (SetCost i q cost) lawful h = changed_link-kept i q (with_cost cost) w (λ p k at is. with_cost-keeps cost p.end k (up_at p k at is)) h
@@ -274,18 +264,18 @@ next-kept w (SetCost i q cost) lawful h = changed_link-kept i q (with_cost cost)
     up_at p k at is =
         let here : link_at w i q ≡ Some k = ap (option_and_then (λ (x : Place). slice_get w.links x.link)) at ∙ is in
         ap (λ (y : Link). y.up) (Some_injective (sym here ∙ lawful.3)) ∙ lawful.4
-next-kept w (Deliver i q) lawful h = option_map_or-ind IsKept (with_delivered i q w) (front_at w i q) _
-    (option_map_or-ind IsKept (with_noticed i w) (notice_at w i q) w h
+next-kept w (Deliver i q) lawful h = option_map_or-ind IsWorld (with_delivered i q w) (front_at w i q) _
+    (option_map_or-ind IsWorld (with_noticed i w) (notice_at w i q) w h
     (λ x _. changed_router-kept i (router_at_home x) (changed_attachments i with_notice_taken w) (λ r. refl) (changed_attachments-kept i with_notice_taken w h)))
     delivered-kept
   where
-    delivered-kept : (item : Item) → front_at w i q ≡ Some item → IsKept (with_delivered i q w item)
+    delivered-kept : (item : Item) → front_at w i q ≡ Some item → IsWorld (with_delivered i q w item)
     delivered-kept item is =
         let f : _ = front_parts w i q item is in
-        subst IsKept (sym (ap (λ o. changed_router i (router_accepting q item) (option_map_or (λ (x : Place). record w { links = changed_at x.link (with_front_taken x.end) w.links }) o w)) f.1))
+        subst IsWorld (sym (ap (λ o. changed_router i (router_accepting q item) (option_map_or (λ (x : Place). record w { links = changed_at x.link (with_front_taken x.end) w.links }) o w)) f.1))
         (taking-kept i q f.0 item w h f.1 f.2)
 next-kept w (Publish i) lawful h = changed_router-kept i router_publishing w (λ r. refl) h
-next-kept w (Release i) lawful h = option_map_or-ind IsKept (with_released i w) (release_at w i) w h
+next-kept w (Release i) lawful h = option_map_or-ind IsWorld (with_released i w) (release_at w i) w h
     (λ m e. changed_router-kept i router_releasing (changed_link i m.port (with_message m) w) (λ r. refl) (changed_link-kept i m.port (with_message m) w (λ p k at is. with_message-keeps m p.end k) h))
 next-kept w (Attach i p cost) lawful h = changed_attachments-kept i (with_attachment p cost) w h
 next-kept w (Detach i p) lawful h = changed_attachments-kept i (without_attachment p) w h

@@ -1,23 +1,9 @@
 -- What a router does next, by the tests of the code.
-use Rattle.std.specs.Prelude.{◌≡◌, ℕ, ◌+◌, suc, Bool, true, false, cond, not, ◌&&◌, ◌==◌, if◌then◌else◌, List, [], ◌∷◌, map, length, Option, Some, None, is_some, is_ok, is_none, option_map, option_and_then, slice_get, find}
-use Rattle.std.specs.List.{range_with_len, position_from}
+use Rattle.std.proofs.Common.{refl, ap, ◌∙◌, arith, ◌≡◌, ℕ, ◌+◌, suc, Bool, true, false, cond, not, ◌&&◌, ◌==◌, if◌then◌else◌, List, [], ◌∷◌, map, length, Option, Some, None, is_some, is_ok, is_none, option_map, option_and_then, slice_get, find, ne_eqb, eq-eqb}
+use Rattle.packet_loops.proofs.Common.{range_with_len, position_from, slice_get_within, Held, Item, Notice, Place, Refusal, UnknownRouter, UnknownLink, NothingToDeliver, NothingDue, NothingRipe, Link, Router, Attachments, World, link_at, degree_of, side, first_cause, is_due, ripe_front, front_at, is_at_home, notice_at, has_no_notice, is_lawful, next_step}
 use Rattle.std.specs.Option.{option_map_or, ok_or}
-use Rattle.std.proofs.Common.{refl, ap, ◌∙◌, arith}
-use Rattle.std.proofs.lemmas.Bool.{ne_eqb, eq-eqb}
-use Rattle.std.proofs.lemmas.Option.{slice_get_within}
-use Rattle.network_model.specs.declared.item.Held.{Held}
-use Rattle.network_model.specs.declared.item.Item.{Item}
-use Rattle.network_model.specs.declared.item.Notice.{Notice}
-use Rattle.network_model.specs.declared.network.Place.{Place}
 use Rattle.network_model.specs.declared.step.Step.{Step}
 use Rattle.network_model.specs.declared.step.Step.TheVariants.{Deliver, Publish, Release}
-use Rattle.network_model.specs.declared.step.Refusal.{Refusal}
-use Rattle.network_model.specs.declared.step.Refusal.TheVariants.{UnknownRouter, UnknownLink, NothingToDeliver, NothingDue, NothingRipe}
-use Rattle.network_model.specs.World.{Link, Router, Attachments, World, link_at, degree_of, side}
-use Rattle.network_model.specs.Network.{first_cause}
-use Rattle.network_model.specs.Step.{is_due, ripe_front, front_at, is_at_home, notice_at}
-use Rattle.network_model.specs.Forwarding.{has_no_notice}
-use Rattle.network_model.specs.Turns.{is_lawful, next_step}
 use Rattle.link_fifo.specs.declared.refusal.LinkRefusal.{LinkRefusal}
 use Rattle.link_fifo.specs.Refusals.{front_of}
 use Rattle.world.specs.Waiting.{is_waiting, waiting_port}

@@ -16,6 +16,6 @@ pub record IsReached (n : Network) (w : World) : Type 0 where
   pub runs : Runs (opening n) steps w
 
 -- no packet that is matched by one prefix at every hop meets a router twice along the published rows; and where all is quiet, each router's row for each prefix is the best
-pub record IsSound (n : Network) (w : World) : Type 0 where
+pub record HasWorldHeadline (n : Network) (w : World) : Type 0 where
   pub no_loop : NoPacketLoops w
   pub least_cost : is_quiet w ≡ true → (p : Prefix) (i : ℕ) → i < n.routers → HasBestRow w p i

@@ -15,7 +15,7 @@ LeadsTo port link (Item.Cost session cost ∷ items) = (port ≡ true) × LeadsT
 LeadsTo port link (Item.Message message ∷ items) = (port ≡ true) × LeadsTo port link items
 
 -- a world whose ports and links fit together
-pub record IsKept (w : World) : Type 0 where
+pub record IsWorld (w : World) : Type 0 where
   pub links_known : (i q : ℕ) (p : Place) → place_at w i q ≡ Some p → p.link < length w.links
   pub places_apart : (i q j r : ℕ) (p : Place) → place_at w i q ≡ Some p → place_at w j r ≡ Some p → (i ≡ j) × (q ≡ r)
   pub routers_placed : length w.places ≡ length w.routers

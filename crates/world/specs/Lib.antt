@@ -3,3 +3,5 @@ pub mod Kept
 pub mod Parts
 pub mod Steps
 pub mod Waiting
+pub mod Rest
+pub mod Touched

@@ -32,7 +32,8 @@ impl Model for Network {
 
     ghost view = { λ n. network_of n.routers n.links.items n.attachments.items };
 
-    ghost invariant = { λ n. IsNetwork (network_of n.routers n.links.items n.attachments.items) × (n.prefixes ≡ length (prefixes_of n.attachments.items)) };
+    ghost invariant = { λ n. IsNetwork (network_of n.routers n.links.items n.attachments.items)
+        × (n.prefixes ≡ length (prefixes_of n.attachments.items)) };
 }
 
 impl Network {
@@ -45,7 +46,9 @@ impl Network {
         attachments: Vec<(Prefix, u16, Cost)>,
     ) -> Result<Network, NetworkFault>
         ensures made { IfOk result (λ n. n ≡ network_of routers links.items attachments.items) }
-        ensures cause { MatchOption (valid.network_fault (network_of routers links.items attachments.items)) (IsOk result) (λ fault. result ≡ Err fault) }
+        ensures cause { MatchOption (valid.network_fault
+            (network_of routers links.items attachments.items)) (IsOk result)
+            (λ fault. result ≡ Err fault) }
     {
         if routers == 0 || routers > MOST_ROUTERS {
             return Err(NetworkFault::BadRouters);
@@ -73,7 +76,7 @@ impl Network {
     /// The links, by number.
     pub fn links(&self) -> &[LinkSpec]
         ensures links { result.now ≡ (self.now).links }
-        ensures few { length result.now ≤ 1024 }
+        ensures few { length result.now ≤ valid.most_links }
         ensures valid { valid.IsNetwork self.now }
     {
         &self.links
@@ -156,7 +159,8 @@ pub fn is_given(before: &[(Prefix, u16, Cost)], attachment: &(Prefix, u16, Cost)
 
 // How many prefixes more there are by an attachment after others.
 fn prefixes_more(before: &[(Prefix, u16, Cost)], attachment: &(Prefix, u16, Cost)) -> usize
-    ensures more { result ≡ (if list_any (valid.has_same_prefix attachment.now) before.now then 0 else 1) }
+    ensures more { result ≡ (if list_any
+        (valid.has_same_prefix attachment.now) before.now then 0 else 1) }
     ensures one { result ≤ 1 }
 {
     usize::from(!is_given(before, attachment))
@@ -164,7 +168,8 @@ fn prefixes_more(before: &[(Prefix, u16, Cost)], attachment: &(Prefix, u16, Cost
 
 // Whether the prefix was given before at the same router.
 fn is_given_there(before: &[(Prefix, u16, Cost)], attachment: &(Prefix, u16, Cost)) -> bool
-    ensures { result ≡ list_any (λ b. valid.has_same_prefix attachment.now b && (b.1 == attachment.now.1)) before.now }
+    ensures { result ≡ list_any (λ b. valid.has_same_prefix attachment.now b &&
+        (b.1 == attachment.now.1)) before.now }
 {
     before
         .iter()
@@ -208,7 +213,9 @@ fn link_fault(routers: u16, links: &[LinkSpec]) -> Option<NetworkFault>
 // How many prefixes these attachments are of, or the first fault of theirs.
 fn prefix_count(routers: u16, attachments: &[(Prefix, u16, Cost)]) -> Result<usize, NetworkFault>
     ensures count { IfOk result (λ n. n ≡ length (prefixes_of attachments.now)) }
-    ensures cause { MatchOption (valid.first_cause (valid.attachment_causes routers [] attachments.now)) (IsOk result) (λ fault. result ≡ Err fault) }
+    ensures cause { MatchOption (valid.first_cause
+        (valid.attachment_causes routers [] attachments.now)) (IsOk result)
+        (λ fault. result ≡ Err fault) }
     ensures prefixes { OnOk result (All (λ a. IsPrefix a.0) attachments.now) }
     ensures costs { OnOk result (All (λ a. IsCost a.2) attachments.now) }
 {

@@ -61,7 +61,8 @@ pub fn opening_ports<A: SmallAllocator>(
     places: &[Place],
 ) -> Result<Vec<Port, A>, AllocError>
     requires { All (λ p. p.link < length links.now) places.now }
-    ensures { IfOk result (λ ports. ports.items ≡ map (model.opening_port (map model.opening_link links.now)) places.now) }
+    ensures { IfOk result (λ ports. ports.items
+        ≡ map (model.opening_port (map model.opening_link links.now)) places.now) }
 {
     let mut ports = Vec::new(alloc);
     for place in places {
@@ -76,7 +77,8 @@ fn own<A: SmallAllocator>(
     router: u16,
     attachments: &[(Prefix, u16, Cost)],
 ) -> Result<Vec<(Prefix, Cost), A>, AllocError>
-    ensures { IfOk result (λ own. own.items ≡ map (λ a. (a.0, a.2)) (filter (λ a. a.1 == router) attachments.now)) }
+    ensures { IfOk result (λ own. own.items
+        ≡ map (λ a. (a.0, a.2)) (filter (λ a. a.1 == router) attachments.now)) }
 {
     attachments
         .iter()
@@ -90,7 +92,8 @@ pub fn opening_prefixes<A: SmallAllocator>(
     alloc: A,
     network: &Network,
 ) -> Result<Vec<Prefix, A>, AllocError>
-    ensures { IfOk result (λ prefixes. prefixes.items ≡ model.prefixes_of (network.now).attachments) }
+    ensures { IfOk result (λ prefixes. prefixes.items
+        ≡ model.prefixes_of (network.now).attachments) }
 {
     let attachments = network.attachments();
     let mut prefixes = Vec::new(alloc);
@@ -107,7 +110,8 @@ pub fn opening_attachments<A: SmallAllocator>(
     alloc: A,
     network: &Network,
 ) -> Result<Vec<Attachments<A>, A>, NoMemory>
-    ensures { IfOk result (λ attachments. attachments.items ≡ map (λ i. attachments_of (model.costs_of network.now i) []) (range_with_len 0 (network.now).routers)) }
+    ensures { IfOk result (λ attachments. attachments.items ≡ map (λ i. attachments_of
+        (model.costs_of network.now i) []) (range_with_len 0 (network.now).routers)) }
 {
     let mut attachments = Vec::new(alloc);
     for router in 0..network.routers() {
@@ -122,7 +126,8 @@ pub fn opening_places<A: SmallAllocator>(
     alloc: A,
     network: &Network,
 ) -> Result<Vec<Vec<Place, A>, A>, AllocError>
-    ensures { IfOk result (λ places. map (λ v. v.items) places.items ≡ map (λ i. model.places_from 0 i (network.now).links) (range_with_len 0 (network.now).routers)) }
+    ensures { IfOk result (λ places. map (λ v. v.items) places.items ≡ map
+        (λ i. model.places_from 0 i (network.now).links) (range_with_len 0 (network.now).routers)) }
 {
     let mut places = Vec::new(alloc);
     for router in 0..network.routers() {
@@ -151,7 +156,8 @@ pub fn opening_routers<A: SmallAllocator>(
     alloc: A,
     network: &Network,
 ) -> Result<Vec<Router<A>, A>, NoMemory>
-    ensures { IfOk result (λ routers. routers.items ≡ map (model.opening_router_of network.now) (range_with_len 0 (network.now).routers)) }
+    ensures { IfOk result (λ routers. routers.items
+        ≡ map (model.opening_router_of network.now) (range_with_len 0 (network.now).routers)) }
 {
     let mut routers = Vec::new(alloc);
     for router in 0..network.routers() {

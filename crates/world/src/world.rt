@@ -10,7 +10,7 @@ ghost use Rattle.network_model.specs.Run.{Runs};
 ghost use Rattle.network_model.specs.Turns as turns;
 ghost use Rattle.network_model.specs.declared.item.Held.{Held};
 ghost use Rattle.world.specs.Steps.{DiscardsStale, IsDoneOr, HasRoomForSteps, IsPort, is_stale, port_refusal, prefix_refusal, StopsAt};
-ghost use Rattle.world.specs.Headline.{IsReached, IsSound};
+ghost use Rattle.world.specs.Headline.{IsReached, HasWorldHeadline};
 ghost use Rattle.world.specs.Waiting.{is_waiting, waiting_port};
 
 use crate::attachments::Attachments;
@@ -45,13 +45,14 @@ pub struct World<A: SmallAllocator = Global> {
 impl<A: SmallAllocator> Model for World<A> {
     ghost use Rattle.network_model.specs.World.{World as NetworkWorld};
     ghost use Rattle.world.specs.Parts.{world_of};
-    ghost use Rattle.world.specs.Kept.{IsKept};
+    ghost use Rattle.world.specs.Kept.{IsWorld};
 
     ghost Value = { NetworkWorld };
 
     ghost view = { λ w. world_of w.places.items w.links.links w.prefixes.items w.attachments.items w.routers.items };
 
-    ghost invariant = { λ w. IsKept (world_of w.places.items w.links.links w.prefixes.items w.attachments.items w.routers.items) };
+    ghost invariant = { λ w. IsWorld
+        (world_of w.places.items w.links.links w.prefixes.items w.attachments.items w.routers.items) };
 }
 
 impl<A: SmallAllocator> World<A> {
@@ -108,7 +109,8 @@ impl<A: SmallAllocator> World<A> {
     /// How many notices of its attachments a router has yet to take.
     pub fn notices(&self, router: u16) -> usize
         requires { router < length (self.now).routers }
-        ensures { option_map (λ a. length a.notices) (slice_get (self.now).attachments router) ≡ Some result }
+        ensures { option_map (λ a. length a.notices) (slice_get (self.now).attachments router)
+            ≡ Some result }
     {
         self.attachments[usize::from(router)].notices()
     }
@@ -169,10 +171,12 @@ impl<A: SmallAllocator> World<A> {
     /// of a stale message, which is discarded.
     pub fn step(&mut self, step: Step) -> Result<(), Refusal>
         requires { HasRoomForSteps 1 self.old }
-        ensures ok { OnOk result (steps.Lawful self.old step × (self.new ≡ steps.next self.old step)) }
+        ensures ok { OnOk result (steps.Lawful self.old step
+            × (self.new ≡ steps.next self.old step)) }
         ensures err { OnErr result (self.new ≡ self.old) }
         ensures cause { IsDoneOr (steps.refusal self.old step) result }
-        ensures publication { (i : ℕ) → step ≡ Step.Publish i → MatchOption (steps.refusal self.old step) (IsOk result) (λ e. result ≡ Err e) }
+        ensures publication { (i : ℕ) → step ≡ Step.Publish i
+            → MatchOption (steps.refusal self.old step) (IsOk result) (λ e. result ≡ Err e) }
         ensures stale { DiscardsStale self.old step result }
     {
         match step {
@@ -196,10 +200,13 @@ impl<A: SmallAllocator> World<A> {
         requires { HasRoomForSteps (length steps.now) self.old }
         ensures done { result.done ≤ length steps.now }
         ensures runs { Runs self.old (take result.done steps.now) self.new }
-        ensures stop { MatchOption result.refusal (result.done ≡ length steps.now) (StopsAt (refusal self.new) steps.now result.done) }
+        ensures stop { MatchOption result.refusal (result.done ≡ length steps.now)
+            (StopsAt (refusal self.new) steps.now result.done) }
         ensures reached { (n : model.Network) → IsReached n self.old → IsReached n self.new }
-        ensures headline { (n : model.Network) → IsReached n self.old → IsSound n self.new }
-        ensures publication { IfSome result.refusal (λ e. (i : ℕ) → slice_get steps.now result.done ≡ Some (Step.Publish i) → refusal self.new (Step.Publish i) ≡ Some e) }
+        ensures headline { (n : model.Network) → IsReached n self.old
+            → HasWorldHeadline n self.new }
+        ensures publication { IfSome result.refusal (λ e. (i : ℕ) → slice_get steps.now result.done
+            ≡ Some (Step.Publish i) → refusal self.new (Step.Publish i) ≡ Some e) }
     {
         for (done, &step) in steps.iter().enumerate() {
             if let Err(refusal) = self.step(step) {
@@ -298,7 +305,8 @@ impl<A: SmallAllocator> World<A> {
         requires { HasRoomForSteps 1 self.old }
         ensures ok { OnOk result (self.new ≡ steps.next self.old (Step.Publish router)) }
         ensures err { OnErr result (self.new ≡ self.old) }
-        ensures cause { MatchOption (steps.refusal self.old (Step.Publish router)) (IsOk result) (λ e. result ≡ Err e) }
+        ensures cause { MatchOption (steps.refusal self.old (Step.Publish router)) (IsOk result)
+            (λ e. result ≡ Err e) }
     {
         if usize::from(router) >= self.routers.len() {
             return Err(Refusal::UnknownRouter);
@@ -314,7 +322,8 @@ impl<A: SmallAllocator> World<A> {
         ensures ok { OnOk result (self.new ≡ steps.next self.old (Step.Release router)) }
         ensures err { OnErr result (self.new ≡ self.old) }
         ensures cause { IsDoneOr (steps.refusal self.old (Step.Release router)) result }
-        ensures stale { (h : Held) → steps.release_at self.old router ≡ Some h → is_stale self.old router h ≡ true → IsOk result }
+        ensures stale { (h : Held) → steps.release_at self.old router ≡ Some h
+            → is_stale self.old router h ≡ true → IsOk result }
     {
         if usize::from(router) >= self.routers.len() {
             return Err(Refusal::UnknownRouter);

@@ -1,7 +1,5 @@
-use Rattle.std.specs.Prelude.{◌≡◌, ◌++◌, ◌∷◌, [], map, length}
-use Rattle.std.specs.Vec.Iter.{into_iter_items}
-use Rattle.std.proofs.Common.{sym, ap, ◌∙◌, append_assoc, arith}
-use Rattle.std.proofs.lemmas.List.{append-nil, nil_from_length}
+use Rattle.std.proofs.Common.{sym, ap, ◌∙◌, append_assoc, arith, ◌≡◌, ◌++◌, ◌∷◌, [], map, length, append-nil}
+use Rattle.packet_loops.proofs.Common.{into_iter_items, nil_from_length}
 use Rattle.fabric.specs.Desks.{desk_in}
 use Rattle.fabric.proofs.desk.seat_all.Goals as goal
 

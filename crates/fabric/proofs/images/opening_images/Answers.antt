@@ -1,7 +1,5 @@
-use Rattle.std.specs.Prelude.{◌≡◌, ◌++◌, ◌∷◌, [], map, take, get_or}
-use Rattle.std.proofs.Common.{sym, ap, ◌∙◌}
-use Rattle.std.proofs.lemmas.List.{map_more, take_all}
-use Rattle.network_model.specs.Publication.{Image}
+use Rattle.std.proofs.Common.{sym, ap, ◌∙◌, ◌≡◌, ◌++◌, ◌∷◌, [], map, get_or, take_all}
+use Rattle.packet_loops.proofs.Common.{map_more, Image}
 use Rattle.fabric.specs.Images.{chosen_image}
 use Rattle.fabric.proofs.images.opening_images.Goals as goal
 

@@ -1,5 +1,4 @@
-use Rattle.std.specs.Prelude.{Some, IsSome}
-use Rattle.std.proofs.Common.{refl, sym, ap, subst, ◌∙◌}
+use Rattle.std.proofs.Common.{refl, sym, ap, subst, ◌∙◌, Some, IsSome}
 use Rattle.router_core.proofs.Refused.{gave_up}
 use Rattle.fabric.proofs.Causes.{due_read}
 use Rattle.fabric.proofs.images.patch_due.Goals as goal

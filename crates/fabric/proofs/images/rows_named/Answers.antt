@@ -1,8 +1,6 @@
-use Rattle.std.proofs.Common.{rules, ◌≡◌, ◌∙◌, ap, sym}
+use Rattle.std.proofs.Common.{rules, ◌≡◌, ◌∙◌, ap, sym, true}
 use Rattle.std.specs.FinMap.{is_sorted}
-use Rattle.std.specs.Prelude.{true}
-use Rattle.ipv4_prefix.specs.Prefix.{prefix_cmp}
-use Rattle.network_model.specs.Publication.{with_rows}
+use Rattle.packet_loops.proofs.Common.{prefix_cmp, with_rows}
 use Rattle.fabric.specs.Patches.{rows_to_set}
 use Rattle.fabric.proofs.Setting.{set_more}
 use Rattle.fabric.proofs.images.rows_named.Goals as goal

@@ -1,7 +1,5 @@
 use Rattle.std.proofs.Common.{◌≡◌, ◌++◌, ◌||◌, not, filter}
-use Rattle.std.specs.List.{list_any}
-use Rattle.ipv4_prefix.specs.Prefix.{prefix_eq}
-use Rattle.network_model.specs.Step.{has_row}
+use Rattle.packet_loops.proofs.Common.{list_any, prefix_eq, has_row}
 use Rattle.fabric.specs.Patches.{rows_to_set}
 use Rattle.fabric.proofs.images.rows_named.Given as goal
 

@@ -1,6 +1,6 @@
 use Rattle.std.proofs.Common.{rules, ◌≡◌, ◌+◌, ◌-◌, ◌++◌, [], ◌∷◌, All, subst, sym, arith}
 use Rattle.std.proofs.lemmas.List.Elements.{All-append}
-use Rattle.fabric.specs.Writers.{IsPort}
+use Rattle.fabric.specs.Writers.{IsReaderPort}
 use Rattle.fabric.proofs.Dealing.{all_one}
 use Rattle.fabric.proofs.ports.deal.Goals as goal
 
@@ -10,7 +10,7 @@ loop-done-init g c = record {
   given = search rules;
   room = search rules;
   stock = c.in_ok-own.ensures.stock (c.args.workers - 0) (omega arith);
-  ports = subst (All (λ port. IsPort c.args.lists.len port.items)) (sym c.in_ok-ports.ensures.items) (λ k d less. absurd (omega (arith, less)));
+  ports = subst (All (λ port. IsReaderPort c.args.lists.len port.items)) (sym c.in_ok-ports.ensures.items) (λ k d less. absurd (omega (arith, less)));
 }
 
 pub loop-done-preserved : goal.loop-done-preserved
@@ -22,7 +22,7 @@ loop-done-preserved g c =
       given = search rules;
       room = search rules;
       stock = c.in_ok-take_port.ensures.stock (c.args.workers - (c.loop-done.done + 1)) (omega arith);
-      ports = subst (All (λ port. IsPort c.args.lists.len port.items)) (sym pushed)
-          (All-append (λ port. IsPort c.args.lists.len port.items) c.loop-done.ports.items (c.in_ok-take_port.field-0 ∷ []) v.ports
-          (all_one (λ port. IsPort c.args.lists.len port.items) c.in_ok-take_port.field-0 (subst (λ n. IsPort n c.in_ok-take_port.field-0.items) v.all c.in_ok-take_port.ensures.port)));
+      ports = subst (All (λ port. IsReaderPort c.args.lists.len port.items)) (sym pushed)
+          (All-append (λ port. IsReaderPort c.args.lists.len port.items) c.loop-done.ports.items (c.in_ok-take_port.field-0 ∷ []) v.ports
+          (all_one (λ port. IsReaderPort c.args.lists.len port.items) c.in_ok-take_port.field-0 (subst (λ n. IsReaderPort n c.in_ok-take_port.field-0.items) v.all c.in_ok-take_port.ensures.port)));
     }

@@ -1,6 +1,5 @@
-use Rattle.std.proofs.Common.{◌≡◌, ◌-◌, ◌≤◌, All, map, vec_len}
-use Rattle.std.specs.Prelude.{vec_capacity}
-use Rattle.fabric.specs.Writers.{HaveReaders, IsPort}
+use Rattle.std.proofs.Common.{◌≡◌, ◌-◌, ◌≤◌, All, map, vec_len, vec_capacity}
+use Rattle.fabric.specs.Writers.{HaveReaders, IsReaderPort}
 use Rattle.fabric.proofs.ports.deal.Given as goal
 
 abbrev pub invariant-loop-done : goal.invariant-loop-done
@@ -9,5 +8,5 @@ invariant-loop-done g l = record {
   given : vec_len l.ports ≡ l.done;
   room : l.workers ≤ vec_capacity l.ports;
   stock : HaveReaders (l.workers - l.done) (map (λ rs. rs.items) l.lists.items);
-  ports : All (λ port. IsPort (vec_len l.fn.lists) port.items) l.ports.items;
+  ports : All (λ port. IsReaderPort (vec_len l.fn.lists) port.items) l.ports.items;
 }

@@ -1,7 +1,5 @@
-use Rattle.std.proofs.Common.{rules, ◌≡◌, ◌∙◌, ◌≤◌, ◌++◌, [], ◌∷◌, List, Some, map, length, ap, subst, sym, arith}
-use Rattle.std.specs.Prelude.{slice_get, set, option_map}
-use Rattle.std.proofs.lemmas.List.{map-set}
-use Rattle.std.proofs.lemmas.Option.{slice_get-get_or, slice_get-map}
+use Rattle.std.proofs.Common.{rules, ◌≡◌, ◌∙◌, ◌≤◌, ◌++◌, [], ◌∷◌, List, Some, map, length, ap, subst, sym, arith, slice_get, set, option_map}
+use Rattle.packet_loops.proofs.Common.{map-set, slice_get-get_or, slice_get-map}
 use Rattle.publication.specs.declared.known.Known.{Known}
 use Rattle.publication.specs.Lists.{EachAt, no_patches}
 use Rattle.publication.proofs.Places.{each-push}

@@ -1,5 +1,4 @@
-use Rattle.std.proofs.Common.{ℕ, List, Some, ◌≡◌, ◌≤◌, ◌<◌, map, length, vec_len}
-use Rattle.std.specs.Prelude.{slice_get, vec_capacity}
+use Rattle.std.proofs.Common.{ℕ, List, Some, ◌≡◌, ◌≤◌, ◌<◌, map, length, vec_len, slice_get, vec_capacity}
 use Rattle.publication.specs.declared.known.Known.{Known}
 use Rattle.publication.specs.Lists.{EachAt, no_patches}
 use Rattle.fabric.specs.Writers.{HaveReaders}

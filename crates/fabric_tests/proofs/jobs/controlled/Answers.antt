@@ -4,4 +4,4 @@ use Rattle.control.proofs.Serving.{served_none}
 use Rattle.fabric_tests.proofs.jobs.controlled.Goals as goal
 
 pub new-requires-clause-opened : goal.new-requires-clause-opened
-new-requires-clause-opened g c = subst (IsServed g.N.Naming.opened g.N.Naming.asked) (sym c.requires.opened) (served_none g.N.Naming.opened g.N.Naming.asked)
+new-requires-clause-opened g c = subst (IsServed g.N.ControlName.opened g.N.ControlName.asked) (sym c.requires.opened) (served_none g.N.ControlName.opened g.N.ControlName.asked)

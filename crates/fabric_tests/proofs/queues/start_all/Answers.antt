@@ -1,6 +1,6 @@
 use Rattle.std.proofs.Common.{◌≡◌, [], ap, ◌∙◌, arith}
 use Rattle.std.specs.declared.thread.PromisedHandle.{PromisedHandle}
-use Rattle.packet_queue.specs.declared.ends.Taker.{Taker}
+use Rattle.packet_queue.specs.declared.taker.Taker.{Taker}
 use Rattle.fabric_tests.specs.declared.queues.Worked.{Worked}
 use Rattle.fabric_tests.specs.declared.queues.GoesOn.{GoesOn}
 use Rattle.packet_queue.specs.Ends.{puts_into, takes_from, taken_by}

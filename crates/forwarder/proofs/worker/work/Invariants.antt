@@ -1,5 +1,4 @@
-use Rattle.std.proofs.Common.{◌≡◌, ◌⊎◌, ◌<◌, ◌≤◌, ◌++◌, length, map}
-use Rattle.std.specs.Prelude.{IfOk, IfErr}
+use Rattle.std.proofs.Common.{◌≡◌, ◌⊎◌, ◌<◌, ◌≤◌, ◌++◌, length, map, IfOk, IfErr}
 use Rattle.network_model.specs.declared.step.Refusal.TheVariants.{NoMemory, NoImage}
 use Rattle.packet_queue.specs.Ends.{takes_from, taken_by}
 use Rattle.packet_queue.specs.Jobs.{jobs_of}

@@ -1,6 +1,5 @@
 use Rattle.std.proofs.Common.{◌≡◌, ◌≤◌, ◌+◌, ◌++◌, List, length}
-use Rattle.script.specs.Words.{Text}
-use Rattle.journal.specs.Lines.{lines_of}
+use Rattle.script.proofs.Common.{Text, lines_of}
 use Rattle.journal.proofs.compare.first_difference.Given as goal
 
 abbrev pub invariant-loop-first : goal.invariant-loop-first

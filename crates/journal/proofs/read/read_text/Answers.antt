@@ -1,8 +1,5 @@
-use Rattle.std.proofs.Common.{◌≡◌, ◌≢◌, sym, ◌∙◌, ◌+◌, inr, length}
-use Rattle.std.proofs.lemmas.Bool.{true≢false}
-use Rattle.std.proofs.lemmas.Slice.Eq.{bytes_eq-Decides}
-use Rattle.script.specs.Words.{words_of}
-use Rattle.journal.specs.Lines.{lines_of}
+use Rattle.std.proofs.Common.{◌≡◌, ◌≢◌, sym, ◌∙◌, ◌+◌, inr, length, true≢false}
+use Rattle.script.proofs.Common.{bytes_eq-Decides, words_of, lines_of}
 use Rattle.journal.specs.Journal.{ending}
 use Rattle.journal.proofs.Reading.{steps_more, says_no_step, stops_missing, stops_at_line}
 use Rattle.journal.proofs.read.read_text.Goals.{in-Some-next_line+else-eq+in_default-parse_step, in_default-next_line}

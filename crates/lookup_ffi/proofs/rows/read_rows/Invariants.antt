@@ -1,9 +1,9 @@
 use Rattle.std.proofs.Common.{◌≡◌, None, map, take, drop}
-use Rattle.lookup_ffi.specs.Rows.{row_entry, first_fault}
+use Rattle.lookup_ffi.specs.Rows.{row_entry, first_row_fault}
 use Rattle.lookup_ffi.proofs.rows.read_rows.Given as goal
 
 abbrev pub invariant-loop-row : goal.invariant-loop-row
 invariant-loop-row l = record {
-  rest : first_fault (drop l.row-index l.rows) ≡ None;
+  rest : first_row_fault (drop l.row-index l.rows) ≡ None;
   items : l.read.items ≡ map row_entry (take l.row-index l.rows);
 }

@@ -2,7 +2,7 @@ use Rattle.std.proofs.Common.{rules, ◌≡◌, ◌++◌, ◌∷◌, [], sum_by,
 use Rattle.std.proofs.lemmas.List.Sums.{sum_by-append}
 use Rattle.crossbeam_channel.specs.Claims.{view}
 use Rattle.crossbeam_channel.specs.Ends.{sends_on}
-use Rattle.packet_queue.specs.declared.ends.Taker.{Taker}
+use Rattle.packet_queue.specs.declared.taker.Taker.{Taker}
 use Rattle.packet_queue.specs.declared.rule.Hand.{Hand}
 use Rattle.packet_queue.specs.Hands.{one_job}
 use Rattle.packet_queue.specs.Ends.{named, takes_from, taken_by}

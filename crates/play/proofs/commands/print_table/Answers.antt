@@ -1,10 +1,7 @@
-use Rattle.std.proofs.Common.{rules, [], ◌∷◌, ◌++◌, subst, ◌∙◌}
-use Rattle.std.proofs.lemmas.List.{append_assoc}
-use Rattle.std.specs.Io.KnownBytes.{Appends}
-use Rattle.ipv4_prefix.specs.Prefix.{Prefix}
-use Rattle.network_model.specs.declared.route.Entry.{Entry}
+use Rattle.std.proofs.Common.{rules, [], ◌∷◌, ◌++◌, subst, ◌∙◌, append_assoc}
+use Rattle.packet_loops.proofs.Common.{Appends, Prefix, Entry}
 use Rattle.script.specs.Directories.{row_text}
-use Rattle.play.proofs.Printed.{line_more}
+use Rattle.texts.proofs.Printed.{line_more}
 use Rattle.play.proofs.commands.print_table.Goals as goal
 
 pub loop-prefix-preserved : goal.loop-prefix-preserved

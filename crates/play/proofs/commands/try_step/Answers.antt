@@ -6,9 +6,9 @@ use Rattle.play.proofs.commands.try_step.Goals as goal
 
 pub returns-in-Err : goal.returns-in-Err
 returns-in-Err g c =
-    let cause = fabric_refusal c.args.fabric c.args.step in
+    let cause = fabric_refusal c.args.fabric.now c.args.step in
     inr (
       c.in-Err.refusal,
       refused_for cause c.in-Err.refusal (subst (λ r. IsDoneOr cause r) c.in-Err.is c.step.ensures.cause),
-      subst (λ r. OnErr r (c.step.new.self ≡ c.args.fabric)) c.in-Err.is c.step.ensures.err,
+      subst (λ r. OnErr r (c.step.new.self ≡ c.args.fabric.now)) c.in-Err.is c.step.ensures.err,
     )

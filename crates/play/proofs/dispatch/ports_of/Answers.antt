@@ -1,6 +1,6 @@
 use Rattle.std.proofs.Common.{rules, length}
 use Rattle.publication.proofs.Places.{rest_all}
-use Rattle.fabric.specs.Writers.{IsPort}
+use Rattle.fabric.specs.Writers.{IsReaderPort}
 use Rattle.play.proofs.dispatch.ports_of.Goals as goal
 
 pub loop-readers-preserved : goal.loop-readers-preserved
@@ -9,5 +9,5 @@ loop-readers-preserved g c = (
   tt,
   search rules,
   search rules,
-  rest_all (λ readers. IsPort (length g.B.Naming.books) readers.items) _ c.in-Some.readers _ c.in-Some.ensures.steps.0 c.loop-readers.invariant.4,
+  rest_all (λ readers. IsReaderPort (length g.B.FabricName.books) readers.items) _ c.in-Some.readers _ c.in-Some.ensures.steps.0 c.loop-readers.invariant.4,
 )

@@ -8,7 +8,7 @@ use Rattle.publication.proofs.press.turn.Goals as goal
 
 pub show_as-requires : goal.show_as-requires
 show_as-requires g c =
-    let openings = g.B.Naming.openings in
+    let openings = g.B.FabricName.openings in
     let press = c.args.press in
     let patch = c.args.work.1 in
     let list = press.writer.desk.shown.value.told in

@@ -23,7 +23,7 @@ loop-image-init g c =
 
 pub open-requires-clause-rows : goal.open-requires-clause-rows
 open-requires-clause-rows g c =
-    first_at c.loop-image.router g.B.Naming.openings c.in-Some.image.rows [] _ (sym (ap (map (λ i. i.rows)) c.in-Some.ensures.steps.0) ∙ c.loop-image.invariant.3)
+    first_at c.loop-image.router g.B.FabricName.openings c.in-Some.image.rows [] _ (sym (ap (map (λ i. i.rows)) c.in-Some.ensures.steps.0) ∙ c.loop-image.invariant.3)
 
 pub loop-image-preserved : goal.loop-image-preserved
 loop-image-preserved g c =
@@ -37,8 +37,8 @@ loop-image-preserved g c =
     let writer : c.in-Ok-open.writer ≡ new_writing (length writers) = c.in-Ok-open.ensures.writer ∙ ap new_writing (sym written) in (
       tt,
       tt,
-      rest_at router g.B.Naming.books c.in-Some-next.part _ (sym c.in-Some-next.ensures.items ∙ v.2),
-      rest_at router g.B.Naming.openings c.in-Some.image.rows _ (sym (ap (map (λ i. i.rows)) step) ∙ v.3),
+      rest_at router g.B.FabricName.books c.in-Some-next.part _ (sym c.in-Some-next.ensures.items ∙ v.2),
+      rest_at router g.B.FabricName.openings c.in-Some.image.rows _ (sym (ap (map (λ i. i.rows)) step) ∙ v.3),
       rest_all (λ i. i.generation ≡ 0) _ c.in-Some.image _ step v.4,
       search rules,
       search rules,

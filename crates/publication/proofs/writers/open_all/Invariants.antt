@@ -8,8 +8,8 @@ abbrev pub invariant-loop-image : goal.invariant-loop-image
 invariant-loop-image g l =
     (goal.iterator-loop-image g).can_next l.image-iterator ×
     (goal.iterator-loop-image g).is_finite l.image-iterator ×
-    (into_iter_items l.unnamed ≡ drop l.router g.B.Naming.books) ×
-    (map (λ i. i.rows) (into_iter_items l.image-iterator) ≡ drop l.router g.B.Naming.openings) ×
+    (into_iter_items l.unnamed ≡ drop l.router g.B.FabricName.books) ×
+    (map (λ i. i.rows) (into_iter_items l.image-iterator) ≡ drop l.router g.B.FabricName.openings) ×
     All (λ i. i.generation ≡ 0) (into_iter_items l.image-iterator) ×
     (length (into_iter_items l.unnamed) ≡ length (into_iter_items l.image-iterator)) ×
     (l.router + length (into_iter_items l.image-iterator) ≡ vec_len l.fn.images) ×

@@ -1,9 +1,7 @@
-use Rattle.std.proofs.Common.{◌≡◌, suc, ◌+◌, ◌≤◌, length, get_or, set, drop, sym, ap, subst, ◌∙◌, arith, add-one}
-use Rattle.std.specs.Prelude.{◌||◌, nat_lt}
-use Rattle.ipv4_prefix.specs.Prefix.{Prefix}
-use Rattle.dual_machine.specs.State.{State}
+use Rattle.std.proofs.Common.{◌≡◌, suc, ◌+◌, ◌≤◌, length, get_or, set, drop, sym, ap, subst, ◌∙◌, arith, add-one, ◌||◌, nat_lt, drop-set-lt}
+use Rattle.network_model.proofs.Common.{Prefix}
+use Rattle.dual_machine.specs.State.{MachineState}
 use Rattle.router_core.specs.Effects.{HasRoomFor}
-use Rattle.std.proofs.lemmas.List.{drop-set-lt}
 use Rattle.dual_machine.specs.Outbox.{most_sent}
 use Rattle.router_core.proofs.Meetings.{still_there, same_here, same_after, one_more_room, machines-met, control-met, held-met}
 use Rattle.router_core.proofs.effects.meet_all.Goals as goal
@@ -36,7 +34,7 @@ meet-requires-clause-room g c =
 
 pub loop-row-preserved : goal.loop-row-preserved
 loop-row-preserved g c =
-    let cur : Prefix × State = get_or c.loop-row.machines c.loop-row.row-index c.row-item.result in
+    let cur : Prefix × MachineState = get_or c.loop-row.machines c.loop-row.row-index c.row-item.result in
     let here : cur ≡ get_or c.args.machines.now c.loop-row.row-index c.row-item.result
     = same_here c.loop-row.machines c.args.machines.now c.loop-row.row-index c.row-item.result (omega arith) (omega arith) c.loop-row.invariant.left in
     let at : cur ≡ get_or c.args.machines.now c.loop-row.row-index cur

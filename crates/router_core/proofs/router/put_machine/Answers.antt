@@ -1,7 +1,6 @@
-use Rattle.std.proofs.Common.{subst, ◌∙◌}
+use Rattle.std.proofs.Common.{Ok, Err, subst, ◌∙◌}
 use Rattle.route_table.specs.Place.{IsPlace}
 use Rattle.route_table.proofs.PrefixPlaces.{written_row, new_row}
-use Rattle.std.proofs.Common.{Ok, Err}
 use Rattle.router_core.proofs.router.put_machine.Goals as goal
 
 pub returns-in-Ok-clause-ok : goal.returns-in-Ok-clause-ok

@@ -1,9 +1,7 @@
 use Rattle.std.proofs.Common.{◌≢◌, [], refl, sym, ◌∙◌}
-use Rattle.std.proofs.lemmas.Bool.{false≢true}
-use Rattle.script.specs.Attachments.{IsAttachmentFault}
+use Rattle.script.proofs.Common.{false≢true, IsAttachmentFault, word-full}
 use Rattle.script.specs.declared.fault.Fault.TheVariants.{BadCost, Prefix as OfPrefix}
 use Rattle.script.proofs.Exits.{at_err}
-use Rattle.script.proofs.Splits.{word-full}
 use Rattle.script.proofs.AttachmentTexts.{attachment_line}
 use Rattle.script.proofs.attachment.read_attachment.Goals as goal
 

@@ -1,7 +1,5 @@
 use Rattle.std.proofs.Common.{◌≡◌, length}
-use Rattle.script.specs.Attachments.{IsAttachment}
-use Rattle.script.specs.Reading.{ReadsFirst}
-use Rattle.script.specs.Seen.{texts}
+use Rattle.script.proofs.Common.{IsAttachment, ReadsFirst, texts}
 use Rattle.script.proofs.attachment.read_attachments.Given as goal
 
 abbrev pub invariant-loop-position : goal.invariant-loop-position

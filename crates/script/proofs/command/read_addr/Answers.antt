@@ -1,7 +1,6 @@
 use Rattle.std.proofs.Common.{◌∷◌}
 use Rattle.script.specs.declared.fault.Fault.TheVariants.{Prefix as OfPrefix}
-use Rattle.script.specs.Words.{Text, words_of}
-use Rattle.script.specs.Commands.{NamesNoAddress}
+use Rattle.script.proofs.Common.{Text, words_of, NamesNoAddress}
 use Rattle.script.proofs.Exits.{at_err}
 use Rattle.script.proofs.command.read_addr.Goals as goal
 

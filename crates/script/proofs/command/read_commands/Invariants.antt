@@ -1,7 +1,5 @@
 use Rattle.std.proofs.Common.{◌≡◌, length}
-use Rattle.script.specs.Commands.{IsCommand}
-use Rattle.script.specs.Reading.{ReadsFirst}
-use Rattle.script.specs.Seen.{texts}
+use Rattle.script.proofs.Common.{IsCommand, ReadsFirst, texts}
 use Rattle.script.proofs.command.read_commands.Given as goal
 
 abbrev pub invariant-loop-position : goal.invariant-loop-position

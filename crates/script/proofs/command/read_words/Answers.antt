@@ -1,8 +1,6 @@
 use Rattle.std.proofs.Common.{◌∷◌, codes}
-use Rattle.script.specs.Words.{words_of}
-use Rattle.script.specs.Commands.{AsksNothing}
+use Rattle.script.proofs.Common.{words_of, AsksNothing, words-some}
 use Rattle.script.proofs.Exits.{at_err}
-use Rattle.script.proofs.Splits.{words-some}
 use Rattle.script.proofs.StepTexts.{names_router, names_no_router}
 use Rattle.script.proofs.CommandTexts.{state_fault, no_table, lookup_fault, inject_fault, trace_fault, step_fault}
 use Rattle.script.proofs.command.read_words.Goals as goal

@@ -1,9 +1,7 @@
 use Rattle.std.proofs.Common.{◌≢◌, [], unwrap_or, refl, ap, ◌∙◌}
-use Rattle.std.proofs.lemmas.Bool.{false≢true}
-use Rattle.script.specs.Links.{IsLinkFault}
+use Rattle.script.proofs.Common.{false≢true, IsLinkFault, word-full}
 use Rattle.script.specs.declared.fault.Fault.TheVariants.{BadCost}
 use Rattle.script.proofs.Exits.{at_err}
-use Rattle.script.proofs.Splits.{word-full}
 use Rattle.script.proofs.LinkTexts.{link_line}
 use Rattle.script.proofs.link.read_link.Goals as goal
 

@@ -1,7 +1,5 @@
 use Rattle.std.proofs.Common.{◌≡◌, length}
-use Rattle.script.specs.Links.{IsLink}
-use Rattle.script.specs.Reading.{ReadsFirst}
-use Rattle.script.specs.Seen.{texts}
+use Rattle.script.proofs.Common.{IsLink, ReadsFirst, texts}
 use Rattle.script.proofs.link.read_links.Given as goal
 
 abbrev pub invariant-loop-position : goal.invariant-loop-position

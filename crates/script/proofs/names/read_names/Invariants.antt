@@ -1,6 +1,5 @@
 use Rattle.std.proofs.Common.{◌≡◌, take}
-use Rattle.script.specs.Routers.{AreNames}
-use Rattle.script.specs.Seen.{texts}
+use Rattle.script.proofs.Common.{AreNames, texts}
 use Rattle.script.proofs.names.read_names.Given as goal
 
 abbrev pub invariant-loop-position : goal.invariant-loop-position

@@ -1,7 +1,6 @@
 use Rattle.std.proofs.Common.{◌∷◌, sym, subst, ◌∙◌}
 use Rattle.script.specs.declared.fault.Fault.TheVariants.{Prefix as OfPrefix}
-use Rattle.script.specs.Words.{Text, words_of}
-use Rattle.script.specs.Commands.{NamesNoPrefix}
+use Rattle.script.proofs.Common.{Text, words_of, NamesNoPrefix}
 use Rattle.script.proofs.Exits.{at_err}
 use Rattle.script.proofs.StepTexts.{IsStrange, no_prefix, text_unique}
 use Rattle.script.proofs.AttachmentTexts.{known_by_test, strange}

@@ -1,7 +1,5 @@
 use Rattle.std.proofs.Common.{◌≢◌, [], ◌∷◌, codes, refl, sym, subst, ◌∙◌}
-use Rattle.metric.specs.Distance.{IsCost}
-use Rattle.script.specs.Words.{words_of}
-use Rattle.script.proofs.Splits.{word-full}
+use Rattle.script.proofs.Common.{IsCost, words_of, word-full}
 use Rattle.script.proofs.StepTexts.{IsStrange, no_attachment, names_parts, parts_unique}
 use Rattle.script.proofs.AttachmentTexts.{known_by_test, strange}
 use Rattle.script.proofs.step.read_attach.Goals as goal

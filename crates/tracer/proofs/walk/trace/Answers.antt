@@ -1,8 +1,6 @@
 use Rattle.std.proofs.Common.{rules, ◌≡◌, ◌∙◌, ◌+◌, ◌-◌, ◌++◌, [], ◌∷◌, Some, length, sym, ap, subst, suc, arith}
-use Rattle.network_model.specs.Forwarding.{Trace, Ends, Goes, onward, trace_from, IsPacketWalk}
+use Rattle.packet_loops.proofs.Common.{Trace, Ends, Goes, onward, trace_from, IsPacketWalk, meets_twice}
 use Rattle.packet_loops.proofs.Traces.{trace_walk}
-use Rattle.loop_freedom.specs.Network.{meets_twice}
-use Rattle.packet_trace.specs.Traces.{ending_of}
 use Rattle.fabric.specs.Fabric.{Fabric}
 use Rattle.tracer.specs.Tracing.{onward_of}
 use Rattle.tracer.proofs.Walks.{behind, ends_here, goes_on, goes_known, walk_in_force}
@@ -14,10 +12,10 @@ returns-in-Ends-clause-ok g c =
     let left = c.router_count-routers.result - (c.loop.counter + 1) in
     let one_more : c.router_count-routers.result - c.loop.counter ≡ suc left = omega arith in
     let pushed : c.push.new.self.items ≡ c.loop.path.items ++ c.loop.at ∷ [] = search rules in
-    let is : onward w c.args.addr c.loop.first c.loop.at ≡ Ends (ending_of c.in-Ends.end)
+    let is : onward w c.args.addr c.loop.first c.loop.at ≡ Ends c.in-Ends.end
     = sym (subst (λ (f : Fabric). onward_of c.in_ok-next.next ≡ onward f.world c.args.addr c.loop.first c.loop.at) c.loop.invariant.same c.in_ok-next.ensures.ok) ∙ ap onward_of c.in-Ends.is in
-    ap (λ xs. record { path = xs; end = ending_of c.in-Ends.end }) pushed
-    ∙ sym (ends_here w c.args.addr left c.loop.first c.loop.at c.loop.path.items (ending_of c.in-Ends.end) is)
+    ap (λ xs. record { path = xs; end = Some c.in-Ends.end }) pushed
+    ∙ sym (ends_here w c.args.addr left c.loop.first c.loop.at c.loop.path.items c.in-Ends.end is)
     ∙ ap (λ m. behind c.loop.path.items (trace_from m w c.args.addr c.loop.first c.loop.at)) (sym one_more)
     ∙ c.loop.invariant.rest
 

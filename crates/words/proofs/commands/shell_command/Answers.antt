@@ -2,13 +2,13 @@ use Rattle.std.proofs.Common.{◌∙◌, ap, codes}
 use Rattle.std.proofs.lemmas.Result.{IfOk-weaker}
 use Rattle.clap.specs.Words.{new_app}
 use Rattle.clap.specs.Simple.{app_of_fields}
-use Rattle.words.specs.Commands.{IsCommand}
+use Rattle.words.specs.Commands.{IsProgramCommand}
 use Rattle.words.proofs.Building.{one_more}
 use Rattle.words.proofs.commands.shell_command.Goals as goal
 
 pub returns : goal.returns
 returns c =
-    let none : IsCommand (new_app (codes "shell")) c.after_help.result = (
+    let none : IsProgramCommand (new_app (codes "shell")) c.after_help.result = (
       ap app_of_fields c.after_help.ensures ∙ ap app_of_fields c.about.ensures ∙ c.new.ensures.app,
       ap (λ f. f.has_globals) c.after_help.ensures ∙ ap (λ f. f.has_globals) c.about.ensures ∙ c.new.ensures.local,
     ) in

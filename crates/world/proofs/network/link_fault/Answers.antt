@@ -1,6 +1,5 @@
 use Rattle.std.proofs.Common.{refl, sym, subst, ◌∙◌, arith}
-use Rattle.network_model.specs.Network.{HasCosts}
-use Rattle.metric.specs.Distance.{IsCost}
+use Rattle.packet_loops.proofs.Common.{HasCosts, IsCost}
 use Rattle.world.proofs.Faults.{bad_link_first, too_many_first, no_link_fault, link_causes_from-end, all_more}
 use Rattle.world.proofs.network.link_fault.Goals as goal
 

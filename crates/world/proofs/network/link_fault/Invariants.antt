@@ -1,6 +1,5 @@
 use Rattle.std.proofs.Common.{◌≡◌, ℕ, ◌<◌, [], get_or}
-use Rattle.network_model.specs.declared.network.LinkSpec.{LinkSpec}
-use Rattle.network_model.specs.Network.{first_cause, link_causes, HasCosts}
+use Rattle.packet_loops.proofs.Common.{LinkSpec, first_cause, link_causes, HasCosts}
 use Rattle.world.proofs.Faults.{link_causes_from}
 use Rattle.world.proofs.network.link_fault.Given as goal
 

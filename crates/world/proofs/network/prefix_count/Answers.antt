@@ -1,10 +1,6 @@
 use Rattle.std.proofs.Common.{◌≡◌, ◌+◌, ◌++◌, [], ◌∷◌, ℕ, take, length, sym, ap, subst, ◌∙◌, arith, add-one}
 use Rattle.std.proofs.Math.Seq.{take-suc}
-use Rattle.ipv4_prefix.specs.Prefix.{Prefix, IsPrefix}
-use Rattle.metric.specs.Distance.{IsCost}
-use Rattle.std.specs.List.{list_any}
-use Rattle.network_model.specs.World.{prefixes_of}
-use Rattle.network_model.specs.Network.{has_same_prefix}
+use Rattle.packet_loops.proofs.Common.{Prefix, IsPrefix, IsCost, list_any, prefixes_of, has_same_prefix}
 use Rattle.world.proofs.Faults.{all_more, no_attachment_fault}
 use Rattle.world.proofs.Prefixes.{one_unless, one_more_prefix}
 use Rattle.world.proofs.network.prefix_count.Goals as goal

@@ -1,8 +1,5 @@
 use Rattle.std.proofs.Common.{◌≡◌, ℕ, ◌<◌, [], get_or, take, length}
-use Rattle.ipv4_prefix.specs.Prefix.{Prefix, IsPrefix}
-use Rattle.metric.specs.Distance.{IsCost}
-use Rattle.network_model.specs.World.{prefixes_of}
-use Rattle.network_model.specs.Network.{first_cause, attachment_causes}
+use Rattle.packet_loops.proofs.Common.{Prefix, IsPrefix, IsCost, prefixes_of, first_cause, attachment_causes}
 use Rattle.world.proofs.Faults.{attachment_causes_from}
 use Rattle.world.proofs.network.prefix_count.Given as goal
 

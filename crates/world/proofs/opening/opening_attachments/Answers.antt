@@ -1,6 +1,5 @@
-use Rattle.std.proofs.Common.{arith, [], ap, map, ◌∙◌}
-use Rattle.std.specs.Prelude.{filter, ◌==◌}
-use Rattle.network_model.specs.World.{costs_of, rows_of}
+use Rattle.std.proofs.Common.{arith, [], ap, map, ◌∙◌, filter, ◌==◌}
+use Rattle.packet_loops.proofs.Common.{costs_of, rows_of}
 use Rattle.world.specs.Parts.{attachments_of}
 use Rattle.world.proofs.Ranges.{one_made}
 use Rattle.world.proofs.opening.opening_attachments.Goals as goal

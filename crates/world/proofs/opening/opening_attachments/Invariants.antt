@@ -1,7 +1,5 @@
-use Rattle.std.proofs.Common.{◌≡◌, ◌++◌, ◌-◌, []}
-use Rattle.std.specs.Prelude.{map}
-use Rattle.std.specs.List.{range_with_len}
-use Rattle.network_model.specs.World.{costs_of}
+use Rattle.std.proofs.Common.{◌≡◌, ◌++◌, ◌-◌, [], map}
+use Rattle.packet_loops.proofs.Common.{range_with_len, costs_of}
 use Rattle.world.specs.Parts.{attachments_of}
 use Rattle.world.proofs.opening.opening_attachments.Given as goal
 

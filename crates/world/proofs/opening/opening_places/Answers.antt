@@ -1,7 +1,5 @@
-use Rattle.std.proofs.Common.{ap, ◌∙◌, arith}
-use Rattle.std.proofs.lemmas.List.{map-append}
-use Rattle.std.specs.Prelude.{map, ◌∷◌, []}
-use Rattle.network_model.specs.World.{places_from}
+use Rattle.std.proofs.Common.{ap, ◌∙◌, arith, map, ◌∷◌, []}
+use Rattle.packet_loops.proofs.Common.{map-append, places_from}
 use Rattle.world.proofs.Ranges.{one_made}
 use Rattle.world.proofs.opening.opening_places.Goals as goal
 

@@ -1,7 +1,5 @@
-use Rattle.std.proofs.Common.{◌≡◌, ◌++◌, ◌-◌}
-use Rattle.std.specs.Prelude.{map}
-use Rattle.std.specs.List.{range_with_len}
-use Rattle.network_model.specs.World.{places_from}
+use Rattle.std.proofs.Common.{◌≡◌, ◌++◌, ◌-◌, map}
+use Rattle.packet_loops.proofs.Common.{range_with_len, places_from}
 use Rattle.world.proofs.opening.opening_places.Given as goal
 
 abbrev pub invariant-loop-router : goal.invariant-loop-router

@@ -1,6 +1,5 @@
-use Rattle.std.proofs.Common.{◌≡◌, ◌++◌, drop}
-use Rattle.std.specs.Prelude.{map}
-use Rattle.network_model.specs.World.{opening_port, opening_link}
+use Rattle.std.proofs.Common.{◌≡◌, ◌++◌, drop, map}
+use Rattle.packet_loops.proofs.Common.{opening_port, opening_link}
 use Rattle.world.proofs.opening.opening_ports.Given as goal
 
 abbrev pub invariant-loop-place : goal.invariant-loop-place

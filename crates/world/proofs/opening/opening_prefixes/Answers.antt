@@ -1,9 +1,6 @@
 use Rattle.std.proofs.Common.{◌≡◌, ◌+◌, ◌++◌, drop, sym, ap, ◌∙◌, arith}
 use Rattle.std.specs.declared.vec.Vec.{Vec}
-use Rattle.std.specs.List.{list_any}
-use Rattle.ipv4_prefix.specs.Prefix.{Prefix}
-use Rattle.network_model.specs.World.{prefixes_of}
-use Rattle.network_model.specs.Network.{has_same_prefix}
+use Rattle.packet_loops.proofs.Common.{list_any, Prefix, prefixes_of, has_same_prefix}
 use Rattle.world.proofs.Prefixes.{named_later, named_last, slice_behind}
 use Rattle.world.proofs.opening.opening_prefixes.Goals as goal
 use Rattle.world.proofs.opening.opening_prefixes.Given as given

@@ -1,10 +1,5 @@
-use Rattle.std.proofs.Common.{◌≡◌, ℕ, List, ◌<◌, ◌≤◌, length, get_or, map, sym, ap, subst, ◌∙◌}
-use Rattle.std.specs.Prelude.{filter, ◌==◌, IfOk}
-use Rattle.std.proofs.lemmas.List.{length-map}
-use Rattle.network_model.specs.declared.network.LinkSpec.{LinkSpec}
-use Rattle.network_model.specs.declared.network.Place.{Place}
-use Rattle.network_model.specs.declared.network.Port.{Port}
-use Rattle.network_model.specs.World.{Network, places_from, opening_port, opening_link, opening_router, rows_of, costs_of}
+use Rattle.std.proofs.Common.{◌≡◌, ℕ, List, ◌<◌, ◌≤◌, length, get_or, map, sym, ap, subst, ◌∙◌, filter, ◌==◌, IfOk}
+use Rattle.packet_loops.proofs.Common.{length-map, LinkSpec, Place, Port, Network, places_from, opening_port, opening_link, opening_router, rows_of, costs_of}
 use Rattle.world.proofs.Degrees.{few_ports}
 use Rattle.world.proofs.Openings.{place_known}
 use Rattle.world.proofs.opening.opening_router.Goals as goal

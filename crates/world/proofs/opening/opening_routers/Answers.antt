@@ -1,6 +1,5 @@
 use Rattle.std.proofs.Common.{arith, ap, ◌∙◌, map}
-use Rattle.std.specs.List.{range_with_len}
-use Rattle.network_model.specs.World.{opening_router_of}
+use Rattle.packet_loops.proofs.Common.{range_with_len, opening_router_of}
 use Rattle.world.proofs.Ranges.{one_made, all_made}
 use Rattle.world.proofs.opening.opening_routers.Goals as goal
 

@@ -3,7 +3,7 @@ use Rattle.std.specs.FinSet.{contains}
 use Rattle.diffusing_replies.specs.Ports.{Ports}
 use Rattle.dual_machine.specs.declared.mode.Active.{Active}
 use Rattle.dual_machine.specs.Parts.{IsUnderWay, computation_of}
-use Rattle.dual_machine.specs.State.{State, awaits_at}
+use Rattle.dual_machine.specs.State.{MachineState, awaits_at}
 use Rattle.dual_machine.proofs.Awaiting.{awaited_of-at}
 use Rattle.dual_machine.proofs.machine.Machine.awaits.Goals as goal
 
@@ -15,4 +15,4 @@ returns-in-Some g c =
     c.has.ensures.value ∙ ap (λ (s : Ports). contains s c.args.port) c.awaited.ensures
     ∙ sym (awaited_of-at c.in-Some.active.replies n c.args.port under_way.known)
     ∙ ap (λ (a : Option Active). awaits_at (computation_of n a) c.args.port) (sym c.in-Some.is)
-    ∙ ap (λ (s : State). awaits_at (s.machine).computation c.args.port) c.self.view_is
+    ∙ ap (λ (s : MachineState). awaits_at (s.machine).computation c.args.port) c.self.view_is

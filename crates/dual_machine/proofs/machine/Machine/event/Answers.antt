@@ -3,7 +3,7 @@ use Rattle.network_model.specs.declared.machine.Event.{Event}
 use Rattle.network_model.specs.declared.machine.Neighbour.{Neighbour}
 use Rattle.network_model.specs.Machine.{Reaction, decision, with_records}
 use Rattle.dual_machine.specs.Outbox.{most_sent}
-use Rattle.dual_machine.specs.State.{State}
+use Rattle.dual_machine.specs.State.{MachineState}
 use Rattle.dual_machine.proofs.Closing.{IsSound_after, IsAsking-computation_of}
 use Rattle.dual_machine.proofs.Room.{IsAsking, length-reaction, reaction-decision}
 use Rattle.dual_machine.proofs.machine.Machine.event.Goals as goal
@@ -20,8 +20,8 @@ react-requires g c =
     let m = (c.args.self.now).machine in
     let e = c.args.event in
     let ups = λ (ns : List Neighbour). count_by (λ n. n.up) ns in
-    let counted : c.up_count.result ≡ ups m.ports = c.up_count.ensures ∙ ap ups (c.deref.ensures ∙ ap (λ (s : State). (s.machine).ports) c.self.view_is) in
-    let asking = subst (λ (s : State). IsAsking (s.machine).computation) c.self.view_is (IsAsking-computation_of _ _ _ c.self.invariant.under_way) in
+    let counted : c.up_count.result ≡ ups m.ports = c.up_count.ensures ∙ ap ups (c.deref.ensures ∙ ap (λ (s : MachineState). (s.machine).ports) c.self.view_is) in
+    let asking = subst (λ (s : MachineState). IsAsking (s.machine).computation) c.self.view_is (IsAsking-computation_of _ _ _ c.self.invariant.under_way) in
     let few = subst (λ (r : Reaction). length r.sends ≤ most_sent m.ports) (reaction-decision m e c.in_default.not-Up) (length-reaction m e asking) in
     record { known = c.requires.known; room = omega (arith, few, counted, c.in_ok-reserve.ensures.ok) }
 
@@ -29,7 +29,7 @@ pub returns-in_default-clause-few : goal.returns-in_default-clause-few
 returns-in_default-clause-few g c =
     let m = (c.args.self.now).machine in
     let e = c.args.event in
-    let asking = subst (λ (s : State). IsAsking (s.machine).computation) c.self.view_is (IsAsking-computation_of _ _ _ c.self.invariant.under_way) in
+    let asking = subst (λ (s : MachineState). IsAsking (s.machine).computation) c.self.view_is (IsAsking-computation_of _ _ _ c.self.invariant.under_way) in
     let few = subst (λ (r : Reaction). length r.sends ≤ most_sent m.ports) (reaction-decision m e c.in_default.not-Up) (length-reaction m e asking) in
     let sent = (decision (with_records m e) e).sends in
     omega (arith, few, ap length c.react.ensures.sent, ap length c.reserve.ensures.kept, length-append c.reserve.new.self.list sent)

@@ -3,7 +3,7 @@ use Rattle.std.specs.FinSet.{contains}
 use Rattle.diffusing_replies.specs.Ports.{Ports}
 use Rattle.dual_machine.specs.declared.mode.Active.{Active}
 use Rattle.dual_machine.specs.Parts.{IsUnderWay, computation_of}
-use Rattle.dual_machine.specs.State.{State, awaits_at}
+use Rattle.dual_machine.specs.State.{MachineState, awaits_at}
 use Rattle.dual_machine.proofs.Awaiting.{awaited_of-at}
 use Rattle.dual_machine.proofs.machine.Machine.mode.Goals as goal
 
@@ -15,4 +15,4 @@ returns-in-Some-clause-awaited g c = λ q.
     ap (λ (s : Ports). contains s q) c.awaited.ensures
     ∙ sym (awaited_of-at c.in-Some.active.replies n q under_way.known)
     ∙ ap (λ (a : Option Active). awaits_at (computation_of n a) q) (sym c.in-Some.is)
-    ∙ ap (λ (s : State). awaits_at (s.machine).computation q) c.self.view_is
+    ∙ ap (λ (s : MachineState). awaits_at (s.machine).computation q) c.self.view_is

@@ -4,14 +4,14 @@ use Rattle.std.proofs.lemmas.Grind.{common_steps}
 use Rattle.metric.specs.Distance.{IsCost}
 use Rattle.network_model.specs.declared.machine.Neighbour.{Neighbour}
 use Rattle.network_model.specs.declared.machine.Outgoing.{Outgoing}
-use Rattle.network_model.specs.Machine.{Machine, Computation, Reaction, home_ways, degree, via_successor, with_records, answers_at_once, completion, awaited_after, debt_after, successor_after, passive_reaction, decision}
+use Rattle.network_model.specs.Machine.{Machine, Computation, Reaction, home_ways, port_count, via_successor, with_records, answers_at_once, completion, awaited_after, debt_after, successor_after, passive_reaction, decision}
 use Rattle.diffusing_replies.specs.declared.origin.Origin.{Origin}
 use Rattle.dual_machine.specs.declared.mode.Active.{Active}
 use Rattle.diffusing_replies.specs.Origin.{needs_test}
 use Rattle.dual_machine.specs.Event.{IsKnown}
 use Rattle.dual_machine.specs.Awaited.{awaited_of}
 use Rattle.dual_machine.specs.Parts.{IsUnderWay, IsDebtOf, computation_of}
-use Rattle.dual_machine.specs.State.{State, moved}
+use Rattle.dual_machine.specs.State.{MachineState, moved}
 use Rattle.dual_machine.proofs.Closing.{costs_after, IsSound_after, asking_after}
 use Rattle.dual_machine.proofs.Awaiting.{asking-done}
 use Rattle.dual_machine.proofs.Costs.{condition_holds_near, not_above, HasCost-attachment_after, HasCost-ways}
@@ -39,7 +39,7 @@ invariant_of-self-else-is_done g c =
     let i = c.self.inside in
     let n = length (i.ports).items in
     let count : c.len-degree.result ≡ length (i.ports).items = omega arith in
-    let known : IsKnown (length (i.ports).items) c.args.event.now = subst (λ (s : State). IsKnown (degree s.machine) c.args.event.now) (sym c.self.view_is) c.requires.known in
+    let known : IsKnown (length (i.ports).items) c.args.event.now = subst (λ (s : MachineState). IsKnown (port_count s.machine) c.args.event.now) (sym c.self.view_is) c.requires.known in
     let before = subst (λ (a : Option Active). IfSome a (IsUnderWay n i.successor)) c.in-Some.is c.self.invariant.under_way in
     IsSound_after c.args.event.now i.attachment _ (i.ports).items c.deref_mut.result.now c.change_record.new.ports _ c.successor_after-self-inside.result _
     (omega arith) c.deref_mut.ensures.value c.change_record.ensures.records c.attachment_after-self-inside.ensures c.change_record.ensures.cost c.self.invariant.few c.self.invariant.costs c.self.invariant.attached
@@ -88,7 +88,7 @@ pub complete-requires-clause-debt : goal.complete-requires-clause-debt
 complete-requires-clause-debt g c =
     let i = c.self.inside in
     let count : c.len-degree.result ≡ length (i.ports).items = omega arith in
-    let known : IsKnown (length (i.ports).items) c.args.event.now = subst (λ (s : State). IsKnown (degree s.machine) c.args.event.now) (sym c.self.view_is) c.requires.known in
+    let known : IsKnown (length (i.ports).items) c.args.event.now = subst (λ (s : MachineState). IsKnown (port_count s.machine) c.args.event.now) (sym c.self.view_is) c.requires.known in
     let before = subst (λ (a : Option Active). IfSome a (IsUnderWay (length (i.ports).items) i.successor)) c.in-Some.is c.self.invariant.under_way in
     let as_many : length (i.ports).items ≡ length (take (length (i.ports).items) (c.change_record.new.ports ++ drop (length c.change_record.new.ports) (i.ports).items)) = length_refill (length (i.ports).items) (i.ports).items c.change_record.new.ports refl in
     subst (λ (n : ℕ). IsDebtOf n c.moved-origin.result c.successor_after-self-inside.result c.debt_after-debt.result) as_many
@@ -133,7 +133,7 @@ returns-in_default-clause-machine g c =
     ∙ ap (λ (o : Option Computation). (passive_reaction (deciding g c o) c.args.event.now).machine) (ap (computation_of (length (ports_now g c))) c.in_default.is)
     ∙ ap (λ (m : Machine). (passive_reaction m c.args.event.now).machine) (decided g c)
     ∙ ap (λ (r : Reaction). r.machine) (decision-passive (with_records (passive_before g c) c.args.event.now) c.args.event.now (passive g c))
-    ∙ ap (λ (s : State). (decision (with_records s.machine c.args.event.now) c.args.event.now).machine) c.self.view_is
+    ∙ ap (λ (s : MachineState). (decision (with_records s.machine c.args.event.now) c.args.event.now).machine) c.self.view_is
 
 pub returns-in_default-clause-sent : goal.returns-in_default-clause-sent
 returns-in_default-clause-sent g c =
@@ -141,7 +141,7 @@ returns-in_default-clause-sent g c =
     ∙ ap (λ (o : Option Computation). c.args.sends.now.list ++ (passive_reaction (deciding g c o) c.args.event.now).sends) (ap (computation_of (length (ports_now g c))) c.in_default.is)
     ∙ ap (λ (m : Machine). c.args.sends.now.list ++ (passive_reaction m c.args.event.now).sends) (decided g c)
     ∙ ap (λ (r : Reaction). c.args.sends.now.list ++ r.sends) (decision-passive (with_records (passive_before g c) c.args.event.now) c.args.event.now (passive g c))
-    ∙ ap (λ (s : State). c.args.sends.now.list ++ (decision (with_records s.machine c.args.event.now) c.args.event.now).sends) c.self.view_is
+    ∙ ap (λ (s : MachineState). c.args.sends.now.list ++ (decision (with_records s.machine c.args.event.now) c.args.event.now).sends) c.self.view_is
 
 -- ---- a computation that is over
 
@@ -185,7 +185,7 @@ returns-then-is_done-clause-machine g c =
     ∙ ap (λ (m : Machine). (completion m c.debt_after-debt.result).machine) (completed g c)
     ∙ ap (λ (o : Option ℕ). (completion (with_records (active_before g c) c.args.event.now) o).machine) (owed g c)
     ∙ ap (λ (r : Reaction). r.machine) (decision-done (with_records (active_before g c) c.args.event.now) c.args.event.now (under_way g c) (active g c) (done g c))
-    ∙ ap (λ (s : State). (decision (with_records s.machine c.args.event.now) c.args.event.now).machine) c.self.view_is
+    ∙ ap (λ (s : MachineState). (decision (with_records s.machine c.args.event.now) c.args.event.now).machine) c.self.view_is
 
 pub returns-then-is_done-clause-sent : goal.returns-then-is_done-clause-sent
 returns-then-is_done-clause-sent g c =
@@ -197,4 +197,4 @@ returns-then-is_done-clause-sent g c =
     (c.push_to.ensures.pushed ∙ ap (λ (xs : List Outgoing). c.args.sends.now.list ++ xs) (c.other_asker.ensures m (sym (ap (λ (x : Machine). x.successor) (completed g c)))))
     ∙ append_assoc c.args.sends.now.list (answers_at_once m c.args.event.now) (completion m (debt_after m.successor c.args.event.now c.in-Some.active.debt)).sends
     ∙ ap (λ (r : Reaction). c.args.sends.now.list ++ r.sends) (decision-done m c.args.event.now (under_way g c) (active g c) (done g c))
-    ∙ ap (λ (s : State). c.args.sends.now.list ++ (decision (with_records s.machine c.args.event.now) c.args.event.now).sends) c.self.view_is
+    ∙ ap (λ (s : MachineState). c.args.sends.now.list ++ (decision (with_records s.machine c.args.event.now) c.args.event.now).sends) c.self.view_is

@@ -1,5 +1,4 @@
-use Rattle.std.specs.Prelude.{◌≡◌}
-use Rattle.std.proofs.Common.{sym, ap, subst, ◌∙◌}
+use Rattle.std.proofs.Common.{sym, ap, subst, ◌∙◌, ◌≡◌}
 use Rattle.publication.specs.Lists.{Covers, patch_of}
 use Rattle.fabric.specs.Desks.{Desk, desk_in}
 use Rattle.fabric.specs.Places.{desk_of}

@@ -1,6 +1,5 @@
-use Rattle.std.specs.Prelude.{◌≡◌, false, true, Some}
-use Rattle.std.proofs.Common.{refl, sym, ap, ◌∙◌}
-use Rattle.std.proofs.lemmas.Bool.{false≢true}
+use Rattle.std.proofs.Common.{refl, sym, ap, ◌∙◌, ◌≡◌, false, true, Some}
+use Rattle.packet_loops.proofs.Common.{false≢true}
 use Rattle.publication.specs.declared.known.Known.{Known}
 use Rattle.fabric.specs.Desks.{Desk, desk_out}
 use Rattle.fabric.specs.Places.{desk_of}

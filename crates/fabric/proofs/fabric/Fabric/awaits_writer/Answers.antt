@@ -1,7 +1,6 @@
-use Rattle.std.specs.Prelude.{◌≡◌, ◌≤◌, Some, false, is_some, length, slice_get}
-use Rattle.std.proofs.Common.{refl, sym, ap, ◌∙◌, arith}
-use Rattle.std.proofs.lemmas.Option.{slice_get_past, slice_get_read}
-use Rattle.fabric.specs.Fabric.{Fabric, awaits_writer, lent_at}
+use Rattle.std.proofs.Common.{refl, sym, ap, ◌∙◌, arith, ◌≡◌, ◌≤◌, Some, false, is_some, length, slice_get}
+use Rattle.packet_loops.proofs.Common.{slice_get_past, slice_get_read}
+use Rattle.fabric.specs.Fabric.{Fabric, lent_at}
 use Rattle.fabric.proofs.Lending.{lent_there}
 use Rattle.fabric.proofs.Lending.{awaits_at}
 use Rattle.fabric.proofs.Seats.{none_lent_at}

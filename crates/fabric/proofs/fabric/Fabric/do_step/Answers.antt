@@ -1,23 +1,18 @@
-use Rattle.std.proofs.Common.{rules, Result, Ok, Err, None, ◌≡◌, ◌+◌, ◌<◌, ◌≤◌, ◌++◌, [], ◌∷◌, length, vec_len, refl, sym, ap, subst, ◌∙◌, arith}
-use Rattle.std.specs.Prelude.{Some, IsOk, IsSome, MatchOption, false, is_some, slice_get, vec_capacity, set}
-use Rattle.std.proofs.lemmas.Bool.{false≢true}
-use Rattle.std.proofs.lemmas.Result.{err_from_is_err_and}
+use Rattle.std.proofs.Common.{rules, Err, None, ◌≡◌, ◌+◌, ◌<◌, ◌≤◌, ◌++◌, [], ◌∷◌, length, vec_len, refl, sym, ap, subst, ◌∙◌, arith, Some, IsOk, IsSome, MatchOption, false, is_some, slice_get, vec_capacity, set}
+use Rattle.packet_loops.proofs.Common.{false≢true, err_from_is_err_and, most_steps, Lawful, next, release_at, Lawful_to_refusal, None_not_Some}
 use Rattle.network_model.specs.declared.step.Step.{Step}
 use Rattle.network_model.specs.declared.step.Step.TheVariants.{Publish}
-use Rattle.network_model.specs.Journal.{most_steps}
-use Rattle.network_model.specs.Step.{Lawful, next, refusal, release_at}
-use Rattle.network_model.proofs.Lawful.{Lawful_to_refusal}
-use Rattle.router_core.proofs.Refused.{gave_up}
-use Rattle.network_model.proofs.ListLaws.{None_not_Some}
+use Rattle.router_core.proofs.Refused.{gave_up, not_ok}
 use Rattle.world.specs.Steps.{HasRoomForSteps, is_stale}
+use Rattle.world.proofs.Done.{memory_lacked, not_caused}
 use Rattle.publication.specs.declared.known.Known.{Known}
 use Rattle.image_patch.specs.Patches.{patched}
 use Rattle.fabric.specs.Desks.{all_lent, writings}
-use Rattle.fabric.specs.Fabric.{Fabric, awaits_writer, count_lent, fabric_of, after_step, fabric_refusal, lent_at, IsKept, IsSumOf}
+use Rattle.fabric.specs.Fabric.{Fabric, awaits_writer, count_lent, fabric_of, after_step, fabric_refusal, lent_at, IsFabric, IsSumOf}
 use Rattle.fabric.specs.Patches.{IsPatchDue}
 use Rattle.fabric.specs.Images.{due_at, image_in_force, images_in_force}
-use Rattle.fabric.specs.Writers.{ArePending, AreReaders, AreWriters, shown_images, waiting_at}
-use Rattle.fabric.proofs.Causes.{admitted, due_lawful, due_seen, memory_lacked, not_ok, not_refused, passed_on}
+use Rattle.fabric.specs.Writers.{FitTogether, ArePending, AreReaders, AreWriters, shown_images, waiting_at, fabric_seen}
+use Rattle.fabric.proofs.Causes.{admitted, due_lawful, due_seen, passed_on}
 use Rattle.fabric.proofs.Fabrics.{room_left, images_stay, images_due, kept_as, due_of, summed_more}
 use Rattle.fabric.proofs.Lending.{all_pending_next}
 use Rattle.fabric.proofs.Seats.{desk_within, due_desk, is_in, lent_same, none_kept, pending_same, seat, writings_set}
@@ -28,16 +23,16 @@ use Rattle.fabric.proofs.fabric.Fabric.do_step.Goals.{in-Publish+in_ok-patch-in-
 
 pub patch_due-requires : goal.patch_due-requires
 patch_due-requires g c = subst (HasRoomForSteps 1) (sym c.world.ensures)
-    (room_left (fabric_of c.self.inside.network c.self.inside.journal.items c.self.inside.world (shown_images g.B.Naming.openings (writings c.self.inside.desks.items)) (all_lent c.self.inside.desks.items)) (vec_capacity c.self.inside.journal) c.self.invariant.0)
+    (room_left (fabric_seen g.B.FabricName.openings c.self.inside.network c.self.inside.journal.items c.self.inside.world c.self.inside.desks.items) (vec_capacity c.self.inside.journal) c.self.invariant.0)
 
 pub step-requires : goal.step-requires
-step-requires g c = room_left (fabric_of c.self.inside.network c.self.inside.journal.items c.self.inside.world (shown_images g.B.Naming.openings (writings c.self.inside.desks.items)) (all_lent c.self.inside.desks.items)) (vec_capacity c.self.inside.journal) c.self.invariant.0
+step-requires g c = room_left (fabric_seen g.B.FabricName.openings c.self.inside.network c.self.inside.journal.items c.self.inside.world c.self.inside.desks.items) (vec_capacity c.self.inside.journal) c.self.invariant.0
 
 pub step-requires-in_default : goal.step-requires-in_default
-step-requires-in_default g c = room_left (fabric_of c.self.inside.network c.self.inside.journal.items c.self.inside.world (shown_images g.B.Naming.openings (writings c.self.inside.desks.items)) (all_lent c.self.inside.desks.items)) (vec_capacity c.self.inside.journal) c.self.invariant.0
+step-requires-in_default g c = room_left (fabric_seen g.B.FabricName.openings c.self.inside.network c.self.inside.journal.items c.self.inside.world c.self.inside.desks.items) (vec_capacity c.self.inside.journal) c.self.invariant.0
 
 pub step-requires-in-None : goal.step-requires-in-None
-step-requires-in-None g c = room_left (fabric_of c.self.inside.network c.self.inside.journal.items c.self.inside.world (shown_images g.B.Naming.openings (writings c.self.inside.desks.items)) (all_lent c.self.inside.desks.items)) (vec_capacity c.self.inside.journal) c.self.invariant.0
+step-requires-in-None g c = room_left (fabric_seen g.B.FabricName.openings c.self.inside.network c.self.inside.journal.items c.self.inside.world c.self.inside.desks.items) (vec_capacity c.self.inside.journal) c.self.invariant.0
 
 -- no writer of the router is out
 free : (g : given.Over) (c : goal.After-from g) → is_some (lent_at (all_lent c.self.inside.desks.items) c.in-Publish.router) ≡ false
@@ -51,7 +46,7 @@ due g c =
 within : (g : given.Over) (c : goal.After-from g) → c.in-Publish.router < length c.self.inside.desks.items
 within g c =
     let s = c.self.inside in
-    desk_within s.network s.journal.items s.world g.B.Naming.openings s.desks.items (vec_capacity s.journal) c.self.invariant.0 c.self.invariant.1 c.in-Publish.router (due g c).0 (due g c).1
+    desk_within s.network s.journal.items s.world g.B.FabricName.openings s.desks.items (vec_capacity s.journal) c.self.invariant.0 c.self.invariant.1 c.in-Publish.router (due g c).0 (due g c).1
 
 pub index_mut-requires : goal.index_mut-requires
 index_mut-requires g c =
@@ -63,10 +58,10 @@ index_mut-requires g c =
 at_desk : (g : given.Over) (c : goal.After-index_mut g) → slice_get c.self.inside.desks.items c.in-Publish.router ≡ Some c.index_mut.result.now
 at_desk g c = seat c.self.inside.desks.items c.in-Publish.router c.from.result c.index_mut.result.now (let less = within g c.before in omega (arith, less, c.from.ensures)) c.index_mut.ensures.value c.from.ensures
 
-due_before : (g : given.Over) (c : goal.After-index_mut g) → IsDue c.self.inside.network c.self.inside.journal.items c.self.inside.world g.B.Naming.openings (writings c.self.inside.desks.items) c.in-Publish.router c.index_mut.result.now.writing c.in-Some.patch
+due_before : (g : given.Over) (c : goal.After-index_mut g) → IsDue c.self.inside.network c.self.inside.journal.items c.self.inside.world g.B.FabricName.openings (writings c.self.inside.desks.items) c.in-Publish.router c.index_mut.result.now.writing c.in-Some.patch
 due_before g c =
     let s = c.self.inside in
-    due_desk s.network s.journal.items s.world g.B.Naming.openings s.desks.items (vec_capacity s.journal) c.self.invariant.0 c.self.invariant.1 c.routers-routers.ensures.valid c.in-Publish.router c.index_mut.result.now (at_desk g c) c.in-Some.patch (due g c.before)
+    due_desk s.network s.journal.items s.world g.B.FabricName.openings s.desks.items (vec_capacity s.journal) c.self.invariant.0 c.self.invariant.1 c.routers-routers.ensures.valid c.in-Publish.router c.index_mut.result.now (at_desk g c) c.in-Some.patch (due g c.before)
 
 here : (g : given.Over) (c : goal.After-index_mut g) → c.index_mut.result.now.out ≡ None
 here g c = is_in c.self.inside.desks.items c.in-Publish.router c.index_mut.result.now (at_desk g c) (free g c.before)
@@ -86,18 +81,18 @@ publish-requires-clause-covers g c = names_all _ _ _ _ _ _ _ _ (due_before g c)
 at_refused : (g : given.Over) (c : goal.After-from_residual-in_err-publish-in-Some g) → slice_get c.self.inside.desks.items c.in-Publish.router ≡ Some c.index_mut.result.now
 at_refused g c = at_desk g c.before.before.before.before.before
 
-due_refused : (g : given.Over) (c : goal.After-from_residual-in_err-publish-in-Some g) → IsDue c.self.inside.network c.self.inside.journal.items c.self.inside.world g.B.Naming.openings (writings c.self.inside.desks.items) c.in-Publish.router c.index_mut.result.now.writing c.in-Some.patch
+due_refused : (g : given.Over) (c : goal.After-from_residual-in_err-publish-in-Some g) → IsDue c.self.inside.network c.self.inside.journal.items c.self.inside.world g.B.FabricName.openings (writings c.self.inside.desks.items) c.in-Publish.router c.index_mut.result.now.writing c.in-Some.patch
 due_refused g c = due_before g c.before.before.before.before.before
 
 here_refused : (g : given.Over) (c : goal.After-from_residual-in_err-publish-in-Some g) → c.index_mut.result.now.out ≡ None
 here_refused g c = here g c.before.before.before.before.before
 
 -- nothing else is in force
-unseen : (g : given.Over) (c : goal.After-from_residual-in_err-publish-in-Some g) → shown_images g.B.Naming.openings (writings (set c.self.inside.desks.items c.from.result c.publish.new.self)) ≡ shown_images g.B.Naming.openings (writings c.self.inside.desks.items)
+unseen : (g : given.Over) (c : goal.After-from_residual-in_err-publish-in-Some g) → shown_images g.B.FabricName.openings (writings (set c.self.inside.desks.items c.from.result c.publish.new.self)) ≡ shown_images g.B.FabricName.openings (writings c.self.inside.desks.items)
 unseen g c =
     let s = c.self.inside in
-    ap (λ k. shown_images g.B.Naming.openings (writings (set s.desks.items k c.publish.new.self))) c.from.ensures
-    ∙ ap (shown_images g.B.Naming.openings) (writings_set s.world s.desks.items c.in-Publish.router c.index_mut.result.now c.publish.new.self (at_refused g c))
+    ap (λ k. shown_images g.B.FabricName.openings (writings (set s.desks.items k c.publish.new.self))) c.from.ensures
+    ∙ ap (shown_images g.B.FabricName.openings) (writings_set s.world s.desks.items c.in-Publish.router c.index_mut.result.now c.publish.new.self (at_refused g c))
     ∙ unseen_shown _ _ _ _ _ _ _ _ (due_refused g c) c.publish.new.self.writing c.in_err-publish-in-Some.ensures.unseen
 
 -- no writer went out
@@ -110,8 +105,8 @@ unlent g c =
 pub invariant_of-self : goal.invariant_of-self
 invariant_of-self g c =
     let s = c.self.inside in (
-      subst (λ lent. IsKept (fabric_of s.network s.journal.items s.world (shown_images g.B.Naming.openings (writings (set s.desks.items c.from.result c.publish.new.self))) lent) (vec_capacity s.journal)) (sym (unlent g c))
-          (subst (λ images. IsKept (fabric_of s.network s.journal.items s.world images (all_lent s.desks.items)) (vec_capacity s.journal)) (sym (unseen g c)) c.self.invariant.0),
+      subst (λ lent. IsFabric (fabric_of s.network s.journal.items s.world (shown_images g.B.FabricName.openings (writings (set s.desks.items c.from.result c.publish.new.self))) lent) (vec_capacity s.journal)) (sym (unlent g c))
+          (subst (λ images. IsFabric (fabric_of s.network s.journal.items s.world images (all_lent s.desks.items)) (vec_capacity s.journal)) (sym (unseen g c)) c.self.invariant.0),
       subst (λ k. AreWriters s.world (writings (set s.desks.items k c.publish.new.self))) (sym c.from.ensures)
           (subst (AreWriters s.world) (sym (writings_set s.world s.desks.items c.in-Publish.router c.index_mut.result.now c.publish.new.self (at_refused g c)))
           (writers_set s.world (writings s.desks.items) c.in-Publish.router c.publish.new.self.writing c.self.invariant.1
@@ -129,17 +124,17 @@ returns-in_err-publish-in-Some-clause-err g c =
     let s = c.self.inside in
     gave_up c.from_residual-in_err-publish-in-Some.result
     (ap (λ images. fabric_of s.network s.journal.items s.world images (all_lent (set s.desks.items c.from.result c.publish.new.self))) (unseen g c)
-    ∙ ap (fabric_of s.network s.journal.items s.world (shown_images g.B.Naming.openings (writings s.desks.items))) (unlent g c) ∙ c.self.view_is)
+    ∙ ap (fabric_of s.network s.journal.items s.world (shown_images g.B.FabricName.openings (writings s.desks.items))) (unlent g c) ∙ c.self.view_is)
 
 -- ---- a step that is done
 
 -- the fabric before, and what it kept
 abbrev old : (g : given.Over) (c : goal.After-unwrap-2 g) → Fabric
-old g c = fabric_of c.self.inside.network c.self.inside.journal.items c.self.inside.world (shown_images g.B.Naming.openings (writings c.self.inside.desks.items)) (all_lent c.self.inside.desks.items)
+old g c = fabric_seen g.B.FabricName.openings c.self.inside.network c.self.inside.journal.items c.self.inside.world c.self.inside.desks.items
 
 -- and after
 abbrev new : (g : given.Over) (c : goal.After-unwrap-2 g) → Fabric
-new g c = fabric_of c.match-step.self-inside.network c.push.new.self.items c.match-step.self-inside.world (shown_images g.B.Naming.openings (writings c.match-step.self-inside.desks.items)) (all_lent c.match-step.self-inside.desks.items)
+new g c = fabric_seen g.B.FabricName.openings c.match-step.self-inside.network c.push.new.self.items c.match-step.self-inside.world c.match-step.self-inside.desks.items
 
 short : (g : given.Over) (c : goal.After-unwrap-2 g) → length (old g c).journal + count_lent (old g c).lent < most_steps
 short g c = subst (λ (f : Fabric). length f.journal + count_lent f.lent < most_steps) (sym c.self.view_is) c.in_ok-admits.ensures.place
@@ -154,11 +149,11 @@ pushed g c = rw c.unwrap-2.ensures at c.push.ensures.items
 
 -- the fabric then is the one after the step
 is_after : (g : given.Over) (c : goal.After-unwrap-2 g) (s : Step) → c.args.step ≡ s → c.match-step.self-inside.network ≡ (old g c).network → c.match-step.self-inside.journal ≡ c.self.inside.journal
-    → c.match-step.self-inside.world ≡ next (old g c).world s → images_in_force (next (old g c).world s) ≡ shown_images g.B.Naming.openings (writings c.match-step.self-inside.desks.items)
+    → c.match-step.self-inside.world ≡ next (old g c).world s → images_in_force (next (old g c).world s) ≡ shown_images g.B.FabricName.openings (writings c.match-step.self-inside.desks.items)
     → all_lent c.match-step.self-inside.desks.items ≡ (old g c).lent → after_step (old g c) s ≡ new g c
 is_after g c s asked network journal world images lent =
     let written : c.push.new.self.items ≡ (old g c).journal ++ s ∷ [] = pushed g c ∙ ap (λ j. j.items ++ c.args.step ∷ []) journal ∙ ap (λ x. (old g c).journal ++ x ∷ []) asked in
-    let now = shown_images g.B.Naming.openings (writings c.match-step.self-inside.desks.items) in
+    let now = shown_images g.B.FabricName.openings (writings c.match-step.self-inside.desks.items) in
     λ k. fabric_of (sym network k) (sym written k) (sym world k) (images k) (sym lent k)
 
 room_kept : (g : given.Over) (c : goal.After-unwrap-2 g) → c.match-step.self-inside.journal ≡ c.self.inside.journal → vec_capacity c.self.inside.journal ≤ vec_capacity c.push.new.self
@@ -188,10 +183,10 @@ stepped g c =
           let due : IsPatchDue s.world i (waiting_at (writings s.desks.items) i) (Some w.in-Some.patch) =
           due_there w.world.result.now s.world (writings w.deref.result.now) (writings s.desks.items) i w.waiting_at-waiting.result.now w.in_ok-patch-in-Publish.field-0 w.in-Some.patch
           w.world.ensures (w.waiting_at-waiting.ensures (ap (λ ds. lent_at (all_lent ds) i) w.deref.ensures.value ∙ none_kept _ free)) (ap writings w.deref.ensures.value) w.in-Some.is w.in_ok-patch-in-Publish.ensures.due in
-          let less : i < length s.desks.items = desk_within s.network s.journal.items s.world g.B.Naming.openings s.desks.items (vec_capacity s.journal) c.self.invariant.0 c.self.invariant.1 i due.0 due.1 in
+          let less : i < length s.desks.items = desk_within s.network s.journal.items s.world g.B.FabricName.openings s.desks.items (vec_capacity s.journal) c.self.invariant.0 c.self.invariant.1 i due.0 due.1 in
           let at : slice_get s.desks.items i ≡ Some d = seat s.desks.items i w.from.result d (omega (arith, less, w.from.ensures)) w.index_mut.ensures.value w.from.ensures in
-          let D : IsDue s.network s.journal.items s.world g.B.Naming.openings (writings s.desks.items) i d.writing w.in-Some.patch =
-          due_desk s.network s.journal.items s.world g.B.Naming.openings s.desks.items (vec_capacity s.journal) c.self.invariant.0 c.self.invariant.1 w.routers-routers.ensures.valid i d at w.in-Some.patch due in
+          let D : IsDue s.network s.journal.items s.world g.B.FabricName.openings (writings s.desks.items) i d.writing w.in-Some.patch =
+          due_desk s.network s.journal.items s.world g.B.FabricName.openings s.desks.items (vec_capacity s.journal) c.self.invariant.0 c.self.invariant.1 w.routers-routers.ensures.valid i d at w.in-Some.patch due in
           let inside : d.out ≡ None = is_in s.desks.items i d at free in
           let done : Lawful s.world (Publish i) × (w.step.new.self ≡ next s.world (Publish i)) = rw w.unwrap.ensures at w.step.ensures.ok in
           let journal : c.match-step.self-inside.journal ≡ s.journal = ap (λ s. s.journal) w.self-inside-is in
@@ -201,7 +196,7 @@ stepped g c =
           let lent : all_lent c.match-step.self-inside.desks.items ≡ all_lent s.desks.items = ap all_lent desks ∙ lent_same s.world s.desks.items i d e at inside published.here in
           let spared : awaits_writer (old g c) (Publish i) ≡ false = ap (awaits_writer (old g c)) (sym w.in-Publish.is) ∙ unawaited g c in
           let images = images_due (old g c) i (vec_capacity s.journal) (patched w.in-Some.patch.generation w.in-Some.patch.rows.items (image_in_force D.router)) c.self.invariant.0 done.0 D.due
-          ∙ sym (shown_done _ _ _ _ _ _ _ _ D e.writing published.image) ∙ sym (ap (shown_images g.B.Naming.openings) writers) in
+          ∙ sym (shown_done _ _ _ _ _ _ _ _ D e.writing published.image) ∙ sym (ap (shown_images g.B.FabricName.openings) writers) in
           record {
             lawful = subst (Lawful s.world) (sym w.in-Publish.is) done.0;
             after = ap (after_step (old g c)) w.in-Publish.is ∙ is_after g c (Publish i) w.in-Publish.is (ap (λ s. s.network) w.self-inside-is) journal world images lent;
@@ -226,7 +221,7 @@ stepped g c =
           let ok = w.in_ok-step-in_default.ensures.ok in
           let world : c.match-step.self-inside.world ≡ next (old g c).world c.args.step = ap (λ s. s.world) w.self-inside-is ∙ ok.1 in
           let desks : c.match-step.self-inside.desks.items ≡ c.self.inside.desks.items = ap (λ s. s.desks.items) w.self-inside-is in
-          let images = images_stay (old g c) c.args.step (vec_capacity c.self.inside.journal) c.self.invariant.0 w.in_default.not-Publish ∙ sym (ap (λ ds. shown_images g.B.Naming.openings (writings ds)) desks) in
+          let images = images_stay (old g c) c.args.step (vec_capacity c.self.inside.journal) c.self.invariant.0 w.in_default.not-Publish ∙ sym (ap (λ ds. shown_images g.B.FabricName.openings (writings ds)) desks) in
           record {
             lawful = ok.0;
             after = is_after g c c.args.step refl (ap (λ s. s.network) w.self-inside-is) journal world images (ap all_lent desks);
@@ -296,20 +291,14 @@ unwrap-requires g c =
 pub invariant_of-self-in_err-step-in-None : goal.invariant_of-self-in_err-step-in-None
 invariant_of-self-in_err-step-in-None g c =
     let s = c.self.inside in
-    let same = sym c.in_err-step-in-None.ensures.err in (
-      subst (λ w. IsKept (fabric_of s.network s.journal.items w (shown_images g.B.Naming.openings (writings s.desks.items)) (all_lent s.desks.items)) (vec_capacity s.journal)) same c.self.invariant.0,
-      subst (λ w. AreWriters w (writings s.desks.items)) same c.self.invariant.1,
-      subst (λ w. ArePending w s.desks.items) same c.self.invariant.2,
-      subst (λ w. AreReaders w s.readers.items) same c.self.invariant.3,
-      c.self.invariant.4,
-      c.self.invariant.5,
-    )
+    subst (λ w. FitTogether g.B.FabricName.openings s.network s.journal.items (vec_capacity s.journal) w s.desks.items s.readers.items s.sum s.set_aside)
+    (sym c.in_err-step-in-None.ensures.err) c.self.invariant
 
 pub returns-in_err-step-in-None-clause-err : goal.returns-in_err-step-in-None-clause-err
 returns-in_err-step-in-None-clause-err g c =
     let s = c.self.inside in
     gave_up c.from_residual-in_err-step-in-None.result
-    (ap (λ w. fabric_of s.network s.journal.items w (shown_images g.B.Naming.openings (writings s.desks.items)) (all_lent s.desks.items)) c.in_err-step-in-None.ensures.err ∙ c.self.view_is)
+    (ap (λ w. fabric_seen g.B.FabricName.openings s.network s.journal.items w s.desks.items) c.in_err-step-in-None.ensures.err ∙ c.self.view_is)
 
 pub returns-in_err-step-in-None-clause-cause : goal.returns-in_err-step-in-None-clause-cause
 returns-in_err-step-in-None-clause-cause g c =
@@ -320,14 +309,8 @@ returns-in_err-step-in-None-clause-cause g c =
 pub invariant_of-self-in_err-step-in_default : goal.invariant_of-self-in_err-step-in_default
 invariant_of-self-in_err-step-in_default g c =
     let s = c.self.inside in
-    let same = sym c.in_err-step-in_default.ensures.err in (
-      subst (λ w. IsKept (fabric_of s.network s.journal.items w (shown_images g.B.Naming.openings (writings s.desks.items)) (all_lent s.desks.items)) (vec_capacity s.journal)) same c.self.invariant.0,
-      subst (λ w. AreWriters w (writings s.desks.items)) same c.self.invariant.1,
-      subst (λ w. ArePending w s.desks.items) same c.self.invariant.2,
-      subst (λ w. AreReaders w s.readers.items) same c.self.invariant.3,
-      c.self.invariant.4,
-      c.self.invariant.5,
-    )
+    subst (λ w. FitTogether g.B.FabricName.openings s.network s.journal.items (vec_capacity s.journal) w s.desks.items s.readers.items s.sum s.set_aside)
+    (sym c.in_err-step-in_default.ensures.err) c.self.invariant
 
 pub returns-in_err-step-in_default : goal.returns-in_err-step-in_default
 returns-in_err-step-in_default g c =
@@ -337,7 +320,7 @@ returns-in_err-step-in_default g c =
     record {
       ok = not_ok _ c.from_residual-in_err-step-in_default.result p.1;
       err = gave_up c.from_residual-in_err-step-in_default.result
-          (ap (λ w. fabric_of s.network s.journal.items w (shown_images g.B.Naming.openings (writings s.desks.items)) (all_lent s.desks.items)) failed.err ∙ c.self.view_is);
+          (ap (λ w. fabric_seen g.B.FabricName.openings s.network s.journal.items w s.desks.items) failed.err ∙ c.self.view_is);
       cause = passed_on c.args.self.now s.world c.args.step c.args.step c.from_residual-in_err-step-in_default.result c.in_err-step-in_default.field-0.0
           c.in_ok-admits.ensures.cause (ap (λ (f : Fabric). f.world) (sym c.self.view_is)) refl failed.cause p;
       stale = λ _ i h is at old. absurd (false≢true (failed.stale i h is (ap (λ (f : Fabric). release_at f.world i) c.self.view_is ∙ at) (ap (λ (f : Fabric). is_stale f.world i h) c.self.view_is ∙ old)));
@@ -362,4 +345,4 @@ unwrap-requires-2 g c =
 pub returns-clause-cause : goal.returns-clause-cause
 returns-clause-cause g c =
     let lawful : Lawful c.args.self.now.world c.args.step = subst (λ (f : Fabric). Lawful f.world c.args.step) c.self.view_is (stepped g c).lawful in
-    not_refused (fabric_refusal c.args.self.now c.args.step) tt (c.in_ok-admits.ensures.cause ∙ Lawful_to_refusal c.args.self.now.world c.args.step lawful)
+    not_caused (fabric_refusal c.args.self.now c.args.step) tt (c.in_ok-admits.ensures.cause ∙ Lawful_to_refusal c.args.self.now.world c.args.step lawful)

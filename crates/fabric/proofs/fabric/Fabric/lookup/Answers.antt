@@ -1,15 +1,10 @@
-use Rattle.std.proofs.Common.{◌≡◌, ◌∙◌, ◌⊎◌, ◌<◌, Some, length, refl, ap, sym, subst, arith}
-use Rattle.std.specs.Prelude.{IfOk, IfErr, MatchOption, option_map}
-use Rattle.std.proofs.lemmas.List.{length-set}
-use Rattle.std.proofs.lemmas.Result.{IfOk-weaker}
-use Rattle.network_model.specs.declared.route.Answer.{Answer}
-use Rattle.network_model.specs.declared.step.Refusal.TheVariants.{UnknownRouter, Stale, NoImage}
-use Rattle.network_model.specs.World.{Router}
+use Rattle.std.proofs.Common.{◌≡◌, ◌∙◌, ◌⊎◌, ◌<◌, Some, length, refl, ap, sym, subst, arith, IfOk, IfErr, MatchOption, option_map, length-set}
+use Rattle.packet_loops.proofs.Common.{IfOk-weaker, Answer, UnknownRouter, Stale, NoImage, Router, answer_of}
 use Rattle.publication.specs.declared.known.Known.{Known}
 use Rattle.publication.specs.Lists.{image_of}
 use Rattle.publication.proofs.Places.{each_set}
 use Rattle.fabric.specs.Fabric.{Fabric}
-use Rattle.fabric.specs.Images.{answer_at, answer_of, image_in_force, images_in_force}
+use Rattle.fabric.specs.Images.{answer_at, image_in_force, images_in_force}
 use Rattle.fabric.proofs.Causes.{nothing_at}
 use Rattle.fabric.proofs.Showing.{answer_shown}
 use Rattle.fabric.proofs.fabric.Fabric.lookup.Given as given
@@ -17,12 +12,12 @@ use Rattle.fabric.proofs.fabric.Fabric.lookup.Goals as goal
 
 -- what the list that was told of answers
 abbrev list_answer : (g : given.Over) (c : goal.After-drop-told-inside g) → Answer
-list_answer g c = answer_of c.args.addr (image_of g.B.Naming.openings c.in-Some.told)
+list_answer g c = answer_of (image_of g.B.FabricName.openings c.in-Some.told) c.args.addr
 
 answer : (g : given.Over) (c : goal.After-drop-told-inside g) → answer_at c.args.self.now.world c.args.router c.args.addr ≡ Some (list_answer g c)
 answer g c =
     let before = ap (λ (f : Fabric). f.images) (sym c.self.view_is) ∙ c.self.invariant.0.in_force ∙ ap (λ (f : Fabric). images_in_force f.world) c.self.view_is in
-    answer_shown c.args.self.now.world c.args.self.now.images before c.args.router (image_of g.B.Naming.openings c.in-Some.told) c.in-Some.ensures.in_force c.args.addr
+    answer_shown c.args.self.now.world c.args.self.now.images before c.args.router (image_of g.B.FabricName.openings c.in-Some.told) c.in-Some.ensures.in_force c.args.addr
 
 pub returns-clause-ok : goal.returns-clause-ok
 returns-clause-ok g c =
@@ -36,7 +31,7 @@ pub returns-in_default-clause-err : goal.returns-in_default-clause-err
 returns-in_default-clause-err g c =
     let routers = c.args.self.now.world.routers in
     let none = nothing_at routers c.args.router c.in_default.ensures.known.1 in
-    subst (λ o. MatchOption (option_map (λ (r : Router). answer_of c.args.addr (image_in_force r)) o) (UnknownRouter ≡ UnknownRouter) (λ _. (UnknownRouter ≡ Stale) ⊎ (UnknownRouter ≡ NoImage))) (sym none) refl
+    subst (λ o. MatchOption (option_map (λ (r : Router). answer_of (image_in_force r) c.args.addr) o) (UnknownRouter ≡ UnknownRouter) (λ _. (UnknownRouter ≡ Stale) ⊎ (UnknownRouter ≡ NoImage))) (sym none) refl
 
 pub index_mut-requires : goal.index_mut-requires
 index_mut-requires g c =

@@ -1,21 +1,17 @@
-use Rattle.std.proofs.Common.{rules, ◌≡◌, ◌∙◌, ◌+◌, ◌<◌, length, vec_len, None, Some, refl, sym, ap, subst, arith}
-use Rattle.std.specs.Prelude.{IsSome, false, is_some, option_map, slice_get, set, vec_capacity}
-use Rattle.std.proofs.lemmas.Option.{slice_get-map}
+use Rattle.std.proofs.Common.{rules, ◌≡◌, ◌∙◌, ◌+◌, ◌<◌, length, vec_len, None, Some, refl, sym, ap, subst, arith, IsSome, false, is_some, option_map, slice_get, set, vec_capacity}
+use Rattle.packet_loops.proofs.Common.{slice_get-map, most_steps, Patch}
 use Rattle.network_model.specs.declared.step.Step.TheVariants.{Publish}
-use Rattle.network_model.specs.Journal.{most_steps}
-use Rattle.network_model.specs.World.{World}
-use Rattle.network_model.specs.Publication.{Patch}
 use Rattle.image_patch.specs.Patches.{patched}
 use Rattle.world.specs.Steps.{HasRoomForSteps}
-use Rattle.publication.specs.declared.known.Known.{Known}
+use Rattle.world.proofs.Done.{memory_lacked, not_caused}
 use Rattle.publication.specs.Lists.{Writing, image_of, patch_of}
 use Rattle.publication.specs.Outings.{Outing}
-use Rattle.fabric.specs.Desks.{Desk, all_lent, desk_out, writings}
-use Rattle.fabric.specs.Fabric.{Fabric, awaits_writer, count_lent, fabric_of, fabric_refusal, lent_at, with_lent, IsKept}
+use Rattle.fabric.specs.Desks.{all_lent, desk_out, writings}
+use Rattle.fabric.specs.Fabric.{Fabric, count_lent, fabric_of, fabric_refusal, lent_at, with_lent, IsFabric}
 use Rattle.fabric.specs.Images.{due_at}
 use Rattle.fabric.specs.Patches.{IsPatchDue}
-use Rattle.fabric.specs.Writers.{ArePending, AreWriters, shown_images, waiting_at}
-use Rattle.fabric.proofs.Causes.{admitted, due_lawful, due_seen, memory_lacked, not_refused}
+use Rattle.fabric.specs.Writers.{ArePending, AreWriters, shown_images, waiting_at, fabric_seen}
+use Rattle.fabric.proofs.Causes.{admitted, due_lawful, due_seen}
 use Rattle.fabric.proofs.Fabrics.{room_left}
 use Rattle.fabric.proofs.Publishing.{IsDue, due_there, names_all, next_number, number_is, shows}
 use Rattle.fabric.proofs.Seats.{count_away, desk_within, due_desk, is_in, kept_away, lent_away, none_kept, pending_away, seat, shown_away, writers_away, writing_there}
@@ -25,7 +21,7 @@ use Rattle.fabric.proofs.fabric.Fabric.make_ticket.Goals.{After-lend}
 
 pub patch_due-requires : goal.patch_due-requires
 patch_due-requires g c = subst (HasRoomForSteps 1) (sym c.world.ensures)
-    (room_left (fabric_of c.self.inside.network c.self.inside.journal.items c.self.inside.world (shown_images g.B.Naming.openings (writings c.self.inside.desks.items)) (all_lent c.self.inside.desks.items)) (vec_capacity c.self.inside.journal) c.self.invariant.0)
+    (room_left (fabric_seen g.B.FabricName.openings c.self.inside.network c.self.inside.journal.items c.self.inside.world c.self.inside.desks.items) (vec_capacity c.self.inside.journal) c.self.invariant.0)
 
 -- no writer of the router is out
 free : (g : given.Over) (c : goal.After-from g) → is_some (lent_at (all_lent c.self.inside.desks.items) c.args.router) ≡ false
@@ -39,7 +35,7 @@ due g c =
 within : (g : given.Over) (c : goal.After-from g) → c.args.router < length c.self.inside.desks.items
 within g c =
     let s = c.self.inside in
-    desk_within s.network s.journal.items s.world g.B.Naming.openings s.desks.items (vec_capacity s.journal) c.self.invariant.0 c.self.invariant.1 c.args.router (due g c).0 (due g c).1
+    desk_within s.network s.journal.items s.world g.B.FabricName.openings s.desks.items (vec_capacity s.journal) c.self.invariant.0 c.self.invariant.1 c.args.router (due g c).0 (due g c).1
 
 pub index_mut-requires : goal.index_mut-requires
 index_mut-requires g c =
@@ -51,10 +47,10 @@ index_mut-requires g c =
 at_desk : (g : given.Over) (c : goal.After-index_mut g) → slice_get c.self.inside.desks.items c.args.router ≡ Some c.index_mut.result.now
 at_desk g c = seat c.self.inside.desks.items c.args.router c.from.result c.index_mut.result.now (let less = within g c.before in omega (arith, less, c.from.ensures)) c.index_mut.ensures.value c.from.ensures
 
-desk_due : (g : given.Over) (c : goal.After-index_mut g) → IsDue c.self.inside.network c.self.inside.journal.items c.self.inside.world g.B.Naming.openings (writings c.self.inside.desks.items) c.args.router c.index_mut.result.now.writing c.in-Some.patch
+desk_due : (g : given.Over) (c : goal.After-index_mut g) → IsDue c.self.inside.network c.self.inside.journal.items c.self.inside.world g.B.FabricName.openings (writings c.self.inside.desks.items) c.args.router c.index_mut.result.now.writing c.in-Some.patch
 desk_due g c =
     let s = c.self.inside in
-    due_desk s.network s.journal.items s.world g.B.Naming.openings s.desks.items (vec_capacity s.journal) c.self.invariant.0 c.self.invariant.1 c.routers-routers.ensures.valid c.args.router c.index_mut.result.now (at_desk g c) c.in-Some.patch (due g c.before)
+    due_desk s.network s.journal.items s.world g.B.FabricName.openings s.desks.items (vec_capacity s.journal) c.self.invariant.0 c.self.invariant.1 c.routers-routers.ensures.valid c.args.router c.index_mut.result.now (at_desk g c) c.in-Some.patch (due g c.before)
 
 desk_in : (g : given.Over) (c : goal.After-index_mut g) → c.index_mut.result.now.out ≡ None
 desk_in g c = is_in c.self.inside.desks.items c.args.router c.index_mut.result.now (at_desk g c) (free g c.before)
@@ -78,15 +74,15 @@ invariant_of-self g c =
     let d = c.index_mut.result.now in
     let D = desk_due g c.before.before in
     let short : length s.journal.items + count_lent (all_lent s.desks.items) < most_steps = subst (λ (f : Fabric). length f.journal + count_lent f.lent < most_steps) (sym c.self.view_is) c.in_ok-admits.ensures.place in (
-      subst (λ ds. IsKept (fabric_of s.network s.journal.items s.world (shown_images g.B.Naming.openings (writings ds)) (all_lent ds)) (vec_capacity s.journal)) (sym (left g c.before))
-          (kept_away s.network s.journal.items s.world g.B.Naming.openings s.desks.items c.args.router d c.in-Some.patch D (at_desk g c.before.before) (desk_in g c.before.before) (vec_capacity s.journal) c.self.invariant.0 short),
+      subst (λ ds. IsFabric (fabric_seen g.B.FabricName.openings s.network s.journal.items s.world ds) (vec_capacity s.journal)) (sym (left g c.before))
+          (kept_away s.network s.journal.items s.world g.B.FabricName.openings s.desks.items c.args.router d c.in-Some.patch D (at_desk g c.before.before) (desk_in g c.before.before) (vec_capacity s.journal) c.self.invariant.0 short),
       subst (λ ds. AreWriters s.world (writings ds)) (sym (left g c.before))
-          (writers_away s.network s.journal.items s.world g.B.Naming.openings s.desks.items c.args.router d c.in-Some.patch D (at_desk g c.before.before) (desk_in g c.before.before) c.self.invariant.1),
+          (writers_away s.network s.journal.items s.world g.B.FabricName.openings s.desks.items c.args.router d c.in-Some.patch D (at_desk g c.before.before) (desk_in g c.before.before) c.self.invariant.1),
       subst (ArePending s.world) (sym (left g c.before))
-          (pending_away s.network s.journal.items s.world g.B.Naming.openings s.desks.items c.args.router d c.in-Some.patch D (at_desk g c.before.before) (desk_in g c.before.before) c.self.invariant.2),
+          (pending_away s.network s.journal.items s.world g.B.FabricName.openings s.desks.items c.args.router d c.in-Some.patch D (at_desk g c.before.before) (desk_in g c.before.before) c.self.invariant.2),
       c.self.invariant.3,
       c.self.invariant.4,
-      (let more = count_away s.network s.journal.items s.world g.B.Naming.openings s.desks.items c.args.router d c.in-Some.patch D (at_desk g c.before.before) (desk_in g c.before.before) in
+      (let more = count_away s.network s.journal.items s.world g.B.FabricName.openings s.desks.items c.args.router d c.in-Some.patch D (at_desk g c.before.before) (desk_in g c.before.before) in
           let same = ap (λ ds. count_lent (all_lent ds)) (left g c.before) in
           let aside = c.self.invariant.5 in
           omega (arith, more, same, aside)),
@@ -96,15 +92,15 @@ pub returns-clause-fresh : goal.returns-clause-fresh
 returns-clause-fresh g c = (ap (λ (o : Outing). (o.before).router) c.lend.ensures.ticket ∙ number_is _ _ _ _ _ _ _ _ (desk_due g c.before.before), ap (λ (o : Outing). o.is_published) c.lend.ensures.ticket)
 
 -- what the writer had published
-shown : (g : given.Over) (c : After-lend g) → image_of g.B.Naming.openings c.lend.result.before ≡ image_of g.B.Naming.openings c.index_mut.result.now.writing.published
-shown g c = ap (λ (o : Outing). image_of g.B.Naming.openings o.before) c.lend.ensures.ticket
+shown : (g : given.Over) (c : After-lend g) → image_of g.B.FabricName.openings c.lend.result.before ≡ image_of g.B.FabricName.openings c.index_mut.result.now.writing.published
+shown g c = ap (λ (o : Outing). image_of g.B.FabricName.openings o.before) c.lend.ensures.ticket
 
 pub returns-clause-in_force : goal.returns-clause-in_force
 returns-clause-in_force g c =
     let desks = c.self.inside.desks.items in
     ap (λ (f : Fabric). slice_get f.images c.args.router) (sym c.self.view_is)
-    ∙ slice_get-map (λ (x : Writing). image_of g.B.Naming.openings x.published) (writings desks) c.args.router
-    ∙ ap (option_map (λ (x : Writing). image_of g.B.Naming.openings x.published)) (writing_there desks c.args.router c.index_mut.result.now (at_desk g c.before.before))
+    ∙ slice_get-map (λ (x : Writing). image_of g.B.FabricName.openings x.published) (writings desks) c.args.router
+    ∙ ap (option_map (λ (x : Writing). image_of g.B.FabricName.openings x.published)) (writing_there desks c.args.router c.index_mut.result.now (at_desk g c.before.before))
     ∙ ap Some (sym (shown g c.before))
 
 pub returns-clause-patch : goal.returns-clause-patch
@@ -112,19 +108,19 @@ returns-clause-patch g c =
     let D = desk_due g c.before.before in
     ap (λ (f : Fabric). due_at f.world c.args.router) (sym c.self.view_is) ∙ D.due
     ∙ ap (λ image. Some (patched c.in-Some.patch.generation c.in-Some.patch.rows.items image)) (sym (shows _ _ _ _ _ _ _ _ D) ∙ sym (shown g c.before))
-    ∙ ap (λ (p : Patch). Some (patched p.generation p.rows (image_of g.B.Naming.openings c.lend.result.before))) (sym (ap (λ (o : Outing). o.patch) c.lend.ensures.ticket))
+    ∙ ap (λ (p : Patch). Some (patched p.generation p.rows (image_of g.B.FabricName.openings c.lend.result.before))) (sym (ap (λ (o : Outing). o.patch) c.lend.ensures.ticket))
 
 pub returns-clause-ok : goal.returns-clause-ok
 returns-clause-ok g c =
     let s = c.self.inside in
     let d = c.index_mut.result.now in
     let D = desk_due g c.before.before in
-    ap (λ ds. fabric_of s.network s.journal.items s.world (shown_images g.B.Naming.openings (writings ds)) (all_lent ds)) (left g c.before)
+    ap (λ ds. fabric_seen g.B.FabricName.openings s.network s.journal.items s.world ds) (left g c.before)
     ∙ ap (λ images. fabric_of s.network s.journal.items s.world images (all_lent (set s.desks.items c.args.router (desk_out d.writing.published (patch_of c.in-Some.patch)))))
-    (shown_away s.network s.journal.items s.world g.B.Naming.openings s.desks.items c.args.router d c.in-Some.patch D (at_desk g c.before.before) (desk_in g c.before.before))
-    ∙ ap (fabric_of s.network s.journal.items s.world (shown_images g.B.Naming.openings (writings s.desks.items)))
-    (lent_away s.network s.journal.items s.world g.B.Naming.openings s.desks.items c.args.router d c.in-Some.patch D (at_desk g c.before.before) (desk_in g c.before.before))
-    ∙ ap (λ (o : Outing). with_lent (fabric_of s.network s.journal.items s.world (shown_images g.B.Naming.openings (writings s.desks.items)) (all_lent s.desks.items)) c.args.router (Some o.patch)) (sym c.lend.ensures.ticket)
+    (shown_away s.network s.journal.items s.world g.B.FabricName.openings s.desks.items c.args.router d c.in-Some.patch D (at_desk g c.before.before) (desk_in g c.before.before))
+    ∙ ap (fabric_of s.network s.journal.items s.world (shown_images g.B.FabricName.openings (writings s.desks.items)))
+    (lent_away s.network s.journal.items s.world g.B.FabricName.openings s.desks.items c.args.router d c.in-Some.patch D (at_desk g c.before.before) (desk_in g c.before.before))
+    ∙ ap (λ (o : Outing). with_lent (fabric_seen g.B.FabricName.openings s.network s.journal.items s.world s.desks.items) c.args.router (Some o.patch)) (sym c.lend.ensures.ticket)
     ∙ ap (λ (f : Fabric). with_lent f c.args.router (Some c.lend.result.patch)) c.self.view_is
 
 -- ---- why it is refused, or not
@@ -153,4 +149,4 @@ returns-clause-due g c =
 pub returns-clause-cause : goal.returns-clause-cause
 returns-clause-cause g c =
     let due = due_seen c.world.result.now c.args.self.now.world c.args.router c.waiting_at-waiting.result.now c.in_ok-patch.field-0 c.in-Some.patch (c.world.ensures ∙ ap (λ (f : Fabric). f.world) c.self.view_is) c.in-Some.is c.in_ok-patch.ensures.due in
-    not_refused (fabric_refusal c.args.self.now (Publish c.args.router)) c.lend.result (admitted c.args.self.now c.args.self.now.world (Publish c.args.router) c.args.router c.in_ok-admits.ensures.cause refl refl due)
+    not_caused (fabric_refusal c.args.self.now (Publish c.args.router)) c.lend.result (admitted c.args.self.now c.args.self.now.world (Publish c.args.router) c.args.router c.in_ok-admits.ensures.cause refl refl due)

@@ -1,13 +1,10 @@
-use Rattle.std.proofs.Common.{rules, ◌≡◌, ◌∙◌, ◌≤◌, ◌+◌, [], All, map, length, vec_len, refl, ap, subst, sym, arith}
-use Rattle.std.specs.Prelude.{vec_capacity}
-use Rattle.std.proofs.lemmas.List.{length-map}
-use Rattle.network_model.specs.World.{World, opening}
-use Rattle.network_model.specs.Publication.{Image}
+use Rattle.std.proofs.Common.{rules, ◌≡◌, ◌∙◌, ◌≤◌, ◌+◌, [], All, map, length, vec_len, refl, ap, subst, sym, arith, vec_capacity}
+use Rattle.packet_loops.proofs.Common.{length-map, World, opening, Image}
 use Rattle.publication.specs.Lists.{no_patches}
 use Rattle.fabric.specs.Images.{chosen_image}
 use Rattle.fabric.specs.Desks.{all_lent, desk_in, writings}
-use Rattle.fabric.specs.Fabric.{count_lent, fabric_of, IsKept}
-use Rattle.fabric.specs.Writers.{ArePending, AreWriters, IsPort, shown_images}
+use Rattle.fabric.specs.Fabric.{count_lent, fabric_of, IsFabric}
+use Rattle.fabric.specs.Writers.{ArePending, AreWriters, IsReaderPort, shown_images, fabric_seen}
 use Rattle.fabric.proofs.Lending.{count-none, none_lent}
 use Rattle.fabric.proofs.Fabrics.{summed_none}
 use Rattle.fabric.proofs.Idle.{router_count}
@@ -54,13 +51,13 @@ invariant_of-fabric g c =
     let writers = c.in_ok-writers.writers.items in
     let shown : writings c.in_ok-desks.desks.items ≡ writers = ap writings seated ∙ writings_in writers in
     let routers : length c.in_ok-images.images.items ≡ length w.routers = ap length images ∙ length-map (opening n).routers chosen_image ∙ ap (λ (v : World). length v.routers) (sym opened) in
-    let kept = kept_open n g.B.Naming.openings c.requires.openings w opened c.in_ok-images.images.items images writers c.in_ok-writers.ensures.writers (omega (arith, whole.0, whole.1, each.0))
+    let kept = kept_open n g.B.FabricName.openings c.requires.openings w opened c.in_ok-images.images.items images writers c.in_ok-writers.ensures.writers (omega (arith, whole.0, whole.1, each.0))
     c.in_ok-journal.journal.items (vec_capacity c.in_ok-journal.journal) c.in_ok-journal.ensures.items (omega (arith, c.in_ok-journal.ensures.capacity)) in (
-      subst (λ ds. IsKept (fabric_of n c.in_ok-journal.journal.items w (shown_images g.B.Naming.openings (writings ds)) (all_lent ds)) (vec_capacity c.in_ok-journal.journal)) (sym seated)
-          (subst (λ xs. IsKept (fabric_of n c.in_ok-journal.journal.items w (shown_images g.B.Naming.openings xs) (all_lent (map desk_in writers))) (vec_capacity c.in_ok-journal.journal)) (sym (writings_in writers)) kept),
-      subst (AreWriters w) (sym shown) (new_writers n g.B.Naming.openings c.requires.openings writers c.in_ok-writers.ensures.writers w),
+      subst (λ ds. IsFabric (fabric_seen g.B.FabricName.openings n c.in_ok-journal.journal.items w ds) (vec_capacity c.in_ok-journal.journal)) (sym seated)
+          (subst (λ xs. IsFabric (fabric_of n c.in_ok-journal.journal.items w (shown_images g.B.FabricName.openings xs) (all_lent (map desk_in writers))) (vec_capacity c.in_ok-journal.journal)) (sym (writings_in writers)) kept),
+      subst (AreWriters w) (sym shown) (new_writers n g.B.FabricName.openings c.requires.openings writers c.in_ok-writers.ensures.writers w),
       subst (ArePending w) (sym seated) (none_pending w writers),
-      new_readers w c.in-Ok.readers.items (subst (λ m. IsPort m c.in-Ok.readers.items) (let lists : vec_len c.in_ok-writers.lists ≡ length w.routers = omega (arith, routers, whole.0, each.1) in lists) c.in-Ok.ensures.own),
+      new_readers w c.in-Ok.readers.items (subst (λ m. IsReaderPort m c.in-Ok.readers.items) (let lists : vec_len c.in_ok-writers.lists ≡ length w.routers = omega (arith, routers, whole.0, each.1) in lists) c.in-Ok.ensures.own),
       summed_none c.in_ok-journal.journal.items c.in_ok-journal.ensures.items,
       sym (ap (λ ds. count_lent (all_lent ds)) seated ∙ ap count_lent (none_lent writers) ∙ count-none (length writers)),
     )
@@ -73,9 +70,9 @@ returns-clause-ok g c =
     let seated = c.in_ok-desks.ensures in
     let writers = c.in_ok-writers.writers.items in
     let w = c.in_ok-world.world in
-    ap (λ ds. fabric_of c.args.network c.in_ok-journal.journal.items w (shown_images g.B.Naming.openings (writings ds)) (all_lent ds)) seated
-    ∙ ap (λ xs. fabric_of c.args.network c.in_ok-journal.journal.items w (shown_images g.B.Naming.openings xs) (all_lent (map desk_in writers))) (writings_in writers)
-    ∙ is_opening c.args.network g.B.Naming.openings c.requires.openings w opened c.in_ok-images.images.items images writers c.in_ok-writers.ensures.writers
+    ap (λ ds. fabric_seen g.B.FabricName.openings c.args.network c.in_ok-journal.journal.items w ds) seated
+    ∙ ap (λ xs. fabric_of c.args.network c.in_ok-journal.journal.items w (shown_images g.B.FabricName.openings xs) (all_lent (map desk_in writers))) (writings_in writers)
+    ∙ is_opening c.args.network g.B.FabricName.openings c.requires.openings w opened c.in_ok-images.images.items images writers c.in_ok-writers.ensures.writers
     (omega (arith, whole.0, whole.1, c.in_ok-writers.ensures.count.0)) c.in_ok-journal.journal.items c.in_ok-journal.ensures.items
 
 pub returns-clause-ports : goal.returns-clause-ports
@@ -85,4 +82,4 @@ returns-clause-ports g c =
     let whole : length c.in_ok-images.images.items ≡ vec_len c.in_ok-images.images = sym c.in_ok-images.images.ok.0 in
     let routers : length c.in_ok-images.images.items ≡ n.routers = ap length images ∙ length-map (opening n).routers chosen_image ∙ router_count n [] (opening n) refl in
     let lists : vec_len c.in_ok-writers.lists ≡ n.routers = omega (arith, routers, whole, c.in_ok-writers.ensures.count.1) in
-    (c.in-Ok.ensures.count, subst (λ m. All (λ port. IsPort m port.items) c.in-Ok.ports.items) lists c.in-Ok.ensures.ports)
+    (c.in-Ok.ensures.count, subst (λ m. All (λ port. IsReaderPort m port.items) c.in-Ok.ports.items) lists c.in-Ok.ensures.ports)

@@ -1,9 +1,7 @@
-use Rattle.std.proofs.Common.{◌≡◌, ◌+◌, ◌++◌, [], ◌∷◌, take, sym, ap, subst, ◌∙◌, arith, add-one}
+use Rattle.std.proofs.Common.{◌≡◌, ◌+◌, ◌++◌, [], ◌∷◌, take, sym, ap, subst, ◌∙◌, arith, add-one, append_assoc}
 use Rattle.std.proofs.Math.Seq.{take-suc}
-use Rattle.std.proofs.lemmas.List.{append_assoc}
 use Rattle.network_model.specs.declared.step.Step.{Step}
-use Rattle.network_model.specs.Step.{Lawful}
-use Rattle.network_model.specs.Run.{Runs}
+use Rattle.packet_loops.proofs.Common.{Lawful, Runs}
 use Rattle.fabric.specs.Fabric.{Fabric, after_step}
 use Rattle.world.proofs.Runs.{with_last_step}
 use Rattle.fabric.proofs.fabric.Fabric.run.Goals as goal

@@ -1,6 +1,5 @@
 use Rattle.std.proofs.Common.{◌∙◌, ap, arith}
-use Rattle.network_model.specs.Journal.{steps_in_sum}
-use Rattle.network_model.proofs.JournalLaws.{journal_length}
+use Rattle.packet_loops.proofs.Common.{steps_in_sum, journal_length}
 use Rattle.fabric.proofs.fabric.Fabric.sum.Goals as goal
 
 pub returns-clause-length : goal.returns-clause-length

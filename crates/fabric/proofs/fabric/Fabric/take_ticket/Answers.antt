@@ -1,25 +1,17 @@
-use Rattle.std.proofs.Common.{rules, Ok, ◌≡◌, ◌∙◌, ◌+◌, ◌-◌, ◌*◌, ◌^◌, ◌<◌, ◌≤◌, ◌++◌, [], ◌∷◌, length, vec_len, None, Some, refl, sym, ap, subst, arith}
-use Rattle.std.specs.Prelude.{Bool, true, false, IsOk, MatchBool, MatchOption, Err, slice_get, set, vec_capacity}
-use Rattle.std.proofs.lemmas.Bool.{false≢true}
-use Rattle.std.proofs.lemmas.Option.{slice_get_past}
-use Rattle.std.proofs.lemmas.Result.{err_from_is_err_and}
+use Rattle.std.proofs.Common.{rules, ◌≡◌, ◌∙◌, ◌+◌, ◌-◌, ◌*◌, ◌^◌, ◌<◌, ◌≤◌, ◌++◌, [], ◌∷◌, length, vec_len, None, Some, refl, sym, ap, subst, arith, true, false, IsOk, MatchBool, MatchOption, Err, slice_get, set, vec_capacity}
+use Rattle.packet_loops.proofs.Common.{false≢true, slice_get_past, err_from_is_err_and, Lawful, next, Lawful_to_refusal, None_not_Some}
 use Rattle.network_model.specs.declared.step.Step.TheVariants.{Publish}
 use Rattle.network_model.specs.Journal.{Fits, most_steps, step_number}
-use Rattle.network_model.specs.Step.{Lawful, next, refusal}
-use Rattle.network_model.specs.World.{World}
-use Rattle.network_model.proofs.Lawful.{Lawful_to_refusal}
-use Rattle.network_model.proofs.ListLaws.{None_not_Some}
 use Rattle.router_core.proofs.Refused.{gave_up}
 use Rattle.publication.specs.Lists.{Writing}
-use Rattle.publication.specs.Outings.{IsOuting, Outing}
 use Rattle.publication.proofs.Places.{each_there}
-use Rattle.fabric.specs.Desks.{Desk, all_lent, desk_in, writings}
-use Rattle.fabric.specs.Fabric.{Fabric, after_step, count_lent, fabric_of, lent_at, with_lent, IsKept, IsSumOf}
-use Rattle.fabric.specs.Writers.{ArePending, AreReaders, AreWriters, shown_images}
+use Rattle.fabric.specs.Desks.{all_lent, desk_in, writings}
+use Rattle.fabric.specs.Fabric.{Fabric, after_step, count_lent, fabric_of, lent_at, with_lent, IsFabric}
+use Rattle.fabric.specs.Writers.{ArePending, AreReaders, AreWriters, shown_images, fabric_seen}
 use Rattle.fabric.proofs.Fabrics.{kept_as, room_left, summed_more}
 use Rattle.fabric.proofs.Lending.{lent_there}
 use Rattle.fabric.proofs.Publishing.{readers_next, writers_next}
-use Rattle.fabric.proofs.Seats.{count_back, set_again, images_back, kept_back, lawful_back, lent_back, lent_was, none_lent_at, pending_back, pending_on, published_is, seat, short_back, shown_back, unpublished_is, writers_back, writing_there}
+use Rattle.fabric.proofs.Seats.{count_back, set_again, images_back, kept_back, lawful_back, lent_was, none_lent_at, pending_back, pending_on, published_is, seat, short_back, shown_back, unpublished_is, writers_back, writing_there}
 use Rattle.fabric.proofs.fabric.Fabric.take_ticket.Given as given
 use Rattle.fabric.proofs.fabric.Fabric.take_ticket.Goals as goal
 use Rattle.fabric.proofs.fabric.Fabric.take_ticket.Goals.{then-published, else-published}
@@ -46,7 +38,7 @@ left g c = ap (λ k. set c.self.inside.desks.items k c.take_back.new.self) (plac
 pub overflow_sub-self : goal.overflow_sub-self
 overflow_sub-self g c =
     let s = c.self.inside in
-    let count = count_back s.world g.B.Naming.openings s.desks.items c.args.ticket.before.router c.index_mut.result.now c.args.ticket (at_desk g c) (out g c) (list g c) c.in_ok-take_back.ensures.kept c.self.invariant.2 c.self.invariant.1 in
+    let count = count_back s.world g.B.FabricName.openings s.desks.items c.args.ticket.before.router c.index_mut.result.now c.args.ticket (at_desk g c) (out g c) (list g c) c.in_ok-take_back.ensures.kept c.self.invariant.2 c.self.invariant.1 in
     let aside = c.self.invariant.5 in
     omega (arith, count, aside)
 
@@ -64,7 +56,7 @@ unchanged g c = ap (set c.self.inside.desks.items c.from-place.result) (c.in_err
 pub invariant_of-self : goal.invariant_of-self
 invariant_of-self g c =
     let s = c.self.inside in (
-      subst (λ ds. IsKept (fabric_of s.network s.journal.items s.world (shown_images g.B.Naming.openings (writings ds)) (all_lent ds)) (vec_capacity s.journal)) (sym (unchanged g c)) c.self.invariant.0,
+      subst (λ ds. IsFabric (fabric_seen g.B.FabricName.openings s.network s.journal.items s.world ds) (vec_capacity s.journal)) (sym (unchanged g c)) c.self.invariant.0,
       subst (λ ds. AreWriters s.world (writings ds)) (sym (unchanged g c)) c.self.invariant.1,
       subst (ArePending s.world) (sym (unchanged g c)) c.self.invariant.2,
       c.self.invariant.3,
@@ -86,13 +78,13 @@ returns-in_err-take_back-clause-its g c =
 -- ---- published
 
 pub step-requires : goal.step-requires
-step-requires g c = room_left (fabric_of c.self.inside.network c.self.inside.journal.items c.self.inside.world (shown_images g.B.Naming.openings (writings c.self.inside.desks.items)) (all_lent c.self.inside.desks.items)) (vec_capacity c.self.inside.journal) c.self.invariant.0
+step-requires g c = room_left (fabric_seen g.B.FabricName.openings c.self.inside.network c.self.inside.journal.items c.self.inside.world c.self.inside.desks.items) (vec_capacity c.self.inside.journal) c.self.invariant.0
 
 pub unwrap-requires : goal.unwrap-requires
 unwrap-requires g c =
     let b : goal.In_ok-take_back g = c.before.before.before.before in
     let s = c.self.inside in
-    let lawful : Lawful s.world (Publish c.args.ticket.before.router) = lawful_back s.world g.B.Naming.openings s.desks.items c.args.ticket.before.router c.index_mut.result.now c.args.ticket (at_desk g b) (out g b) (list g b) c.in_ok-take_back.ensures.kept c.self.invariant.2 c.self.invariant.1
+    let lawful : Lawful s.world (Publish c.args.ticket.before.router) = lawful_back s.world g.B.FabricName.openings s.desks.items c.args.ticket.before.router c.index_mut.result.now c.args.ticket (at_desk g b) (out g b) (list g b) c.in_ok-take_back.ensures.kept c.self.invariant.2 c.self.invariant.1
     s.network s.journal.items (vec_capacity s.journal) c.self.invariant.0 in
     subst (λ o. MatchOption o (IsOk c.step.result) (λ e. c.step.result ≡ Err e))
     (Lawful_to_refusal s.world (Publish c.router-router.result) (subst (λ i. Lawful s.world (Publish i)) (sym c.router-router.ensures) lawful))
@@ -103,7 +95,7 @@ unwrap-requires-then-published g c =
     let b : goal.In_ok-take_back g = c.before.before.before.before.before.before.before.before.before.before in
     let s = c.self.inside in
     let short : length s.journal.items + count_lent (all_lent (set s.desks.items c.args.ticket.before.router (desk_in c.args.ticket.writing))) < most_steps
-    = short_back s.world g.B.Naming.openings s.desks.items c.args.ticket.before.router c.index_mut.result.now c.args.ticket (at_desk g b) (out g b) (list g b) c.in_ok-take_back.ensures.kept c.self.invariant.2 c.self.invariant.1
+    = short_back s.world g.B.FabricName.openings s.desks.items c.args.ticket.before.router c.index_mut.result.now c.args.ticket (at_desk g b) (out g b) (list g b) c.in_ok-take_back.ensures.kept c.self.invariant.2 c.self.invariant.1
     s.network s.journal.items (vec_capacity s.journal) c.self.invariant.0 in
     let room : most_steps ≤ vec_capacity s.journal = c.self.invariant.0.room in
     let len : length s.journal.items ≡ vec_len s.journal = search rules in
@@ -112,8 +104,8 @@ unwrap-requires-then-published g c =
 -- what is left once the step is done
 record IsDone (g : given.Over) (c : goal.After-unwrap-then-published g) : Type 0 where
   lawful : Lawful c.self.inside.world (Publish c.args.ticket.before.router)
-  after : after_step (fabric_of c.self.inside.network c.self.inside.journal.items c.self.inside.world (shown_images g.B.Naming.openings (writings c.self.inside.desks.items)) (all_lent (set c.self.inside.desks.items c.args.ticket.before.router (desk_in c.args.ticket.writing)))) (Publish c.args.ticket.before.router)
-      ≡ fabric_of c.self.inside.network c.push.new.self.items c.step.new.self (shown_images g.B.Naming.openings (writings (set c.self.inside.desks.items c.from-place.result c.take_back.new.self))) (all_lent (set c.self.inside.desks.items c.from-place.result c.take_back.new.self))
+  after : after_step (fabric_of c.self.inside.network c.self.inside.journal.items c.self.inside.world (shown_images g.B.FabricName.openings (writings c.self.inside.desks.items)) (all_lent (set c.self.inside.desks.items c.args.ticket.before.router (desk_in c.args.ticket.writing)))) (Publish c.args.ticket.before.router)
+      ≡ fabric_seen g.B.FabricName.openings c.self.inside.network c.push.new.self.items c.step.new.self (set c.self.inside.desks.items c.from-place.result c.take_back.new.self)
   world : c.step.new.self ≡ next c.self.inside.world (Publish c.args.ticket.before.router)
   pushed : c.push.new.self.items ≡ c.self.inside.journal.items ++ Publish c.args.ticket.before.router ∷ []
 
@@ -127,11 +119,11 @@ done g c =
     let world : c.step.new.self ≡ next s.world (Publish i) = ok.1 ∙ ap (λ k. next s.world (Publish k)) c.router-router.ensures in
     let items : c.push.new.self.items ≡ s.journal.items ++ Publish c.router-router.result ∷ [] = rw c.unwrap-then-published.ensures at c.push.ensures.items in
     let pushed : c.push.new.self.items ≡ s.journal.items ++ Publish i ∷ [] = items ∙ ap (λ k. s.journal.items ++ Publish k ∷ []) c.router-router.ensures in
-    let images = images_back s.world g.B.Naming.openings s.desks.items i c.index_mut.result.now c.args.ticket (at_desk g b) (out g b) (list g b) c.in_ok-take_back.ensures.kept c.self.invariant.2 c.self.invariant.1
-    s.network s.journal.items (vec_capacity s.journal) c.self.invariant.0 published ∙ ap (λ ds. shown_images g.B.Naming.openings (writings ds)) (sym (left g b)) in
+    let images = images_back s.world g.B.FabricName.openings s.desks.items i c.index_mut.result.now c.args.ticket (at_desk g b) (out g b) (list g b) c.in_ok-take_back.ensures.kept c.self.invariant.2 c.self.invariant.1
+    s.network s.journal.items (vec_capacity s.journal) c.self.invariant.0 published ∙ ap (λ ds. shown_images g.B.FabricName.openings (writings ds)) (sym (left g b)) in
     let lent = ap all_lent (sym (left g b)) in
     record {
-      lawful = lawful_back s.world g.B.Naming.openings s.desks.items i c.index_mut.result.now c.args.ticket (at_desk g b) (out g b) (list g b) c.in_ok-take_back.ensures.kept c.self.invariant.2 c.self.invariant.1
+      lawful = lawful_back s.world g.B.FabricName.openings s.desks.items i c.index_mut.result.now c.args.ticket (at_desk g b) (out g b) (list g b) c.in_ok-take_back.ensures.kept c.self.invariant.2 c.self.invariant.1
           s.network s.journal.items (vec_capacity s.journal) c.self.invariant.0;
       after = λ k. fabric_of s.network (sym pushed k) (sym world k) (images k) (lent k);
       world = world;
@@ -144,22 +136,22 @@ invariant_of-self-then-published g c =
     let s = c.self.inside in
     let i = c.args.ticket.before.router in
     let D = done g c in
-    let kept = kept_back s.world g.B.Naming.openings s.desks.items i c.index_mut.result.now c.args.ticket (at_desk g b) (out g b) (list g b) c.in_ok-take_back.ensures.kept c.self.invariant.2 c.self.invariant.1
+    let kept = kept_back s.world g.B.FabricName.openings s.desks.items i c.index_mut.result.now c.args.ticket (at_desk g b) (out g b) (list g b) c.in_ok-take_back.ensures.kept c.self.invariant.2 c.self.invariant.1
     s.network s.journal.items (vec_capacity s.journal) c.self.invariant.0 in
-    let short = short_back s.world g.B.Naming.openings s.desks.items i c.index_mut.result.now c.args.ticket (at_desk g b) (out g b) (list g b) c.in_ok-take_back.ensures.kept c.self.invariant.2 c.self.invariant.1
+    let short = short_back s.world g.B.FabricName.openings s.desks.items i c.index_mut.result.now c.args.ticket (at_desk g b) (out g b) (list g b) c.in_ok-take_back.ensures.kept c.self.invariant.2 c.self.invariant.1
     s.network s.journal.items (vec_capacity s.journal) c.self.invariant.0 in
-    let count = count_back s.world g.B.Naming.openings s.desks.items i c.index_mut.result.now c.args.ticket (at_desk g b) (out g b) (list g b) c.in_ok-take_back.ensures.kept c.self.invariant.2 c.self.invariant.1 in
+    let count = count_back s.world g.B.FabricName.openings s.desks.items i c.index_mut.result.now c.args.ticket (at_desk g b) (out g b) (list g b) c.in_ok-take_back.ensures.kept c.self.invariant.2 c.self.invariant.1 in
     let numbered : c.number.result ≡ step_number (Publish i) = c.number.ensures.number ∙ ap (λ k. step_number (Publish k)) c.router-router.ensures in (
-      kept_as (fabric_of s.network s.journal.items s.world (shown_images g.B.Naming.openings (writings s.desks.items)) (all_lent (set s.desks.items i (desk_in c.args.ticket.writing))))
-          (fabric_of s.network c.push.new.self.items c.step.new.self (shown_images g.B.Naming.openings (writings (set s.desks.items c.from-place.result c.take_back.new.self))) (all_lent (set s.desks.items c.from-place.result c.take_back.new.self)))
+      kept_as (fabric_of s.network s.journal.items s.world (shown_images g.B.FabricName.openings (writings s.desks.items)) (all_lent (set s.desks.items i (desk_in c.args.ticket.writing))))
+          (fabric_seen g.B.FabricName.openings s.network c.push.new.self.items c.step.new.self (set s.desks.items c.from-place.result c.take_back.new.self))
           (Publish i) (vec_capacity s.journal) (vec_capacity c.push.new.self) kept D.lawful short D.after c.push.ensures.capacity,
       subst (λ v. AreWriters v (writings (set s.desks.items c.from-place.result c.take_back.new.self))) (sym D.world)
           (subst (λ ds. AreWriters (next s.world (Publish i)) (writings ds)) (sym (left g b))
           (writers_next s.world (Publish i) (writings (set s.desks.items i (desk_in c.args.ticket.writing)))
-          (writers_back s.world g.B.Naming.openings s.desks.items i c.index_mut.result.now c.args.ticket (at_desk g b) (out g b) (list g b) c.in_ok-take_back.ensures.kept c.self.invariant.2 c.self.invariant.1))),
+          (writers_back s.world g.B.FabricName.openings s.desks.items i c.index_mut.result.now c.args.ticket (at_desk g b) (out g b) (list g b) c.in_ok-take_back.ensures.kept c.self.invariant.2 c.self.invariant.1))),
       subst (λ v. ArePending v (set s.desks.items c.from-place.result c.take_back.new.self)) (sym D.world)
           (subst (ArePending (next s.world (Publish i))) (sym (left g b))
-          (pending_on s.world g.B.Naming.openings s.desks.items i c.index_mut.result.now c.args.ticket (at_desk g b) (out g b) (list g b) c.in_ok-take_back.ensures.kept c.self.invariant.2 c.self.invariant.1
+          (pending_on s.world g.B.FabricName.openings s.desks.items i c.index_mut.result.now c.args.ticket (at_desk g b) (out g b) (list g b) c.in_ok-take_back.ensures.kept c.self.invariant.2 c.self.invariant.1
           s.network s.journal.items (vec_capacity s.journal) c.self.invariant.0)),
       subst (λ v. AreReaders v s.readers.items) (sym D.world) (readers_next s.world (Publish i) s.readers.items c.self.invariant.3),
       summed_more s.journal.items (Publish i) c.push.new.self.items s.sum c.number.result c.self.invariant.4 numbered c.number.ensures.below (subst (λ k. Fits (Publish k)) c.router-router.ensures c.number.ensures.fits) D.pushed,
@@ -174,16 +166,16 @@ invariant_of-self-else-published g c =
     let s = c.self.inside in
     let i = c.args.ticket.before.router in
     let not_yet : c.args.ticket.is_published ≡ false = sym c.is_published-published.ensures ∙ c.if-published.false in
-    let shown = shown_back s.world g.B.Naming.openings s.desks.items i c.index_mut.result.now c.args.ticket (at_desk g b) (out g b) (list g b) c.in_ok-take_back.ensures.kept c.self.invariant.2 c.self.invariant.1 not_yet in
-    let kept = kept_back s.world g.B.Naming.openings s.desks.items i c.index_mut.result.now c.args.ticket (at_desk g b) (out g b) (list g b) c.in_ok-take_back.ensures.kept c.self.invariant.2 c.self.invariant.1
+    let shown = shown_back s.world g.B.FabricName.openings s.desks.items i c.index_mut.result.now c.args.ticket (at_desk g b) (out g b) (list g b) c.in_ok-take_back.ensures.kept c.self.invariant.2 c.self.invariant.1 not_yet in
+    let kept = kept_back s.world g.B.FabricName.openings s.desks.items i c.index_mut.result.now c.args.ticket (at_desk g b) (out g b) (list g b) c.in_ok-take_back.ensures.kept c.self.invariant.2 c.self.invariant.1
     s.network s.journal.items (vec_capacity s.journal) c.self.invariant.0 in
-    let count = count_back s.world g.B.Naming.openings s.desks.items i c.index_mut.result.now c.args.ticket (at_desk g b) (out g b) (list g b) c.in_ok-take_back.ensures.kept c.self.invariant.2 c.self.invariant.1 in (
-      subst (λ ds. IsKept (fabric_of s.network s.journal.items s.world (shown_images g.B.Naming.openings (writings ds)) (all_lent ds)) (vec_capacity s.journal)) (sym (left g b))
-          (subst (λ images. IsKept (fabric_of s.network s.journal.items s.world images (all_lent (set s.desks.items i (desk_in c.args.ticket.writing)))) (vec_capacity s.journal)) (sym shown) kept),
+    let count = count_back s.world g.B.FabricName.openings s.desks.items i c.index_mut.result.now c.args.ticket (at_desk g b) (out g b) (list g b) c.in_ok-take_back.ensures.kept c.self.invariant.2 c.self.invariant.1 in (
+      subst (λ ds. IsFabric (fabric_seen g.B.FabricName.openings s.network s.journal.items s.world ds) (vec_capacity s.journal)) (sym (left g b))
+          (subst (λ images. IsFabric (fabric_of s.network s.journal.items s.world images (all_lent (set s.desks.items i (desk_in c.args.ticket.writing)))) (vec_capacity s.journal)) (sym shown) kept),
       subst (λ ds. AreWriters s.world (writings ds)) (sym (left g b))
-          (writers_back s.world g.B.Naming.openings s.desks.items i c.index_mut.result.now c.args.ticket (at_desk g b) (out g b) (list g b) c.in_ok-take_back.ensures.kept c.self.invariant.2 c.self.invariant.1),
+          (writers_back s.world g.B.FabricName.openings s.desks.items i c.index_mut.result.now c.args.ticket (at_desk g b) (out g b) (list g b) c.in_ok-take_back.ensures.kept c.self.invariant.2 c.self.invariant.1),
       subst (ArePending s.world) (sym (left g b))
-          (pending_back s.world g.B.Naming.openings s.desks.items i c.index_mut.result.now c.args.ticket (at_desk g b) (out g b) (list g b) c.in_ok-take_back.ensures.kept c.self.invariant.2 c.self.invariant.1),
+          (pending_back s.world g.B.FabricName.openings s.desks.items i c.index_mut.result.now c.args.ticket (at_desk g b) (out g b) (list g b) c.in_ok-take_back.ensures.kept c.self.invariant.2 c.self.invariant.1),
       c.self.invariant.3,
       c.self.invariant.4,
       (let same = ap (λ ds. count_lent (all_lent ds)) (left g b) in let aside = c.self.invariant.5 in omega (arith, count, same, aside)),
@@ -196,7 +188,7 @@ returns-clause-its g c =
     let b : goal.In_ok-take_back g = c.before.before in
     let s = c.self.inside in (
       λ _. ap (λ (f : Fabric). lent_at f.lent c.args.ticket.before.router) (sym c.self.view_is)
-          ∙ lent_was s.world g.B.Naming.openings s.desks.items c.args.ticket.before.router c.index_mut.result.now c.args.ticket (at_desk g b) (out g b) (list g b) c.in_ok-take_back.ensures.kept c.self.invariant.2 c.self.invariant.1,
+          ∙ lent_was s.world g.B.FabricName.openings s.desks.items c.args.ticket.before.router c.index_mut.result.now c.args.ticket (at_desk g b) (out g b) (list g b) c.in_ok-take_back.ensures.kept c.self.invariant.2 c.self.invariant.1,
       λ _. refl,
     )
 
@@ -216,7 +208,7 @@ returns-clause-done g c =
           subst (λ flag. MatchBool flag (Lawful c.args.self.now.world (Publish i) × (c.if-published.self ≡ after_step (with_lent c.args.self.now i None) (Publish i))) (c.if-published.self ≡ with_lent c.args.self.now i None)) (sym published) (
             subst (λ (f : Fabric). Lawful f.world (Publish i)) c.self.view_is lawful,
             w.self-is
-                ∙ published_is s.world g.B.Naming.openings s.desks.items i c.index_mut.result.now c.args.ticket (at_desk g b) (out g b) (list g b) c.in_ok-take_back.ensures.kept c.self.invariant.2 c.self.invariant.1
+                ∙ published_is s.world g.B.FabricName.openings s.desks.items i c.index_mut.result.now c.args.ticket (at_desk g b) (out g b) (list g b) c.in_ok-take_back.ensures.kept c.self.invariant.2 c.self.invariant.1
                 s.network s.journal.items (vec_capacity s.journal) c.self.invariant.0 published w.push.new.self.items w.step.new.self (set s.desks.items c.from-place.result c.take_back.new.self) pushed world (left g b)
                 ∙ ap (λ (f : Fabric). after_step (with_lent f i None) (Publish i)) c.self.view_is,
           )
@@ -224,7 +216,7 @@ returns-clause-done g c =
           let not_yet : c.args.ticket.is_published ≡ false = sym c.is_published-published.ensures ∙ w.if-published.false in
           subst (λ flag. MatchBool flag (Lawful c.args.self.now.world (Publish i) × (c.if-published.self ≡ after_step (with_lent c.args.self.now i None) (Publish i))) (c.if-published.self ≡ with_lent c.args.self.now i None)) (sym not_yet)
           (w.self-is
-          ∙ unpublished_is s.world g.B.Naming.openings s.desks.items i c.index_mut.result.now c.args.ticket (at_desk g b) (out g b) (list g b) c.in_ok-take_back.ensures.kept c.self.invariant.2 c.self.invariant.1
+          ∙ unpublished_is s.world g.B.FabricName.openings s.desks.items i c.index_mut.result.now c.args.ticket (at_desk g b) (out g b) (list g b) c.in_ok-take_back.ensures.kept c.self.invariant.2 c.self.invariant.1
           s.network s.journal.items (vec_capacity s.journal) c.self.invariant.0 not_yet (set s.desks.items c.from-place.result c.take_back.new.self) (left g b)
           ∙ ap (λ (f : Fabric). with_lent f i None) c.self.view_is)
     ]
@@ -242,6 +234,6 @@ pub returns-in_err-take_back-clause-same : goal.returns-in_err-take_back-clause-
 returns-in_err-take_back-clause-same g c =
     let s = c.self.inside in
     gave_up c.from_residual.result
-    (ap (λ ds. fabric_of s.network s.journal.items s.world (shown_images g.B.Naming.openings (writings ds)) (all_lent ds))
+    (ap (λ ds. fabric_seen g.B.FabricName.openings s.network s.journal.items s.world ds)
     (ap (set s.desks.items c.from-place.result) (c.in_err-take_back.ensures.same ∙ c.index_mut.ensures.value) ∙ set_again s.desks.items c.from-place.result c.index_mut.result.now)
     ∙ c.self.view_is)

@@ -1,8 +1,5 @@
-use Rattle.std.proofs.Common.{◌≡◌, ◌∙◌, ◌≤◌, Some, length, refl, ap, sym, subst, arith}
-use Rattle.std.specs.Prelude.{IfSome, is_some, option_map, slice_get}
-use Rattle.std.proofs.lemmas.Option.{slice_get-map, slice_get_read}
-use Rattle.std.proofs.lemmas.Bool.{false≢true}
-use Rattle.network_model.specs.World.{Router}
+use Rattle.std.proofs.Common.{◌≡◌, ◌∙◌, ◌≤◌, Some, length, refl, ap, sym, subst, arith, IfSome, is_some, option_map, slice_get}
+use Rattle.packet_loops.proofs.Common.{slice_get-map, slice_get_read, false≢true, Router}
 use Rattle.publication.specs.Lists.{Writing, image_of}
 use Rattle.publication.specs.declared.known.Known.{Known}
 use Rattle.publication.proofs.Places.{each_there}
@@ -27,9 +24,9 @@ there g c =
 pub returns-clause-in_force : goal.returns-clause-in_force
 returns-clause-in_force g c =
     ap (λ (f : Fabric). slice_get f.images c.args.router) (sym c.self.view_is)
-    ∙ slice_get-map (λ (x : Writing). image_of g.B.Naming.openings x.published) (writings c.self.inside.desks.items) c.args.router
-    ∙ ap (option_map (λ (x : Writing). image_of g.B.Naming.openings x.published)) (there g c)
-    ∙ ap (λ t. Some (image_of g.B.Naming.openings t)) (sym c.told.ensures.told)
+    ∙ slice_get-map (λ (x : Writing). image_of g.B.FabricName.openings x.published) (writings c.self.inside.desks.items) c.args.router
+    ∙ ap (option_map (λ (x : Writing). image_of g.B.FabricName.openings x.published)) (there g c)
+    ∙ ap (λ t. Some (image_of g.B.FabricName.openings t)) (sym c.told.ensures.told)
 
 pub returns-clause-router : goal.returns-clause-router
 returns-clause-router g c =
@@ -40,14 +37,14 @@ pub returns-clause-last : goal.returns-clause-last
 returns-clause-last g c =
     let told = c.told.result in
     subst (λ (f : Fabric). IfSome (slice_get f.world.routers c.args.router) (λ (r : Router). length told.publications ≡ r.generation)) c.self.view_is
-    (list_is_last g.B.Naming.openings c.self.inside.world (writings c.self.inside.desks.items) c.self.invariant.0.in_force c.args.router c.in_ok-desk.desk.now.writing (there g c) told c.told.ensures.told c.told.ensures.count)
+    (list_is_last g.B.FabricName.openings c.self.inside.world (writings c.self.inside.desks.items) c.self.invariant.0.in_force c.args.router c.in_ok-desk.desk.now.writing (there g c) told c.told.ensures.told c.told.ensures.count)
 
 pub returns-in_err-desk-clause-known : goal.returns-in_err-desk-clause-known
 returns-in_err-desk-clause-known g c =
     let s = c.self.inside in
     let read = c.in_err-desk.ensures.lookup in
     let same = ap length c.deref.ensures.value in
-    let count = desk_count s.world g.B.Naming.openings s.desks.items c.self.invariant.0.in_force in
+    let count = desk_count s.world g.B.FabricName.openings s.desks.items c.self.invariant.0.in_force in
     let world = ap (λ (f : Fabric). length f.world.routers) c.self.view_is in
     let past : length c.args.self.now.world.routers ≤ c.args.router = omega (arith, read, c.from.ensures, same, count, world) in (
       λ some. absurd (false≢true (ap is_some (sym c.from_residual.ensures) ∙ some)),
@@ -59,6 +56,6 @@ returns-clause-known g c =
     let s = c.self.inside in
     let below = c.in_ok-desk.ensures.lookup.3.0 in
     let same = ap length c.deref.ensures.value in
-    let count = desk_count s.world g.B.Naming.openings s.desks.items c.self.invariant.0.in_force in
+    let count = desk_count s.world g.B.FabricName.openings s.desks.items c.self.invariant.0.in_force in
     let world = ap (λ (f : Fabric). length f.world.routers) c.self.view_is in
     (λ _. omega (arith, below, c.from.ensures, same, count, world), λ _. refl)

@@ -1,5 +1,5 @@
 -- `into_box` makes the box again where the handle holds an image. An empty handle owns nothing.
-use Rattle.std.proofs.Common.{◌≡◌, Bool, List, [], ◌∷◌, refl, sym, ap, ◌∙◌, lit<}
+use Rattle.std.proofs.Common.{◌≡◌, Bool, List, [], ◌∷◌, refl, sym, ap, ◌∙◌, lit<, None, Some}
 use mir.Syntax.{Body, w8, place, copy, int, rv_opd, aggregate, assign, seq}
 use mir.Val.{Val, vcons, vnil}
 use base.Logic.{emp, id⊢}
@@ -28,7 +28,6 @@ use Rattle.std.proofs.raw_atomic.Walks.{proved}
 use Rattle.core.proofs.atomic.Steps.{Ptr-Good}
 use Rattle.core.proofs.cell.Inside.{Good}
 use Rattle.core.proofs.option.Made.{Some-of, none_of}
-use Rattle.core.specs.declared.option.Option.TheVariants.{None, Some}
 use Rattle.std_alloc.proofs.ResultValues.{and_tt}
 use Rattle.std_alloc.specs.contracts.boxed.Box.from_raw as g
 use Rattle.std_alloc.proofs.boxed.Box.from_raw.Met.{met}

@@ -1,5 +1,4 @@
-use Rattle.std.proofs.Common.{◌+◌, ◌-◌, is_some, ap, arith, ◌∙◌}
-use Rattle.std.specs.Prelude.{is_ok, vec_len, if◌then◌else◌}
+use Rattle.std.proofs.Common.{◌+◌, ◌-◌, is_some, ap, arith, ◌∙◌, is_ok, vec_len, if◌then◌else◌}
 use Rattle.node_pool.specs.Cell.{value_of, link_of}
 use Rattle.node_pool.specs.FreeLists.{list_at}
 use Rattle.node_pool.specs.declared.cells.Cell.TheVariants.{Used}

@@ -5,7 +5,7 @@ use Rattle.publication.proofs.Ruling.{stays_on}
 use Rattle.publication.proofs.reader.ImageReader.lookup_held.Goals as goal
 
 pub enter_as-requires : goal.enter_as-requires
-enter_as-requires g c x = stays_on g.B.Naming.openings _ _ x.image x.told
+enter_as-requires g c x = stays_on g.B.FabricName.openings _ _ x.image x.told
 
 pub returns-then-not-goes_on-clause-later : goal.returns-then-not-goes_on-clause-later
 returns-then-not-goes_on-clause-later g c = subst (λ k. Begins k c.self.inside.told) c.self.view_is (begins_self c.self.inside.told)

@@ -1,7 +1,7 @@
 use Rattle.std.proofs.Common.{rules, ◌≡◌, ◌++◌, ◌∷◌, [], List, length, map, ap, subst, sym, ◌∙◌}
 use Rattle.image_patch.specs.declared.Patch.{Patch as PatchFields}
 use Rattle.publication.specs.declared.known.Known.{Known}
-use Rattle.publication.specs.Lists.{Writing, bundle_of, generation_of, image_of, patch_of, prefixes_of, with_publication}
+use Rattle.publication.specs.Lists.{Writing, bundle_of, generation_of, image_of, patch_of, patched_prefixes, with_publication}
 use Rattle.publication.proofs.Tables.{image-covered, numbered-more}
 use Rattle.publication.proofs.Waiting.{waits_too}
 use Rattle.publication.proofs.writer.ImageWriter.publish.Goals as goal
@@ -13,7 +13,7 @@ invariant_of-self-in_err-publish g c =
     let waiting : c.publish.new.self.waiting.items ≡ old.press.waiting.items ++ patch ∷ [] = c.in_err-publish.ensures.waiting ∙ ap (λ l. l ++ patch ∷ []) c.reserve-2.ensures.waiting in
     let told : old.press.writer.desk.shown.value.told ≡ c.publish.new.self.writer.desk.shown.value.told = sym (c.in_err-publish.ensures.same ∙ c.reserve-2.ensures.shown) in (
       c.note_prefixes.ensures ∙ (ap (λ l. l ++ map (λ r. r.0) patch.rows.items) c.in_ok-reserve.ensures.items
-          ∙ (waits_too old.press.waiting.items patch old.prefixes.items c.self.invariant.0 ∙ ap (λ l. prefixes_of (map patch_of l)) (sym waiting))),
+          ∙ (waits_too old.press.waiting.items patch old.prefixes.items c.self.invariant.0 ∙ ap (λ l. patched_prefixes (map patch_of l)) (sym waiting))),
       subst (λ (k : Known). length k.publications ≡ generation_of k) told c.self.invariant.1,
     )
 
@@ -38,4 +38,4 @@ pub returns-clause-image : goal.returns-clause-image
 returns-clause-image g c =
     let writing = c.args.self.now in
     let list = list_more _ _ _ _ _ c.args.patch writing c.in_ok-publish.ensures.shown c.reserve-2.ensures.shown c.reserve-2.ensures.waiting c.self.view_is in
-    ap (image_of g.B.Naming.openings) list ∙ image-covered g.B.Naming.openings writing.published writing.waiting (patch_of c.args.patch) c.requires.covers
+    ap (image_of g.B.FabricName.openings) list ∙ image-covered g.B.FabricName.openings writing.published writing.waiting (patch_of c.args.patch) c.requires.covers

@@ -1,16 +1,10 @@
 use Rattle.std.proofs.Common.{◌≡◌, ℕ, Some, sym, ap, subst, ◌∙◌, arith, ◌-◌, drop, map, List}
-use Rattle.std.specs.FinMap.{put, is_sorted}
-use Rattle.std.specs.List.{AllByRecursion}
-use Rattle.network_model.specs.Step.{chosen_rows}
-use Rattle.ipv4_prefix.specs.Prefix.{Prefix, prefix_cmp}
+use Rattle.network_model.proofs.Common.{put, is_sorted, AllByRecursion, chosen_rows, Prefix, prefix_cmp, Machine, opening_machine, Router, Table, Gate, neighbours, rows_of, opening_router, sorted-map, sorted-rows_of}
 use Rattle.network_model.specs.declared.network.Port.{Port}
 use Rattle.network_model.specs.declared.route.Entry.{Entry}
 use Rattle.network_model.specs.declared.route.Entry.TheVariants.{Local}
-use Rattle.network_model.specs.Machine.{Machine, opening_machine}
-use Rattle.network_model.specs.World.{Router, Table, Gate, neighbours, rows_of, opening_router}
 use Rattle.dual_machine.specs.State.{opening_neighbours}
-use Rattle.router_core.specs.Parts.{machines_of, HasPorts, IsKept}
-use Rattle.network_model.proofs.RowLaws.{sorted-map, sorted-rows_of}
+use Rattle.router_core.specs.Parts.{machines_of, HasPorts, IsRouter}
 use Rattle.router_core.proofs.Kept.{kept-opening}
 use Rattle.router_core.proofs.Opening.{neighbours-infos, rows_of-earlier, opening_machines, local_rows, opening_machines-put, local_rows-put, sorted-machines, machines_of-put}
 use Rattle.router_core.proofs.router.Router.new.Goals as goal
@@ -44,7 +38,7 @@ pub invariant_of-result : goal.invariant_of-result
 invariant_of-result g c =
     let ports = c.args.ports.items in
     let costs = rows_of c.args.attachments.now in
-    let kept : IsKept (opening_router ports costs) = kept-opening ports costs c.requires (sorted-rows_of c.args.attachments.now) in
+    let kept : IsRouter (opening_router ports costs) = kept-opening ports costs c.requires (sorted-rows_of c.args.attachments.now) in
     let over : c.loop-i.i ≡ 0 = omega arith in
     let machines : machines_of c.loop-i.machines.items ≡ opening_machines ports costs = c.loop-i.invariant.machines ∙ ap (λ n. opening_machines ports (rows_of (drop n c.args.attachments.now))) over in
     let control : c.loop-i.table.table.control ≡ local_rows costs = c.loop-i.invariant.control ∙ ap (λ n. local_rows (rows_of (drop n c.args.attachments.now))) over in

@@ -1,21 +1,15 @@
-use Rattle.std.proofs.Common.{◌≡◌, ◌+◌, ◌≤◌, ◌++◌, true, None, length, set, List, Ok, Err, Some, sym, ap, subst, ◌∙◌, arith, refl, false, Bool}
-use Rattle.std.proofs.lemmas.Bool.Decides.{nat_tests}
-use Rattle.std.specs.Prelude.{◌||◌, nat_lt, map, is_some}
+use Rattle.std.proofs.Common.{◌≡◌, ◌+◌, ◌≤◌, ◌++◌, true, None, length, set, List, Ok, Err, Some, sym, ap, subst, ◌∙◌, arith, refl, false, Bool, ◌||◌, nat_lt, map, is_some}
+use Rattle.network_model.proofs.Common.{nat_tests, Prefix, prefix_cmp, reaction, opening_machine, Router, machine_of, neighbours, router_meeting, entry_of, held_of, sorted-map}
 use Rattle.std.specs.List.{insert}
 use Rattle.std.specs.FinMap.{find as row_of, put, is_sorted}
-use Rattle.ipv4_prefix.specs.Prefix.{Prefix, prefix_cmp}
 use Rattle.network_model.specs.declared.network.Port.{Port}
-use Rattle.network_model.specs.Machine.{reaction, opening_machine}
-use Rattle.network_model.specs.World.{Router, machine_of, neighbours}
-use Rattle.network_model.specs.Step.{router_meeting, entry_of, held_of}
-use Rattle.dual_machine.specs.State.{State}
-use Rattle.dual_machine.specs.Event.{IsKnown}
+use Rattle.dual_machine.specs.State.{MachineState}
+use Rattle.dual_machine.specs.Event.{IsKnown, IsTimely}
 use Rattle.dual_machine.specs.Outbox.{most_sent}
 use Rattle.route_table.specs.Place.{IsPlace}
-use Rattle.network_model.proofs.RowLaws.{sorted-map}
 use Rattle.route_table.proofs.PrefixPlaces.{found_row, written_row, missed_row, new_row}
-use Rattle.router_core.specs.Parts.{machines_of, router_of, ups, port_ups, ups_after, IsKept}
-use Rattle.router_core.specs.Router.{IsTimelyAt}
+use Rattle.router_core.specs.Parts.{machines_of, router_of, ups, port_ups, ups_after, IsRouter}
+use Rattle.router_core.specs.Router.{is_port_up}
 use Rattle.router_core.proofs.Refused.{gave_up}
 use Rattle.router_core.proofs.Ports.{ups-neighbours}
 use Rattle.router_core.proofs.Kept.{kept-meeting}
@@ -30,10 +24,10 @@ place_of-requires g c = ap (is_sorted prefix_cmp) c.deref.ensures.value ∙ sym 
 -- ---- a prefix that was heard of
 
 module _ (g : given.Over) (c : goal.After-deref-in-Ok g) where
-  abbrev items : List (Prefix × State)
+  abbrev items : List (Prefix × MachineState)
   items = c.self.inside.machines.items
 
-  abbrev row : Prefix × State
+  abbrev row : Prefix × MachineState
   row = c.index_mut-row.result.now
 
   place : IsPlace c.args.prefix items (Ok c.in-Ok.place)
@@ -46,7 +40,7 @@ module _ (g : given.Over) (c : goal.After-deref-in-Ok g) where
   there = found_row items c.in-Ok.place c.args.prefix row sorted place c.index_mut-row.ensures.value
 
   same_ports : ups (row.1).machine.ports ≡ port_ups c.self.inside.ports.items
-  same_ports = subst (λ (m : Prefix × State). ups (m.1).machine.ports ≡ port_ups c.self.inside.ports.items) (sym c.index_mut-row.ensures.value)
+  same_ports = subst (λ (m : Prefix × MachineState). ups (m.1).machine.ports ≡ port_ups c.self.inside.ports.items) (sym c.index_mut-row.ensures.value)
       (has_ports_at c.self.inside.ports.items items c.self.invariant.same_ports c.in-Ok.place row place.0)
 
 pub meet-requires-clause-known : goal.meet-requires-clause-known
@@ -55,7 +49,7 @@ meet-requires-clause-known g c =
 
 pub meet-requires-clause-timely : goal.meet-requires-clause-timely
 meet-requires-clause-timely g c =
-    timely_over ((row g c).1).machine.ports c.self.inside.ports.items c.args.event.now (same_ports g c) (subst (λ (r : Router). IsTimelyAt r.ports c.args.event.now) (sym c.self.view_is) c.requires.timely)
+    timely_over ((row g c).1).machine.ports c.self.inside.ports.items c.args.event.now (same_ports g c) (subst (λ (r : Router). IsTimely (is_port_up r.ports) c.args.event.now) (sym c.self.view_is) c.requires.timely)
 
 pub meet-requires-clause-room : goal.meet-requires-clause-room
 meet-requires-clause-room g c =
@@ -107,7 +101,7 @@ module _ (g : given.Over) (c : goal.After-self-1 g) where
   still = subst (λ (r : Router). ups_after c.args.event.now (port_ups r.ports) ≡ port_ups r.ports) (sym c.self.view_is) c.requires.still
 
 pub invariant_of-self-in-Ok : goal.invariant_of-self-in-Ok
-invariant_of-self-in-Ok g c = subst IsKept (sym (told g c)) (kept-meeting c.args.prefix c.args.event.now (before g c) c.self.invariant (still g c))
+invariant_of-self-in-Ok g c = subst IsRouter (sym (told g c)) (kept-meeting c.args.prefix c.args.event.now (before g c) c.self.invariant (still g c))
 
 pub returns-in_ok-reserve-in-Ok-clause-ok : goal.returns-in_ok-reserve-in-Ok-clause-ok
 returns-in_ok-reserve-in-Ok-clause-ok g c = told g c ∙ ap (router_meeting c.args.prefix c.args.event.now) c.self.view_is
@@ -136,7 +130,7 @@ module _ (g : given.Over) (c : goal.After-unwrap g) where
   machines_more : machines_of c.insert.new.self.items ≡ put prefix_cmp c.args.prefix c.meet-in-Err.new.machine.machine (machines_of c.self.inside.machines.items)
   machines_more =
       ap machines_of (rw c.unwrap.ensures at c.insert.ensures.items
-      ∙ ap (λ (xs : List (Prefix × State)). insert xs c.in-Err.place (c.args.prefix, c.meet-in-Err.new.machine)) c.reserve-in-Err.ensures.items
+      ∙ ap (λ (xs : List (Prefix × MachineState)). insert xs c.in-Err.place (c.args.prefix, c.meet-in-Err.new.machine)) c.reserve-in-Err.ensures.items
       ∙ new_row c.self.inside.machines.items c.in-Err.place c.args.prefix c.meet-in-Err.new.machine gap)
       ∙ machines_of-put c.args.prefix c.meet-in-Err.new.machine c.self.inside.machines.items
 
@@ -160,7 +154,7 @@ module _ (g : given.Over) (c : goal.After-unwrap g) where
   still_first = subst (λ (r : Router). ups_after c.args.event.now (port_ups r.ports) ≡ port_ups r.ports) (sym c.self.view_is) c.requires.still
 
 pub invariant_of-self-in-Err : goal.invariant_of-self-in-Err
-invariant_of-self-in-Err g c = subst IsKept (sym (told_first g c)) (kept-meeting c.args.prefix c.args.event.now (unheard g c) c.self.invariant (still_first g c))
+invariant_of-self-in-Err g c = subst IsRouter (sym (told_first g c)) (kept-meeting c.args.prefix c.args.event.now (unheard g c) c.self.invariant (still_first g c))
 
 pub returns-in_ok-reserve-in-Err-3-clause-ok : goal.returns-in_ok-reserve-in-Err-3-clause-ok
 returns-in_ok-reserve-in-Err-3-clause-ok g c = told_first g c ∙ ap (router_meeting c.args.prefix c.args.event.now) c.self.view_is
@@ -171,13 +165,13 @@ pub returns-in_err-reserve-in-Err-clause-err : goal.returns-in_err-reserve-in-Er
 returns-in_err-reserve-in-Err-clause-err g c =
     let i = c.self.inside in
     gave_up c.from_residual-in_err-reserve-in-Err.result
-    (ap (λ (ms : List (Prefix × State)). router_of i.ports.items ms i.effects.table.table i.effects.gate.gate i.generation) c.reserve-in-Err.ensures.items ∙ c.self.view_is)
+    (ap (λ (ms : List (Prefix × MachineState)). router_of i.ports.items ms i.effects.table.table i.effects.gate.gate i.generation) c.reserve-in-Err.ensures.items ∙ c.self.view_is)
 
 pub returns-in_err-reserve-in-Err-2-clause-err : goal.returns-in_err-reserve-in-Err-2-clause-err
 returns-in_err-reserve-in-Err-2-clause-err g c =
     let i = c.self.inside in
     gave_up c.from_residual-in_err-reserve-in-Err-2.result
-    (ap (λ (ms : List (Prefix × State)). router_of i.ports.items ms c.reserve-in-Err-2.new.self.table i.effects.gate.gate i.generation) c.reserve-in-Err.ensures.items
+    (ap (λ (ms : List (Prefix × MachineState)). router_of i.ports.items ms c.reserve-in-Err-2.new.self.table i.effects.gate.gate i.generation) c.reserve-in-Err.ensures.items
     ∙ ap (λ t. router_of i.ports.items i.machines.items t i.effects.gate.gate i.generation) c.reserve-in-Err-2.ensures.table
     ∙ c.self.view_is)
 
@@ -186,7 +180,7 @@ returns-in_err-reserve-in-Err-3-clause-err g c =
     let i = c.self.inside in
     let e = c.reserve-in-Err-3.new.self in
     gave_up c.from_residual-in_err-reserve-in-Err-3.result
-    (ap (λ (ms : List (Prefix × State)). router_of i.ports.items ms e.table.table e.gate.gate i.generation) c.reserve-in-Err.ensures.items
+    (ap (λ (ms : List (Prefix × MachineState)). router_of i.ports.items ms e.table.table e.gate.gate i.generation) c.reserve-in-Err.ensures.items
     ∙ ap (λ t. router_of i.ports.items i.machines.items t.table e.gate.gate i.generation) c.reserve-in-Err-3.ensures.table
     ∙ ap (λ t. router_of i.ports.items i.machines.items t e.gate.gate i.generation) c.reserve-in-Err-2.ensures.table
     ∙ ap (λ gate. router_of i.ports.items i.machines.items i.effects.table.table gate i.generation) c.reserve-in-Err-3.ensures.gate

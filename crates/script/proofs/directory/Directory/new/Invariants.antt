@@ -1,6 +1,5 @@
 use Rattle.std.proofs.Common.{◌≡◌, map}
-use Rattle.std.specs.List.{range_with_len}
-use Rattle.script.specs.Directories.{neighbours_of}
+use Rattle.script.proofs.Common.{range_with_len, neighbours_of}
 use Rattle.script.proofs.directory.Directory.new.Given as goal
 
 abbrev pub invariant-loop-router : goal.invariant-loop-router

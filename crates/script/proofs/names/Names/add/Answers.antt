@@ -1,7 +1,5 @@
-use Rattle.std.proofs.Common.{◌≡◌, ◌++◌, [], ◌∷◌, None, map, string_bytes, length, min, inl, inr, sym, ap, ◌∙◌}
-use Rattle.std.proofs.lemmas.Bool.{true≢false}
-use Rattle.std.proofs.lemmas.List.{map_push}
-use Rattle.script.specs.Routers.{number_of, no_router}
+use Rattle.std.proofs.Common.{◌≡◌, ◌++◌, [], ◌∷◌, None, map, string_bytes, length, min, inl, inr, sym, ap, ◌∙◌, true≢false}
+use Rattle.script.proofs.Common.{map_push, router_number, no_router}
 use Rattle.script.proofs.NameNumbers.{given_before, not_given, not_among, FindsNames-push}
 use Rattle.script.proofs.names.Names.add.Goals as goal
 use Rattle.script.proofs.names.Names.add.Goals.{then-not-is_name-via-then-not-is_name, then-not-is_name-via-else-not-is_name+then-is_some}
@@ -20,13 +18,13 @@ new_names c =
     ∙ map_push string_bytes c.self.inside.names.items c.in_ok-name.name
     ∙ ap (λ t. map string_bytes c.self.inside.names.items ++ t ∷ []) c.in_ok-name.ensures.ok
 
-absent : (c : goal.After-unwrap) → number_of c.args.self.now c.args.name.now ≡ None
+absent : (c : goal.After-unwrap) → router_number c.args.self.now c.args.name.now ≡ None
 absent c = not_given c.args.self.now c.args.name.now c.number.result c.number.ensures.value (sym c.is_some.ensures ∙ c.if-is_some.false)
 
 pub invariant_of-self-2 : goal.invariant_of-self-2
 invariant_of-self-2 c =
     rw (new_names c) (FindsNames-push (map string_bytes c.self.inside.names.items) c.args.name.now c.in_ok-key.key c.self.inside.numbers c.insert.new.self c.count-count.result
-    c.self.invariant (c.is_name.ensures.0 c.if-not-is_name.false) (ap (λ ns. number_of ns c.args.name.now) c.self.view_is ∙ absent c) c.in_ok-key.ensures.ok
+    c.self.invariant (c.is_name.ensures.0 c.if-not-is_name.false) (ap (λ ns. router_number ns c.args.name.now) c.self.view_is ∙ absent c) c.in_ok-key.ensures.ok
     (c.count-count.ensures ∙ ap (λ ns. min no_router (length ns)) (sym c.self.view_is)) c.in_ok-insert.ensures.updates)
 
 pub returns-clause-ok : goal.returns-clause-ok

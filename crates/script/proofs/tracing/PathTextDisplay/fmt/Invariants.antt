@@ -1,6 +1,5 @@
 use Rattle.std.proofs.Common.{take}
-use Rattle.std.specs.Fmt.{HasWritten, IsPlainFormatter}
-use Rattle.script.specs.Directories.{path_text}
+use Rattle.script.proofs.Common.{HasWritten, IsPlainFormatter, path_text}
 use Rattle.script.proofs.tracing.PathTextDisplay.fmt.Given as goal
 
 abbrev pub invariant-loop-router : goal.invariant-loop-router

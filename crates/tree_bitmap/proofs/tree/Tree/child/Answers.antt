@@ -1,6 +1,6 @@
 use Rattle.std.proofs.Common.{inr, ap, Some, arith, subst, ◌∙◌, sym}
 use Rattle.node_pool.specs.Pool.{cell}
-use Rattle.tree_bitmap.specs.Tree.{IsSound}
+use Rattle.tree_bitmap.specs.Tree.{IsLaidOut}
 use Rattle.tree_bitmap.proofs.Ranks.{rank_le}
 use Rattle.tree_bitmap.proofs.Paths.{node_used}
 use Rattle.tree_bitmap.proofs.Calls.{few_from, child_place_after, child_used, same_cells, made_sound, made_rows, made_place, made_blank, blank_count, on_err_from}
@@ -32,7 +32,7 @@ grow-requires-clause-few g c =
 
 pub returns-in_err-base-clause-sound : goal.returns-in_err-base-clause-sound
 returns-in_err-base-clause-sound g c =
-    subst (λ n. IsSound n (cell c.args.self.now.pool.results)) (sym (same_cells (cell c.args.self.now.pool.nodes) (cell c.grow.new.self) c.in_err-base.ensures.err.values)) c.requires.sound
+    subst (λ n. IsLaidOut n (cell c.args.self.now.pool.results)) (sym (same_cells (cell c.args.self.now.pool.nodes) (cell c.grow.new.self) c.in_err-base.ensures.err.values)) c.requires.sound
 
 pub returns-clause-sound : goal.returns-clause-sound
 returns-clause-sound g c =

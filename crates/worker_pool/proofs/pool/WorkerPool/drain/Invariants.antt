@@ -1,5 +1,4 @@
-use Rattle.std.proofs.Common.{◌≡◌, ◌+◌, ◌≤◌, vec_len, vec_capacity}
-use Rattle.std.specs.Prelude.{IfErr}
+use Rattle.std.proofs.Common.{◌≡◌, ◌+◌, ◌≤◌, vec_len, vec_capacity, IfErr}
 use Rattle.worker_pool.specs.Faults.{IsWorkFault}
 use Rattle.worker_pool.proofs.pool.WorkerPool.drain.Given as goal
 

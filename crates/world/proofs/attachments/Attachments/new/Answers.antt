@@ -1,7 +1,5 @@
 use Rattle.std.proofs.Common.{◌≡◌, ℕ, List, ◌<◌, ◌≤◌, ◌-◌, drop, get_or, length, sym, ap, subst, ◌∙◌, arith}
-use Rattle.std.specs.FinMap.{put}
-use Rattle.ipv4_prefix.specs.Prefix.{Prefix, prefix_cmp}
-use Rattle.network_model.specs.World.{rows_of}
+use Rattle.packet_loops.proofs.Common.{put, Prefix, prefix_cmp, rows_of}
 use Rattle.route_table.specs.PrefixMap.{map_rows}
 use Rattle.router_core.proofs.Opening.{rows_of-earlier}
 use Rattle.world.proofs.Prefixes.{few_rows_after}

@@ -1,5 +1,4 @@
-use Rattle.std.proofs.Common.{sym, subst}
-use Rattle.std.specs.Prelude.{◌≤◌, length}
+use Rattle.std.proofs.Common.{sym, subst, ◌≤◌, length}
 use Rattle.world.specs.Parts.{network_of}
 use Rattle.world.proofs.Degrees.{few_links}
 use Rattle.world.proofs.network.Network.links.Goals as goal

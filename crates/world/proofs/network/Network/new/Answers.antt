@@ -1,10 +1,5 @@
-use Rattle.std.proofs.Common.{◌≡◌, true, false, [], length, Some, None, Option, Err, Result, refl, sym, ap, subst, ◌∙◌, arith}
-use Rattle.std.specs.Prelude.{All, MatchOption, IsOk}
-use Rattle.std.proofs.lemmas.Result.{err_from_is_err_and}
-use Rattle.ipv4_prefix.specs.Prefix.{IsPrefix}
-use Rattle.metric.specs.Distance.{IsCost}
-use Rattle.network_model.specs.World.{prefixes_of}
-use Rattle.network_model.specs.Network.{HasCosts, first_cause, link_causes, attachment_causes}
+use Rattle.std.proofs.Common.{◌≡◌, true, false, [], length, Some, None, Option, Err, Result, refl, sym, ap, subst, ◌∙◌, arith, All, MatchOption, IsOk}
+use Rattle.packet_loops.proofs.Common.{err_from_is_err_and, IsPrefix, IsCost, prefixes_of, HasCosts, first_cause, link_causes, attachment_causes}
 use Rattle.world.proofs.Done.{no_cause, only_cause}
 use Rattle.world.proofs.Faults.{fault_of_link, fault_of_attachments}
 use Rattle.world.proofs.network.Network.new.Goals as goal

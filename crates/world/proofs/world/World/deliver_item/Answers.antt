@@ -1,13 +1,9 @@
-use Rattle.std.proofs.Common.{◌≡◌, Some, Ok, refl, sym, ap, subst, ◌∙◌, set, false, slice_get}
-use Rattle.std.specs.Prelude.{option_map}
-use Rattle.std.specs.Result.{result_err}
-use Rattle.std.proofs.lemmas.Option.{slice_get_within}
-use Rattle.network_model.specs.declared.step.Step.TheVariants.{Deliver}
-use Rattle.network_model.specs.World.{World}
+use Rattle.std.proofs.Common.{◌≡◌, Some, Ok, refl, sym, ap, subst, ◌∙◌, set, false, slice_get, option_map}
+use Rattle.packet_loops.proofs.Common.{result_err, slice_get_within, Deliver, World}
 use Rattle.network_model.specs.Step as steps
 use Rattle.link_fifo.specs.Refusals.{step_refusal}
 use Rattle.link_fifo.proofs.Changes.{written, slice_get-read}
-use Rattle.world.specs.Kept.{IsKept}
+use Rattle.world.specs.Kept.{IsWorld}
 use Rattle.world.specs.Steps.{IsDoneOr, IsPort}
 use Rattle.router_core.proofs.Refused.{gave_up}
 use Rattle.world.proofs.Insides.{world_in}
@@ -59,7 +55,7 @@ still g c =
     (written_back c.self.inside.routers.items c.from.result c.index_mut-taker.ensures.value c.in_err-accept.ensures.err)
 
 pub invariant_of-self : goal.invariant_of-self
-invariant_of-self g c = subst IsKept (sym (still g c)) c.self.invariant
+invariant_of-self g c = subst IsWorld (sym (still g c)) c.self.invariant
 
 pub returns-in_err-accept-clause-err : goal.returns-in_err-accept-clause-err
 returns-in_err-accept-clause-err g c = gave_up c.from_residual-in_err-accept.result (still g c ∙ c.self.view_is)

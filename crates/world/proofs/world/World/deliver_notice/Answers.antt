@@ -1,10 +1,8 @@
 use Rattle.std.proofs.Common.{◌≡◌, true, Ok, Err, refl, sym, ap, subst, ◌∙◌, set}
-use Rattle.network_model.specs.declared.step.Step.TheVariants.{Deliver}
-use Rattle.network_model.specs.declared.step.Refusal.{Refusal}
-use Rattle.network_model.specs.World.{World}
+use Rattle.packet_loops.proofs.Common.{Deliver, Refusal, World}
 use Rattle.network_model.specs.Step as steps
 use Rattle.link_fifo.proofs.Changes.{written, slice_get-read}
-use Rattle.world.specs.Kept.{IsKept}
+use Rattle.world.specs.Kept.{IsWorld}
 use Rattle.world.specs.Steps.{IsDoneOr}
 use Rattle.router_core.proofs.Refused.{gave_up}
 use Rattle.world.proofs.Insides.{world_in}
@@ -52,7 +50,7 @@ still g c =
     (written_back c.self.inside.routers.items c.from-number.result c.index_mut.ensures.value c.in_err-notice.ensures.err)
 
 pub invariant_of-self : goal.invariant_of-self
-invariant_of-self g c = subst IsKept (sym (still g c)) c.self.invariant
+invariant_of-self g c = subst IsWorld (sym (still g c)) c.self.invariant
 
 pub returns-in_err-notice-clause-err : goal.returns-in_err-notice-clause-err
 returns-in_err-notice-clause-err g c = gave_up c.from_residual.result (still g c ∙ c.self.view_is)

@@ -1,7 +1,6 @@
 use Rattle.std.proofs.Common.{subst, Ok}
 use Rattle.network_model.specs.declared.step.Step.TheVariants.{LinkDown}
-use Rattle.network_model.specs.World.{World}
-use Rattle.network_model.specs.Step.{refusal}
+use Rattle.packet_loops.proofs.Common.{World, refusal}
 use Rattle.link_fifo.specs.Refusals.{refusal_to_change}
 use Rattle.world.specs.Steps.{IsDoneOr}
 use Rattle.world.proofs.Insides.{world_in}

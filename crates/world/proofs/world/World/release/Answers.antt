@@ -1,13 +1,7 @@
-use Rattle.std.proofs.Common.{◌≡◌, ◌<◌, false, Some, Ok, slice_get, get_or, length, refl, sym, ap, subst, ◌∙◌, set}
-use Rattle.std.specs.Prelude.{option_and_then, IsErrAnd}
+use Rattle.std.proofs.Common.{◌≡◌, ◌<◌, false, Some, Ok, slice_get, get_or, length, refl, sym, ap, subst, ◌∙◌, set, option_and_then, IsErrAnd, true≢false}
 use Rattle.std.specs.declared.vec.Vec.{Vec}
-use Rattle.std.proofs.lemmas.Bool.{true≢false}
-use Rattle.std.proofs.lemmas.Option.{slice_get_within}
-use Rattle.network_model.specs.declared.step.Step.TheVariants.{Release}
-use Rattle.network_model.specs.Machine.{changed_at}
-use Rattle.network_model.specs.World.{Router, World, place_at}
+use Rattle.packet_loops.proofs.Common.{slice_get_within, Release, changed_at, Router, World, place_at, None_not_Some, Some_injective}
 use Rattle.network_model.specs.Step as steps
-use Rattle.network_model.proofs.ListLaws.{None_not_Some, Some_injective}
 use Rattle.link_fifo.specs.declared.refusal.LinkRefusal.{LinkRefusal}
 use Rattle.link_fifo.specs.Refusals.{step_refusal}
 use Rattle.link_fifo.proofs.Changes.{written, slice_get-read}

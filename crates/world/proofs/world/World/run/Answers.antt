@@ -1,11 +1,8 @@
-use Rattle.std.specs.Prelude.{⊤}
+use Rattle.packet_loops.proofs.Common.{⊤, get_or_from_slice_get, Lawful, next, refusal, Runs}
 use Rattle.std.proofs.Common.{◌≡◌, Some, suc, ◌+◌, ◌-◌, ◌++◌, [], ◌∷◌, take, length, sym, ap, subst, ◌∙◌, arith, add-one}
 use Rattle.std.proofs.Math.Seq.{take-suc}
-use Rattle.std.proofs.lemmas.Option.{get_or_from_slice_get}
 use Rattle.network_model.specs.declared.step.Step.{Step}
 use Rattle.network_model.specs.declared.step.Step.TheVariants.{Publish}
-use Rattle.network_model.specs.Step.{Lawful, next, refusal}
-use Rattle.network_model.specs.Run.{Runs}
 use Rattle.world.specs.Steps.{HasRoomForSteps}
 use Rattle.world.proofs.Runs.{with_last_step, next-room, less_room}
 use Rattle.world.proofs.Done.{only_cause}

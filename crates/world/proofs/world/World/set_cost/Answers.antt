@@ -1,8 +1,6 @@
 use Rattle.std.proofs.Common.{sym, subst, Ok}
-use Rattle.metric.specs.Distance.{IsCost}
+use Rattle.packet_loops.proofs.Common.{IsCost, World, refusal}
 use Rattle.network_model.specs.declared.step.Step.TheVariants.{SetCost}
-use Rattle.network_model.specs.World.{World}
-use Rattle.network_model.specs.Step.{refusal}
 use Rattle.link_fifo.specs.Refusals.{refusal_to_change}
 use Rattle.world.specs.Steps.{IsPort, IsDoneOr}
 use Rattle.world.proofs.Insides.{world_in}

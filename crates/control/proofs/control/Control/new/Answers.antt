@@ -1,0 +1,18 @@
+use Rattle.std.proofs.Common.{rules, ◌≡◌, ◌∙◌, length, arith}
+use Rattle.control.proofs.Sharing.{new_more}
+use Rattle.control.proofs.control.Control.new.Goals as goal
+
+pub loop-number-preserved : goal.loop-number-preserved
+loop-number-preserved g c =
+    let v = c.loop-number.invariant in
+    let many : length c.loop-number.all.items ≡ c.loop-number.number = search rules in (
+      omega arith,
+      omega arith,
+      omega arith,
+      omega arith,
+      omega arith,
+      search rules,
+      search rules,
+      search rules,
+      new_more c.sum-sum.result c.loop-number.all.items c.push_reserved.new.self.items c.new.result c.loop-number.number v.8 c.push_reserved.ensures.items many c.new.ensures.0 (c.new.ensures.1 ∙ v.5),
+    )

@@ -1,0 +1,10 @@
+use Rattle.std.proofs.Common.{◌<◌, arith}
+use Rattle.control.proofs.Sharing.{turn_refused}
+use Rattle.control.proofs.guarded.Guarded.turn.Goals as goal
+
+pub returns-in-Err-clause-err : goal.returns-in-Err-clause-err
+returns-in-Err-clause-err g c =
+    let begun = c.begin-done.ensures in
+    let routers = c.routers.ensures.routers in
+    let within : c.args.router < (g.N.ControlName.opened.network).routers = omega (arith, routers, c.if-router-routers.false) in
+    turn_refused g.N.ControlName.opened g.N.ControlName.asked g.N.ControlName.shares _ c.args.router _ c.begin-done.result.0 c.in-Err.refusal begun.found within c.in-Err.is begun.turn

@@ -1,6 +1,0 @@
-use Rattle.std.proofs.Common.{subst, sym}
-use Rattle.control.specs.Served.{IsServed}
-use Rattle.control.proofs.rounds.settle_together.Goals as goal
-
-pub returns-in-Err-clause-turns : goal.returns-in-Err-clause-turns
-returns-in-Err-clause-turns g c = subst (IsServed g.N.Naming.opened g.N.Naming.asked) (sym c.in-Err.ensures.object) c.requires.opened

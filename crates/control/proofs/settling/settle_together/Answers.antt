@@ -1,0 +1,6 @@
+use Rattle.std.proofs.Common.{subst, sym}
+use Rattle.control.specs.Served.{IsServed}
+use Rattle.control.proofs.settling.settle_together.Goals as goal
+
+pub returns-in-Err-clause-turns : goal.returns-in-Err-clause-turns
+returns-in-Err-clause-turns g c = subst (IsServed g.N.ControlName.opened g.N.ControlName.asked) (sym c.in-Err.ensures.object) c.requires.opened

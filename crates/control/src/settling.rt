@@ -1,0 +1,286 @@
+//! Fabrics that are settled: by one thread, and where there is much to do by several.
+
+ghost use Rattle.std.specs.Prelude.{◌≡◌, ◌<◌, ◌≤◌, ◌⊎◌, IsTrue, IfErr, OnOk, vec_len};
+ghost use Rattle.network_model.specs.Turns as turns;
+ghost use Rattle.fabric.specs.Fabric.{Fabric as FabricState};
+ghost use Rattle.control.specs.Names.{IsNamed};
+ghost use Rattle.control.specs.Served.{CanFailOutside, IsServed, IsTurnRefused, none_asked};
+ghost use Rattle.control.specs.Shares.{IsHolder, AreSameHolders};
+
+use crate::control::Control;
+use crate::crowd::Crowd;
+use crate::name::ControlName;
+use crate::pass::{MOST_TICKETS, Pass, ROWS_TO_CALL, publish_all, rows_due};
+use crate::serve::first_refusal;
+use crate::share::{Halt, Opening, Share};
+use crate::watch::Watch;
+use core::mem::replace_with;
+use fabric::Fabric;
+use network_model::{NoMemory, Refusal, Step};
+use publication::{FabricName, Ticket};
+use std::alloc::Global;
+use std::marker::Brand;
+use std::sync::Wait;
+use std::thread;
+use std::thread::Threads;
+
+// With so many rows to publish in all it is worth while to start threads.
+const ROWS_TO_START: usize = 16_384;
+
+// The fabric that is to be settled. The functions that settle it have it as a type parameter.
+trait Origin {
+    ghost use Rattle.fabric.specs.Fabric.{Fabric as FabricState};
+
+    ghost from: { FabricState };
+}
+
+impl Origin for Brand {
+    ghost use Rattle.control.specs.Served.{no_fabric};
+
+    ghost from = { no_fabric };
+}
+
+/// Lets routers take turns until nothing is left to do, or a step is refused, or there is no memory for
+/// the threads' shares. One thread takes all turns, in ascending cyclic order of the routers; while there
+/// is much to publish, up to so many do it together, and where the system gives fewer, those that it
+/// gives do all.
+pub fn settle<B, R>(
+    rt: &R,
+    alloc: Global,
+    fabric: &mut Fabric<B>,
+    threads: u8,
+) -> Result<(), Refusal>
+where
+    B: FabricName + Send + Sync,
+    R: Threads + Wait + Sync,
+    ensures turns { IsServed fabric.old none_asked fabric.new }
+    ensures settled { OnOk result (IsTrue (turns.is_settled (fabric.new).world)) }
+    ensures err { IfErr result (λ e. IsTurnRefused fabric.old none_asked e
+        ⊎ (e ≡ Refusal.NoMemory)) }
+{
+    replace_with(fabric, (rt, alloc, threads), |fabric, by| {
+        settle_moved(fabric, by)
+    })
+}
+
+// The fabric, settled by so many threads.
+fn settle_moved<B, R>(fabric: Fabric<B>, by: (&R, Global, u8)) -> (Fabric<B>, Result<(), Refusal>)
+where
+    B: FabricName + Send + Sync,
+    R: Threads + Wait + Sync,
+    ensures turns { IsServed fabric none_asked result.0 }
+    ensures settled { OnOk result.1 (IsTrue (turns.is_settled (result.0).world)) }
+    ensures err { IfErr result.1 (λ e. IsTurnRefused fabric none_asked e
+        ⊎ (e ≡ Refusal.NoMemory)) }
+{
+    let (rt, alloc, threads) = by;
+    settle_from::<B, Brand, R>(rt, alloc, fabric, threads)
+}
+
+// One thread alone, and while there is much to publish all together.
+fn settle_from<B, O, R>(
+    rt: &R,
+    alloc: Global,
+    fabric: Fabric<B>,
+    threads: u8,
+) -> (Fabric<B>, Result<(), Refusal>)
+where
+    B: FabricName + Send + Sync,
+    O: Origin,
+    R: Threads + Wait + Sync,
+    requires from { fabric ≡ O.from }
+    ensures turns { IsServed O.from none_asked result.0 }
+    ensures settled { OnOk result.1 (IsTrue (turns.is_settled (result.0).world)) }
+    ensures err { IfErr result.1 (λ e. IsTurnRefused O.from none_asked e ⊎ (e ≡ Refusal.NoMemory)) }
+{
+    let mut fabric = fabric;
+    for _ in rt.forever() {
+        let done = take_turns::<B, O, R>(rt, &mut fabric, threads > 1);
+        if done.is_err() || fabric.is_settled() {
+            return (fabric, done);
+        }
+        let opening = Opening::new(threads.max(1));
+        let (next, done) = settle_together::<B, Brand, R>(rt, alloc, opening, fabric);
+        if done.is_err() || next.is_settled() {
+            return (next, done);
+        }
+        fabric = next;
+    }
+    unreachable!()
+}
+
+// One thread takes turns until nothing is left to do, or, where others may be started, there is enough to
+// publish for them.
+fn take_turns<B, O, R>(rt: &R, fabric: &mut Fabric<B>, may_start: bool) -> Result<(), Refusal>
+where
+    B: FabricName,
+    O: Origin,
+    R: Wait,
+    requires { IsServed O.from none_asked fabric.old }
+    ensures turns { IsServed O.from none_asked fabric.new }
+    ensures err { IfErr result (IsTurnRefused O.from none_asked) }
+{
+    let mut watch = Watch::all();
+    let mut router = 0;
+    for _ in rt.forever() {
+        let Some(found) = watch.next(router) else {
+            break;
+        };
+        router = found.wrapping_add(1);
+        match fabric.next_step(found) {
+            Some(step) => {
+                if may_start && is_worth_threads(fabric, &step) {
+                    break;
+                }
+                // It tells that the step fits its number.
+                let _number = step.number();
+                watch.note(fabric, &step);
+                match fabric.step(rt, step) {
+                    Ok(()) => {}
+                    Err(refusal) => return Err(refusal),
+                }
+            }
+            None => watch.remove(found),
+        }
+    }
+    Ok(())
+}
+
+// Whether the step is a large publication, and together with it there is enough to publish for several
+// threads.
+fn is_worth_threads<B: FabricName>(fabric: &Fabric<B>, step: &Step) -> bool {
+    let Step::Publish { router } = *step else {
+        return false;
+    };
+    if rows_due(fabric, router) < ROWS_TO_CALL {
+        return false;
+    }
+    let mut rows: usize = 0;
+    for router in 0..fabric.network().routers() {
+        rows = rows.saturating_add(rows_due(fabric, router));
+    }
+    rows >= ROWS_TO_START
+}
+
+// A thread for each share, while there is much to publish.
+fn settle_together<B, N, R>(
+    rt: &R,
+    alloc: Global,
+    opening: Opening,
+    fabric: Fabric<B>,
+) -> (Fabric<B>, Result<(), Refusal>)
+where
+    B: FabricName + Send + Sync,
+    N: ControlName + Send + Sync,
+    R: Threads + Wait + Sync,
+    requires names { IsNamed opening N.high N.low N.shares }
+    requires some { 0 < opening.shares }
+    requires opened { IsServed N.opened N.asked fabric }
+    ensures turns { IsServed N.opened N.asked result.0 }
+    ensures err { IfErr result.1 (λ e. IsTurnRefused N.opened N.asked e ⊎ (e ≡ Refusal.NoMemory)) }
+{
+    match Control::<B, N>::new(alloc, opening, fabric) {
+        Ok((control, mut shares)) => {
+            let done = control.settle(rt, alloc, &mut shares);
+            (control.close(shares), done)
+        }
+        Err(fabric) => (fabric, Err(Refusal::NoMemory)),
+    }
+}
+
+impl<B: FabricName + Send + Sync, N: ControlName + Send + Sync> Control<B, N> {
+    // Where a turn is refused, each thread ends its pass, and the refusal of the lowest such thread is
+    // answered.
+    fn settle<R: Threads + Wait + Sync>(
+        &self,
+        rt: &R,
+        alloc: Global,
+        shares: &mut Vec<Share<N>>,
+    ) -> Result<(), Refusal>
+        requires some { 0 < vec_len shares.old }
+        ensures len { vec_len shares.new ≡ vec_len shares.old }
+        ensures same { AreSameHolders shares.old.items shares.new.items }
+        ensures err { IfErr result (IsTurnRefused N.opened N.asked) }
+    {
+        let threads = shares.len();
+        let crowd = Crowd::new(threads);
+        thread::for_each_mut(
+            rt,
+            shares.as_mut_slice(),
+            threads,
+            &|_place, share| { self.help(rt, alloc, share, &crowd) },
+        );
+        first_refusal(shares.as_slice())
+    }
+
+    // The passes of a thread. Without memory for tickets it publishes all under the lock.
+    fn help<R: Wait>(&self, rt: &R, alloc: Global, share: &mut Share<N>, crowd: &Crowd)
+        ensures { IsHolder share.old share.new }
+    {
+        share.halt = Halt::none();
+        let mut tickets = match Vec::with_capacity(alloc, MOST_TICKETS) {
+            Ok(tickets) => tickets,
+            Err(_) => Vec::new(alloc),
+        };
+        crowd.enter(rt);
+        let mut router = 0;
+        for _ in rt.forever() {
+            if crowd.is_over() {
+                break;
+            }
+            match self.round(rt, router, share, &mut tickets, crowd) {
+                Ok(pass) => {
+                    router = pass.router;
+                    if pass.settled || pass.rows == 0 && !crowd.rest(rt) {
+                        crowd.end();
+                    }
+                }
+                Err(refusal) => {
+                    share.halt = Halt::at(refusal);
+                    crowd.end();
+                }
+            }
+        }
+        self.give_all_back(rt, share, tickets);
+    }
+
+    // A pass under the lock, and outside it the publications that it leaves to tickets.
+    fn round<R: Wait>(
+        &self,
+        rt: &R,
+        router: u16,
+        share: &mut Share<N>,
+        tickets: &mut Vec<Ticket<B>>,
+        crowd: &Crowd,
+    ) -> Result<Pass, Refusal>
+        requires { 0 < vec_len tickets.old → CanFailOutside N.opened N.asked }
+        ensures tickets { 0 < vec_len tickets.new → CanFailOutside N.opened N.asked }
+        ensures err { IfErr result (IsTurnRefused N.opened N.asked) }
+        ensures holder { IsHolder share.old share.new }
+    {
+        let pass = self.guarded.lock(rt).pass(rt, router, share, tickets)?;
+        if pass.rows >= ROWS_TO_CALL {
+            crowd.call();
+        }
+        if tickets.is_empty() {
+            return Ok(pass);
+        }
+        match publish_all(rt, tickets) {
+            Ok(()) => Ok(pass),
+            Err(NoMemory) => Err(Refusal::NoMemory),
+        }
+    }
+
+    // What a thread has out comes back.
+    fn give_all_back<R: Wait>(&self, rt: &R, share: &mut Share<N>, tickets: Vec<Ticket<B>>)
+        ensures { IsHolder share.old share.new }
+    {
+        let mut tickets = tickets;
+        while let Some(ticket) = tickets.pop() {
+            if let Err(ticket) = self.finish(rt, ticket, share) {
+                ticket.close(rt);
+            }
+        }
+        tickets.into_iter().destroy_empty();
+    }
+}

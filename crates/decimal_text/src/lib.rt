@@ -1,6 +1,0 @@
-//! Numbers and their canonical decimal texts.
-#![tactic(auto)]
-
-mod number;
-
-pub use number::read_number;

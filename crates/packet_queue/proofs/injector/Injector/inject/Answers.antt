@@ -1,0 +1,5 @@
+use Rattle.packet_queue.proofs.Fair.{puts}
+use Rattle.packet_queue.proofs.injector.Injector.inject.Goals as goal
+
+pub send_as-sent-requires-clause-rule : goal.send_as-sent-requires-clause-rule
+send_as-sent-requires-clause-rule g c = (puts _ _ _ _ c.args.self.now.some_part, λ _ _ _ _. tt)

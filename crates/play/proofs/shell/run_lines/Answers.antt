@@ -1,0 +1,8 @@
+use Rattle.std.proofs.Common.{OnOk, subst}
+use Rattle.play.specs.Ends.{KeepsJournal}
+use Rattle.play.proofs.shell.run_lines.Goals as goal
+
+-- the session has the names that it had
+pub returns-clause-keeps : goal.returns-clause-keeps
+returns-clause-keeps g c =
+    subst (λ d. OnOk c.finish.result (KeepsJournal d.now c.do_lines-read.new.fabric c.args.kept.now.items c.finish.new.kept.items)) c.do_lines-read.ensures.names c.finish.ensures.keeps

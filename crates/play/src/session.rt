@@ -1,0 +1,193 @@
+//! What the commands of a run are done with.
+
+ghost use Rattle.std.specs.Prelude.{◌≡◌, ◌⊎◌, ◌≤◌, ⊤, All, Err, IfErr, IfOk, IsOk, MatchResult, OnOk, length, vec_len};
+ghost use Rattle.network_model.specs.Network.{most_workers};
+ghost use Rattle.fabric.specs.Writers.{IsReaderPort};
+ghost use Rattle.script.specs.declared.command.Command.TheVariants as Command;
+ghost use Rattle.play.specs.Commands.{IsDone, IsRefused, AreDone, StopsAtCommand};
+ghost use Rattle.play.specs.Ends.{KeepsJournal};
+ghost use Rattle.play.specs.Faults.{IsUnanswered, IsWantOfMemory, OfWorkers};
+
+use crate::commands::{look_up, show_table, show_trace, try_step};
+use crate::dispatch::{Dispatcher, ports_of, print_replies};
+use crate::fault::{Cause, Fault};
+use crate::host::Host;
+use crate::keep::keep;
+use crate::options::Options;
+use crate::report::{print_report, print_state};
+use control::settle;
+use fabric::{Fabric, FabricName, Refusal};
+use network_model::NoMemory;
+use publication::ImageReader;
+use script::{Command, Directory, Key, Place};
+use std::alloc::Global;
+use std::io::Write;
+
+/// What the commands of a run are done with: the machine, the routers' names, the workers, and how the
+/// run is to be done. It is not `Drop`: end it by `finish`, so that no worker is left running.
+pub struct Session<'a, B: FabricName, H> {
+    pub(crate) rt: &'a H,
+    pub(crate) alloc: Global,
+    pub(crate) directory: &'a Directory,
+    pub(crate) options: Options,
+    dispatcher: Dispatcher<B>,
+}
+
+impl<'a, B, H> Session<'a, B, H>
+where
+    B: FabricName + Send + Sync + 'static,
+    H: Host,
+{
+    /// A run whose workers look up by these readers.
+    pub fn new(
+        rt: &'a H,
+        alloc: Global,
+        directory: &'a Directory,
+        readers: Vec<Vec<ImageReader<B>>>,
+        options: Options,
+    ) -> Result<Session<'a, B, H>, NoMemory>
+        requires ports { All (λ port. IsReaderPort (length B.books) port.items) readers.items }
+        requires few { vec_len readers ≤ most_workers }
+        ensures { IfOk result (λ s. (s.directory).now ≡ directory.now) }
+    {
+        let ports = ports_of(alloc, readers)?;
+        Ok(Session {
+            rt,
+            alloc,
+            directory,
+            options,
+            dispatcher: Dispatcher::new(ports),
+        })
+    }
+
+    /// Does the commands in order, up to the first that is refused. Their steps make a run of lawful
+    /// steps.
+    pub fn do_commands<W: Write>(
+        &mut self,
+        fabric: &mut Fabric<B>,
+        commands: &[Command],
+        out: &mut W,
+    ) -> Result<(), Fault>
+        ensures all { OnOk result (AreDone commands.now fabric.old fabric.new) }
+        ensures stop { IfErr result (StopsAtCommand commands.now fabric.old fabric.new) }
+        ensures names { self.new.directory ≡ self.old.directory }
+    {
+        for (position, &command) in commands.iter().enumerate() {
+            match self.do_command(fabric, command, out) {
+                Ok(()) => {}
+                Err(cause) => {
+                    let key = Key::Script;
+                    return Err(Fault {
+                        cause,
+                        place: Some(Place { key, position }),
+                    });
+                }
+            }
+        }
+        Ok(())
+    }
+
+    /// Does one command. What it prints may be lost.
+    pub fn do_command<W: Write>(
+        &mut self,
+        fabric: &mut Fabric<B>,
+        command: Command,
+        out: &mut W,
+    ) -> Result<(), Cause>
+        ensures ok { OnOk result (IsDone command fabric.old fabric.new) }
+        ensures err { IfErr result (IsRefused command fabric.old fabric.new) }
+        ensures names { self.new.directory ≡ self.old.directory }
+    {
+        let directory = self.directory;
+        match command {
+            Command::Step(step) => {
+                let done = fabric.step(self.rt, step);
+                into_cause(done)
+            }
+            Command::Try(step) => {
+                try_step(self.rt, fabric, step, out);
+                Ok(())
+            }
+            Command::Settle => {
+                let done = settle(self.rt, self.alloc, fabric, self.options.threads);
+                into_cause(done)
+            }
+            Command::State { router, prefix } => {
+                let explain = self.options.explain;
+                let done = print_state(fabric, directory, router, prefix, explain, out);
+                into_cause(done)
+            }
+            Command::Table { router } => {
+                let done = show_table(fabric, directory, router, out);
+                into_cause(done)
+            }
+            Command::Lookup { router, addr } => look_up(fabric, directory, router, addr, out),
+            Command::Inject { router, addr } => {
+                self.dispatcher
+                    .inject(*self.rt, self.alloc, fabric, router, addr)
+            }
+            Command::Trace { router, addr } => {
+                show_trace(self.alloc, fabric, directory, router, addr, out)
+            }
+            Command::Drain => self.drain(out),
+            Command::Report => {
+                let _ = print_report(fabric, directory, out);
+                Ok(())
+            }
+        }
+    }
+
+    // Waits for the workers, and prints what they answered. What it prints may be lost.
+    fn drain<W: Write>(&mut self, out: &mut W) -> Result<(), Cause>
+        ensures err { IfErr result (OfWorkers (λ e. ⊤)) }
+        ensures names { self.new.directory ≡ self.old.directory }
+    {
+        let replies = self.dispatcher.drain(self.rt, self.alloc)?;
+        let _ = print_replies(self.directory, &replies, out);
+        Ok(())
+    }
+
+    /// Waits for the workers, and, where all commands were done, says how many steps were, and keeps
+    /// their journal.
+    pub fn finish<W: Write>(
+        self,
+        fabric: &Fabric<B>,
+        done: Result<(), Fault>,
+        out: &mut W,
+        kept: &mut Vec<u8>,
+    ) -> Result<(), Fault>
+        ensures done { OnOk result (IsOk done) }
+        ensures keeps { OnOk result (KeepsJournal (self.entry.directory).now fabric.now
+            kept.old.items kept.new.items) }
+        ensures fault { IfErr result (λ e. (done ≡ Err e) ⊎ IsUnanswered e ⊎ IsWantOfMemory e) }
+    {
+        let Session {
+            rt,
+            alloc,
+            directory,
+            options: _,
+            dispatcher,
+        } = self;
+        // No worker is left running, whatever became of the commands.
+        let answered = dispatcher.close(rt, alloc);
+        if let Err(fault) = done {
+            return Err(fault);
+        }
+        if let Err(fault) = answered {
+            return Err(Fault::from(Cause::Workers(fault)));
+        }
+        let _ = writeln!(out, "done: {} steps", fabric.journal().len());
+        match keep(fabric, directory, kept) {
+            Ok(()) => Ok(()),
+            Err(memory) => Err(Fault::from(memory)),
+        }
+    }
+}
+
+// A refusal is a cause to stop.
+fn into_cause(done: Result<(), Refusal>) -> Result<(), Cause>
+    ensures { MatchResult done (λ _. IsOk result) (λ e. result ≡ Err (Cause.Refused e)) }
+{
+    done?;
+    Ok(())
+}

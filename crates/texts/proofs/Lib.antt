@@ -1,0 +1,4 @@
+pub mod Numbers
+pub mod WordCuts
+pub mod LineCuts
+pub mod Printed

@@ -1,0 +1,24 @@
+-- What of a network a step can change, and how much of that is not at rest.
+use Rattle.std.specs.Prelude.{ℕ, ◌+◌, Some, None, option_and_then}
+use Rattle.network_model.specs.declared.step.Step.{Step}
+use Rattle.network_model.specs.declared.step.Step.TheVariants.{LinkUp, LinkDown, SetCost, Deliver, Publish, Release, Attach, Detach}
+use Rattle.network_model.specs.World.{World}
+use Rattle.network_model.specs.Step.{release_at}
+use Rattle.network_model.specs.Numbers.{one_if}
+use Rattle.world.specs.declared.watched.Touched.{Touched}
+use Rattle.world.specs.Rest.{has_notice, is_busy, is_restless, link_number, passes_at}
+
+-- what a step can change: at most one link, one router's attachments, and one router
+abbrev pub touched_by : Step → World → Touched
+touched_by (LinkUp l) w = record { link = Some l; attachments = None; router = None }
+touched_by (LinkDown l) w = record { link = Some l; attachments = None; router = None }
+touched_by (SetCost i q cost) w = record { link = link_number w i q; attachments = None; router = None }
+touched_by (Deliver i q) w = record { link = link_number w i q; attachments = Some i; router = Some i }
+touched_by (Publish i) w = record { link = None; attachments = None; router = Some i }
+touched_by (Release i) w = record { link = option_and_then (λ h. link_number w i h.port) (release_at w i); attachments = None; router = Some i }
+touched_by (Attach i p cost) w = record { link = None; attachments = Some i; router = None }
+touched_by (Detach i p) w = record { link = None; attachments = Some i; router = None }
+
+-- how much of these is not at rest
+abbrev pub unrest_at : Touched → World → ℕ
+unrest_at t w = one_if (passes_at is_busy w.links t.link) + one_if (passes_at has_notice w.attachments t.attachments) + one_if (passes_at is_restless w.routers t.router)

@@ -1,0 +1,205 @@
+//! A world that knows whether it has come to rest.
+
+ghost use Rattle.std.specs.Prelude.{ℕ, ◌≡◌, ◌≤◌, ◌+◌, false, slice_get, option_and_then, IfOk, IsOk, OnOk, OnErr, MatchOption, Err};
+ghost use Rattle.std.specs.Option.{option_map_or};
+ghost use Rattle.network_model.specs.World as model;
+ghost use Rattle.network_model.specs.Step as steps;
+ghost use Rattle.network_model.specs.Turns as turns;
+ghost use Rattle.world.specs.Steps.{DiscardsStale, IsDoneOr, HasRoomForSteps};
+ghost use Rattle.world.specs.Rest.{has_notice, is_busy, is_restless, link_number};
+
+use crate::network::Network;
+use crate::world::World;
+use link_fifo::Links;
+use network_model::{End, NoMemory, Refusal, SmallAllocator, Step};
+use router_core::Router;
+use std::alloc::Global;
+use std::marker::Model;
+
+/// A world, and how much of it is not at rest: how many links have something on them, how many routers
+/// have notices of their attachments to take, and how many have something to publish or to release. So
+/// it is known whether anything is left to do without going through the network.
+#[derive(Drop)]
+pub struct WatchedWorld<A: SmallAllocator = Global> {
+    world: World<A>,
+    unrest: usize,
+}
+
+impl<A: SmallAllocator> Model for WatchedWorld<A> {
+    ghost use Rattle.network_model.specs.World.{World as NetworkWorld};
+    ghost use Rattle.world.specs.Rest.{IsWatched};
+
+    ghost Value = { NetworkWorld };
+
+    ghost view = { λ w. w.world };
+
+    ghost invariant = { λ w. IsWatched w.world w.unrest };
+}
+
+impl<A: SmallAllocator> WatchedWorld<A> {
+    /// The world of a network that opens.
+    pub fn open(alloc: A, network: &Network) -> Result<WatchedWorld<A>, NoMemory>
+        ensures { IfOk result (λ w. w ≡ model.opening network.now) }
+    {
+        let world = World::open(alloc, network)?;
+        // At its opening a network is at rest.
+        let _links = network.links();
+        Ok(WatchedWorld { world, unrest: 0 })
+    }
+
+    /// The world.
+    pub fn world(&self) -> &World<A>
+        ensures { result.now ≡ self.now }
+    {
+        &self.world
+    }
+
+    /// Whether no item is queued on any link, no notice waits, nothing is due, and nothing is ripe.
+    pub fn is_settled(&self) -> bool
+        ensures { result ≡ turns.is_settled self.now }
+    {
+        self.unrest == 0
+    }
+
+    /// Does one step, as the world does it.
+    pub fn step(&mut self, step: Step) -> Result<(), Refusal>
+        requires { HasRoomForSteps 1 self.old }
+        ensures ok { OnOk result (steps.Lawful self.old step
+            × (self.new ≡ steps.next self.old step)) }
+        ensures err { OnErr result (self.new ≡ self.old) }
+        ensures cause { IsDoneOr (steps.refusal self.old step) result }
+        ensures publication { (i : ℕ) → step ≡ Step.Publish i
+            → MatchOption (steps.refusal self.old step) (IsOk result) (λ e. result ≡ Err e) }
+        ensures stale { DiscardsStale self.old step result }
+    {
+        let touched = Touched::by(&step, &self.world);
+        let before = touched.unrest(&self.world);
+        self.world.step(step)?;
+        let after = touched.unrest(&self.world);
+        self.unrest = self.unrest - before + after;
+        Ok(())
+    }
+}
+
+// What a step can change: at most one link, one router's attachments, and one router.
+#[derive(Clone, Copy)]
+struct Touched {
+    link: Option<u16>,
+    attachments: Option<u16>,
+    router: Option<u16>,
+}
+
+impl Touched {
+    ghost use Rattle.world.specs.Touched.{touched_by, unrest_at};
+
+    fn by<A: SmallAllocator>(step: &Step, world: &World<A>) -> Touched
+        ensures { result ≡ touched_by step.now world.now }
+    {
+        match *step {
+            Step::LinkUp { link } | Step::LinkDown { link } => Touched {
+                link: Some(link),
+                attachments: None,
+                router: None,
+            },
+            Step::SetCost {
+                router,
+                port,
+                cost: _,
+            } => Touched {
+                link: link_at(world, router, port),
+                attachments: None,
+                router: None,
+            },
+            Step::Deliver { router, port } => Touched {
+                link: link_at(world, router, port),
+                attachments: Some(router),
+                router: Some(router),
+            },
+            Step::Publish { router } => Touched {
+                link: None,
+                attachments: None,
+                router: Some(router),
+            },
+            Step::Release { router } => Touched {
+                link: released_to(world, router),
+                attachments: None,
+                router: Some(router),
+            },
+            Step::Attach {
+                router,
+                prefix: _,
+                cost: _,
+            }
+            | Step::Detach { router, prefix: _ } => Touched {
+                link: None,
+                attachments: Some(router),
+                router: None,
+            },
+        }
+    }
+
+    // How much of these is not at rest.
+    fn unrest<A: SmallAllocator>(self, world: &World<A>) -> usize
+        ensures unrest { result ≡ unrest_at self world.now }
+        ensures few { result ≤ 3 }
+    {
+        let busy = match self.link {
+            Some(link) => is_busy(world.links(), link),
+            None => false,
+        };
+        let told = match self.attachments {
+            Some(router) => has_notice_at(world, router),
+            None => false,
+        };
+        let restless = match self.router {
+            Some(router) => is_restless_at(world.routers(), router),
+            None => false,
+        };
+        usize::from(busy) + usize::from(told) + usize::from(restless)
+    }
+}
+
+// The number of the link at a router's port.
+fn link_at<A: SmallAllocator>(world: &World<A>, router: u16, port: u8) -> Option<u16>
+    ensures { result ≡ link_number world.now router port }
+{
+    Some(world.port(router, port)?.link)
+}
+
+// The number of the link for which a router releases its next message.
+fn released_to<A: SmallAllocator>(world: &World<A>, router: u16) -> Option<u16>
+    ensures { result ≡ option_and_then (λ h. link_number world.now router h.port)
+        (steps.release_at world.now router) }
+{
+    let held = world.routers().get(usize::from(router))?.front()?;
+    link_at(world, router, held.port)
+}
+
+// Whether something stands on the link, in either direction.
+fn is_busy<A: SmallAllocator>(links: &Links<A>, link: u16) -> bool
+    ensures { result ≡ option_map_or is_busy (slice_get links.now.links link) false }
+{
+    links.front(link, End::A).is_ok() || links.front(link, End::B).is_ok()
+}
+
+// Whether a router has yet to take a notice of its attachments.
+fn has_notice_at<A: SmallAllocator>(world: &World<A>, router: u16) -> bool
+    ensures { result ≡ option_map_or has_notice (slice_get world.now.attachments router) false }
+{
+    usize::from(router) < world.routers().len() && world.notices(router) > 0
+}
+
+fn is_restless<A: SmallAllocator>(router: &Router<A>) -> bool
+    ensures { result ≡ is_restless router.now }
+{
+    router.due() || router.ripe() > 0
+}
+
+fn is_restless_at<A: SmallAllocator>(routers: &[Router<A>], router: u16) -> bool
+    ensures { result ≡ option_map_or is_restless (slice_get routers.now router) false }
+{
+    match routers.get(usize::from(router)) {
+        Some(found) => is_restless(found),
+        None => false,
+    }
+}
