@@ -121,7 +121,7 @@ fn tell_words<W: Write>(
                     return writeln!(out, "  unknown router `{word}`");
                 };
                 if let Some(other) = first
-                    && !links.iter().any(|link| joins(link, other, router))
+                    && !links.iter().any(|link| link.joins(other, router))
                 {
                     return writeln!(out, "  no link joins these two routers");
                 }
@@ -138,8 +138,4 @@ fn tell_words<W: Write>(
         Some(prefix) => writeln!(out, "  the scenario has no prefix `{prefix}`"),
         None => writeln!(out, "  it is `{form}`"),
     }
-}
-
-fn joins(link: &LinkSpec, a: u16, b: u16) -> bool {
-    (link.a == a && link.b == b) || (link.a == b && link.b == a)
 }

@@ -1,8 +1,8 @@
--- A machine that has heard nothing is sound, so the laws speak of some machine.
-use Rattle.std.proofs.Common.{◌≡◌, ◌⊎◌, ℕ, zero, suc, ◌+◌, ◌<◌, min, Bool, true, false, List, [], ◌∷◌, ◌++◌, length, Some, None, refl, ap, sym, inl, inr, arith, subst, ◌∙◌, lt-ltb, slice_get, nat_lt, if◌then◌else◌}
+-- A machine that leads nowhere is sound, and so is one that has heard nothing, so the laws speak of some machine.
+use Rattle.std.proofs.Common.{◌≡◌, ◌⊎◌, ℕ, zero, suc, ◌+◌, ◌<◌, min, Bool, true, false, List, [], ◌∷◌, ◌++◌, length, Option, Some, None, refl, ap, sym, inl, inr, arith, subst, ◌∙◌, lt-ltb, slice_get, nat_lt, if◌then◌else◌}
 use Rattle.network_model.proofs.Common.{false≢true, same_Some, none-some, infinity, distance, least, at_home, home_ways, least-append, distance-bounded}
 use Rattle.network_model.specs.declared.machine.Neighbour.{Neighbour}
-use Rattle.machine_laws.specs.Laws.{NothingHeard, OpensSound}
+use Rattle.machine_laws.specs.Laws.{IsSound, IsSoundPort, NothingHeard, OpensSound}
 use Rattle.machine_laws.proofs.Lists.{append_last, test_within}
 use Rattle.machine_laws.proofs.Distances.{distance_cases}
 
@@ -26,6 +26,29 @@ least_at_home c l = go (nat_lt (0 + c) infinity) (lt-ltb (0 + c) infinity (omega
     go : (b : Bool) → b ≡ true → min (if b then 0 + c else infinity) infinity ≡ c
     go true t = omega (arith, l)
     go false t = absurd (false≢true t)
+
+-- a passive machine that leads nowhere is sound where its ports and its attachment are, and no way has a finite distance
+pub nowhere_sound : (attachment : Option ℕ) (ns : List Neighbour) → ((p : ℕ) (n : Neighbour) → slice_get ns p ≡ Some n → IsSoundPort n) → ((c : ℕ) → attachment ≡ Some c → 0 < c)
+    → least (ns ++ home_ways attachment) ≡ infinity → IsSound (record { attachment = attachment; ports = ns; rd = infinity; fd = infinity; successor = None; computation = None })
+nowhere_sound attachment ns ports_sound attachment_sound none = record {
+  ports_sound = ports_sound;
+  attachment_sound = attachment_sound;
+  rd_bounded = omega arith;
+  fd_below = omega arith;
+  fd_positive = omega arith;
+  successor_up = λ p s. absurd (none-some p s);
+  successor_within = λ p s. absurd (none-some p s);
+  successor_attached = λ s. absurd (none-some (length ns) s);
+  passive_least = λ k. sym none;
+  passive_feasible = λ p k s. absurd (none-some p s);
+  passive_attains = λ p n k s. absurd (none-some p s);
+  passive_none = λ k s. (refl, refl);
+  active_above = λ k. absurd (false≢true k);
+  awaits_some = λ k. absurd (false≢true k);
+  awaits_up = λ p k. absurd (false≢true k);
+  owes_successor = λ p k. absurd (false≢true k);
+  owes_up = λ p k. absurd (false≢true k);
+}
 
 -- a machine that has heard nothing is sound
 pub opened_sound : OpensSound
@@ -53,25 +76,4 @@ opened_sound (Some c) ns costs sound h = record {
   where
     here : least (ns ++ home_ways (Some c)) ≡ c
     here = omega (arith, least-append ns (home_ways (Some c)), least_unheard ns h, least_at_home c (costs c refl).1, (costs c refl).1)
-opened_sound None ns costs sound h = record {
-  ports_sound = sound;
-  attachment_sound = λ d e. (costs d e).0;
-  rd_bounded = omega arith;
-  fd_below = omega arith;
-  fd_positive = omega arith;
-  successor_up = λ p s. absurd (none-some p s);
-  successor_within = λ p s. absurd (none-some p s);
-  successor_attached = λ s. absurd (none-some (length ns) s);
-  passive_least = λ k. sym here;
-  passive_feasible = λ p k s. absurd (none-some p s);
-  passive_attains = λ p n k s. absurd (none-some p s);
-  passive_none = λ k s. (refl, refl);
-  active_above = λ k. absurd (false≢true k);
-  awaits_some = λ k. absurd (false≢true k);
-  awaits_up = λ p k. absurd (false≢true k);
-  owes_successor = λ p k. absurd (false≢true k);
-  owes_up = λ p k. absurd (false≢true k);
-}
-  where
-    here : least (ns ++ home_ways None) ≡ infinity
-    here = omega (arith, least-append ns [], least_unheard ns h)
+opened_sound None ns costs sound h = nowhere_sound None ns sound (λ d e. (costs d e).0) (omega (arith, least-append ns [], least_unheard ns h))

@@ -8,6 +8,7 @@ use Rattle.machine_laws.specs.Laws.{released, test_at, is_up_at, awaits, is_down
 use Rattle.machine_laws.proofs.Lists.{list_any_place, append_within, changed_append_other}
 use Rattle.machine_laws.proofs.Distances.{AllSound, chosen_feasible, chosen_none, condition_fails, via_range, least_came_up, least_positive, way_within, way_last}
 use Rattle.machine_laws.proofs.Events.{sound_after, attachment_sound_after, successor_kept, attachment_kept, ports_length, stays_up, is_port-Some, down_released}
+use Rattle.machine_laws.proofs.Opened.{nowhere_sound}
 use Rattle.machine_laws.proofs.Outcomes.{Account, Decision, Outcome, came_up, goes_on, settles, asks, is_alone, waiting, asked, alone, outcome, active_awaits, awaited_kept}
 use Rattle.machine_laws.proofs.Counting.{awaited_up, awaited_off}
 use Rattle.machine_laws.proofs.Choosing.{settled_reported, ways_sound_after, reported_other, up_other, successor_other}
@@ -155,25 +156,9 @@ sound_asked m e fd debt answer sound meets dec a f some = record {
 
 -- a machine with no one up is sound
 sound_alone : (m : Machine) (e : Event) (fd : ℕ) → IsSound m → Meets m e → m.fd ≤ fd → condition_holds fd (ways (with_records m e)) ≡ false → list_any (λ n. n.up) (records_after e m.ports) ≡ false → IsSound (alone (with_records m e)).machine
-sound_alone m e fd sound meets above f none = record {
-  ports_sound = sound_after m e sound.ports_sound meets;
-  attachment_sound = attachment_sound_after m e sound.attachment_sound meets;
-  rd_bounded = omega arith;
-  fd_below = omega arith;
-  fd_positive = omega arith;
-  successor_up = λ p s. absurd (none-some p s);
-  successor_within = λ p s. absurd (none-some p s);
-  successor_attached = λ s. absurd (none-some _ s);
-  passive_least = λ k. sym (least_ways-none_up (with_records m e) fd (omega (arith, sound.fd_positive, above)) none f);
-  passive_feasible = λ p k s. absurd (none-some p s);
-  passive_attains = λ p n k s. absurd (none-some p s);
-  passive_none = λ k s. (refl, refl);
-  active_above = λ k. absurd (false≢true k);
-  awaits_some = λ k. absurd (false≢true k);
-  awaits_up = λ p k. absurd (false≢true k);
-  owes_successor = λ p k. absurd (false≢true k);
-  owes_up = λ p k. absurd (false≢true k);
-}
+sound_alone m e fd sound meets above f none =
+    nowhere_sound _ _ (sound_after m e sound.ports_sound meets) (attachment_sound_after m e sound.attachment_sound meets)
+    (least_ways-none_up (with_records m e) fd (omega (arith, sound.fd_positive, above)) none f)
 
 -- every outcome leaves a sound machine
 sound_of : (m : Machine) (e : Event) (r : Reaction) → IsSound m → Meets m e → Outcome m e r → IsSound r.machine

@@ -1,16 +1,12 @@
 -- The port of a place: which of a router's ports lies at an end of a link.
-use Rattle.std.proofs.Common.{refl, sym, ap, subst, arith, ◌≡◌, ℕ, zero, suc, ◌+◌, Bool, true, false, ◌==◌, if◌then◌else◌, List, [], ◌∷◌, ◌++◌, Some, slice_get, eqb-true}
+use Rattle.std.proofs.Common.{refl, sym, ap, subst, arith, ◌≡◌, ℕ, zero, suc, ◌+◌, Bool, true, false, ◌==◌, if◌then◌else◌, List, ◌∷◌, [], Some, None, slice_get, option_map, eqb-true}
+use Rattle.std.specs.List.{cons_option}
 use Rattle.network_model.specs.declared.network.End.{End}
 use Rattle.network_model.specs.declared.network.End.TheVariants.{A, B}
 use Rattle.network_model.specs.declared.network.LinkSpec.{LinkSpec}
 use Rattle.network_model.specs.declared.network.Place.{Place}
-use Rattle.network_model.specs.World.{places_from}
+use Rattle.network_model.specs.World.{places_from, router_end}
 use Rattle.network_model.proofs.ListLaws.{Some_injective, None_not_Some}
-
--- the router at an end of a link
-abbrev pub router_end : End → LinkSpec → ℕ
-router_end A s = s.a
-router_end B s = s.b
 
 -- one port for a link that ends at the router
 abbrev pub one_if_at : ℕ → LinkSpec → ℕ
@@ -64,12 +60,12 @@ module _ (l i : ℕ) (s : LinkSpec) (ss : List LinkSpec) (x : Place) (deeper : (
   at_one (suc k) en at one h = later (suc k) 1 k one (omega arith) (deeper k h)
 
   -- so it is where the first link does not begin at the router, whether it ends there or not
-  by_b : (q : ℕ) (b : Bool) → (s.a == i) ≡ false → (s.b == i) ≡ b → slice_get ((if b then place_of l B ∷ [] else []) ++ places_from (l + 1) i ss) q ≡ Some x → IsPort l i (s ∷ ss) q x
+  by_b : (q : ℕ) (b : Bool) → (s.a == i) ≡ false → (s.b == i) ≡ b → slice_get (cons_option (option_map (place_of l) (if b then Some B else None)) (places_from (l + 1) i ss)) q ≡ Some x → IsPort l i (s ∷ ss) q x
   by_b q true na eb h = at_one q B (eqb-true s.b i eb) (rw (na, eb) refl) h
   by_b q false na eb h = later q 0 q (rw (na, eb) refl) (omega arith) (deeper q h)
 
   -- so it is whether the first link begins at the router or not
-  by_a : (q : ℕ) (b : Bool) → (s.a == i) ≡ b → slice_get ((if b then place_of l A ∷ [] else if s.b == i then place_of l B ∷ [] else []) ++ places_from (l + 1) i ss) q ≡ Some x → IsPort l i (s ∷ ss) q x
+  by_a : (q : ℕ) (b : Bool) → (s.a == i) ≡ b → slice_get (cons_option (option_map (place_of l) (if b then Some A else (if s.b == i then Some B else None))) (places_from (l + 1) i ss)) q ≡ Some x → IsPort l i (s ∷ ss) q x
   by_a q true ea h = at_one q A (eqb-true s.a i ea) (rw ea refl) h
   by_a q false na h = by_b q (s.b == i) na refl h
 

@@ -37,6 +37,10 @@ first_cause (c ∷ cs) = if c.0 then Some c.1 else first_cause cs
 abbrev pub touches : ℕ → LinkSpec → Bool
 touches i s = (s.a == i) || (s.b == i)
 
+-- whether the link joins the two routers, in either order
+abbrev pub joins : ℕ → ℕ → LinkSpec → Bool
+joins i j s = (s.a == i && s.b == j) || (s.a == j && s.b == i)
+
 -- how many of the links touch a router
 abbrev pub degree : ℕ → List LinkSpec → ℕ
 degree i links = count_by (touches i) links

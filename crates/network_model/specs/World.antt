@@ -1,6 +1,6 @@
 -- A network of routers and links as one value, and the value with which it opens.
 use Rattle.std.specs.Prelude.{ℕ, ◌+◌, Bool, false, ◌==◌, if◌then◌else◌, List, [], ◌∷◌, ◌++◌, map, length, Option, Some, None, slice_get, filter, option_and_then, option_map, unwrap_or}
-use Rattle.std.specs.List.{range_with_len, list_any}
+use Rattle.std.specs.List.{range_with_len, list_any, cons_option}
 use Rattle.std.specs.Option.{option_map_or}
 use Rattle.std.specs.FinMap.{find as row_of, put}
 use Rattle.metric.specs.Distance.{infinity}
@@ -130,12 +130,23 @@ pub record Network : Type 0 where
   pub links : List LinkSpec
   pub attachments : List (Prefix × ℕ × ℕ)
 
+-- the router at an end of a link
+abbrev pub router_end : End → LinkSpec → ℕ
+router_end A s = s.a
+router_end B s = s.b
+
+-- the end of a link at which router i has a port; none where the link does not touch it
+abbrev pub end_of : ℕ → LinkSpec → Option End
+end_of i s = if s.a == i then Some A else (if s.b == i then Some B else None)
+
+-- the router across a link from router i
+abbrev pub neighbour_of : ℕ → LinkSpec → Option ℕ
+neighbour_of i s = option_map (λ e. router_end (other e) s) (end_of i s)
+
 -- the places of router i's ports on the links from number l on: its ports follow the order of the links that touch it
 abbrev pub places_from : ℕ → ℕ → List LinkSpec → List Place
 places_from l i [] = []
-places_from l i (s ∷ ss) =
-    (if s.a == i then record { link = l; end = A } ∷ [] else if s.b == i then record { link = l; end = B } ∷ [] else [])
-    ++ places_from (l + 1) i ss
+places_from l i (s ∷ ss) = cons_option (option_map (λ e. record { link = l; end = e }) (end_of i s)) (places_from (l + 1) i ss)
 
 -- a link at the opening: down, never up, nothing queued
 abbrev pub opening_link : LinkSpec → Link

@@ -1,12 +1,29 @@
 //! Links, their ends, the ports of routers, and why a network cannot be opened.
 
 ghost use Rattle.std.specs.Prelude.{◌≡◌};
+ghost use Rattle.network_model.specs.Network as valid;
+ghost use Rattle.network_model.specs.World as model;
 ghost use Rattle.network_model.specs.declared.network.NetworkFault.TheVariants.{NoMemory as OutOfMemory};
 
 use crate::memory::NoMemory;
 use metric::Cost;
 use std::alloc::{AllocError, AllocFailed};
 use thiserror::Error;
+
+/// The most routers that a network can have.
+pub const MOST_ROUTERS: u16 = 256;
+
+/// The most links that a network can have.
+pub const MOST_LINKS: usize = 1024;
+
+/// The most links that can touch one router.
+pub const MOST_PORTS: usize = 32;
+
+/// The most prefixes that a network can have.
+pub const MOST_PREFIXES: usize = 4096;
+
+/// The most attachments of routers to prefixes that a network can have.
+pub const MOST_ATTACHMENTS: usize = 16_384;
 
 /// One of the two ends of a link.
 #[derive(Clone, Copy, Debug, PartialEq, Eq)]
@@ -22,6 +39,45 @@ pub struct LinkSpec {
     pub b: u16,
     pub from_a: Cost,
     pub from_b: Cost,
+}
+
+impl LinkSpec {
+    /// The end at which the router has a port; none where the link does not touch the router.
+    pub fn end_of(&self, router: u16) -> Option<End>
+        ensures { result ≡ model.end_of router self.now }
+    {
+        if self.a == router {
+            Some(End::A)
+        } else if self.b == router {
+            Some(End::B)
+        } else {
+            None
+        }
+    }
+
+    /// The router across the link; none where the link does not touch the router.
+    pub fn neighbour_of(&self, router: u16) -> Option<u16>
+        ensures { result ≡ model.neighbour_of router self.now }
+    {
+        match self.end_of(router)? {
+            End::A => Some(self.b),
+            End::B => Some(self.a),
+        }
+    }
+
+    /// Whether the router is at an end of the link.
+    pub fn touches(&self, router: u16) -> bool
+        ensures { result ≡ valid.touches router self.now }
+    {
+        self.a == router || self.b == router
+    }
+
+    /// Whether the link joins the two routers, in either order.
+    pub fn joins(&self, a: u16, b: u16) -> bool
+        ensures { result ≡ valid.joins a b self.now }
+    {
+        (self.a == a && self.b == b) || (self.a == b && self.b == a)
+    }
 }
 
 /// The end of a link at which a router's port lies.

@@ -1,5 +1,6 @@
 -- The places of a network's links: each end of each link is one port of one router.
-use Rattle.std.proofs.Common.{refl, sym, ap, ◌∙◌, arith, ◌≡◌, ◌≢◌, ℕ, zero, suc, ◌+◌, ◌<◌, Bool, true, false, ◌==◌, if◌then◌else◌, List, [], ◌∷◌, ◌++◌, Option, Some, None, is_some, slice_get, option_and_then, eq-eqb, ne_eqb}
+use Rattle.std.proofs.Common.{refl, sym, ap, ◌∙◌, arith, ◌≡◌, ◌≢◌, ℕ, zero, suc, ◌+◌, ◌<◌, Bool, true, false, ◌==◌, if◌then◌else◌, List, [], ◌∷◌, Option, Some, None, is_some, slice_get, option_map, option_and_then, eq-eqb, ne_eqb}
+use Rattle.std.specs.List.{cons_option}
 use Rattle.packet_loops.proofs.Common.{option_map_or, false≢true, End, A, B, Place, LinkSpec, Network, other, places_from, opening, Some_injective, None_not_Some, listed_at, listed_within, router_end, one_if_at, ports_before, place_of, IsPort, place_to_IsPort, LinkEnd, at_port, lay, Topology}
 use Rattle.packet_loops.specs.LinkEnds.{across}
 use Rattle.packet_loops.proofs.Wiring.{IsWiredLink, IsWired}
@@ -19,11 +20,11 @@ behind l i s ss k = by_a (s.a == i)
     no_more : (ys : List Place) → slice_get ys (0 + k) ≡ slice_get ys k
     no_more ys = let e : 0 + k ≡ k = omega arith in ap (slice_get ys) e
 
-    by_b : (b : Bool) → slice_get ((if b then place_of l B ∷ [] else []) ++ places_from (l + 1) i ss) ((if b then 1 else 0) + k) ≡ slice_get (places_from (l + 1) i ss) k
+    by_b : (b : Bool) → slice_get (cons_option (option_map (place_of l) (if b then Some B else None)) (places_from (l + 1) i ss)) ((if b then 1 else 0) + k) ≡ slice_get (places_from (l + 1) i ss) k
     by_b true = one_more (place_of l B) (places_from (l + 1) i ss)
     by_b false = no_more (places_from (l + 1) i ss)
 
-    by_a : (b : Bool) → slice_get ((if b then place_of l A ∷ [] else if s.b == i then place_of l B ∷ [] else []) ++ places_from (l + 1) i ss) ((if b then 1 else if s.b == i then 1 else 0) + k) ≡ slice_get (places_from (l + 1) i ss) k
+    by_a : (b : Bool) → slice_get (cons_option (option_map (place_of l) (if b then Some A else (if s.b == i then Some B else None))) (places_from (l + 1) i ss)) ((if b then 1 else if s.b == i then 1 else 0) + k) ≡ slice_get (places_from (l + 1) i ss) k
     by_a true = one_more (place_of l A) (places_from (l + 1) i ss)
     by_a false = by_b (s.b == i)
 

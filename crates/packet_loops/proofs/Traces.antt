@@ -1,5 +1,5 @@
 -- Traces are ways of packets, so they meet no router twice, and end.
-use Rattle.std.proofs.Common.{refl, sym, ap, subst, ◌∙◌, arith, inl, inr, eqb, ◌≡◌, ◌≢◌, ℕ, zero, suc, ◌<◌, ◌≤◌, Bool, true, false, not, ◌==◌, if◌then◌else◌, List, [], ◌∷◌, length, Option, Some, None, IsSome, eqb-true}
+use Rattle.std.proofs.Common.{refl, sym, ap, subst, ◌∙◌, arith, inl, inr, eqb, ◌≡◌, ℕ, zero, suc, ◌<◌, ◌≤◌, Bool, true, false, not, ◌==◌, if◌then◌else◌, List, [], ◌∷◌, length, Option, Some, None, IsSome, eqb-true}
 use Rattle.packet_loops.proofs.Common.{⊤, list_any, AllByRecursion, length-le_from_distinct_below, or_parts, or_cases, false≢true, length-map-range_with_len, Prefix, prefix_eq, Entry, Local, Via, Unreachable, Ending, World, opening, row_for, entry_leads, IsForwarded, IsPacketWalk, Onward, Ends, Goes, over_link, by_entry, by_row, onward, Trace, traced_by, trace_from, trace, Some_injective, None_not_Some, history, is_met, meets_twice}
 use Rattle.std.specs.List.{IsDistinct}
 use Rattle.packet_loops.proofs.Wiring.{wired}

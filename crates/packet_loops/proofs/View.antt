@@ -1,6 +1,6 @@
 -- What a prefix sees of parts that change, and of lists.
 use Rattle.std.proofs.Common.{refl, sym, ap, ◌∙◌, append_assoc, ◌≡◌, ◌≢◌, ℕ, zero, suc, Bool, true, false, ◌&&◌, ◌==◌, if◌then◌else◌, List, [], ◌∷◌, ◌++◌, map, Option, Some, None, slice_get, filter, option_map, eqb-true}
-use Rattle.packet_loops.proofs.Common.{option_map_or, Prefix, prefix_eq, Outgoing, changed_at, Message, Item, Held, End, Link, Router, Place, Port, session_at, held_of, is_notice, slice_get-changed_at, slice_get-changed_at_other, UpNotice, DownNotice, CostNotice, Reported, msg_of, heard_item, heard, is_kept, held_as, kept, on_link, sent_to, held_for, notices}
+use Rattle.packet_loops.proofs.Common.{option_map_or, Prefix, prefix_eq, Outgoing, changed_at, Item, Held, End, Link, Router, Place, Port, session_at, held_of, is_notice, slice_get-changed_at, slice_get-changed_at_other, UpNotice, DownNotice, CostNotice, Reported, msg_of, heard_item, heard, is_kept, held_as, kept, on_link, sent_to, held_for, notices}
 
 -- ---- laws of the parts
 

@@ -1,6 +1,6 @@
 //! The router.
 
-ghost use Rattle.std.specs.Prelude.{◌≡◌, ◌+◌, ◌^◌, ◌<◌, ◌≤◌, ◌↔◌, map, length, true, Some, None, IsTrue, IfOk, IfSome, OnOk, OnErr, OnSome, IfNone, slice_set, is_none, option_map};
+ghost use Rattle.std.specs.Prelude.{◌≡◌, ◌+◌, ◌^◌, ◌<◌, ◌≤◌, ◌↔◌, map, length, true, Some, None, IsTrue, IfOk, IfSome, OnOk, OnErr, OnSome, IfNone, slice_get, slice_set, is_none, option_map};
 ghost use Rattle.std.specs.List.{list_all};
 ghost use Rattle.std.specs.FinMap.{find as row_of, put, is_sorted};
 ghost use Rattle.std.specs.Option.{option_copied};
@@ -137,6 +137,13 @@ impl<A: SmallAllocator> Router<A> {
         ensures few { result ≤ most_ports }
     {
         self.ports.len()
+    }
+
+    /// What the router's notices said last of one of its ports; none where it has no such port.
+    pub fn port(&self, port: u8) -> Option<Port>
+        ensures { result ≡ slice_get (self.now).ports port }
+    {
+        self.ports.get(usize::from(port)).copied()
     }
 
     /// How often the router has published.

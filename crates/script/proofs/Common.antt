@@ -25,8 +25,8 @@ pub use Rattle.ipv4_prefix.specs.declared.fault.PrefixFault.{PrefixFault}
 pub use Rattle.ipv4_prefix.proofs.PrefixOrder.{prefix_eq-Decides}
 pub use Rattle.ipv4_prefix.proofs.PrefixTexts.{IsFirstFault-spelled}
 pub use Rattle.metric.specs.Distance.{IsCost}
-pub use Rattle.network_model.specs.Network.{degree, touches}
-pub use Rattle.network_model.specs.World.{places_from}
+pub use Rattle.network_model.specs.Network.{degree, joins, touches}
+pub use Rattle.network_model.specs.World.{neighbour_of, other, places_from, router_end}
 pub use Rattle.network_model.specs.declared.network.End.TheVariants.{A, B}
 pub use Rattle.network_model.specs.declared.network.LinkSpec.{LinkSpec}
 pub use Rattle.network_model.specs.declared.network.Place.{Place}
@@ -35,9 +35,9 @@ pub use Rattle.network_model.specs.declared.step.Step.{Step}
 pub use Rattle.network_model.specs.declared.step.Step.TheVariants.{Attach, Deliver, Detach, LinkDown, LinkUp, Publish, Release, SetCost}
 pub use Rattle.network_model.specs.declared.trace.Ending.{Ending}
 pub use Rattle.script.specs.Attachments.{AreWords, AttachmentLine, IsAttachment, IsAttachmentFault}
-pub use Rattle.script.specs.Commands.{Asks, AsksBadAttachment, AsksBadCost, AsksBadQuestion, AsksBadStep, AsksCost, AsksDelivery, AsksNoAttachment, AsksNoCost, AsksNoStep, AsksNothing, AsksStep, HasBadValue, IsCommand, IsCommandFault, IsKnownPrefix, IsPortOn, IsWay, NamesBadPrefix, NamesLink, NamesNoAddress, NamesNoPrefix, NamesNumber, NamesRouter, NamesText, NamesTextAndNumber, NamesTwice, address_verbs, joins, link_between, port_on}
-pub use Rattle.script.specs.Directories.{Directory, directory_of, far_end, lookup_text, neighbours_of, packet_text, path_text, router_across, source_at, trace_text}
-pub use Rattle.script.specs.Links.{IsLink, IsLinkFault, LinkLine, router_named}
+pub use Rattle.script.specs.Commands.{Asks, AsksBadAttachment, AsksBadCost, AsksBadQuestion, AsksBadStep, AsksCost, AsksDelivery, AsksNoAttachment, AsksNoCost, AsksNoStep, AsksNothing, AsksStep, HasBadValue, IsCommand, IsCommandFault, IsKnownPrefix, IsPortOn, IsWay, NamesBadPrefix, NamesLink, NamesNoAddress, NamesNoPrefix, NamesNumber, NamesRouter, NamesText, NamesTextAndNumber, NamesTwice, address_verbs, link_between, port_on}
+pub use Rattle.script.specs.Directories.{Directory, directory_of, lookup_text, neighbours_of, packet_text, path_text, router_across, source_at, trace_text}
+pub use Rattle.script.specs.Links.{IsLink, IsLinkFault, LinkWords, router_named}
 pub use Rattle.script.specs.Reading.{IsWhole, ReadsFirst, StopsHere}
 pub use Rattle.script.specs.Routers.{AreNames, FindsNames, IsDigit, IsName, IsSmallLetter, no_router, router_number}
 pub use Rattle.texts.specs.Lines.{lines_of}

@@ -2,8 +2,7 @@ pub mod NameTexts
 pub mod NameNumbers
 pub mod ReadLines
 pub mod Ports
-pub mod LinkTexts
-pub mod AttachmentTexts
+pub mod KnownPrefixes
 pub mod StepTexts
 pub mod CommandTexts
 pub mod Exits

@@ -1,6 +1,6 @@
 -- The ports of a router, by the links before each.
 use Rattle.std.proofs.Common.{refl, sym, ap, ◌∙◌, arith, append_assoc, length-append, ◌≡◌, ℕ, zero, suc, ◌+◌, ◌≤◌, ◌<◌, min, Bool, true, false, ◌==◌, ◌&&◌, ◌||◌, cond, if◌then◌else◌, List, [], ◌∷◌, ◌++◌, length, take, filter, Option, Some, None, slice_get, option_map, get_or, filter_map, true≢false, length-take, get_or-take, take_all}
-use Rattle.script.proofs.Common.{cons_option, position-Some, length-filter, slice_get-get_or, A, B, LinkSpec, Place, touches, degree, places_from, Some_injective, None_not_Some, router_across, far_end, neighbours_of, joins, link_between, port_on, IsPortOn}
+use Rattle.script.proofs.Common.{cons_option, position-Some, length-filter, slice_get-get_or, A, B, LinkSpec, Place, touches, degree, places_from, Some_injective, None_not_Some, router_across, router_end, other, neighbour_of, neighbours_of, joins, link_between, port_on, IsPortOn}
 
 -- ---- the place of a link
 
@@ -10,7 +10,7 @@ link_in places port = option_map (λ p. p.link) (slice_get places port)
 
 -- the places of one link, before those of the next ones
 abbrev places_with : ℕ → Bool → Bool → List Place → List Place
-places_with l a b rest = (if a then record { link = l; end = A } ∷ [] else if b then record { link = l; end = B } ∷ [] else []) ++ rest
+places_with l a b rest = cons_option (option_map (λ e. record { link = l; end = e }) (if a then Some A else (if b then Some B else None))) rest
 
 one_more : (n : ℕ) → 1 + n ≡ suc n
 one_more n = omega arith
@@ -107,29 +107,25 @@ home_port i links = ap (degree i) (take_all (length links) links (omega arith))
 
 -- ---- the routers across the ports
 
--- a list with one more at its end, and then others
-push-append : (before : List LinkSpec) (s : LinkSpec) (ss : List LinkSpec) → (before ++ s ∷ []) ++ ss ≡ before ++ s ∷ ss
-push-append before s ss = append_assoc before (s ∷ []) ss
-
 -- the element after the first ones
 after_first : (before : List LinkSpec) (s : LinkSpec) (ss : List LinkSpec) → slice_get (before ++ s ∷ ss) (length before) ≡ Some s
 after_first [] s ss = refl
 after_first (b ∷ bs) s ss = after_first bs s ss
 
 module _ (i : ℕ) where
-  far_from : (before ss : List LinkSpec) (l : ℕ) → l ≡ length before → filter_map (router_across (before ++ ss)) (places_from l i ss) ≡ filter_map (far_end i) ss
+  far_from : (before ss : List LinkSpec) (l : ℕ) → l ≡ length before → filter_map (router_across (before ++ ss)) (places_from l i ss) ≡ filter_map (neighbour_of i) ss
   far_from before [] l at = refl
   far_from before (s ∷ ss) l at =
       by_ends (s.a == i) (s.b == i) (ap (slice_get (before ++ s ∷ ss)) at ∙ after_first before s ss)
-      (ap (λ all. filter_map (router_across all) (places_from (l + 1) i ss)) (sym (push-append before s ss))
+      (ap (λ all. filter_map (router_across all) (places_from (l + 1) i ss)) (sym (append_assoc before (s ∷ []) ss))
       ∙ far_from (before ++ s ∷ []) ss (l + 1) (omega (arith, at, length-append before (s ∷ []))))
     where
-      by_ends : (a b : Bool) → slice_get (before ++ s ∷ ss) l ≡ Some s → filter_map (router_across (before ++ s ∷ ss)) (places_from (l + 1) i ss) ≡ filter_map (far_end i) ss
+      by_ends : (a b : Bool) → slice_get (before ++ s ∷ ss) l ≡ Some s → filter_map (router_across (before ++ s ∷ ss)) (places_from (l + 1) i ss) ≡ filter_map (neighbour_of i) ss
           → filter_map (router_across (before ++ s ∷ ss)) (places_with l a b (places_from (l + 1) i ss))
-          ≡ cons_option (if a then Some s.b else (if b then Some s.a else None)) (filter_map (far_end i) ss)
+          ≡ cons_option (option_map (λ e. router_end (other e) s) (if a then Some A else (if b then Some B else None))) (filter_map (neighbour_of i) ss)
       by_ends true b there rest = rw (there, rest) refl
       by_ends false true there rest = rw (there, rest) refl
       by_ends false false there rest = rest
 
-  pub far_all : (links : List LinkSpec) → filter_map (far_end i) links ≡ neighbours_of links i
+  pub far_all : (links : List LinkSpec) → filter_map (neighbour_of i) links ≡ neighbours_of links i
   far_all links = sym (far_from [] links 0 refl)

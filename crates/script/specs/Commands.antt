@@ -1,5 +1,5 @@
 -- The lines of the script.
-use Rattle.std.specs.Prelude.{◌≡◌, ◌≢◌, ℕ, ◌^◌, ◌<◌, Bool, ◌==◌, ◌&&◌, ◌||◌, ◌⊎◌, List, [], ◌∷◌, Option, Some, option_map, slice_get, position, take, Contains, codes, decimal}
+use Rattle.std.specs.Prelude.{◌≡◌, ◌≢◌, ℕ, ◌^◌, ◌<◌, ◌⊎◌, List, [], ◌∷◌, Option, Some, option_map, slice_get, position, take, Contains, codes, decimal}
 use Rattle.ipv4_prefix.specs.Faults.{SpellsAddress, IsAddressText, SpellsPrefix, IsFirstFault}
 use Rattle.ipv4_prefix.specs.Prefix.{Prefix}
 use Rattle.ipv4_prefix.specs.declared.fault.PrefixFault.{PrefixFault}
@@ -8,7 +8,7 @@ use Rattle.metric.specs.Distance.{IsCost}
 use Rattle.network_model.specs.declared.network.LinkSpec.{LinkSpec}
 use Rattle.network_model.specs.declared.step.Step.{Step}
 use Rattle.network_model.specs.declared.step.Step.TheVariants.{LinkUp, LinkDown, SetCost, Deliver, Publish, Release, Attach, Detach}
-use Rattle.network_model.specs.Network.{most_links, degree}
+use Rattle.network_model.specs.Network.{most_links, degree, joins}
 use Rattle.network_model.specs.World.{places_from}
 use Rattle.script.specs.declared.command.Command.{Command}
 use Rattle.script.specs.declared.fault.Fault.{Fault}
@@ -17,10 +17,6 @@ use Rattle.texts.specs.Words.{Text, words_of}
 use Rattle.script.specs.Routers.{router_number}
 
 -- ---- links and ports
-
--- whether the link joins the two routers, in either order
-abbrev pub joins : ℕ → ℕ → LinkSpec → Bool
-joins a b s = (s.a == a && s.b == b) || (s.a == b && s.b == a)
 
 -- the link of two routers: the first that joins them, of as many as a network can have
 abbrev pub link_between : ℕ → ℕ → List LinkSpec → Option ℕ

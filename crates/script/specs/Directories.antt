@@ -3,13 +3,11 @@ use Rattle.std.specs.Prelude.{ℕ, ◌==◌, if◌then◌else◌, List, ◌++◌
 use Rattle.std.specs.List.{flat_map, range_with_len}
 use Rattle.ipv4_prefix.specs.Prefix.{Prefix}
 use Rattle.ipv4_prefix.specs.Texts.{address_text, prefix_text}
-use Rattle.network_model.specs.declared.network.End.{End}
-use Rattle.network_model.specs.declared.network.End.TheVariants.{A, B}
 use Rattle.network_model.specs.declared.network.LinkSpec.{LinkSpec}
 use Rattle.network_model.specs.declared.network.Place.{Place}
 use Rattle.network_model.specs.declared.route.Entry.{Entry}
 use Rattle.network_model.specs.declared.route.Entry.TheVariants.{Local, Via, Unreachable}
-use Rattle.network_model.specs.World.{other, places_from}
+use Rattle.network_model.specs.World.{other, places_from, router_end}
 use Rattle.network_model.specs.declared.trace.Ending.{Ending}
 use Rattle.texts.specs.Words.{Text}
 use Rattle.script.specs.Routers.{no_router}
@@ -19,18 +17,9 @@ pub record Directory : Type 0 where
   pub names : List Text
   pub neighbours : List (List ℕ)
 
--- the router across a link from one of its ends
-abbrev pub far_end : ℕ → LinkSpec → Option ℕ
-far_end router s = if s.a == router then Some s.b else (if s.b == router then Some s.a else None)
-
--- the router at an end of a link
-abbrev pub router_at : End → LinkSpec → ℕ
-router_at A s = s.a
-router_at B s = s.b
-
 -- the router across the link at the place of a port
 abbrev pub router_across : List LinkSpec → Place → Option ℕ
-router_across links p = option_map (router_at (other p.end)) (slice_get links p.link)
+router_across links p = option_map (router_end (other p.end)) (slice_get links p.link)
 
 -- the routers across a router's ports, in a network of these links
 abbrev pub neighbours_of : List LinkSpec → ℕ → List ℕ

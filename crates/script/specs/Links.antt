@@ -8,7 +8,7 @@ use Rattle.texts.specs.Words.{Text, words_of}
 use Rattle.script.specs.Routers.{router_number, no_router}
 
 -- a line of four words: two names, neither of them empty, and the decimal texts of two numbers of 32 bits
-pub record LinkLine (line : Text) : Type 0 where
+pub record LinkWords (line : Text) : Type 0 where
   pub a : Text
   pub b : Text
   pub from_a : ℕ
@@ -20,7 +20,7 @@ pub record LinkLine (line : Text) : Type 0 where
   pub small_b : from_b < 2 ^ 32
 
 -- both numbers of the line are costs
-abbrev pub SpellsCosts : {line : Text} → LinkLine line → Type 0
+abbrev pub SpellsCosts : {line : Text} → LinkWords line → Type 0
 SpellsCosts l = IsCost l.from_a × IsCost l.from_b
 
 -- the router at an end of a link: no router where the name is not known
@@ -29,11 +29,11 @@ router_named names word = unwrap_or (router_number names word) no_router
 
 -- the link that a line says
 abbrev pub IsLink : List Text → Text → LinkSpec → Type 0
-IsLink names line link = (l : LinkLine line) × SpellsCosts l
+IsLink names line link = (l : LinkWords line) × SpellsCosts l
     × (link ≡ record { a = router_named names l.a; b = router_named names l.b; from_a = l.from_a; from_b = l.from_b })
 
 -- why a line says no link
 abbrev pub IsLinkFault : Text → Fault → Type 0
-IsLinkFault line BadLine = ¬ (LinkLine line)
-IsLinkFault line BadCost = (l : LinkLine line) × ¬ (SpellsCosts l)
+IsLinkFault line BadLine = ¬ (LinkWords line)
+IsLinkFault line BadCost = (l : LinkWords line) × ¬ (SpellsCosts l)
 IsLinkFault line _ = ⊥

@@ -1,7 +1,8 @@
 //! Texts that name routers.
 
 ghost use Rattle.std.specs.Prelude.{◌≡◌, IfOk, Some, filter_map};
-ghost use Rattle.script.specs.Directories.{directory_of, far_end as other_end, neighbour_at, source_at, name_text, entry_text, row_text, found_text, answer_text, lookup_text, packet_text};
+ghost use Rattle.network_model.specs.World.{neighbour_of};
+ghost use Rattle.script.specs.Directories.{directory_of, neighbour_at, source_at, name_text, entry_text, row_text, found_text, answer_text, lookup_text, packet_text};
 
 use crate::names::Names;
 use ipv4_prefix::{Addr, Prefix};
@@ -145,25 +146,12 @@ impl Directory {
 
 // The routers across a router's ports: across the links that touch it.
 fn neighbours_of(alloc: Global, router: u16, links: &[LinkSpec]) -> Result<Vec<u16>, AllocError>
-    ensures { IfOk result (λ v. v.items ≡ filter_map (other_end router) links.now) }
+    ensures { IfOk result (λ v. v.items ≡ filter_map (neighbour_of router) links.now) }
 {
     links
         .iter()
-        .filter_map(|link| far_end(link, router))
+        .filter_map(|link| link.neighbour_of(router))
         .collect(alloc)
-}
-
-// The router across a link from one of its ends.
-fn far_end(link: &LinkSpec, router: u16) -> Option<u16>
-    ensures { result ≡ other_end router link.now }
-{
-    if link.a == router {
-        Some(link.b)
-    } else if link.b == router {
-        Some(link.a)
-    } else {
-        None
-    }
 }
 
 // The text of an entry of a router.

@@ -6,7 +6,7 @@ ghost use Rattle.script.specs.Reading.{StopsHere, ReadsFirst, IsWhole};
 ghost use Rattle.texts.specs.Words.{texts};
 
 use crate::fault::Fault;
-use crate::names::Names;
+use crate::names::{NO_ROUTER, Names};
 use crate::place::{Key, Located};
 use metric::Cost;
 use network_model::LinkSpec;
@@ -34,8 +34,8 @@ pub(crate) fn read_links(
 }
 
 /// The link that a line says: `A B C1 C2`, with C1 the cost from A and C2 the cost from B. A name that
-/// is not known stands for the router 65535, which no network has. The words are tested first, and
-/// then the costs.
+/// is not known stands for no router, which is a fault where the network is opened, after those of all
+/// lines. The words are tested first, and then the costs.
 pub(crate) fn read_link(names: &Names, line: &str) -> Result<LinkSpec, Fault>
     ensures ok { IfOk result (IsLink names.now line.now) }
     ensures err { IfErr result (IsLinkFault line.now) }
@@ -48,8 +48,8 @@ pub(crate) fn read_link(names: &Names, line: &str) -> Result<LinkSpec, Fault>
     let from_b = read_number(from_b).ok_or(Fault::BadLine)?;
     let from_a = Cost::new(from_a)?;
     let from_b = Cost::new(from_b)?;
-    let a = names.number(a).unwrap_or(u16::MAX);
-    let b = names.number(b).unwrap_or(u16::MAX);
+    let a = names.number(a).unwrap_or(NO_ROUTER);
+    let b = names.number(b).unwrap_or(NO_ROUTER);
     Ok(LinkSpec {
         a,
         b,

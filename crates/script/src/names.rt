@@ -12,6 +12,9 @@ use std::alloc::Global;
 use std::collections::BTreeMap;
 use std::marker::Model;
 
+/// The number of no router: a network has at most 256.
+pub(crate) const NO_ROUTER: u16 = u16::MAX;
+
 /// The names of a network's routers, in the order of their numbers. A name has 1 to 16 characters,
 /// small letters and digits, the first a letter, and no two are the same.
 #[derive(Drop)]
@@ -59,11 +62,11 @@ impl Names {
         self.names.is_empty()
     }
 
-    /// The number of routers. More than 65535 count as 65535: a network has at most 256.
+    /// The number of routers. More than 65535 count as 65535.
     pub fn count(&self) -> u16
         ensures { result ≡ min no_router (length self.now) }
     {
-        u16::try_from(self.names.len()).unwrap_or(u16::MAX)
+        u16::try_from(self.names.len()).unwrap_or(NO_ROUTER)
     }
 
     /// The name of a router; none where there is no such router.

@@ -3,18 +3,16 @@
 ghost use Rattle.std.specs.Prelude.{◌≡◌, ◌≤◌, ℕ, ◌∷◌, IfOk, IfErr, IfSome, ◌<◌, length, position, codes};
 ghost use Rattle.metric.specs.Distance.{IsCost};
 ghost use Rattle.texts.specs.Words.{Text, words_of};
-ghost use Rattle.script.specs.Commands.{joins as joins_both, link_between as first_between, port_on as number_on, AsksStep, AsksNoStep, AsksCost, AsksNoCost, AsksDelivery, AsksAttachment, AsksNoAttachment, IsWay, NamesLink};
+ghost use Rattle.network_model.specs.Network.{joins};
+ghost use Rattle.script.specs.Commands.{link_between as first_between, port_on as number_on, AsksStep, AsksNoStep, AsksCost, AsksNoCost, AsksDelivery, AsksAttachment, AsksNoAttachment, IsWay, NamesLink};
 
 use crate::fault::Fault;
 use crate::names::Names;
 use crate::operand::{is_known, read_prefix, read_router};
 use ipv4_prefix::Prefix;
 use metric::Cost;
-use network_model::{LinkSpec, Step};
+use network_model::{LinkSpec, MOST_LINKS, Step};
 use texts::{first_word, read_number, three_words, two_words};
-
-// The greatest number of links of a network.
-const MOST_LINKS: usize = 1024;
 
 // A router, and a link that touches it.
 #[derive(Clone, Copy)]
@@ -192,17 +190,10 @@ fn link_between(links: &[LinkSpec], a: u16, b: u16) -> Option<u16>
 
 // The place of the first link that joins the two routers.
 fn place_between(links: &[LinkSpec], a: u16, b: u16) -> Option<usize>
-    ensures value { result ≡ position (joins_both a b) links.now }
+    ensures value { result ≡ position (joins a b) links.now }
     ensures within { IfSome result (λ link. link < length links.now) }
 {
-    links.iter().position(|link| joins(link, a, b))
-}
-
-// Whether the link joins the two routers, in either order.
-fn joins(link: &LinkSpec, a: u16, b: u16) -> bool
-    ensures { result ≡ joins_both a b link.now }
-{
-    (link.a == a && link.b == b) || (link.a == b && link.b == a)
+    links.iter().position(|link| link.joins(a, b))
 }
 
 // The router's port past those on so many first links: as many of them touch it. So it is the port on
@@ -225,6 +216,6 @@ fn earlier_links(links: &[LinkSpec], router: u16, link: usize) -> usize
     links
         .iter()
         .take(link)
-        .filter(|link| link.a == router || link.b == router)
+        .filter(|link| link.touches(router))
         .count()
 }

@@ -1,6 +1,7 @@
 -- In a network that can be opened no router has more ports than a router may have.
-use Rattle.std.proofs.Common.{refl, sym, ap, subst, ◌∙◌, arith, length-append, append_assoc, ◌≡◌, ℕ, suc, ◌+◌, ◌<◌, ◌≤◌, Bool, true, false, cond, not, ◌&&◌, ◌||◌, ◌==◌, nat_lt, nat_le, if◌then◌else◌, List, [], ◌∷◌, ◌++◌, length, filter, None, eqb-true, true≢false, ltb-true, append-nil}
-use Rattle.packet_loops.proofs.Common.{filter-append, length-filter, A, B, LinkSpec, NetworkFault, BadRouters, BadLink, TooManyLinks, Network, places_from, first_cause, link_causes, attachment_causes, most_routers, is_bad_link, is_link_too_many, touches, degree, most_ports, most_links, network_fault, first_none, none_in_both}
+use Rattle.std.proofs.Common.{refl, sym, ap, subst, ◌∙◌, arith, length-append, append_assoc, ◌≡◌, ℕ, suc, ◌+◌, ◌<◌, ◌≤◌, Bool, true, false, cond, not, ◌&&◌, ◌||◌, ◌==◌, nat_lt, nat_le, if◌then◌else◌, List, [], ◌∷◌, ◌++◌, length, filter, Some, None, option_map, eqb-true, true≢false, ltb-true, append-nil}
+use Rattle.std.specs.List.{cons_option}
+use Rattle.packet_loops.proofs.Common.{filter-append, length-filter, A, B, LinkSpec, NetworkFault, BadRouters, BadLink, TooManyLinks, Network, places_from, first_cause, link_causes, attachment_causes, most_routers, is_bad_link, is_link_too_many, touches, degree, most_ports, most_links, network_fault, place_of, first_none, none_in_both}
 
 -- ---- a router has a port for each link that touches it
 
@@ -9,7 +10,7 @@ length-places_from l i [] = refl
 length-places_from l i (s ∷ ss) = by_ends (s.a == i) (s.b == i) (length-places_from (l + 1) i ss)
   where
     by_ends : (a b : Bool) → length (places_from (l + 1) i ss) ≡ length (filter (touches i) ss)
-        → length ((if a then record { link = l; end = A } ∷ [] else if b then record { link = l; end = B } ∷ [] else []) ++ places_from (l + 1) i ss) ≡ length (cond (a || b) (s ∷ filter (touches i) ss) (filter (touches i) ss))
+        → length (cons_option (option_map (place_of l) (if a then Some A else (if b then Some B else None))) (places_from (l + 1) i ss)) ≡ length (cond (a || b) (s ∷ filter (touches i) ss) (filter (touches i) ss))
     by_ends true b rest = ap suc rest
     by_ends false true rest = ap suc rest
     by_ends false false rest = rest

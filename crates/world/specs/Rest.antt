@@ -1,5 +1,5 @@
 -- How much of a network is not at rest.
-use Rattle.std.specs.Prelude.{◌≡◌, ℕ, ◌+◌, ◌≤◌, Bool, false, not, ◌||◌, nat_lt, if◌then◌else◌, List, filter, length, Option, option_map, option_and_then, slice_get}
+use Rattle.std.specs.Prelude.{◌≡◌, ℕ, ◌+◌, ◌≤◌, Bool, false, not, ◌||◌, nat_lt, List, filter, length, Option, option_map, option_and_then, slice_get}
 use Rattle.std.specs.Option.{option_map_or}
 use Rattle.network_model.specs.World.{Link, Router, Attachments, World, place_at}
 use Rattle.network_model.specs.Step.{is_due}

@@ -36,7 +36,10 @@ mod opening;
 mod watched;
 mod world;
 
-pub use network::{MOST_ATTACHMENTS, MOST_LINKS, MOST_PORTS, MOST_PREFIXES, MOST_ROUTERS, Network};
-pub use network_model::{Cost, LinkSpec, NetworkFault, Place, Prefix, Refusal, Step};
+pub use network::Network;
+pub use network_model::{
+    Cost, LinkSpec, MOST_ATTACHMENTS, MOST_LINKS, MOST_PORTS, MOST_PREFIXES, MOST_ROUTERS,
+    NetworkFault, Place, Prefix, Refusal, Step,
+};
 pub use watched::WatchedWorld;
 pub use world::{Ran, World};

@@ -8,7 +8,10 @@ ghost use Rattle.network_model.specs.World.{prefixes_of};
 ghost use Rattle.network_model.specs.Network as valid;
 ghost use Rattle.world.specs.Parts.{network_of};
 
-use network_model::{Cost, LinkSpec, NetworkFault, Prefix};
+use network_model::{
+    Cost, LinkSpec, MOST_ATTACHMENTS, MOST_LINKS, MOST_PORTS, MOST_PREFIXES, MOST_ROUTERS,
+    NetworkFault, Prefix,
+};
 use std::marker::Model;
 
 /// The parts of a network that can be opened: its number of routers, its links, and which routers
@@ -97,37 +100,16 @@ impl Network {
     }
 }
 
-/// The most routers that a network can have.
-pub const MOST_ROUTERS: u16 = 256;
-
-/// The most links that a network can have.
-pub const MOST_LINKS: usize = 1024;
-
-/// The most links that can touch one router.
-pub const MOST_PORTS: usize = 32;
-
-/// The most prefixes that a network can have.
-pub const MOST_PREFIXES: usize = 4096;
-
-/// The most attachments of routers to prefixes that a network can have.
-pub const MOST_ATTACHMENTS: usize = 16_384;
-
-fn touches(router: u16, link: &LinkSpec) -> bool
-    ensures { result ≡ valid.touches router link.now }
-{
-    link.a == router || link.b == router
-}
-
 fn has_same_ends(link: &LinkSpec, other: &LinkSpec) -> bool
     ensures { result ≡ valid.has_same_ends link.now other.now }
 {
-    touches(other.a, link) && touches(other.b, link)
+    link.touches(other.a) && link.touches(other.b)
 }
 
 fn degree(router: u16, links: &[LinkSpec]) -> usize
     ensures { result ≡ valid.degree router links.now }
 {
-    links.iter().filter(|link| touches(router, link)).count()
+    links.iter().filter(|link| link.touches(router)).count()
 }
 
 fn has_twin(before: &[LinkSpec], link: &LinkSpec) -> bool

@@ -22,16 +22,10 @@ pub fn places_of<A: SmallAllocator>(
 {
     let mut places = Vec::new(alloc);
     for i in 0..links.len() {
-        let link = &links[i];
-        if link.a == router {
+        if let Some(end) = links[i].end_of(router) {
             places.push(Place {
                 link: i as u16,
-                end: End::A,
-            })?;
-        } else if link.b == router {
-            places.push(Place {
-                link: i as u16,
-                end: End::B,
+                end,
             })?;
         }
     }

@@ -3,7 +3,7 @@ use Rattle.script.specs.declared.fault.Fault.TheVariants.{Prefix as OfPrefix}
 use Rattle.script.proofs.Common.{Text, words_of, NamesNoPrefix}
 use Rattle.script.proofs.Exits.{at_err}
 use Rattle.script.proofs.StepTexts.{IsStrange, no_prefix, text_unique}
-use Rattle.script.proofs.AttachmentTexts.{known_by_test, strange}
+use Rattle.script.proofs.KnownPrefixes.{known_by_test, strange}
 use Rattle.script.proofs.operand.read_prefix.Goals as goal
 
 pub returns-in_err-router-clause-err : goal.returns-in_err-router-clause-err

@@ -1,5 +1,5 @@
 use Rattle.std.proofs.Common.{position, ap, ◌∙◌}
-use Rattle.script.specs.Commands.{joins}
+use Rattle.network_model.specs.Network.{joins}
 use Rattle.script.proofs.ReadLines.{first_is}
 use Rattle.script.proofs.step.link_between.Goals as goal
 

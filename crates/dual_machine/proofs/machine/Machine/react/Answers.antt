@@ -18,6 +18,7 @@ use Rattle.dual_machine.proofs.Costs.{condition_holds_near, not_above, HasCost-a
 use Rattle.dual_machine.proofs.Debts.{not_risen, IsDebtOf_after}
 use Rattle.dual_machine.proofs.Deciding.{then, recorded, decision-passive, decision-done}
 use Rattle.dual_machine.proofs.machine.Machine.react.Goals as goal
+use Rattle.dual_machine.proofs.machine.Machine.react.Goals.{After-push_to, After-is_done}
 use Rattle.dual_machine.proofs.machine.Machine.react.Given as given
 
 pub invariant_of-self : goal.invariant_of-self
@@ -34,65 +35,62 @@ invariant_of-self-then-is_done g c =
     (omega arith) c.deref_mut.ensures.value c.change_record.ensures.records c.attachment_after-self-inside.ensures c.change_record.ensures.cost c.self.invariant.few c.self.invariant.costs c.self.invariant.attached
     tt
 
+-- what was under way before the event, and what is owed after it
+debts : (g : given.Over) (c : After-push_to g) → (let n = length (c.self.inside.ports).items in
+    IsUnderWay n c.self.inside.successor c.in-Some.active × IsDebtOf n c.moved-origin.result c.successor_after-self-inside.result c.debt_after-debt.result)
+debts g c =
+    let i = c.self.inside in
+    let count : c.len-degree.result ≡ length (i.ports).items = omega arith in
+    let known : IsKnown (length (i.ports).items) c.args.event.now = subst (λ (s : MachineState). IsKnown (port_count s.machine) c.args.event.now) (sym c.self.view_is) c.requires.known in
+    let before = subst (λ (a : Option Active). IfSome a (IsUnderWay (length (i.ports).items) i.successor)) c.in-Some.is c.self.invariant.under_way in
+    (before, IsDebtOf_after (length (i.ports).items) c.args.event.now i.successor _ c.has_risen-risen.result _ _ _ _ known (c.moved-origin.ensures ∙ ap (λ (n : ℕ). moved n i.successor c.args.event.now c.has_risen-risen.result c.in-Some.active.origin) count) (c.successor_after-self-inside.ensures ∙ ap (λ (n : ℕ). successor_after n c.args.event.now i.successor) count) c.debt_after-debt.ensures before.debt)
+
 pub invariant_of-self-else-is_done : goal.invariant_of-self-else-is_done
 invariant_of-self-else-is_done g c =
     let i = c.self.inside in
     let n = length (i.ports).items in
-    let count : c.len-degree.result ≡ length (i.ports).items = omega arith in
-    let known : IsKnown (length (i.ports).items) c.args.event.now = subst (λ (s : MachineState). IsKnown (port_count s.machine) c.args.event.now) (sym c.self.view_is) c.requires.known in
-    let before = subst (λ (a : Option Active). IfSome a (IsUnderWay n i.successor)) c.in-Some.is c.self.invariant.under_way in
+    let (before, debt) = debts g (goal.at.invariant_of-self-else-is_done g c).After-push_to in
     IsSound_after c.args.event.now i.attachment _ (i.ports).items c.deref_mut.result.now c.change_record.new.ports _ c.successor_after-self-inside.result _
     (omega arith) c.deref_mut.ensures.value c.change_record.ensures.records c.attachment_after-self-inside.ensures c.change_record.ensures.cost c.self.invariant.few c.self.invariant.costs c.self.invariant.attached
     (record {
       asking = asking-done c.is_done.result c.end_wait.new.replies n (c.end_wait.ensures.no_more n before.known) c.is_done.ensures ∙ ap not c.if-is_done.false;
       known = c.end_wait.ensures.no_more n before.known;
-      debt = IsDebtOf_after (length (i.ports).items) c.args.event.now i.successor _ c.has_risen-risen.result _ _ _ _ known (c.moved-origin.ensures ∙ ap (λ (n : ℕ). moved n i.successor c.args.event.now c.has_risen-risen.result c.in-Some.active.origin) count) (c.successor_after-self-inside.ensures ∙ ap (λ (n : ℕ). successor_after n c.args.event.now i.successor) count) c.debt_after-debt.ensures before.debt;
+      debt = debt;
     })
+
+-- who is awaited after the event, and whether someone is
+waits : (g : given.Over) (c : After-is_done g) → (let n = length (c.self.inside.ports).items in
+    (awaited_of n c.end_wait.new.replies ≡ awaited_after c.args.event.now (awaited_of n c.in-Some.active.replies)) × (list_any (λ b. b) (awaited_of n c.end_wait.new.replies) ≡ not c.is_done.result))
+waits g c =
+    let i = c.self.inside in
+    let n = length (i.ports).items in
+    (c.end_wait.ensures.awaited n, asking_after n i.successor i.active c.in-Some.active c.end_wait.new.replies c.is_done.result c.in-Some.is c.self.invariant.under_way c.end_wait.ensures.no_more c.is_done.ensures)
 
 pub returns-else-is_done-clause-machine : goal.returns-else-is_done-clause-machine
 returns-else-is_done-clause-machine g c =
-    let i = c.self.inside in
-    let awaited = c.end_wait.ensures.awaited (length (i.ports).items) in
-    let asking = asking_after (length (i.ports).items) i.successor i.active c.in-Some.active c.end_wait.new.replies c.is_done.result c.in-Some.is c.self.invariant.under_way c.end_wait.ensures.no_more c.is_done.ensures in
-    grind (arith, common_steps)
+    let (awaited, asking) = waits g (goal.at.returns-else-is_done-clause-machine g c).After-is_done in grind (arith, common_steps)
 
 pub returns-else-is_done-clause-origin : goal.returns-else-is_done-clause-origin
 returns-else-is_done-clause-origin g c =
-    let i = c.self.inside in
-    let awaited = c.end_wait.ensures.awaited (length (i.ports).items) in
-    let asking = asking_after (length (i.ports).items) i.successor i.active c.in-Some.active c.end_wait.new.replies c.is_done.result c.in-Some.is c.self.invariant.under_way c.end_wait.ensures.no_more c.is_done.ensures in
-    grind (arith, common_steps)
+    let (awaited, asking) = waits g (goal.at.returns-else-is_done-clause-origin g c).After-is_done in grind (arith, common_steps)
 
 pub returns-then-is_done-clause-origin : goal.returns-then-is_done-clause-origin
 returns-then-is_done-clause-origin g c =
-    let i = c.self.inside in
-    let awaited = c.end_wait.ensures.awaited (length (i.ports).items) in
-    let asking = asking_after (length (i.ports).items) i.successor i.active c.in-Some.active c.end_wait.new.replies c.is_done.result c.in-Some.is c.self.invariant.under_way c.end_wait.ensures.no_more c.is_done.ensures in
-    grind (arith, common_steps)
+    let (awaited, asking) = waits g (goal.at.returns-then-is_done-clause-origin g c).After-is_done in grind (arith, common_steps)
 
 pub returns-else-is_done-clause-sent : goal.returns-else-is_done-clause-sent
 returns-else-is_done-clause-sent g c =
-    let i = c.self.inside in
-    let awaited = c.end_wait.ensures.awaited (length (i.ports).items) in
-    let asking = asking_after (length (i.ports).items) i.successor i.active c.in-Some.active c.end_wait.new.replies c.is_done.result c.in-Some.is c.self.invariant.under_way c.end_wait.ensures.no_more c.is_done.ensures in
-    grind (arith, common_steps)
+    let (awaited, asking) = waits g (goal.at.returns-else-is_done-clause-sent g c).After-is_done in grind (arith, common_steps)
 
 pub complete-requires-clause-room : goal.complete-requires-clause-room
 complete-requires-clause-room g c =
-    let i = c.self.inside in
-    let awaited = c.end_wait.ensures.awaited (length (i.ports).items) in
-    let asking = asking_after (length (i.ports).items) i.successor i.active c.in-Some.active c.end_wait.new.replies c.is_done.result c.in-Some.is c.self.invariant.under_way c.end_wait.ensures.no_more c.is_done.ensures in
-    grind (arith, common_steps)
+    let (awaited, asking) = waits g (goal.at.complete-requires-clause-room g c).After-is_done in grind (arith, common_steps)
 
 pub complete-requires-clause-debt : goal.complete-requires-clause-debt
 complete-requires-clause-debt g c =
     let i = c.self.inside in
-    let count : c.len-degree.result ≡ length (i.ports).items = omega arith in
-    let known : IsKnown (length (i.ports).items) c.args.event.now = subst (λ (s : MachineState). IsKnown (port_count s.machine) c.args.event.now) (sym c.self.view_is) c.requires.known in
-    let before = subst (λ (a : Option Active). IfSome a (IsUnderWay (length (i.ports).items) i.successor)) c.in-Some.is c.self.invariant.under_way in
-    let as_many : length (i.ports).items ≡ length (take (length (i.ports).items) (c.change_record.new.ports ++ drop (length c.change_record.new.ports) (i.ports).items)) = length_refill (length (i.ports).items) (i.ports).items c.change_record.new.ports refl in
-    subst (λ (n : ℕ). IsDebtOf n c.moved-origin.result c.successor_after-self-inside.result c.debt_after-debt.result) as_many
-    (IsDebtOf_after (length (i.ports).items) c.args.event.now i.successor _ c.has_risen-risen.result _ _ _ _ known (c.moved-origin.ensures ∙ ap (λ (n : ℕ). moved n i.successor c.args.event.now c.has_risen-risen.result c.in-Some.active.origin) count) (c.successor_after-self-inside.ensures ∙ ap (λ (n : ℕ). successor_after n c.args.event.now i.successor) count) c.debt_after-debt.ensures before.debt)
+    subst (λ (n : ℕ). IsDebtOf n c.moved-origin.result c.successor_after-self-inside.result c.debt_after-debt.result)
+    (length_refill (length (i.ports).items) (i.ports).items c.change_record.new.ports refl) (debts g (goal.at.complete-requires-clause-debt g c).After-push_to).1
 
 pub complete-requires-clause-tested : goal.complete-requires-clause-tested
 complete-requires-clause-tested g c = λ untested.

@@ -1,22 +1,7 @@
--- The words of a prefix's line, and the prefixes of a network.
+-- The prefixes of a network.
 use Rattle.std.proofs.Common.{◌≡◌, ◌≢◌, ℕ, ◌^◌, ◌<◌, true, false, List, [], Some, Contains, Result, Ok, Err, refl, sym, ap, subst, ◌∙◌}
 use Rattle.script.proofs.Common.{list_any, false≢true, Any-from_list_any, list_any_at, Prefix, prefix_eq, SpellsPrefix, IsFirstFault, PrefixFault, prefix_eq-Decides, Text, router_number, AreWords, AttachmentLine, IsKnownPrefix}
 use Rattle.script.proofs.StepTexts.{IsStrange}
-
--- a line whose prefix is not empty and whose router is known
-abbrev pub attachment_line : (names : List Text) (line prefix name : Text) (cost router : ℕ) → AreWords line prefix name cost → prefix ≢ [] → router_number names name ≡ Some router → cost < 2 ^ 32 → AttachmentLine names line
-attachment_line names line prefix name cost router words has_prefix known small = record {
-  prefix = prefix;
-  name = name;
-  router = router;
-  cost = cost;
-  words = words;
-  has_prefix = has_prefix;
-  known = known;
-  small = small;
-}
-
--- ---- prefixes of the network
 
 module _ (attachments : List (Prefix × ℕ × ℕ)) (prefix : Prefix) where
   pub known_by_test : list_any (λ a. prefix_eq a.0 prefix) attachments ≡ true → IsKnownPrefix attachments prefix
