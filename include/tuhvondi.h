@@ -33,25 +33,48 @@ extern "C" {
 #define TUHVONDI_ASSERT(test, text) _Static_assert(test, text)
 #endif
 
-/* What a call answers: done, or why it is refused. A refused call leaves the image of its handle as
- * it is. Faults are tested in the order of their numbers, and those of rows at the first row that
- * has one. */
+/* What a call answers: done, or why it is refused. A refused call leaves what its handle holds as it is.
+ * Faults are tested in the order of their numbers, but for want of memory, which comes last, and where a
+ * function says another order; those of a list's elements at the first that has one. */
 enum tuhvondi_status {
     TUHVONDI_DONE = 0,
-    /* A row's length is above 32. */
+    /* A prefix's length is above 32. */
     TUHVONDI_BAD_LENGTH = 3,
-    /* A row's address has bits set after the first `len`. */
+    /* A prefix's address has bits set after the first `len`. */
     TUHVONDI_HOST_BITS = 4,
-    /* A row's kind is above 2. */
+    /* A cost is outside 1 to 65535. */
+    TUHVONDI_BAD_COST = 5,
+    /* A row's or a message's kind is above 2. */
     TUHVONDI_BAD_KIND = 6,
-    /* The handle holds no image. */
+    /* The handle holds no image, or no router. */
     TUHVONDI_NO_IMAGE_HELD = 7,
-    /* There are not as many answers as addresses. */
+    TUHVONDI_NO_ROUTER_HELD = 7,
+    /* A list has another length than the call can use. */
     TUHVONDI_BAD_COUNT = 8,
     /* Other handles hold the image too. */
     TUHVONDI_SHARED = 9,
+    /* The router has no such port. */
+    TUHVONDI_UNKNOWN_PORT = 11,
+    /* The port's link is up. */
+    TUHVONDI_ALREADY_UP = 13,
+    /* The port's link is down. */
+    TUHVONDI_IS_DOWN = 14,
+    /* No publication is due. */
+    TUHVONDI_NOTHING_DUE = 17,
+    /* No message may leave. */
+    TUHVONDI_NOTHING_RIPE = 18,
     /* Memory was refused. */
-    TUHVONDI_NO_MEMORY = 20
+    TUHVONDI_NO_MEMORY = 20,
+    /* A router would have more than 32 ports. */
+    TUHVONDI_TOO_MANY_PORTS = 26,
+    /* The router has not heard of the prefix. */
+    TUHVONDI_UNKNOWN_PREFIX = 28,
+    /* The router is not attached to the prefix. */
+    TUHVONDI_NOT_ATTACHED = 29,
+    /* A message is of another session than its port, or a link comes up in no later session. */
+    TUHVONDI_OTHER_SESSION = 36,
+    /* The router has published 2^64 - 1 times. */
+    TUHVONDI_GENERATIONS_SPENT = 37
 };
 
 /* A status in words, for messages: never null, and not to be freed. */
@@ -61,19 +84,41 @@ static inline const char *tuhvondi_status_text(uint32_t status)
     case TUHVONDI_DONE:
         return "done";
     case TUHVONDI_BAD_LENGTH:
-        return "a row's length is above 32";
+        return "a prefix's length is above 32";
     case TUHVONDI_HOST_BITS:
-        return "a row's address has bits set after its length";
+        return "a prefix's address has bits set after its length";
+    case TUHVONDI_BAD_COST:
+        return "a cost is outside 1 to 65535";
     case TUHVONDI_BAD_KIND:
-        return "a row's kind is above 2";
+        return "a kind is above 2";
     case TUHVONDI_NO_IMAGE_HELD:
-        return "the handle holds no image";
+        return "the handle is empty";
     case TUHVONDI_BAD_COUNT:
-        return "there are not as many answers as addresses";
+        return "a list has another length than the call can use";
     case TUHVONDI_SHARED:
         return "other handles hold the image too";
+    case TUHVONDI_UNKNOWN_PORT:
+        return "the router has no such port";
+    case TUHVONDI_ALREADY_UP:
+        return "the link is up";
+    case TUHVONDI_IS_DOWN:
+        return "the link is down";
+    case TUHVONDI_NOTHING_DUE:
+        return "no publication is due";
+    case TUHVONDI_NOTHING_RIPE:
+        return "no message may leave";
     case TUHVONDI_NO_MEMORY:
         return "memory was refused";
+    case TUHVONDI_TOO_MANY_PORTS:
+        return "a router has at most 32 ports";
+    case TUHVONDI_UNKNOWN_PREFIX:
+        return "the router has not heard of the prefix";
+    case TUHVONDI_NOT_ATTACHED:
+        return "the router is not attached to the prefix";
+    case TUHVONDI_OTHER_SESSION:
+        return "the session is another";
+    case TUHVONDI_GENERATIONS_SPENT:
+        return "the router has published as often as can be counted";
     default:
         return "no status of this library";
     }
@@ -134,6 +179,11 @@ uint32_t tuhvondi_image_apply(struct tuhvondi_image *image, uint64_t generation,
 /* Has `other` hold the image of `image` too, and lets go of the image that `other` held.
  * Refused: TUHVONDI_NO_IMAGE_HELD, TUHVONDI_NO_MEMORY. */
 uint32_t tuhvondi_image_share(struct tuhvondi_image *image, struct tuhvondi_image *other);
+
+/* Has `other` hold an image of its own with the same rows and generation, and lets go of the image that
+ * `other` held. It takes time and memory by the rows. Of two images one can change while the other is read.
+ * Refused: TUHVONDI_NO_IMAGE_HELD, TUHVONDI_NO_MEMORY. */
+uint32_t tuhvondi_image_copy(struct tuhvondi_image *image, struct tuhvondi_image *other);
 
 /* Writes into answers[i] the row with the longest prefix that covers addrs[i], or TUHVONDI_NO_ROW.
  * It takes no memory, and reads at most nine nodes of the image for each address.

@@ -1,5 +1,5 @@
 -- Images that are made of rows.
-use Rattle.std.specs.Prelude.{ℕ, List, []}
+use Rattle.std.specs.Prelude.{List, []}
 use Rattle.ipv4_prefix.specs.Prefix.{Prefix}
 use Rattle.network_model.specs.Publication.{Image, with_rows}
 use Rattle.network_model.specs.declared.route.Entry.{Entry}

@@ -1,4 +1,3 @@
-pub mod Held
 pub mod Handles
 pub mod Faults
 pub mod Rows

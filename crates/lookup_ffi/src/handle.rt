@@ -20,9 +20,10 @@ pub struct ImageHandle {
 }
 
 impl Model for ImageHandle {
-    ghost use Rattle.lookup_ffi.specs.Held.{held_owns};
+    ghost use Rattle.c_interface.specs.Handles.{held_owns};
+    ghost use Rattle.lookup_ffi.specs.contracts.shared.Shared.{the_row as image_row};
 
-    ghost also_owns = { λ h. held_owns h.alloc h.holds h.image h.value };
+    ghost also_owns = { λ h. held_owns image_row h.alloc h.holds h.image h.value };
 }
 
 impl ImageHandle {

@@ -2,14 +2,14 @@
 
 ghost use Rattle.std.specs.Prelude.{◌≡◌, None, IfOk, IsOkUnless, map};
 ghost use Rattle.lookup_ffi.specs.Images.{new_image};
-ghost use Rattle.lookup_ffi.specs.Rows.{row_entry, first_row_fault};
+ghost use Rattle.c_interface.specs.Rows.{row_entry};
+ghost use Rattle.lookup_ffi.specs.Rows.{first_row_fault};
 
-use crate::fault::Fault;
-use crate::row::Row;
 use crate::rows::read_rows;
 use crate::shared::Shared;
+use c_interface::{Fault, Row};
 use std::alloc::Global;
-use tree_bitmap::parts::{empty, set_rows};
+use tree_bitmap::parts::{copy, empty, set_rows};
 
 /// An image of generation 0 of these rows, set in order.
 pub fn image_of_rows(alloc: Global, rows: &[Row]) -> Result<Box<Shared>, Fault>
@@ -28,4 +28,13 @@ pub fn share_image(alloc: Global, image: &Shared) -> Result<Box<Shared>, Fault>
     ensures err { IsOkUnless result Fault.NoMemory }
 {
     Ok(Box::new(alloc, image.again()?)?)
+}
+
+/// The only holder of an image with the same rows and generation, in memory of its own.
+pub fn copy_image(alloc: Global, image: &Shared) -> Result<Box<Shared>, Fault>
+    ensures ok { IfOk result (λ other. other.value ≡ image.now) }
+    ensures err { IsOkUnless result Fault.NoMemory }
+{
+    let image = copy(image.get(), alloc)?;
+    Ok(Box::new(alloc, Shared::new(alloc, image)?)?)
 }

@@ -9,35 +9,22 @@ ghost use Rattle.std.specs.Option.{option_map};
 ghost use Rattle.lookup_ffi.specs.Handles.{handle_image};
 ghost use Rattle.image_patch.specs.Patches.{patched};
 ghost use Rattle.lookup_ffi.specs.Images.{new_image};
-ghost use Rattle.lookup_ffi.specs.Faults.{fault_number, IsMakeStatus, IsApplyStatus};
-ghost use Rattle.lookup_ffi.specs.Faults.{IsShareStatus, IsLookupStatus};
-ghost use Rattle.lookup_ffi.specs.Rows.{row_entry, answer_rows, first_row_fault};
+ghost use Rattle.c_interface.specs.Faults.{fault_number, IsStatusBy};
+ghost use Rattle.c_interface.specs.Rows.{row_entry};
+ghost use Rattle.lookup_ffi.specs.Faults.{IsApplyStatus, IsGiveStatus, IsLookupStatus};
+ghost use Rattle.lookup_ffi.specs.Rows.{answer_rows, first_row_fault};
 
+use c_interface::{Fault, Row, status};
 use std::alloc::Global;
 
-mod fault;
 mod handle;
 mod images;
-mod row;
 mod rows;
 mod shared;
 
-use fault::Fault;
 use handle::ImageHandle;
-use images::{image_of_rows, share_image};
-use row::Row;
+use images::{copy_image, image_of_rows, share_image};
 use rows::{answer_all, check_rows};
-
-// What C is told of an outcome.
-fn status(outcome: Result<(), Fault>) -> u32
-    ensures ok { OnOk outcome (result ≡ 0) }
-    ensures err { IfErr outcome (λ f. (result ≡ fault_number f) × (0 < result)) }
-{
-    match outcome {
-        Ok(()) => 0,
-        Err(fault) => fault.number(),
-    }
-}
 
 // Makes an image of rows and puts it into a handle.
 fn make(alloc: Global, rows: &[Row], image: &mut ImageHandle) -> Result<(), Fault>
@@ -45,7 +32,7 @@ fn make(alloc: Global, rows: &[Row], image: &mut ImageHandle) -> Result<(), Faul
     ensures made { OnOk result (handle_image image.new
         ≡ Some (new_image (map row_entry rows.now))) }
     ensures unchanged { OnErr result (handle_image image.new ≡ handle_image image.old) }
-    ensures err { IfErr result (λ f. IsMakeStatus (first_row_fault rows.now) (fault_number f)) }
+    ensures err { IfErr result (λ f. IsStatusBy (first_row_fault rows.now) (fault_number f)) }
 {
     check_rows(rows)?;
     image.put(image_of_rows(alloc, rows)?);
@@ -57,7 +44,7 @@ fn make(alloc: Global, rows: &[Row], image: &mut ImageHandle) -> Result<(), Faul
 /// was refused.
 #[unsafe(no_mangle)]
 pub extern "C" fn tuhvondi_image_new(alloc: Global, rows: &[Row], image: &mut ImageHandle) -> u32
-    ensures status { IsMakeStatus (first_row_fault rows.now) result }
+    ensures status { IsStatusBy (first_row_fault rows.now) result }
     ensures done { result ≡ 0 → handle_image image.new ≡ Some (new_image (map row_entry rows.now)) }
     ensures refused { result ≢ 0 → handle_image image.new ≡ handle_image image.old }
 {
@@ -75,7 +62,7 @@ fn apply(alloc: Global, image: &mut ImageHandle, generation: u64, rows: &[Row]) 
 {
     check_rows(rows)?;
     let Some(mut held) = image.take(alloc) else {
-        return Err(Fault::NoImage);
+        return Err(Fault::Empty);
     };
     let outcome = held.apply(alloc, generation, rows);
     image.put(held);
@@ -100,18 +87,27 @@ pub extern "C" fn tuhvondi_image_apply(
     status(apply(alloc, image, generation, rows))
 }
 
-// Has another handle hold an image too.
-fn share(alloc: Global, image: &mut ImageHandle, other: &mut ImageHandle) -> Result<(), Fault>
+// Has another handle hold an image too, or a copy of it.
+fn give(
+    alloc: Global,
+    image: &mut ImageHandle,
+    other: &mut ImageHandle,
+    copies: bool,
+) -> Result<(), Fault>
     ensures image { handle_image image.new ≡ handle_image image.old }
-    ensures ok { OnOk result (IsShareStatus (handle_image image.old) 0) }
-    ensures shared { OnOk result (handle_image other.new ≡ handle_image image.old) }
+    ensures ok { OnOk result (IsGiveStatus (handle_image image.old) 0) }
+    ensures given { OnOk result (handle_image other.new ≡ handle_image image.old) }
     ensures unchanged { OnErr result (handle_image other.new ≡ handle_image other.old) }
-    ensures err { IfErr result (λ f. IsShareStatus (handle_image image.old) (fault_number f)) }
+    ensures err { IfErr result (λ f. IsGiveStatus (handle_image image.old) (fault_number f)) }
 {
     let Some(held) = image.take(alloc) else {
-        return Err(Fault::NoImage);
+        return Err(Fault::Empty);
     };
-    let one_more = share_image(alloc, &held);
+    let one_more = if copies {
+        copy_image(alloc, &held)
+    } else {
+        share_image(alloc, &held)
+    };
     image.put(held);
     other.put(one_more?);
     Ok(())
@@ -125,12 +121,28 @@ pub extern "C" fn tuhvondi_image_share(
     image: &mut ImageHandle,
     other: &mut ImageHandle,
 ) -> u32
-    ensures status { IsShareStatus (handle_image image.old) result }
+    ensures status { IsGiveStatus (handle_image image.old) result }
     ensures done { result ≡ 0 → handle_image other.new ≡ handle_image image.old }
     ensures refused { result ≢ 0 → handle_image other.new ≡ handle_image other.old }
     ensures image { handle_image image.new ≡ handle_image image.old }
 {
-    status(share(alloc, image, other))
+    status(give(alloc, image, other, false))
+}
+
+/// Has another handle hold an image with the same rows and generation, in memory of its own; the one that
+/// it held is freed. 7: the handle holds no image. 20: memory was refused.
+#[unsafe(no_mangle)]
+pub extern "C" fn tuhvondi_image_copy(
+    alloc: Global,
+    image: &mut ImageHandle,
+    other: &mut ImageHandle,
+) -> u32
+    ensures status { IsGiveStatus (handle_image image.old) result }
+    ensures done { result ≡ 0 → handle_image other.new ≡ handle_image image.old }
+    ensures refused { result ≢ 0 → handle_image other.new ≡ handle_image other.old }
+    ensures image { handle_image image.new ≡ handle_image image.old }
+{
+    status(give(alloc, image, other, true))
 }
 
 // Answers addresses by a handle's image.
@@ -150,7 +162,7 @@ fn look_up(
         (handle_image image.old) (length addrs.now) (length answers.old) (fault_number f)) }
 {
     let Some(held) = image.take(alloc) else {
-        return Err(Fault::NoImage);
+        return Err(Fault::Empty);
     };
     let outcome = if addrs.len() == answers.len() {
         answer_all(held.get(), addrs, answers);
@@ -193,11 +205,11 @@ pub extern "C" fn tuhvondi_image_generation(
     ensures some { IfSome (handle_image image.old) (λ i.
         (result ≡ 0) × (generation.new ≡ i.generation)) }
     ensures none { IfNone (handle_image image.old)
-        ((result ≡ fault_number Fault.NoImage) × (generation.new ≡ generation.old)) }
+        ((result ≡ fault_number Fault.Empty) × (generation.new ≡ generation.old)) }
     ensures image { handle_image image.new ≡ handle_image image.old }
 {
     let Some(held) = image.take(alloc) else {
-        return Fault::NoImage.number();
+        return Fault::Empty.number();
     };
     *generation = held.get().generation();
     image.put(held);

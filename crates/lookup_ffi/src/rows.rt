@@ -1,10 +1,10 @@
 //! Lists of rows, and answers to lists of addresses.
 
 ghost use Rattle.std.specs.Prelude.{◌≡◌, None, Some, IfOk, IfErr, OnOk, IsOkUnless, length, map};
-ghost use Rattle.lookup_ffi.specs.Rows.{row_entry, answer_rows, first_row_fault};
+ghost use Rattle.c_interface.specs.Rows.{row_entry};
+ghost use Rattle.lookup_ffi.specs.Rows.{answer_rows, first_row_fault};
 
-use crate::fault::Fault;
-use crate::row::Row;
+use c_interface::{Fault, Row};
 use network_model::{Entry, Prefix};
 use std::alloc::Global;
 use tree_bitmap::Image;

@@ -2,9 +2,8 @@
 
 ghost use Rattle.std.specs.Prelude.{◌≡◌, None, IfOk, IfErr, OnOk, OnErr, map};
 
-use crate::fault::Fault;
-use crate::row::Row;
 use crate::rows::read_rows;
+use c_interface::{Fault, Row};
 use image_patch::{Apply, Patch};
 use std::alloc::{AllocError, Global};
 use std::marker::Model;
@@ -29,7 +28,8 @@ impl Model for Shared {
 impl Shared {
     ghost use Rattle.lookup_ffi.specs.Faults.{IsPatchFault};
     ghost use Rattle.image_patch.specs.Patches.{patched};
-    ghost use Rattle.lookup_ffi.specs.Rows.{row_entry, first_row_fault};
+    ghost use Rattle.c_interface.specs.Rows.{row_entry};
+    ghost use Rattle.lookup_ffi.specs.Rows.{first_row_fault};
 
     /// The only holder of an image.
     pub fn new(alloc: Global, image: Image) -> Result<Shared, AllocError>

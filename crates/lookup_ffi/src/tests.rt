@@ -2,13 +2,12 @@
 
 ghost use Rattle.std.specs.Prelude.{◌-◌, ◌^◌, ◌<◌};
 
-use crate::fault::Fault;
 use crate::handle::ImageHandle;
-use crate::row::Row;
 use crate::{
-    tuhvondi_image_apply, tuhvondi_image_free, tuhvondi_image_generation, tuhvondi_image_lookup,
-    tuhvondi_image_new, tuhvondi_image_share,
+    tuhvondi_image_apply, tuhvondi_image_copy, tuhvondi_image_free, tuhvondi_image_generation,
+    tuhvondi_image_lookup, tuhvondi_image_new, tuhvondi_image_share,
 };
+use c_interface::{Fault, Row};
 use std::alloc::Global;
 use std::test::Fail;
 
@@ -139,6 +138,28 @@ fn two_handles_hold_an_image(rt: HostRuntime) {
         answer(alloc, &mut other, 0x0a00_0001),
         Ok(via(0x0a00_0000, 8, 2))
     );
+}
+
+#[test]
+fn a_copy_changes_alone(rt: HostRuntime) {
+    let alloc = rt.alloc();
+    let mut image = ImageHandle::none(alloc);
+    let mut other = ImageHandle::none(alloc);
+    assert_eq!(rt; tuhvondi_image_copy(alloc, &mut image, &mut other), 7);
+    let rows = [via(0x0a00_0000, 8, 1)];
+    assert_eq!(rt; tuhvondi_image_new(alloc, &rows, &mut image), 0);
+    assert_eq!(rt; tuhvondi_image_copy(alloc, &mut image, &mut other), 0);
+    let patch = [via(0x0a00_0000, 8, 2)];
+    assert_eq!(rt; tuhvondi_image_apply(alloc, &mut other, 1, &patch), 0);
+    assert_eq!(rt;
+        answer(alloc, &mut image, 0x0a00_0001),
+        Ok(via(0x0a00_0000, 8, 1))
+    );
+    assert_eq!(rt;
+        answer(alloc, &mut other, 0x0a00_0001),
+        Ok(via(0x0a00_0000, 8, 2))
+    );
+    assert_eq!(rt; tuhvondi_image_apply(alloc, &mut image, 1, &patch), 0);
 }
 
 // 10.0.0.0 with 16 times this in place of its second number.

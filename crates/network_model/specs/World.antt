@@ -136,17 +136,17 @@ router_end A s = s.a
 router_end B s = s.b
 
 -- the end of a link at which router i has a port; none where the link does not touch it
-abbrev pub end_of : ℕ → LinkSpec → Option End
-end_of i s = if s.a == i then Some A else (if s.b == i then Some B else None)
+abbrev pub own_end : ℕ → LinkSpec → Option End
+own_end i s = if s.a == i then Some A else (if s.b == i then Some B else None)
 
 -- the router across a link from router i
 abbrev pub neighbour_of : ℕ → LinkSpec → Option ℕ
-neighbour_of i s = option_map (λ e. router_end (other e) s) (end_of i s)
+neighbour_of i s = option_map (λ e. router_end (other e) s) (own_end i s)
 
 -- the places of router i's ports on the links from number l on: its ports follow the order of the links that touch it
 abbrev pub places_from : ℕ → ℕ → List LinkSpec → List Place
 places_from l i [] = []
-places_from l i (s ∷ ss) = cons_option (option_map (λ e. record { link = l; end = e }) (end_of i s)) (places_from (l + 1) i ss)
+places_from l i (s ∷ ss) = cons_option (option_map (λ e. record { link = l; end = e }) (own_end i s)) (places_from (l + 1) i ss)
 
 -- a link at the opening: down, never up, nothing queued
 abbrev pub opening_link : LinkSpec → Link

@@ -43,8 +43,8 @@ pub struct LinkSpec {
 
 impl LinkSpec {
     /// The end at which the router has a port; none where the link does not touch the router.
-    pub fn end_of(&self, router: u16) -> Option<End>
-        ensures { result ≡ model.end_of router self.now }
+    pub fn own_end(&self, router: u16) -> Option<End>
+        ensures { result ≡ model.own_end router self.now }
     {
         if self.a == router {
             Some(End::A)
@@ -59,7 +59,7 @@ impl LinkSpec {
     pub fn neighbour_of(&self, router: u16) -> Option<u16>
         ensures { result ≡ model.neighbour_of router self.now }
     {
-        match self.end_of(router)? {
+        match self.own_end(router)? {
             End::A => Some(self.b),
             End::B => Some(self.a),
         }

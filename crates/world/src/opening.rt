@@ -22,7 +22,7 @@ pub fn places_of<A: SmallAllocator>(
 {
     let mut places = Vec::new(alloc);
     for i in 0..links.len() {
-        if let Some(end) = links[i].end_of(router) {
+        if let Some(end) = links[i].own_end(router) {
             places.push(Place {
                 link: i as u16,
                 end,

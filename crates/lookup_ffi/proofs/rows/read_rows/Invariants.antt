@@ -1,5 +1,6 @@
 use Rattle.std.proofs.Common.{◌≡◌, None, map, take, drop}
-use Rattle.lookup_ffi.specs.Rows.{row_entry, first_row_fault}
+use Rattle.c_interface.specs.Rows.{row_entry}
+use Rattle.lookup_ffi.specs.Rows.{first_row_fault}
 use Rattle.lookup_ffi.proofs.rows.read_rows.Given as goal
 
 abbrev pub invariant-loop-row : goal.invariant-loop-row

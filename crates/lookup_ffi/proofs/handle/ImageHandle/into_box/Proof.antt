@@ -34,9 +34,9 @@ use Rattle.std_alloc.proofs.boxed.Box.from_raw.Met.{met}
 use Rattle.std_heap.proofs.Calls.{T_true, T_false}
 use Rattle.std_heap.specs.contracts.GlobalAllocator.TheImpl.{ghosts, dict}
 use Rattle.std_heap.proofs.GlobalAllocator.TheImpl.Met.{passed}
-use Rattle.lookup_ffi.specs.Held.{held_owns}
-use Rattle.lookup_ffi.specs.Handles.{held}
-use Rattle.lookup_ffi.proofs.Words.{Boxed, Handle, boxed_laws, ImageArg, image_laws, HeapArg, heap_laws, drops_heap, tokens, hands, heap_bits, heap_fits, heap_had, bits, fits, leaves_result}
+use Rattle.c_interface.specs.Handles.{held, held_owns}
+use Rattle.c_interface.proofs.Handles.{HeapArg, heap_laws, tokens, heap_bits, heap_fits, heap_had, bits, leaves_result}
+use Rattle.lookup_ffi.proofs.Words.{Image, Boxed, Handle, boxed_laws, ImageArg, image_laws, drops_heap, hands, fits}
 use Rattle.lookup_ffi.proofs.Destruct++none.drop.Symbol.{glues}
 use Rattle.lookup_ffi.specs.contracts.handle.ImageHandle.into_box as f
 use Rattle.lookup_ffi.proofs.handle.ImageHandle.TheLaws.{lowers}
@@ -77,7 +77,7 @@ into_box_spec 𝓤 𝓛 𝓜 𝓡 wired =
     sets ! (of_opd ! (get ! refl)) refl (tt, tt) $
     first ! $ branches ! (get ! refl)
     (λ full. let is = T_true h.holds full in
-    rewrite ! 0 (λ (y : Bool). ‵ (held_owns h.alloc y p h.value)) is refl $
+    rewrite ! 0 (λ (y : Bool). ‵ (held_owns Image h.alloc y p h.value)) is refl $
     nothing ! $ feq_i ! (List Val) (ptr_val p ∷ []) (ptr_val p ∷ []) refl $ fjoin ! $ heap_had ! h.alloc $ fjoin ! $ hands ! $ use1 𝓛 (raw (G.pre z)) (id⊢ 𝓤 _) $
     first ! $ blocks ! $ sets ! (of_opd ! (get ! refl)) refl heap_fits $ sets ! (of_opd ! (get ! refl)) refl (Ptr-Good p) $ sets ! (of_opd ! (get ! refl)) refl (Ptr-Good p) $
     calls_at_last ! (framed 𝓤 𝓛.H 𝓜 𝓣) G known z (and_then ! (get ! refl) (and_then ! (get ! refl) (no_more !))) (λ v.

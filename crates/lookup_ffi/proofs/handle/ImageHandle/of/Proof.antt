@@ -34,8 +34,9 @@ use Rattle.std_alloc.specs.contracts.boxed.Box.into_raw_with_allocator as g
 use Rattle.std_alloc.proofs.boxed.Box.into_raw_with_allocator.Met.{met}
 use Rattle.std_heap.specs.contracts.GlobalAllocator.TheImpl.{ghosts, dict}
 use Rattle.std_heap.proofs.GlobalAllocator.TheImpl.Met.{passed}
-use Rattle.lookup_ffi.specs.Held.{held_owns}
-use Rattle.lookup_ffi.proofs.Words.{Boxed, Handle, Pair, boxed_laws, ImageArg, image_laws, HeapArg, heap_laws, drops_heap, tokens, hands, heap_fits, pair_told, pair_fits, bits, fits, handle_had, leaves_result}
+use Rattle.c_interface.specs.Handles.{held_owns}
+use Rattle.c_interface.proofs.Handles.{Pair, HeapArg, heap_laws, tokens, heap_fits, pair_told, pair_fits, bits, leaves_result}
+use Rattle.lookup_ffi.proofs.Words.{Image, Boxed, Handle, boxed_laws, ImageArg, image_laws, drops_heap, hands, fits, handle_had}
 use Rattle.lookup_ffi.proofs.Destruct++none.drop.Symbol.{glues}
 use Rattle.lookup_ffi.specs.contracts.lookup_ffi++shared++Shared+Destruct.drop as dropped
 use Rattle.lookup_ffi.proofs.lookup_ffi++shared++Shared+Destruct.drop.Symbol as drop
@@ -81,7 +82,7 @@ of_spec 𝓤 𝓛 𝓜 𝓡 wired =
     enter ! _ _ _ _ _ $ alloc_all ! (λ l. pass_all ! refl (word.2, tt) $ sets ! (of_opd ! (get ! refl)) refl word.2 $
     calls_at ! (framed 𝓤 𝓛.H 𝓜 𝓣) G known z (and_then ! (get ! refl) (no_more !)) (λ v.
     use1 𝓛 (later (some (λ (r : Pair.Denot). (tokens ⊛ ‵ (Pair.own_val r (v ∷ []))) ⊛ some (λ (ws : Lasts En z.0.0 z.0.3). ‵ (lasts En z.0.0 z.0.3 ws) ⊛
-    raw (fact 𝓤 (r.1 ≡ b.alloc)) ⊛ ‵ (held_owns b.alloc true r.0 b.value))))) (id⊢ 𝓤 _) $
+    raw (fact 𝓤 (r.1 ≡ b.alloc)) ⊛ ‵ (held_owns Image b.alloc true r.0 b.value))))) (id⊢ 𝓤 _) $
     await ! tt $ pick ! (λ r. split ! $ split ! $ drop ! $ facts ! Pair (Is Pair) (shows 𝓛 Pair) r (v ∷ []) (λ is. pick ! (λ ws. split ! $ drop ! $ split ! $ drop ! $
     -- [what the box owned]
     let made : Handle.Denot = record { image = r.0; holds = true; alloc = b.alloc; value = b.value } in

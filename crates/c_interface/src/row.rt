@@ -1,11 +1,12 @@
 //! Rows as C writes and reads them.
 
 ghost use Rattle.std.specs.Prelude.{◌≡◌, None, Some, IfOk, IfErr};
+ghost use Rattle.c_interface.specs.Rows.{prefix_fault, row_fault, row_entry, answer_row};
 
 use crate::fault::Fault;
 use network_model::{Entry, Prefix};
 
-/// A row: a prefix, and where packets that it matches go. `kind` is 0 for local, 1 for via, 2 for
+/// A row: a prefix, and where packets go that it matches. `kind` is 0 for local, 1 for via, 2 for
 /// unreachable, and in answers 3 for no row. Only a row via a neighbour has a port and a session;
 /// those of other rows are 0 in answers, and not read in rows that are given.
 #[repr(C)]
@@ -18,20 +19,28 @@ pub struct Row {
     pub session: u16,
 }
 
-impl Row {
-    ghost use Rattle.lookup_ffi.specs.Rows.{row_fault, row_entry, answer_row};
+/// The prefix of an address's first `len` bits, which has no bit set after them.
+pub fn read_prefix(addr: u32, len: u8) -> Result<Prefix, Fault>
+    ensures ok { IfOk result (λ p. (prefix_fault addr len ≡ None)
+        × (p ≡ record { addr = addr; len = len })) }
+    ensures err { IfErr result (λ f. prefix_fault addr len ≡ Some f) }
+{
+    if len > 32 {
+        return Err(Fault::BadLength);
+    }
+    match Prefix::new(addr, len) {
+        Ok(prefix) => Ok(prefix),
+        Err(_) => Err(Fault::HostBits),
+    }
+}
 
+impl Row {
     /// The prefix and the entry of a row.
     pub fn read(self) -> Result<(Prefix, Entry), Fault>
         ensures ok { IfOk result (λ r. (row_fault self ≡ None) × (r ≡ row_entry self)) }
         ensures err { IfErr result (λ f. row_fault self ≡ Some f) }
     {
-        if self.len > 32 {
-            return Err(Fault::BadLength);
-        }
-        let Ok(prefix) = Prefix::new(self.addr, self.len) else {
-            return Err(Fault::HostBits);
-        };
+        let prefix = read_prefix(self.addr, self.len)?;
         let entry = match self.kind {
             0 => Entry::Local,
             1 => Entry::Via {

@@ -1,0 +1,44 @@
+-- The numbers of the faults.
+use Rattle.std.specs.Prelude.{◌≡◌, ℕ, ◌⊎◌, Option, None, Some}
+use Rattle.c_interface.specs.declared.fault.Fault.{Fault}
+use Rattle.c_interface.specs.declared.fault.Fault.TheVariants.{BadLength, HostBits, BadCost, BadKind, Empty, BadCount, Shared, UnknownPort, AlreadyUp, IsDown, NothingDue, NothingRipe, NoMemory, TooManyPorts, UnknownPrefix, NotAttached, OtherSession, GenerationsSpent}
+
+-- the number by which C knows a fault
+abbrev pub fault_number : Fault → ℕ
+fault_number BadLength = 3
+fault_number HostBits = 4
+fault_number BadCost = 5
+fault_number BadKind = 6
+fault_number Empty = 7
+fault_number BadCount = 8
+fault_number Shared = 9
+fault_number UnknownPort = 11
+fault_number AlreadyUp = 13
+fault_number IsDown = 14
+fault_number NothingDue = 17
+fault_number NothingRipe = 18
+fault_number NoMemory = 20
+fault_number TooManyPorts = 26
+fault_number UnknownPrefix = 28
+fault_number NotAttached = 29
+fault_number OtherSession = 36
+fault_number GenerationsSpent = 37
+
+-- done, or refused for want of memory
+abbrev pub IsDoneOrFull : ℕ → Type 0
+IsDoneOrFull status = (status ≡ 0) ⊎ (status ≡ fault_number NoMemory)
+
+-- what a call answers, by what its tests find: that, or, where they find nothing, done or want of memory
+abbrev pub IsStatusBy : Option Fault → ℕ → Type 0
+IsStatusBy (Some f) status = status ≡ fault_number f
+IsStatusBy None status = IsDoneOrFull status
+
+-- what a call answers that takes no memory, by what its tests find
+abbrev pub status_by : Option Fault → ℕ
+status_by (Some f) = fault_number f
+status_by None = 0
+
+-- of two tests, what the first finds, and else what the second finds
+abbrev pub first_of : Option Fault → Option Fault → Option Fault
+first_of None other = other
+first_of (Some f) other = Some f

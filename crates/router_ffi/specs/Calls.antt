@@ -1,0 +1,59 @@
+-- What the calls answer, by the router that a handle holds, and what they leave.
+use Rattle.std.specs.Prelude.{◌≡◌, ◌≢◌, ℕ, ◌+◌, List, length, if◌then◌else◌, is_some, Option, Some, None, option_map, Result, Ok, Err}
+use Rattle.ipv4_prefix.specs.Prefix.{Prefix}
+use Rattle.network_model.specs.Step.{changed_rows, ripe_front}
+use Rattle.network_model.specs.World.{Router}
+use Rattle.c_interface.specs.Faults.{first_of, IsStatusBy}
+use Rattle.c_interface.specs.Rows.{prefix_fault}
+use Rattle.c_interface.specs.declared.fault.Fault.{Fault}
+use Rattle.c_interface.specs.declared.fault.Fault.TheVariants.{Empty, NothingRipe, UnknownPrefix}
+use Rattle.c_interface.specs.declared.row.Row.{Row}
+use Rattle.single_router.specs.Inputs.{told_fault, router_after}
+use Rattle.single_router.specs.Publishing.{IsWritten}
+use Rattle.single_router.specs.States.{shown_state}
+use Rattle.single_router.specs.declared.input.Input.{Input}
+
+-- what a test of the router finds; that the handle holds none comes first
+abbrev pub held_fault : (Router → Option Fault) → Option Router → Option Fault
+held_fault test None = Some Empty
+held_fault test (Some r) = test r
+
+-- why a router is not told what was read; the faults of reading come first
+abbrev pub tell_fault : Result Input Fault → Option Router → Option Fault
+tell_fault (Err f) held = Some f
+tell_fault (Ok input) held = held_fault (told_fault input) held
+
+-- what a handle holds once its router was told
+abbrev pub told : Result Input Fault → Option Router → Option Router
+told (Err f) held = held
+told (Ok input) held = option_map (router_after input) held
+
+-- a router is told what was read: the status, and what its handle holds before and after
+pub record IsTold (read : Result Input Fault) (old new : Option Router) (status : ℕ) : Type 0 where
+  pub answers : IsStatusBy (tell_fault read old) status
+  pub done : status ≡ 0 → new ≡ told read old
+  pub refused : status ≢ 0 → new ≡ old
+
+-- why a router releases nothing
+abbrev pub release_fault : Router → Option Fault
+release_fault r = if is_some (ripe_front r) then None else Some NothingRipe
+
+-- the prefix of these numbers, where they are one
+abbrev pub as_prefix : ℕ → ℕ → Prefix
+as_prefix addr len = record { addr = addr; len = len }
+
+-- why a router shows nothing of a prefix; the faults of its numbers come first
+abbrev pub state_fault : ℕ → ℕ → Option Router → Option Fault
+state_fault addr len held = first_of (prefix_fault addr len) (held_fault (λ r. if is_some (shown_state (as_prefix addr len) r) then None else Some UnknownPrefix) held)
+
+-- a publication of a router as a program is given it: the rows that it puts in force, over those that were there, how many
+-- these are, and how often the router has then published
+pub record IsPublished (r : Router) (old new : List Row) (written generation : ℕ) : Type 0 where
+  pub rows : IsWritten (changed_rows r.table) old new
+  pub count : written ≡ length (changed_rows r.table)
+  pub number : generation ≡ r.generation + 1
+
+-- the rows that a router has chosen, as a program is given them, and how many these are
+pub record IsListed (r : Router) (old new : List Row) (written : ℕ) : Type 0 where
+  pub rows : IsWritten (r.table).control old new
+  pub count : written ≡ length (r.table).control

@@ -1,0 +1,348 @@
+//! One router for C programs.
+//!
+//! C sees `include/tuhvondi_router.h`. Each call answers 0, or the number of the fault for which it is
+//! refused. A refused call leaves the router of its handle as it is, and writes nothing.
+#![tactic(auto)]
+
+ghost use Rattle.std.specs.Prelude.{◌≡◌, ◌≢◌, None, Some, OnOk, OnErr, IfErr, IfOk, IfSome, IfNone, length, option_map};
+ghost use Rattle.network_model.specs.Step as step;
+ghost use Rattle.c_interface.specs.Faults.{fault_number, status_by, IsStatusBy};
+ghost use Rattle.single_router.specs.Frames.{frame_of};
+ghost use Rattle.single_router.specs.Inputs as inputs;
+ghost use Rattle.single_router.specs.Openings.{make_fault, made_router};
+ghost use Rattle.single_router.specs.Publishing.{publish_fault, room_fault};
+ghost use Rattle.single_router.specs.States.{counts_of, shown_state};
+ghost use Rattle.router_ffi.specs.Handles.{handle_router};
+ghost use Rattle.router_ffi.specs.Calls.{held_fault, tell_fault, told, release_fault, state_fault, as_prefix, IsTold, IsPublished, IsListed};
+
+use c_interface::{Fault, Row, read_prefix, status};
+use single_router::{Attachment, Counts, Frame, Input, SingleRouter, State};
+use std::alloc::Global;
+
+mod handle;
+
+use handle::RouterHandle;
+
+// Makes a router and puts it into a handle.
+fn make(
+    alloc: Global,
+    costs: &[u32],
+    attachments: &[Attachment],
+    router: &mut RouterHandle,
+) -> Result<(), Fault>
+    ensures ok { OnOk result (IsStatusBy (make_fault costs.now attachments.now) 0) }
+    ensures made { OnOk result (handle_router router.new
+        ≡ Some (made_router costs.now attachments.now)) }
+    ensures unchanged { OnErr result (handle_router router.new ≡ handle_router router.old) }
+    ensures err { IfErr result (λ f.
+        IsStatusBy (make_fault costs.now attachments.now) (fault_number f)) }
+{
+    router.put(Box::new(alloc, SingleRouter::new(alloc, costs, attachments)?)?);
+    Ok(())
+}
+
+/// Makes a router with a port for each of these costs and with these attachments, and puts it into the
+/// handle; the router that the handle held is freed.
+#[unsafe(no_mangle)]
+pub extern "C" fn tuhvondi_router_new(
+    alloc: Global,
+    costs: &[u32],
+    attachments: &[Attachment],
+    router: &mut RouterHandle,
+) -> u32
+    ensures status { IsStatusBy (make_fault costs.now attachments.now) result }
+    ensures done { result ≡ 0 → handle_router router.new
+        ≡ Some (made_router costs.now attachments.now) }
+    ensures refused { result ≢ 0 → handle_router router.new ≡ handle_router router.old }
+{
+    status(make(alloc, costs, attachments, router))
+}
+
+// Tells the router of a handle what was read.
+fn tell(alloc: Global, router: &mut RouterHandle, read: Result<Input, Fault>) -> Result<(), Fault>
+    ensures ok { OnOk result (IsStatusBy (tell_fault read (handle_router router.old)) 0) }
+    ensures told { OnOk result (handle_router router.new
+        ≡ told read (handle_router router.old)) }
+    ensures unchanged { OnErr result (handle_router router.new ≡ handle_router router.old) }
+    ensures err { IfErr result (λ f.
+        IsStatusBy (tell_fault read (handle_router router.old)) (fault_number f)) }
+{
+    let input = read?;
+    let Some(mut held) = router.take(alloc) else {
+        return Err(Fault::Empty);
+    };
+    let outcome = held.tell(&input);
+    router.put(held);
+    outcome
+}
+
+// The status of telling the router of a handle what was read.
+fn answer(alloc: Global, router: &mut RouterHandle, read: Result<Input, Fault>) -> u32
+    ensures { IsTold read (handle_router router.old) (handle_router router.new) result }
+{
+    status(tell(alloc, router, read))
+}
+
+/// The link of the port came up, in a later session than the last, at this cost from here.
+#[unsafe(no_mangle)]
+pub extern "C" fn tuhvondi_router_link_up(
+    alloc: Global,
+    router: &mut RouterHandle,
+    port: u8,
+    session: u16,
+    cost: u32,
+) -> u32
+    ensures { IsTold (inputs.up_input port session cost)
+        (handle_router router.old) (handle_router router.new) result }
+{
+    answer(alloc, router, Input::up(port, session, cost))
+}
+
+/// The link of the port went down.
+#[unsafe(no_mangle)]
+pub extern "C" fn tuhvondi_router_link_down(
+    alloc: Global,
+    router: &mut RouterHandle,
+    port: u8,
+) -> u32
+    ensures { IsTold (Ok (Input.Down port))
+        (handle_router router.old) (handle_router router.new) result }
+{
+    answer(alloc, router, Ok(Input::Down { port }))
+}
+
+/// The cost from here of the port's link is now this.
+#[unsafe(no_mangle)]
+pub extern "C" fn tuhvondi_router_link_cost(
+    alloc: Global,
+    router: &mut RouterHandle,
+    port: u8,
+    cost: u32,
+) -> u32
+    ensures { IsTold (inputs.cost_input port cost)
+        (handle_router router.old) (handle_router router.new) result }
+{
+    answer(alloc, router, Input::cost(port, cost))
+}
+
+/// The message came to its port.
+#[unsafe(no_mangle)]
+pub extern "C" fn tuhvondi_router_message(
+    alloc: Global,
+    router: &mut RouterHandle,
+    message: &Frame,
+) -> u32
+    ensures { IsTold (inputs.frame_input message.now)
+        (handle_router router.old) (handle_router router.new) result }
+{
+    answer(alloc, router, Input::message(*message))
+}
+
+/// The router is attached to the prefix at this cost.
+#[unsafe(no_mangle)]
+pub extern "C" fn tuhvondi_router_attached(
+    alloc: Global,
+    router: &mut RouterHandle,
+    addr: u32,
+    len: u8,
+    cost: u32,
+) -> u32
+    ensures { IsTold (inputs.attached_input addr len cost)
+        (handle_router router.old) (handle_router router.new) result }
+{
+    answer(alloc, router, Input::attached(addr, len, cost))
+}
+
+/// The router is attached to the prefix no more.
+#[unsafe(no_mangle)]
+pub extern "C" fn tuhvondi_router_detached(
+    alloc: Global,
+    router: &mut RouterHandle,
+    addr: u32,
+    len: u8,
+) -> u32
+    ensures { IsTold (inputs.detached_input addr len)
+        (handle_router router.old) (handle_router router.new) result }
+{
+    answer(alloc, router, Input::detached(addr, len))
+}
+
+/// Writes what the router has.
+#[unsafe(no_mangle)]
+pub extern "C" fn tuhvondi_router_counts(
+    alloc: Global,
+    router: &mut RouterHandle,
+    counts: &mut Counts,
+) -> u32
+    ensures status { result ≡ status_by (held_fault (λ _. None) (handle_router router.old)) }
+    ensures done { result ≡ 0 →
+        option_map counts_of (handle_router router.old) ≡ Some counts.new }
+    ensures refused { result ≢ 0 → counts.new ≡ counts.old }
+    ensures router { handle_router router.new ≡ handle_router router.old }
+{
+    let Some(held) = router.take(alloc) else {
+        return Fault::Empty.number();
+    };
+    *counts = held.counts();
+    router.put(held);
+    0
+}
+
+// Publishes the router of a handle: the number of the rows, and how often it has published.
+fn publish(
+    alloc: Global,
+    router: &mut RouterHandle,
+    rows: &mut [Row],
+) -> Result<(usize, u64), Fault>
+    ensures ok { IfOk result (λ _. IsStatusBy
+        (held_fault (publish_fault (length rows.old)) (handle_router router.old)) 0) }
+    ensures rows { IfOk result (λ p. IfSome (handle_router router.old) (λ r.
+        IsPublished r rows.old rows.new p.0 p.1)) }
+    ensures published { OnOk result (handle_router router.new
+        ≡ option_map step.router_publishing (handle_router router.old)) }
+    ensures unchanged { OnErr result ((handle_router router.new ≡ handle_router router.old)
+        × (rows.new ≡ rows.old)) }
+    ensures err { IfErr result (λ f. IsStatusBy
+        (held_fault (publish_fault (length rows.old)) (handle_router router.old))
+        (fault_number f)) }
+{
+    let Some(mut held) = router.take(alloc) else {
+        return Err(Fault::Empty);
+    };
+    let outcome = held.publish(alloc, rows);
+    let generation = held.generation();
+    router.put(held);
+    Ok((outcome?, generation))
+}
+
+/// Publishes: writes the rows that are in force from now on and were not, how many they are, and how
+/// often the router has published.
+#[unsafe(no_mangle)]
+pub extern "C" fn tuhvondi_router_publish(
+    alloc: Global,
+    router: &mut RouterHandle,
+    rows: &mut [Row],
+    written: &mut usize,
+    generation: &mut u64,
+) -> u32
+    ensures status { IsStatusBy
+        (held_fault (publish_fault (length rows.old)) (handle_router router.old)) result }
+    ensures done { result ≡ 0 → IfSome (handle_router router.old) (λ r.
+        IsPublished r rows.old rows.new written.new generation.new) }
+    ensures published { result ≡ 0 → handle_router router.new
+        ≡ option_map step.router_publishing (handle_router router.old) }
+    ensures refused { result ≢ 0 → handle_router router.new ≡ handle_router router.old }
+    ensures nothing { result ≢ 0 → (rows.new ≡ rows.old)
+        × ((written.new ≡ written.old) × (generation.new ≡ generation.old)) }
+{
+    match publish(alloc, router, rows) {
+        Ok((count, number)) => {
+            *written = count;
+            *generation = number;
+            0
+        }
+        Err(fault) => fault.number(),
+    }
+}
+
+/// Takes the oldest message that may leave.
+#[unsafe(no_mangle)]
+pub extern "C" fn tuhvondi_router_release(
+    alloc: Global,
+    router: &mut RouterHandle,
+    message: &mut Frame,
+) -> u32
+    ensures status { result ≡ status_by (held_fault release_fault (handle_router router.old)) }
+    ensures done { result ≡ 0 → IfSome (handle_router router.old) (λ r.
+        option_map frame_of (step.ripe_front r) ≡ Some message.new) }
+    ensures released { result ≡ 0 → handle_router router.new
+        ≡ option_map step.router_releasing (handle_router router.old) }
+    ensures refused { result ≢ 0 → (handle_router router.new ≡ handle_router router.old)
+        × (message.new ≡ message.old) }
+{
+    let Some(mut held) = router.take(alloc) else {
+        return Fault::Empty.number();
+    };
+    let outcome = held.release();
+    router.put(held);
+    match outcome {
+        Ok(frame) => {
+            *message = frame;
+            0
+        }
+        Err(fault) => fault.number(),
+    }
+}
+
+/// Writes what the router knows of a prefix.
+#[unsafe(no_mangle)]
+pub extern "C" fn tuhvondi_router_state(
+    alloc: Global,
+    router: &mut RouterHandle,
+    addr: u32,
+    len: u8,
+    state: &mut State,
+) -> u32
+    ensures status { result ≡ status_by (state_fault addr len (handle_router router.old)) }
+    ensures done { result ≡ 0 → IfSome (handle_router router.old) (λ r.
+        shown_state (as_prefix addr len) r ≡ Some state.new) }
+    ensures refused { result ≢ 0 → state.new ≡ state.old }
+    ensures router { handle_router router.new ≡ handle_router router.old }
+{
+    let prefix = match read_prefix(addr, len) {
+        Ok(prefix) => prefix,
+        Err(fault) => return fault.number(),
+    };
+    let Some(held) = router.take(alloc) else {
+        return Fault::Empty.number();
+    };
+    let outcome = held.state(prefix);
+    router.put(held);
+    match outcome {
+        Ok(shown) => {
+            *state = shown;
+            0
+        }
+        Err(fault) => fault.number(),
+    }
+}
+
+/// Writes the row that the router chose for each prefix that it has heard of, and how many they are.
+#[unsafe(no_mangle)]
+pub extern "C" fn tuhvondi_router_rows(
+    alloc: Global,
+    router: &mut RouterHandle,
+    rows: &mut [Row],
+    written: &mut usize,
+) -> u32
+    ensures status { IsStatusBy (held_fault (λ r.
+        room_fault (length (r.table).control) (length rows.old)) (handle_router router.old)) result }
+    ensures done { result ≡ 0 → IfSome (handle_router router.old) (λ r.
+        IsListed r rows.old rows.new written.new) }
+    ensures refused { result ≢ 0 → (rows.new ≡ rows.old) × (written.new ≡ written.old) }
+    ensures router { handle_router router.new ≡ handle_router router.old }
+{
+    let Some(held) = router.take(alloc) else {
+        return Fault::Empty.number();
+    };
+    let outcome = held.rows(alloc, rows);
+    router.put(held);
+    match outcome {
+        Ok(count) => {
+            *written = count;
+            0
+        }
+        Err(fault) => fault.number(),
+    }
+}
+
+/// Frees the router, if there is one. The handle then holds none.
+#[unsafe(no_mangle)]
+pub extern "C" fn tuhvondi_router_free(alloc: Global, router: &mut RouterHandle)
+    ensures { handle_router router.new ≡ None }
+{
+    *router = RouterHandle::none(alloc);
+}
+
+#[cfg(test)]
+mod tests;

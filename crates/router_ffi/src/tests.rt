@@ -1,0 +1,260 @@
+//! The calls, as C makes them.
+
+use crate::handle::RouterHandle;
+use crate::{
+    tuhvondi_router_attached, tuhvondi_router_counts, tuhvondi_router_detached,
+    tuhvondi_router_free, tuhvondi_router_link_cost, tuhvondi_router_link_down,
+    tuhvondi_router_link_up, tuhvondi_router_message, tuhvondi_router_new, tuhvondi_router_publish,
+    tuhvondi_router_release, tuhvondi_router_rows, tuhvondi_router_state,
+};
+use c_interface::{Fault, Row};
+use single_router::{Attachment, Counts, Frame, State};
+use std::alloc::Global;
+use std::test::Fail;
+
+const UPDATE: u8 = 0;
+
+const QUERY: u8 = 1;
+
+const REPLY: u8 = 2;
+
+const NO_ROW: Row = Row {
+    addr: 0,
+    len: 0,
+    kind: 3,
+    port: 0,
+    session: 0,
+};
+
+const NO_FRAME: Frame = Frame {
+    addr: 0,
+    value: 0,
+    session: 0,
+    len: 0,
+    kind: 0,
+    port: 0,
+};
+
+// 10.0.0.0/8 by a port in its first session.
+fn via(port: u8) -> Row {
+    Row {
+        addr: 0x0a00_0000,
+        len: 8,
+        kind: 1,
+        port,
+        session: 1,
+    }
+}
+
+// A message about 10.0.0.0/8, of the first session of a port.
+fn frame(kind: u8, port: u8, value: u32) -> Frame {
+    Frame {
+        addr: 0x0a00_0000,
+        value,
+        session: 1,
+        len: 8,
+        kind,
+        port,
+    }
+}
+
+fn attachment(addr: u32, len: u8, cost: u32) -> Attachment {
+    Attachment { addr, cost, len }
+}
+
+fn counts(alloc: Global, router: &mut RouterHandle) -> Counts {
+    let mut counts = Counts {
+        prefixes: 0,
+        changed: 0,
+        held: 0,
+        ripe: 0,
+        generation: 0,
+        due: 0,
+    };
+    tuhvondi_router_counts(alloc, router, &mut counts);
+    counts
+}
+
+fn release(alloc: Global, router: &mut RouterHandle) -> Result<Frame, u32> {
+    let mut message = NO_FRAME;
+    match tuhvondi_router_release(alloc, router, &mut message) {
+        0 => Ok(message),
+        fault => Err(fault),
+    }
+}
+
+// What the router knows of 10.0.0.0/8.
+fn state(alloc: Global, router: &mut RouterHandle) -> Result<State, u32> {
+    let mut state = State {
+        rd: 0,
+        fd: 0,
+        attached: 0,
+        chosen: NO_ROW,
+        published: NO_ROW,
+        active: 0,
+        owed: 0,
+        awaited: [0; 32],
+    };
+    match tuhvondi_router_state(alloc, router, 0x0a00_0000, 8, &mut state) {
+        0 => Ok(state),
+        fault => Err(fault),
+    }
+}
+
+// The first row of a publication, or the number of a fault.
+fn publish(alloc: Global, router: &mut RouterHandle) -> Result<(usize, Row, u64), u32> {
+    let mut rows = [NO_ROW; 2];
+    let mut written = 9;
+    let mut generation = 9;
+    match tuhvondi_router_publish(alloc, router, &mut rows, &mut written, &mut generation) {
+        0 => Ok((written, rows[0], generation)),
+        fault => Err(fault),
+    }
+}
+
+#[test]
+fn a_route_is_learnt_published_and_told(rt: HostRuntime) {
+    let alloc = rt.alloc();
+    let mut router = RouterHandle::none(alloc);
+    assert_eq!(rt; tuhvondi_router_new(alloc, &[5, 10], &[], &mut router), 0);
+    assert_eq!(rt; tuhvondi_router_link_up(alloc, &mut router, 0, 1, 5), 0);
+    assert_eq!(rt; state(alloc, &mut router), Err(28));
+    // The neighbour at port 0 has a way of 7, so there is one of 12.
+    assert_eq!(rt;
+        tuhvondi_router_message(alloc, &mut router, &frame(UPDATE, 0, 7)),
+        0
+    );
+    let shown = state(alloc, &mut router);
+    assert!(rt; shown.is_ok_and(|s| s.rd == 12 && s.fd == 12 && s.active == 0 && s.owed == 255));
+    assert!(rt; shown.is_ok_and(|s| s.chosen == via(0) && s.published == NO_ROW));
+    // Nothing leaves before the publication.
+    assert_eq!(rt; release(alloc, &mut router), Err(18));
+    assert_eq!(rt; publish(alloc, &mut router), Ok((1, via(0), 1)));
+    assert_eq!(rt; release(alloc, &mut router), Ok(frame(UPDATE, 0, 12)));
+    assert_eq!(rt; release(alloc, &mut router), Err(18));
+    assert_eq!(rt; publish(alloc, &mut router), Err(17));
+    let mut rows = [NO_ROW; 1];
+    let mut written = 9;
+    assert_eq!(rt;
+        tuhvondi_router_rows(alloc, &mut router, &mut rows, &mut written),
+        0
+    );
+    assert!(rt; written == 1 && rows[0] == via(0));
+    tuhvondi_router_free(alloc, &mut router);
+    assert_eq!(rt; state(alloc, &mut router), Err(7));
+}
+
+#[test]
+fn a_router_asks_where_no_neighbour_is_feasible(rt: HostRuntime) {
+    let alloc = rt.alloc();
+    let mut router = RouterHandle::none(alloc);
+    assert_eq!(rt; tuhvondi_router_new(alloc, &[5, 10], &[], &mut router), 0);
+    assert_eq!(rt; tuhvondi_router_link_up(alloc, &mut router, 0, 1, 5), 0);
+    assert_eq!(rt;
+        tuhvondi_router_message(alloc, &mut router, &frame(UPDATE, 0, 7)),
+        0
+    );
+    // 100 is not below the feasible distance 12: the router asks its only neighbour.
+    assert_eq!(rt;
+        tuhvondi_router_message(alloc, &mut router, &frame(UPDATE, 0, 100)),
+        0
+    );
+    let shown = state(alloc, &mut router);
+    assert!(rt; shown.is_ok_and(|s| s.active == 1 && s.awaited[0] == 1 && s.awaited[1] == 0));
+    assert!(rt; publish(alloc, &mut router).is_ok());
+    assert_eq!(rt; release(alloc, &mut router), Ok(frame(UPDATE, 0, 12)));
+    assert_eq!(rt; release(alloc, &mut router), Ok(frame(QUERY, 0, 105)));
+    assert_eq!(rt;
+        tuhvondi_router_message(alloc, &mut router, &frame(REPLY, 0, 100)),
+        0
+    );
+    let shown = state(alloc, &mut router);
+    assert!(rt; shown.is_ok_and(|s| s.active == 0 && s.rd == 105 && s.fd == 105));
+    // The link goes down, and with it the only way.
+    assert_eq!(rt; tuhvondi_router_link_cost(alloc, &mut router, 0, 6), 0);
+    assert_eq!(rt; tuhvondi_router_link_down(alloc, &mut router, 0), 0);
+    let shown = state(alloc, &mut router);
+    assert!(rt; shown.is_ok_and(|s| s.rd == u32::MAX && s.chosen.kind == 2));
+}
+
+#[test]
+fn an_attachment_is_published_from_the_opening_on(rt: HostRuntime) {
+    let alloc = rt.alloc();
+    let mut router = RouterHandle::none(alloc);
+    let ours = [attachment(0x0a00_0000, 8, 3)];
+    assert_eq!(rt; tuhvondi_router_new(alloc, &[5], &ours, &mut router), 0);
+    let shown = state(alloc, &mut router);
+    assert!(rt; shown.is_ok_and(|s| s.attached == 3 && s.rd == 3 && s.published.kind == 0));
+    assert_eq!(rt; publish(alloc, &mut router), Err(17));
+    // At another cost, then no more, then again.
+    assert_eq!(rt;
+        tuhvondi_router_attached(alloc, &mut router, 0x0a00_0000, 8, 2),
+        0
+    );
+    assert!(rt; state(alloc, &mut router).is_ok_and(|s| s.attached == 2 && s.rd == 2));
+    assert_eq!(rt;
+        tuhvondi_router_detached(alloc, &mut router, 0x0a00_0000, 8),
+        0
+    );
+    assert!(rt; state(alloc, &mut router).is_ok_and(|s| s.attached == 0 && s.chosen.kind == 2));
+    assert_eq!(rt;
+        tuhvondi_router_detached(alloc, &mut router, 0x0a00_0000, 8),
+        29
+    );
+    assert_eq!(rt;
+        tuhvondi_router_attached(alloc, &mut router, 0x0a00_0000, 8, 4),
+        0
+    );
+    assert_eq!(rt; counts(alloc, &mut router).prefixes, 1);
+}
+
+#[test]
+fn each_fault_has_its_number(rt: HostRuntime) {
+    let alloc = rt.alloc();
+    let mut router = RouterHandle::none(alloc);
+    let bad = [attachment(0x0a00_0000, 33, 0), attachment(1, 8, 1)];
+    assert_eq!(rt; tuhvondi_router_new(alloc, &[1; 33], &bad, &mut router), 26);
+    assert_eq!(rt;
+        tuhvondi_router_new(alloc, &[1, 0, 70000], &bad, &mut router),
+        5
+    );
+    assert_eq!(rt; tuhvondi_router_new(alloc, &[1], &bad, &mut router), 3);
+    assert_eq!(rt; tuhvondi_router_new(alloc, &[1], &bad[1..], &mut router), 4);
+    assert_eq!(rt; tuhvondi_router_link_down(alloc, &mut router, 0), 7);
+    assert_eq!(rt; release(alloc, &mut router), Err(7));
+    assert_eq!(rt; publish(alloc, &mut router), Err(7));
+    assert_eq!(rt; tuhvondi_router_new(alloc, &[1, 1], &[], &mut router), 0);
+    assert_eq!(rt; tuhvondi_router_link_up(alloc, &mut router, 2, 1, 0), 5);
+    assert_eq!(rt; tuhvondi_router_link_up(alloc, &mut router, 2, 1, 1), 11);
+    assert_eq!(rt; tuhvondi_router_link_up(alloc, &mut router, 0, 0, 1), 36);
+    assert_eq!(rt; tuhvondi_router_link_down(alloc, &mut router, 0), 14);
+    assert_eq!(rt;
+        tuhvondi_router_message(alloc, &mut router, &frame(UPDATE, 0, 1)),
+        14
+    );
+    assert_eq!(rt; tuhvondi_router_link_up(alloc, &mut router, 0, 2, 1), 0);
+    assert_eq!(rt; tuhvondi_router_link_up(alloc, &mut router, 0, 3, 1), 13);
+    assert_eq!(rt;
+        tuhvondi_router_message(alloc, &mut router, &frame(UPDATE, 0, 1)),
+        36
+    );
+    assert_eq!(rt;
+        tuhvondi_router_message(alloc, &mut router, &frame(3, 0, 1)),
+        6
+    );
+    assert_eq!(rt;
+        tuhvondi_router_attached(alloc, &mut router, 0x0a00_0000, 8, 0),
+        5
+    );
+    assert_eq!(rt;
+        tuhvondi_router_attached(alloc, &mut router, 0x0a00_0000, 8, 1),
+        0
+    );
+    let mut written = 9;
+    assert_eq!(rt;
+        tuhvondi_router_rows(alloc, &mut router, &mut [], &mut written),
+        8
+    );
+    assert_eq!(rt; written, 9);
+    assert_eq!(rt; Fault::GenerationsSpent.number(), 37);
+}

@@ -1,0 +1,9 @@
+use Rattle.std.proofs.Common.{rules, ◌≡◌, true, None, is_some, refl, ap, ◌∙◌}
+use Rattle.network_model.specs.Step.{router_at_home}
+use Rattle.single_router.specs.Inputs.{attachment_of}
+use Rattle.single_router.proofs.single.SingleRouter.detach.Goals as goal
+
+pub returns-clause-ok : goal.returns-clause-ok
+returns-clause-ok c =
+    let attached : is_some (attachment_of c.args.self.now c.args.prefix) ≡ true = search rules in
+    (rw attached refl, c.in_ok-notice.ensures.ok ∙ ap (router_at_home (record { prefix = c.args.prefix; cost = None })) c.self.view_is)

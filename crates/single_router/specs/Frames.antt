@@ -1,0 +1,23 @@
+-- Messages as C has them.
+use Rattle.std.specs.Prelude.{ℕ}
+use Rattle.metric.specs.declared.kind.Kind.{Kind}
+use Rattle.metric.specs.declared.kind.Kind.TheVariants.{Update, Query, Reply}
+use Rattle.network_model.specs.declared.item.Held.{Held}
+use Rattle.single_router.specs.declared.frame.Frame.{Frame}
+
+-- the number by which C knows a kind
+abbrev pub kind_number : Kind → ℕ
+kind_number Update = 0
+kind_number Query = 1
+kind_number Reply = 2
+
+-- the frame of a message that a router holds
+abbrev pub frame_of : Held → Frame
+frame_of h = record {
+  addr = ((h.message).prefix).addr;
+  value = (h.message).value;
+  session = h.session;
+  len = ((h.message).prefix).len;
+  kind = kind_number (h.message).kind;
+  port = h.port;
+}

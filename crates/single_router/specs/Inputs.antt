@@ -1,0 +1,110 @@
+-- What a router is told: how it is read, when it is refused, and what the router makes of it.
+use Rattle.std.specs.Prelude.{◌≡◌, ℕ, ◌==◌, ◌&&◌, nat_lt, nat_le, if◌then◌else◌, Option, Some, None, option_and_then, slice_get, is_some, Result, Ok, Err}
+use Rattle.std.specs.FinMap.{find as row_of}
+use Rattle.metric.specs.Distance.{greatest_cost}
+use Rattle.metric.specs.declared.kind.Kind.{Kind}
+use Rattle.metric.specs.declared.kind.Kind.TheVariants.{Update, Query, Reply}
+use Rattle.ipv4_prefix.specs.Prefix.{Prefix, prefix_cmp}
+use Rattle.network_model.specs.declared.item.Item.{Item}
+use Rattle.network_model.specs.declared.network.Port.{Port}
+use Rattle.network_model.specs.World.{Router}
+use Rattle.network_model.specs.Step.{router_accepting, router_at_home, session_at}
+use Rattle.c_interface.specs.Rows.{prefix_fault}
+use Rattle.c_interface.specs.declared.fault.Fault.{Fault}
+use Rattle.c_interface.specs.declared.fault.Fault.TheVariants.{BadCost, BadKind, UnknownPort, AlreadyUp, IsDown, NotAttached, OtherSession, NoMemory}
+use Rattle.single_router.specs.declared.frame.Frame.{Frame}
+use Rattle.single_router.specs.declared.input.Input.{Input}
+use Rattle.single_router.specs.declared.input.Input.TheVariants as input
+
+-- ---- as it is read
+
+-- what comes of a reading that has no fault
+abbrev pub and_then : {X Y : Type 0} → Result X Fault → (X → Result Y Fault) → Result Y Fault
+and_then (Ok x) next = next x
+and_then (Err f) next = Err f
+
+-- a value, unless a test found something
+abbrev pub unless : {X : Type 0} → Option Fault → X → Result X Fault
+unless None x = Ok x
+unless (Some f) x = Err f
+
+-- the fault of a number for a cost
+abbrev pub cost_fault : ℕ → Option Fault
+cost_fault n = if nat_le 1 n && nat_le n greatest_cost then None else Some BadCost
+
+-- the cost of a number
+abbrev pub cost_of : ℕ → Result ℕ Fault
+cost_of n = unless (cost_fault n) n
+
+-- the prefix of an address's first bits
+abbrev pub prefix_of : ℕ → ℕ → Result Prefix Fault
+prefix_of addr len = unless (prefix_fault addr len) (record { addr = addr; len = len })
+
+-- the kind of a number
+abbrev pub kind_of : ℕ → Result Kind Fault
+kind_of n = if n == 0 then Ok Update else if n == 1 then Ok Query else if n == 2 then Ok Reply else Err BadKind
+
+abbrev pub up_input : ℕ → ℕ → ℕ → Result Input Fault
+up_input port session cost = and_then (cost_of cost) (λ c. Ok (input.Up port session c))
+
+abbrev pub cost_input : ℕ → ℕ → Result Input Fault
+cost_input port cost = and_then (cost_of cost) (λ c. Ok (input.Cost port c))
+
+abbrev pub frame_input : Frame → Result Input Fault
+frame_input f = and_then (prefix_of f.addr f.len) (λ p. and_then (kind_of f.kind) (λ k.
+    Ok (input.Message f.port f.session (record { kind = k; prefix = p; value = f.value }))))
+
+abbrev pub attached_input : ℕ → ℕ → ℕ → Result Input Fault
+attached_input addr len cost = and_then (prefix_of addr len) (λ p. and_then (cost_of cost) (λ c. Ok (input.Attached p c)))
+
+abbrev pub detached_input : ℕ → ℕ → Result Input Fault
+detached_input addr len = and_then (prefix_of addr len) (λ p. Ok (input.Detached p))
+
+-- ---- as it is refused
+
+-- the fault that a test finds at a port; that there is no such port comes first
+abbrev pub fault_at : Option Port → (Port → Option Fault) → Option Fault
+fault_at None test = Some UnknownPort
+fault_at (Some p) test = test p
+
+-- a port whose link is down
+abbrev pub down_fault : Port → Option Fault
+down_fault p = if p.up then None else Some IsDown
+
+-- a port whose link cannot come up in this session: it is up, or was up in this session or a later one
+abbrev pub up_fault : ℕ → Port → Option Fault
+up_fault session p = if p.up then Some AlreadyUp else if nat_lt p.session session then None else Some OtherSession
+
+-- a port that takes no message of this session: its link is down, or up in another
+abbrev pub message_fault : ℕ → Port → Option Fault
+message_fault session p = if p.up then (if p.session == session then None else Some OtherSession) else Some IsDown
+
+-- the cost of a router's attachment to a prefix, as it was told last
+abbrev pub attachment_of : Router → Prefix → Option ℕ
+attachment_of r p = option_and_then (λ m. m.attachment) (row_of prefix_cmp p r.machines)
+
+-- why a router is not told: the first of the tests that finds something
+abbrev pub told_fault : Input → Router → Option Fault
+told_fault (input.Up port session cost) r = fault_at (slice_get r.ports port) (up_fault session)
+told_fault (input.Down port) r = fault_at (slice_get r.ports port) down_fault
+told_fault (input.Cost port cost) r = fault_at (slice_get r.ports port) down_fault
+told_fault (input.Message port session m) r = fault_at (slice_get r.ports port) (message_fault session)
+told_fault (input.Attached p cost) r = None
+told_fault (input.Detached p) r = if is_some (attachment_of r p) then None else Some NotAttached
+
+-- ---- as the router takes it
+
+-- the router that was told
+abbrev pub router_after : Input → Router → Router
+router_after (input.Up port session cost) r = router_accepting port (Item.Up session cost) r
+router_after (input.Down port) r = router_accepting port (Item.Down (session_at r.ports port)) r
+router_after (input.Cost port cost) r = router_accepting port (Item.Cost (session_at r.ports port) cost) r
+router_after (input.Message port session m) r = router_accepting port (Item.Message m) r
+router_after (input.Attached p cost) r = router_at_home (record { prefix = p; cost = Some cost }) r
+router_after (input.Detached p) r = router_at_home (record { prefix = p; cost = None }) r
+
+-- the fault with which a call is refused, where this test is all that speaks against it: what the test finds, or else want
+-- of memory
+abbrev pub IsRefusedBy : Option Fault → Fault → Type 0
+IsRefusedBy (Some f) fault = fault ≡ f
+IsRefusedBy None fault = fault ≡ NoMemory

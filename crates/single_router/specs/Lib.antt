@@ -1,0 +1,5 @@
+pub mod Frames
+pub mod Inputs
+pub mod Openings
+pub mod Publishing
+pub mod States

@@ -1,0 +1,30 @@
+//! One router of a network whose other routers are elsewhere: in other processes, or on other machines.
+//!
+//! A program hands a [`SingleRouter`] what its links bring (an [`Input`] each: a link that comes up or
+//! goes down, a cost, a message, an attachment), publishes where that is due, and puts the messages on
+//! their links that the router then releases. All comes and goes as numbers, as a program in C has them;
+//! each is tested, and what is refused changes nothing.
+//!
+//! ```text
+//!   connection, timer ──> Input ──> tell ──> ┌────────────┐ ──> publish ──> rows ──> the program's image
+//!                                            │ the router │
+//!   connection <──────── Frame <── release ──└────────────┘
+//! ```
+//!
+//! What the router does with an input is what the network's definitions say of the router that takes such
+//! an item or notice (`router_accepting`, `router_at_home` in `network_model/specs/Step.antt`). So what is
+//! proved of networks is true of routers in several processes, if only each link between them is what a
+//! link is there: in order, and without loss while its session lasts.
+#![tactic(auto)]
+
+mod frame;
+mod input;
+mod opening;
+mod single;
+mod state;
+
+pub use frame::Frame;
+pub use input::Input;
+pub use opening::Attachment;
+pub use single::SingleRouter;
+pub use state::{Counts, State};

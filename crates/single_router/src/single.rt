@@ -1,0 +1,285 @@
+//! The router.
+
+ghost use Rattle.std.specs.Prelude.{◌≡◌, ◌⊎◌, ◌≤◌, None, Some, IfOk, IfErr, OnOk, OnErr, length, option_map, slice_get, is_some, true};
+ghost use Rattle.network_model.specs.Step as step;
+ghost use Rattle.single_router.specs.Frames.{frame_of};
+ghost use Rattle.single_router.specs.Inputs.{told_fault, router_after, fault_at, down_fault, attachment_of, IsRefusedBy};
+ghost use Rattle.single_router.specs.Openings.{make_fault, made_router};
+ghost use Rattle.single_router.specs.Publishing.{publish_fault, room_fault, IsWritten};
+ghost use Rattle.single_router.specs.States.{counts_of, shown_state};
+
+use crate::frame::Frame;
+use crate::input::Input;
+use crate::opening::{Attachment, check_attachments, check_costs, read_attachments, read_ports};
+use crate::state::{Counts, State};
+use c_interface::{Fault, Row};
+use network_model::{Cost, Entry, Item, Message, Port, Prefix};
+use router_core::Router;
+use std::alloc::Global;
+use std::marker::Model;
+
+/// One router of a network whose other routers are elsewhere.
+#[derive(Drop)]
+pub struct SingleRouter {
+    router: Router,
+}
+
+impl Model for SingleRouter {
+    ghost use Rattle.network_model.specs.World.{Router as RouterState};
+
+    ghost Value = { RouterState };
+
+    ghost view = { λ s. s.router };
+}
+
+impl SingleRouter {
+    /// A router with a port for each of these costs, that of its link from here, and these attachments.
+    /// Its links are down, and it has published its attachments. 26: more than 32 costs. 5: the first
+    /// cost that is none. 3, 4 or 5: the first attachment that has a fault. 20: memory was refused.
+    pub fn new(
+        alloc: Global,
+        costs: &[u32],
+        attachments: &[Attachment],
+    ) -> Result<SingleRouter, Fault>
+        ensures ok { IfOk result (λ r. (make_fault costs.now attachments.now ≡ None)
+            × (r ≡ made_router costs.now attachments.now)) }
+        ensures err { IfErr result (IsRefusedBy (make_fault costs.now attachments.now)) }
+    {
+        check_costs(costs)?;
+        check_attachments(attachments)?;
+        let ports = read_ports(alloc, costs)?;
+        let rows = read_attachments(alloc, attachments)?;
+        let router = Router::new(alloc, ports, &rows)?;
+        Ok(SingleRouter { router })
+    }
+
+    /// Takes an input. 11: there is no such port. 13, 14: its link is up, or is down. 29: the router is
+    /// not attached to the prefix. 36: the session is not later than the last, or the message is of
+    /// another session. 20: memory was refused.
+    pub fn tell(&mut self, input: &Input) -> Result<(), Fault>
+        ensures ok { OnOk result ((told_fault input.now self.old ≡ None)
+            × (self.new ≡ router_after input.now self.old)) }
+        ensures err { OnErr result (self.new ≡ self.old) }
+        ensures cause { IfErr result (IsRefusedBy (told_fault input.now self.old)) }
+    {
+        match *input {
+            Input::Up {
+                port,
+                session,
+                cost,
+            } => self.come_up(port, session, cost),
+            Input::Down { port } => self.go_down(port),
+            Input::Cost { port, cost } => self.change_cost(port, cost),
+            Input::Message {
+                port,
+                session,
+                message,
+            } => self.take_message(port, session, message),
+            Input::Attached { prefix, cost } => {
+                self.router.notice(prefix, Some(cost))?;
+                Ok(())
+            }
+            Input::Detached { prefix } => self.detach(prefix),
+        }
+    }
+
+    fn come_up(&mut self, port: u8, session: u16, cost: Cost) -> Result<(), Fault>
+        ensures ok { OnOk result ((told_fault (Input.Up port session cost) self.old ≡ None)
+            × (self.new ≡ router_after (Input.Up port session cost) self.old)) }
+        ensures err { OnErr result (self.new ≡ self.old) }
+        ensures cause { IfErr result (IsRefusedBy
+            (told_fault (Input.Up port session cost) self.old)) }
+    {
+        let was = self.router.port(port).ok_or(Fault::UnknownPort)?;
+        if was.up {
+            return Err(Fault::AlreadyUp);
+        }
+        if session <= was.session {
+            return Err(Fault::OtherSession);
+        }
+        self.router.accept(port, &Item::Up { session, cost })?;
+        Ok(())
+    }
+
+    fn go_down(&mut self, port: u8) -> Result<(), Fault>
+        ensures ok { OnOk result ((told_fault (Input.Down port) self.old ≡ None)
+            × (self.new ≡ router_after (Input.Down port) self.old)) }
+        ensures err { OnErr result (self.new ≡ self.old) }
+        ensures cause { IfErr result (IsRefusedBy (told_fault (Input.Down port) self.old)) }
+    {
+        let was = self.port_that_is_up(port)?;
+        let session = was.session;
+        self.router.accept(port, &Item::Down { session })?;
+        Ok(())
+    }
+
+    fn change_cost(&mut self, port: u8, cost: Cost) -> Result<(), Fault>
+        ensures ok { OnOk result ((told_fault (Input.Cost port cost) self.old ≡ None)
+            × (self.new ≡ router_after (Input.Cost port cost) self.old)) }
+        ensures err { OnErr result (self.new ≡ self.old) }
+        ensures cause { IfErr result (IsRefusedBy (told_fault (Input.Cost port cost) self.old)) }
+    {
+        let was = self.port_that_is_up(port)?;
+        let session = was.session;
+        self.router.accept(port, &Item::Cost { session, cost })?;
+        Ok(())
+    }
+
+    fn take_message(&mut self, port: u8, session: u16, message: Message) -> Result<(), Fault>
+        ensures ok { OnOk result ((told_fault (Input.Message port session message) self.old ≡ None)
+            × (self.new ≡ router_after (Input.Message port session message) self.old)) }
+        ensures err { OnErr result (self.new ≡ self.old) }
+        ensures cause { IfErr result (IsRefusedBy
+            (told_fault (Input.Message port session message) self.old)) }
+    {
+        let was = self.port_that_is_up(port)?;
+        if was.session != session {
+            return Err(Fault::OtherSession);
+        }
+        self.router.accept(port, &Item::Message(message))?;
+        Ok(())
+    }
+
+    fn detach(&mut self, prefix: Prefix) -> Result<(), Fault>
+        ensures ok { OnOk result ((told_fault (Input.Detached prefix) self.old ≡ None)
+            × (self.new ≡ router_after (Input.Detached prefix) self.old)) }
+        ensures err { OnErr result (self.new ≡ self.old) }
+        ensures cause { IfErr result (IsRefusedBy (told_fault (Input.Detached prefix) self.old)) }
+    {
+        if !self.is_attached(prefix) {
+            return Err(Fault::NotAttached);
+        }
+        self.router.notice(prefix, None)?;
+        Ok(())
+    }
+
+    // A port whose link is up.
+    fn port_that_is_up(&self, port: u8) -> Result<Port, Fault>
+        ensures ok { IfOk result (λ p. (slice_get (self.now).ports port ≡ Some p)
+            × (p.up ≡ true)) }
+        ensures err { IfErr result (λ f. fault_at (slice_get (self.now).ports port) down_fault
+            ≡ Some f) }
+    {
+        let found = self.router.port(port).ok_or(Fault::UnknownPort)?;
+        if !found.up {
+            return Err(Fault::IsDown);
+        }
+        Ok(found)
+    }
+
+    // Whether the router was told last that it is attached to the prefix.
+    fn is_attached(&self, prefix: Prefix) -> bool
+        ensures { result ≡ is_some (attachment_of self.now prefix) }
+    {
+        match self.router.machine(prefix) {
+            Some(machine) => machine.attachment().is_some(),
+            None => false,
+        }
+    }
+
+    /// What the router has.
+    pub fn counts(&self) -> Counts
+        ensures { result ≡ counts_of self.now }
+    {
+        let table = self.router.table();
+        Counts {
+            prefixes: table.len(),
+            changed: table.changed().count(),
+            held: self.router.held(),
+            ripe: self.router.ripe(),
+            generation: self.router.generation(),
+            due: u8::from(self.router.due()),
+        }
+    }
+
+    /// How often the router has published.
+    pub fn generation(&self) -> u64
+        ensures { result ≡ (self.now).generation }
+    {
+        self.router.generation()
+    }
+
+    /// Publishes: writes the rows that are in force from now on and were not, in the order of their
+    /// prefixes, and gives how many; all that the router holds may leave. Its messages are to be put on
+    /// links only after these rows forward packets. 8: there is no room for the rows. 17: nothing is due.
+    /// 37: it has published 2^64 - 1 times. 20: memory was refused. Refused, it writes nothing.
+    pub fn publish(&mut self, alloc: Global, rows: &mut [Row]) -> Result<usize, Fault>
+        ensures ok { IfOk result (λ count. (publish_fault (length rows.old) self.old ≡ None)
+            × (count ≡ length (step.changed_rows (self.old).table))
+            × IsWritten (step.changed_rows (self.old).table) rows.old rows.new) }
+        ensures published { OnOk result (self.new ≡ step.router_publishing self.old) }
+        ensures err { OnErr result ((self.new ≡ self.old) × (rows.new ≡ rows.old)) }
+        ensures cause { IfErr result (IsRefusedBy (publish_fault (length rows.old) self.old)) }
+    {
+        let count = self.router.table().changed().count();
+        if count > rows.len() {
+            return Err(Fault::BadCount);
+        }
+        if !self.router.due() {
+            return Err(Fault::NothingDue);
+        }
+        if self.router.generation() == u64::MAX {
+            return Err(Fault::GenerationsSpent);
+        }
+        let changed = self.router.patch_rows(alloc)?;
+        write_rows(&changed, rows);
+        self.router.mark_published();
+        Ok(count)
+    }
+
+    /// Takes the oldest message that the router holds, where it may leave. It is for the link of its
+    /// port in its session, and is dropped where that session has ended. 18: there is none that may leave.
+    pub fn release(&mut self) -> Result<Frame, Fault>
+        ensures ok { IfOk result (λ frame.
+            option_map frame_of (step.ripe_front self.old) ≡ Some frame) }
+        ensures released { OnOk result (self.new ≡ step.router_releasing self.old) }
+        ensures err { OnErr result (self.new ≡ self.old) }
+        ensures cause { IfErr result (λ f. (f ≡ Fault.NothingRipe)
+            × (step.ripe_front self.old ≡ None)) }
+    {
+        match self.router.release() {
+            Some(held) => Ok(Frame::of(held)),
+            None => Err(Fault::NothingRipe),
+        }
+    }
+
+    /// What the router knows of a prefix. 28: it has not heard of it.
+    pub fn state(&self, prefix: Prefix) -> Result<State, Fault>
+        ensures ok { IfOk result (λ s. shown_state prefix self.now ≡ Some s) }
+        ensures err { IfErr result (λ f. (f ≡ Fault.UnknownPrefix)
+            × (shown_state prefix self.now ≡ None)) }
+    {
+        let machine = self.router.machine(prefix).ok_or(Fault::UnknownPrefix)?;
+        Ok(State::of(prefix, machine, self.router.table()))
+    }
+
+    /// Writes the rows that the router has chosen, in the order of their prefixes, and gives how many. 8:
+    /// there is no room for them. 20: memory was refused. Refused, it writes nothing.
+    pub fn rows(&self, alloc: Global, rows: &mut [Row]) -> Result<usize, Fault>
+        ensures ok { IfOk result (λ count. (count ≡ length (self.now).table.control)
+            × (count ≤ length rows.old)
+            × IsWritten (self.now).table.control rows.old rows.new) }
+        ensures err { OnErr result (rows.new ≡ rows.old) }
+        ensures cause { IfErr result (IsRefusedBy (room_fault
+            (length (self.now).table.control) (length rows.old))) }
+    {
+        let table = self.router.table();
+        if table.len() > rows.len() {
+            return Err(Fault::BadCount);
+        }
+        let chosen: Vec<(Prefix, Entry)> = table.rows().collect(alloc)?;
+        write_rows(&chosen, rows);
+        Ok(chosen.len())
+    }
+}
+
+// Writes rows over the first of those that are there.
+fn write_rows(list: &[(Prefix, Entry)], rows: &mut [Row])
+    requires { length list.now ≤ length rows.old }
+    ensures written { IsWritten list.now rows.old rows.new }
+    ensures count { length rows.new ≡ length rows.old }
+{
+    for i in 0..list.len() {
+        rows[i] = Row::answer(Some(list[i]));
+    }
+}
