@@ -9,7 +9,7 @@ use Rattle.c_interface.specs.declared.fault.Fault.{Fault}
 use Rattle.c_interface.specs.declared.fault.Fault.TheVariants.{Empty, NothingRipe, UnknownPrefix}
 use Rattle.c_interface.specs.declared.row.Row.{Row}
 use Rattle.single_router.specs.Inputs.{told_fault, router_after}
-use Rattle.single_router.specs.Publishing.{IsWritten}
+use Rattle.single_router.specs.Publishing.{IsWrittenOver}
 use Rattle.single_router.specs.States.{shown_state}
 use Rattle.single_router.specs.declared.input.Input.{Input}
 
@@ -49,11 +49,11 @@ state_fault addr len held = first_of (prefix_fault addr len) (held_fault (λ r. 
 -- a publication of a router as a program is given it: the rows that it puts in force, over those that were there, how many
 -- these are, and how often the router has then published
 pub record IsPublished (r : Router) (old new : List Row) (written generation : ℕ) : Type 0 where
-  pub rows : IsWritten (changed_rows r.table) old new
+  pub rows : IsWrittenOver (changed_rows r.table) old new
   pub count : written ≡ length (changed_rows r.table)
   pub number : generation ≡ r.generation + 1
 
 -- the rows that a router has chosen, as a program is given them, and how many these are
 pub record IsListed (r : Router) (old new : List Row) (written : ℕ) : Type 0 where
-  pub rows : IsWritten (r.table).control old new
+  pub rows : IsWrittenOver (r.table).control old new
   pub count : written ≡ length (r.table).control

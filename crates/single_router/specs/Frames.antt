@@ -6,10 +6,10 @@ use Rattle.network_model.specs.declared.item.Held.{Held}
 use Rattle.single_router.specs.declared.frame.Frame.{Frame}
 
 -- the number by which C knows a kind
-abbrev pub kind_number : Kind → ℕ
-kind_number Update = 0
-kind_number Query = 1
-kind_number Reply = 2
+abbrev pub message_kind_number : Kind → ℕ
+message_kind_number Update = 0
+message_kind_number Query = 1
+message_kind_number Reply = 2
 
 -- the frame of a message that a router holds
 abbrev pub frame_of : Held → Frame
@@ -18,6 +18,6 @@ frame_of h = record {
   value = (h.message).value;
   session = h.session;
   len = ((h.message).prefix).len;
-  kind = kind_number (h.message).kind;
+  kind = message_kind_number (h.message).kind;
   port = h.port;
 }

@@ -63,9 +63,9 @@ detached_input addr len = and_then (prefix_of addr len) (λ p. Ok (input.Detache
 -- ---- as it is refused
 
 -- the fault that a test finds at a port; that there is no such port comes first
-abbrev pub fault_at : Option Port → (Port → Option Fault) → Option Fault
-fault_at None test = Some UnknownPort
-fault_at (Some p) test = test p
+abbrev pub port_fault : Option Port → (Port → Option Fault) → Option Fault
+port_fault None test = Some UnknownPort
+port_fault (Some p) test = test p
 
 -- a port whose link is down
 abbrev pub down_fault : Port → Option Fault
@@ -85,10 +85,10 @@ attachment_of r p = option_and_then (λ m. m.attachment) (row_of prefix_cmp p r.
 
 -- why a router is not told: the first of the tests that finds something
 abbrev pub told_fault : Input → Router → Option Fault
-told_fault (input.Up port session cost) r = fault_at (slice_get r.ports port) (up_fault session)
-told_fault (input.Down port) r = fault_at (slice_get r.ports port) down_fault
-told_fault (input.Cost port cost) r = fault_at (slice_get r.ports port) down_fault
-told_fault (input.Message port session m) r = fault_at (slice_get r.ports port) (message_fault session)
+told_fault (input.Up port session cost) r = port_fault (slice_get r.ports port) (up_fault session)
+told_fault (input.Down port) r = port_fault (slice_get r.ports port) down_fault
+told_fault (input.Cost port cost) r = port_fault (slice_get r.ports port) down_fault
+told_fault (input.Message port session m) r = port_fault (slice_get r.ports port) (message_fault session)
 told_fault (input.Attached p cost) r = None
 told_fault (input.Detached p) r = if is_some (attachment_of r p) then None else Some NotAttached
 

@@ -12,17 +12,17 @@ use Rattle.single_router.specs.Inputs.{cost_fault}
 use Rattle.single_router.specs.declared.opening.Attachment.{Attachment}
 
 -- the first of the faults of all
-abbrev pub first_fault : {X : Type 0} → (X → Option Fault) → List X → Option Fault
-first_fault fault [] = None
-first_fault fault (x ∷ xs) = first_of (fault x) (first_fault fault xs)
+abbrev pub first_fault_in : {X : Type 0} → (X → Option Fault) → List X → Option Fault
+first_fault_in fault [] = None
+first_fault_in fault (x ∷ xs) = first_of (fault x) (first_fault_in fault xs)
 
 -- a port that was never up, with its link's cost from here
-abbrev pub opening_port : ℕ → Port
-opening_port cost = record { up = false; session = 0; cost = cost }
+abbrev pub unused_port : ℕ → Port
+unused_port cost = record { up = false; session = 0; cost = cost }
 
 -- why these are no costs of a router's ports: there are too many, or the first of them that is none
 abbrev pub costs_fault : List ℕ → Option Fault
-costs_fault costs = if nat_lt most_ports (length costs) then Some TooManyPorts else first_fault cost_fault costs
+costs_fault costs = if nat_lt most_ports (length costs) then Some TooManyPorts else first_fault_in cost_fault costs
 
 -- the prefix and the cost of an attachment
 abbrev pub attachment_row : Attachment → Prefix × ℕ
@@ -34,7 +34,7 @@ attachment_fault a = first_of (prefix_fault a.addr a.len) (cost_fault a.cost)
 
 -- the fault of the first attachment that has one
 abbrev pub attachments_fault : List Attachment → Option Fault
-attachments_fault attachments = first_fault attachment_fault attachments
+attachments_fault attachments = first_fault_in attachment_fault attachments
 
 -- why a router cannot be made: its ports are tested first
 abbrev pub make_fault : List ℕ → List Attachment → Option Fault
@@ -42,4 +42,4 @@ make_fault costs attachments = first_of (costs_fault costs) (attachments_fault a
 
 -- the router with these ports, that is attached to these prefixes; of a prefix that stands twice the first cost counts
 abbrev pub made_router : List ℕ → List Attachment → Router
-made_router costs attachments = opening_router (map opening_port costs) (rows_of (map attachment_row attachments))
+made_router costs attachments = opening_router (map unused_port costs) (rows_of (map attachment_row attachments))

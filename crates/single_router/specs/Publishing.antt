@@ -11,7 +11,7 @@ use Rattle.c_interface.specs.declared.fault.Fault.TheVariants.{BadCount, Nothing
 use Rattle.c_interface.specs.declared.row.Row.{Row}
 
 -- a list of rows was written over the first of those that were there
-pub record IsWritten (list : List (Prefix × Entry)) (old new : List Row) : Type 0 where
+pub record IsWrittenOver (list : List (Prefix × Entry)) (old new : List Row) : Type 0 where
   pub first : take (length list) new ≡ map (λ r. entry_row r.0 r.1) list
   pub rest : drop (length list) new ≡ drop (length list) old
 

@@ -1,7 +1,7 @@
 //! Messages as C writes and reads them.
 
 ghost use Rattle.std.specs.Prelude.{◌≡◌};
-ghost use Rattle.single_router.specs.Frames.{frame_of, kind_number};
+ghost use Rattle.single_router.specs.Frames.{frame_of, message_kind_number};
 
 use network_model::{Held, Kind};
 
@@ -37,7 +37,7 @@ impl Frame {
 }
 
 fn number(kind: Kind) -> u8
-    ensures { result ≡ kind_number kind }
+    ensures { result ≡ message_kind_number kind }
 {
     match kind {
         Kind::Update => 0,

@@ -1,7 +1,7 @@
 //! What a router begins with.
 
 ghost use Rattle.std.specs.Prelude.{◌≡◌, None, Some, IfOk, IfErr, OnOk, IsOkUnless, map};
-ghost use Rattle.single_router.specs.Openings.{opening_port, costs_fault, attachment_row, attachments_fault};
+ghost use Rattle.single_router.specs.Openings.{unused_port, costs_fault, attachment_row, attachments_fault};
 
 use crate::input::read_cost;
 use c_interface::{Fault, read_prefix};
@@ -45,7 +45,7 @@ pub(crate) fn check_attachments(attachments: &[Attachment]) -> Result<(), Fault>
 /// Ports whose links are down and never were up, with the costs from here.
 pub(crate) fn read_ports(alloc: Global, costs: &[u32]) -> Result<Vec<Port>, Fault>
     requires { costs_fault costs.now ≡ None }
-    ensures ok { IfOk result (λ ports. ports.items ≡ map opening_port costs.now) }
+    ensures ok { IfOk result (λ ports. ports.items ≡ map unused_port costs.now) }
     ensures err { IsOkUnless result Fault.NoMemory }
 {
     let mut ports = Vec::with_capacity(alloc, costs.len())?;

@@ -3,9 +3,9 @@
 ghost use Rattle.std.specs.Prelude.{◌≡◌, ◌⊎◌, ◌≤◌, None, Some, IfOk, IfErr, OnOk, OnErr, length, option_map, slice_get, is_some, true};
 ghost use Rattle.network_model.specs.Step as step;
 ghost use Rattle.single_router.specs.Frames.{frame_of};
-ghost use Rattle.single_router.specs.Inputs.{told_fault, router_after, fault_at, down_fault, attachment_of, IsRefusedBy};
+ghost use Rattle.single_router.specs.Inputs.{told_fault, router_after, port_fault, down_fault, attachment_of, IsRefusedBy};
 ghost use Rattle.single_router.specs.Openings.{make_fault, made_router};
-ghost use Rattle.single_router.specs.Publishing.{publish_fault, room_fault, IsWritten};
+ghost use Rattle.single_router.specs.Publishing.{publish_fault, room_fault, IsWrittenOver};
 ghost use Rattle.single_router.specs.States.{counts_of, shown_state};
 
 use crate::frame::Frame;
@@ -157,7 +157,7 @@ impl SingleRouter {
     fn port_that_is_up(&self, port: u8) -> Result<Port, Fault>
         ensures ok { IfOk result (λ p. (slice_get (self.now).ports port ≡ Some p)
             × (p.up ≡ true)) }
-        ensures err { IfErr result (λ f. fault_at (slice_get (self.now).ports port) down_fault
+        ensures err { IfErr result (λ f. port_fault (slice_get (self.now).ports port) down_fault
             ≡ Some f) }
     {
         let found = self.router.port(port).ok_or(Fault::UnknownPort)?;
@@ -206,7 +206,7 @@ impl SingleRouter {
     pub fn publish(&mut self, alloc: Global, rows: &mut [Row]) -> Result<usize, Fault>
         ensures ok { IfOk result (λ count. (publish_fault (length rows.old) self.old ≡ None)
             × (count ≡ length (step.changed_rows (self.old).table))
-            × IsWritten (step.changed_rows (self.old).table) rows.old rows.new) }
+            × IsWrittenOver (step.changed_rows (self.old).table) rows.old rows.new) }
         ensures published { OnOk result (self.new ≡ step.router_publishing self.old) }
         ensures err { OnErr result ((self.new ≡ self.old) × (rows.new ≡ rows.old)) }
         ensures cause { IfErr result (IsRefusedBy (publish_fault (length rows.old) self.old)) }
@@ -258,7 +258,7 @@ impl SingleRouter {
     pub fn rows(&self, alloc: Global, rows: &mut [Row]) -> Result<usize, Fault>
         ensures ok { IfOk result (λ count. (count ≡ length (self.now).table.control)
             × (count ≤ length rows.old)
-            × IsWritten (self.now).table.control rows.old rows.new) }
+            × IsWrittenOver (self.now).table.control rows.old rows.new) }
         ensures err { OnErr result (rows.new ≡ rows.old) }
         ensures cause { IfErr result (IsRefusedBy (room_fault
             (length (self.now).table.control) (length rows.old))) }
@@ -276,7 +276,7 @@ impl SingleRouter {
 // Writes rows over the first of those that are there.
 fn write_rows(list: &[(Prefix, Entry)], rows: &mut [Row])
     requires { length list.now ≤ length rows.old }
-    ensures written { IsWritten list.now rows.old rows.new }
+    ensures written { IsWrittenOver list.now rows.old rows.new }
     ensures count { length rows.new ≡ length rows.old }
 {
     for i in 0..list.len() {
