@@ -16,8 +16,8 @@
  *   - `malloc`, `realloc` and `free` are those of one allocator, and align a block to each power of
  *     two up to 16 that divides its size. No call is made from a signal handler, nor from the forked
  *     child of a process with threads.
- *   - A list is a pointer, which is not null and is aligned also where the list is empty, and then
- *     the number of its elements.
+ *   - A list is a pointer, which is aligned and is null at most where the list is empty, and then the
+ *     number of its elements. Other pointers are not null.
  */
 #ifndef TUHVONDI_H
 #define TUHVONDI_H
@@ -151,6 +151,22 @@ struct tuhvondi_row {
 TUHVONDI_ASSERT(sizeof(struct tuhvondi_row) == 12, "a row takes 12 bytes");
 TUHVONDI_ASSERT(offsetof(struct tuhvondi_row, session) == 8, "a row's session stands at byte 8");
 
+/* A prefix: the first `len` bits, 0 to 32, of `addr`, with no bit set after them. As a cursor through
+ * rows it begins as TUHVONDI_FIRST_PREFIX, or as the prefix from which on rows are wanted; a `len` of
+ * TUHVONDI_NO_PREFIX is the end, after all rows. */
+struct tuhvondi_prefix {
+    uint32_t addr;
+    uint8_t len;
+};
+
+TUHVONDI_ASSERT(sizeof(struct tuhvondi_prefix) == 8, "a prefix takes 8 bytes");
+
+/* 0.0.0.0/0, which comes first in the order of prefixes. */
+#define TUHVONDI_FIRST_PREFIX {0, 0}
+
+/* The length of the cursor at the end. */
+#define TUHVONDI_NO_PREFIX 33
+
 /* A handle, which holds an image or none. */
 struct tuhvondi_image {
     void *image_;
@@ -169,12 +185,21 @@ TUHVONDI_ASSERT(offsetof(struct tuhvondi_image, holds_) == 8, "a handle's flag s
 uint32_t tuhvondi_image_new(const struct tuhvondi_row *rows, size_t row_count,
                             struct tuhvondi_image *image);
 
-/* Sets rows in place over those of the image, in order, and its generation. It takes time by the
- * number of rows that are given, and not by those that are there.
+/* Sets rows in place over those of the image, in order, and its generation: all, or none where it is
+ * refused. It takes time by the number of rows that are given, and not by those that are there, and asks
+ * for room of 488 bytes a row before it sets the first.
  * Refused: as tuhvondi_image_new, TUHVONDI_NO_IMAGE_HELD, and TUHVONDI_SHARED while other handles hold
  * the image. */
 uint32_t tuhvondi_image_apply(struct tuhvondi_image *image, uint64_t generation,
                               const struct tuhvondi_row *rows, size_t row_count);
+
+/* Takes the rows of the prefixes out of the image, where it has them, and sets its generation. An
+ * address that such a row answered is then answered by the row with the next shorter prefix. It takes no
+ * memory, and what only those rows needed serves later ones.
+ * Refused: TUHVONDI_BAD_LENGTH, TUHVONDI_HOST_BITS, TUHVONDI_NO_IMAGE_HELD, and TUHVONDI_SHARED while other
+ * handles hold the image. */
+uint32_t tuhvondi_image_remove(struct tuhvondi_image *image, uint64_t generation,
+                               const struct tuhvondi_prefix *prefixes, size_t prefix_count);
 
 /* Has `other` hold the image of `image` too, and lets go of the image that `other` held.
  * Refused: TUHVONDI_NO_IMAGE_HELD, TUHVONDI_NO_MEMORY. */
@@ -191,6 +216,22 @@ uint32_t tuhvondi_image_copy(struct tuhvondi_image *image, struct tuhvondi_image
 uint32_t tuhvondi_image_lookup(struct tuhvondi_image *image,
                                const uint32_t *addrs, size_t addr_count,
                                struct tuhvondi_row *answers, size_t answer_count);
+
+/* Writes the rows of the image from the cursor on, in the order of their prefixes, by address and then by
+ * length, as many as there is room for, and how many they are. The cursor then stands where the others
+ * begin, so that calls with the same cursor give all rows, until one writes fewer than row_count. The rows
+ * below a prefix are those from it on, as long as it covers them. It takes no memory.
+ * Refused, and then nothing is written: TUHVONDI_BAD_LENGTH, TUHVONDI_HOST_BITS, TUHVONDI_NO_IMAGE_HELD. */
+uint32_t tuhvondi_image_rows(struct tuhvondi_image *image, struct tuhvondi_prefix *from,
+                             struct tuhvondi_row *rows, size_t row_count, size_t *written);
+
+/* Writes how many rows the image has. It takes the time of going through all of them.
+ * Refused, and then nothing is written: TUHVONDI_NO_IMAGE_HELD. */
+uint32_t tuhvondi_image_row_count(struct tuhvondi_image *image, size_t *count);
+
+/* Writes how many bytes the image takes, with the room that is set aside for more rows.
+ * Refused, and then nothing is written: TUHVONDI_NO_IMAGE_HELD. */
+uint32_t tuhvondi_image_bytes(struct tuhvondi_image *image, size_t *bytes);
 
 /* Writes the generation of the image.
  * Refused, and then nothing is written: TUHVONDI_NO_IMAGE_HELD. */

@@ -1,6 +1,6 @@
 //! Forwarding images.
 
-use crate::{Row, Status, sys};
+use crate::{Prefix, Row, Status, sys};
 use std::net::Ipv4Addr;
 
 /// What an image answers for an address: a row, or none.
@@ -20,7 +20,8 @@ use std::net::Ipv4Addr;
 pub struct Answer(Row);
 
 impl Answer {
-    /// The row with the longest prefix that covers the address, if any does.    ///
+    /// The row with the longest prefix that covers the address, if any does.
+    ///
     /// ```
     /// # use tuhvondi::*;
     /// # let net: Prefix = "10.0.0.0/8".parse()?;
@@ -133,6 +134,107 @@ impl Image {
         })
     }
 
+    /// Takes the rows of prefixes out of the image, where it has them, and sets its generation. It takes no
+    /// memory.
+    ///
+    /// ```
+    /// # use tuhvondi::*;
+    /// # let net: Prefix = "10.0.0.0/8".parse()?;
+    /// # let mut image = Image::new(&[Row::new(net, Target::Local)])?;
+    /// image.apply(1, &[Row::new("10.1.0.0/16".parse()?, Target::Unreachable)])?;
+    /// image.remove(2, &["10.1.0.0/16".parse()?])?;
+    /// assert_eq!(image.lookup([10, 1, 2, 3].into()), Some(Row::new(net, Target::Local)));
+    /// # Ok::<(), Box<dyn std::error::Error>>(())
+    /// ```
+    ///
+    /// # Errors
+    ///
+    /// [`Status::Shared`] while there is a reader; the image is then as it was.
+    pub fn remove(&mut self, generation: u64, prefixes: &[Prefix]) -> Result<(), Status> {
+        // SAFETY: as in `apply`.
+        Status::check(unsafe {
+            sys::tuhvondi_image_remove(
+                &mut self.handle,
+                generation,
+                prefixes.as_ptr(),
+                prefixes.len(),
+            )
+        })
+    }
+
+    /// The rows, in the order of their prefixes: by address, and then by length.
+    ///
+    /// ```
+    /// # use tuhvondi::*;
+    /// # let net: Prefix = "10.0.0.0/8".parse()?;
+    /// # let mut image = Image::new(&[Row::new(net, Target::Local)])?;
+    /// image.apply(1, &[Row::new("10.0.0.0/7".parse()?, Target::Unreachable)])?;
+    /// let rows: Vec<String> = image.rows().map(|row| row.to_string()).collect();
+    /// assert_eq!(rows, ["10.0.0.0/7 unreachable", "10.0.0.0/8 local"]);
+    /// # Ok::<(), Box<dyn std::error::Error>>(())
+    /// ```
+    pub fn rows(&mut self) -> Rows<'_> {
+        self.rows_below(Prefix::given(0, 0))
+    }
+
+    /// The rows whose prefixes lie in this one, itself among them, in the order of their prefixes.
+    ///
+    /// ```
+    /// # use tuhvondi::*;
+    /// # let net: Prefix = "10.0.0.0/8".parse()?;
+    /// # let mut image = Image::new(&[Row::new(net, Target::Local)])?;
+    /// image.apply(1, &[Row::new("11.0.0.0/8".parse()?, Target::Unreachable)])?;
+    /// assert_eq!(image.rows_below("10.0.0.0/8".parse()?).count(), 1);
+    /// assert_eq!(image.rows_below("10.0.0.0/7".parse()?).count(), 2);
+    /// assert_eq!(image.rows_below("10.0.0.0/9".parse()?).count(), 0);
+    /// # Ok::<(), Box<dyn std::error::Error>>(())
+    /// ```
+    pub fn rows_below(&mut self, prefix: Prefix) -> Rows<'_> {
+        Rows {
+            image: self,
+            below: prefix,
+            from: sys::Cursor {
+                addr: prefix.bits(),
+                len: prefix.len(),
+            },
+            rows: [Answer::default(); LISTED],
+            next: LISTED,
+            count: LISTED,
+        }
+    }
+
+    /// How many rows there are: it goes through all of them.
+    ///
+    /// ```
+    /// # use tuhvondi::*;
+    /// # let net: Prefix = "10.0.0.0/8".parse()?;
+    /// # let mut image = Image::new(&[Row::new(net, Target::Local)])?;
+    /// assert_eq!(image.row_count(), 1);
+    /// # Ok::<(), Box<dyn std::error::Error>>(())
+    /// ```
+    pub fn row_count(&mut self) -> usize {
+        let mut count = 0;
+        // SAFETY: as in `apply`.
+        unsafe { sys::tuhvondi_image_row_count(&mut self.handle, &mut count) };
+        count
+    }
+
+    /// How many bytes the image takes, with the room that is set aside for more rows.
+    ///
+    /// ```
+    /// # use tuhvondi::*;
+    /// # let net: Prefix = "10.0.0.0/8".parse()?;
+    /// # let mut image = Image::new(&[Row::new(net, Target::Local)])?;
+    /// assert!(image.bytes() >= 3 * 16 + 8);
+    /// # Ok::<(), Box<dyn std::error::Error>>(())
+    /// ```
+    pub fn bytes(&mut self) -> usize {
+        let mut bytes = 0;
+        // SAFETY: as in `apply`.
+        unsafe { sys::tuhvondi_image_bytes(&mut self.handle, &mut bytes) };
+        bytes
+    }
+
     /// One more holder of the image, to look up at the same time in another thread.
     ///
     /// ```
@@ -180,7 +282,8 @@ impl Image {
         Ok(image)
     }
 
-    /// The row with the longest prefix that covers an address, if any does. It takes no memory.    ///
+    /// The row with the longest prefix that covers an address, if any does. It takes no memory.
+    ///
     /// ```
     /// # use tuhvondi::*;
     /// # let net: Prefix = "10.0.0.0/8".parse()?;
@@ -225,7 +328,8 @@ impl Image {
         })
     }
 
-    /// Which publication of its router the image is; 0 for a new one.    ///
+    /// Which publication of its router the image is; 0 for a new one.
+    ///
     /// ```
     /// # use tuhvondi::*;
     /// # let net: Prefix = "10.0.0.0/8".parse()?;
@@ -239,6 +343,56 @@ impl Image {
         // SAFETY: as in `apply`.
         unsafe { sys::tuhvondi_image_generation(&mut self.handle, &mut generation) };
         generation
+    }
+}
+
+/// How many rows are asked for at once.
+const LISTED: usize = 64;
+
+/// The rows of an image, or those below a prefix, in the order of their prefixes: of [`Image::rows`] and
+/// [`Image::rows_below`]. It takes no memory.
+///
+/// ```
+/// # use tuhvondi::*;
+/// # let net: Prefix = "10.0.0.0/8".parse()?;
+/// # let mut image = Image::new(&[Row::new(net, Target::Local)])?;
+/// let mut rows = image.rows();
+/// assert_eq!(rows.next(), Some(Row::new(net, Target::Local)));
+/// assert_eq!(rows.next(), None);
+/// # Ok::<(), Box<dyn std::error::Error>>(())
+/// ```
+pub struct Rows<'a> {
+    image: &'a mut Image,
+    below: Prefix,
+    from: sys::Cursor,
+    rows: [Answer; LISTED],
+    next: usize,
+    count: usize,
+}
+
+impl Iterator for Rows<'_> {
+    type Item = Row;
+
+    fn next(&mut self) -> Option<Row> {
+        if self.next == self.count && self.count == LISTED {
+            self.next = 0;
+            // SAFETY: as in `apply`; the cursor is a prefix, or what the library made of it.
+            unsafe {
+                sys::tuhvondi_image_rows(
+                    &mut self.image.handle,
+                    &mut self.from,
+                    self.rows.as_mut_ptr(),
+                    LISTED,
+                    &mut self.count,
+                )
+            };
+        }
+        let row = self.rows[..self.count].get(self.next)?.row()?;
+        if !self.below.covers(row.prefix().addr()) {
+            return None;
+        }
+        self.next += 1;
+        Some(row)
     }
 }
 

@@ -32,7 +32,7 @@ mod row;
 mod status;
 mod sys;
 
-pub use image::{Answer, Image, Reader};
+pub use image::{Answer, Image, Reader, Rows};
 pub use prefix::{BadPrefix, Prefix};
 pub use router::{Counts, Distance, Message, MessageKind, PrefixState, Publication, Router};
 pub use row::{Row, Target};

@@ -16,6 +16,8 @@ use std::str::FromStr;
 /// assert_eq!("192.0.2.1/24".parse::<Prefix>(), Err(BadPrefix));
 /// # Ok::<(), BadPrefix>(())
 /// ```
+// As C has it; the order is by address, and then by length.
+#[repr(C)]
 #[derive(Clone, Copy, Debug, PartialEq, Eq, PartialOrd, Ord, Hash)]
 pub struct Prefix {
     addr: u32,
@@ -32,7 +34,8 @@ pub struct BadPrefix;
 
 impl Prefix {
     /// The prefix of an address's first `len` bits. Refused where `len` is above 32, or a bit is set after
-    /// them.    ///
+    /// them.
+    ///
     /// ```
     /// # use tuhvondi::*;
     /// # let net: Prefix = "10.0.0.0/8".parse()?;
@@ -42,16 +45,14 @@ impl Prefix {
     /// ```
     pub fn new(addr: Ipv4Addr, len: u8) -> std::result::Result<Prefix, BadPrefix> {
         let addr = u32::from(addr);
-        let mask = u32::MAX
-            .checked_shl(32 - u32::from(len.min(32)))
-            .unwrap_or(0);
-        if len > 32 || addr & !mask != 0 {
+        if len > 32 || addr & !mask(len) != 0 {
             return Err(BadPrefix);
         }
         Ok(Prefix { addr, len })
     }
 
-    /// Its address.    ///
+    /// Its address.
+    ///
     /// ```
     /// # use tuhvondi::*;
     /// # let net: Prefix = "10.0.0.0/8".parse()?;
@@ -75,6 +76,19 @@ impl Prefix {
         self.len
     }
 
+    /// Whether an address has the prefix's bits.
+    ///
+    /// ```
+    /// # use tuhvondi::*;
+    /// # let net: Prefix = "10.0.0.0/8".parse()?;
+    /// assert!(net.covers([10, 1, 2, 3].into()));
+    /// assert!(!net.covers([11, 0, 0, 0].into()));
+    /// # Ok::<(), Box<dyn std::error::Error>>(())
+    /// ```
+    pub fn covers(self, addr: Ipv4Addr) -> bool {
+        u32::from(addr) & mask(self.len) == self.addr
+    }
+
     pub(crate) fn bits(self) -> u32 {
         self.addr
     }
@@ -83,6 +97,13 @@ impl Prefix {
     pub(crate) fn given(addr: u32, len: u8) -> Prefix {
         Prefix { addr, len }
     }
+}
+
+/// The first `len` bits of 32, at most all.
+fn mask(len: u8) -> u32 {
+    u32::MAX
+        .checked_shl(32 - u32::from(len.min(32)))
+        .unwrap_or(0)
 }
 
 impl FromStr for Prefix {

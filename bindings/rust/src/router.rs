@@ -147,7 +147,8 @@ pub struct Publication<'a> {
 }
 
 impl Publication<'_> {
-    /// The rows, in the order of their prefixes.    ///
+    /// The rows, in the order of their prefixes.
+    ///
     /// ```
     /// # use std::num::NonZeroU16;
     /// # use tuhvondi::*;
@@ -163,7 +164,8 @@ impl Publication<'_> {
         Answer::rows(&self.rows)
     }
 
-    /// How often the router has published.    ///
+    /// How often the router has published.
+    ///
     /// ```
     /// # use std::num::NonZeroU16;
     /// # use tuhvondi::*;
@@ -403,7 +405,8 @@ impl Router {
         })
     }
 
-    /// What the router has.    ///
+    /// What the router has.
+    ///
     /// ```
     /// # use std::num::NonZeroU16;
     /// # use tuhvondi::*;
@@ -473,7 +476,8 @@ impl Router {
     }
 
     /// Takes the oldest message that may leave. It is for the link of its port in its session alone: where
-    /// that has ended, it is to be dropped.    ///
+    /// that has ended, it is to be dropped.
+    ///
     /// ```
     /// # use std::num::NonZeroU16;
     /// # use tuhvondi::*;
@@ -504,7 +508,8 @@ impl Router {
         })
     }
 
-    /// What the router knows of a prefix, if it has heard of it.    ///
+    /// What the router knows of a prefix, if it has heard of it.
+    ///
     /// ```
     /// # use std::num::NonZeroU16;
     /// # use tuhvondi::*;

@@ -49,7 +49,8 @@ pub struct Row {
 }
 
 impl Row {
-    /// The row of a prefix.    ///
+    /// The row of a prefix.
+    ///
     /// ```
     /// # use tuhvondi::*;
     /// # let net: Prefix = "10.0.0.0/8".parse()?;
@@ -71,7 +72,8 @@ impl Row {
         }
     }
 
-    /// Its prefix.    ///
+    /// Its prefix.
+    ///
     /// ```
     /// # use tuhvondi::*;
     /// # let net: Prefix = "10.0.0.0/8".parse()?;
@@ -82,7 +84,8 @@ impl Row {
         Prefix::given(self.addr, self.len)
     }
 
-    /// Where packets go that it matches.    ///
+    /// Where packets go that it matches.
+    ///
     /// ```
     /// # use tuhvondi::*;
     /// # let net: Prefix = "10.0.0.0/8".parse()?;

@@ -69,7 +69,8 @@ const STATUSES: [(Status, u32, &str); 10] = [
 ];
 
 impl Status {
-    /// The number by which C knows the status.    ///
+    /// The number by which C knows the status.
+    ///
     /// ```
     /// # use tuhvondi::*;
     /// # let net: Prefix = "10.0.0.0/8".parse()?;

@@ -1,6 +1,6 @@
 //! The libraries as C has them: `include/tuhvondi.h` and `include/tuhvondi_router.h`.
 
-use crate::{Answer, Row};
+use crate::{Answer, Prefix, Row};
 use std::ffi::c_void;
 use std::ptr::null_mut;
 
@@ -16,6 +16,14 @@ impl Handle {
         place: null_mut(),
         holds: false,
     };
+}
+
+/// Where a listing of rows goes on: at a prefix, or, with the length 33, nowhere.
+#[repr(C)]
+#[derive(Clone, Copy)]
+pub(crate) struct Cursor {
+    pub(crate) addr: u32,
+    pub(crate) len: u8,
 }
 
 #[repr(C)]
@@ -69,6 +77,21 @@ unsafe extern "C" {
         rows: *const Row,
         count: usize,
     ) -> u32;
+    pub(crate) fn tuhvondi_image_remove(
+        image: *mut Handle,
+        generation: u64,
+        prefixes: *const Prefix,
+        count: usize,
+    ) -> u32;
+    pub(crate) fn tuhvondi_image_rows(
+        image: *mut Handle,
+        from: *mut Cursor,
+        rows: *mut Answer,
+        count: usize,
+        written: *mut usize,
+    ) -> u32;
+    pub(crate) fn tuhvondi_image_row_count(image: *mut Handle, count: *mut usize) -> u32;
+    pub(crate) fn tuhvondi_image_bytes(image: *mut Handle, bytes: *mut usize) -> u32;
     pub(crate) fn tuhvondi_image_share(image: *mut Handle, other: *mut Handle) -> u32;
     pub(crate) fn tuhvondi_image_copy(image: *mut Handle, other: *mut Handle) -> u32;
     pub(crate) fn tuhvondi_image_lookup(

@@ -1,4 +1,5 @@
 pub mod Handles
 pub mod Faults
 pub mod Rows
+pub mod Prefixes
 pub mod Images

@@ -5,11 +5,10 @@ ghost use Rattle.lookup_ffi.specs.Images.{new_image};
 ghost use Rattle.c_interface.specs.Rows.{row_entry};
 ghost use Rattle.lookup_ffi.specs.Rows.{first_row_fault};
 
-use crate::rows::read_rows;
 use crate::shared::Shared;
 use c_interface::{Fault, Row};
 use std::alloc::Global;
-use tree_bitmap::parts::{copy, empty, set_rows};
+use tree_bitmap::parts::{copy, empty, set_row};
 
 /// An image of generation 0 of these rows, set in order.
 pub fn image_of_rows(alloc: Global, rows: &[Row]) -> Result<Box<Shared>, Fault>
@@ -18,7 +17,11 @@ pub fn image_of_rows(alloc: Global, rows: &[Row]) -> Result<Box<Shared>, Fault>
     ensures err { IsOkUnless result Fault.NoMemory }
 {
     let mut image = empty(alloc)?;
-    set_rows(&mut image, &read_rows(alloc, rows)?)?;
+    // One by one: room for all at once would be room for the longest way of each.
+    for &row in rows {
+        let (prefix, entry) = row.read()?;
+        set_row(&mut image, prefix, entry)?;
+    }
     Ok(Box::new(alloc, Shared::new(alloc, image)?)?)
 }
 

@@ -4,7 +4,7 @@
 //! refused. A refused call leaves the image of its handle as it is.
 #![tactic(auto)]
 
-ghost use Rattle.std.specs.Prelude.{◌≡◌, ◌≢◌, ◌<◌, None, Some, OnOk, OnErr, IfErr, IfSome, IfNone, length, map};
+ghost use Rattle.std.specs.Prelude.{◌≡◌, ◌≢◌, ◌<◌, None, Some, OnOk, OnErr, IfOk, IfErr, IfSome, IfNone, length, map};
 ghost use Rattle.std.specs.Option.{option_map};
 ghost use Rattle.lookup_ffi.specs.Handles.{handle_image};
 ghost use Rattle.image_patch.specs.Patches.{patched};
@@ -13,17 +13,20 @@ ghost use Rattle.c_interface.specs.Faults.{fault_number, IsStatusBy};
 ghost use Rattle.c_interface.specs.Rows.{row_entry};
 ghost use Rattle.lookup_ffi.specs.Faults.{IsApplyStatus, IsGiveStatus, IsLookupStatus};
 ghost use Rattle.lookup_ffi.specs.Rows.{answer_rows, first_row_fault};
+ghost use Rattle.lookup_ffi.specs.Prefixes.{cursor_fault, cursor_prefix, first_block_fault, rows_status, withdrawn, IsFilledIn, IsRemoveStatus};
 
 use c_interface::{Fault, Row, status};
 use std::alloc::Global;
 
 mod handle;
 mod images;
+mod prefixes;
 mod rows;
 mod shared;
 
 use handle::ImageHandle;
 use images::{copy_image, image_of_rows, share_image};
+use prefixes::{Block, check_blocks, list_rows};
 use rows::{answer_all, check_rows};
 
 // Makes an image of rows and puts it into a handle.
@@ -85,6 +88,49 @@ pub extern "C" fn tuhvondi_image_apply(
     ensures refused { result ≢ 0 → handle_image image.new ≡ handle_image image.old }
 {
     status(apply(alloc, image, generation, rows))
+}
+
+// Takes the rows of prefixes out of a handle's image, and sets its generation.
+fn remove(
+    alloc: Global,
+    image: &mut ImageHandle,
+    generation: u64,
+    prefixes: &[Block],
+) -> Result<(), Fault>
+    ensures ok { OnOk result
+        (IsRemoveStatus (first_block_fault prefixes.now) (handle_image image.old) 0) }
+    ensures removed { OnOk result (handle_image image.new
+        ≡ option_map (withdrawn generation prefixes.now) (handle_image image.old)) }
+    ensures unchanged { OnErr result (handle_image image.new ≡ handle_image image.old) }
+    ensures err { IfErr result (λ f. IsRemoveStatus
+        (first_block_fault prefixes.now) (handle_image image.old) (fault_number f)) }
+{
+    check_blocks(prefixes)?;
+    let Some(mut held) = image.take(alloc) else {
+        return Err(Fault::Empty);
+    };
+    let outcome = held.remove(generation, prefixes);
+    image.put(held);
+    outcome
+}
+
+/// Takes the rows of the prefixes out of the image, where it has them, and sets its generation. It
+/// takes no memory. 3 or 4: the first prefix that has a fault has this one. 7: the handle holds no
+/// image. 9: other handles hold it too.
+#[unsafe(no_mangle)]
+pub extern "C" fn tuhvondi_image_remove(
+    alloc: Global,
+    image: &mut ImageHandle,
+    generation: u64,
+    prefixes: &[Block],
+) -> u32
+    ensures status { IsRemoveStatus
+        (first_block_fault prefixes.now) (handle_image image.old) result }
+    ensures done { result ≡ 0 → handle_image image.new
+        ≡ option_map (withdrawn generation prefixes.now) (handle_image image.old) }
+    ensures refused { result ≢ 0 → handle_image image.new ≡ handle_image image.old }
+{
+    status(remove(alloc, image, generation, prefixes))
 }
 
 // Has another handle hold an image too, or a copy of it.
@@ -212,6 +258,102 @@ pub extern "C" fn tuhvondi_image_generation(
         return Fault::Empty.number();
     };
     *generation = held.get().generation();
+    image.put(held);
+    0
+}
+
+// Writes the rows of a handle's image from where a cursor stands.
+fn list(
+    alloc: Global,
+    image: &mut ImageHandle,
+    from: Block,
+    rows: &mut [Row],
+) -> Result<(usize, Block), Fault>
+    ensures image { handle_image image.new ≡ handle_image image.old }
+    ensures ok { OnOk result (rows_status (cursor_fault from) (handle_image image.old) ≡ 0) }
+    ensures rows { IfOk result (λ r. IfSome (handle_image image.old) (λ i. IsFilledIn
+        i.rows (cursor_prefix from) rows.old rows.new r.0 (cursor_prefix r.1))) }
+    ensures unchanged { OnErr result (rows.new ≡ rows.old) }
+    ensures err { IfErr result (λ f.
+        rows_status (cursor_fault from) (handle_image image.old) ≡ fault_number f) }
+{
+    let at = from.read_cursor()?;
+    let Some(held) = image.take(alloc) else {
+        return Err(Fault::Empty);
+    };
+    let (count, onward) = list_rows(held.get(), at, rows);
+    image.put(held);
+    Ok((count, Block::cursor(onward)))
+}
+
+/// Writes the rows of the image from where the cursor stands, in the order of their prefixes, as many as
+/// there is room for, and how many they are; the cursor then stands where the others begin. A length
+/// of 33 is the end. It takes no memory. 3 or 4: the cursor is no prefix. 7: the handle holds no
+/// image. Refused, it writes nothing.
+#[unsafe(no_mangle)]
+pub extern "C" fn tuhvondi_image_rows(
+    alloc: Global,
+    image: &mut ImageHandle,
+    from: &mut Block,
+    rows: &mut [Row],
+    written: &mut usize,
+) -> u32
+    ensures status { result ≡ rows_status (cursor_fault from.old) (handle_image image.old) }
+    ensures done { result ≡ 0 → IfSome (handle_image image.old) (λ i. IsFilledIn
+        i.rows (cursor_prefix from.old) rows.old rows.new written.new (cursor_prefix from.new)) }
+    ensures refused { result ≢ 0 →
+        (rows.new ≡ rows.old) × (written.new ≡ written.old) × (from.new ≡ from.old) }
+    ensures image { handle_image image.new ≡ handle_image image.old }
+{
+    match list(alloc, image, *from, rows) {
+        Ok((count, onward)) => {
+            *written = count;
+            *from = onward;
+            0
+        }
+        Err(fault) => fault.number(),
+    }
+}
+
+/// Writes how many rows the image has: it goes through all of them. 7: the handle holds no image, and
+/// nothing is written.
+#[unsafe(no_mangle)]
+pub extern "C" fn tuhvondi_image_row_count(
+    alloc: Global,
+    image: &mut ImageHandle,
+    count: &mut usize,
+) -> u32
+    ensures some { IfSome (handle_image image.old) (λ i.
+        (result ≡ 0) × (count.new ≡ length i.rows)) }
+    ensures none { IfNone (handle_image image.old)
+        ((result ≡ fault_number Fault.Empty) × (count.new ≡ count.old)) }
+    ensures image { handle_image image.new ≡ handle_image image.old }
+{
+    let Some(held) = image.take(alloc) else {
+        return Fault::Empty.number();
+    };
+    *count = held.get().row_count();
+    image.put(held);
+    0
+}
+
+/// Writes how many bytes the image takes, with the room for more rows. 7: the handle holds no image,
+/// and nothing is written.
+#[unsafe(no_mangle)]
+pub extern "C" fn tuhvondi_image_bytes(
+    alloc: Global,
+    image: &mut ImageHandle,
+    bytes: &mut usize,
+) -> u32
+    ensures some { IfSome (handle_image image.old) (λ i. result ≡ 0) }
+    ensures none { IfNone (handle_image image.old)
+        ((result ≡ fault_number Fault.Empty) × (bytes.new ≡ bytes.old)) }
+    ensures image { handle_image image.new ≡ handle_image image.old }
+{
+    let Some(held) = image.take(alloc) else {
+        return Fault::Empty.number();
+    };
+    *bytes = held.get().bytes();
     image.put(held);
     0
 }

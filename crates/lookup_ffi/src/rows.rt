@@ -7,7 +7,11 @@ ghost use Rattle.lookup_ffi.specs.Rows.{answer_rows, first_row_fault};
 use c_interface::{Fault, Row};
 use network_model::{Entry, Prefix};
 use std::alloc::Global;
+use std::cmp::min;
 use tree_bitmap::Image;
+
+/// How many answers are on their way to C at once.
+const FOUND: usize = 64;
 
 /// Finds the first row that has a fault.
 pub fn check_rows(rows: &[Row]) -> Result<(), Fault>
@@ -38,7 +42,14 @@ pub fn answer_all(image: &Image, addrs: &[u32], answers: &mut [Row])
     requires { length answers.old ≡ length addrs.now }
     ensures { answers.new ≡ answer_rows image.now addrs.now }
 {
-    for i in 0..addrs.len() {
-        answers[i] = Row::answer(image.lookup(addrs[i]));
+    let mut found = [None; FOUND];
+    let mut done = 0;
+    while done < addrs.len() {
+        let count = min(FOUND, addrs.len() - done);
+        image.lookup_all(&addrs[done..done + count], &mut found[..count]);
+        for k in 0..count {
+            answers[done + k] = Row::answer(found[k]);
+        }
+        done += count;
     }
 }

@@ -2,6 +2,7 @@
 
 ghost use Rattle.std.specs.Prelude.{◌≡◌, None, IfOk, IfErr, OnOk, OnErr, map};
 
+use crate::prefixes::{Block, remove_rows};
 use crate::rows::read_rows;
 use c_interface::{Fault, Row};
 use image_patch::{Apply, Patch};
@@ -9,6 +10,7 @@ use std::alloc::{AllocError, Global};
 use std::marker::Model;
 use std::sync::Arc;
 use tree_bitmap::Image;
+use tree_bitmap::parts::set_generation;
 
 /// An image that others may hold too: while they do, it does not change.
 #[derive(Drop)]
@@ -30,6 +32,7 @@ impl Shared {
     ghost use Rattle.image_patch.specs.Patches.{patched};
     ghost use Rattle.c_interface.specs.Rows.{row_entry};
     ghost use Rattle.lookup_ffi.specs.Rows.{first_row_fault};
+    ghost use Rattle.lookup_ffi.specs.Prefixes.{first_block_fault, withdrawn};
 
     /// The only holder of an image.
     pub fn new(alloc: Global, image: Image) -> Result<Shared, AllocError>
@@ -54,6 +57,21 @@ impl Shared {
         ensures { result.now ≡ self.now }
     {
         &self.image
+    }
+
+    /// Takes the rows of prefixes out of the image, and sets its generation, where nobody else holds it.
+    pub fn remove(&mut self, generation: u64, blocks: &[Block]) -> Result<(), Fault>
+        requires { first_block_fault blocks.now ≡ None }
+        ensures ok { OnOk result (self.new ≡ withdrawn generation blocks.now self.old) }
+        ensures unchanged { OnErr result (self.new ≡ self.old) }
+        ensures err { IfErr result (λ f. f ≡ Fault.Shared) }
+    {
+        let Some(image) = Arc::get_mut(&mut self.image) else {
+            return Err(Fault::Shared);
+        };
+        remove_rows(image, blocks);
+        set_generation(image, generation);
+        Ok(())
     }
 
     /// Sets rows over those of the image, in order, and its generation, where nobody else holds it.

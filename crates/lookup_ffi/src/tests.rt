@@ -3,9 +3,11 @@
 ghost use Rattle.std.specs.Prelude.{◌-◌, ◌^◌, ◌<◌};
 
 use crate::handle::ImageHandle;
+use crate::prefixes::Block;
 use crate::{
-    tuhvondi_image_apply, tuhvondi_image_copy, tuhvondi_image_free, tuhvondi_image_generation,
-    tuhvondi_image_lookup, tuhvondi_image_new, tuhvondi_image_share,
+    tuhvondi_image_apply, tuhvondi_image_bytes, tuhvondi_image_copy, tuhvondi_image_free,
+    tuhvondi_image_generation, tuhvondi_image_lookup, tuhvondi_image_new, tuhvondi_image_remove,
+    tuhvondi_image_row_count, tuhvondi_image_rows, tuhvondi_image_share,
 };
 use c_interface::{Fault, Row};
 use std::alloc::Global;
@@ -162,8 +164,66 @@ fn a_copy_changes_alone(rt: HostRuntime) {
     assert_eq!(rt; tuhvondi_image_apply(alloc, &mut image, 1, &patch), 0);
 }
 
+fn block(addr: u32, len: u8) -> Block {
+    Block { addr, len }
+}
+
+#[test]
+fn rows_are_listed_and_removed(rt: HostRuntime) {
+    let alloc = rt.alloc();
+    let mut image = ImageHandle::none(alloc);
+    // 10.0.0.0/8, 10.1.0.0/16 and 192.0.2.0/24, out of order.
+    let rows = [
+        of_kind(0xc000_0200, 24, 2),
+        via(0x0a01_0000, 16, 2),
+        via(0x0a00_0000, 8, 1),
+    ];
+    assert_eq!(rt; tuhvondi_image_new(alloc, &rows, &mut image), 0);
+    let mut count = 0;
+    assert_eq!(rt; tuhvondi_image_row_count(alloc, &mut image, &mut count), 0);
+    assert_eq!(rt; count, 3);
+    let mut from = block(0, 0);
+    let mut listed = [NOTHING; 2];
+    assert_eq!(rt;
+        tuhvondi_image_rows(alloc, &mut image, &mut from, &mut listed, &mut count),
+        0
+    );
+    assert_eq!(rt; count, 2);
+    assert_eq!(rt; listed, [rows[2], rows[1]]);
+    assert_eq!(rt;
+        tuhvondi_image_rows(alloc, &mut image, &mut from, &mut listed, &mut count),
+        0
+    );
+    assert_eq!(rt; count, 1);
+    assert_eq!(rt; listed, [rows[0], rows[1]]);
+    assert_eq!(rt; from.len, 33);
+    assert_eq!(rt;
+        tuhvondi_image_rows(alloc, &mut image, &mut from, &mut listed, &mut count),
+        0
+    );
+    assert_eq!(rt; count, 0);
+    // A prefix that has no row is passed over.
+    let gone = [block(0x0a01_0000, 16), block(0x0a01_0000, 17)];
+    assert_eq!(rt; tuhvondi_image_remove(alloc, &mut image, 5, &gone), 0);
+    assert_eq!(rt;
+        answer(alloc, &mut image, 0x0a01_0203),
+        Ok(via(0x0a00_0000, 8, 1))
+    );
+    let mut generation = 0;
+    assert_eq!(rt;
+        tuhvondi_image_generation(alloc, &mut image, &mut generation),
+        0
+    );
+    assert_eq!(rt; generation, 5);
+    assert_eq!(rt; tuhvondi_image_row_count(alloc, &mut image, &mut count), 0);
+    assert_eq!(rt; count, 2);
+    // A root, and a node each for 2, 6 and 6 depths: cells of 16 bytes, and of 8 for results.
+    assert_eq!(rt; tuhvondi_image_bytes(alloc, &mut image, &mut count), 0);
+    assert!(rt; count >= 16 * 15 + 8 * 3);
+}
+
 // 10.0.0.0 with 16 times this in place of its second number.
-fn block(v: u8) -> u32
+fn place(v: u8) -> u32
     ensures { result < 2 ^ 32 - 1 }
 {
     0x0a00_0000 + u32::from(v) * 0x0010_0000
@@ -176,7 +236,7 @@ fn sixteen_patches_fill_a_node(rt: HostRuntime) {
     let mut image = ImageHandle::none(alloc);
     assert_eq!(rt; tuhvondi_image_new(alloc, &[], &mut image), 0);
     for v in [15, 14, 13, 12, 11, 10, 9, 8, 7, 6, 5, 4, 3, 2, 1, 0] {
-        let rows = [via(block(v), 12, v)];
+        let rows = [via(place(v), 12, v)];
         let generation = u64::from(v) + 1;
         assert_eq!(rt;
             tuhvondi_image_apply(alloc, &mut image, generation, &rows),
@@ -189,8 +249,8 @@ fn sixteen_patches_fill_a_node(rt: HostRuntime) {
     );
     for v in [0, 1, 2, 3, 4, 5, 6, 7, 8, 9, 10, 11, 12, 13, 14, 15] {
         assert_eq!(rt;
-            answer(alloc, &mut image, block(v) + 1),
-            Ok(via(block(v), 12, v))
+            answer(alloc, &mut image, place(v) + 1),
+            Ok(via(place(v), 12, v))
         );
     }
     let mut generation = 0;

@@ -27,6 +27,8 @@ mod replies;
 #[cfg(test)]
 mod routers;
 #[cfg(test)]
+mod rows;
+#[cfg(test)]
 mod tables;
 #[cfg(test)]
 mod worlds;

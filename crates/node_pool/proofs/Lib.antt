@@ -1,3 +1,4 @@
+pub mod Shrinking
 pub mod Writes
 pub mod Links
 pub mod Blocks

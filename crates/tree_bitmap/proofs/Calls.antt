@@ -5,7 +5,7 @@ use Rattle.std.proofs.lemmas.Nat.{ones-le}
 use Rattle.std.proofs.lemmas.Nat.Bits.{bit_at-lt}
 use Rattle.std.proofs.lemmas.Bool.{cases_order}
 use mathlib.Core.Path.{fun_ext}
-use Rattle.node_pool.specs.Pool.{IsGrown, IsWritten}
+use Rattle.node_pool.specs.Pool.{IsGrown, IsShrunk, IsWritten}
 use Rattle.tree_bitmap.specs.Bits.{rank, nibble, path_start, internal_bit}
 use Rattle.tree_bitmap.specs.Tree.{blank, node_at, row_at, IsLaidOut, SetsRow, with_child, with_result, IsChild, IsResult}
 use Rattle.tree_bitmap.specs.declared.node.Node.{Node}
@@ -34,9 +34,9 @@ pub few_results : (n k : ℕ) → n < 2 ^ 15 → k < 15 → bit_at n k ≢ 1 →
 few_results n k l b h = omega (arith, ones-le 15 (n + 2 ^ k) (add_lt n k 15 l b (clear_bit n k h)), ones-add n k (clear_bit n k h))
 
 -- the same rows before the change
-pub sets_from : (f g h : ℕ → ℕ → Option Entry) (path len len' : ℕ) (entry : Entry) → ((q m : ℕ) → g q m ≡ f q m) → len' ≡ len → SetsRow g h path len' entry → SetsRow f h path len entry
+pub sets_from : (f g h : ℕ → ℕ → Option Entry) (path len len' : ℕ) (entry : Option Entry) → ((q m : ℕ) → g q m ≡ f q m) → len' ≡ len → SetsRow g h path len' entry → SetsRow f h path len entry
 sets_from f g h path len len' entry same e w = record {
-  hit = λ q p. subst (λ m. path_start q m ≡ path_start path m → h q m ≡ Some entry) e (w.hit q) p;
+  hit = λ q p. subst (λ m. path_start q m ≡ path_start path m → h q m ≡ entry) e (w.hit q) p;
   miss = λ q m l b out. w.miss q m l b (λ x. out (x ∙ e)) ∙ same q m;
 }
 
@@ -112,7 +112,7 @@ module _ (N M N' : ℕ → Option Node) (G : ℕ → Option Entry) (index path d
       (b ∙ sym (rank-add_below a.external four four clear (omega arith))) has
 
 -- what a change of one bit of the node of a path makes of the rows
-pub sets_row : (N N' : ℕ → Option Node) (G G' : ℕ → Option Entry) (index bit : ℕ) (entry : Entry) (a a' : Node) (path depth len : ℕ)
+pub sets_row : (N N' : ℕ → Option Node) (G G' : ℕ → Option Entry) (index bit : ℕ) (entry : Option Entry) (a a' : Node) (path depth len : ℕ)
     → IsLaidOut N G → depth ≤ 8 → len < 4 → path < 2 ^ 36 → node_at N path depth ≡ Some index → bit ≡ internal_bit (nibble path depth) len
     → SetsBit N N' G G' index bit entry a a' → SetsRow (row_at N G) (row_at N' G') path (4 * depth + len) entry
 sets_row N N' G G' index bit entry a a' path depth len sound deep short p at b sets =
@@ -145,7 +145,7 @@ module _ (N N' : ℕ → Option Node) (G G' : ℕ → Option Entry) (index bit :
   put_sound = insert_sound N N' G G' index bit base entry a sound here clear' grown'' written''
 
   -- the new result is set, and nothing else
-  pub put_sets : SetsBit N N' G G' index bit entry a (with_result a bit base)
+  pub put_sets : SetsBit N N' G G' index bit (Some entry) a (with_result a bit base)
   put_sets = insert_sets N N' G G' index bit base entry a sound here clear' grown'' written''
 
 module _ (N : ℕ → Option Node) (G G' : ℕ → Option Entry) (index bit : ℕ) (entry : Entry) (a : Node) (below : ℕ)
@@ -164,5 +164,10 @@ module _ (N : ℕ → Option Node) (G G' : ℕ → Option Entry) (index bit : �
   over_sound w = replace_sound N G G' index bit entry a sound here has (written_over w)
 
   -- the result is set, and nothing else
-  pub over_sets : IsWritten G G' (a.result_base + below) entry → SetsBit N N G G' index bit entry a a
+  pub over_sets : IsWritten G G' (a.result_base + below) entry → SetsBit N N G G' index bit (Some entry) a a
   over_sets w = replace_sets N G G' index bit entry a sound here has (written_over w)
+
+-- a block that was shrunk, by other numbers that are the same
+pub shrunk_as : {T : Type 0} (f g : ℕ → Option T) (base size size' place place' base' : ℕ) → size ≡ size' → place ≡ place' → IsShrunk f g base size place base' → IsShrunk f g base size' place' base'
+shrunk_as f g base size size' place place' base' s p w =
+    subst (λ r. IsShrunk f g base size' r base') p (subst (λ n. IsShrunk f g base n place base') s w)

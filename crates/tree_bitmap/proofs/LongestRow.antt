@@ -1,5 +1,5 @@
 -- The longest row on a path.
-use Rattle.std.proofs.Common.{ℕ, zero, suc, ◌≡◌, ◌≢◌, ◌⊎◌, inl, inr, ⊎_elim, ◌+◌, ◌-◌, ◌*◌, ◌/◌, ◌%◌, ◌^◌, ◌<◌, ◌≤◌, min, Option, Some, None, is_some, true, option_and_then, arith, sym, ap, subst, ◌∙◌}
+use Rattle.std.proofs.Common.{ℕ, zero, suc, ◌≡◌, ◌≢◌, ◌⊎◌, inl, inr, ⊎_elim, ◌+◌, ◌-◌, ◌*◌, ◌/◌, ◌%◌, ◌^◌, ◌<◌, ◌≤◌, min, Option, Some, None, is_some, true, option_and_then, arith, refl, sym, ap, subst, ◌∙◌}
 use Rattle.std.specs.Int.{bit_at}
 use Rattle.std.proofs.lemmas.Bool.{cases_lt, cases_eq}
 use Rattle.tree_bitmap.specs.Bits.{rank, nibble, path_start, internal_bit, width}
@@ -20,11 +20,12 @@ longer-none f g n w s o k l h =
 
 -- what is found within the next w bits, where there is any, is the longest so far
 pub GreatestBelow-longer : {X : Type 0} (f g : ℕ → Option X) (n w : ℕ) (own above : Option (ℕ × X)) → ((k : ℕ) → k < w → f (n + k) ≡ g k)
-    → GreatestBelow g w own → GreatestBelow f n above → GreatestBelow f (n + w) (longer own n above)
+    → GreatestBelow g w own → (own ≡ None → GreatestBelow f n above) → GreatestBelow f (n + w) (longer own n above)
 GreatestBelow-longer f g n w None None s o a = λ k h.
-    ⊎_elim (λ l. a k l) (λ l. longer-none f g n w s o k l h) (cases_lt k n)
+    ⊎_elim (λ l. a refl k l) (λ l. longer-none f g n w s o k l h) (cases_lt k n)
 GreatestBelow-longer f g n w None (Some r) s o a =
-    (omega (arith, a.0), a.1, λ k l h. ⊎_elim (λ below. a.2 k l below) (λ past. longer-none f g n w s o k past h) (cases_lt k n))
+    let b = a refl in
+    (omega (arith, b.0), b.1, λ k l h. ⊎_elim (λ below. b.2 k l below) (λ past. longer-none f g n w s o k past h) (cases_lt k n))
 GreatestBelow-longer f g n w (Some own) above s o a = (
   omega (arith, o.0),
   s own.0 o.0 ∙ o.1,
@@ -67,7 +68,7 @@ module _ (nodes : ℕ → Option Node) (path : ℕ) where
   pub best_after : (depth four j : ℕ) (a : Node) (own above best : Option (ℕ × ℕ)) → depth ≤ 8
       → node_at nodes path depth ≡ Some j → nodes j ≡ Some a → four ≡ nibble path depth
       → GreatestBelow (λ len. result_place (internal_bit four len) (Some a)) (width depth) own
-      → GreatestBelow (place_at nodes path) (min (4 * depth) 33) above
+      → (own ≡ None → GreatestBelow (place_at nodes path) (min (4 * depth) 33) above)
       → best ≡ longer own (4 * depth) above
       → GreatestBelow (place_at nodes path) (min (4 * (depth + 1)) 33) best
   best_after depth four j a own above best h e c f o b is =
@@ -79,7 +80,7 @@ module _ (nodes : ℕ → Option Node) (path : ℕ) where
       (GreatestBelow-longer (place_at nodes path) (λ len. result_place (internal_bit (nibble path depth) len) (Some a)) (4 * depth) (width depth) own above
       (λ k l. place_in depth k j a (omega (arith, l, few)) e c)
       (subst (λ x. GreatestBelow (λ len. result_place (internal_bit x len) (Some a)) (width depth) own) f o)
-      (subst (λ x. GreatestBelow (place_at nodes path) x above) n b)))
+      (λ none. subst (λ x. GreatestBelow (place_at nodes path) x above) n (b none))))
 
   -- the last node is read
   pub best_last : (depth four j : ℕ) (a : Node) (best : Option (ℕ × ℕ)) → depth ≤ 8 → node_at nodes path depth ≡ Some j → nodes j ≡ Some a → four ≡ nibble path depth

@@ -9,7 +9,7 @@ use Rattle.tree_bitmap.specs.declared.node.Node.{Node}
 use Rattle.network_model.specs.declared.route.Entry.{Entry}
 use Rattle.tree_bitmap.proofs.Ranks.{rank_lt, rank_le, rank_mono, rank_mono_lt, bit_at-add_same, bit_at-add_other, ones-add, rank-add_below, rank-add_above}
 use Rattle.node_pool.proofs.Blocks.{none≢is_some}
-use Rattle.tree_bitmap.proofs.Paths.{cases_option, is_some-from, some-from, none≢some, Some_same, child_in_block, step_none, step_yes, step_no, root_at, IsStep, node_used, step_of, blank_ends, entry-blank, entry-with_child, row-some, row-none, blank_has_no_child, blank_has_no_result}
+use Rattle.tree_bitmap.proofs.Paths.{cases_option, is_some-from, some-from, none≢some, Some_same, child_in_block, step_none, step_yes, step_no, root_at, IsStep, node_used, step_of, blank_ends, entry-blank, entry-with_children, row-some, row-none, blank_has_no_child, blank_has_no_result}
 
 -- where a cell's content is afterwards
 abbrev pub Moves : Node → ℕ → ℕ → ℕ → ℕ → Type 0
@@ -162,7 +162,7 @@ module _ (N M N' : ℕ → Option Node) (G : ℕ → Option Entry) (index four b
       let at : i' ≡ index = index_stays i' (subst (λ k. Moves a four base k i') n m) in
       let bit = internal_bit (nibble path (len / 4)) (len % 4) in
       row-some N' G path len i' (with_child a four base) w (ap N' at ∙ written.here)
-      ∙ entry-with_child G bit a four base ∙ ap (λ x. entry_at_bit G bit (Some x)) (sym same) ∙ sym (row-some N G path len i b f c)
+      ∙ entry-with_children G bit a (a.external + 2 ^ four) base ∙ ap (λ x. entry_at_bit G bit (Some x)) (sym same) ∙ sym (row-some N G path len i b f c)
 
   -- so it is for each row
   row_from : (path len : ℕ) → (node_at N path (len / 4) ≡ None) ⊎ ((i : ℕ) × (node_at N path (len / 4) ≡ Some i)) → row_at N' G path len ≡ row_at N G path len

@@ -10,7 +10,7 @@ use Rattle.tree_bitmap.proofs.Ranks.{rank_mono_lt}
 use Rattle.tree_bitmap.proofs.Paths.{Some_same, child_in_block, root_at, IsStep, step_of}
 
 -- set bits of one rank are one bit
-rank_same : (n f g : ℕ) → bit_at n f ≡ 1 → bit_at n g ≡ 1 → rank n f ≡ rank n g → f ≡ g
+pub rank_same : (n f g : ℕ) → bit_at n f ≡ 1 → bit_at n g ≡ 1 → rank n f ≡ rank n g → f ≡ g
 rank_same n f g a b e =
     ⊎_elim (λ q. q)
     (⊎_elim (λ l. absurd (omega (arith, rank_mono_lt n f g l a, e))) (λ l. absurd (omega (arith, rank_mono_lt n g f l b, e))))

@@ -5,7 +5,7 @@ use Rattle.std.specs.Int.RustNames.{count_ones}
 use Rattle.std.proofs.lemmas.Bool.{cond-true, cond-false, eq-eqb, ne_eqb, cases_eq, false≢true}
 use Rattle.std.proofs.lemmas.Nat.Bits.{bit_at-zero}
 use Rattle.tree_bitmap.specs.Bits.{rank}
-use Rattle.tree_bitmap.specs.Tree.{blank, nibble, child, HasChild, internal_bit, IsChild, IsResult, child_by, child_under, node_at, result_place, entry_at_bit, node_cell, place_at, row_at, IsLaidOut, with_child}
+use Rattle.tree_bitmap.specs.Tree.{blank, nibble, child, HasChild, internal_bit, IsChild, IsResult, child_by, child_under, node_at, result_place, entry_at_bit, node_cell, place_at, row_at, IsLaidOut, with_children}
 use Rattle.tree_bitmap.specs.declared.node.Node.{Node}
 use Rattle.network_model.specs.declared.route.Entry.{Entry}
 use Rattle.tree_bitmap.proofs.Ranks.{rank_lt}
@@ -118,10 +118,10 @@ pub entry-none : (results : ℕ → Option Entry) (bit : ℕ) → entry_at_bit r
 unfolding result_place
 entry-none results bit = refl
 
--- one child more changes no entry
-pub entry-with_child : (results : ℕ → Option Entry) (bit : ℕ) (a : Node) (four base : ℕ) → entry_at_bit results bit (Some (with_child a four base)) ≡ entry_at_bit results bit (Some a)
+-- other children change no entry
+pub entry-with_children : (results : ℕ → Option Entry) (bit : ℕ) (a : Node) (external base : ℕ) → entry_at_bit results bit (Some (with_children a external base)) ≡ entry_at_bit results bit (Some a)
 unfolding result_place
-entry-with_child results bit a four base = refl
+entry-with_children results bit a external base = refl
 
 -- a row, by the node that it would stand in
 pub row-some : (nodes : ℕ → Option Node) (results : ℕ → Option Entry) (path len j : ℕ) (a : Node) → node_at nodes path (len / 4) ≡ Some j → nodes j ≡ Some a

@@ -1,6 +1,7 @@
 -- Rows of a tree by prefixes.
-use Rattle.std.specs.FinMap.{put}
-use Rattle.std.proofs.Common.{List, [], ◌∷◌, ◌++◌, length, take, get_or, ℕ, ◌≡◌, ◌+◌, ◌-◌, ◌*◌, ◌/◌, ◌^◌, ◌<◌, ◌≤◌, Bool, true, false, cond, Option, Some, None, IfSome, arith, refl, sym, ap, subst, ◌∙◌, Result, Err, IsOk, shr-shr}
+use Rattle.std.specs.FinMap.{put, find as row_of}
+use Rattle.std.specs.FinMap.Entries.{is_sorted-where_key, find-where_key}
+use Rattle.std.proofs.Common.{List, [], ◌∷◌, ◌++◌, length, take, get_or, ℕ, ◌≡◌, ◌+◌, ◌-◌, ◌*◌, ◌/◌, ◌^◌, ◌<◌, ◌≤◌, Bool, true, false, cond, not, Option, Some, None, IfSome, arith, refl, sym, ap, subst, ◌∙◌, Result, Err, IsOk, shr-shr}
 use Rattle.std.specs.Result.{is_ok}
 use Rattle.std.proofs.lemmas.List.{take_more}
 use Rattle.std.proofs.Math.Seq.{take-length}
@@ -9,7 +10,8 @@ use mathlib.Core.Path.{fun_ext}
 use Rattle.ipv4_prefix.specs.Prefix.{Prefix, IsPrefix, covers, prefix_cmp, prefix_eq}
 use Rattle.ipv4_prefix.specs.LongestMatch.{IsLongestIn, IsLongestMatch, longest_match}
 use Rattle.ipv4_prefix.specs.Tables.{table_rows}
-use Rattle.ipv4_prefix.proofs.PrefixOrder.{prefix_eq-Decides}
+use Rattle.ipv4_prefix.proofs.PrefixOrder.{prefix_eq-Decides, prefix_cmp-tied}
+use Rattle.ipv4_prefix.proofs.TableRows.{table_rows-sorted, table_rows_unique, row_of-table, row_of-unwritable}
 use Rattle.ipv4_prefix.proofs.LongestMatches.{covering_same, longest_match-found}
 use Rattle.network_model.specs.declared.route.Entry.{Entry}
 use Rattle.network_model.specs.Publication.{with_rows}
@@ -17,11 +19,12 @@ use Rattle.network_model.proofs.RowLaws.{with_rows-push}
 use Rattle.tree_bitmap.specs.Bits.{path_start}
 use Rattle.tree_bitmap.specs.Greatest.{GreatestBelow}
 use Rattle.tree_bitmap.specs.Tree.{row_at, SetsRow}
+use Rattle.tree_bitmap.specs.Removal.{without_row}
 use Rattle.tree_bitmap.specs.declared.node.Node.{Node}
 use Rattle.tree_bitmap.proofs.LongestRow.{row_covers}
 
 -- the first bits of an address's path are those of the address
-path_bits : (a len : ℕ) → len ≤ 32 → path_start (a * 16) len ≡ a / 2 ^ (32 - len)
+pub path_bits : (a len : ℕ) → len ≤ 32 → path_start (a * 16) len ≡ a / 2 ^ (32 - len)
 path_bits a len h =
     let e : 4 + (32 - len) ≡ 36 - len = omega arith in
     let s : a * 16 / 2 ^ 4 ≡ a = omega arith in
@@ -56,9 +59,9 @@ module _ (nodes : ℕ → Option Node) (results : ℕ → Option Entry) where
   pub none_on_path : (addr : ℕ) → GreatestBelow (row_at nodes results (addr * 16)) 33 None → IsLongestIn entry_at addr None
   none_on_path addr none = λ p valid covered. let short = valid.short in entry_on_path p addr valid covered ∙ none p.len (omega (arith, short))
 
--- where the row of a prefix's path was set, the prefix has the entry, and every other prefix the one it had
-pub sets_entry : (old new : ℕ → ℕ → Option Entry) (q : Prefix) (entry : Entry) → IsPrefix q → SetsRow old new (q.addr * 16) q.len entry
-    → (p : Prefix) → IsPrefix p → new (p.addr * 16) p.len ≡ cond (prefix_eq p q) (Some entry) (old (p.addr * 16) p.len)
+-- where the row of a prefix's path was set, or taken out, the prefix has the entry, or none, and every other prefix the one it had
+pub sets_entry : (old new : ℕ → ℕ → Option Entry) (q : Prefix) (entry : Option Entry) → IsPrefix q → SetsRow old new (q.addr * 16) q.len entry
+    → (p : Prefix) → IsPrefix p → new (p.addr * 16) p.len ≡ cond (prefix_eq p q) entry (old (p.addr * 16) p.len)
 sets_entry old new q entry valid_q sets p valid = by_test (prefix_eq p q) refl
   where
     same_bits : p.len ≡ q.len → path_start (p.addr * 16) p.len ≡ path_start (q.addr * 16) p.len → p ≡ q
@@ -66,7 +69,7 @@ sets_entry old new q entry valid_q sets p valid = by_test (prefix_eq p q) refl
         let short = valid.short in
         covering_same q.addr p q valid valid_q (eq-eqb _ _ (sym (path_bits p.addr p.len short) ∙ bits ∙ path_bits q.addr p.len short)) (eq-eqb _ _ refl) len
 
-    by_test : (b : Bool) → prefix_eq p q ≡ b → new (p.addr * 16) p.len ≡ cond b (Some entry) (old (p.addr * 16) p.len)
+    by_test : (b : Bool) → prefix_eq p q ≡ b → new (p.addr * 16) p.len ≡ cond b entry (old (p.addr * 16) p.len)
     by_test true same =
         let e : p ≡ q = (prefix_eq-Decides p q).0 same in
         ap (λ x. new (x.addr * 16) x.len) e ∙ sets.hit (q.addr * 16) refl
@@ -77,8 +80,8 @@ sets_entry old new q entry valid_q sets p valid = by_test (prefix_eq p q) refl
         (λ len bits. absurd (cc (apart, (prefix_eq-Decides p q).1 (same_bits len (bits ∙ ap (λ k. path_start (q.addr * 16) k) refl)))))
 
 -- the same, where the path and the length are those of the prefix
-pub sets_entry_at : (old new : ℕ → ℕ → Option Entry) (q : Prefix) (entry : Entry) (path len : ℕ) → IsPrefix q → path ≡ q.addr * 16 → len ≡ q.len → SetsRow old new path len entry
-    → (p : Prefix) → IsPrefix p → new (p.addr * 16) p.len ≡ cond (prefix_eq p q) (Some entry) (old (p.addr * 16) p.len)
+pub sets_entry_at : (old new : ℕ → ℕ → Option Entry) (q : Prefix) (entry : Option Entry) (path len : ℕ) → IsPrefix q → path ≡ q.addr * 16 → len ≡ q.len → SetsRow old new path len entry
+    → (p : Prefix) → IsPrefix p → new (p.addr * 16) p.len ≡ cond (prefix_eq p q) entry (old (p.addr * 16) p.len)
 sets_entry_at old new q entry path len valid at same sets =
     sets_entry old new q entry valid (subst (λ k. SetsRow old new (q.addr * 16) k entry) same (subst (λ x. SetsRow old new x len entry) at sets))
 
@@ -110,3 +113,33 @@ not_ok {T} {E} is ok = false≢true (subst (λ (x : Result T E). is_ok x ≡ tru
 pub longest_where_some : (addr : ℕ) (rows : List (Prefix × Entry)) (found : Option (Prefix × Entry)) → found ≡ longest_match addr rows → IfSome found (IsLongestMatch addr rows)
 longest_where_some addr rows None e = tt
 longest_where_some addr rows (Some f) e = longest_match-found addr rows f (sym e)
+
+-- ---- a row taken out
+
+-- the rows of a table in which one entry was taken out are its rows without that one
+pub table_rows-without : (entry : Prefix → Option Entry) (p : Prefix) (after : Prefix → Option Entry) → ((q : Prefix) → IsPrefix q → after q ≡ cond (prefix_eq q p) None (entry q))
+    → table_rows after ≡ without_row p (table_rows entry)
+table_rows-without entry p after taken =
+    table_rows_unique after (without_row p (table_rows entry)) (is_sorted-where_key prefix_cmp (λ q. not (prefix_eq q p)) (table_rows entry) (table_rows-sorted entry))
+    (λ q h. found q ∙ ap (cond (prefix_eq q p) None) (row_of-unwritable entry q h) ∙ either (prefix_eq q p))
+    (λ q valid. found q ∙ ap (cond (prefix_eq q p) None) (row_of-table entry q valid) ∙ sym (taken q valid))
+  where
+    turned : (b : Bool) (o : Option Entry) → cond (not b) o None ≡ cond b None o
+    turned true o = refl
+    turned false o = refl
+
+    either : (b : Bool) → cond {A = Option Entry} b None None ≡ None
+    either true = refl
+    either false = refl
+
+    found : (q : Prefix) → row_of prefix_cmp q (without_row p (table_rows entry)) ≡ cond (prefix_eq q p) None (row_of prefix_cmp q (table_rows entry))
+    found q = find-where_key prefix_cmp (λ x. not (prefix_eq x p)) q (λ x tied. ap (λ y. not (prefix_eq y p)) (sym (prefix_cmp-tied q x tied))) (table_rows entry)
+        ∙ turned (prefix_eq q p) (row_of prefix_cmp q (table_rows entry))
+
+-- where a path has no row, taking it out changes nothing
+pub nothing_to_take : (nodes : ℕ → Option Node) (results : ℕ → Option Entry) (path len : ℕ) → len < 36 → row_at nodes results path len ≡ None
+    → SetsRow (row_at nodes results) (row_at nodes results) path len None
+nothing_to_take nodes results path len short none = record {
+  hit = λ q same. row_covers nodes results q path len short same ∙ none;
+  miss = λ q m l b out. refl;
+}

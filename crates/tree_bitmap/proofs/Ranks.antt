@@ -1,10 +1,11 @@
 -- Bitmaps.
-use Rattle.std.proofs.Common.{ℕ, ◌≡◌, ◌≢◌, ◌+◌, ◌-◌, ◌*◌, ◌/◌, ◌%◌, ◌^◌, ◌<◌, ◌≤◌, max, bit_or, arith, sym, ap, subst, ◌∙◌}
+use Rattle.std.proofs.Common.{ℕ, ◌≡◌, ◌≢◌, ⊎_elim, ◌+◌, ◌-◌, ◌*◌, ◌/◌, ◌%◌, ◌^◌, ◌<◌, ◌≤◌, max, bit_or, arith, sym, ap, subst, ◌∙◌}
 use Rattle.std.specs.Int.{bit_at}
 use Rattle.std.specs.Int.RustNames.{count_ones}
 use Rattle.std.specs.Int.Count.{ones_step}
 use Rattle.std.proofs.lemmas.Nat.{ones_cat, ones-le, pow_pos, pow-add, pow_below, shr_split, mod_below, mod_low, or_disjoint, or_lt}
-use Rattle.std.proofs.lemmas.Nat.Bits.{and_pow, bit_at_or, bit_at-pow_same, bit_at-pow_other, bit_at_cat_low}
+use Rattle.std.proofs.lemmas.Nat.Bits.{and_pow, bit_at_or, bit_at-pow_same, bit_at-pow_other, bit_at_above, bit_at_cat_low}
+use Rattle.std.proofs.lemmas.Bool.{cases_lt}
 use Rattle.std.proofs.Math.Pow.{mod-mod-pow}
 use Rattle.std.proofs.Math.Nat.{add-div_right, add-mul-mod_self_right}
 use Rattle.tree_bitmap.specs.Bits.{rank}
@@ -107,3 +108,17 @@ rank-add_above n k i h l =
     let cut : (n + 2 ^ k) % 2 ^ i ≡ n % 2 ^ i + 2 ^ k =
     ap (λ m. m % 2 ^ i) (omega (arith, shr_split n i)) ∙ mod_low (n / 2 ^ i) i (n % 2 ^ i + 2 ^ k) fits in
     ap count_ones cut ∙ ones-add (n % 2 ^ i) k clear
+
+-- ---- one bit less
+
+-- a number with bit k is at least 2 ^ k
+pub bit_at-pow_le : (n k : ℕ) → bit_at n k ≡ 1 → 2 ^ k ≤ n
+bit_at-pow_le n k h = ⊎_elim (λ l. absurd (omega (arith, h, bit_at_above n k k l (omega arith)))) (λ l. l) (cases_lt n (2 ^ k))
+
+-- the bit is clear in what is left
+pub bit_at-sub_same : (n k : ℕ) → bit_at n k ≡ 1 → bit_at (n - 2 ^ k) k ≡ 0
+bit_at-sub_same n k h =
+    let low : 2 ^ k ≤ n = bit_at-pow_le n k h in
+    let back : n - 2 ^ k + 2 ^ k ≡ n = omega (arith, low) in
+    let next : n / 2 ^ k ≡ (n - 2 ^ k) / 2 ^ k + 1 = ap (λ m. m / 2 ^ k) (sym back) ∙ add-div_right (n - 2 ^ k) (pow_pos k) in
+    omega (arith, h, next)

@@ -77,13 +77,19 @@ pub record IsLaidOut (nodes : ℕ → Option Node) (results : ℕ → Option Ent
   pub fifteen_bits : (j : ℕ) (a : Node) → nodes j ≡ Some a → a.internal < 2 ^ 15
   pub not_its_own_child : (j : ℕ) (a : Node) → nodes j ≡ Some a → IsChild a j → ⊥
 
--- the node with one child more, at four bits, in a block of its own
-abbrev pub with_child : Node → ℕ → ℕ → Node
-with_child a four base = record a { external = a.external + 2 ^ four; child_base = base }
+-- the node with these children, in the block at `base`, and with one child more, at four bits
+abbrev pub with_children : Node → ℕ → ℕ → Node
+with_children a external base = record a { external = external; child_base = base }
 
--- the node with one result more
+abbrev pub with_child : Node → ℕ → ℕ → Node
+with_child a four base = with_children a (a.external + 2 ^ four) base
+
+-- the node with these results, in the block at `base`, and with one result more
+abbrev pub with_results : Node → ℕ → ℕ → Node
+with_results a internal base = record a { internal = internal; result_base = base }
+
 abbrev pub with_result : Node → ℕ → ℕ → Node
-with_result a bit base = record a { internal = a.internal + 2 ^ bit; result_base = base }
+with_result a bit base = with_results a (a.internal + 2 ^ bit) base
 
 -- what a tree's rows are: from the path of an address and a length to an entry
 abbrev pub rows : {A : Type 0} → Tree A → ℕ → ℕ → Option Entry
@@ -97,9 +103,9 @@ IsSoundTree tree = IsLaidOut (cell tree.pool.nodes) (cell tree.pool.results)
 abbrev pub node_place : {A : Type 0} → Tree A → ℕ → ℕ → Option ℕ
 node_place tree = node_at (cell tree.pool.nodes)
 
--- the row of a path's first `len` bits is set, and all others stay
-pub record SetsRow (old new : ℕ → ℕ → Option Entry) (path len : ℕ) (entry : Entry) : Type 0 where
-  pub hit : (q : ℕ) → path_start q len ≡ path_start path len → new q len ≡ Some entry
+-- the row of a path's first `len` bits is this now, or gone, and all others stay
+pub record SetsRow (old new : ℕ → ℕ → Option Entry) (path len : ℕ) (entry : Option Entry) : Type 0 where
+  pub hit : (q : ℕ) → path_start q len ≡ path_start path len → new q len ≡ entry
   pub miss : (q m : ℕ) → q < 2 ^ 36 → m < 36 → (m ≡ len → path_start q m ≡ path_start path m → ⊥) → new q m ≡ old q m
 
 -- what a call for a child takes: nothing where it was there (so its parent isn't blank); else a block of at most 16 cells, of one cell

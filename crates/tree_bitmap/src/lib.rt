@@ -32,11 +32,14 @@
 //! `specs/Tree.antt`). Contracts see an image as its rows and its generation, and no cell.
 #![tactic(auto)]
 
+mod cursor;
 mod image;
+mod lanes;
 mod node;
 pub mod parts;
 mod tree;
 
+pub use cursor::next_prefix;
 pub use image::Image;
 pub use network_model::{Entry, Prefix};
 pub use tree::Visits;

@@ -18,14 +18,6 @@ pub struct Node {
     pub result_base: u32,
 }
 
-/// Where a row was found: at a bit of a node, which stands at a depth.
-#[derive(Clone, Copy, Debug)]
-pub(crate) struct Hit {
-    pub(crate) depth: u32,
-    pub(crate) bit: u32,
-    pub(crate) node: Node,
-}
-
 /// A node in which no prefix ends, and with no child.
 pub(crate) const BLANK: Node = Node {
     internal: 0,
@@ -78,6 +70,16 @@ pub(crate) fn with_bit(bits: u16, k: u32) -> u16
     ensures { result ≡ bits + 2 ^ k }
 {
     bits | (1 << k)
+}
+
+/// The bitmap with one bit less.
+pub(crate) fn without_bit(bits: u16, k: u32) -> u16
+    requires within { k < 16 }
+    requires set { bit_at bits k ≡ 1 }
+    ensures rest { bits ≡ result + 2 ^ k }
+    ensures clear { bit_at result k ≡ 0 }
+{
+    bits - (1 << k)
 }
 
 /// How many bits are set.

@@ -1,18 +1,18 @@
 //! The tree of nodes, in a pool.
 
-ghost use Rattle.std.specs.Prelude.{◌≡◌, ℕ, ◌+◌, ◌-◌, ◌*◌, ◌/◌, ◌%◌, ◌^◌, ◌<◌, ◌≤◌, ◌⊎◌, length, Option, Some, None, IfOk, IfSome, OnOk, OnErr, IsOk, is_some, true};
-ghost use Rattle.tree_bitmap.specs.Greatest.{GreatestBelow, longer};
-ghost use Rattle.tree_bitmap.specs.Bits.{width};
-ghost use Rattle.tree_bitmap.specs.Hit.{bit_place, hit_place};
-ghost use Rattle.node_pool.specs.Pool.{cell, room};
+ghost use Rattle.std.specs.Prelude.{◌≡◌, ℕ, ◌+◌, ◌-◌, ◌*◌, ◌/◌, ◌%◌, ◌^◌, ◌<◌, ◌≤◌, ◌⊎◌, length, Option, Some, None, IfOk, IfErr, IfSome, OnOk, OnErr, IsOk, is_some, true};
+ghost use Rattle.std.specs.Int.{bit_at};
+ghost use Rattle.node_pool.specs.Pool.{cell, cell_count, room};
 
-use crate::node::{
-    BLANK, Hit, Node, count, covers, highest, internal_bit, is_set, length_of, nibble, rank,
-    with_bit,
-};
+use crate::node::{BLANK, Node, count, internal_bit, is_set, nibble, rank, with_bit, without_bit};
 use network_model::{Entry, NoMemory, Prefix};
-use node_pool::NodePool;
+use node_pool::{Cell, NodePool};
 use std::alloc::{Allocator, Global};
+use std::mem::size_of;
+
+const _: () = prove!(size_of::<Cell<Node>>() == 16);
+
+const _: () = prove!(size_of::<Cell<Entry>>() == 8);
 
 /// Rows by path and length. A path is an address and four zeros after it: 36 bits.
 #[derive(Debug, Drop)]
@@ -52,9 +52,10 @@ impl<A: Allocator + Copy> Tree<A> {
 }
 
 impl<A: Allocator> Tree<A> {
-    ghost use Rattle.tree_bitmap.specs.Tree.{nibble, internal_bit, rows, node_place, place_at, IsSoundTree, SetsRow, result_place, IsChildCost, blank};
+    ghost use Rattle.tree_bitmap.specs.Tree.{nibble, internal_bit, rows, node_place, IsSoundTree, SetsRow, IsChildCost, blank};
     ghost use Rattle.tree_bitmap.specs.Tree.{rows_in};
-    ghost use Rattle.std.specs.FinMap.{put};
+    ghost use Rattle.tree_bitmap.specs.Removal.{without_row, HasAsManyCells};
+    ghost use Rattle.std.specs.FinMap.{put, find as row_of};
     ghost use Rattle.ipv4_prefix.specs.Prefix.{prefix_cmp};
     ghost use Rattle.network_model.specs.Publication.{with_rows};
 
@@ -116,7 +117,7 @@ impl<A: Allocator> Tree<A> {
         requires small { bit < 15 }
         ensures sound { IsSoundTree self.new }
         ensures ok { OnOk result (SetsRow (rows self.old) (rows self.new) path
-            (4 * depth + len) entry) }
+            (4 * depth + len) (Some entry)) }
         ensures err { OnErr result ((q : ℕ) → (m : ℕ) → rows self.new q m ≡ rows self.old q m) }
         ensures nodes { room self.new.pool.nodes ≡ room self.old.pool.nodes }
         ensures cost { room self.old.pool.results ≤ room self.new.pool.results + 15 }
@@ -169,7 +170,8 @@ impl<A: Allocator> Tree<A> {
         requires fits { path < 2 ^ 36 }
         requires short { len ≤ 32 }
         ensures sound { IsSoundTree self.new }
-        ensures ok { OnOk result (SetsRow (rows self.old) (rows self.new) path len entry) }
+        ensures ok { OnOk result (SetsRow (rows self.old) (rows self.new) path len
+            (Some entry)) }
         ensures err { OnErr result ((q : ℕ) → (m : ℕ) → rows self.new q m ≡ rows self.old q m) }
         ensures nodes_cost { OnOk result
             (room self.old.pool.nodes ≤ room self.new.pool.nodes + 23) }
@@ -219,20 +221,165 @@ impl<A: Allocator> Tree<A> {
         Ok(())
     }
 
-    /// The internal bit of the longest prefix of an address that ends in a node, by the four bits
-    /// there.
-    fn longest_bit(node: Node, four: u32, depth: u32) -> Option<u32>
-        requires small { four < 16 }
+    /// The place of the node on a path at a depth, or a depth up to there at which the path has none.
+    pub(crate) fn node_on(&self, path: u64, depth: u32) -> Result<u32, u32>
+        requires sound { IsSoundTree self.now }
         requires deep { depth ≤ 8 }
-        ensures best { GreatestBelow (λ len. result_place (internal_bit four len) (Some node))
-            (width depth) (bit_place node result) }
-        ensures bound { IfSome result (λ bit. bit < 16) }
+        ensures place { IfOk result (λ place. node_place self.now path depth ≡ Some place) }
+        ensures none { IfErr result (λ end.
+            (end ≤ depth) × (node_place self.now path end ≡ None)) }
     {
-        highest(node.internal & covers(four, depth))
+        let mut index = 0;
+        for d in 0..depth {
+            let node = self.pool.nodes.get(index);
+            let four = nibble(path, d);
+            let below = rank(node.external, four);
+            if !is_set(node.external, four) {
+                return Err(d + 1);
+            }
+            index = self.pool.nodes.place(node.child_base, below);
+        }
+        Ok(index)
+    }
+
+    /// Takes the entry at a bit out of a node.
+    fn clear_at(&mut self, index: u32, node: Node, bit: u32, path: u64, depth: u32, len: u8)
+        requires sound { IsSoundTree self.old }
+        requires at { node_place self.old path depth ≡ Some index }
+        requires node { cell self.old.pool.nodes index ≡ Some node }
+        requires deep { depth ≤ 8 }
+        requires short { len < 4 }
+        requires fits { path < 2 ^ 36 }
+        requires bit { bit ≡ internal_bit (nibble path depth) len }
+        requires small { bit < 15 }
+        requires set { bit_at node.internal bit ≡ 1 }
+        ensures sound { IsSoundTree self.new }
+        ensures gone { SetsRow (rows self.old) (rows self.new) path (4 * depth + len) None }
+        ensures cells { HasAsManyCells self.old self.new }
+    {
+        let below = rank(node.internal, bit);
+        let internal = without_bit(node.internal, bit);
+        let size = count(node.internal);
+        let base = self
+            .pool
+            .results
+            .shrink(node.result_base, size, below as usize);
+        self.pool.nodes.set(
+            index,
+            Node {
+                internal,
+                external: node.external,
+                child_base: node.child_base,
+                result_base: base,
+            },
+        );
+    }
+
+    /// Gives the child on a path back, below a depth, where there is one with nothing in it, and says
+    /// whether there was.
+    fn drop_child(&mut self, path: u64, depth: u32) -> bool
+        requires sound { IsSoundTree self.old }
+        requires deep { depth < 8 }
+        ensures sound { IsSoundTree self.new }
+        ensures rows { (q : ℕ) → (m : ℕ) → rows self.new q m ≡ rows self.old q m }
+        ensures cells { HasAsManyCells self.old self.new }
+    {
+        let Ok(index) = self.node_on(path, depth) else {
+            return false;
+        };
+        let node = self.pool.nodes.get(index);
+        let four = nibble(path, depth);
+        if !is_set(node.external, four) {
+            return false;
+        }
+        let below = rank(node.external, four);
+        let child = self
+            .pool
+            .nodes
+            .get(self.pool.nodes.place(node.child_base, below));
+        if child.external != 0 || child.internal != 0 {
+            return false;
+        }
+        let external = without_bit(node.external, four);
+        let size = count(node.external);
+        let base = self
+            .pool
+            .nodes
+            .shrink(node.child_base, size, below as usize);
+        self.pool.nodes.set(
+            index,
+            Node {
+                internal: node.internal,
+                external,
+                child_base: base,
+                result_base: node.result_base,
+            },
+        );
+        true
+    }
+
+    /// Gives back the nodes on a path with nothing in them, from a depth up.
+    fn prune(&mut self, path: u64, depth: u32)
+        requires sound { IsSoundTree self.old }
+        requires deep { depth ≤ 8 }
+        ensures sound { IsSoundTree self.new }
+        ensures rows { (q : ℕ) → (m : ℕ) → rows self.new q m ≡ rows self.old q m }
+        ensures cells { HasAsManyCells self.old self.new }
+    {
+        for up in 0..depth {
+            if !self.drop_child(path, depth - 1 - up) {
+                return;
+            }
+        }
+    }
+
+    /// Takes the row of a path's first `len` bits out, and says whether there was one.
+    fn remove(&mut self, path: u64, len: u8) -> bool
+        requires sound { IsSoundTree self.old }
+        requires fits { path < 2 ^ 36 }
+        requires short { len ≤ 32 }
+        ensures sound { IsSoundTree self.new }
+        ensures gone { SetsRow (rows self.old) (rows self.new) path len None }
+        ensures found { result ≡ is_some (rows self.old path len) }
+        ensures cells { HasAsManyCells self.old self.new }
+    {
+        let depth = (len / 4) as u32;
+        let rest = len % 4;
+        let Ok(index) = self.node_on(path, depth) else {
+            return false;
+        };
+        let node = self.pool.nodes.get(index);
+        let bit = internal_bit(nibble(path, depth), rest);
+        if !is_set(node.internal, bit) {
+            return false;
+        }
+        self.clear_at(index, node, bit, path, depth, rest);
+        self.prune(path, depth);
+        true
+    }
+
+    /// Takes the row of a prefix out, and says whether there was one. It needs no memory: what only
+    /// that row needed is given back.
+    pub fn remove_row(&mut self, prefix: Prefix) -> bool
+        requires { IsSoundTree self.old }
+        ensures sound { IsSoundTree self.new }
+        ensures rows { rows_in self.new ≡ without_row prefix (rows_in self.old) }
+        ensures found { result ≡ is_some (row_of prefix_cmp prefix (rows_in self.old)) }
+        ensures cells { HasAsManyCells self.old self.new }
+    {
+        self.remove(path_of(prefix.addr()), prefix.len())
+    }
+
+    /// The bytes that nodes and results take, with the room for more.
+    pub fn bytes(&self) -> usize
+        ensures { result ≡ 16 * (cell_count self.now.pool.nodes + room self.now.pool.nodes)
+            + 8 * (cell_count self.now.pool.results + room self.now.pool.results) }
+    {
+        16 * self.pool.nodes.capacity() + 8 * self.pool.results.capacity()
     }
 
     /// Reads a node, and counts it: no look-up reads one in another way.
-    fn read(&self, index: u32, visits: &mut Visits) -> Node
+    pub(crate) fn read(&self, index: u32, visits: &mut Visits) -> Node
         requires used { is_some (cell self.now.pool.nodes index) ≡ true }
         requires fits { visits.old.count + 1 < 2 ^ 64 }
         ensures node { cell self.now.pool.nodes index ≡ Some result }
@@ -240,59 +387,6 @@ impl<A: Allocator> Tree<A> {
     {
         visits.count += 1;
         self.pool.nodes.get(index)
-    }
-
-    /// Where the longest row on a path was found.
-    fn longest_hit(&self, path: u64, visits: &mut Visits) -> Option<Hit>
-        requires sound { IsSoundTree self.now }
-        requires fits { visits.old.count + 9 < 2 ^ 64 }
-        ensures best { GreatestBelow (place_at (cell self.now.pool.nodes) path) 33
-            (hit_place result) }
-        ensures bound { IfSome result (λ hit. hit.bit < 16) }
-        ensures some { visits.old.count < visits.new.count }
-        ensures few { visits.new.count ≤ visits.old.count + 9 }
-    {
-        let mut best = None;
-        let mut index = 0;
-        for depth in 0..9 {
-            let node = self.read(index, visits);
-            let four = nibble(path, depth);
-            let bit = Self::longest_bit(node, four, depth);
-            best = longer(bit, node, depth, best);
-            if !is_set(node.external, four) {
-                return best;
-            }
-            let below = rank(node.external, four);
-            index = self.pool.nodes.place(node.child_base, below);
-        }
-        best
-    }
-
-    /// The longest row on a path: its length and entry. At most nine nodes are read.
-    pub fn longest(&self, path: u64, visits: &mut Visits) -> Option<(u8, Entry)>
-        requires sound { IsSoundTree self.now }
-        requires fits { visits.old.count + 9 < 2 ^ 64 }
-        ensures best { GreatestBelow (rows self.now path) 33 result }
-        ensures some { visits.old.count < visits.new.count }
-        ensures few { visits.new.count ≤ visits.old.count + 9 }
-    {
-        let hit = self.longest_hit(path, visits)?;
-        let below = rank(hit.node.internal, hit.bit);
-        let place = self.pool.results.place(hit.node.result_base, below);
-        let len = (4 * hit.depth) as u8 + length_of(hit.bit);
-        Some((len, self.pool.results.get(place)))
-    }
-}
-
-/// What was found in a node at a depth, if anything, else what was found above.
-fn longer(bit: Option<u32>, node: Node, depth: u32, above: Option<Hit>) -> Option<Hit>
-    ensures place { hit_place result ≡ longer (bit_place node bit) (4 * depth) (hit_place above) }
-    ensures bound { IfSome bit (λ b. b < 16) → IfSome above (λ hit. hit.bit < 16)
-        → IfSome result (λ hit. hit.bit < 16) }
-{
-    match bit {
-        None => above,
-        Some(bit) => Some(Hit { depth, bit, node }),
     }
 }
 

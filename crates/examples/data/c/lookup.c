@@ -1,4 +1,5 @@
-/* Makes an image of four rows, looks up addresses in two threads, patches the image, looks up again.
+/* Makes an image of four rows, looks up addresses in two threads, patches the image, looks up again, and
+ * takes a row out.
  * Once the library is installed, as by ./install /usr/local:
  *
  *     cc -O2 examples/c/lookup.c $(pkg-config --cflags --libs tuhvondi) -pthread -o lookup
@@ -18,14 +19,8 @@ static void print_addr(uint32_t addr)
     printf("%u.%u.%u.%u", addr >> 24, addr >> 16 & 255, addr >> 8 & 255, addr & 255);
 }
 
-static void print_answer(uint32_t addr, struct tuhvondi_row row)
+static void print_row(struct tuhvondi_row row)
 {
-    print_addr(addr);
-    if (row.kind == TUHVONDI_NO_ROW) {
-        printf(" no row\n");
-        return;
-    }
-    putchar(' ');
     print_addr(row.addr);
     printf("/%u", row.len);
     switch (row.kind) {
@@ -38,6 +33,17 @@ static void print_answer(uint32_t addr, struct tuhvondi_row row)
     default:
         printf(" unreachable\n");
     }
+}
+
+static void print_answer(uint32_t addr, struct tuhvondi_row row)
+{
+    print_addr(addr);
+    if (row.kind == TUHVONDI_NO_ROW) {
+        printf(" no row\n");
+        return;
+    }
+    putchar(' ');
+    print_row(row);
 }
 
 static const uint32_t ADDRS[] = {0x0a010203, 0x0a020304, 0xc0000201, 0x08080808};
@@ -53,6 +59,21 @@ static int print_all(struct tuhvondi_image *image)
     printf("generation %" PRIu64 "\n", generation);
     for (size_t i = 0; i < COUNT(ADDRS); i++)
         print_answer(ADDRS[i], answers[i]);
+    return 0;
+}
+
+/* All rows, two at a time: the cursor goes on by itself. */
+static int print_rows(struct tuhvondi_image *image)
+{
+    struct tuhvondi_prefix from = TUHVONDI_FIRST_PREFIX;
+    struct tuhvondi_row rows[2];
+    size_t written;
+    do {
+        if (tuhvondi_image_rows(image, &from, rows, COUNT(rows), &written))
+            return 1;
+        for (size_t i = 0; i < written; i++)
+            print_row(rows[i]);
+    } while (written == COUNT(rows));
     return 0;
 }
 
@@ -111,11 +132,18 @@ int main(void)
     if (tuhvondi_image_apply(&image, 1, patch, COUNT(patch)) || print_all(&image))
         return 1;
 
+    const struct tuhvondi_prefix gone[] = {{0x0a010000, 16}};
+    if (tuhvondi_image_remove(&image, 2, gone, COUNT(gone)) || print_all(&image))
+        return 1;
+    printf("all rows:\n");
+    if (print_rows(&image))
+        return 1;
+
     const struct tuhvondi_row bad[] = {{.addr = 0x0a000001, .len = 8}};
-    refused = tuhvondi_image_apply(&image, 2, bad, COUNT(bad));
+    refused = tuhvondi_image_apply(&image, 3, bad, COUNT(bad));
     printf("a row with host bits answers %" PRIu32 ": %s\n", refused, tuhvondi_status_text(refused));
     tuhvondi_image_free(&image);
-    refused = tuhvondi_image_apply(&image, 2, rows, COUNT(rows));
+    refused = tuhvondi_image_apply(&image, 3, rows, COUNT(rows));
     printf("a freed image answers %" PRIu32 ": %s\n", refused, tuhvondi_status_text(refused));
     return 0;
 }

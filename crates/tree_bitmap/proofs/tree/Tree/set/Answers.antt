@@ -1,4 +1,4 @@
-use Rattle.std.proofs.Common.{inl, ◌≡◌, ◌+◌, ◌*◌, ◌/◌, ◌%◌, ◌∙◌, arith, refl}
+use Rattle.std.proofs.Common.{inl, Some, ◌≡◌, ◌+◌, ◌*◌, ◌/◌, ◌%◌, ◌∙◌, arith, refl}
 use Rattle.std.proofs.lemmas.Result.{on_ok_weaker, on_err_weaker}
 use Rattle.tree_bitmap.specs.Tree.{rows}
 use Rattle.tree_bitmap.proofs.Paths.{root_at}
@@ -16,7 +16,7 @@ pub returns-clause-ok : goal.returns-clause-ok
 returns-clause-ok g c =
     let whole : 4 * (c.args.len / 4) + c.args.len % 4 ≡ c.args.len = omega arith in
     on_ok_weaker c.set_at.result
-    (sets_from (rows c.args.self.now) (rows c.loop-d.self) (rows c.set_at.new.self) c.args.path c.args.len (4 * (c.args.len / 4) + c.args.len % 4) c.args.entry c.loop-d.invariant.same whole)
+    (sets_from (rows c.args.self.now) (rows c.loop-d.self) (rows c.set_at.new.self) c.args.path c.args.len (4 * (c.args.len / 4) + c.args.len % 4) (Some c.args.entry) c.loop-d.invariant.same whole)
     c.set_at.ensures.ok
 
 pub returns-clause-err : goal.returns-clause-err

@@ -1,4 +1,4 @@
-use Rattle.std.proofs.Common.{arith, subst}
+use Rattle.std.proofs.Common.{Some, arith, subst}
 use Rattle.node_pool.specs.Pool.{cell, IsWritten}
 use Rattle.tree_bitmap.specs.Tree.{with_result}
 use Rattle.tree_bitmap.proofs.Ranks.{rank_le}
@@ -27,7 +27,7 @@ returns-then-is_set-clause-ok g c =
     let N = cell c.args.self.now.pool.nodes in
     let G = cell c.args.self.now.pool.results in
     let G' = cell c.set.new.self in
-    sets_row N N G G' c.args.index c.args.bit c.args.entry c.get-node.result c.get-node.result c.args.path c.args.depth c.args.len
+    sets_row N N G G' c.args.index c.args.bit (Some c.args.entry) c.get-node.result c.get-node.result c.args.path c.args.depth c.args.len
     c.requires.sound c.requires.deep c.requires.short c.requires.fits c.requires.at c.requires.bit
     (over_sets N G G' c.args.index c.args.bit c.args.entry c.get-node.result c.rank-below.result
     c.requires.sound c.get-node.ensures c.rank-below.ensures.value (c.is_set.ensures.0 c.if-is_set.true)
@@ -55,7 +55,7 @@ returns-clause-ok g c =
     let N' = cell c.set-2.new.self in
     let G = cell c.args.self.now.pool.results in
     let G' = cell c.grow.new.self in
-    sets_row N N' G G' c.args.index c.args.bit c.args.entry c.get-node.result (with_result c.get-node.result c.args.bit c.in_ok-base.base) c.args.path c.args.depth c.args.len
+    sets_row N N' G G' c.args.index c.args.bit (Some c.args.entry) c.get-node.result (with_result c.get-node.result c.args.bit c.in_ok-base.base) c.args.path c.args.depth c.args.len
     c.requires.sound c.requires.deep c.requires.short c.requires.fits c.requires.at c.requires.bit
     (put_sets N N' G G'
     c.args.index c.args.bit c.args.entry c.get-node.result c.rank-below.result c.count.result c.with_bit-internal.result c.in_ok-base.base

@@ -1,4 +1,4 @@
-use Rattle.std.proofs.Common.{◌*◌, ◌∙◌, ap}
+use Rattle.std.proofs.Common.{Some, ◌*◌, ◌∙◌, ap}
 use Rattle.std.proofs.lemmas.Result.{on_ok_weaker, on_err_weaker}
 use Rattle.ipv4_prefix.proofs.TableRows.{table_rows-put, table_rows-same}
 use Rattle.tree_bitmap.specs.Tree.{rows, entry_in}
@@ -9,7 +9,7 @@ pub returns-clause-ok : goal.returns-clause-ok
 returns-clause-ok g c =
     on_ok_weaker c.set.result
     (λ sets. table_rows-put (entry_in c.args.self.now) c.args.prefix c.args.entry (entry_in c.set.new.self) c.addr.ensures.valid
-    (sets_entry_at (rows c.args.self.now) (rows c.set.new.self) c.args.prefix c.args.entry c.path_of.result c.len.result c.addr.ensures.valid
+    (sets_entry_at (rows c.args.self.now) (rows c.set.new.self) c.args.prefix (Some c.args.entry) c.path_of.result c.len.result c.addr.ensures.valid
     (c.path_of.ensures ∙ ap (λ a. a * 16) c.addr.ensures.value) c.len.ensures.value sets))
     c.set.ensures.ok
 

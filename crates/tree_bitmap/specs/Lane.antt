@@ -1,0 +1,38 @@
+-- A look-up on its way down a tree.
+use Rattle.std.specs.Prelude.{ℕ, List, ◌≡◌, ◌*◌, ◌==◌, min, Option, Some, true, false, if◌then◌else◌, slice_index_or}
+use Rattle.node_pool.specs.Pool.{cell}
+use Rattle.tree_bitmap.specs.Bits.{IsHighest}
+use Rattle.tree_bitmap.specs.Tree.{node_at, place_at}
+use Rattle.tree_bitmap.specs.Greatest.{GreatestBelow}
+use Rattle.tree_bitmap.specs.Hit.{hit_place}
+use Rattle.tree_bitmap.specs.declared.tree.Tree.{Tree}
+use Rattle.tree_bitmap.specs.declared.node.Node.{Node}
+use Rattle.tree_bitmap.specs.declared.lanes.Hit.{Hit}
+use Rattle.tree_bitmap.specs.declared.lanes.Lane.{Lane}
+
+-- nothing was found
+abbrev pub no_hit : Hit
+no_hit = record { matched = 0; internal = 0; result_base = 0; depth = 0 }
+
+-- what was found in a node at a depth, by the internal bits that cover the address, if there are any, else what was found above
+abbrev pub longer_hit : ℕ → Node → ℕ → Hit → Hit
+longer_hit matched a depth above =
+    if matched == 0 then above else (record { matched = matched; internal = a.internal; result_base = a.result_base; depth = depth })
+
+-- the look-up of an address, at the root
+abbrev pub root_lane : ℕ → Lane
+root_lane addr = record { addr = addr; index = 0; hit = no_hit; live = true }
+
+-- the look-up at an index
+abbrev pub lane_at : List Lane → ℕ → Lane
+lane_at lanes k = slice_index_or lanes k (root_lane 0)
+
+-- the longest prefix that was found is the longest of the path that has a row, of those shorter than n
+abbrev pub IsBest : {A : Type 0} → Tree A → ℕ → ℕ → Hit → Type 0
+IsBest tree path n hit = (bit : Option ℕ) → IsHighest hit.matched bit → GreatestBelow (place_at (cell tree.pool.nodes) path) n (hit_place hit bit)
+
+-- the nodes above a depth have been read, or all that there are
+pub record IsLane {A : Type 0} (tree : Tree A) (depth : ℕ) (lane : Lane) : Type 0 where
+  pub at : lane.live ≡ true → node_at (cell tree.pool.nodes) (lane.addr * 16) depth ≡ Some lane.index
+  pub best : lane.live ≡ true → IsBest tree (lane.addr * 16) (min (4 * depth) 33) lane.hit
+  pub done : lane.live ≡ false → IsBest tree (lane.addr * 16) 33 lane.hit
