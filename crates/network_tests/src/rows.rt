@@ -129,9 +129,15 @@ fn rows_that_come_and_go_take_no_more_memory(rt: HostRuntime) -> Result<(), Fail
     set_nested(&mut image)?;
     remove_nested(&rt, &mut image)?;
     let bytes = image.bytes();
-    for _ in 0..1000 {
+    for _ in 0..100 {
         set_nested(&mut image)?;
         remove_nested(&rt, &mut image)?;
+    }
+    // Each on a way of its own: the nodes of those before serve it.
+    for i in 0..1000u32 {
+        let prefix = Prefix::covering(i * 0x0040_1001, 32);
+        set_row(&mut image, prefix, Entry::Local)?;
+        assert!(rt; remove_row(&mut image, prefix));
     }
     assert_eq!(rt; image.bytes(), bytes);
     assert_eq!(rt; image.row_count(), 0);
