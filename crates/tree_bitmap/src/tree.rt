@@ -89,10 +89,9 @@ impl<A: Allocator> Tree<A> {
         self.pool.nodes.set(
             index,
             Node {
-                internal: node.internal,
                 external,
                 child_base: base,
-                result_base: node.result_base,
+                ..node
             },
         );
         Ok(self.pool.nodes.place(base, below))
@@ -141,9 +140,8 @@ impl<A: Allocator> Tree<A> {
             index,
             Node {
                 internal,
-                external: node.external,
-                child_base: node.child_base,
                 result_base: base,
+                ..node
             },
         );
         Ok(())
@@ -268,9 +266,8 @@ impl<A: Allocator> Tree<A> {
             index,
             Node {
                 internal,
-                external: node.external,
-                child_base: node.child_base,
                 result_base: base,
+                ..node
             },
         );
     }
@@ -309,10 +306,9 @@ impl<A: Allocator> Tree<A> {
         self.pool.nodes.set(
             index,
             Node {
-                internal: node.internal,
                 external,
                 child_base: base,
-                result_base: node.result_base,
+                ..node
             },
         );
         true
