@@ -68,6 +68,12 @@ pub child_used : (N : ℕ → Option Node) (G : ℕ → Option Entry) (index : �
 child_used N G index a four below sound here b has =
     sound.children_used index a here (a.child_base + below) (subst (λ r. IsChild a (a.child_base + r)) (sym b) (child_in_block a four has))
 
+-- the result of a bit that is set is in use
+pub result_used : (N : ℕ → Option Node) (G : ℕ → Option Entry) (index : ℕ) (a : Node) (bit below : ℕ) → IsLaidOut N G → N index ≡ Some a
+    → below ≡ rank a.internal bit → bit_at a.internal bit ≡ 1 → is_some (G (a.result_base + below)) ≡ true
+result_used N G index a bit below sound here b has =
+    sound.results_used index a here (a.result_base + below) (subst (λ r. IsResult a (a.result_base + r)) (sym b) (result_in_block a bit has))
+
 -- cells that are the same have the same meaning
 pub same_cells : {T : Type 0} (f g : ℕ → Option T) → ((k : ℕ) → g k ≡ f k) → g ≡ f
 same_cells f g h = fun_ext h
@@ -150,11 +156,6 @@ module _ (N N' : ℕ → Option Node) (G G' : ℕ → Option Entry) (index bit :
 
 module _ (N : ℕ → Option Node) (G G' : ℕ → Option Entry) (index bit : ℕ) (entry : Entry) (a : Node) (below : ℕ)
     (sound : IsLaidOut N G) (here : N index ≡ Some a) (b : below ≡ rank a.internal bit) (has : bit_at a.internal bit ≡ 1) where
-  -- the result of a bit that is set is in use
-  pub result_used : is_some (G (a.result_base + below)) ≡ true
-  result_used = sound.results_used index a here (a.result_base + below)
-      (subst (λ r. IsResult a (a.result_base + r)) (sym b) (result_in_block a bit has))
-
   -- its cell is written
   written_over : IsWritten G G' (a.result_base + below) entry → IsWritten G G' (a.result_base + rank a.internal bit) entry
   written_over w = subst (λ r. IsWritten G G' (a.result_base + r) entry) b w

@@ -1,5 +1,5 @@
 -- What a tree has at a prefix, and which prefixes after it have no row.
-use Rattle.std.proofs.Common.{ℕ, ◌≡◌, ◌≢◌, inl, inr, ◌+◌, ◌-◌, ◌*◌, ◌/◌, ◌%◌, ◌^◌, ◌<◌, ◌≤◌, true, false, Option, Some, None, is_some, arith, refl, sym, ap, subst, ◌∙◌}
+use Rattle.std.proofs.Common.{ℕ, ◌≡◌, ◌≢◌, inl, inr, ◌+◌, ◌-◌, ◌*◌, ◌/◌, ◌%◌, ◌^◌, ◌<◌, ◌≤◌, true, false, Option, Some, None, arith, refl, sym, ap, subst, ◌∙◌}
 use Rattle.std.specs.Int.{bit_at}
 use Rattle.std.proofs.lemmas.Bool.{cases_lt, cases_eq, true≢false}
 use Rattle.std.proofs.lemmas.Nat.{div-mul-add, pow_pos}
@@ -8,12 +8,12 @@ use Rattle.ipv4_prefix.specs.Prefix.{Prefix, IsPrefix}
 use Rattle.network_model.specs.declared.route.Entry.{Entry}
 use Rattle.tree_bitmap.specs.Bits.{rank, nibble, internal_bit}
 use Rattle.tree_bitmap.specs.Cursor.{is_before, IsNextPrefix, IsFirstAt, IsFoundAt, none_until}
-use Rattle.tree_bitmap.specs.Tree.{node_at, node_cell, place_at, row_at, entry_at_bit, IsLaidOut}
+use Rattle.tree_bitmap.specs.Tree.{node_at, node_cell, place_at, row_at, entry_at_bit}
 use Rattle.tree_bitmap.specs.declared.node.Node.{Node}
 use Rattle.tree_bitmap.proofs.FirstBits.{nibbles_from_top}
 use Rattle.tree_bitmap.proofs.LongestRow.{gone}
 use Rattle.tree_bitmap.proofs.OnePath.{node_at-same}
-use Rattle.tree_bitmap.proofs.Paths.{none≢some, row-none, entry-set, entry-clear, result_in_block}
+use Rattle.tree_bitmap.proofs.Paths.{row-none, entry-set, entry-clear}
 use Rattle.tree_bitmap.proofs.PrefixNumbers.{number_before, number_not_before, before_from_number, same_where_neither, cases_before, longer_writable}
 use Rattle.tree_bitmap.proofs.PrefixRows.{path_bits}
 
@@ -62,9 +62,9 @@ module _ (nodes : ℕ → Option Node) (results : ℕ → Option Entry) where
       row-none nodes results (r.addr * 16) r.len (ap (node_at nodes (r.addr * 16)) (sym whole) ∙ gone nodes (r.addr * 16) depth (r.len / 4 - depth) ended)
 
   -- so the first that may have one comes after the block
-  pub none_until_past : (c : Prefix) (addr depth end : ℕ) (next : Option Prefix) → IsPrefix c → addr ≡ c.addr → depth ≤ c.len / 4 → node_at nodes (c.addr * 16) depth ≡ None
+  pub none_until_past : (c : Prefix) (addr depth : ℕ) (next : Option Prefix) → IsPrefix c → addr ≡ c.addr → depth ≤ c.len / 4 → node_at nodes (c.addr * 16) depth ≡ None
       → IsFirstAt ((addr / 2 ^ (32 - 4 * depth) + 1) * 2 ^ (32 - 4 * depth)) next → IsFoundAt entry_at c (none_until next)
-  none_until_past c addr depth end next valid same deep none first = by_next next (subst (λ a. IsFirstAt ((a / 2 ^ (32 - 4 * depth) + 1) * 2 ^ (32 - 4 * depth)) next) same first)
+  none_until_past c addr depth next valid same deep none first = by_next next (subst (λ a. IsFirstAt ((a / 2 ^ (32 - 4 * depth) + 1) * 2 ^ (32 - 4 * depth)) next) same first)
     where
       by_next : (next : Option Prefix) → IsFirstAt ((c.addr / 2 ^ (32 - 4 * depth) + 1) * 2 ^ (32 - 4 * depth)) next → IsFoundAt entry_at c (none_until next)
       by_next None past = λ r valid_r from. let fits = valid_r.fits in none_in_block c r depth valid valid_r deep none from (omega (arith, fits, past))
@@ -97,19 +97,6 @@ module _ (nodes : ℕ → Option Node) (results : ℕ → Option Entry) where
       | inr not_above ↦ ap entry_at (same_where_neither r c from not_above) ∙ none
     ],
   )
-
-  -- where there is a node, it stands at a place
-  cell_of : (o : Option ℕ) (a : Node) → node_cell nodes o ≡ Some a → (j : ℕ) × (o ≡ Some j) × (nodes j ≡ Some a)
-  unfolding node_cell
-  cell_of None a is = absurd (none≢some None a refl is)
-  cell_of (Some j) a is = (j, refl, is)
-
-  -- a result whose bit is set is in use
-  pub result_used : (o : Option ℕ) (a : Node) (bit below : ℕ) → IsLaidOut nodes results → node_cell nodes o ≡ Some a → below ≡ rank a.internal bit → bit_at a.internal bit ≡ 1
-      → is_some (results (a.result_base + below)) ≡ true
-  result_used o a bit below sound here is has =
-      let (j, at, cell) = cell_of o a here in
-      subst (λ r. is_some (results (a.result_base + r)) ≡ true) (sym is) (sound.results_used j a cell (a.result_base + rank a.internal bit) (result_in_block a bit has))
 
   module _ (c : Prefix) (path depth rest four bit : ℕ) (a : Node)
       (p : path ≡ c.addr * 16) (d : depth ≡ c.len / 4) (r : rest ≡ c.len % 4) (f : four ≡ nibble path depth) (b : bit ≡ internal_bit four rest)

@@ -4,7 +4,8 @@ use Rattle.node_pool.specs.Pool.{cell}
 use Rattle.tree_bitmap.specs.Tree.{node_at, node_cell, entry_in}
 use Rattle.tree_bitmap.specs.Cursor.{IsFoundAt}
 use Rattle.tree_bitmap.proofs.Paths.{node_used}
-use Rattle.tree_bitmap.proofs.EmptyBlocks.{cell_at, none_until_past, none_until_next, result_used, entry_not_set, entry_is_set}
+use Rattle.tree_bitmap.proofs.Calls.{result_used}
+use Rattle.tree_bitmap.proofs.EmptyBlocks.{cell_at, none_until_past, none_until_next, entry_not_set, entry_is_set}
 use Rattle.tree_bitmap.proofs.tree.Tree.find_at.Given as given
 use Rattle.tree_bitmap.proofs.tree.Tree.find_at.Goals as goal
 use Rattle.tree_bitmap.proofs.tree.Tree.find_at.Goals.{After-get-node}
@@ -25,7 +26,7 @@ returns-in-Err-clause-found g c =
     let path = c.path_of-path.ensures ∙ ap (λ a. a * 16) c.addr.ensures.value in
     let deep : c.in-Err.end ≤ at.len / 4 = omega (arith, none.0, c.len.ensures.value) in
     subst (IsFoundAt (entry_in c.args.self.now) at) (sym c.none_until.ensures)
-    (none_until_past N (cell c.args.self.now.pool.results) at c.addr-in-Err.result c.in-Err.end 0 c.first_past.result c.addr.ensures.valid c.addr-in-Err.ensures.value deep
+    (none_until_past N (cell c.args.self.now.pool.results) at c.addr-in-Err.result c.in-Err.end c.first_past.result c.addr.ensures.valid c.addr-in-Err.ensures.value deep
     (ap (λ p. node_at N p c.in-Err.end) (sym path) ∙ none.1) c.first_past.ensures)
 
 pub returns-then-not-is_set-clause-found : goal.returns-then-not-is_set-clause-found
@@ -42,17 +43,14 @@ returns-then-not-is_set-clause-found g c =
 
 pub place-place-requires : goal.place-place-requires
 place-place-requires g c =
-    let N = cell c.args.self.now.pool.nodes in
-    let G = cell c.args.self.now.pool.results in
-    result_used N G (node_at N c.path_of-path.result (c.len.result / 4)) c.get-node.result c.internal_bit-bit.result c.rank-below.result c.requires (here g (goal.at.place-place-requires g c).After-get-node)
-    c.rank-below.ensures.value (c.is_set.ensures.0 c.if-not-is_set.false)
+    result_used (cell c.args.self.now.pool.nodes) (cell c.args.self.now.pool.results) c.in-Ok.index c.get-node.result c.internal_bit-bit.result c.rank-below.result
+    c.requires c.get-node.ensures c.rank-below.ensures.value (c.is_set.ensures.0 c.if-not-is_set.false)
 
 pub get-requires : goal.get-requires
 get-requires g c =
-    let N = cell c.args.self.now.pool.nodes in
-    let G = cell c.args.self.now.pool.results in
-    rw c.place-place.ensures (result_used N G (node_at N c.path_of-path.result (c.len.result / 4)) c.get-node.result c.internal_bit-bit.result c.rank-below.result c.requires (here g (goal.at.get-requires g c).After-get-node)
-    c.rank-below.ensures.value (c.is_set.ensures.0 c.if-not-is_set.false))
+    rw c.place-place.ensures
+    (result_used (cell c.args.self.now.pool.nodes) (cell c.args.self.now.pool.results) c.in-Ok.index c.get-node.result c.internal_bit-bit.result c.rank-below.result
+    c.requires c.get-node.ensures c.rank-below.ensures.value (c.is_set.ensures.0 c.if-not-is_set.false))
 
 pub returns-clause-found : goal.returns-clause-found
 returns-clause-found g c =

@@ -13,13 +13,13 @@ get-node-requires g c =
 
 pub place-place-requires : goal.place-place-requires
 place-place-requires g c =
-    result_used (cell c.args.self.now.pool.nodes) (cell c.args.self.now.pool.results) (cell c.args.self.now.pool.results) c.args.index c.args.bit c.args.entry c.get-node.result c.rank-below.result
+    result_used (cell c.args.self.now.pool.nodes) (cell c.args.self.now.pool.results) c.args.index c.get-node.result c.args.bit c.rank-below.result
     c.requires.sound c.get-node.ensures c.rank-below.ensures.value (c.is_set.ensures.0 c.if-is_set.true)
 
 pub set-requires : goal.set-requires
 set-requires g c =
     rw c.place-place.ensures
-    (result_used (cell c.args.self.now.pool.nodes) (cell c.args.self.now.pool.results) (cell c.args.self.now.pool.results) c.args.index c.args.bit c.args.entry c.get-node.result c.rank-below.result
+    (result_used (cell c.args.self.now.pool.nodes) (cell c.args.self.now.pool.results) c.args.index c.get-node.result c.args.bit c.rank-below.result
     c.requires.sound c.get-node.ensures c.rank-below.ensures.value (c.is_set.ensures.0 c.if-is_set.true))
 
 pub returns-then-is_set-clause-ok : goal.returns-then-is_set-clause-ok
