@@ -12,18 +12,15 @@ use Rattle.tree_bitmap.specs.declared.node.Node.{Node}
 use Rattle.network_model.specs.declared.route.Entry.{Entry}
 use Rattle.tree_bitmap.proofs.Ranks.{ones-add, add_lt, bit_at-add_same, rank-add_below}
 use Rattle.tree_bitmap.proofs.Paths.{child_in_block, Some_same, ones_of_zero, step_yes, result_in_block}
-use Rattle.tree_bitmap.proofs.NewChild.{node_moves, gap_cell, index_stays, row_same, sound_after}
-use Rattle.tree_bitmap.proofs.NewResult.{row_hit, row_miss, replace_sets, replace_sound, insert_sets, insert_sound, SetsBit}
+use Rattle.tree_bitmap.proofs.NewChild.{gap_cell, row_same, sound_after, stays_on}
+use Rattle.tree_bitmap.proofs.MovedResults.{SetsBit}
+use Rattle.tree_bitmap.proofs.NewResult.{row_hit, row_miss, replace_sets, replace_sound, insert_sets, insert_sound}
 
 -- a bit that is not set is 0
 pub clear_bit : (n k : ℕ) → bit_at n k ≢ 1 → bit_at n k ≡ 0
 clear_bit n k h =
     let l : bit_at n k < 2 = bit_at-lt n k in
     ⊎_elim (λ e. absurd (h e)) (λ e. omega arith) (cases_order (bit_at n k) 1)
-
--- where a bit of 16 is clear, at most 15 are set
-pub few_ones : (n k : ℕ) → n < 2 ^ 16 → k < 16 → bit_at n k ≡ 0 → count_ones n ≤ 15
-few_ones n k l h c = omega (arith, ones-le 16 (n + 2 ^ k) (add_lt n k 16 l h c), ones-add n k c)
 
 -- where there is room for one bit more, at most 15 are set
 pub few_from : (n k m : ℕ) → m < 2 ^ 16 → m ≡ n + 2 ^ k → bit_at n k ≢ 1 → count_ones n ≤ 15
@@ -111,10 +108,8 @@ module _ (N M N' : ℕ → Option Node) (G : ℕ → Option Entry) (index path d
   -- the new child stands on the path
   pub made_place : node_at N' path (depth + 1) ≡ Some (base + below)
   made_place =
-      let w = node_moves N M N' G index four base a sound here clear grown' written' path depth index at in
-      let stays : w.0 ≡ index = index_stays N M N' G index four base a sound here clear grown' written' w.0 w.1 in
       let has : bit_at (a.external + 2 ^ four) four ≡ 1 = bit_at-add_same a.external four clear in
-      child_place_after N' path depth index (with_child a four base) four below (w.2 ∙ ap Some stays) written'.here f
+      child_place_after N' path depth index (with_child a four base) four below (stays_on N M N' G index four base a sound here clear grown' written' path depth at) written'.here f
       (b ∙ sym (rank-add_below a.external four four clear (omega arith))) has
 
 -- what a change of one bit of the node of a path makes of the rows

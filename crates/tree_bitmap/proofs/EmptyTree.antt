@@ -1,10 +1,10 @@
 -- The rows of a tree.
-use Rattle.std.proofs.Common.{ℕ, zero, suc, subst, ◌≡◌, ◌+◌, ◌-◌, ◌/◌, ◌<◌, Option, Some, None, arith, sym, ap, ◌∙◌, ⊎_elim}
+use Rattle.std.proofs.Common.{ℕ, zero, suc, subst, ◌≡◌, ◌+◌, ◌-◌, ◌/◌, ◌<◌, Option, Some, None, arith, refl, sym, ap, ◌∙◌, ⊎_elim}
 use Rattle.std.proofs.lemmas.Bool.{cases_lt}
 use Rattle.tree_bitmap.specs.Tree.{blank, node_at, row_at, IsChild, IsResult, IsLaidOut}
 use Rattle.tree_bitmap.specs.declared.node.Node.{Node}
 use Rattle.network_model.specs.declared.route.Entry.{Entry}
-use Rattle.tree_bitmap.proofs.Paths.{is_some-from, none≢some, Some_same, blank_has_no_child, blank_has_no_result, root_at, blank_ends, entry-blank, row-some, row-none}
+use Rattle.tree_bitmap.proofs.Paths.{is_some-from, none≢some, Some_same, empty_has_no_child, empty_has_no_result, root_at, blank_ends, entry-blank, row-some, row-none}
 use Rattle.tree_bitmap.proofs.LongestRow.{gone}
 
 -- a tree whose root is blank has no rows
@@ -25,11 +25,11 @@ module _ (nodes : ℕ → Option Node) (results : ℕ → Option Entry) (root : 
 
   -- a blank node has no child
   no_child : (j : ℕ) (a : Node) → nodes j ≡ Some a → (k : ℕ) → IsChild a k → ⊥
-  no_child j a e k q = blank_has_no_child k (subst (λ x. IsChild x k) (is_blank j a e) q)
+  no_child j a e k q = empty_has_no_child blank (refl, refl) k (subst (λ x. IsChild x k) (is_blank j a e) q)
 
   -- a blank node has no result
   no_result : (j : ℕ) (a : Node) → nodes j ≡ Some a → (k : ℕ) → IsResult a k → ⊥
-  no_result j a e k q = blank_has_no_result k (subst (λ x. IsResult x k) (is_blank j a e) q)
+  no_result j a e k q = empty_has_no_result blank (refl, refl) k (subst (λ x. IsResult x k) (is_blank j a e) q)
 
   -- a tree of a blank root alone is sound
   pub root_sound : IsLaidOut nodes results

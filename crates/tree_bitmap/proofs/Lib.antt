@@ -1,4 +1,7 @@
 pub mod Ranks
+pub mod MovedBlock
+pub mod MovedChildren
+pub mod MovedResults
 pub mod Paths
 pub mod NewChild
 pub mod FirstBits

@@ -143,13 +143,17 @@ pub ones_of_zero : count_ones 0 ≡ 0
 unfolding count_ones
 ones_of_zero = refl
 
--- a blank node has no child
-pub blank_has_no_child : (k : ℕ) → IsChild blank k → ⊥
-blank_has_no_child k q = omega (arith, q.1, ones_of_zero)
+-- a node has no row and no child
+abbrev pub IsEmpty : Node → Type 0
+IsEmpty a = (a.external ≡ 0) × (a.internal ≡ 0)
 
--- a blank node has no result
-pub blank_has_no_result : (k : ℕ) → IsResult blank k → ⊥
-blank_has_no_result k q = omega (arith, q.1, ones_of_zero)
+-- so it has no child
+pub empty_has_no_child : (a : Node) → IsEmpty a → (k : ℕ) → IsChild a k → ⊥
+empty_has_no_child a e k q = omega (arith, q.0, q.1, ap count_ones e.0, ones_of_zero)
+
+-- and no result
+pub empty_has_no_result : (a : Node) → IsEmpty a → (k : ℕ) → IsResult a k → ⊥
+empty_has_no_result a e k q = omega (arith, q.0, q.1, ap count_ones e.1, ones_of_zero)
 
 -- an entry whose bit is set, and one whose bit is not
 pub entry-set : (results : ℕ → Option Entry) (bit : ℕ) (a : Node) → bit_at a.internal bit ≡ 1
@@ -188,8 +192,3 @@ place-some nodes path len j a e c =
 pub place-none : (nodes : ℕ → Option Node) (path len : ℕ) → node_at nodes path (len / 4) ≡ None → place_at nodes path len ≡ None
 unfolding place_at node_cell result_place
 place-none nodes path len e = ap (λ o. result_place (internal_bit (nibble path (len / 4)) (len % 4)) (node_cell nodes o)) e
-
--- a row is the result at its place
-pub row-place : (nodes : ℕ → Option Node) (results : ℕ → Option Entry) (path len : ℕ) → row_at nodes results path len ≡ option_and_then results (place_at nodes path len)
-unfolding row_at
-row-place nodes results path len = refl

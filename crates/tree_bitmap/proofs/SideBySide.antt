@@ -37,14 +37,6 @@ module _ {A : Type 0} (tree : Tree A) where
       at_root None top = λ k h. absurd (omega arith)
       at_root (Some bit) top = absurd (let z : bit_at 0 bit ≡ 0 = bit_at-zero bit in omega (arith, z, top.1))
 
-  -- a look-up that has ended stays where it is
-  pub ended_lane : (depth : ℕ) (lane : Lane) → lane.live ≡ false → IsLane tree depth lane → IsLane tree 9 lane
-  ended_lane depth lane ended l = record {
-    at = λ e. absurd (true≢false (sym e ∙ ended));
-    best = λ e. absurd (true≢false (sym e ∙ ended));
-    done = l.done;
-  }
-
   -- one node more is read
   pub hit_after : (path depth four j cover : ℕ) (a : Node) (above : Hit) → depth ≤ 8
       → node_at (cell tree.pool.nodes) path depth ≡ Some j → cell tree.pool.nodes j ≡ Some a → four < 16 → four ≡ nibble path depth
