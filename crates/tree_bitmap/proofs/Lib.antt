@@ -14,6 +14,7 @@ pub mod EmptyTree
 pub mod PrefixRows
 pub mod SideBySide
 pub mod LessChild
+pub mod Pruned
 pub mod LessResult
 pub mod PrefixNumbers
 pub mod RowsFrom

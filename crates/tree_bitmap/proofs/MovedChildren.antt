@@ -3,12 +3,12 @@ use Rattle.std.proofs.Common.{ℕ, zero, suc, ◌≡◌, ◌≢◌, ◌⊎◌, i
 use Rattle.std.specs.Int.{bit_at}
 use Rattle.std.proofs.lemmas.Bool.{cases_eq}
 use Rattle.node_pool.specs.Pool.{IsWritten}
-use Rattle.tree_bitmap.specs.Tree.{nibble, internal_bit, child, HasChild, IsChild, IsResult, node_at, entry_at_bit, row_at, IsLaidOut, with_children}
+use Rattle.tree_bitmap.specs.Tree.{IsEmpty, nibble, internal_bit, child, HasChild, IsChild, IsResult, node_at, entry_at_bit, row_at, IsLaidOut, with_children}
 use Rattle.tree_bitmap.specs.declared.node.Node.{Node}
 use Rattle.network_model.specs.declared.route.Entry.{Entry}
 use Rattle.node_pool.proofs.Blocks.{none≢is_some}
 use Rattle.tree_bitmap.proofs.MovedBlock.{IsMoved, block_bit, block_cases}
-use Rattle.tree_bitmap.proofs.Paths.{IsEmpty, empty_has_no_child, empty_has_no_result, cases_option, is_some-from, some-from, none≢some, Some_same, child_in_block, step_yes, step_no, root_at, IsStep, node_used, step_of, zero_bit, entry-clear, entry-with_children, row-some, row-none}
+use Rattle.tree_bitmap.proofs.Paths.{empty_has_no_child, empty_has_no_result, cases_option, is_some-from, some-from, none≢some, Some_same, child_in_block, step_yes, step_no, root_at, IsStep, node_used, step_of, zero_bit, entry-clear, entry-with_children, row-some, row-none}
 use Rattle.tree_bitmap.proofs.OnePath.{rank_same}
 
 -- a cell holds a node with no row and no child
@@ -280,7 +280,7 @@ moved_rows N N' G index external base a sound moved path len = elim (cases_optio
     | inl none' ↦ row-none N' G path len none' ∙ sym (row-none N G path len none)
     | inr (j', f) ↦
         sym (row_on N' N G index a.external a.child_base (with_children a external base) (moved_sound N N' G index external base a sound moved)
-            (moved_back N N' index a (with_children a external base) moved) path len j' f)
+        (moved_back N N' index a (with_children a external base) moved) path len j' f)
   ]
 ]
 

@@ -5,7 +5,7 @@ use Rattle.std.specs.Int.RustNames.{count_ones}
 use Rattle.std.proofs.lemmas.Bool.{cond-true, cond-false, eq-eqb, ne_eqb, cases_eq, false≢true}
 use Rattle.std.proofs.lemmas.Nat.Bits.{bit_at-zero}
 use Rattle.tree_bitmap.specs.Bits.{rank}
-use Rattle.tree_bitmap.specs.Tree.{blank, nibble, child, HasChild, internal_bit, IsChild, IsResult, child_by, child_under, node_at, result_place, entry_at_bit, node_cell, place_at, row_at, IsLaidOut, with_children}
+use Rattle.tree_bitmap.specs.Tree.{IsEmpty, blank, nibble, child, HasChild, internal_bit, IsChild, IsResult, child_by, child_under, node_at, result_place, entry_at_bit, node_cell, place_at, row_at, IsLaidOut, with_children}
 use Rattle.tree_bitmap.specs.declared.node.Node.{Node}
 use Rattle.network_model.specs.declared.route.Entry.{Entry}
 use Rattle.tree_bitmap.proofs.Ranks.{rank_lt}
@@ -143,15 +143,11 @@ pub ones_of_zero : count_ones 0 ≡ 0
 unfolding count_ones
 ones_of_zero = refl
 
--- a node has no row and no child
-abbrev pub IsEmpty : Node → Type 0
-IsEmpty a = (a.external ≡ 0) × (a.internal ≡ 0)
-
--- so it has no child
+-- an empty node has no child
 pub empty_has_no_child : (a : Node) → IsEmpty a → (k : ℕ) → IsChild a k → ⊥
 empty_has_no_child a e k q = omega (arith, q.0, q.1, ap count_ones e.0, ones_of_zero)
 
--- and no result
+-- an empty node has no result
 pub empty_has_no_result : (a : Node) → IsEmpty a → (k : ℕ) → IsResult a k → ⊥
 empty_has_no_result a e k q = omega (arith, q.0, q.1, ap count_ones e.1, ones_of_zero)
 

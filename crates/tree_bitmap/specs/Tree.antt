@@ -13,6 +13,10 @@ use Rattle.ipv4_prefix.specs.Tables.{table_rows}
 abbrev pub blank : Node
 blank = record { internal = 0; external = 0; child_base = 0; result_base = 0 }
 
+-- a node has no row and no child
+abbrev pub IsEmpty : Node → Type 0
+IsEmpty node = (node.external ≡ 0) × (node.internal ≡ 0)
+
 -- where the child of four bits stands
 abbrev pub child : Node → ℕ → ℕ
 child node four = node.child_base + rank node.external four

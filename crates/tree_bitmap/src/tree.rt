@@ -1,6 +1,6 @@
 //! The tree of nodes, in a pool.
 
-ghost use Rattle.std.specs.Prelude.{◌≡◌, ℕ, ◌+◌, ◌-◌, ◌*◌, ◌/◌, ◌%◌, ◌^◌, ◌<◌, ◌≤◌, ◌⊎◌, length, Option, Some, None, IfOk, IfErr, IfSome, OnOk, OnErr, IsOk, is_some, true};
+ghost use Rattle.std.specs.Prelude.{◌≡◌, ℕ, ◌+◌, ◌-◌, ◌*◌, ◌/◌, ◌%◌, ◌^◌, ◌<◌, ◌≤◌, ◌⊎◌, length, Option, Some, None, IfOk, IfErr, IfSome, OnOk, OnErr, IsOk, is_some, true, false};
 ghost use Rattle.std.specs.Int.{bit_at};
 ghost use Rattle.node_pool.specs.Pool.{cell, cell_count, room};
 
@@ -54,7 +54,7 @@ impl<A: Allocator + Copy> Tree<A> {
 impl<A: Allocator> Tree<A> {
     ghost use Rattle.tree_bitmap.specs.Tree.{nibble, internal_bit, rows, node_place, IsSoundTree, SetsRow, IsChildCost, blank};
     ghost use Rattle.tree_bitmap.specs.Tree.{rows_in};
-    ghost use Rattle.tree_bitmap.specs.Removal.{without_row, HasAsManyCells};
+    ghost use Rattle.tree_bitmap.specs.Removal.{without_row, HasAsManyCells, HasUse, IsPruned};
     ghost use Rattle.std.specs.FinMap.{put, find as row_of};
     ghost use Rattle.ipv4_prefix.specs.Prefix.{prefix_cmp};
     ghost use Rattle.network_model.specs.Publication.{with_rows};
@@ -253,6 +253,7 @@ impl<A: Allocator> Tree<A> {
         requires set { bit_at node.internal bit ≡ 1 }
         ensures sound { IsSoundTree self.new }
         ensures gone { SetsRow (rows self.old) (rows self.new) path (4 * depth + len) None }
+        ensures at { node_place self.new path depth ≡ Some index }
         ensures cells { HasAsManyCells self.old self.new }
     {
         let below = rank(node.internal, bit);
@@ -280,6 +281,10 @@ impl<A: Allocator> Tree<A> {
         ensures sound { IsSoundTree self.new }
         ensures rows { (q : ℕ) → (m : ℕ) → rows self.new q m ≡ rows self.old q m }
         ensures cells { HasAsManyCells self.old self.new }
+        ensures used { HasUse self.new path (depth + 1) }
+        ensures same { result ≡ false → self.new ≡ self.old }
+        ensures above { result ≡ true → is_some (node_place self.new path depth) ≡ true }
+        ensures gone { result ≡ true → node_place self.new path (depth + 1) ≡ None }
     {
         let Ok(index) = self.node_on(path, depth) else {
             return false;
@@ -321,6 +326,8 @@ impl<A: Allocator> Tree<A> {
         ensures sound { IsSoundTree self.new }
         ensures rows { (q : ℕ) → (m : ℕ) → rows self.new q m ≡ rows self.old q m }
         ensures cells { HasAsManyCells self.old self.new }
+        ensures pruned { is_some (node_place self.old path depth) ≡ true
+            → IsPruned self.new path depth }
     {
         for up in 0..depth {
             if !self.drop_child(path, depth - 1 - up) {
@@ -338,6 +345,7 @@ impl<A: Allocator> Tree<A> {
         ensures gone { SetsRow (rows self.old) (rows self.new) path len None }
         ensures found { result ≡ is_some (rows self.old path len) }
         ensures cells { HasAsManyCells self.old self.new }
+        ensures pruned { result ≡ true → IsPruned self.new path (len / 4) }
     {
         let depth = (len / 4) as u32;
         let rest = len % 4;
@@ -362,6 +370,8 @@ impl<A: Allocator> Tree<A> {
         ensures rows { rows_in self.new ≡ without_row prefix (rows_in self.old) }
         ensures found { result ≡ is_some (row_of prefix_cmp prefix (rows_in self.old)) }
         ensures cells { HasAsManyCells self.old self.new }
+        ensures pruned { result ≡ true
+            → IsPruned self.new (prefix.addr * 16) (prefix.len / 4) }
     {
         self.remove(path_of(prefix.addr()), prefix.len())
     }

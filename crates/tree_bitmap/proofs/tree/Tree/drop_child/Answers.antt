@@ -1,10 +1,12 @@
-use Rattle.std.proofs.Common.{◌≡◌, ◌+◌, arith, Some, sym, ap, ◌∙◌, count_ones}
+use Rattle.std.proofs.Common.{suc, ◌≡◌, ◌+◌, arith, Some, None, is_some, sym, ap, ◌∙◌, count_ones}
+use Rattle.std.proofs.lemmas.Bool.{both_ways}
 use Rattle.node_pool.specs.Pool.{cell, IsShrunk}
-use Rattle.tree_bitmap.specs.Tree.{rank}
+use Rattle.tree_bitmap.specs.Tree.{rank, node_at}
 use Rattle.tree_bitmap.proofs.Ranks.{rank_lt}
-use Rattle.tree_bitmap.proofs.Paths.{node_used}
-use Rattle.tree_bitmap.proofs.Calls.{child_used, shrunk_as}
-use Rattle.tree_bitmap.proofs.LessChild.{lost_rows, lost_sound}
+use Rattle.tree_bitmap.proofs.Paths.{node_used, step_no}
+use Rattle.tree_bitmap.proofs.Calls.{child_used, child_place_after, shrunk_as}
+use Rattle.tree_bitmap.proofs.Pruned.{use-none, use-below, use-cell}
+use Rattle.tree_bitmap.proofs.LessChild.{lost_rows, lost_sound, lost_above, lost_end}
 use Rattle.tree_bitmap.proofs.tree.Tree.drop_child.Given as given
 use Rattle.tree_bitmap.proofs.tree.Tree.drop_child.Goals as goal
 use Rattle.tree_bitmap.proofs.tree.Tree.drop_child.Goals.{After-set}
@@ -56,3 +58,49 @@ returns-clause-rows g c =
     c.in-Ok.index c.nibble-four.result c.without_bit-external.result c.shrink-base.result c.get-node.result c.get-child.result
     c.requires.sound c.get-node.ensures c.without_bit-external.ensures.clear c.without_bit-external.ensures.rest
     (lost g here) (omega (arith, c.if-child-ne0.false)) (omega (arith, c.if-child-ne0-2.false)) (shrunk g here) c.set.ensures.written
+
+-- where the path ends above the child
+pub returns-in_default-clause-used : goal.returns-in_default-clause-used
+returns-in_default-clause-used g c =
+    use-below (cell c.args.self.now.pool.nodes) c.args.path c.in_default.field-0 (c.args.depth + 1) c.in_default.ensures.none.1 (omega (arith, c.in_default.ensures.none.0))
+
+-- where the node has no child there
+pub returns-then-not-is_set-clause-used : goal.returns-then-not-is_set-clause-used
+returns-then-not-is_set-clause-used g c =
+    let next : suc c.args.depth ≡ c.args.depth + 1 = omega arith in
+    use-none (cell c.args.self.now.pool.nodes) c.args.path (c.args.depth + 1)
+    (rw (sym next) (step_no (cell c.args.self.now.pool.nodes) c.args.path c.args.depth c.in-Ok.index c.get-node.result c.in-Ok.ensures.place c.get-node.ensures
+    (λ h. both_ways c.is_set.result c.if-not-is_set.true (c.is_set.ensures.1 (rw c.nibble-four.ensures.value h)))))
+
+-- where the child has a row or a child
+pub returns-then-child-ne0-clause-used : goal.returns-then-child-ne0-clause-used
+returns-then-child-ne0-clause-used g c =
+    use-cell (cell c.args.self.now.pool.nodes) c.args.path (c.args.depth + 1) c.place.result c.get-child.result
+    (child_place_after (cell c.args.self.now.pool.nodes) c.args.path c.args.depth c.in-Ok.index c.get-node.result c.nibble-four.result c.rank-below.result c.in-Ok.ensures.place c.get-node.ensures
+    c.nibble-four.ensures.value c.rank-below.ensures.value (c.is_set.ensures.0 c.if-not-is_set.false) ∙ ap Some (sym c.place.ensures))
+    c.get-child.ensures
+    (λ empty. omega (arith, c.then-child-ne0.either, empty.0, empty.1))
+
+pub returns-clause-above : goal.returns-clause-above
+returns-clause-above g c = λ dropped.
+    let here = (goal.at.returns-clause-above g c).After-set in
+    ap is_some (lost_above (cell c.args.self.now.pool.nodes) (cell c.shrink-base.new.self) (cell c.set.new.self) (cell c.args.self.now.pool.results)
+    c.in-Ok.index c.nibble-four.result c.without_bit-external.result c.shrink-base.result c.get-node.result c.get-child.result
+    c.requires.sound c.get-node.ensures c.without_bit-external.ensures.clear c.without_bit-external.ensures.rest
+    (lost g here) (omega (arith, c.if-child-ne0.false)) (omega (arith, c.if-child-ne0-2.false)) (shrunk g here) c.set.ensures.written
+    c.args.path c.args.depth c.in-Ok.ensures.place)
+
+-- the path ends where the child was
+ended : (g : given.Over) (c : After-set g) → node_at (cell c.set.new.self) c.args.path (c.args.depth + 1) ≡ None
+ended g c =
+    lost_end (cell c.args.self.now.pool.nodes) (cell c.shrink-base.new.self) (cell c.set.new.self) (cell c.args.self.now.pool.results)
+    c.in-Ok.index c.nibble-four.result c.without_bit-external.result c.shrink-base.result c.get-node.result c.get-child.result
+    c.requires.sound c.get-node.ensures c.without_bit-external.ensures.clear c.without_bit-external.ensures.rest
+    (lost g c) (omega (arith, c.if-child-ne0.false)) (omega (arith, c.if-child-ne0-2.false)) (shrunk g c) c.set.ensures.written
+    c.args.path c.args.depth c.in-Ok.ensures.place c.nibble-four.ensures.value
+
+pub returns-clause-gone : goal.returns-clause-gone
+returns-clause-gone g c = λ dropped. ended g (goal.at.returns-clause-gone g c).After-set
+
+pub returns-clause-used : goal.returns-clause-used
+returns-clause-used g c = use-none (cell c.set.new.self) c.args.path (c.args.depth + 1) (ended g (goal.at.returns-clause-used g c).After-set)

@@ -66,3 +66,6 @@ returns-clause-found g c =
     let set = c.is_set.ensures.0 c.if-not-is_set.false in
     sym (ap is_some (row_is g (goal.at.returns-clause-found g c).After-is_set ∙ entry-set (cell c.args.self.now.pool.results) bit node set)
     ∙ c.requires.sound.results_used c.in-Ok.index node c.get-node.ensures (node.result_base + rank node.internal bit) (result_in_block node bit set))
+
+pub returns-clause-pruned : goal.returns-clause-pruned
+returns-clause-pruned g c = λ found. c.prune.ensures.pruned (ap is_some c.clear_at.ensures.at)
