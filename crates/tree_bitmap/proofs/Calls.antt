@@ -12,7 +12,8 @@ use Rattle.tree_bitmap.specs.declared.node.Node.{Node}
 use Rattle.network_model.specs.declared.route.Entry.{Entry}
 use Rattle.tree_bitmap.proofs.Ranks.{ones-add, add_lt, bit_at-add_same, rank-add_below}
 use Rattle.tree_bitmap.proofs.Paths.{child_in_block, Some_same, ones_of_zero, step_yes, result_in_block}
-use Rattle.tree_bitmap.proofs.NewChild.{gap_cell, row_same, sound_after, stays_on}
+use Rattle.tree_bitmap.proofs.NewChild.{gap_cell, new_child}
+use Rattle.tree_bitmap.proofs.MovedChildren.{MovesChildren, moved_sound, moved_rows, index_on}
 use Rattle.tree_bitmap.proofs.MovedResults.{SetsBit}
 use Rattle.tree_bitmap.proofs.NewResult.{row_hit, row_miss, replace_sets, replace_sound, insert_sets, insert_sound}
 
@@ -93,13 +94,17 @@ module _ (N M N' : ℕ → Option Node) (G : ℕ → Option Entry) (index path d
   written' : IsWritten M N' index (with_child a four base)
   written' = subst (λ e. IsWritten M N' index (record { internal = a.internal; external = e; child_base = base; result_base = a.result_base })) x written
 
+  -- the children have moved
+  moved : MovesChildren N N' index a (with_child a four base)
+  moved = new_child N M N' G index four base a sound here clear grown' written'
+
   -- the tree is sound with the new child
   pub made_sound : IsLaidOut N' G
-  made_sound = sound_after N M N' G index four base a sound here clear grown' written'
+  made_sound = moved_sound N N' G index (a.external + 2 ^ four) base a sound moved
 
   -- no row has changed
   pub made_rows : (q m : ℕ) → row_at N' G q m ≡ row_at N G q m
-  made_rows = row_same N M N' G index four base a sound here clear grown' written'
+  made_rows = moved_rows N N' G index (a.external + 2 ^ four) base a sound moved
 
   -- the new child is blank
   pub made_blank : N' (base + below) ≡ Some blank
@@ -109,7 +114,7 @@ module _ (N M N' : ℕ → Option Node) (G : ℕ → Option Entry) (index path d
   pub made_place : node_at N' path (depth + 1) ≡ Some (base + below)
   made_place =
       let has : bit_at (a.external + 2 ^ four) four ≡ 1 = bit_at-add_same a.external four clear in
-      child_place_after N' path depth index (with_child a four base) four below (stays_on N M N' G index four base a sound here clear grown' written' path depth at) written'.here f
+      child_place_after N' path depth index (with_child a four base) four below (index_on N N' G index (a.external + 2 ^ four) base a sound moved path depth at) written'.here f
       (b ∙ sym (rank-add_below a.external four four clear (omega arith))) has
 
 -- what a change of one bit of the node of a path makes of the rows

@@ -1,24 +1,24 @@
--- A node gets one child more, with nothing in it: all rows stay.
+-- A node gets one child more, with nothing in it.
 use Rattle.std.proofs.Common.{ℕ, ◌≡◌, inl, inr, ◌+◌, ◌^◌, Option, Some, None, count_ones, arith, refl, sym, ap, subst, ◌∙◌}
 use Rattle.std.specs.Int.{bit_at}
 use Rattle.std.proofs.lemmas.Bool.{cases_eq}
 use Rattle.node_pool.specs.Pool.{IsGrown, IsWritten}
 use Rattle.tree_bitmap.specs.Bits.{rank}
-use Rattle.tree_bitmap.specs.Tree.{blank, child, node_at, row_at, IsLaidOut, with_child}
+use Rattle.tree_bitmap.specs.Tree.{blank, child, IsLaidOut, with_child}
 use Rattle.tree_bitmap.specs.declared.node.Node.{Node}
 use Rattle.network_model.specs.declared.route.Entry.{Entry}
 use Rattle.tree_bitmap.proofs.Ranks.{rank_le, bit_at-add_other, rank-add_below}
 use Rattle.tree_bitmap.proofs.MovedBlock.{moved_by_growth}
-use Rattle.tree_bitmap.proofs.MovedChildren.{MovesChildren, moves_children, moved_sound, moved_rows, index_on}
+use Rattle.tree_bitmap.proofs.MovedChildren.{MovesChildren, moves_children}
 use Rattle.tree_bitmap.proofs.Paths.{none≢some}
 
 module _ (N M N' : ℕ → Option Node) (G : ℕ → Option Entry) (index four base : ℕ) (a : Node)
     (sound : IsLaidOut N G) (here : N index ≡ Some a) (clear : bit_at a.external four ≡ 0)
     (grown : IsGrown N M a.child_base (count_ones a.external) (rank a.external four) blank base)
     (written : IsWritten M N' index (with_child a four base)) where
-  -- a child has come, and none has gone
-  moves : MovesChildren N N' index a (with_child a four base)
-  moves =
+  -- it has come, and none has gone
+  pub new_child : MovesChildren N N' index a (with_child a four base)
+  new_child =
       moves_children N M N' G index (a.external + 2 ^ four) base a sound here (moved_by_growth N M a.child_base a.external four blank base clear grown) written
       (λ f h n. absurd (elim (cases_eq f four) [
         | inl e ↦ omega (arith, h, ap (bit_at a.external) e, clear)
@@ -32,18 +32,6 @@ module _ (N M N' : ℕ → Option Node) (G : ℕ → Option Entry) (index four b
         )
         | inr e ↦ absurd (n (sym (bit_at-add_other a.external four f clear e) ∙ h))
       ])
-
-  -- the tree is sound with the new child
-  pub sound_after : IsLaidOut N' G
-  sound_after = moved_sound N N' G index (a.external + 2 ^ four) base a sound moves
-
-  -- THE ROWS STAY
-  pub row_same : (path len : ℕ) → row_at N' G path len ≡ row_at N G path len
-  row_same = moved_rows N N' G index (a.external + 2 ^ four) base a sound moves
-
-  -- the node stays on its path
-  pub stays_on : (path depth : ℕ) → node_at N path depth ≡ Some index → node_at N' path depth ≡ Some index
-  stays_on = index_on N N' G index (a.external + 2 ^ four) base a sound moves
 
   -- the gap holds the new child
   pub gap_cell : N' (base + rank a.external four) ≡ Some blank

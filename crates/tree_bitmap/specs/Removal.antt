@@ -20,6 +20,6 @@ pub record HasAsManyCells {A : Type 0} (old new : Tree A) : Type 0 where
 abbrev pub HasUse : {A : Type 0} → Tree A → ℕ → ℕ → Type 0
 HasUse tree path depth = (node : Node) → node_cell (cell tree.pool.nodes) (node_place tree path depth) ≡ Some node → IsEmpty node → ⊥
 
--- so has each node of a path down to a depth, the root aside
+-- no node of a path down to a depth but the root is left without rows and children
 abbrev pub IsPruned : {A : Type 0} → Tree A → ℕ → ℕ → Type 0
 IsPruned tree path depth = (d : ℕ) → 0 < d → d ≤ depth → HasUse tree path d

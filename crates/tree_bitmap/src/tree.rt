@@ -253,7 +253,7 @@ impl<A: Allocator> Tree<A> {
         requires set { bit_at node.internal bit ≡ 1 }
         ensures sound { IsSoundTree self.new }
         ensures gone { SetsRow (rows self.old) (rows self.new) path (4 * depth + len) None }
-        ensures at { node_place self.new path depth ≡ Some index }
+        ensures stays { node_place self.new path depth ≡ Some index }
         ensures cells { HasAsManyCells self.old self.new }
     {
         let below = rank(node.internal, bit);

@@ -42,5 +42,5 @@ returns-clause-gone g c =
     c.args.index c.args.bit None a (with_results a c.without_bit-internal.result c.shrink-base.result) c.args.path c.args.depth c.args.len
     c.requires.sound c.requires.deep c.requires.short c.requires.fits c.requires.at c.requires.bit (sets g (goal.at.returns-clause-gone g c).After-set)
 
-pub returns-clause-at : goal.returns-clause-at
-returns-clause-at g c = (sets g (goal.at.returns-clause-at g c).After-set).walks c.args.path c.args.depth ∙ c.requires.at
+pub returns-clause-stays : goal.returns-clause-stays
+returns-clause-stays g c = (sets g (goal.at.returns-clause-stays g c).After-set).walks c.args.path c.args.depth ∙ c.requires.at

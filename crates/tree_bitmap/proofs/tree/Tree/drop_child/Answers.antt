@@ -1,12 +1,14 @@
 use Rattle.std.proofs.Common.{suc, ◌≡◌, ◌+◌, arith, Some, None, is_some, sym, ap, ◌∙◌, count_ones}
 use Rattle.std.proofs.lemmas.Bool.{both_ways}
+use Rattle.std.specs.Int.{bit_at}
 use Rattle.node_pool.specs.Pool.{cell, IsShrunk}
-use Rattle.tree_bitmap.specs.Tree.{rank, node_at}
+use Rattle.tree_bitmap.specs.Tree.{rank, node_at, with_children}
 use Rattle.tree_bitmap.proofs.Ranks.{rank_lt}
 use Rattle.tree_bitmap.proofs.Paths.{node_used, step_no}
 use Rattle.tree_bitmap.proofs.Calls.{child_used, child_place_after, shrunk_as}
 use Rattle.tree_bitmap.proofs.Pruned.{use-none, use-below, use-cell}
-use Rattle.tree_bitmap.proofs.LessChild.{lost_rows, lost_sound, lost_above, lost_end}
+use Rattle.tree_bitmap.proofs.MovedChildren.{MovesChildren, moved_sound, moved_rows, index_on, ends_at}
+use Rattle.tree_bitmap.proofs.LessChild.{lost_child}
 use Rattle.tree_bitmap.proofs.tree.Tree.drop_child.Given as given
 use Rattle.tree_bitmap.proofs.tree.Tree.drop_child.Goals as goal
 use Rattle.tree_bitmap.proofs.tree.Tree.drop_child.Goals.{After-set}
@@ -43,21 +45,24 @@ shrunk g c =
     shrunk_as (cell c.args.self.now.pool.nodes) (cell c.shrink-base.new.self) a.child_base c.count-size.result (count_ones a.external) c.rank-below.result (rank a.external c.nibble-four.result)
     c.shrink-base.result c.count-size.ensures.value c.rank-below.ensures.value c.shrink-base.ensures.cells
 
-pub returns-clause-sound : goal.returns-clause-sound
-returns-clause-sound g c =
-    let here = (goal.at.returns-clause-sound g c).After-set in
-    lost_sound (cell c.args.self.now.pool.nodes) (cell c.shrink-base.new.self) (cell c.set.new.self) (cell c.args.self.now.pool.results)
+-- the children have moved
+moved : (g : given.Over) (c : After-set g) → MovesChildren (cell c.args.self.now.pool.nodes) (cell c.set.new.self) c.in-Ok.index
+    c.get-node.result (with_children c.get-node.result c.without_bit-external.result c.shrink-base.result)
+moved g c =
+    lost_child (cell c.args.self.now.pool.nodes) (cell c.shrink-base.new.self) (cell c.set.new.self) (cell c.args.self.now.pool.results)
     c.in-Ok.index c.nibble-four.result c.without_bit-external.result c.shrink-base.result c.get-node.result c.get-child.result
     c.requires.sound c.get-node.ensures c.without_bit-external.ensures.clear c.without_bit-external.ensures.rest
-    (lost g here) (omega (arith, c.if-child-ne0.false)) (omega (arith, c.if-child-ne0-2.false)) (shrunk g here) c.set.ensures.written
+    (lost g c) (omega (arith, c.if-child-ne0.false)) (omega (arith, c.if-child-ne0-2.false)) (shrunk g c) c.set.ensures.written
+
+pub returns-clause-sound : goal.returns-clause-sound
+returns-clause-sound g c =
+    moved_sound (cell c.args.self.now.pool.nodes) (cell c.set.new.self) (cell c.args.self.now.pool.results) c.in-Ok.index c.without_bit-external.result c.shrink-base.result c.get-node.result
+    c.requires.sound (moved g (goal.at.returns-clause-sound g c).After-set)
 
 pub returns-clause-rows : goal.returns-clause-rows
 returns-clause-rows g c =
-    let here = (goal.at.returns-clause-rows g c).After-set in
-    lost_rows (cell c.args.self.now.pool.nodes) (cell c.shrink-base.new.self) (cell c.set.new.self) (cell c.args.self.now.pool.results)
-    c.in-Ok.index c.nibble-four.result c.without_bit-external.result c.shrink-base.result c.get-node.result c.get-child.result
-    c.requires.sound c.get-node.ensures c.without_bit-external.ensures.clear c.without_bit-external.ensures.rest
-    (lost g here) (omega (arith, c.if-child-ne0.false)) (omega (arith, c.if-child-ne0-2.false)) (shrunk g here) c.set.ensures.written
+    moved_rows (cell c.args.self.now.pool.nodes) (cell c.set.new.self) (cell c.args.self.now.pool.results) c.in-Ok.index c.without_bit-external.result c.shrink-base.result c.get-node.result
+    c.requires.sound (moved g (goal.at.returns-clause-rows g c).After-set)
 
 -- where the path ends above the child
 pub returns-in_default-clause-used : goal.returns-in_default-clause-used
@@ -82,22 +87,18 @@ returns-then-child-ne0-clause-used g c =
     (λ empty. omega (arith, c.then-child-ne0.either, empty.0, empty.1))
 
 pub returns-clause-above : goal.returns-clause-above
-returns-clause-above g c = λ dropped.
-    let here = (goal.at.returns-clause-above g c).After-set in
-    ap is_some (lost_above (cell c.args.self.now.pool.nodes) (cell c.shrink-base.new.self) (cell c.set.new.self) (cell c.args.self.now.pool.results)
-    c.in-Ok.index c.nibble-four.result c.without_bit-external.result c.shrink-base.result c.get-node.result c.get-child.result
-    c.requires.sound c.get-node.ensures c.without_bit-external.ensures.clear c.without_bit-external.ensures.rest
-    (lost g here) (omega (arith, c.if-child-ne0.false)) (omega (arith, c.if-child-ne0-2.false)) (shrunk g here) c.set.ensures.written
-    c.args.path c.args.depth c.in-Ok.ensures.place)
+returns-clause-above g c = λ dropped. ap is_some
+    (index_on (cell c.args.self.now.pool.nodes) (cell c.set.new.self) (cell c.args.self.now.pool.results) c.in-Ok.index c.without_bit-external.result c.shrink-base.result c.get-node.result
+    c.requires.sound (moved g (goal.at.returns-clause-above g c).After-set) c.args.path c.args.depth c.in-Ok.ensures.place)
 
 -- the path ends where the child was
 ended : (g : given.Over) (c : After-set g) → node_at (cell c.set.new.self) c.args.path (c.args.depth + 1) ≡ None
 ended g c =
-    lost_end (cell c.args.self.now.pool.nodes) (cell c.shrink-base.new.self) (cell c.set.new.self) (cell c.args.self.now.pool.results)
-    c.in-Ok.index c.nibble-four.result c.without_bit-external.result c.shrink-base.result c.get-node.result c.get-child.result
-    c.requires.sound c.get-node.ensures c.without_bit-external.ensures.clear c.without_bit-external.ensures.rest
-    (lost g c) (omega (arith, c.if-child-ne0.false)) (omega (arith, c.if-child-ne0-2.false)) (shrunk g c) c.set.ensures.written
-    c.args.path c.args.depth c.in-Ok.ensures.place c.nibble-four.ensures.value
+    let next : suc c.args.depth ≡ c.args.depth + 1 = omega arith in
+    rw (sym next)
+    (ends_at (cell c.args.self.now.pool.nodes) (cell c.set.new.self) (cell c.args.self.now.pool.results) c.in-Ok.index c.without_bit-external.result c.shrink-base.result c.get-node.result
+    c.requires.sound (moved g c) c.args.path c.args.depth c.in-Ok.ensures.place
+    (λ h. omega (arith, h, ap (bit_at c.without_bit-external.result) c.nibble-four.ensures.value, c.without_bit-external.ensures.clear)))
 
 pub returns-clause-gone : goal.returns-clause-gone
 returns-clause-gone g c = λ dropped. ended g (goal.at.returns-clause-gone g c).After-set

@@ -68,4 +68,4 @@ returns-clause-found g c =
     ∙ c.requires.sound.results_used c.in-Ok.index node c.get-node.ensures (node.result_base + rank node.internal bit) (result_in_block node bit set))
 
 pub returns-clause-pruned : goal.returns-clause-pruned
-returns-clause-pruned g c = λ found. c.prune.ensures.pruned (ap is_some c.clear_at.ensures.at)
+returns-clause-pruned g c = λ found. c.prune.ensures.pruned (ap is_some c.clear_at.ensures.stays)
