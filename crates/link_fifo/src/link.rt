@@ -183,6 +183,12 @@ impl<S: Allocator> Link<S> {
         self.side(to).inbox.front().copied()
     }
 
+    pub(crate) fn item(&self, to: End, place: usize) -> Option<Item>
+        ensures { result ≡ slice_get (world.side to self.now.link).inbox place }
+    {
+        self.side(to).inbox.get(place).copied()
+    }
+
     // Makes room for an item more towards each end.
     fn reserve(&mut self) -> Result<(), AllocError>
         ensures link { self.new.link ≡ self.old.link }

@@ -102,6 +102,15 @@ impl<S: Allocator> Links<S> {
         self.links[usize::from(link)].queued(to)
     }
 
+    /// The item that the end `to` takes after `place` others; none where fewer are queued.
+    pub fn item(&self, link: u16, to: End, place: usize) -> Option<Item>
+        requires known { link < length self.now.links }
+        ensures item { IfSome (slice_get self.now.links link)
+            (λ k. result ≡ slice_get (world.side to k).inbox place) }
+    {
+        self.links[usize::from(link)].item(to, place)
+    }
+
     /// The link comes up in its next session, and each end is told so with the cost from there. Refused
     /// with `UnknownLink`, `AlreadyUp`, `SessionsSpent` and `NoMemory`, in this order.
     pub fn up(&mut self, link: u16) -> Result<(), LinkRefusal>
