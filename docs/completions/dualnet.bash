@@ -15,6 +15,10 @@ _dualnet() {
         mapfile -t COMPREPLY < <(compgen -W "$numbers" -- "$word")
         return
         ;;
+    --format)
+        mapfile -t COMPREPLY < <(compgen -W "text json" -- "$word")
+        return
+        ;;
     --journal)
         compopt -o filenames
         mapfile -t COMPREPLY < <(compgen -f -- "$word")
@@ -22,8 +26,9 @@ _dualnet() {
         ;;
     esac
     case $command in
-    check | replay) options="--explain --help" ;;
-    run) options="--threads --workers --journal --explain --help" ;;
+    check) options="--explain --help" ;;
+    run) options="--threads --workers --journal --explain --format --progress --help" ;;
+    replay) options="--explain --format --progress --help" ;;
     shell) options="--journal --explain --help" ;;
     explain)
         numbers=$(seq 1 49)

@@ -7,7 +7,7 @@ use Rattle.words.specs.declared.words.Words.TheVariants.{Check, Run, Replay, Exp
 -- the scenario in which the fault is, where it is asked for
 abbrev pub explained_file : Words → Option (Bor (List ℕ))
 explained_file (Check file explain) = if explain then Some file else None
-explained_file (Run file threads workers journal explain) = if explain then Some file else None
-explained_file (Replay file journal explain) = if explain then Some file else None
+explained_file (Run file threads workers journal explain format progress) = if explain then Some file else None
+explained_file (Replay file journal explain format progress) = if explain then Some file else None
 explained_file (Explain kind) = None
 explained_file (Shell file journal explain) = if explain then Some file else None

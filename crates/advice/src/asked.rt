@@ -17,11 +17,15 @@ pub fn file_to_explain<'a>(words: &Words<'a>) -> Option<&'a str>
             workers: _,
             journal: _,
             explain,
+            format: _,
+            progress: _,
         } => (file, explain),
         Words::Replay {
             file,
             journal: _,
             explain,
+            format: _,
+            progress: _,
         } => (file, explain),
         Words::Explain { kind: _ } => return None,
         Words::Shell {

@@ -6,7 +6,7 @@ use play::Host;
 use std::alloc::{AllocError, Global};
 use std::io::Write;
 use trial::{Outcome, play_in_memory};
-use words::{Error, Words, exit_status, read_words};
+use words::{Error, Format, Words, exit_status, read_words};
 
 /// What is asked, of which texts, and what it should give.
 #[derive(Clone, Copy)]
@@ -116,6 +116,8 @@ fn replay_status<H: Host>(
             workers: _,
             journal: _,
             explain: _,
+            format: _,
+            progress: _,
         } => Some(file),
         Words::Shell {
             file,
@@ -130,6 +132,8 @@ fn replay_status<H: Host>(
                 file,
                 journal: "",
                 explain: false,
+                format: Format::Text,
+                progress: false,
             };
             play_in_memory(wait, alloc, &again, scenario, ran.kept.as_slice()).status
         }

@@ -7,18 +7,18 @@ use Rattle.words.specs.declared.words.Words.TheVariants.{Check, Run, Replay, Exp
 -- the scenario
 abbrev pub scenario_of : Words → Option (Bor (List ℕ))
 scenario_of (Check file explain) = Some file
-scenario_of (Run file threads workers journal explain) = Some file
-scenario_of (Replay file journal explain) = Some file
+scenario_of (Run file threads workers journal explain format progress) = Some file
+scenario_of (Replay file journal explain format progress) = Some file
 scenario_of (Explain kind) = None
 scenario_of (Shell file journal explain) = Some file
 
 -- the journal that is read: a replay's
 abbrev pub read_journal : Words → Option (Bor (List ℕ))
-read_journal (Replay file journal explain) = Some journal
+read_journal (Replay file journal explain format progress) = Some journal
 read_journal _ = None
 
 -- the journal that is written: that of a run or a shell, where it names one
 abbrev pub kept_journal : Words → Option (Bor (List ℕ))
-kept_journal (Run file threads workers journal explain) = journal
+kept_journal (Run file threads workers journal explain format progress) = journal
 kept_journal (Shell file journal explain) = journal
 kept_journal _ = None

@@ -8,11 +8,11 @@ use advice::{Faulty, advise, advise_journal, file_to_explain, is_check};
 use journal::JournalFault;
 use network_model::NoMemory;
 use play::{Cause, Fault, Host, Source, play, refuse};
+use program_files::{Input, given_words, is_one_file, open_file, tell};
 use std::io::{BufWriter, IsTerminal, LineWriter, Read, Write};
-use std::os::unix::fs::MetadataExt;
 use std::process::ExitCode;
-use std::{env, fs, io};
-use words::{Error, ErrorKind, Words, exit_status, not_utf8, read_words};
+use std::{fs, io};
+use words::{Words, not_utf8, read_words};
 
 fn main(rt: HostRuntime) -> ExitCode {
     let status = match status(&rt, &rt) {
@@ -25,14 +25,13 @@ fn main(rt: HostRuntime) -> ExitCode {
 // Does what the command line asks for.
 fn status<H: Host>(rt: &HostRuntime, wait: &H) -> io::Result<u8> {
     let alloc = rt.alloc();
-    let args = match env::args(rt) {
-        Ok(args) => args,
+    let given = match given_words(rt, alloc) {
+        Ok(given) => given,
         Err(error) if error.kind() == io::ErrorKind::InvalidData => {
             return Ok(tell(rt, &not_utf8(alloc)?));
         }
         Err(error) => return Err(error),
     };
-    let given: Vec<String> = args.collect(alloc)?;
     let words: Vec<&str> = given.iter().map(|word| word.as_str()).collect(alloc)?;
     match read_words(alloc, words.as_slice()) {
         Ok(words) => print_by(rt, wait, &words),
@@ -49,18 +48,6 @@ fn print_by<H: Host>(rt: &HostRuntime, wait: &H, words: &Words<'_>) -> io::Resul
     } else {
         let mut blocks = BufWriter::new(rt.alloc(), out)?;
         Ok(run_words(rt, wait, words, &mut blocks))
-    }
-}
-
-// Tells of an error of the command line, or gives the help that was asked for, and answers the exit
-// status.
-fn tell(rt: &HostRuntime, error: &Error) -> u8 {
-    match error.kind() {
-        ErrorKind::OutOfMemory => refuse(Fault::from(NoMemory), &mut rt.stderr()),
-        _ => {
-            let _ = error.print(rt);
-            exit_status(error)
-        }
     }
 }
 
@@ -149,11 +136,15 @@ fn scenario_path<'a>(words: &Words<'a>) -> Option<&'a str>
             workers: _,
             journal: _,
             explain: _,
+            format: _,
+            progress: _,
         } => Some(file),
         Words::Replay {
             file,
             journal: _,
             explain: _,
+            format: _,
+            progress: _,
         } => Some(file),
         Words::Explain { kind: _ } => None,
         Words::Shell {
@@ -173,6 +164,8 @@ fn replayed_path<'a>(words: &Words<'a>) -> Option<&'a str>
             file: _,
             journal,
             explain: _,
+            format: _,
+            progress: _,
         } => Some(journal),
         _ => None,
     }
@@ -189,6 +182,8 @@ fn kept_path<'a>(words: &Words<'a>) -> Option<&'a str>
             workers: _,
             journal,
             explain: _,
+            format: _,
+            progress: _,
         } => journal,
         Words::Shell {
             file: _,
@@ -203,17 +198,6 @@ fn kept_path<'a>(words: &Words<'a>) -> Option<&'a str>
 fn is_overwritten(rt: &HostRuntime, words: &Words<'_>) -> bool {
     match (scenario_path(words), kept_path(words)) {
         (Some(scenario), Some(journal)) => is_one_file(rt, scenario, journal),
-        _ => false,
-    }
-}
-
-// Whether two paths lead to one file, by whatever spelling or link.
-fn is_one_file(rt: &HostRuntime, one: &str, other: &str) -> bool {
-    if one == other {
-        return true;
-    }
-    match (fs::metadata(rt, one), fs::metadata(rt, other)) {
-        (Ok(one), Ok(other)) => one.dev() == other.dev() && one.ino() == other.ino(),
         _ => false,
     }
 }
@@ -238,32 +222,5 @@ impl Read for Kept {
         let count = self.file.read(buf)?;
         self.bytes.extend_from_slice(&buf[..count.min(buf.len())])?;
         Ok(count)
-    }
-}
-
-// A file, or the standard input.
-#[derive(Drop)]
-enum Input {
-    File(fs::File),
-    Standard(io::Stdin),
-}
-
-impl Read for Input {
-    fn read(&mut self, buf: &mut [u8]) -> io::Result<usize> {
-        match self {
-            Input::File(file) => file.read(buf),
-            Input::Standard(input) => input.read(buf),
-        }
-    }
-}
-
-// Opens a file; a hyphen is the standard input.
-fn open_file(rt: &HostRuntime, path: &str) -> Source<Input> {
-    if path == "-" {
-        return Source::Open(Input::Standard(rt.stdin()));
-    }
-    match fs::open(rt, path) {
-        Ok(file) => Source::Open(Input::File(file)),
-        Err(_) => Source::Missing,
     }
 }

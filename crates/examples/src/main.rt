@@ -11,7 +11,7 @@ use std::fs;
 use std::io::{self, Write};
 use std::process::ExitCode;
 use trial::{Outcome, play_in_memory, run_in_memory};
-use words::Words;
+use words::{Format, Words};
 
 // The scenarios, without the ends of their names.
 const EXAMPLES: [&str; 9] = [
@@ -76,6 +76,8 @@ fn try_scenario<H: Host>(rt: &HostRuntime, wait: &H, name: &str) -> io::Result<V
         workers: 1,
         journal: None,
         explain: false,
+        format: Format::Text,
+        progress: false,
     };
     let file = fs::open(rt, scenario.as_str())?;
     let ran = run_in_memory(wait, alloc, &run, file);
@@ -83,6 +85,8 @@ fn try_scenario<H: Host>(rt: &HostRuntime, wait: &H, name: &str) -> io::Result<V
         file: scenario.as_str(),
         journal: "",
         explain: false,
+        format: Format::Text,
+        progress: false,
     };
     let file = fs::open(rt, scenario.as_str())?;
     let replayed = play_in_memory(wait, alloc, &replay, file, ran.kept.as_slice());

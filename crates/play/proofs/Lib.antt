@@ -4,5 +4,6 @@ mod Doing
 mod Dispatching
 mod Stops
 mod Running
+mod Slices
 mod Trying
 pub mod Sessions

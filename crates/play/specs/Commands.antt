@@ -10,7 +10,8 @@ use Rattle.world.specs.Steps.{CanBeRefused}
 use Rattle.fabric.specs.Fabric.{Fabric, after_step, fabric_refusal}
 use Rattle.fabric.specs.Images.{answer_at}
 use Rattle.texts.specs.Words.{Text}
-use Rattle.script.specs.Directories.{Directory, row_text}
+use Rattle.words.specs.declared.format.Format.{Format}
+use Rattle.script.specs.Directories.{Directory}
 use Rattle.script.specs.declared.command.Command.{Command}
 use Rattle.script.specs.declared.command.Command.TheVariants.{Step, Try, Settle, State, Table, Lookup, Inject, Trace, Drain, Report}
 use Rattle.script.specs.declared.place.Key.TheVariants.{Script}
@@ -19,6 +20,7 @@ use Rattle.play.specs.declared.fault.Fault.{Fault}
 use Rattle.play.specs.Faults.{at_line, OfRefusal, OfWorkers}
 use Rattle.texts.specs.Lines.{lines_text}
 use Rattle.play.specs.Dispatching.{CannotInject}
+use Rattle.play.specs.Formats.{row_line}
 use Rattle.play.specs.Settling.{Settles, StopsSettling}
 
 -- ---- commands
@@ -84,5 +86,5 @@ pub record StopsAtCommand (commands : List Command) (f g : Fabric) (fault : Faul
 -- ---- texts
 
 -- rows of a router, a line each
-abbrev pub rows_text : Directory → ℕ → List (Prefix × Entry) → Text
-rows_text d router = lines_text (λ row. row_text d router row.0 row.1)
+abbrev pub rows_text : Format → Directory → ℕ → List (Prefix × Entry) → Text
+rows_text format d router = lines_text (row_line format d router)

@@ -9,7 +9,9 @@ use Rattle.publication.specs.declared.job.Job.{Job}
 use Rattle.publication.specs.Lists.{image_of}
 use Rattle.forwarder.specs.Replies.{Replied}
 use Rattle.texts.specs.Words.{Text}
-use Rattle.script.specs.Directories.{Directory, packet_text}
+use Rattle.words.specs.declared.format.Format.{Format}
+use Rattle.script.specs.Directories.{Directory}
+use Rattle.play.specs.Formats.{packet_line}
 use Rattle.worker_pool.specs.Faults.{IsBeginFault, IsInjectFault}
 use Rattle.play.specs.declared.fault.Cause.{Cause}
 use Rattle.play.specs.Faults.{OfRefusal, OfWorkers}
@@ -36,9 +38,9 @@ abbrev pub CannotInject : Option Refusal → Cause → Type 0
 CannotInject refusal cause = OfRefusal (CanBeRefused refusal) cause ⊎ OfWorkers (λ e. IsBeginFault e ⊎ IsInjectFault e) cause
 
 -- what a worker answered
-abbrev pub reply_text : {X : Type 0} → Directory → Replied X → Text
-reply_text d r = packet_text d (r.job).number ((r.job).told).router (r.job).addr (r.answer).matched
+abbrev pub reply_text : {X : Type 0} → Format → Directory → Replied X → Text
+reply_text format d r = packet_line format d (r.job).number ((r.job).told).router (r.job).addr (r.answer).matched
 
 -- what workers answered, a line for each reply
-abbrev pub packets_text : {X : Type 0} → Directory → List (Replied X) → Text
-packets_text d = lines_text (reply_text d)
+abbrev pub packets_text : {X : Type 0} → Format → Directory → List (Replied X) → Text
+packets_text format d = lines_text (reply_text format d)

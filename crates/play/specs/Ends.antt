@@ -20,7 +20,7 @@ use Rattle.play.specs.declared.fault.Cause.TheVariants.{Journal as OfJournal}
 use Rattle.play.specs.declared.program.End.{End}
 use Rattle.play.specs.declared.program.End.TheVariants.{Done, Refused, Differs}
 use Rattle.play.specs.Faults.{unplaced, most_bytes, Gives, CannotRead, IsWithoutReaders}
-use Rattle.play.specs.Scenarios.{IsScenario, IsEndOf, StopsReading, StopsFor, network_read}
+use Rattle.play.specs.Scenarios.{IsScenario, IsEndOf, StopsReading, network_read}
 
 -- the exit status
 abbrev pub status_at : End → ℕ

@@ -1,4 +1,5 @@
 pub mod Faults
+pub mod Formats
 pub mod Settling
 pub mod Shell
 pub mod Dispatching

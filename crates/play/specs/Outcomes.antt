@@ -13,15 +13,15 @@ use Rattle.play.specs.Shell.{IsShellEnd, StopsShell}
 -- how a command ends that has met no fault
 abbrev pub Ends : Words → Option Text → Option Text → Text → Text → End → Type 0
 Ends (Check _ _) scenario journal old new end = (end ≡ Done) × (new ≡ old) × OfBytes scenario IsChecked
-Ends (Run _ _ _ _ _) scenario journal old new end = (end ≡ Done) × OfBytes scenario (λ bytes. IsRunToEnd bytes old new)
-Ends (Replay _ _ _) scenario journal old new end = (new ≡ old) × OfBytes scenario (λ bytes. OfBytes journal (λ lines. Replays bytes lines end))
+Ends (Run _ _ _ _ _ _ _) scenario journal old new end = (end ≡ Done) × OfBytes scenario (λ bytes. IsRunToEnd bytes old new)
+Ends (Replay _ _ _ _ _) scenario journal old new end = (new ≡ old) × OfBytes scenario (λ bytes. OfBytes journal (λ lines. Replays bytes lines end))
 Ends (Explain _) scenario journal old new end = (end ≡ Done) × (new ≡ old)
 Ends (Shell _ _ _) scenario journal old new end = (end ≡ Done) × OfBytes scenario (λ bytes. IsShellEnd bytes old new)
 
 -- why a command stops
 abbrev pub Stops : Words → Option Text → Option Text → Fault → Type 0
 Stops (Check _ _) scenario journal fault = OfBytes scenario (λ bytes. StopsReading bytes fault)
-Stops (Run _ _ _ _ _) scenario journal fault = OfBytes scenario (λ bytes. StopsFor bytes fault)
-Stops (Replay _ _ _) scenario journal fault = OfBytes scenario (λ bytes. StopsReplay bytes journal fault)
+Stops (Run _ _ _ _ _ _ _) scenario journal fault = OfBytes scenario (λ bytes. StopsFor bytes fault)
+Stops (Replay _ _ _ _ _) scenario journal fault = OfBytes scenario (λ bytes. StopsReplay bytes journal fault)
 Stops (Explain _) scenario journal fault = ⊥
 Stops (Shell _ _ _) scenario journal fault = OfBytes scenario (λ bytes. StopsShell bytes fault)

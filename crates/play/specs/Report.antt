@@ -9,7 +9,8 @@ use Rattle.network_model.specs.World.{Link, Router}
 use Rattle.dual_machine.specs.State.{MachineState}
 use Rattle.texts.specs.Words.{Text}
 use Rattle.script.specs.Directories.{Directory}
-use Rattle.script.specs.Lines.{machine_text, unheard_text}
+use Rattle.words.specs.declared.format.Format.{Format}
+use Rattle.play.specs.Formats.{machine_line, unheard_line}
 use Rattle.script.specs.declared.lines.LinkLine.{LinkLine}
 use Rattle.script.specs.declared.lines.RouterLine.{RouterLine}
 use Rattle.script.specs.declared.lines.MachineLine.{MachineLine}
@@ -60,14 +61,14 @@ IsMachineLine number r p (Some line) = TellsOfMachine number r p line
 
 -- ---- texts
 
--- what is told of a router's machine for a prefix, or that the router has not heard of the prefix
-abbrev pub state_text : Directory → ℕ → Prefix → Option MachineLine → Text
-state_text d number p None = unheard_text d number p
-state_text d number p (Some line) = machine_text d line
+-- what is told of a router's machine for a prefix, or that the router has not heard of the prefix, in a format
+abbrev pub state_text : Format → Directory → ℕ → Prefix → Option MachineLine → Text
+state_text format d number p None = unheard_line format d number p
+state_text format d number p (Some line) = machine_line format d line
 
 -- a line on a router's machine for a prefix was printed
-abbrev pub PrintsMachine : Directory → ℕ → Router → Prefix → Option Text → Option Text → Type 0
-PrintsMachine d number r p old new = (line : Option MachineLine) × IsMachineLine number r p line × Appends old new (state_text d number p line ++ 10 ∷ [])
+abbrev pub PrintsMachine : Format → Directory → ℕ → Router → Prefix → Option Text → Option Text → Type 0
+PrintsMachine format d number r p old new = (line : Option MachineLine) × IsMachineLine number r p line × Appends old new (state_text format d number p line ++ 10 ∷ [])
 
 -- something was printed, and what was there before stays
 abbrev pub Prints : Option Text → Option Text → Type 0

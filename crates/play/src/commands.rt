@@ -7,9 +7,9 @@ ghost use Rattle.script.specs.declared.command.Command.TheVariants as Command;
 ghost use Rattle.play.specs.Commands.{IsDone, IsRefused, IsStepDone, IsStepRefused, rows_text, unknown_router};
 
 use crate::fault::Cause;
+use crate::printer::Printer;
 use fabric::{Fabric, FabricName, Refusal, Step};
 use route_table::RouteTable;
-use script::Directory;
 use std::alloc::Global;
 use std::io;
 use std::io::Write;
@@ -20,21 +20,26 @@ use tracer::trace;
 pub fn try_step<B: FabricName, H: Wait, W: Write>(
     rt: &H,
     fabric: &mut Fabric<B>,
+    printer: &Printer<'_>,
     step: Step,
     out: &mut W,
 )
     ensures { IsStepDone step fabric.old fabric.new ⊎ IsStepRefused step fabric.old fabric.new }
 {
     let _ = match fabric.step(rt, step) {
-        Ok(()) => writeln!(out, "done"),
-        Err(refusal) => writeln!(out, "refused {refusal}"),
+        Ok(()) => printer.print("done", "{\"kind\":\"try\",\"refused\":null}", out),
+        Err(refusal) => printer.print(
+            format_args!("refused {refusal}"),
+            format_args!("{{\"kind\":\"try\",\"refused\":\"{refusal}\"}}"),
+            out,
+        ),
     };
 }
 
 /// Asks a router's image in force, and prints what it answers. What it prints may be lost.
 pub fn look_up<B: FabricName, W: Write>(
     fabric: &mut Fabric<B>,
-    directory: &Directory,
+    printer: &Printer<'_>,
     router: u16,
     addr: u32,
     out: &mut W,
@@ -44,7 +49,7 @@ pub fn look_up<B: FabricName, W: Write>(
 {
     match fabric.lookup(router, addr) {
         Ok(answer) => {
-            let _ = writeln!(out, "{}", directory.lookup(router, addr, answer.matched));
+            let _ = printer.lookup(router, addr, answer.matched, out);
             Ok(())
         }
         Err(refusal) => Err(Cause::Refused(refusal)),
@@ -55,7 +60,7 @@ pub fn look_up<B: FabricName, W: Write>(
 pub fn show_trace<B: FabricName, W: Write>(
     alloc: Global,
     fabric: &mut Fabric<B>,
-    directory: &Directory,
+    printer: &Printer<'_>,
     router: u16,
     addr: u32,
     out: &mut W,
@@ -65,7 +70,12 @@ pub fn show_trace<B: FabricName, W: Write>(
 {
     match trace(fabric, alloc, router, addr) {
         Ok(traced) => {
-            let _ = writeln!(out, "{}", directory.trace(router, addr, &traced));
+            let names = printer.directory;
+            let _ = printer.print(
+                names.trace(router, addr, &traced),
+                json_lines::trace(names, router, addr, &traced),
+                out,
+            );
             Ok(())
         }
         Err(fault) => Err(Cause::Refused(Refusal::from(fault))),
@@ -75,29 +85,31 @@ pub fn show_trace<B: FabricName, W: Write>(
 /// Prints a router's published rows. What it prints may be lost.
 pub fn show_table<B: FabricName, W: Write>(
     fabric: &Fabric<B>,
-    directory: &Directory,
+    printer: &Printer<'_>,
     router: u16,
     out: &mut W,
 ) -> Result<(), Refusal>
     ensures { IfErr result (λ e. CanBeRefused (unknown_router fabric.now router) e) }
 {
     let table = fabric.table(router)?;
-    let _ = print_table(directory, router, table, out);
+    let _ = print_table(printer, router, table, out);
     Ok(())
 }
 
 // Prints the rows that a router published, a line each, up to the first write that fails.
 fn print_table<W: Write>(
-    directory: &Directory,
+    printer: &Printer<'_>,
     router: u16,
     table: &RouteTable,
     out: &mut W,
 ) -> io::Result<()>
     ensures { OnOk result (Appends (W.contents out.old) (W.contents out.new)
-        (rows_text directory.now router (table.now).table.published)) }
+        (rows_text printer.now.format printer.now.directory.now router (table.now).table.published)) }
 {
     for (prefix, entry) in table.published_rows() {
-        writeln!(out, "{}", directory.row(router, prefix, entry))?;
+        let names = printer.directory;
+        let json = json_lines::row(names, router, prefix, entry);
+        printer.print(names.row(router, prefix, entry), json, out)?;
     }
     Ok(())
 }

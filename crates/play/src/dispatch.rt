@@ -14,10 +14,10 @@ ghost use Rattle.play.specs.Commands.{unknown_router};
 
 use crate::fault::Cause;
 use crate::host::Host;
+use crate::printer::Printer;
 use fabric::{Fabric, FabricName};
 use network_model::NoMemory;
 use publication::ImageReader;
-use script::Directory;
 use std::alloc::Global;
 use std::io::Write;
 use std::marker::Model;
@@ -171,18 +171,18 @@ pub fn ports_of<B: FabricName>(
 
 /// Prints what workers answered, a line for each reply, up to the first write that fails.
 pub fn print_replies<B: FabricName, W: Write>(
-    directory: &Directory,
+    printer: &Printer<'_>,
     replies: &[Reply<B>],
     out: &mut W,
 ) -> io::Result<()>
     ensures { OnOk result (Appends (W.contents out.old) (W.contents out.new)
-        (packets_text directory.now replies.now)) }
+        (packets_text printer.now.format printer.now.directory.now replies.now)) }
 {
     for reply in replies {
         let job = reply.job();
         let found = reply.answer().matched;
-        let line = directory.packet(job.number, job.router(), job.addr, found);
-        writeln!(out, "{line}")?;
+        let (number, router, addr) = (job.number, job.router(), job.addr);
+        printer.packet(number, router, addr, found, out)?;
     }
     Ok(())
 }

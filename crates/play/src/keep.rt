@@ -3,11 +3,13 @@
 ghost use Rattle.std.specs.Prelude.{OnOk};
 ghost use Rattle.play.specs.Ends.{KeepsJournal};
 
+use crate::printer::Printer;
 use crate::report::print_report;
 use fabric::{Fabric, FabricName};
 use journal::write_steps;
 use network_model::NoMemory;
 use script::Directory;
+use words::Format;
 
 /// Adds the text of the journal to `kept`: the steps done, and the report of what they made.
 pub fn keep<B: FabricName>(
@@ -18,8 +20,12 @@ pub fn keep<B: FabricName>(
     ensures { OnOk result (KeepsJournal directory.now fabric.now kept.old.items kept.new.items) }
 {
     let links = fabric.network().links();
+    let printer = Printer {
+        directory,
+        format: Format::Text,
+    };
     if write_steps(directory, links, fabric.journal(), kept).is_err()
-        || print_report(fabric, directory, kept).is_err()
+        || print_report(fabric, &printer, kept).is_err()
     {
         return Err(NoMemory);
     }

@@ -1,5 +1,7 @@
 //! How the commands of a script are done.
 
+use words::Format;
+
 /// How the commands of a script are done.
 #[derive(Clone, Copy, Debug, PartialEq, Eq)]
 pub struct Options {
@@ -9,4 +11,8 @@ pub struct Options {
     pub workers: u8,
     /// Whether more is told of a machine's state, and of a command that a shell cannot do.
     pub explain: bool,
+    /// How what is printed is written.
+    pub format: Format,
+    /// Whether it is told how far the run is.
+    pub progress: bool,
 }

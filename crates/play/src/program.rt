@@ -12,6 +12,7 @@ use crate::fault::{Cause, Fault};
 use crate::host::Host;
 use crate::options::Options;
 use crate::plan::{Plan, read_plan};
+use crate::progress::{end_line, tell_commands};
 use crate::read::read_text;
 use crate::replay::replay;
 use crate::session::Session;
@@ -119,19 +120,25 @@ where
             workers,
             journal: _,
             explain,
+            format,
+            progress,
         } => {
             let options = Options {
                 threads,
                 workers,
                 explain,
+                format,
+                progress,
             };
-            run(rt, alloc, scenario, options, out, kept)
+            run(rt, alloc, scenario, options, out, err, kept)
         }
         Words::Replay {
             file: _,
             journal: _,
             explain: _,
-        } => replay(rt, alloc, scenario, journal, out),
+            format,
+            progress,
+        } => replay(rt, alloc, scenario, journal, format, progress, out, err),
         Words::Explain { kind } => {
             let _ = write!(out, "{}", kind.page());
             Ok(End::Done)
@@ -170,18 +177,20 @@ fn check<R: Read + Drop, W: Write>(alloc: Global, scenario: R, out: &mut W) -> R
 
 // Opens the network of a scenario, does its commands, says how many steps were done, and keeps their
 // journal.
-fn run<H, R, W>(
+fn run<H, R, W, E>(
     rt: &H,
     alloc: Global,
     scenario: R,
     options: Options,
     out: &mut W,
+    err: &mut E,
     kept: &mut Vec<u8>,
 ) -> Result<End, Fault>
 where
     H: Host,
     R: Read + Drop,
     W: Write,
+    E: Write,
     ensures ok { IfOk result (λ end. (end ≡ End.Done)
         × OfBytes (R.remaining scenario)
         (λ bytes. IsRunToEnd bytes kept.old.items kept.new.items)) }
@@ -190,24 +199,26 @@ where
     let text = read_text(alloc, scenario)?;
     let plan = read_plan(alloc, text.as_str())?;
     let unnamed = Unnamed::many(alloc, usize::from(plan.network.routers()))?;
-    run_plan::<Brand, H, W>(rt, alloc, plan, unnamed, options, out, kept)?;
+    run_plan::<Brand, H, W, E>(rt, alloc, plan, unnamed, options, out, err, kept)?;
     Ok(End::Done)
 }
 
 // Opens the network of a plan under a name, does its commands, and keeps their journal.
-fn run_plan<B, H, W>(
+fn run_plan<B, H, W, E>(
     rt: &H,
     alloc: Global,
     plan: Plan,
     unnamed: Vec<Unnamed>,
     options: Options,
     out: &mut W,
+    err: &mut E,
     kept: &mut Vec<u8>,
 ) -> Result<(), Fault>
 where
     B: FabricName + Send + Sync + 'static,
     H: Host,
     W: Write,
+    E: Write,
     requires books { unnamed.items ≡ B.books }
     requires each { vec_len unnamed ≡ plan.network.routers }
     requires openings { opening_tables plan.network ≡ B.openings }
@@ -222,7 +233,7 @@ where
     let workers = options.workers.max(1).min(16);
     let (mut fabric, readers) = Fabric::<B>::open(rt, alloc, network, unnamed, workers)?;
     let ended = match Session::new(rt, alloc, &directory, readers, options) {
-        Ok(session) => run_commands(session, &mut fabric, &commands, out, kept),
+        Ok(session) => run_commands(session, &mut fabric, &commands, out, err, kept),
         Err(memory) => Err(Fault::from(memory)),
     };
     fabric.close(rt);
@@ -230,17 +241,19 @@ where
 }
 
 // Does the commands, and keeps the journal of their steps.
-fn run_commands<B, H, W>(
+fn run_commands<B, H, W, E>(
     session: Session<'_, B, H>,
     fabric: &mut Fabric<B>,
     commands: &[Command],
     out: &mut W,
+    err: &mut E,
     kept: &mut Vec<u8>,
 ) -> Result<(), Fault>
 where
     B: FabricName + Send + Sync + 'static,
     H: Host,
     W: Write,
+    E: Write,
     ensures ok { OnOk result (AreDone commands.now fabric.old fabric.new) }
     ensures keeps { OnOk result (KeepsJournal (session.entry.directory).now fabric.new
         kept.old.items kept.new.items) }
@@ -248,7 +261,10 @@ where
         ⊎ IsUnanswered e ⊎ IsWantOfMemory e) }
 {
     let mut session = session;
-    let done = session.do_commands(fabric, commands, out);
+    let progress = session.options.progress;
+    tell_commands(progress, 0, commands.len(), 0, err);
+    let done = session.do_commands(fabric, commands, out, err);
+    end_line(progress, err);
     session.finish(fabric, done, out, kept)
 }
 

@@ -4,6 +4,7 @@ ghost use Rattle.std.specs.Prelude.{◌≡◌, ◌<◌, Err, IsOk, IfSome, OnOk,
 ghost use Rattle.play.specs.Commands.{unknown_router};
 ghost use Rattle.play.specs.Report.{link_line as line_of_link, router_line as line_of_router, IsMachineLine, IsOriginNumber, Prints, PrintsMachine};
 
+use crate::printer::Printer;
 use crate::reasons::print_reasons;
 use dual_machine::{Machine, Mode};
 use fabric::{Fabric, FabricName, Refusal};
@@ -11,7 +12,7 @@ use ipv4_prefix::Prefix;
 use link_fifo::Links;
 use network_model::End;
 use router_core::Router;
-use script::{Directory, LinkLine, MachineLine, RouterLine};
+use script::{LinkLine, MachineLine, RouterLine};
 use std::io;
 use std::io::Write;
 use world::World;
@@ -20,7 +21,7 @@ use world::World;
 /// Refused with `UnknownRouter`. A write that fails is lost.
 pub fn print_state<B: FabricName, W: Write>(
     fabric: &Fabric<B>,
-    directory: &Directory,
+    printer: &Printer<'_>,
     router: u16,
     prefix: Prefix,
     explain: bool,
@@ -34,9 +35,9 @@ pub fn print_state<B: FabricName, W: Write>(
     let found = routers
         .get(usize::from(router))
         .ok_or(Refusal::UnknownRouter)?;
-    let _ = print_machine(directory, router, found, prefix, out);
+    let _ = print_machine(printer, router, found, prefix, out);
     if explain {
-        let _ = print_reasons(directory, router, found, prefix, out);
+        let _ = print_reasons(printer, router, found, prefix, out);
     }
     Ok(())
 }
@@ -45,42 +46,42 @@ pub fn print_state<B: FabricName, W: Write>(
 /// to the first write that fails.
 pub fn print_report<B: FabricName, W: Write>(
     fabric: &Fabric<B>,
-    directory: &Directory,
+    printer: &Printer<'_>,
     out: &mut W,
 ) -> io::Result<()>
     ensures { OnOk result (Prints (W.contents out.old) (W.contents out.new)) }
 {
     let world = fabric.world();
-    print_links(directory, world.links(), out)?;
-    print_routers(directory, world, out)
+    print_links(printer, world.links(), out)?;
+    print_routers(printer, world, out)
 }
 
 // Prints each link. A network has fewer than 65535.
-fn print_links<W: Write>(directory: &Directory, links: &Links, out: &mut W) -> io::Result<()>
+fn print_links<W: Write>(printer: &Printer<'_>, links: &Links, out: &mut W) -> io::Result<()>
     ensures { OnOk result (Prints (W.contents out.old) (W.contents out.new)) }
 {
     let count = u16::try_from(links.len()).unwrap_or(u16::MAX);
     for link in 0..count {
-        writeln!(out, "{}", directory.link(link_line(links, link)))?;
+        printer.link(link_line(links, link), out)?;
     }
     Ok(())
 }
 
 // Prints each router, with its machines. A network has fewer than 65535 routers.
-fn print_routers<W: Write>(directory: &Directory, world: &World, out: &mut W) -> io::Result<()>
+fn print_routers<W: Write>(printer: &Printer<'_>, world: &World, out: &mut W) -> io::Result<()>
     ensures { OnOk result (Prints (W.contents out.old) (W.contents out.new)) }
 {
     let count = u16::try_from(world.routers().len()).unwrap_or(u16::MAX);
     for number in 0..count {
         let notices = world.notices(number);
-        print_router(directory, number, world.router(number), notices, out)?;
+        print_router(printer, number, world.router(number), notices, out)?;
     }
     Ok(())
 }
 
 // Prints a router, and its machine for each prefix that it has heard of.
 fn print_router<W: Write>(
-    directory: &Directory,
+    printer: &Printer<'_>,
     number: u16,
     router: &Router,
     notices: usize,
@@ -88,31 +89,33 @@ fn print_router<W: Write>(
 ) -> io::Result<()>
     ensures { OnOk result (Prints (W.contents out.old) (W.contents out.new)) }
 {
-    writeln!(
-        out,
-        "{}",
-        directory.router(router_line(number, router, notices))
-    )?;
+    let line = router_line(number, router, notices);
+    let names = printer.directory;
+    printer.print(names.router(line), json_lines::router(names, line), out)?;
     for (prefix, _) in router.table().rows() {
-        print_machine(directory, number, router, prefix, out)?;
+        print_machine(printer, number, router, prefix, out)?;
     }
     Ok(())
 }
 
 // Prints what a router's machine for a prefix is at.
 fn print_machine<W: Write>(
-    directory: &Directory,
+    printer: &Printer<'_>,
     number: u16,
     router: &Router,
     prefix: Prefix,
     out: &mut W,
 ) -> io::Result<()>
-    ensures { OnOk result (PrintsMachine directory.now number router.now prefix (W.contents out.old)
-        (W.contents out.new)) }
+    ensures { OnOk result (PrintsMachine printer.now.format printer.now.directory.now number router.now prefix
+        (W.contents out.old) (W.contents out.new)) }
 {
     match machine_line(number, router, prefix) {
-        Some(line) => writeln!(out, "{}", directory.machine(line)),
-        None => writeln!(out, "{}", directory.unheard(number, prefix)),
+        Some(line) => printer.machine(line, out),
+        None => {
+            let names = printer.directory;
+            let json = json_lines::unheard(names, number, prefix);
+            printer.print(names.unheard(number, prefix), json, out)
+        }
     }
 }
 

@@ -14,9 +14,12 @@ use crate::fault::{Cause, Fault};
 use crate::host::Host;
 use crate::keep::keep;
 use crate::options::Options;
+use crate::printer::Printer;
+use crate::progress::tell_commands;
 use crate::report::{print_report, print_state};
 use control::settle;
 use fabric::{Fabric, FabricName, Refusal};
+use json_lines::EndLine;
 use network_model::NoMemory;
 use publication::ImageReader;
 use script::{Command, Directory, Key, Place};
@@ -61,12 +64,13 @@ where
     }
 
     /// Does the commands in order, up to the first that is refused. Their steps make a run of lawful
-    /// steps.
-    pub fn do_commands<W: Write>(
+    /// steps. After each it is told on `err` how far the run is, where that is asked for.
+    pub fn do_commands<W: Write, E: Write>(
         &mut self,
         fabric: &mut Fabric<B>,
         commands: &[Command],
         out: &mut W,
+        err: &mut E,
     ) -> Result<(), Fault>
         ensures all { OnOk result (AreDone commands.now fabric.old fabric.new) }
         ensures stop { IfErr result (StopsAtCommand commands.now fabric.old fabric.new) }
@@ -74,7 +78,11 @@ where
     {
         for (position, &command) in commands.iter().enumerate() {
             match self.do_command(fabric, command, out) {
-                Ok(()) => {}
+                Ok(()) => {
+                    let steps = fabric.journal().len();
+                    let done = position.saturating_add(1);
+                    tell_commands(self.options.progress, done, commands.len(), steps, err);
+                }
                 Err(cause) => {
                     let key = Key::Script;
                     return Err(Fault {
@@ -98,14 +106,17 @@ where
         ensures err { IfErr result (IsRefused command fabric.old fabric.new) }
         ensures names { self.new.directory ≡ self.old.directory }
     {
-        let directory = self.directory;
+        let printer = Printer {
+            directory: self.directory,
+            format: self.options.format,
+        };
         match command {
             Command::Step(step) => {
                 let done = fabric.step(self.rt, step);
                 into_cause(done)
             }
             Command::Try(step) => {
-                try_step(self.rt, fabric, step, out);
+                try_step(self.rt, fabric, &printer, step, out);
                 Ok(())
             }
             Command::Settle => {
@@ -114,36 +125,36 @@ where
             }
             Command::State { router, prefix } => {
                 let explain = self.options.explain;
-                let done = print_state(fabric, directory, router, prefix, explain, out);
+                let done = print_state(fabric, &printer, router, prefix, explain, out);
                 into_cause(done)
             }
             Command::Table { router } => {
-                let done = show_table(fabric, directory, router, out);
+                let done = show_table(fabric, &printer, router, out);
                 into_cause(done)
             }
-            Command::Lookup { router, addr } => look_up(fabric, directory, router, addr, out),
+            Command::Lookup { router, addr } => look_up(fabric, &printer, router, addr, out),
             Command::Inject { router, addr } => {
                 self.dispatcher
                     .inject(*self.rt, self.alloc, fabric, router, addr)
             }
             Command::Trace { router, addr } => {
-                show_trace(self.alloc, fabric, directory, router, addr, out)
+                show_trace(self.alloc, fabric, &printer, router, addr, out)
             }
-            Command::Drain => self.drain(out),
+            Command::Drain => self.drain(&printer, out),
             Command::Report => {
-                let _ = print_report(fabric, directory, out);
+                let _ = print_report(fabric, &printer, out);
                 Ok(())
             }
         }
     }
 
     // Waits for the workers, and prints what they answered. What it prints may be lost.
-    fn drain<W: Write>(&mut self, out: &mut W) -> Result<(), Cause>
+    fn drain<W: Write>(&mut self, printer: &Printer<'_>, out: &mut W) -> Result<(), Cause>
         ensures err { IfErr result (OfWorkers (λ e. ⊤)) }
         ensures names { self.new.directory ≡ self.old.directory }
     {
         let replies = self.dispatcher.drain(self.rt, self.alloc)?;
-        let _ = print_replies(self.directory, &replies, out);
+        let _ = print_replies(printer, &replies, out);
         Ok(())
     }
 
@@ -165,7 +176,7 @@ where
             rt,
             alloc,
             directory,
-            options: _,
+            options,
             dispatcher,
         } = self;
         // No worker is left running, whatever became of the commands.
@@ -176,7 +187,13 @@ where
         if let Err(fault) = answered {
             return Err(Fault::from(Cause::Workers(fault)));
         }
-        let _ = writeln!(out, "done: {} steps", fabric.journal().len());
+        let steps = fabric.journal().len();
+        let printer = Printer {
+            directory,
+            format: options.format,
+        };
+        let json = EndLine::Done { steps };
+        let _ = printer.print(format_args!("done: {steps} steps"), json, out);
         match keep(fabric, directory, kept) {
             Ok(()) => Ok(()),
             Err(memory) => Err(Fault::from(memory)),

@@ -19,6 +19,7 @@ use script::read_command;
 use std::alloc::Global;
 use std::io::{BufRead, BufReader, Read, Write};
 use std::marker::Brand;
+use words::Format;
 
 /// Opens the network of a scenario, and does the commands that the lines of `input` say, each answered
 /// at once. One that cannot be read or is refused is told on `err`, and ends nothing. At the end of the
@@ -85,6 +86,8 @@ where
         threads: 1,
         workers: 1,
         explain,
+        format: Format::Text,
+        progress: false,
     };
     let (mut fabric, readers) = Fabric::<B>::open(rt, alloc, network, unnamed, 1)?;
     let ended = match Session::new(rt, alloc, &directory, readers, options) {

@@ -4,7 +4,7 @@ use play::Host;
 use std::alloc::{AllocError, Global};
 use std::process::Abort;
 use trial::{play_in_memory, run_in_memory};
-use words::Words;
+use words::{Format, Words};
 
 const LEAVES: u16 = 6;
 
@@ -46,6 +46,8 @@ fn is_settled_by<H: Host + Abort>(rt: &H, alloc: Global, threads: u8) {
         workers: 1,
         journal: None,
         explain: false,
+        format: Format::Text,
+        progress: false,
     };
     let ran = run_in_memory(rt, alloc, &run, text.as_bytes());
     assert_eq!(rt; ran.err.as_slice(), b"".as_slice());
@@ -58,6 +60,8 @@ fn is_settled_by<H: Host + Abort>(rt: &H, alloc: Global, threads: u8) {
         file: "",
         journal: "",
         explain: false,
+        format: Format::Text,
+        progress: false,
     };
     let again = play_in_memory(rt, alloc, &replay, text.as_bytes(), ran.kept.as_slice());
     assert_eq!(rt; again.err.as_slice(), b"".as_slice());

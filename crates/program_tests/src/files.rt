@@ -5,7 +5,7 @@ use std::alloc::Global;
 use std::io::{self, Read, Write};
 use std::process::Abort;
 use trial::{Outcome, play_in_memory, run_in_memory};
-use words::{Words, exit_status, not_utf8};
+use words::{Format, Words, exit_status, not_utf8};
 
 pub const CHECK: Words<'static> = Words::Check {
     file: "scenario.toml",
@@ -18,12 +18,16 @@ pub const RUN: Words<'static> = Words::Run {
     workers: 1,
     journal: None,
     explain: false,
+    format: Format::Text,
+    progress: false,
 };
 
 const REPLAY: Words<'static> = Words::Replay {
     file: "scenario.toml",
     journal: "journal",
     explain: false,
+    format: Format::Text,
+    progress: false,
 };
 
 const SCENARIO: &[u8] = b"routers = [\"a\"]\nlinks = []\nprefixes = [\"0.0.0.0/0 a\"]\n\
@@ -111,7 +115,7 @@ fn word_is_no_text(rt: HostRuntime) {
 
 // A writer that fails.
 #[derive(Drop)]
-struct Closed;
+pub struct Closed;
 
 impl Write for Closed {
     fn write(&mut self, _buf: &[u8]) -> io::Result<usize> {

@@ -7,8 +7,12 @@ mod crowds;
 #[cfg(test)]
 mod files;
 #[cfg(test)]
+mod json;
+#[cfg(test)]
 mod limits;
 #[cfg(test)]
 mod lines;
+#[cfg(test)]
+mod views;
 #[cfg(test)]
 mod written;

@@ -16,7 +16,7 @@ fn lines(alloc: Global, text: &str) -> Result<Vec<String>, AllocError> {
 }
 
 // Routers a and b, with a link.
-fn directory(rt: &impl Abort, alloc: Global) -> Directory {
+pub fn directory(rt: &impl Abort, alloc: Global) -> Directory {
     let routers = lines(alloc, "a|b").expect(rt, "memory");
     let links = lines(alloc, "a b 1 1").expect(rt, "memory");
     let none = Vec::new(alloc);

@@ -16,7 +16,7 @@ use std::env;
 use std::io::Write;
 use std::process::ExitCode;
 use trial::play_in_memory;
-use words::Words;
+use words::{Format, Words};
 
 const THREADS: u8 = 4;
 
@@ -72,6 +72,8 @@ fn try_scenario<H: Host>(rt: &H, alloc: Global, scenario: &Scenario) -> Result<b
         workers: WORKERS,
         journal: None,
         explain: false,
+        format: Format::Text,
+        progress: false,
     };
     let text = scenario.text.as_bytes();
     let ran = trial::run_in_memory(rt, alloc, &words, text);
@@ -79,6 +81,8 @@ fn try_scenario<H: Host>(rt: &H, alloc: Global, scenario: &Scenario) -> Result<b
         file: "",
         journal: "",
         explain: false,
+        format: Format::Text,
+        progress: false,
     };
     let replayed = play_in_memory(rt, alloc, &words, text, ran.kept.as_slice());
     let straight = is_straight(rt, alloc, scenario, &ran.kept)?;
@@ -119,6 +123,8 @@ fn is_run_straight<H: Host>(rt: &H, alloc: Global, text: &str) -> bool {
         workers: 1,
         journal: None,
         explain: false,
+        format: Format::Text,
+        progress: false,
     };
     let ran = trial::run_in_memory(rt, alloc, &words, text.as_bytes());
     let Ok(out) = str::from_utf8(&ran.out) else {

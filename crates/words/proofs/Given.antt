@@ -1,13 +1,15 @@
 -- From the matches of one command to what they ask for.
-use Rattle.std.proofs.Common.{◌≡◌, ◌≢◌, ◌≤◌, ◌⊎◌, ℕ, Bool, true, false, List, Option, Some, None, Result, Ok, Err, IfNone, option_map, Bor, inl, inr, refl, sym, ap, subst, ◌∙◌, codes, arith}
+use Rattle.std.proofs.Common.{◌≡◌, ◌≢◌, ◌≤◌, ℕ, Bool, true, false, List, [], Option, Some, None, Result, Ok, Err, IfNone, IfSome, option_map, Bor, refl, sym, ap, subst, ◌∙◌, codes, arith, unwrap_or}
 use Rattle.std.specs.Str.Parse.{ParsesUnsigned}
 use Rattle.clap.specs.Words.{Row, Text, first_of, first_value, one_text, rows_of}
 use Rattle.clap.specs.Matches.{ReadsOne}
 use Rattle.clap.specs.declared.parser.matches.Found.{Found}
 use Rattle.clap.proofs.WalkLemmas.{first_value-rows, one_text-rows}
-use Rattle.words.specs.Asked.{HasNumber, IsCheck, IsExplain, IsFlag, IsReplay, IsRun, IsShell}
+use Rattle.words.specs.Formats.{format_text}
+use Rattle.words.specs.Asked.{HasFormat, HasNumber, IsCheck, IsExplain, IsFlag, IsReplay, IsRun, IsShell}
 use Rattle.explanations.specs.Numbers.{kind_number}
 use Rattle.explanations.specs.declared.kind.Kind.{Kind}
+use Rattle.words.specs.declared.format.Format.{Format}
 use Rattle.words.specs.declared.words.Words.{Words}
 use Rattle.words.specs.declared.words.Words.TheVariants.{Check, Run, Replay, Explain, Shell}
 
@@ -59,44 +61,67 @@ module _ {E : Type 0} (gives : Text → Result ℕ E → Type 0) (parses : (t : 
 pub flag_read : (f : Found) (id : Text) (is : Bool) → (one_text f id ≡ Some (codes "true") → is ≡ true) → (one_text f id ≡ Some (codes "false") → is ≡ false) → IsFlag (rows_of f) id is
 flag_read f id is set unset = (λ e. set (one_text-rows f id ∙ e), λ e. unset (one_text-rows f id ∙ e))
 
+-- ---- formats
+
+-- where the name at hand is that of no format, there is none
+pub no_format : (rows : List Row) (name : Text) → first_of (codes "format") rows ≡ Some name → ((o : Format) → name ≡ format_text o → ⊥) → (o : Format) → HasFormat rows o → ⊥
+no_format rows name is none o h = none o (ap (λ t. unwrap_or t []) (sym is ∙ h))
+
+-- where it is that of a format, this is the one
+pub format_read : (rows : List Row) (name : Text) (r : Option Format) → first_of (codes "format") rows ≡ Some name → IfSome r (λ o. name ≡ format_text o) → IfSome r (HasFormat rows)
+format_read rows name None is h = tt
+format_read rows name (Some o) is h = is ∙ ap Some h
+
+pub no_name : (rows : List Row) → first_of (codes "format") rows ≡ None → (o : Format) → HasFormat rows o → ⊥
+no_name rows is o h =
+    let there : first_of (codes "format") rows ≡ Some (format_text o) = h in
+    cc
+
 -- ---- matches that ask for nothing
 
 pub no_check : (rows : List Row) → first_of (codes "file") rows ≡ None → (w : Words) → IsCheck rows w → ⊥
 no_check rows none (Check f e) h =
     let there = h.0 in
     cc
-no_check rows none (Run f t k j e) h = h
-no_check rows none (Replay f j e) h = h
+no_check rows none (Run f t k j e o p) h = h
+no_check rows none (Replay f j e o p) h = h
 no_check rows none (Explain k) h = h
 no_check rows none (Shell f j e) h = h
 
 pub no_run : (rows : List Row) → first_of (codes "file") rows ≡ None → (w : Words) → IsRun rows w → ⊥
 no_run rows none (Check f e) h = h
-no_run rows none (Run f t k j e) h =
+no_run rows none (Run f t k j e o p) h =
     let there = h.0 in
     cc
-no_run rows none (Replay f j e) h = h
+no_run rows none (Replay f j e o p) h = h
 no_run rows none (Explain k) h = h
 no_run rows none (Shell f j e) h = h
 
 pub no_threads : (rows : List Row) → ((n : ℕ) → HasNumber rows (codes "threads") 16 n → ⊥) → (w : Words) → IsRun rows w → ⊥
 no_threads rows none (Check f e) h = h
-no_threads rows none (Run f t k j e) h = none t h.1
-no_threads rows none (Replay f j e) h = h
+no_threads rows none (Run f t k j e o p) h = none t h.1
+no_threads rows none (Replay f j e o p) h = h
 no_threads rows none (Explain k) h = h
 no_threads rows none (Shell f j e) h = h
 
 pub no_workers : (rows : List Row) → ((n : ℕ) → HasNumber rows (codes "workers") 16 n → ⊥) → (w : Words) → IsRun rows w → ⊥
 no_workers rows none (Check f e) h = h
-no_workers rows none (Run f t k j e) h = none k h.2
-no_workers rows none (Replay f j e) h = h
+no_workers rows none (Run f t k j e o p) h = none k h.2
+no_workers rows none (Replay f j e o p) h = h
 no_workers rows none (Explain k) h = h
 no_workers rows none (Shell f j e) h = h
 
+pub no_run_format : (rows : List Row) → ((o : Format) → HasFormat rows o → ⊥) → (w : Words) → IsRun rows w → ⊥
+no_run_format rows none (Check f e) h = h
+no_run_format rows none (Run f t k j e o p) h = none o h.5
+no_run_format rows none (Replay f j e o p) h = h
+no_run_format rows none (Explain k) h = h
+no_run_format rows none (Shell f j e) h = h
+
 pub no_replay : (rows : List Row) → first_of (codes "file") rows ≡ None → (w : Words) → IsReplay rows w → ⊥
 no_replay rows none (Check f e) h = h
-no_replay rows none (Run f t k j e) h = h
-no_replay rows none (Replay f j e) h =
+no_replay rows none (Run f t k j e o p) h = h
+no_replay rows none (Replay f j e o p) h =
     let there = h.0 in
     cc
 no_replay rows none (Explain k) h = h
@@ -104,31 +129,38 @@ no_replay rows none (Shell f j e) h = h
 
 pub no_steps : (rows : List Row) → first_of (codes "journal") rows ≡ None → (w : Words) → IsReplay rows w → ⊥
 no_steps rows none (Check f e) h = h
-no_steps rows none (Run f t k j e) h = h
-no_steps rows none (Replay f j e) h =
+no_steps rows none (Run f t k j e o p) h = h
+no_steps rows none (Replay f j e o p) h =
     let there = h.1 in
     cc
 no_steps rows none (Explain k) h = h
 no_steps rows none (Shell f j e) h = h
 
+pub no_replay_format : (rows : List Row) → ((o : Format) → HasFormat rows o → ⊥) → (w : Words) → IsReplay rows w → ⊥
+no_replay_format rows none (Check f e) h = h
+no_replay_format rows none (Run f t k j e o p) h = h
+no_replay_format rows none (Replay f j e o p) h = none o h.3
+no_replay_format rows none (Explain k) h = h
+no_replay_format rows none (Shell f j e) h = h
+
 pub no_explain : (rows : List Row) → ((n : ℕ) → HasNumber rows (codes "number") 49 n → ⊥) → (w : Words) → IsExplain rows w → ⊥
 no_explain rows none (Check f e) h = h
-no_explain rows none (Run f t k j e) h = h
-no_explain rows none (Replay f j e) h = h
+no_explain rows none (Run f t k j e o p) h = h
+no_explain rows none (Replay f j e o p) h = h
 no_explain rows none (Explain k) h = none (kind_number k) h
 no_explain rows none (Shell f j e) h = h
 
 pub no_kind : (rows : List Row) (n : ℕ) → ((m : ℕ) → HasNumber rows (codes "number") 49 m → n ≡ m) → ((k : Kind) → kind_number k ≢ n) → (w : Words) → IsExplain rows w → ⊥
 no_kind rows n same other (Check f e) h = h
-no_kind rows n same other (Run f t k j e) h = h
-no_kind rows n same other (Replay f j e) h = h
+no_kind rows n same other (Run f t k j e o p) h = h
+no_kind rows n same other (Replay f j e o p) h = h
 no_kind rows n same other (Explain k) h = other k (sym (same (kind_number k) h))
 no_kind rows n same other (Shell f j e) h = h
 
 pub no_shell : (rows : List Row) → first_of (codes "file") rows ≡ None → (w : Words) → IsShell rows w → ⊥
 no_shell rows none (Check f e) h = h
-no_shell rows none (Run f t k j e) h = h
-no_shell rows none (Replay f j e) h = h
+no_shell rows none (Run f t k j e o p) h = h
+no_shell rows none (Replay f j e o p) h = h
 no_shell rows none (Explain k) h = h
 no_shell rows none (Shell f j e) h =
     let there = h.0 in

@@ -5,6 +5,9 @@ use Rattle.std.specs.Str.Parse.{IsNumeral, digits_value, without_leading_plus}
 use Rattle.clap.specs.Words.{Row, Text, first_of, one_of}
 use Rattle.words.specs.declared.words.Words.{Words}
 use Rattle.explanations.specs.Numbers.{kind_number}
+use Rattle.words.specs.Formats.{format_text}
+use Rattle.words.specs.declared.format.Format.{Format}
+use Rattle.words.specs.declared.format.Format.TheVariants.{Text as ForPeople}
 use Rattle.words.specs.declared.words.Words.TheVariants.{Check, Run, Replay, Explain, Shell}
 
 -- the bytes of each word
@@ -26,25 +29,29 @@ abbrev pub IsFlag : List Row → Text → Bool → Type 0
 IsFlag rows id is = (one_of id rows ≡ Some (codes "true") → is ≡ true)
     × (one_of id rows ≡ Some (codes "false") → is ≡ false)
 
+-- the format at the name `format`
+abbrev pub HasFormat : List Row → Format → Type 0
+HasFormat rows format = first_of (codes "format") rows ≡ Some (format_text format)
+
 -- the matches of `check`: a file
 abbrev pub IsCheck : List Row → Words → Type 0
 IsCheck rows (Check file explain) = (first_of (codes "file") rows ≡ Some file.now)
     × IsFlag rows (codes "explain") explain
 IsCheck rows _ = ⊥
 
--- the matches of `run`: a file, two numbers, and a path where one is given
+-- the matches of `run`: a file, two numbers, a path where one is given, and a format
 abbrev pub IsRun : List Row → Words → Type 0
-IsRun rows (Run file threads workers journal explain) = (first_of (codes "file") rows ≡ Some file.now)
+IsRun rows (Run file threads workers journal explain format progress) = (first_of (codes "file") rows ≡ Some file.now)
     × HasNumber rows (codes "threads") 16 threads × HasNumber rows (codes "workers") 16 workers
     × (first_of (codes "journal") rows ≡ option_map (λ path. path.now) journal)
-    × IsFlag rows (codes "explain") explain
+    × IsFlag rows (codes "explain") explain × HasFormat rows format × IsFlag rows (codes "progress") progress
 IsRun rows _ = ⊥
 
--- the matches of `replay`: two files
+-- the matches of `replay`: two files, and a format
 abbrev pub IsReplay : List Row → Words → Type 0
-IsReplay rows (Replay file journal explain) = (first_of (codes "file") rows ≡ Some file.now)
+IsReplay rows (Replay file journal explain format progress) = (first_of (codes "file") rows ≡ Some file.now)
     × (first_of (codes "journal") rows ≡ Some journal.now)
-    × IsFlag rows (codes "explain") explain
+    × IsFlag rows (codes "explain") explain × HasFormat rows format × IsFlag rows (codes "progress") progress
 IsReplay rows _ = ⊥
 
 -- the matches of `explain`: a number that the program prints
@@ -63,10 +70,10 @@ IsShell rows _ = ⊥
 abbrev pub IsAsked : Option (Text × List Row) → Words → Type 0
 IsAsked met (Check file explain) =
     (rows : List Row) × (met ≡ Some (codes "check", rows)) × IsCheck rows (Check file explain)
-IsAsked met (Run file threads workers journal explain) = (rows : List Row)
-    × (met ≡ Some (codes "run", rows)) × IsRun rows (Run file threads workers journal explain)
-IsAsked met (Replay file journal explain) = (rows : List Row)
-    × (met ≡ Some (codes "replay", rows)) × IsReplay rows (Replay file journal explain)
+IsAsked met (Run file threads workers journal explain format progress) = (rows : List Row)
+    × (met ≡ Some (codes "run", rows)) × IsRun rows (Run file threads workers journal explain format progress)
+IsAsked met (Replay file journal explain format progress) = (rows : List Row)
+    × (met ≡ Some (codes "replay", rows)) × IsReplay rows (Replay file journal explain format progress)
 IsAsked met (Explain kind) =
     (rows : List Row) × (met ≡ Some (codes "explain", rows)) × IsExplain rows (Explain kind)
 IsAsked met (Shell file journal explain) = (rows : List Row)
@@ -90,14 +97,16 @@ abbrev pub ChecksFile : Text → Words → Type 0
 ChecksFile file (Check given explain) = (given.now ≡ file) × (explain ≡ false)
 ChecksFile file _ = ⊥
 
--- what is asked for is to run this file, by one thread and one worker, and to write no journal
+-- what is asked for is to run this file, by one thread and one worker, and to write no journal; it prints lines for people, and tells of no progress
 abbrev pub RunsFile : Text → Words → Type 0
-RunsFile file (Run given threads workers journal explain) =
+RunsFile file (Run given threads workers journal explain format progress) =
     (given.now ≡ file) × (threads ≡ 1) × (workers ≡ 1) × (journal ≡ None) × (explain ≡ false)
+    × (format ≡ ForPeople) × (progress ≡ false)
 RunsFile file _ = ⊥
 
--- what is asked for is to replay this journal over the network of this file
+-- what is asked for is to replay this journal over the network of this file; it prints lines for people, and tells of no progress
 abbrev pub ReplaysFiles : Text → Text → Words → Type 0
-ReplaysFiles file journal (Replay given steps explain) =
-    (given.now ≡ file) × (steps.now ≡ journal) × (explain ≡ false)
+ReplaysFiles file journal (Replay given steps explain format progress) =
+    (given.now ≡ file) × (steps.now ≡ journal) × (explain ≡ false) × (format ≡ ForPeople)
+    × (progress ≡ false)
 ReplaysFiles file journal _ = ⊥

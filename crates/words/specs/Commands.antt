@@ -26,6 +26,10 @@ number_rule id = record (new_rule id) {
 abbrev pub path_rule : Text → Rule
 path_rule id = record (new_rule id) { long = Some id; value_names = 1 }
 
+-- an option with a word, which is `text` where it is left out
+abbrev pub choice_rule : Text → Rule
+choice_rule id = record (new_rule id) { long = Some id; value_names = 1; defaults = codes "text" ∷ [] }
+
 -- an option with no value, which may be left out
 abbrev pub flag_rule : Text → Rule
 flag_rule id = record (new_rule id) { long = Some id; action = Some SetTrue }
@@ -38,16 +42,18 @@ known_rule id = record (new_rule id) { value_names = 1; required = true; parser 
 abbrev pub check_app : App
 check_app = with_rule (with_rule (new_app (codes "check")) (file_rule (codes "file"))) (flag_rule (codes "explain"))
 
--- `run FILE [--threads N] [--workers N] [--journal PATH] [--explain]`
+-- `run FILE [--threads N] [--workers N] [--journal PATH] [--explain] [--format FORMAT] [--progress]`
 abbrev pub run_app : App
-run_app = with_rule (with_rule (with_rule (with_rule (with_rule (new_app (codes "run"))
+run_app = with_rule (with_rule (with_rule (with_rule (with_rule (with_rule (with_rule (new_app (codes "run"))
     (file_rule (codes "file"))) (number_rule (codes "threads"))) (number_rule (codes "workers")))
-    (path_rule (codes "journal"))) (flag_rule (codes "explain"))
+    (path_rule (codes "journal"))) (flag_rule (codes "explain"))) (choice_rule (codes "format")))
+    (flag_rule (codes "progress"))
 
--- `replay FILE JOURNAL [--explain]`
+-- `replay FILE JOURNAL [--explain] [--format FORMAT] [--progress]`
 abbrev pub replay_app : App
-replay_app = with_rule (with_rule (with_rule (new_app (codes "replay")) (file_rule (codes "file")))
-    (file_rule (codes "journal"))) (flag_rule (codes "explain"))
+replay_app = with_rule (with_rule (with_rule (with_rule (with_rule (new_app (codes "replay")) (file_rule (codes "file")))
+    (file_rule (codes "journal"))) (flag_rule (codes "explain"))) (choice_rule (codes "format")))
+    (flag_rule (codes "progress"))
 
 -- `explain NUMBER`
 abbrev pub explain_app : App
@@ -68,6 +74,6 @@ program = with_subcommand (with_subcommand (with_subcommand (with_subcommand (wi
 abbrev pub IsProgramCommand : App → Command → Type 0
 IsProgramCommand app c = (app_of c ≡ app) × ((out-Command c).has_globals ≡ false)
 
--- the kinds of error that the words may give: those of clap's definition, and where it gives none a number that is never printed
+-- the kinds of error that the words may give: those of clap's definition, and where it gives none a number that is never printed, or a format that there is not
 abbrev pub kinds_of : List Text → Kinds
 kinds_of words = or_else (fault_of program words) (InvalidValue ∷ [])

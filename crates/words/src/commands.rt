@@ -3,7 +3,7 @@
 ghost use Rattle.std.specs.Prelude.{◌≡◌, IfOk, codes, false, pos};
 ghost use Rattle.clap.specs.declared.builder.value_parser.ValueParser.TheVariants.{Signed};
 ghost use Rattle.clap.specs.Words.{app_of, kind_of, rule_of};
-ghost use Rattle.words.specs.Commands.{IsProgramCommand, check_app, explain_app, file_rule, flag_rule, known_rule, number_rule, path_rule, program, replay_app, run_app, shell_app};
+ghost use Rattle.words.specs.Commands.{IsProgramCommand, check_app, choice_rule, explain_app, file_rule, flag_rule, known_rule, number_rule, path_rule, program, replay_app, run_app, shell_app};
 
 use clap::builder::ValueParser;
 use clap::error::ErrorKind;
@@ -96,7 +96,9 @@ fn run_command<'a>(alloc: Global) -> Result<Command<'a>, AllocError>
         .arg(threads)?
         .arg(workers)?
         .arg(journal_arg(alloc))?
-        .arg(explain_arg(alloc))
+        .arg(explain_arg(alloc))?
+        .arg(format_arg(alloc))?
+        .arg(progress_arg(alloc))
 }
 
 fn replay_command<'a>(alloc: Global) -> Result<Command<'a>, AllocError>
@@ -113,7 +115,9 @@ fn replay_command<'a>(alloc: Global) -> Result<Command<'a>, AllocError>
         .after_help("Example:\n  dualnet replay examples/two-routers.toml two-routers.journal")
         .arg(scenario_arg(alloc))?
         .arg(journal)?
-        .arg(explain_arg(alloc))
+        .arg(explain_arg(alloc))?
+        .arg(format_arg(alloc))?
+        .arg(progress_arg(alloc))
 }
 
 fn explain_command<'a>(alloc: Global) -> Result<Command<'a>, AllocError>
@@ -136,7 +140,7 @@ fn shell_command<'a>(alloc: Global) -> Result<Command<'a>, AllocError>
         .arg(explain_arg(alloc))
 }
 
-fn scenario_arg<'a>(alloc: Global) -> Arg<'a>
+pub(crate) fn scenario_arg<'a>(alloc: Global) -> Arg<'a>
     ensures rule { rule_of result ≡ file_rule (codes "file") }
     ensures local { result.global ≡ false }
 {
@@ -162,6 +166,28 @@ fn explain_arg<'a>(alloc: Global) -> Arg<'a>
         alloc,
         "explain",
         "Tell more of a fault: where, what was expected, and what to do",
+    )
+}
+
+fn format_arg<'a>(alloc: Global) -> Arg<'a>
+    ensures rule { rule_of result ≡ choice_rule (codes "format") }
+    ensures local { result.global ≡ false }
+{
+    Arg::new(alloc, "format")
+        .long("format")
+        .value_name("FORMAT")
+        .help("What is printed: text, or json, an object a line")
+        .default_value("text")
+}
+
+fn progress_arg<'a>(alloc: Global) -> Arg<'a>
+    ensures rule { rule_of result ≡ flag_rule (codes "progress") }
+    ensures local { result.global ≡ false }
+{
+    flag_arg(
+        alloc,
+        "progress",
+        "Tell on the standard error how far it is",
     )
 }
 
@@ -216,7 +242,7 @@ fn known_arg<'a>(alloc: Global) -> Arg<'a>
 }
 
 // An option with no value, which may be left out.
-fn flag_arg<'a>(alloc: Global, id: &'a str, help: &'a str) -> Arg<'a>
+pub(crate) fn flag_arg<'a>(alloc: Global, id: &'a str, help: &'a str) -> Arg<'a>
     ensures rule { rule_of result ≡ flag_rule id.entry.now }
     ensures local { result.global ≡ false }
 {
@@ -227,7 +253,7 @@ fn flag_arg<'a>(alloc: Global, id: &'a str, help: &'a str) -> Arg<'a>
 }
 
 // An option with a path, which may be left out.
-fn path_arg<'a>(alloc: Global, id: &'a str, help: &'a str) -> Arg<'a>
+pub(crate) fn path_arg<'a>(alloc: Global, id: &'a str, help: &'a str) -> Arg<'a>
     ensures rule { rule_of result ≡ path_rule id.entry.now }
     ensures local { result.global ≡ false }
 {

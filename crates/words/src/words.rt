@@ -3,9 +3,10 @@
 ghost use Rattle.std.specs.Prelude.{◌≡◌, IfOk, IfErr, IfSome, IfNone, MatchResult, List, ℕ, [], ⊤, codes};
 ghost use Rattle.clap.specs.Words.{HasKind, Text, fault_of, first_of, kind_of, rows_of, found_of, subcommand_of, subcommand_rows_of};
 ghost use Rattle.words.specs.Commands.{program, kinds_of};
-ghost use Rattle.words.specs.Asked.{ChecksFile, HasNumber, IsAsked, IsCheck, IsExplain, IsFileLine, IsFlag, IsReplay, IsReplayLine, IsRun, IsShell, ReplaysFiles, RunsFile, word_texts};
+ghost use Rattle.words.specs.Asked.{ChecksFile, HasFormat, HasNumber, IsAsked, IsCheck, IsExplain, IsFileLine, IsFlag, IsReplay, IsReplayLine, IsRun, IsShell, ReplaysFiles, RunsFile, word_texts};
 
 use crate::commands::program_command;
+use crate::format::Format;
 use clap::error::ErrorKind;
 use clap::{ArgMatches, Error};
 use explanations::Kind;
@@ -21,19 +22,25 @@ pub enum Words<'a> {
         explain: bool,
     },
     /// Run the script of the scenario in the file, by so many control threads and forwarding
-    /// workers, 1 to 16 of each, and then write the journal to the path, where one is given.
+    /// workers, 1 to 16 of each, and then write the journal to the path, where one is given. Here and
+    /// in a replay, what is printed is written in the format, and where `progress` is set it is told how
+    /// far it is.
     Run {
         file: &'a str,
         threads: u8,
         workers: u8,
         journal: Option<&'a str>,
         explain: bool,
+        format: Format,
+        progress: bool,
     },
     /// Do the steps of the journal over the network of the scenario in the file.
     Replay {
         file: &'a str,
         journal: &'a str,
         explain: bool,
+        format: Format,
+        progress: bool,
     },
     /// Tell of a number.
     Explain {
@@ -69,7 +76,16 @@ pub fn read_words<'a>(alloc: Global, words: &'a [&'a str]) -> Result<Words<'a>, 
     let matches = command.try_get_matches_from_mut(words)?;
     match read_matches(&matches) {
         Some(asked) => Ok(asked),
-        None => Err(command.error(ErrorKind::InvalidValue, "no such number is printed")?),
+        None => Err(command.error(ErrorKind::InvalidValue, refusal_of(&matches))?),
+    }
+}
+
+// What is told where the matches ask for nothing, though clap takes them.
+fn refusal_of(matches: &ArgMatches<'_>) -> &'static str {
+    if matches.subcommand_matches("explain").is_some() {
+        "no such number is printed"
+    } else {
+        "no such format: it is text or json"
     }
 }
 
@@ -111,12 +127,16 @@ fn run_words<'a>(matches: &ArgMatches<'a>) -> Option<Words<'a>>
     let workers = number(matches, "workers", 16)?;
     let journal = matches.get_str("journal");
     let explain = flag(matches, "explain");
+    let format = named_format(matches)?;
+    let progress = flag(matches, "progress");
     Some(Words::Run {
         file,
         threads,
         workers,
         journal,
         explain,
+        format,
+        progress,
     })
 }
 
@@ -127,10 +147,14 @@ fn replay_words<'a>(matches: &ArgMatches<'a>) -> Option<Words<'a>>
     let file = matches.get_str("file")?;
     let journal = matches.get_str("journal")?;
     let explain = flag(matches, "explain");
+    let format = named_format(matches)?;
+    let progress = flag(matches, "progress");
     Some(Words::Replay {
         file,
         journal,
         explain,
+        format,
+        progress,
     })
 }
 
@@ -158,10 +182,19 @@ fn shell_words<'a>(matches: &ArgMatches<'a>) -> Option<Words<'a>>
 }
 
 // Whether the option at the name is given.
-fn flag(matches: &ArgMatches<'_>, id: &str) -> bool
+pub(crate) fn flag(matches: &ArgMatches<'_>, id: &str) -> bool
     ensures { IsFlag (rows_of (found_of matches.now)) id.now result }
 {
     matches.get_flag(id)
+}
+
+// The format that is named.
+fn named_format(matches: &ArgMatches<'_>) -> Option<Format>
+    ensures some { IfSome result (HasFormat (rows_of (found_of matches.now))) }
+    ensures none { IfNone result ((f : Format) → HasFormat (rows_of (found_of matches.now)) f → ⊥) }
+{
+    let name = matches.get_str("format")?;
+    Format::of(name)
 }
 
 // The number at the name, where it is at least 1, and no more than `most`.

@@ -14,5 +14,7 @@ returns c =
     ) in
     let one = one_more c.after_help.result c.in_ok-arg.field-0 c.scenario_arg.result _ _ none c.in_ok-arg.ensures c.scenario_arg.ensures.rule c.scenario_arg.ensures.local in
     let two = one_more c.in_ok-arg.field-0 c.in_ok-arg-2.field-0 c.file_arg-journal.result _ _ one c.in_ok-arg-2.ensures c.file_arg-journal.ensures.rule c.file_arg-journal.ensures.local in
-    IfOk-weaker c.arg-3.result _ _
-    (λ m added. one_more c.in_ok-arg-2.field-0 m c.explain_arg.result _ _ two added c.explain_arg.ensures.rule c.explain_arg.ensures.local) c.arg-3.ensures
+    let three = one_more c.in_ok-arg-2.field-0 c.in_ok-arg-3.field-0 c.explain_arg.result _ _ two c.in_ok-arg-3.ensures c.explain_arg.ensures.rule c.explain_arg.ensures.local in
+    let four = one_more c.in_ok-arg-3.field-0 c.in_ok-arg-4.field-0 c.format_arg.result _ _ three c.in_ok-arg-4.ensures c.format_arg.ensures.rule c.format_arg.ensures.local in
+    IfOk-weaker c.arg-5.result _ _
+    (λ m added. one_more c.in_ok-arg-4.field-0 m c.progress_arg.result _ _ four added c.progress_arg.ensures.rule c.progress_arg.ensures.local) c.arg-5.ensures

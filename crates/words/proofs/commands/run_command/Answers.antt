@@ -16,5 +16,7 @@ returns c =
     let two = one_more c.in_ok-arg.field-0 c.in_ok-arg-2.field-0 c.number_arg-threads.result _ _ one c.in_ok-arg-2.ensures c.number_arg-threads.ensures.rule c.number_arg-threads.ensures.local in
     let three = one_more c.in_ok-arg-2.field-0 c.in_ok-arg-3.field-0 c.number_arg-workers.result _ _ two c.in_ok-arg-3.ensures c.number_arg-workers.ensures.rule c.number_arg-workers.ensures.local in
     let four = one_more c.in_ok-arg-3.field-0 c.in_ok-arg-4.field-0 c.journal_arg.result _ _ three c.in_ok-arg-4.ensures c.journal_arg.ensures.rule c.journal_arg.ensures.local in
-    IfOk-weaker c.arg-5.result _ _
-    (λ m added. one_more c.in_ok-arg-4.field-0 m c.explain_arg.result _ _ four added c.explain_arg.ensures.rule c.explain_arg.ensures.local) c.arg-5.ensures
+    let five = one_more c.in_ok-arg-4.field-0 c.in_ok-arg-5.field-0 c.explain_arg.result _ _ four c.in_ok-arg-5.ensures c.explain_arg.ensures.rule c.explain_arg.ensures.local in
+    let six = one_more c.in_ok-arg-5.field-0 c.in_ok-arg-6.field-0 c.format_arg.result _ _ five c.in_ok-arg-6.ensures c.format_arg.ensures.rule c.format_arg.ensures.local in
+    IfOk-weaker c.arg-7.result _ _
+    (λ m added. one_more c.in_ok-arg-6.field-0 m c.progress_arg.result _ _ six added c.progress_arg.ensures.rule c.progress_arg.ensures.local) c.arg-7.ensures

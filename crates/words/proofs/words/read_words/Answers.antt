@@ -1,10 +1,11 @@
-use Rattle.std.proofs.Common.{◌∙◌, None, [], ◌∷◌, false, sym, ap}
-use Rattle.clap.specs.Words.{App, HasKind, app_of, fault_of, is_simple, is_simple_and_free, kind_of, subcommand_rows_of}
+use Rattle.std.proofs.Common.{◌∙◌, None, [], ◌∷◌, false, sym, ap, subst, inl, inr}
+use Rattle.clap.specs.Words.{App, HasKind, app_of, fault_of, is_simple, is_simple_and_free, kind_of, subcommand_of, subcommand_rows_of}
 use Rattle.clap.specs.declared.error.kind.ErrorKind.TheVariants.{InvalidValue}
-use Rattle.clap.proofs.FaultLemmas.{first_fails}
+use Rattle.clap.proofs.FaultLemmas.{first_fails, past}
 use Rattle.clap.proofs.TakesLemmas.{passed_up}
-use Rattle.words.specs.Asked.{word_texts}
+use Rattle.words.specs.Asked.{IsAsked, word_texts}
 use Rattle.words.specs.Commands.{program, kinds_of}
+use Rattle.words.specs.declared.format.Format.TheVariants.{Text as ForPeople}
 use Rattle.words.specs.declared.words.Words.TheVariants.{Check, Run, Replay}
 use Rattle.words.proofs.Lines.{is_free, is_plain, kind_as, seen_as, check_faultless, check_met, run_faultless, run_met, replay_faultless, replay_met, only_memory}
 use Rattle.words.proofs.Plain.{given, check_asked, run_asked, replay_asked, check_asks, run_asks, replay_asks}
@@ -14,6 +15,12 @@ pub returns-in-Some-clause-taken : goal.returns-in-Some-clause-taken
 returns-in-Some-clause-taken c =
     ap (λ (a : App). fault_of a (word_texts c.args.words.now)) (sym c.in_ok-command.ensures)
     ∙ c.in_ok-matches.ensures.kinds (ap is_simple_and_free c.in_ok-command.ensures ∙ is_free)
+
+pub returns-in-Some-clause-asked : goal.returns-in-Some-clause-asked
+returns-in-Some-clause-asked c =
+    subst (λ met. IsAsked met c.in-Some.asked)
+    ((c.in_ok-matches.ensures.ok.2 (ap is_simple c.in_ok-command.ensures ∙ is_plain)).1 ∙ ap (λ (a : App). subcommand_of a (word_texts c.args.words.now)) c.in_ok-command.ensures)
+    c.in-Some.ensures.some
 
 -- ---- clap's error is passed up
 
@@ -69,6 +76,19 @@ returns-in-Some-clause-replay c file journal is =
 
 -- ---- nothing was asked for
 
+pub returns-clause-kinds : goal.returns-clause-kinds
+returns-clause-kinds c =
+    let none = ap (λ (a : App). fault_of a (word_texts c.args.words.now)) (sym c.in_ok-command.ensures)
+    ∙ c.in_ok-matches.ensures.kinds (ap is_simple_and_free c.in_ok-command.ensures ∙ is_free) in
+    subst (λ k. HasKind k c.in_ok-error-in-None.field-0) (sym (past (fault_of program (word_texts c.args.words.now)) (InvalidValue ∷ []) none))
+    (inr (inl c.in_ok-error-in-None.ensures.kind))
+
+pub returns-clause-every : goal.returns-clause-every
+returns-clause-every c asked none is =
+    absurd (c.in-None.ensures.none asked
+    (subst (λ met. IsAsked met asked)
+    (sym ((c.in_ok-matches.ensures.ok.2 (ap is_simple c.in_ok-command.ensures ∙ is_plain)).1 ∙ ap (λ (a : App). subcommand_of a (word_texts c.args.words.now)) c.in_ok-command.ensures)) is))
+
 pub returns-clause-check : goal.returns-clause-check
 returns-clause-check c file is =
     let met = seen_as (subcommand_rows_of c.in_ok-matches.matches) (app_of c.in_ok-command.command) (word_texts c.args.words.now) _ c.in_ok-command.ensures is.spelled
@@ -79,10 +99,10 @@ pub returns-clause-run : goal.returns-clause-run
 returns-clause-run c file is =
     let met = seen_as (subcommand_rows_of c.in_ok-matches.matches) (app_of c.in_ok-command.command) (word_texts c.args.words.now) _ c.in_ok-command.ensures is.spelled
     (c.in_ok-matches.ensures.ok.2 (ap is_simple c.in_ok-command.ensures ∙ is_plain)).1 in
-    absurd (c.in-None.ensures.none (Run (given file) 1 1 None false) (run_asks (subcommand_rows_of c.in_ok-matches.matches) file (met ∙ run_met is.name file is.no_option)))
+    absurd (c.in-None.ensures.none (Run (given file) 1 1 None false ForPeople false) (run_asks (subcommand_rows_of c.in_ok-matches.matches) file (met ∙ run_met is.name file is.no_option)))
 
 pub returns-clause-replay : goal.returns-clause-replay
 returns-clause-replay c file journal is =
     let met = seen_as (subcommand_rows_of c.in_ok-matches.matches) (app_of c.in_ok-command.command) (word_texts c.args.words.now) _ c.in_ok-command.ensures is.spelled
     (c.in_ok-matches.ensures.ok.2 (ap is_simple c.in_ok-command.ensures ∙ is_plain)).1 in
-    absurd (c.in-None.ensures.none (Replay (given file) (given journal) false) (replay_asks (subcommand_rows_of c.in_ok-matches.matches) file journal (met ∙ replay_met is.name file journal is.no_option_file is.no_option_journal)))
+    absurd (c.in-None.ensures.none (Replay (given file) (given journal) false ForPeople false) (replay_asks (subcommand_rows_of c.in_ok-matches.matches) file journal (met ∙ replay_met is.name file journal is.no_option_file is.no_option_journal)))

@@ -1,0 +1,48 @@
+//! Files, by the paths that a command line gives.
+
+ghost use Rattle.std.specs.Prelude.{◌≡◌, true};
+
+use play::Source;
+use std::io::Read;
+use std::os::unix::fs::MetadataExt;
+use std::{fs, io};
+
+/// A file, or the standard input.
+#[derive(Drop)]
+pub enum Input {
+    File(fs::File),
+    Standard(io::Stdin),
+}
+
+impl Read for Input {
+    fn read(&mut self, buf: &mut [u8]) -> io::Result<usize> {
+        match self {
+            Input::File(file) => file.read(buf),
+            Input::Standard(input) => input.read(buf),
+        }
+    }
+}
+
+/// Opens a file; a hyphen is the standard input.
+pub fn open_file(rt: &HostRuntime, path: &str) -> Source<Input> {
+    if path == "-" {
+        return Source::Open(Input::Standard(rt.stdin()));
+    }
+    match fs::open(rt, path) {
+        Ok(file) => Source::Open(Input::File(file)),
+        Err(_) => Source::Missing,
+    }
+}
+
+/// Whether two paths lead to one file, by whatever spelling or link.
+pub fn is_one_file(rt: &HostRuntime, one: &str, other: &str) -> bool
+    ensures { one.now ≡ other.now → result ≡ true }
+{
+    if one == other {
+        return true;
+    }
+    match (fs::metadata(rt, one), fs::metadata(rt, other)) {
+        (Ok(one), Ok(other)) => one.dev() == other.dev() && one.ino() == other.ino(),
+        _ => false,
+    }
+}

@@ -1,0 +1,8 @@
+//! The files that the programs read and write, and the words that they are given.
+#![tactic(auto)]
+
+mod files;
+mod given;
+
+pub use files::{Input, is_one_file, open_file};
+pub use given::{given_words, tell};

@@ -1,0 +1,224 @@
+//! Lines of JSON: with numbers that few runs reach, and read by another reader.
+
+use crate::lines::directory;
+use crate::written::is_written;
+use json_lines::EndLine;
+use metric::{Cost, Distance};
+use network_model::{Ending, Entry, Neighbour, Prefix, Trace};
+use script::{LinkLine, MachineLine, RouterLine};
+use serde_json::Value;
+use std::alloc::Global;
+use std::process::Abort;
+use trial::{play_in_memory, run_in_memory};
+use words::{Format, Words};
+
+const RUN: Words<'static> = Words::Run {
+    file: "scenario.toml",
+    threads: 1,
+    workers: 1,
+    journal: None,
+    explain: true,
+    format: Format::Json,
+    progress: false,
+};
+
+const REPLAY: Words<'static> = Words::Replay {
+    file: "scenario.toml",
+    journal: "journal",
+    explain: false,
+    format: Format::Json,
+    progress: false,
+};
+
+const SCENARIO: &[u8] = b"routers = [\"a\", \"b\"]\nlinks = [\"a b 1 1\"]\n\
+    prefixes = [\"10.0.0.0/8 a\"]\nscript = [\"try down a b\", \"up a b\", \"settle\", \"table b\",\
+    \"lookup b 10.1.2.3\", \"lookup b 11.0.0.0\", \"trace b 10.1.2.3\", \"inject a 10.1.2.3\", \"drain\",\
+    \"state a 10.0.0.0/8\", \"down a b\", \"deliver b a\", \"state b 10.0.0.0/8\", \"report\"]\n";
+
+fn prefix(rt: &impl Abort) -> Prefix {
+    Prefix::new(0x0a00_0000, 8).expect(rt, "a prefix")
+}
+
+#[test]
+fn the_line_of_a_link(rt: HostRuntime) {
+    let line = LinkLine {
+        a: 1,
+        b: 0,
+        up: false,
+        session: u16::MAX,
+        from_a: Cost::new(1).expect(&rt, "a cost"),
+        from_b: Cost::new(65535).expect(&rt, "a cost"),
+        queued_a: 0,
+        queued_b: 70_000,
+    };
+    let directory = directory(&rt, rt.alloc());
+    let want = "{\"kind\":\"link\",\"a\":\"b\",\"b\":\"a\",\"up\":false,\"session\":65535,\
+        \"costs\":[1,65535],\"queued\":[0,70000]}";
+    is_written(&rt, rt.alloc(), &json_lines::link(&directory, line), want);
+}
+
+#[test]
+fn the_line_of_a_router(rt: HostRuntime) {
+    let line = RouterLine {
+        router: 1,
+        generation: u64::MAX,
+        held: 3,
+        ripe: 2,
+        notices: 70_000,
+    };
+    let directory = directory(&rt, rt.alloc());
+    let want = "{\"kind\":\"router\",\"router\":\"b\",\"generation\":18446744073709551615,\
+        \"held\":3,\"ripe\":2,\"notices\":70000}";
+    is_written(&rt, rt.alloc(), &json_lines::router(&directory, line), want);
+}
+
+#[test]
+fn the_lines_of_a_machine(rt: HostRuntime) {
+    let line = MachineLine {
+        router: 1,
+        prefix: prefix(&rt),
+        origin: Some(3),
+        rd: Distance::new(4_294_967_294),
+        fd: Distance::new(u32::MAX),
+        entry: Entry::Unreachable,
+    };
+    let directory = directory(&rt, rt.alloc());
+    let want = "{\"kind\":\"machine\",\"router\":\"b\",\"prefix\":\"10.0.0.0/8\",\"active\":3,\
+        \"rd\":4294967294,\"fd\":null,\"entry\":\"unreachable\"}";
+    is_written(
+        &rt,
+        rt.alloc(),
+        &json_lines::machine(&directory, line),
+        want,
+    );
+    let want = "{\"kind\":\"unheard\",\"router\":\"b\",\"prefix\":\"10.0.0.0/8\"}";
+    let line = json_lines::unheard(&directory, 1, prefix(&rt));
+    is_written(&rt, rt.alloc(), &line, want);
+}
+
+#[test]
+fn the_lines_of_rows_and_jobs(rt: HostRuntime) {
+    let directory = directory(&rt, rt.alloc());
+    let via = Entry::Via {
+        port: 0,
+        session: 65535,
+    };
+    let want = "{\"kind\":\"row\",\"router\":\"b\",\"prefix\":\"10.0.0.0/8\",\"entry\":\"via\",\
+        \"neighbour\":\"a\",\"session\":65535}";
+    let line = json_lines::row(&directory, 1, prefix(&rt), via);
+    is_written(&rt, rt.alloc(), &line, want);
+    let want = "{\"kind\":\"packet\",\"job\":18446744073709551615,\"router\":\"a\",\
+        \"address\":\"255.255.255.255\",\"prefix\":null,\"entry\":null}";
+    let line = json_lines::packet(&directory, u64::MAX, 0, u32::MAX, None);
+    is_written(&rt, rt.alloc(), &line, want);
+    let want = "{\"kind\":\"lookup\",\"router\":\"a\",\"address\":\"10.0.0.1\",\
+        \"prefix\":\"10.0.0.0/8\",\"entry\":\"local\"}";
+    let line = json_lines::lookup(
+        &directory,
+        0,
+        0x0a00_0001,
+        Some((prefix(&rt), Entry::Local)),
+    );
+    is_written(&rt, rt.alloc(), &line, want);
+}
+
+#[test]
+fn the_line_of_a_trace(rt: HostRuntime) {
+    let alloc = rt.alloc();
+    let directory = directory(&rt, alloc);
+    for (end, words) in [
+        (Ending::Delivered, "delivered"),
+        (Ending::NoRoute, "no route"),
+        (Ending::Unreachable, "unreachable"),
+        (Ending::DeadLink, "dead link"),
+        (Ending::Crossed, "crossed"),
+    ] {
+        let path = vec![in alloc; 0_u16, 1].expect(&rt, "memory");
+        let traced = Trace { path, end };
+        let want = format!(in alloc;
+            "{{\"kind\":\"trace\",\"router\":\"a\",\"address\":\"10.1.2.3\",\"path\":[\"a\",\"b\"],\"end\":\"{words}\"}}"
+        ).expect(&rt, "memory");
+        let line = json_lines::trace(&directory, 0, 0x0a01_0203, &traced);
+        is_written(&rt, alloc, &line, want.as_str());
+    }
+}
+
+#[test]
+fn the_lines_of_reasons(rt: HostRuntime) {
+    let alloc = rt.alloc();
+    let directory = directory(&rt, alloc);
+    let (prefix, cost) = (prefix(&rt), Cost::new(3).expect(&rt, "a cost"));
+    let known = Neighbour {
+        up: true,
+        cost,
+        reported: Distance::INF,
+    };
+    let down = Neighbour { up: false, ..known };
+    let want =
+        "{\"kind\":\"awaits\",\"router\":\"a\",\"prefix\":\"10.0.0.0/8\",\"neighbours\":[\"b\",\"a\"]}";
+    let awaited: [u16; 2] = [1, 0];
+    let line = json_lines::awaits(&directory, 0, prefix, awaited.as_slice());
+    is_written(&rt, alloc, &line, want);
+    let want = "{\"kind\":\"owes\",\"router\":\"a\",\"prefix\":\"10.0.0.0/8\",\"neighbour\":\"b\"}";
+    let line = json_lines::owes(&directory, 0, prefix, Some(1));
+    is_written(&rt, alloc, &line, want);
+    let want = "{\"kind\":\"attached\",\"router\":\"a\",\"prefix\":\"10.0.0.0/8\",\"cost\":3}";
+    let line = json_lines::attached(&directory, 0, prefix, cost);
+    is_written(&rt, alloc, &line, want);
+    let want =
+        "{\"kind\":\"neighbour\",\"router\":\"a\",\"prefix\":\"10.0.0.0/8\",\"neighbour\":\"b\",\"up\":true,\
+        \"cost\":3,\"reported\":null}";
+    let line = json_lines::neighbour(&directory, 0, prefix, Some(1), known);
+    is_written(&rt, alloc, &line, want);
+    let want =
+        "{\"kind\":\"neighbour\",\"router\":\"a\",\"prefix\":\"10.0.0.0/8\",\"neighbour\":\"b\",\"up\":false}";
+    let line = json_lines::neighbour(&directory, 0, prefix, Some(1), down);
+    is_written(&rt, alloc, &line, want);
+}
+
+#[test]
+fn the_last_lines(rt: HostRuntime) {
+    for (line, want) in [
+        (
+            EndLine::Done { steps: 12 },
+            "{\"kind\":\"done\",\"steps\":12}",
+        ),
+        (
+            EndLine::Agrees { steps: 12 },
+            "{\"kind\":\"replay\",\"result\":\"agrees\",\"steps\":12}",
+        ),
+        (
+            EndLine::StepsDone { steps: 12 },
+            "{\"kind\":\"replay\",\"result\":\"done\",\"steps\":12}",
+        ),
+        (
+            EndLine::Differs { line: 3 },
+            "{\"kind\":\"replay\",\"result\":\"differs\",\"report_line\":3}",
+        ),
+    ] {
+        is_written(&rt, rt.alloc(), &line, want);
+    }
+}
+
+// Each line is an object with a kind; answers how many there are.
+fn are_objects(rt: &impl Abort, alloc: Global, out: &[u8]) -> usize {
+    let text = str::from_utf8(out).expect(rt, "a text");
+    let mut count = 0_usize;
+    for line in text.lines() {
+        let object = Value::from_str(alloc, line).expect(rt, "an object");
+        assert!(rt; object.get("kind").is_some());
+        count = count.saturating_add(1);
+    }
+    count
+}
+
+#[test]
+fn another_reader_reads_each_line(rt: HostRuntime) {
+    let alloc = rt.alloc();
+    let ran = run_in_memory(&rt, alloc, &RUN, SCENARIO);
+    assert_eq!(rt; ran.status, 0);
+    assert_eq!(rt; are_objects(&rt, alloc, &ran.out), 17);
+    let again = play_in_memory(&rt, alloc, &REPLAY, SCENARIO, ran.kept.as_slice());
+    assert_eq!(rt; again.status, 0);
+    assert_eq!(rt; are_objects(&rt, alloc, &again.out), 1);
+}

@@ -1,0 +1,74 @@
+-- What books show.
+use Rattle.std.proofs.Common.{refl, ap, sym, subst, ◌∙◌, ◌≡◌, ◌≢◌, ◌⊎◌, inl, inr, ℕ, ◌+◌, ◌<◌, List, [], ◌∷◌, ◌++◌, Option, Some, None, length, get_or, set, slice_get, arith}
+use Rattle.std.specs.Prelude.{is_some, slice_set}
+use Rattle.std.specs.FinMap.{find as row_of}
+use Rattle.std.proofs.lemmas.Bool.{cases_eq}
+use Rattle.std.proofs.lemmas.List.{set-get_or}
+use Rattle.std.proofs.lemmas.Option.{get_or_from_slice_get, none-some}
+use Rattle.ipv4_prefix.specs.Prefix.{Prefix, prefix_cmp}
+use Rattle.network_model.specs.Machine.{Machine}
+use Rattle.network_model.specs.World.{Router}
+use Rattle.run_states.specs.declared.shown.MachineShown.{MachineShown}
+use Rattle.run_states.specs.Shown.{AreSame, ShowsMachine}
+use Rattle.run_states.specs.Books.{machines_after}
+use Rattle.run_states.proofs.Lists.{slice_get-set_other, slice_get-set_same}
+
+-- what shows a machine is shown of it by all that is the same
+pub shows_same : (r : Router) (p : Prefix) (m n : MachineShown) → AreSame m n → ShowsMachine r p n → ShowsMachine r p m
+shows_same r p m n same shows = record {
+  machine = shows.machine;
+  is_machine = shows.is_machine;
+  rd = same.rd ∙ shows.rd;
+  fd = same.fd ∙ shows.fd;
+  origin_is = ap is_some same.origin ∙ shows.origin_is;
+  awaits = λ q below. same.awaits q below ∙ shows.awaits q below;
+  chosen = same.chosen ∙ shows.chosen;
+  published = same.published ∙ shows.published;
+}
+
+-- one more change is made last
+pub machines_after-append : (cs : List (ℕ × MachineShown)) (c : ℕ × MachineShown) (shown : List (Option MachineShown))
+    → machines_after (cs ++ c ∷ []) shown ≡ slice_set (machines_after cs shown) c.0 (Some c.1)
+machines_after-append [] c shown = refl
+machines_after-append (d ∷ cs) c shown = machines_after-append cs c (slice_set shown d.0 (Some d.1))
+
+-- ---- machines
+
+-- the changes with that of the machine at a place, or without where it is shown as before, give what is shown
+pub noted : (cs ds : List (ℕ × MachineShown)) (first shown : List (Option MachineShown)) (n : ℕ) (now : MachineShown) (old new : Option MachineShown)
+    → shown ≡ machines_after cs first → ((ds ≡ cs ++ (n, now) ∷ []) × (new ≡ Some now)) ⊎ ((ds ≡ cs) × (new ≡ get_or shown n old))
+    → set shown n new ≡ machines_after ds first
+noted cs ds first shown n now old new follows (inl e) =
+    ap (set shown n) e.1 ∙ ap (λ xs. set xs n (Some now)) follows ∙ sym (machines_after-append cs (n, now) first) ∙ ap (λ xs. machines_after xs first) (sym e.0)
+noted cs ds first shown n now old new follows (inr e) =
+    ap (set shown n) e.1 ∙ set-get_or shown n old ∙ follows ∙ ap (λ xs. machines_after xs first) (sym e.0)
+
+-- the machines for the prefixes before this place are shown as they are
+abbrev pub ShowsMachinesBelow : Router → List Prefix → ℕ → List (Option MachineShown) → Type 0
+ShowsMachinesBelow r prefixes n shown = (j : ℕ) (p : Prefix) (m : Machine) → j < n → slice_get prefixes j ≡ Some p → row_of prefix_cmp p r.machines ≡ Some m
+    → (s : MachineShown) × (slice_get shown j ≡ Some (Some s)) × ShowsMachine r p s
+
+-- one more machine is shown
+pub shows_next : (r : Router) (prefixes : List Prefix) (n : ℕ) (shown : List (Option MachineShown)) (p : Prefix) (new : Option MachineShown)
+    → n < length prefixes → n < length shown → p ≡ get_or prefixes n p → ShowsMachinesBelow r prefixes n shown → ((s : MachineShown) × (new ≡ Some s) × ShowsMachine r p s)
+    → ShowsMachinesBelow r prefixes (n + 1) (set shown n new)
+shows_next r prefixes n shown p new within room there below here j q m less at heard = by_place (cases_eq j n)
+  where
+    by_place : (j ≡ n) ⊎ (j ≢ n) → (s : MachineShown) × (slice_get (set shown n new) j ≡ Some (Some s)) × ShowsMachine r q s
+    by_place (inl e) =
+        let same : p ≡ q = there ∙ get_or_from_slice_get prefixes n q p (ap (slice_get prefixes) (sym e) ∙ at) in
+        (here.0, ap (slice_get (set shown n new)) e ∙ slice_get-set_same shown n new room ∙ ap Some here.1, subst (λ x. ShowsMachine r x here.0) same here.2)
+    by_place (inr d) =
+        let old = below j q m (omega arith) at heard in
+        (old.0, slice_get-set_other shown n j new d ∙ old.1, old.2)
+
+-- a machine that is not there is not shown
+pub shows_none : (r : Router) (prefixes : List Prefix) (n : ℕ) (shown : List (Option MachineShown)) (p : Prefix)
+    → p ≡ get_or prefixes n p → row_of prefix_cmp p r.machines ≡ None → ShowsMachinesBelow r prefixes n shown → ShowsMachinesBelow r prefixes (n + 1) shown
+shows_none r prefixes n shown p there unheard below j q m less at heard = by_place (cases_eq j n)
+  where
+    by_place : (j ≡ n) ⊎ (j ≢ n) → (s : MachineShown) × (slice_get shown j ≡ Some (Some s)) × ShowsMachine r q s
+    by_place (inl e) =
+        let same : p ≡ q = there ∙ get_or_from_slice_get prefixes n q p (ap (slice_get prefixes) (sym e) ∙ at) in
+        absurd (none-some m (sym unheard ∙ ap (λ x. row_of prefix_cmp x r.machines) same ∙ heard))
+    by_place (inr d) = below j q m (omega arith) at heard

@@ -1,0 +1,41 @@
+-- Lists by place: what stands there after a write, and one more of their front.
+use Rattle.std.proofs.Common.{refl, ap, ◌∙◌, ◌≡◌, ◌≢◌, ℕ, zero, suc, ◌+◌, ◌<◌, List, [], ◌∷◌, ◌++◌, Some, length, set, take, slice_get, get_or, drop, subst, All, add-one, arith}
+use Rattle.std.proofs.lemmas.Option.{get_or_from_slice_get, none-some, same_Some, slice_get_within}
+use Rattle.std.proofs.lemmas.List.{set-get_or}
+use Rattle.std.proofs.Math.Seq.{take-append_seam}
+
+module _ {A : Type 0} where
+  -- what was written at a place stands there
+  pub slice_get-set_same : (xs : List A) (i : ℕ) (x : A) → i < length xs → slice_get (set xs i x) i ≡ Some x
+  slice_get-set_same [] i x below = absurd (omega (arith, below))
+  slice_get-set_same (y ∷ ys) zero x below = refl
+  slice_get-set_same (y ∷ ys) (suc i) x below = slice_get-set_same ys i x (omega (arith, below))
+
+  -- another place keeps what it had
+  pub slice_get-set_other : (xs : List A) (i j : ℕ) (x : A) → j ≢ i → slice_get (set xs i x) j ≡ slice_get xs j
+  slice_get-set_other [] i j x apart = refl
+  slice_get-set_other (y ∷ ys) zero zero x apart = absurd (apart refl)
+  slice_get-set_other (y ∷ ys) zero (suc j) x apart = refl
+  slice_get-set_other (y ∷ ys) (suc i) zero x apart = refl
+  slice_get-set_other (y ∷ ys) (suc i) (suc j) x apart = slice_get-set_other ys i j x (λ e. apart (ap suc e))
+
+  -- the front with one more element
+  pub take_next : (xs : List A) (n : ℕ) (x : A) → slice_get xs n ≡ Some x → take (n + 1) xs ≡ take n xs ++ x ∷ []
+  take_next xs n x at = rw (add-one n) (by_place xs n at)
+    where
+      by_place : (xs : List A) (n : ℕ) → slice_get xs n ≡ Some x → take (suc n) xs ≡ take n xs ++ x ∷ []
+      by_place [] n at = absurd (none-some x at)
+      by_place (y ∷ ys) zero at = ap (λ z. z ∷ []) (same_Some y x at)
+      by_place (y ∷ ys) (suc n) at = ap (λ zs. y ∷ zs) (by_place ys n at)
+
+  -- what holds of each element holds of the one at a place
+  pub all_at : (P : A → Type 0) (xs : List A) (i : ℕ) (x : A) → All P xs → slice_get xs i ≡ Some x → P x
+  all_at P xs i x all at = subst P (get_or_from_slice_get xs i x x at) (all i x (slice_get_within xs i x at))
+
+  -- all of a list was written over
+  pub written_over : (xs old : List A) (n : ℕ) → n ≡ length xs → take n (xs ++ drop (length xs) old) ≡ xs
+  written_over xs old n long = ap (λ k. take k (xs ++ drop (length xs) old)) long ∙ take-append_seam xs (drop (length xs) old)
+
+  -- an element written over by itself
+  pub written_same : (xs : List A) (n : ℕ) (x : A) → x ≡ get_or xs n x → set xs n x ≡ xs
+  written_same xs n x is = ap (set xs n) is ∙ set-get_or xs n x

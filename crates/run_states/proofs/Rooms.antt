@@ -1,0 +1,27 @@
+-- The room that a run from the opening leaves, and what shows a world.
+use Rattle.std.proofs.Common.{sym, subst, ◌≡◌, ℕ, zero, suc, ◌≤◌, List, [], ◌∷◌, length, take, ◌+◌, ◌-◌, ◌<◌, ◌^◌, arith}
+use Rattle.network_model.specs.declared.step.Step.{Step}
+use Rattle.network_model.specs.Step.{next}
+use Rattle.network_model.specs.World.{Network, World, opening}
+use Rattle.world.specs.Steps.{HasRoomForSteps}
+use Rattle.world.proofs.Runs.{less_room, next-room, opening-room}
+use Rattle.run_states.specs.declared.recorder.Recorder.{Recorder}
+use Rattle.run_states.specs.Recorders.{IsCurrent, ShowsWorld}
+
+-- the opening has room for as many steps as a list may have
+pub room_at_opening : (w : World) (n : Network) (k : ℕ) → w ≡ opening n → k < 2 ^ 64 → HasRoomForSteps k w
+room_at_opening w n k opens fits = subst (HasRoomForSteps k) (sym opens) (opening-room k n fits)
+
+-- of the room for the steps that are left there is room for those after one
+pub room_after : (w v : World) (s : Step) (n k : ℕ) → k < n → v ≡ next w s → HasRoomForSteps (n - k) w → HasRoomForSteps (n - (k + 1)) v
+room_after w v s n k left done room = subst (HasRoomForSteps (n - (k + 1))) (sym done) (next-room (n - (k + 1)) w s (less_room (suc (n - (k + 1))) (n - k) w (omega arith) room))
+
+-- where all is shown, what is not marked is
+pub shown_current : (w : World) (r : Recorder) → ShowsWorld w r → IsCurrent w r
+shown_current w r shows = record { links = λ l k b at book unmarked. shows.links l k b at book tt; routers = λ i x a b at has book unmarked. shows.routers i x a b at has book tt }
+
+-- the front of a list is no longer than the list
+pub front_length : {A : Type 0} (n : ℕ) (xs : List A) → length (take n xs) ≤ length xs
+front_length zero xs = omega arith
+front_length (suc n) [] = omega arith
+front_length (suc n) (x ∷ xs) = let shorter = front_length n xs in omega (arith, shorter)

@@ -1,0 +1,27 @@
+use Rattle.std.proofs.Common.{◌≡◌, ◌∙◌, ap, sym, true, length, arith}
+use Rattle.std.proofs.lemmas.Bool.{false≢true}
+use Rattle.std.proofs.lemmas.List.{length-map}
+use Rattle.std.proofs.lemmas.List.FromFn.{length-map-range_with_len}
+use Rattle.network_model.specs.World.{opening_link, opening_router_of}
+use Rattle.run_states.proofs.Lists.{all_at}
+use Rattle.run_states.proofs.recorder.Recorder.new.Goals as goal
+
+pub returns-clause-of : goal.returns-clause-of
+returns-clause-of c =
+    let n = c.args.network.now in
+    let given : length c.links-items.result.now ≡ length n.links = ap length c.links-items.ensures.links in
+    let links = length-map n.links opening_link in
+    let routers = length-map-range_with_len (opening_router_of n) 0 n.routers in
+    record {
+      links = omega (arith, links);
+      routers = omega (arith, routers);
+      few_links = omega arith;
+      few_routers = omega arith;
+      machines = c.loop-2.invariant.machines;
+    }
+
+pub returns-clause-current : goal.returns-clause-current
+returns-clause-current c = record {
+  links = λ l k b at book unmarked. absurd (false≢true (sym unmarked ∙ all_at (λ x. x.is_marked ≡ true) (c.loop.links).items l b c.loop.invariant.marked book));
+  routers = λ i x a b at has book unmarked. absurd (false≢true (sym unmarked ∙ all_at (λ x. x.is_marked ≡ true) (c.loop-2.routers).items i b c.loop-2.invariant.marked book));
+}

@@ -1,0 +1,54 @@
+-- Books of what was shown: what a change makes of one, and when one shows its link or its router as it is.
+use Rattle.std.specs.Prelude.{◌≡◌, ℕ, List, [], ◌∷◌, Option, Some, None, slice_get, slice_set}
+use Rattle.std.specs.FinMap.{find as row_of}
+use Rattle.ipv4_prefix.specs.Prefix.{Prefix, prefix_cmp}
+use Rattle.network_model.specs.Machine.{Machine}
+use Rattle.network_model.specs.World.{Link, Router}
+use Rattle.run_states.specs.declared.shown.MachineShown.{MachineShown}
+use Rattle.run_states.specs.declared.link_book.LinkBook.{LinkBook}
+use Rattle.run_states.specs.declared.link_book.LinkChange.{LinkChange}
+use Rattle.run_states.specs.declared.router_book.RouterBook.{RouterBook}
+use Rattle.run_states.specs.declared.router_book.RouterChange.{RouterChange}
+use Rattle.run_states.specs.Queues.{queue_after}
+use Rattle.run_states.specs.Shown.{link_shown, router_shown, ShowsMachine}
+
+-- what is shown after a change: what it says, or where it says nothing what was shown before
+abbrev pub shown_after : {X : Type 0} → Option X → Option X → Option X
+shown_after None before = before
+shown_after (Some now) before = Some now
+
+-- ---- links
+
+-- the book becomes this by the change
+pub record LinkFollows (c : LinkChange) (before after : LinkBook) : Type 0 where
+  pub shown : after.shown ≡ shown_after c.shown before.shown
+  pub to_a : (after.to_a).items ≡ queue_after c.to_a (before.to_a).items
+  pub to_b : (after.to_b).items ≡ queue_after c.to_b (before.to_b).items
+
+-- the book shows the link as it is
+pub record ShowsLink (k : Link) (b : LinkBook) : Type 0 where
+  pub shown : b.shown ≡ Some (link_shown k)
+  pub to_a : (b.to_a).items ≡ (k.a).inbox
+  pub to_b : (b.to_b).items ≡ (k.b).inbox
+
+-- ---- routers
+
+-- what is shown of machines after these changes, each of the machine at a place
+abbrev pub machines_after : List (ℕ × MachineShown) → List (Option MachineShown) → List (Option MachineShown)
+machines_after [] shown = shown
+machines_after (c ∷ cs) shown = machines_after cs (slice_set shown c.0 (Some c.1))
+
+-- the book becomes this by the change
+pub record RouterFollows (c : RouterChange) (before after : RouterBook) : Type 0 where
+  pub shown : after.shown ≡ shown_after c.shown before.shown
+  pub machines : (after.machines).items ≡ machines_after (c.machines).items (before.machines).items
+
+-- what is shown of a router's machines for these prefixes: of those that it has heard of what they are
+abbrev pub ShowsMachines : Router → List Prefix → List (Option MachineShown) → Type 0
+ShowsMachines r prefixes shown = (j : ℕ) (p : Prefix) (m : Machine) → slice_get prefixes j ≡ Some p → row_of prefix_cmp p r.machines ≡ Some m
+    → (s : MachineShown) × (slice_get shown j ≡ Some (Some s)) × ShowsMachine r p s
+
+-- the book shows the router, which has yet to take so many notices, as it is
+pub record ShowsRouter (prefixes : List Prefix) (r : Router) (notices : ℕ) (b : RouterBook) : Type 0 where
+  pub shown : b.shown ≡ Some (router_shown r notices)
+  pub machines : ShowsMachines r prefixes (b.machines).items

@@ -1,0 +1,5 @@
+pub mod Books
+pub mod Queues
+pub mod Shown
+pub mod Values
+pub mod Recorders

@@ -1,0 +1,13 @@
+-- What becomes of the items that an end of a link has yet to take.
+use Rattle.std.specs.Prelude.{◌++◌, ℕ, Bool, List, if◌then◌else◌, drop, filter}
+use Rattle.network_model.specs.declared.item.Item.{Item}
+use Rattle.network_model.specs.Step.{is_notice}
+use Rattle.run_states.specs.declared.queue.QueueChange.{QueueChange}
+
+-- what is left of a queue of which so many were taken, and then the messages lost or not
+abbrev pub left_after : ℕ → Bool → List Item → List Item
+left_after take lose items = if lose then filter is_notice (drop take items) else drop take items
+
+-- what a queue holds after a change: some are taken from its front, then its messages may be lost, then some are put
+abbrev pub queue_after : QueueChange → List Item → List Item
+queue_after c items = left_after c.take c.lose items ++ (c.put).items

@@ -1,0 +1,120 @@
+-- The JSON of what changed. A router, a link, a prefix and an end of a link go by their numbers.
+use Rattle.std.specs.Prelude.{ℕ, List, [], ◌∷◌, Bool, true, ◌==◌, nat_lt, if◌then◌else◌, Option, Some, None, map, filter, length, position, unwrap_or, codes, vec_len}
+use Rattle.std.specs.Option.{option_map_or}
+use Rattle.std.specs.List.{range_with_len}
+use Rattle.std.specs.FinSet as set
+use Rattle.std.specs.Ordering.{nat_cmp}
+use Rattle.ipv4_prefix.specs.Prefix.{Prefix, prefix_eq}
+use Rattle.metric.specs.Distance.{infinity}
+use Rattle.metric.specs.declared.kind.Kind.{Kind}
+use Rattle.metric.specs.declared.kind.Kind.TheVariants.{Update, Query, Reply}
+use Rattle.network_model.specs.World.{World, place_at}
+use Rattle.network_model.specs.declared.route.Entry.{Entry}
+use Rattle.network_model.specs.declared.route.Entry.TheVariants.{Local, Via, Unreachable}
+use Rattle.network_model.specs.declared.item.Item.{Item}
+use Rattle.network_model.specs.declared.network.End.{End}
+use Rattle.serde_json.specs.Data.{Data, null, boolean, number, string, array, object, Members, no_members, member, put, unsigned}
+use Rattle.serde_json.specs.View.{items_of}
+use Rattle.texts.specs.Words.{Text}
+use Rattle.run_states.specs.declared.shown.LinkShown.{LinkShown}
+use Rattle.run_states.specs.declared.shown.RouterShown.{RouterShown}
+use Rattle.run_states.specs.declared.shown.MachineShown.{MachineShown}
+use Rattle.run_states.specs.declared.queue.QueueChange.{QueueChange}
+
+abbrev pub count : ℕ → Data
+count n = number (unsigned n)
+
+abbrev pub word : Text → Data
+word text = string text
+
+abbrev pub list : List Data → Data
+list ds = array (items_of ds)
+
+-- what is shown of a link: the costs from its ends A and B
+abbrev pub link_data : ℕ → LinkShown → Data
+link_data l k =
+    object (member (codes "costs") (list (count k.from_a ∷ count k.from_b ∷ []))
+    (member (codes "link") (count l)
+    (member (codes "session") (count k.session)
+    (member (codes "up") (boolean k.up) no_members))))
+
+abbrev pub router_data : ℕ → RouterShown → Data
+router_data i r =
+    object (member (codes "generation") (count r.generation)
+    (member (codes "held") (count r.held)
+    (member (codes "notices") (count r.notices)
+    (member (codes "ripe") (count r.ripe)
+    (member (codes "router") (count i) no_members)))))
+
+-- a distance; null where it is infinite
+abbrev pub distance_data : ℕ → Data
+distance_data d = if d == infinity then null else count d
+
+-- the link at a router's port; null where there is no such port
+abbrev pub port_data : World → ℕ → ℕ → Data
+port_data w i q = option_map_or (λ p. count p.link) (place_at w i q) null
+
+-- an entry: a word, or the link and the session that it leads over; null where there is none
+abbrev pub entry_data : World → ℕ → Option Entry → Data
+entry_data w i None = null
+entry_data w i (Some Local) = word (codes "local")
+entry_data w i (Some Unreachable) = word (codes "unreachable")
+entry_data w i (Some (Via q session)) = list (port_data w i q ∷ count session ∷ [])
+
+-- the links at these ports of a router
+abbrev pub ports_data : World → ℕ → set.FinSet nat_cmp → Data
+ports_data w i ports = list (map (port_data w i) (filter (set.contains ports) (range_with_len 0 32)))
+
+-- what is shown of a router's machine for a prefix: the state and who is awaited, where a computation is under way
+abbrev pub machine_data : World → ℕ → ℕ → MachineShown → Data
+machine_data w i p m =
+    object (option_map_or (λ origin.
+    member (codes "active") (count origin)
+    (member (codes "awaits") (ports_data w i m.awaited) (rest w i p m))) m.origin (rest w i p m))
+  where
+    rest : World → ℕ → ℕ → MachineShown → Members
+    rest w i p m =
+        member (codes "chosen") (entry_data w i m.chosen)
+        (member (codes "fd") (distance_data m.fd)
+        (member (codes "prefix") (count p)
+        (member (codes "published") (entry_data w i m.published)
+        (member (codes "rd") (distance_data m.rd)
+        (member (codes "router") (count i) no_members)))))
+
+-- ---- queues
+
+abbrev pub kind_text : Kind → Text
+kind_text Update = codes "update"
+kind_text Query = codes "query"
+kind_text Reply = codes "reply"
+
+-- the number of a prefix; of one that is not among them, how many they are
+abbrev pub number_of_prefix : Prefix → List Prefix → ℕ
+number_of_prefix p ps = unwrap_or (position (λ other. prefix_eq other p) ps) (length ps)
+
+abbrev pub number_of_end : End → ℕ
+number_of_end End.A = 0
+number_of_end End.B = 1
+
+-- an item of a link: a word for its kind, and then a message's prefix and distance, or a cost
+abbrev pub item_data : List Prefix → Item → Data
+item_data ps (Item.Up session cost) = list (word (codes "up") ∷ count cost ∷ [])
+item_data ps (Item.Down session) = list (word (codes "down") ∷ [])
+item_data ps (Item.Cost session cost) = list (word (codes "cost") ∷ count cost ∷ [])
+item_data ps (Item.Message m) = list (word (kind_text m.kind) ∷ count (number_of_prefix m.prefix ps) ∷ distance_data m.value ∷ [])
+
+abbrev pub items_data : List Prefix → List Item → Data
+items_data ps items = list (map (item_data ps) items)
+
+-- the members, and one more where something happened
+abbrev pub put_if : Bool → Text → Data → Members → Members
+put_if happened key d ms = if happened then put key d ms else ms
+
+-- what became of the items that an end of a link has yet to take: what did not happen is not named
+abbrev pub queue_data : List Prefix → ℕ → End → QueueChange → Data
+queue_data ps l e c =
+    object (put_if (nat_lt 0 (vec_len c.put)) (codes "put") (items_data ps (c.put).items)
+    (put_if c.lose (codes "lose") (boolean true)
+    (put_if (nat_lt 0 c.take) (codes "take") (count c.take)
+    (put (codes "end") (count (number_of_end e))
+    (put (codes "link") (count l) no_members)))))

@@ -1,0 +1,213 @@
+//! What of a run was shown, and what has changed since.
+
+ghost use Rattle.std.specs.Prelude.{◌≡◌, IfOk, None, OnErr, OnOk, Some, option_map, vec_len};
+ghost use Rattle.network_model.specs.Step as steps;
+ghost use Rattle.network_model.specs.World as model;
+ghost use Rattle.world.specs.Steps.{HasRoomForSteps};
+ghost use Rattle.run_states.specs.Recorders.{AreLinksCurrent, AreRoutersCurrent, Follows, IsCurrent, IsRecorderOf, LinksFollow, Marks, RoutersFollow, ShowsLinks, ShowsRouters, ShowsWorld, touched_link, touched_router};
+
+use crate::link_book::{LinkBook, LinkChange};
+use crate::router_book::{RouterBook, RouterChange};
+use ipv4_prefix::Prefix;
+use network_model::{NoMemory, Refusal, Step};
+use std::alloc::Global;
+use world::{Network, World};
+
+/// What has become of a network since the state before: of the links and the routers of these numbers.
+#[derive(Drop)]
+pub(crate) struct Changes {
+    pub links: Vec<(u16, LinkChange)>,
+    pub routers: Vec<(u16, RouterChange)>,
+}
+
+/// What was shown of a network last, and what a step may have changed since.
+#[derive(Drop)]
+pub(crate) struct Recorder {
+    /// The prefixes of the network in their order, each once.
+    pub prefixes: Vec<Prefix>,
+    links: Vec<LinkBook>,
+    routers: Vec<RouterBook>,
+}
+
+impl Recorder {
+    /// A recorder of a network of which nothing was shown.
+    pub(crate) fn new(alloc: Global, network: &Network) -> Result<Recorder, NoMemory>
+        ensures of { IfOk result (IsRecorderOf (model.opening network.now)) }
+        ensures current { IfOk result (IsCurrent (model.opening network.now)) }
+    {
+        let prefixes = prefixes_of(alloc, network)?;
+        let mut links = Vec::new(alloc);
+        for _ in network.links() {
+            links.push(LinkBook::new(alloc))?;
+        }
+        let mut routers = Vec::new(alloc);
+        for _ in 0..network.routers() {
+            routers.push(RouterBook::new(alloc, prefixes.len())?)?;
+        }
+        Ok(Recorder {
+            prefixes,
+            links,
+            routers,
+        })
+    }
+
+    /// Does a step of the world, and marks what it may have changed. Refused, the world stays.
+    pub(crate) fn step(&mut self, world: &mut World, step: Step) -> Result<(), Refusal>
+        requires room { HasRoomForSteps 1 world.old }
+        requires of { IsRecorderOf world.old self.old }
+        requires current { IsCurrent world.old self.old }
+        ensures ok { OnOk result (steps.Lawful world.old step
+            × (world.new ≡ steps.next world.old step)) }
+        ensures err { OnErr result (world.new ≡ world.old) }
+        ensures of { IsRecorderOf world.new self.new }
+        ensures current { IsCurrent world.new self.new }
+    {
+        self.mark(world, &step);
+        world.step(step)
+    }
+
+    // Marks what a step that is about to be done may change.
+    fn mark(&mut self, world: &World, step: &Step)
+        ensures { Marks (touched_link world.now step.now) (touched_router step.now) self.old self.new }
+    {
+        match *step {
+            Step::LinkUp { link } => self.mark_link(link),
+            Step::LinkDown { link } => {
+                self.mark_link(link);
+                if let Some(book) = self.links.get_mut(usize::from(link)) {
+                    book.is_cut = true;
+                }
+            }
+            Step::SetCost {
+                router,
+                port,
+                cost: _,
+            } => self.mark_port(world, router, port),
+            Step::Deliver { router, port } => {
+                self.mark_router(router);
+                self.mark_port(world, router, port);
+            }
+            Step::Publish { router } => self.mark_router(router),
+            Step::Release { router } => {
+                self.mark_router(router);
+                self.mark_release(world, router);
+            }
+            Step::Attach {
+                router,
+                prefix: _,
+                cost: _,
+            } => self.mark_router(router),
+            Step::Detach { router, prefix: _ } => self.mark_router(router),
+        }
+    }
+
+    fn mark_link(&mut self, link: u16)
+        ensures { Marks (Some link) None self.old self.new }
+    {
+        if let Some(book) = self.links.get_mut(usize::from(link)) {
+            book.is_marked = true;
+        }
+    }
+
+    fn mark_router(&mut self, router: u16)
+        ensures { Marks None (Some router) self.old self.new }
+    {
+        if let Some(book) = self.routers.get_mut(usize::from(router)) {
+            book.is_marked = true;
+        }
+    }
+
+    // Marks the link at a router's port.
+    fn mark_port(&mut self, world: &World, router: u16, port: u8)
+        ensures { Marks (option_map (λ p. p.link) (model.place_at world.now router port)) None self.old self.new }
+    {
+        if let Some(place) = world.port(router, port) {
+            self.mark_link(place.link);
+        }
+    }
+
+    // Marks the link by which the message leaves that a router releases next.
+    fn mark_release(&mut self, world: &World, router: u16)
+        ensures { Marks (touched_link world.now (Step.Release router)) None self.old self.new }
+    {
+        if let Some(found) = world.routers().get(usize::from(router))
+            && let Some(held) = found.front()
+        {
+            self.mark_port(world, router, held.port);
+        }
+    }
+
+    /// What has become of the network since the last call; from now on it is shown as it is.
+    pub(crate) fn changes(&mut self, alloc: Global, world: &World) -> Result<Changes, NoMemory>
+        requires of { IsRecorderOf world.now self.old }
+        requires current { IsCurrent world.now self.old }
+        ensures follows { IfOk result (λ c. Follows c self.old self.new) }
+        ensures of { IsRecorderOf world.now self.new }
+        ensures shows { OnOk result (ShowsWorld world.now self.new) }
+    {
+        let links = self.link_changes(alloc, world)?;
+        let routers = self.router_changes(alloc, world)?;
+        Ok(Changes { links, routers })
+    }
+
+    fn link_changes(
+        &mut self,
+        alloc: Global,
+        world: &World,
+    ) -> Result<Vec<(u16, LinkChange)>, NoMemory>
+        requires of { IsRecorderOf world.now self.old }
+        requires current { AreLinksCurrent world.now self.old }
+        ensures follows { IfOk result (λ cs. LinksFollow cs.items (self.old.links).items (self.new.links).items) }
+        ensures len { vec_len self.new.links ≡ vec_len self.old.links }
+        ensures shows { OnOk result (ShowsLinks world.now self.new) }
+        ensures routers { self.new.routers ≡ self.old.routers }
+        ensures prefixes { self.new.prefixes ≡ self.old.prefixes }
+    {
+        let mut changes = Vec::new(alloc);
+        for number in 0..self.links.len() {
+            let book = &mut self.links[number];
+            if book.is_marked {
+                let change = book.change(alloc, world.links(), number as u16)?;
+                changes.push((number as u16, change))?;
+            }
+        }
+        Ok(changes)
+    }
+
+    fn router_changes(
+        &mut self,
+        alloc: Global,
+        world: &World,
+    ) -> Result<Vec<(u16, RouterChange)>, NoMemory>
+        requires of { IsRecorderOf world.now self.old }
+        requires current { AreRoutersCurrent world.now self.old }
+        ensures follows { IfOk result (λ cs. RoutersFollow cs.items (self.old.routers).items (self.new.routers).items) }
+        ensures of { IsRecorderOf world.now self.new }
+        ensures shows { OnOk result (ShowsRouters world.now self.new) }
+        ensures links { self.new.links ≡ self.old.links }
+        ensures prefixes { self.new.prefixes ≡ self.old.prefixes }
+    {
+        let mut changes = Vec::new(alloc);
+        for number in 0..self.routers.len() {
+            let book = &mut self.routers[number];
+            if book.is_marked {
+                let (router, notices) = (world.router(number as u16), world.notices(number as u16));
+                let change = book.change(alloc, &self.prefixes, router, notices)?;
+                changes.push((number as u16, change))?;
+            }
+        }
+        Ok(changes)
+    }
+}
+
+// The prefixes of a network, in their order, each once.
+fn prefixes_of(alloc: Global, network: &Network) -> Result<Vec<Prefix>, NoMemory> {
+    let mut prefixes: Vec<Prefix> = network
+        .attachments()
+        .iter()
+        .map(|attachment| attachment.0)
+        .collect(alloc)?;
+    prefixes.sort_unstable();
+    prefixes.dedup();
+    Ok(prefixes)
+}

@@ -1,0 +1,246 @@
+//! The JSON of what changed. A router, a link, a prefix and an end of a link go by their numbers, as the
+//! opening lists them.
+
+ghost use Rattle.std.specs.Prelude.{◌≡◌, IfOk, OnOk, map, option_map, position};
+ghost use Rattle.std.specs.List.{range_with_len};
+ghost use Rattle.serde_json.specs.Data.{array, object, string};
+ghost use Rattle.serde_json.specs.View.{view, items_of, items_view, members_view};
+ghost use Rattle.ipv4_prefix.specs.Prefix.{prefix_eq};
+ghost use Rattle.network_model.specs.World.{place_at};
+ghost use Rattle.run_states.specs.Values.{link_data, router_data, machine_data, queue_data, item_data, entry_data, distance_data, ports_data, port_data, items_data, kind_text, number_of_end, number_of_prefix, put_if as if_put};
+
+use crate::queue::QueueChange;
+use crate::shown::{LinkShown, MachineShown, RouterShown};
+use diffusing_replies::PortSet;
+use ipv4_prefix::Prefix;
+use metric::{Distance, Kind};
+use network_model::{End, Entry, Item};
+use serde_json::{Map, Value, json, put};
+use std::alloc::{AllocError, Global};
+use world::World;
+
+/// What is shown of the link of this number.
+pub(crate) fn link_value(alloc: Global, number: usize, link: LinkShown) -> Result<Value, AllocError>
+    ensures { IfOk result (λ v. view v ≡ link_data number link) }
+{
+    let costs = json!(in alloc; [link.from_a.value(), link.from_b.value()])?;
+    json!(in alloc; {"link": number, "up": link.up, "session": link.session, "costs": costs})
+}
+
+/// What is shown of the router of this number.
+pub(crate) fn router_value(
+    alloc: Global,
+    number: usize,
+    router: RouterShown,
+) -> Result<Value, AllocError>
+    ensures { IfOk result (λ v. view v ≡ router_data number router) }
+{
+    json!(in alloc; {
+        "router": number,
+        "generation": router.generation,
+        "held": router.held,
+        "ripe": router.ripe,
+        "notices": router.notices
+    })
+}
+
+/// What is shown of a router's machine for the prefix of this number.
+pub(crate) fn machine_value(
+    alloc: Global,
+    world: &World,
+    router: u16,
+    prefix: usize,
+    machine: MachineShown,
+) -> Result<Value, AllocError>
+    ensures { IfOk result (λ v. view v ≡ machine_data world.now router prefix machine) }
+{
+    let chosen = entry_value(alloc, world, router, machine.chosen)?;
+    let published = entry_value(alloc, world, router, machine.published)?;
+    let (rd, fd) = (distance_value(machine.rd), distance_value(machine.fd));
+    match machine.origin {
+        None => json!(in alloc; {
+            "router": router,
+            "prefix": prefix,
+            "rd": rd,
+            "fd": fd,
+            "chosen": chosen,
+            "published": published
+        }),
+        Some(origin) => {
+            let awaits = ports_value(alloc, world, router, machine.awaited)?;
+            json!(in alloc; {
+                "router": router,
+                "prefix": prefix,
+                "rd": rd,
+                "fd": fd,
+                "active": origin,
+                "awaits": awaits,
+                "chosen": chosen,
+                "published": published
+            })
+        }
+    }
+}
+
+// A distance; null where it is infinite.
+fn distance_value(distance: Distance) -> Value
+    ensures { view result ≡ distance_data distance }
+{
+    if distance.is_infinite() {
+        return Value::Null;
+    }
+    Value::from(distance.value())
+}
+
+// An entry: a word, or the link and the session that it leads over; null where there is none.
+fn entry_value(
+    alloc: Global,
+    world: &World,
+    router: u16,
+    entry: Option<Entry>,
+) -> Result<Value, AllocError>
+    ensures { IfOk result (λ v. view v ≡ entry_data world.now router entry) }
+{
+    match entry {
+        None => Ok(Value::Null),
+        Some(Entry::Local) => Value::try_from_str(alloc, "local"),
+        Some(Entry::Unreachable) => Value::try_from_str(alloc, "unreachable"),
+        Some(Entry::Via { port, session }) => {
+            let link = port_value(world, router, port);
+            json!(in alloc; [link, session])
+        }
+    }
+}
+
+// The link at a router's port; null where there is no such port.
+fn port_value(world: &World, router: u16, port: u8) -> Value
+    ensures { view result ≡ port_data world.now router port }
+{
+    match world.port(router, port) {
+        Some(place) => Value::from(place.link),
+        None => Value::Null,
+    }
+}
+
+// The links at these ports of a router.
+fn ports_value(
+    alloc: Global,
+    world: &World,
+    router: u16,
+    ports: PortSet,
+) -> Result<Value, AllocError>
+    ensures { IfOk result (λ v. view v ≡ ports_data world.now router ports) }
+{
+    let mut links = Vec::new(alloc);
+    for port in 0..32 {
+        if ports.has(port) {
+            links.push(port_value(world, router, port))?;
+        }
+    }
+    Ok(Value::Array(links))
+}
+
+/// What became of the items that an end of a link has yet to take. What did not happen is not named.
+pub(crate) fn queue_value(
+    alloc: Global,
+    prefixes: &[Prefix],
+    link: usize,
+    end: End,
+    change: &QueueChange,
+) -> Result<Value, AllocError>
+    ensures { IfOk result (λ v. view v ≡ queue_data prefixes.now link end change.now) }
+{
+    let mut members = Map::new(alloc);
+    put(&mut members, alloc, "link", Value::from(link))?;
+    put(&mut members, alloc, "end", Value::from(end_number(end)))?;
+    let (taken, some) = (Value::from(change.take), change.put.len() > 0);
+    put_if(&mut members, alloc, "take", change.take > 0, taken)?;
+    put_if(&mut members, alloc, "lose", change.lose, Value::Bool(true))?;
+    let items = items_value(alloc, prefixes, &change.put)?;
+    put_if(&mut members, alloc, "put", some, items)?;
+    Ok(Value::Object(members))
+}
+
+// Puts a member where something happened.
+fn put_if(
+    members: &mut Map<String, Value>,
+    alloc: Global,
+    key: &str,
+    happened: bool,
+    value: Value,
+) -> Result<(), AllocError>
+    ensures { OnOk result (members_view members.new.entries
+        ≡ if_put happened key.now (view value) (members_view members.old.entries)) }
+{
+    if happened {
+        put(members, alloc, key, value)?;
+    }
+    Ok(())
+}
+
+fn end_number(end: End) -> u8
+    ensures { result ≡ number_of_end end }
+{
+    match end {
+        End::A => 0,
+        End::B => 1,
+    }
+}
+
+// Items of a link.
+fn items_value(alloc: Global, prefixes: &[Prefix], items: &[Item]) -> Result<Value, AllocError>
+    ensures { IfOk result (λ v. view v ≡ items_data prefixes.now items.now) }
+{
+    let mut values = Vec::new(alloc);
+    for &item in items {
+        values.push(item_value(alloc, prefixes, item)?)?;
+    }
+    Ok(Value::Array(values))
+}
+
+// An item of a link: a word for its kind, and then a message's prefix and distance, or a cost.
+fn item_value(alloc: Global, prefixes: &[Prefix], item: Item) -> Result<Value, AllocError>
+    ensures { IfOk result (λ v. view v ≡ item_data prefixes.now item) }
+{
+    match item {
+        Item::Up { session: _, cost } => json!(in alloc; ["up", cost.value()]),
+        Item::Down { session: _ } => json!(in alloc; ["down"]),
+        Item::Cost { session: _, cost } => json!(in alloc; ["cost", cost.value()]),
+        Item::Message(message) => {
+            let kind = kind_word(message.kind);
+            let prefix = prefix_number(prefixes, message.prefix);
+            let value = distance_value(message.value);
+            json!(in alloc; [kind, prefix, value])
+        }
+    }
+}
+
+fn kind_word(kind: Kind) -> &'static str
+    ensures { result.now ≡ kind_text kind }
+{
+    match kind {
+        Kind::Update => "update",
+        Kind::Query => "query",
+        Kind::Reply => "reply",
+    }
+}
+
+// The number of a prefix; of one that is not among them, how many they are.
+fn prefix_number(prefixes: &[Prefix], prefix: Prefix) -> usize
+    ensures { result ≡ number_of_prefix prefix prefixes.now }
+{
+    place_of(prefixes, prefix).unwrap_or(prefixes.len())
+}
+
+fn place_of(prefixes: &[Prefix], prefix: Prefix) -> Option<usize>
+    ensures { result ≡ position (λ other. prefix_eq other prefix) prefixes.now }
+{
+    prefixes.iter().position(|other| is_same(*other, prefix))
+}
+
+#[tactic(auto, using(ipv4_prefix::proofs::PrefixOrder::prefix_partial_eq))]
+fn is_same(one: Prefix, other: Prefix) -> bool
+    ensures { result ≡ prefix_eq one other }
+{
+    one == other
+}

@@ -1,0 +1,183 @@
+//! Writes the states of a run.
+
+ghost use Rattle.std.specs.Prelude.{◌≡◌, IfOk, Ok, take};
+ghost use Rattle.network_model.specs.World as model;
+ghost use Rattle.network_model.specs.Run.{Runs};
+ghost use Rattle.play.specs.Ends.{OfBytes};
+ghost use Rattle.view.specs.Shown.{IsShown};
+
+use crate::limited::Limited;
+use journal::read_journal;
+use network_model::{NoMemory, Step};
+use play::{Cause, Fault, Host, Plan, play, read_bytes, read_plan, read_text, refuse};
+use run_states::{StatesFault, write_states};
+use script::Directory;
+use std::alloc::Global;
+use std::io;
+use std::io::{Read, Write};
+use view_page::write_page;
+use words::{Format, ViewWords, Words};
+use world::{Network, Ran};
+
+/// The most bytes of states that a page has, where fewer states make them fewer.
+const MOST_BYTES: usize = 20_000_000;
+
+/// Writes what the words ask for, and answers the exit status: 0, or 2 where a step of the journal is refused,
+/// of which a line on `err` tells, and the states before it are written; a fault is a line on `err`, and its
+/// status that of `dualnet`. Without a journal the scenario's script is run, and what it prints is lost.
+pub fn show<H, R, J, W, E>(
+    rt: &H,
+    alloc: Global,
+    words: &ViewWords<'_>,
+    scenario: R,
+    journal: J,
+    out: &mut W,
+    err: &mut E,
+) -> u8
+where
+    H: Host,
+    R: Read + Drop,
+    J: Read + Drop,
+    W: Write,
+    E: Write,
+    ensures { result ≡ 0 → OfBytes (R.remaining scenario) IsShown }
+{
+    let text = match read_text(alloc, scenario) {
+        Ok(text) => text,
+        Err(cause) => return refuse(Fault::from(cause), err),
+    };
+    let mut lines = Vec::new(alloc);
+    if words.journal.is_some() {
+        match read_bytes(alloc, journal) {
+            Ok(read) => lines = read,
+            Err(cause) => return refuse(Fault::from(cause), err),
+        }
+    } else {
+        let status = run(rt, alloc, text.as_str(), err, &mut lines);
+        if status != 0 {
+            return status;
+        }
+    }
+    match write_run(alloc, words.json, text.as_str(), &lines, out) {
+        Ok(ran) => tell(ran, err),
+        Err(fault) => refuse(fault, err),
+    }
+}
+
+// Runs the script of a scenario, and keeps its journal.
+fn run<H: Host, E: Write>(
+    rt: &H,
+    alloc: Global,
+    text: &str,
+    err: &mut E,
+    journal: &mut Vec<u8>,
+) -> u8 {
+    let words = Words::Run {
+        file: "",
+        threads: 1,
+        workers: 1,
+        journal: None,
+        explain: false,
+        format: Format::Text,
+        progress: false,
+    };
+    play(
+        rt,
+        alloc,
+        &words,
+        text.as_bytes(),
+        io::empty(),
+        &mut io::sink(),
+        err,
+        journal,
+        &mut None,
+    )
+}
+
+// Writes the states of the steps of a journal.
+fn write_run<W: Write>(
+    alloc: Global,
+    json: bool,
+    text: &str,
+    journal: &[u8],
+    out: &mut W,
+) -> Result<Ran, Fault>
+    ensures { IfOk result (λ _. IsShown text.now) }
+{
+    let Plan {
+        network,
+        directory,
+        commands: _,
+    } = read_plan(alloc, text)?;
+    let journal = read_journal(
+        alloc,
+        directory.names(),
+        network.links(),
+        network.attachments(),
+        journal,
+    )?;
+    if json {
+        let written = write_states(alloc, &network, &directory, &journal.steps, 1, out);
+        return into_fault(written);
+    }
+    let (states, ran) = states_of_page(alloc, &network, &directory, &journal.steps)?;
+    match write_page(&states, out) {
+        Ok(()) => Ok(ran),
+        Err(_) => Err(Fault::from(Cause::Unwritable)),
+    }
+}
+
+// The states of a page: after every step, or where they are more bytes than a page has, after every second, and so on;
+// and at last, of however many bytes, at the beginning and the end.
+fn states_of_page(
+    alloc: Global,
+    network: &Network,
+    directory: &Directory,
+    steps: &[Step],
+) -> Result<(Vec<u8>, Ran), Fault>
+    ensures { IfOk result (λ r. (w : model.World)
+        × Runs (model.opening network.now) (take (r.1).done steps.now) w) }
+{
+    let mut every: usize = 1;
+    for _ in 0..20 {
+        if every >= steps.len() {
+            break;
+        }
+        let mut states = Limited::new(alloc, MOST_BYTES);
+        match write_states(alloc, network, directory, steps, every, &mut states) {
+            Ok(ran) => return Ok((states.bytes, ran)),
+            Err(StatesFault::NoMemory) => return Err(Fault::from(NoMemory)),
+            Err(StatesFault::Unwritten) => every = every.saturating_mul(2),
+        }
+    }
+    let mut states = Vec::new(alloc);
+    let written = write_states(alloc, network, directory, steps, steps.len(), &mut states);
+    let ran = into_fault(written)?;
+    Ok((states, ran))
+}
+
+// Why states are not written, as a fault of the program.
+fn into_fault(written: Result<Ran, StatesFault>) -> Result<Ran, Fault>
+    ensures { IfOk result (λ ran. written ≡ Ok ran) }
+{
+    match written {
+        Ok(ran) => Ok(ran),
+        Err(StatesFault::NoMemory) => Err(Fault::from(NoMemory)),
+        Err(StatesFault::Unwritten) => Err(Fault::from(Cause::Unwritable)),
+    }
+}
+
+// Tells of a step that was refused, and answers the exit status.
+fn tell<E: Write>(ran: Ran, err: &mut E) -> u8 {
+    match ran.refusal {
+        Some(refusal) => {
+            let _ = writeln!(
+                err,
+                "dualnet: step {} refused: {refusal}",
+                ran.done.saturating_add(1)
+            );
+            2
+        }
+        None => 0,
+    }
+}

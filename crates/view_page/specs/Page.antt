@@ -1,0 +1,9 @@
+-- The text of the page.
+use Rattle.std.specs.Prelude.{ℕ, List, ◌++◌}
+use Rattle.view_page.specs.declared.code.TheConstants.{SCRIPT}
+use Rattle.view_page.specs.declared.markup.TheConstants.{BODY, END, FOOT, HEAD}
+use Rattle.view_page.specs.declared.style.TheConstants.{STYLE}
+
+-- the page that shows these states: they stand in it as they are
+abbrev pub page_text : List ℕ → List ℕ
+page_text states = (((((HEAD.now ++ STYLE.now) ++ BODY.now) ++ states) ++ FOOT.now) ++ SCRIPT.now) ++ END.now
