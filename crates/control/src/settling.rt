@@ -11,6 +11,7 @@ use crate::control::Control;
 use crate::crowd::Crowd;
 use crate::name::ControlName;
 use crate::pass::{MOST_TICKETS, Pass, ROWS_TO_CALL, publish_all, rows_due};
+use crate::progress::{Progress, STEPS_BETWEEN};
 use crate::serve::first_refusal;
 use crate::share::{Halt, Opening, Share};
 use crate::watch::Watch;
@@ -43,50 +44,57 @@ impl Origin for Brand {
 /// Lets routers take turns until nothing is left to do, or a step is refused, or there is no memory for
 /// the threads' shares. One thread takes all turns, in ascending cyclic order of the routers; while there
 /// is much to publish, up to so many do it together, and where the system gives fewer, those that it
-/// gives do all.
-pub fn settle<B, R>(
+/// gives do all. How far it is, `progress` is told.
+pub fn settle<B, P, R>(
     rt: &R,
     alloc: Global,
     fabric: &mut Fabric<B>,
     threads: u8,
+    progress: &mut P,
 ) -> Result<(), Refusal>
 where
     B: FabricName + Send + Sync,
+    P: Progress,
     R: Threads + Wait + Sync,
     ensures turns { IsServed fabric.old none_asked fabric.new }
     ensures settled { OnOk result (IsTrue (turns.is_settled (fabric.new).world)) }
     ensures err { IfErr result (λ e. IsTurnRefused fabric.old none_asked e
         ⊎ (e ≡ Refusal.NoMemory)) }
 {
-    replace_with(fabric, (rt, alloc, threads), |fabric, by| {
-        settle_moved(fabric, by)
-    })
+    let by = (rt, alloc, threads, progress);
+    replace_with(fabric, by, |fabric, by| settle_moved(fabric, by))
 }
 
 // The fabric, settled by so many threads.
-fn settle_moved<B, R>(fabric: Fabric<B>, by: (&R, Global, u8)) -> (Fabric<B>, Result<(), Refusal>)
+fn settle_moved<B, P, R>(
+    fabric: Fabric<B>,
+    by: (&R, Global, u8, &mut P),
+) -> (Fabric<B>, Result<(), Refusal>)
 where
     B: FabricName + Send + Sync,
+    P: Progress,
     R: Threads + Wait + Sync,
     ensures turns { IsServed fabric none_asked result.0 }
     ensures settled { OnOk result.1 (IsTrue (turns.is_settled (result.0).world)) }
     ensures err { IfErr result.1 (λ e. IsTurnRefused fabric none_asked e
         ⊎ (e ≡ Refusal.NoMemory)) }
 {
-    let (rt, alloc, threads) = by;
-    settle_from::<B, Brand, R>(rt, alloc, fabric, threads)
+    let (rt, alloc, threads, progress) = by;
+    settle_from::<B, Brand, P, R>(rt, alloc, fabric, threads, progress)
 }
 
 // One thread alone, and while there is much to publish all together.
-fn settle_from<B, O, R>(
+fn settle_from<B, O, P, R>(
     rt: &R,
     alloc: Global,
     fabric: Fabric<B>,
     threads: u8,
+    progress: &mut P,
 ) -> (Fabric<B>, Result<(), Refusal>)
 where
     B: FabricName + Send + Sync,
     O: Origin,
+    P: Progress,
     R: Threads + Wait + Sync,
     requires from { fabric ≡ O.from }
     ensures turns { IsServed O.from none_asked result.0 }
@@ -95,7 +103,7 @@ where
 {
     let mut fabric = fabric;
     for _ in rt.forever() {
-        let done = take_turns::<B, O, R>(rt, &mut fabric, threads > 1);
+        let done = take_turns::<B, O, P, R>(rt, &mut fabric, threads > 1, progress);
         if done.is_err() || fabric.is_settled() {
             return (fabric, done);
         }
@@ -111,10 +119,16 @@ where
 
 // One thread takes turns until nothing is left to do, or, where others may be started, there is enough to
 // publish for them.
-fn take_turns<B, O, R>(rt: &R, fabric: &mut Fabric<B>, may_start: bool) -> Result<(), Refusal>
+fn take_turns<B, O, P, R>(
+    rt: &R,
+    fabric: &mut Fabric<B>,
+    may_start: bool,
+    progress: &mut P,
+) -> Result<(), Refusal>
 where
     B: FabricName,
     O: Origin,
+    P: Progress,
     R: Wait,
     requires { IsServed O.from none_asked fabric.old }
     ensures turns { IsServed O.from none_asked fabric.new }
@@ -136,7 +150,7 @@ where
                 let _number = step.number();
                 watch.note(fabric, &step);
                 match fabric.step(rt, step) {
-                    Ok(()) => {}
+                    Ok(()) => tell(fabric, progress),
                     Err(refusal) => return Err(refusal),
                 }
             }
@@ -144,6 +158,14 @@ where
         }
     }
     Ok(())
+}
+
+// Tells how many steps were done, after every so many.
+fn tell<B: FabricName, P: Progress>(fabric: &Fabric<B>, progress: &mut P) {
+    let steps = fabric.journal().len();
+    if steps % STEPS_BETWEEN == 0 {
+        progress.steps(steps);
+    }
 }
 
 // Whether the step is a large publication, and together with it there is enough to publish for several

@@ -6,31 +6,24 @@ ghost use Rattle.dualnet.specs.Files.{scenario_of, read_journal, kept_journal};
 
 use advice::{Faulty, advise, advise_journal, file_to_explain, is_check};
 use journal::JournalFault;
-use network_model::NoMemory;
 use play::{Cause, Fault, Host, Source, play, refuse};
-use program_files::{Input, given_words, is_one_file, open_file, tell};
+use program_files::{Input, exit_code, given_words, is_one_file, open_file, tell};
 use std::io::{BufWriter, IsTerminal, LineWriter, Read, Write};
 use std::process::ExitCode;
 use std::{fs, io};
-use words::{Words, not_utf8, read_words};
+use words::{Words, read_words};
 
 fn main(rt: HostRuntime) -> ExitCode {
-    let status = match status(&rt, &rt) {
-        Ok(status) => status,
-        Err(_) => refuse(Fault::from(NoMemory), &mut rt.stderr()),
-    };
-    ExitCode::from(status)
+    let status = status(&rt, &rt);
+    exit_code(&rt, status)
 }
 
 // Does what the command line asks for.
 fn status<H: Host>(rt: &HostRuntime, wait: &H) -> io::Result<u8> {
     let alloc = rt.alloc();
-    let given = match given_words(rt, alloc) {
+    let given = match given_words(rt)? {
         Ok(given) => given,
-        Err(error) if error.kind() == io::ErrorKind::InvalidData => {
-            return Ok(tell(rt, &not_utf8(alloc)?));
-        }
-        Err(error) => return Err(error),
+        Err(status) => return Ok(status),
     };
     let words: Vec<&str> = given.iter().map(|word| word.as_str()).collect(alloc)?;
     match read_words(alloc, words.as_slice()) {

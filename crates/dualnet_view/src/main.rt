@@ -1,32 +1,27 @@
 //! The program that shows the run of a network: its states in a page, or as lines of JSON.
 #![tactic(auto)]
 
-use network_model::NoMemory;
+ghost use Rattle.std.specs.Prelude.{◌≡◌, IfSome, true};
+
 use play::{Cause, Fault, Host, Source, refuse};
-use program_files::{given_words, is_one_file, open_file, tell};
+use program_files::{exit_code, given_words, is_one_file, open_file, tell};
 use std::io::{BufWriter, Write};
 use std::process::ExitCode;
 use std::{fs, io};
 use view::show;
-use words::{ViewWords, not_utf8, read_view_words};
+use words::{ViewWords, read_view_words};
 
 fn main(rt: HostRuntime) -> ExitCode {
-    let status = match status(&rt, &rt) {
-        Ok(status) => status,
-        Err(_) => refuse(Fault::from(NoMemory), &mut rt.stderr()),
-    };
-    ExitCode::from(status)
+    let status = status(&rt, &rt);
+    exit_code(&rt, status)
 }
 
 // Does what the command line asks for.
 fn status<H: Host>(rt: &HostRuntime, wait: &H) -> io::Result<u8> {
     let alloc = rt.alloc();
-    let given = match given_words(rt, alloc) {
+    let given = match given_words(rt)? {
         Ok(given) => given,
-        Err(error) if error.kind() == io::ErrorKind::InvalidData => {
-            return Ok(tell(rt, &not_utf8(alloc)?));
-        }
-        Err(error) => return Err(error),
+        Err(status) => return Ok(status),
     };
     let words: Vec<&str> = given.iter().map(|word| word.as_str()).collect(alloc)?;
     match read_view_words(alloc, words.as_slice()) {
@@ -85,7 +80,10 @@ fn write_to<H: Host, W: Write>(
 }
 
 // Whether the path is that of a file that is read.
-fn is_read(rt: &HostRuntime, words: &ViewWords<'_>, path: &str) -> bool {
+fn is_read(rt: &HostRuntime, words: &ViewWords<'_>, path: &str) -> bool
+    ensures scenario { (words.now.file).now ≡ path.now → result ≡ true }
+    ensures journal { IfSome words.now.journal (λ j. j.now ≡ path.now → result ≡ true) }
+{
     let is_journal = match words.journal {
         Some(journal) => is_one_file(rt, journal, path),
         None => false,

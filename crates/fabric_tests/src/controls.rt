@@ -374,7 +374,7 @@ where
 {
     let mut fabric = fabric;
     assert_eq!(rt; fabric.step(rt, UP), Ok(()));
-    let done = settle(rt, alloc, &mut fabric, threads);
+    let done = settle(rt, alloc, &mut fabric, threads, &mut ());
     assert_eq!(rt; done, Ok(()));
     assert!(rt; fabric.is_settled());
     assert!(rt; fabric.journal().len() > 1);

@@ -22,16 +22,18 @@ fn finds(image: &Image, addr: &str, prefix: &str, port: u8) -> Result<bool, Fail
     Ok(image.lookup(parse_addr(addr)?) == Some(row))
 }
 
-// Sets six rows, of which some lie in others, each by way of a port of its own.
-fn set_nested(image: &mut Image) -> Result<(), Fail> {
-    for (prefix, port) in [
-        ("192.0.0.0/3", 1),
-        ("192.0.0.0/4", 2),
-        ("192.0.2.224/27", 3),
-        ("192.0.2.240/28", 4),
-        ("192.0.2.254/31", 5),
-        ("192.0.2.255/32", 6),
-    ] {
+// Six rows, of which some lie in others, each by way of a port of its own.
+pub const NESTED: [(&str, u8); 6] = [
+    ("192.0.0.0/3", 1),
+    ("192.0.0.0/4", 2),
+    ("192.0.2.224/27", 3),
+    ("192.0.2.240/28", 4),
+    ("192.0.2.254/31", 5),
+    ("192.0.2.255/32", 6),
+];
+
+pub fn set_nested(image: &mut Image) -> Result<(), Fail> {
+    for (prefix, port) in NESTED {
         set(image, prefix, port)?;
     }
     Ok(())

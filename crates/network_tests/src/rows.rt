@@ -1,5 +1,6 @@
 //! Rows that are listed and taken out, and addresses that are looked up side by side.
 
+use crate::images::{NESTED, set_nested};
 use ipv4_prefix::parse_addr;
 use std::process::Abort;
 use std::test::Fail;
@@ -67,27 +68,6 @@ fn next_prefixes(rt: HostRuntime) {
         let found = next_prefix(Prefix::covering(addr, len));
         assert_eq!(rt; found.map(|p| (p.addr(), p.len())), next);
     }
-}
-
-// Six rows, of which some lie in others.
-const NESTED: [(&str, u8); 6] = [
-    ("192.0.0.0/3", 1),
-    ("192.0.0.0/4", 2),
-    ("192.0.2.224/27", 3),
-    ("192.0.2.240/28", 4),
-    ("192.0.2.254/31", 5),
-    ("192.0.2.255/32", 6),
-];
-
-fn set_nested(image: &mut Image) -> Result<(), Fail> {
-    for (prefix, port) in NESTED {
-        set_row(
-            image,
-            Prefix::parse(prefix)?,
-            Entry::Via { port, session: 1 },
-        )?;
-    }
-    Ok(())
 }
 
 fn remove_nested(rt: &impl Abort, image: &mut Image) -> Result<(), Fail> {

@@ -12,7 +12,7 @@ use crate::fault::{Cause, Fault};
 use crate::host::Host;
 use crate::options::Options;
 use crate::plan::{Plan, read_plan};
-use crate::progress::{end_line, tell_commands};
+use crate::progress::end_line;
 use crate::read::read_text;
 use crate::replay::replay;
 use crate::session::Session;
@@ -262,7 +262,6 @@ where
 {
     let mut session = session;
     let progress = session.options.progress;
-    tell_commands(progress, 0, commands.len(), 0, err);
     let done = session.do_commands(fabric, commands, out, err);
     end_line(progress, err);
     session.finish(fabric, done, out, kept)

@@ -15,9 +15,9 @@ use crate::host::Host;
 use crate::keep::keep;
 use crate::options::Options;
 use crate::printer::Printer;
-use crate::progress::tell_commands;
+use crate::progress::ScriptProgress;
 use crate::report::{print_report, print_state};
-use control::settle;
+use control::{Progress, settle};
 use fabric::{Fabric, FabricName, Refusal};
 use json_lines::EndLine;
 use network_model::NoMemory;
@@ -64,7 +64,8 @@ where
     }
 
     /// Does the commands in order, up to the first that is refused. Their steps make a run of lawful
-    /// steps. After each it is told on `err` how far the run is, where that is asked for.
+    /// steps. After each, and while one goes on, it is told on `err` how far the run is, where that is
+    /// asked for.
     pub fn do_commands<W: Write, E: Write>(
         &mut self,
         fabric: &mut Fabric<B>,
@@ -76,12 +77,18 @@ where
         ensures stop { IfErr result (StopsAtCommand commands.now fabric.old fabric.new) }
         ensures names { self.new.directory ≡ self.old.directory }
     {
+        let mut progress = ScriptProgress {
+            asked: self.options.progress,
+            done: 0,
+            all: commands.len(),
+            err,
+        };
+        progress.steps(0);
         for (position, &command) in commands.iter().enumerate() {
-            match self.do_command(fabric, command, out) {
+            match self.do_command(fabric, command, out, &mut progress) {
                 Ok(()) => {
-                    let steps = fabric.journal().len();
-                    let done = position.saturating_add(1);
-                    tell_commands(self.options.progress, done, commands.len(), steps, err);
+                    progress.done = position.saturating_add(1);
+                    progress.steps(fabric.journal().len());
                 }
                 Err(cause) => {
                     let key = Key::Script;
@@ -95,12 +102,13 @@ where
         Ok(())
     }
 
-    /// Does one command. What it prints may be lost.
-    pub fn do_command<W: Write>(
+    /// Does one command, and tells `progress` how far it is. What it prints may be lost.
+    pub fn do_command<W: Write, P: Progress>(
         &mut self,
         fabric: &mut Fabric<B>,
         command: Command,
         out: &mut W,
+        progress: &mut P,
     ) -> Result<(), Cause>
         ensures ok { OnOk result (IsDone command fabric.old fabric.new) }
         ensures err { IfErr result (IsRefused command fabric.old fabric.new) }
@@ -120,7 +128,8 @@ where
                 Ok(())
             }
             Command::Settle => {
-                let done = settle(self.rt, self.alloc, fabric, self.options.threads);
+                let threads = self.options.threads;
+                let done = settle(self.rt, self.alloc, fabric, threads, progress);
                 into_cause(done)
             }
             Command::State { router, prefix } => {

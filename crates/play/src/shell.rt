@@ -188,7 +188,7 @@ where
         line,
     ) {
         Ok(command) => {
-            let done = session.do_command(fabric, command, out);
+            let done = session.do_command(fabric, command, out, &mut ());
             if let Err(cause) = done {
                 tell(cause, explain, out, err);
             }

@@ -5,14 +5,31 @@ ghost use Rattle.clap.specs.Words.{kind_of};
 
 use network_model::NoMemory;
 use play::{Fault, refuse};
-use std::alloc::Global;
+use std::process::ExitCode;
 use std::{env, io};
-use words::{Error, ErrorKind, exit_status};
+use words::{Error, ErrorKind, exit_status, not_utf8};
 
-/// The words that the program was given, the first of them its name. An error of the kind `InvalidData` where
-/// one is not UTF-8, and of the kind `OutOfMemory` where a growth is refused.
-pub fn given_words(rt: &HostRuntime, alloc: Global) -> io::Result<Vec<String>> {
-    Ok(env::args(rt)?.collect(alloc)?)
+/// The words that the program was given, the first of them its name. Of one that is not UTF-8 it tells, and
+/// answers the exit status. An error where a growth is refused.
+pub fn given_words(rt: &HostRuntime) -> io::Result<Result<Vec<String>, u8>> {
+    let alloc = rt.alloc();
+    match env::args(rt) {
+        Ok(words) => Ok(Ok(words.collect(alloc)?)),
+        Err(error) if error.kind() == io::ErrorKind::InvalidData => {
+            Ok(Err(tell(rt, &not_utf8(alloc)?)))
+        }
+        Err(error) => Err(error),
+    }
+}
+
+/// Ends the program with its exit status. Of an error, which comes where a growth is refused, it tells, and
+/// ends with 2.
+pub fn exit_code(rt: &HostRuntime, status: io::Result<u8>) -> ExitCode {
+    let status = match status {
+        Ok(status) => status,
+        Err(_) => refuse(Fault::from(NoMemory), &mut rt.stderr()),
+    };
+    ExitCode::from(status)
 }
 
 /// Tells of an error of the command line, or gives the help that was asked for, and answers the exit

@@ -5,4 +5,4 @@ mod files;
 mod given;
 
 pub use files::{Input, is_one_file, open_file};
-pub use given::{given_words, tell};
+pub use given::{exit_code, given_words, tell};

@@ -1,16 +1,15 @@
 -- What books show.
-use Rattle.std.proofs.Common.{refl, ap, sym, subst, ◌∙◌, ◌≡◌, ◌≢◌, ◌⊎◌, inl, inr, ℕ, ◌+◌, ◌<◌, List, [], ◌∷◌, ◌++◌, Option, Some, None, length, get_or, set, slice_get, arith}
+use Rattle.std.proofs.Common.{refl, ap, sym, subst, ◌∙◌, ◌≡◌, ◌≢◌, ◌⊎◌, inl, inr, ℕ, ◌+◌, ◌<◌, Bool, false, true, List, [], ◌∷◌, ◌++◌, Option, Some, None, length, get_or, set, slice_get, arith}
 use Rattle.std.specs.Prelude.{is_some, slice_set}
 use Rattle.std.specs.FinMap.{find as row_of}
-use Rattle.std.proofs.lemmas.Bool.{cases_eq}
+use Rattle.std.proofs.lemmas.Bool.{cases_eq, false≢true}
 use Rattle.std.proofs.lemmas.List.{set-get_or}
-use Rattle.std.proofs.lemmas.Option.{get_or_from_slice_get, none-some}
+use Rattle.std.proofs.lemmas.Option.{get_or_from_slice_get, none-some, same_Some}
 use Rattle.ipv4_prefix.specs.Prefix.{Prefix, prefix_cmp}
-use Rattle.network_model.specs.Machine.{Machine}
 use Rattle.network_model.specs.World.{Router}
 use Rattle.run_states.specs.declared.shown.MachineShown.{MachineShown}
 use Rattle.run_states.specs.Shown.{AreSame, ShowsMachine}
-use Rattle.run_states.specs.Books.{machines_after}
+use Rattle.run_states.specs.Books.{ShowsPlace, ShowsUnmarked, machines_after}
 use Rattle.run_states.proofs.Lists.{slice_get-set_other, slice_get-set_same}
 
 -- what shows a machine is shown of it by all that is the same
@@ -43,32 +42,51 @@ noted cs ds first shown n now old new follows (inl e) =
 noted cs ds first shown n now old new follows (inr e) =
     ap (set shown n) e.1 ∙ set-get_or shown n old ∙ follows ∙ ap (λ xs. machines_after xs first) (sym e.0)
 
--- the machines for the prefixes before this place are shown as they are
-abbrev pub ShowsMachinesBelow : Router → List Prefix → ℕ → List (Option MachineShown) → Type 0
-ShowsMachinesBelow r prefixes n shown = (j : ℕ) (p : Prefix) (m : Machine) → j < n → slice_get prefixes j ≡ Some p → row_of prefix_cmp p r.machines ≡ Some m
-    → (s : MachineShown) × (slice_get shown j ≡ Some (Some s)) × ShowsMachine r p s
-
--- one more machine is shown
-pub shows_next : (r : Router) (prefixes : List Prefix) (n : ℕ) (shown : List (Option MachineShown)) (p : Prefix) (new : Option MachineShown)
-    → n < length prefixes → n < length shown → p ≡ get_or prefixes n p → ShowsMachinesBelow r prefixes n shown → ((s : MachineShown) × (new ≡ Some s) × ShowsMachine r p s)
-    → ShowsMachinesBelow r prefixes (n + 1) (set shown n new)
-shows_next r prefixes n shown p new within room there below here j q m less at heard = by_place (cases_eq j n)
+-- the place of the machine for a prefix shows it from now on, and is not marked
+pub shows_next : (r : Router) (prefixes : List Prefix) (marks : List Bool) (n : ℕ) (shown : List (Option MachineShown)) (p : Prefix) (new : Option MachineShown)
+    → n < length shown → p ≡ get_or prefixes n p → ShowsUnmarked r prefixes marks shown → ((s : MachineShown) × (new ≡ Some s) × ShowsMachine r p s)
+    → ShowsUnmarked r prefixes (set marks n false) (set shown n new)
+shows_next r prefixes marks n shown p new room there all here j q m at heard unmarked = by_place (cases_eq j n)
   where
-    by_place : (j ≡ n) ⊎ (j ≢ n) → (s : MachineShown) × (slice_get (set shown n new) j ≡ Some (Some s)) × ShowsMachine r q s
+    by_place : (j ≡ n) ⊎ (j ≢ n) → ShowsPlace r q j (set shown n new)
     by_place (inl e) =
         let same : p ≡ q = there ∙ get_or_from_slice_get prefixes n q p (ap (slice_get prefixes) (sym e) ∙ at) in
         (here.0, ap (slice_get (set shown n new)) e ∙ slice_get-set_same shown n new room ∙ ap Some here.1, subst (λ x. ShowsMachine r x here.0) same here.2)
     by_place (inr d) =
-        let old = below j q m (omega arith) at heard in
+        let old = all j q m at heard (sym (slice_get-set_other marks n j false d) ∙ unmarked) in
         (old.0, slice_get-set_other shown n j new d ∙ old.1, old.2)
 
 -- a machine that is not there is not shown
-pub shows_none : (r : Router) (prefixes : List Prefix) (n : ℕ) (shown : List (Option MachineShown)) (p : Prefix)
-    → p ≡ get_or prefixes n p → row_of prefix_cmp p r.machines ≡ None → ShowsMachinesBelow r prefixes n shown → ShowsMachinesBelow r prefixes (n + 1) shown
-shows_none r prefixes n shown p there unheard below j q m less at heard = by_place (cases_eq j n)
+pub shows_none : (r : Router) (prefixes : List Prefix) (marks : List Bool) (n : ℕ) (shown : List (Option MachineShown)) (p : Prefix)
+    → p ≡ get_or prefixes n p → row_of prefix_cmp p r.machines ≡ None → ShowsUnmarked r prefixes marks shown → ShowsUnmarked r prefixes (set marks n false) shown
+shows_none r prefixes marks n shown p there unheard all j q m at heard unmarked = by_place (cases_eq j n)
   where
-    by_place : (j ≡ n) ⊎ (j ≢ n) → (s : MachineShown) × (slice_get shown j ≡ Some (Some s)) × ShowsMachine r q s
+    by_place : (j ≡ n) ⊎ (j ≢ n) → ShowsPlace r q j shown
     by_place (inl e) =
         let same : p ≡ q = there ∙ get_or_from_slice_get prefixes n q p (ap (slice_get prefixes) (sym e) ∙ at) in
         absurd (none-some m (sym unheard ∙ ap (λ x. row_of prefix_cmp x r.machines) same ∙ heard))
-    by_place (inr d) = below j q m (omega arith) at heard
+    by_place (inr d) = all j q m at heard (sym (slice_get-set_other marks n j false d) ∙ unmarked)
+
+-- ---- marks
+
+-- none before this place is set
+abbrev pub AreUnmarkedBelow : ℕ → List Bool → Type 0
+AreUnmarkedBelow n marks = (j : ℕ) → j < n → slice_get marks j ≡ Some false
+
+pub unmarked_next : (n : ℕ) (marks : List Bool) → slice_get marks n ≡ Some false → AreUnmarkedBelow n marks → AreUnmarkedBelow (n + 1) marks
+unmarked_next n marks here below j less = by_place (cases_eq j n)
+  where
+    by_place : (j ≡ n) ⊎ (j ≢ n) → slice_get marks j ≡ Some false
+    by_place (inl e) = ap (slice_get marks) e ∙ here
+    by_place (inr d) = below j (omega (arith, less, d))
+
+pub unmarked_set : (n : ℕ) (marks : List Bool) → n < length marks → AreUnmarkedBelow n marks → AreUnmarkedBelow (n + 1) (set marks n false)
+unmarked_set n marks room below =
+    unmarked_next n (set marks n false) (slice_get-set_same marks n false room) (λ j less. slice_get-set_other marks n j false (λ e. absurd (omega (arith, less, e))) ∙ below j less)
+
+-- what is not marked once this mark is set is another, and was not before
+pub left_unmarked : (marks : List Bool) (n j : ℕ) → n < length marks → slice_get (set marks n true) j ≡ Some false → (j ≢ n) × (slice_get marks j ≡ Some false)
+left_unmarked marks n j room unmarked = (apart, sym (slice_get-set_other marks n j true apart) ∙ unmarked)
+  where
+    apart : j ≢ n
+    apart e = absurd (false≢true (same_Some false true (sym unmarked ∙ ap (slice_get (set marks n true)) e ∙ slice_get-set_same marks n true room)))

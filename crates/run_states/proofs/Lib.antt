@@ -2,7 +2,9 @@ pub mod Lists
 pub mod Same
 pub mod Books
 pub mod Untouched
+pub mod Unmet
 pub mod Marked
 pub mod Followed
 pub mod Made
 pub mod Rooms
+pub mod Prefixes

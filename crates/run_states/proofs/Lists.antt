@@ -1,6 +1,6 @@
 -- Lists by place: what stands there after a write, and one more of their front.
-use Rattle.std.proofs.Common.{refl, ap, ◌∙◌, ◌≡◌, ◌≢◌, ℕ, zero, suc, ◌+◌, ◌<◌, List, [], ◌∷◌, ◌++◌, Some, length, set, take, slice_get, get_or, drop, subst, All, add-one, arith}
-use Rattle.std.proofs.lemmas.Option.{get_or_from_slice_get, none-some, same_Some, slice_get_within}
+use Rattle.std.proofs.Common.{refl, ap, sym, ◌∙◌, ◌≡◌, ◌≢◌, ℕ, zero, suc, ◌+◌, ◌<◌, ◌≤◌, None, List, [], ◌∷◌, ◌++◌, Option, Some, option_map, length, set, take, slice_get, get_or, drop, subst, All, add-one, arith}
+use Rattle.std.proofs.lemmas.Option.{get_or_from_slice_get, none-some, same_Some, slice_get-get_or, slice_get_past, slice_get_read, slice_get_within}
 use Rattle.std.proofs.lemmas.List.{set-get_or}
 use Rattle.std.proofs.Math.Seq.{take-append_seam}
 
@@ -32,6 +32,17 @@ module _ {A : Type 0} where
   pub all_at : (P : A → Type 0) (xs : List A) (i : ℕ) (x : A) → All P xs → slice_get xs i ≡ Some x → P x
   all_at P xs i x all at = subst P (get_or_from_slice_get xs i x x at) (all i x (slice_get_within xs i x at))
 
+  -- what holds of the element at each place holds of each
+  pub all_from : (P : A → Type 0) (xs : List A) → ((i : ℕ) (x : A) → slice_get xs i ≡ Some x → P x) → All P xs
+  all_from P xs each = λ i d within. each i (get_or xs i d) (slice_get-get_or xs i d within)
+
+  -- the element that was read, and where there is none
+  pub read_there : (xs ys : List A) (i k : ℕ) (x : A) → xs ≡ ys → k ≡ i → k < length xs → x ≡ get_or xs k x → slice_get ys i ≡ Some x
+  read_there xs ys i k x same place within read = ap (λ zs. slice_get zs i) (sym same) ∙ ap (slice_get xs) (sym place) ∙ slice_get_read xs (length xs) k x refl within read
+
+  pub none_there : (xs ys : List A) (i k : ℕ) → xs ≡ ys → k ≡ i → length xs ≤ k → slice_get ys i ≡ None
+  none_there xs ys i k same place past = ap (λ zs. slice_get zs i) (sym same) ∙ ap (slice_get xs) (sym place) ∙ slice_get_past xs k past
+
   -- all of a list was written over
   pub written_over : (xs old : List A) (n : ℕ) → n ≡ length xs → take n (xs ++ drop (length xs) old) ≡ xs
   written_over xs old n long = ap (λ k. take k (xs ++ drop (length xs) old)) long ∙ take-append_seam xs (drop (length xs) old)
@@ -39,3 +50,8 @@ module _ {A : Type 0} where
   -- an element written over by itself
   pub written_same : (xs : List A) (n : ℕ) (x : A) → x ≡ get_or xs n x → set xs n x ≡ xs
   written_same xs n x is = ap (set xs n) is ∙ set-get_or xs n x
+
+-- something is there that was made of something
+pub made_of : {A B : Type 0} (f : A → B) (o : Option A) (y : B) → option_map f o ≡ Some y → (x : A) × (o ≡ Some x)
+made_of f None y made = absurd (none-some y made)
+made_of f (Some x) y made = (x, refl)

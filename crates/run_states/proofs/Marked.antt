@@ -1,27 +1,241 @@
--- What is current stays so by a step whose link and router are marked.
-use Rattle.std.proofs.Common.{sym, ap, subst, ◌∙◌, ◌≡◌, ◌≢◌, ℕ, List, length, Option, Some, slice_get, Ok, Err, Result}
+-- Marks, one after another, and that what is current stays so by a step whose link, router and machines are marked.
+use Rattle.std.proofs.Common.{refl, sym, ap, subst, ◌∙◌, ◌≡◌, ◌≢◌, ◌⊎◌, inl, inr, ℕ, ◌<◌, ◌≤◌, false, List, All, length, get_or, Option, Some, None, slice_get, vec_len, Ok, Err, Result, arith}
 use Rattle.std.specs.Prelude.{OnErr, OnOk}
-use Rattle.ipv4_prefix.specs.Prefix.{Prefix}
-use Rattle.network_model.specs.World.{World}
+use Rattle.std.specs.FinMap.{find as row_of}
+use Rattle.std.specs.Vec.{with_item}
+use Rattle.std.proofs.lemmas.Bool.{cases_eq, false≢true}
+use Rattle.std.proofs.lemmas.Option.{none-some, same_Some, slice_get_read, slice_get_within}
+use Rattle.ipv4_prefix.specs.Prefix.{Prefix, prefix_cmp}
+use Rattle.network_model.specs.declared.step.Step.{Step}
+use Rattle.network_model.specs.Machine.{Machine}
+use Rattle.network_model.specs.World.{Attachments, Network, Router, World}
+use Rattle.network_model.specs.Step.{next}
+use Rattle.network_model.proofs.ListLaws.{element_there}
+use Rattle.packet_loops.proofs.Runs.{reached}
+use Rattle.packet_loops.proofs.Wiring.{wired}
+use Rattle.packet_loops.proofs.WorldLaws.{next-shape}
+use Rattle.world.specs.Headline.{IsReached}
+use Rattle.run_states.specs.declared.router_book.RouterBook.{RouterBook}
+use Rattle.run_states.specs.declared.shown.MachineShown.{MachineShown}
 use Rattle.run_states.specs.declared.recorder.Recorder.{Recorder}
-use Rattle.run_states.specs.Books.{ShowsRouter}
-use Rattle.run_states.specs.Recorders.{IsCurrent, Marks}
+use Rattle.run_states.specs.Books.{HasPlaces, MachinesMarked, ShowsPlace}
+use Rattle.run_states.specs.Recorders.{IsCurrent, IsRecorderOf, IsRouterCurrent}
+use Rattle.run_states.specs.Marks.{LinkMarked, Marks, RouterMarked, touched_link, touched_router, touches}
+use Rattle.run_states.proofs.Lists.{all_at, all_from, slice_get-set_other, slice_get-set_same}
+use Rattle.run_states.proofs.Unmet.{SameMachine, machine_untouched, stays}
+use Rattle.run_states.proofs.Untouched.{link_untouched, router_untouched}
 
--- a world changed in no link and no router but those that are marked
-pub current_after : (w v : World) (link router : Option ℕ) (before after : Recorder)
-    → ((l : ℕ) → link ≢ Some l → slice_get v.links l ≡ slice_get w.links l)
-    → ((i : ℕ) → router ≢ Some i → (slice_get v.routers i ≡ slice_get w.routers i) × (slice_get v.attachments i ≡ slice_get w.attachments i))
-    → Marks link router before after → IsCurrent w before → IsCurrent v after
-current_after w v link router before after links routers marks current = record {
+-- ---- recorders
+
+-- a link's mark keeps what a recorder is of
+link_of : (link : Option ℕ) (before after : Recorder) (v : World) → LinkMarked link before after → IsRecorderOf v before → IsRecorderOf v after
+link_of link before after v marked of = record {
+  links = marked.many ∙ of.links;
+  routers = ap vec_len marked.routers ∙ of.routers;
+  few_links = let few = of.few_links in let many = marked.many in omega (arith, few, many);
+  few_routers = let few = of.few_routers in let many = ap vec_len marked.routers in omega (arith, few, many);
+  places = subst (λ ps. All (HasPlaces (vec_len ps)) (after.routers).items) (sym marked.prefixes) (subst (λ rs. All (HasPlaces (vec_len before.prefixes)) rs.items) (sym marked.routers) of.places);
+}
+
+-- a router's mark
+router_of : (router : ℕ) (Spared : Prefix → Type 0) (before after : Recorder) (v : World) → RouterMarked router Spared before after → IsRecorderOf v before → IsRecorderOf v after
+router_of router Spared before after v marked of = record {
+  links = ap vec_len marked.links ∙ of.links;
+  routers = marked.many ∙ of.routers;
+  few_links = let few = of.few_links in let many = ap vec_len marked.links in omega (arith, few, many);
+  few_routers = let few = of.few_routers in let many = marked.many in omega (arith, few, many);
+  places = subst (λ ps. All (HasPlaces (vec_len ps)) (after.routers).items) (sym marked.prefixes) (all_from (HasPlaces (vec_len before.prefixes)) (after.routers).items (λ i b at. placed i b at (cases_eq i router)));
+}
+  where
+    placed : (i : ℕ) (b : RouterBook) → slice_get (after.routers).items i ≡ Some b → (i ≡ router) ⊎ (i ≢ router) → HasPlaces (vec_len before.prefixes) b
+    placed i b at (inl e) =
+        let old = marked.book b (subst (λ k. slice_get (after.routers).items k ≡ Some b) e at) in
+        let was = all_at (HasPlaces (vec_len before.prefixes)) (before.routers).items router old.0 of.places old.1 in
+        record { machines = ap vec_len old.2.machines ∙ was.machines; marks = old.2.places ∙ was.marks }
+    placed i b at (inr d) = all_at (HasPlaces (vec_len before.prefixes)) (before.routers).items i b of.places (sym (marked.others i d) ∙ at)
+
+-- ---- one mark
+
+-- a recorder with the book of one router written over
+abbrev pub with_router : Recorder → ℕ → RouterBook → Recorder
+with_router r k new = record { prefixes = r.prefixes; links = r.links; routers = with_item r.routers k new }
+
+-- one that is marked was written over its book
+pub router_written : (r : Recorder) (router k : ℕ) (old new : RouterBook) (Spared : Prefix → Type 0) → k ≡ router → k < vec_len r.routers → old ≡ get_or (r.routers).items k old
+    → MachinesMarked Spared (r.prefixes).items old new → RouterMarked router Spared r (with_router r k new)
+router_written r router k old new Spared is within read marked = subst (λ i. RouterMarked i Spared r (with_router r k new)) is (record {
+  prefixes = refl;
+  links = refl;
+  many = refl;
+  others = λ i d. slice_get-set_other books k i new d;
+  book = λ b at. (old, slice_get_read books (length books) k old refl room read, subst (MachinesMarked Spared (r.prefixes).items old) (same_Some new b (sym (slice_get-set_same books k new room) ∙ at)) marked);
+})
+  where
+    books : List RouterBook
+    books = (r.routers).items
+
+    room : k < length books
+    room = let ok = (r.routers).ok in omega (arith, within, ok)
+
+-- a recorder that has no such router
+pub no_router : (r : Recorder) (router : ℕ) (Spared : Prefix → Type 0) → length (r.routers).items ≤ router → RouterMarked router Spared r r
+no_router r router Spared past = record { prefixes = refl; links = refl; many = refl; others = λ i d. refl; book = λ b at. let within = slice_get_within (r.routers).items router b at in absurd (omega (arith, past, within)) }
+
+-- ---- one after another
+
+-- two marks of a router
+pub marked_twice : (router : ℕ) (One Other Both : Prefix → Type 0) (before mid after : Recorder) → RouterMarked router One before mid → RouterMarked router Other mid after
+    → ((p : Prefix) → One p → Other p → Both p) → RouterMarked router Both before after
+marked_twice router One Other Both before mid after first second both = record {
+  prefixes = second.prefixes ∙ first.prefixes;
+  links = second.links ∙ first.links;
+  many = second.many ∙ first.many;
+  others = λ i d. second.others i d ∙ first.others i d;
+  book = λ b at.
+      let between = second.book b at in
+      let old = first.book between.0 between.1 in (
+        old.0,
+        old.1,
+        record {
+          shown = between.2.shown ∙ old.2.shown;
+          machines = between.2.machines ∙ old.2.machines;
+          places = between.2.places ∙ old.2.places;
+          is_marked = between.2.is_marked;
+          spared = λ j p there unmarked.
+              let now = between.2.spared j p (subst (λ ps. slice_get ps.items j ≡ Some p) (sym first.prefixes) there) unmarked in
+              let was = old.2.spared j p there now.0 in
+              (was.0, both p was.1 now.1);
+        },
+      );
+}
+
+-- of prefixes that are spared this is so, too
+pub spares_also : (router : ℕ) (One Other : Prefix → Type 0) (before after : Recorder) → ((p : Prefix) → One p → Other p) → RouterMarked router One before after → RouterMarked router Other before after
+spares_also router One Other before after also marked = record {
+  prefixes = marked.prefixes;
+  links = marked.links;
+  many = marked.many;
+  others = marked.others;
+  book = λ b at.
+      let old = marked.book b at in
+      (old.0, old.1, record { shown = old.2.shown; machines = old.2.machines; places = old.2.places; is_marked = old.2.is_marked; spared = λ j p there unmarked. let was = old.2.spared j p there unmarked in (was.0, also p was.1) });
+}
+
+-- no link
+pub no_link : (r : Recorder) → LinkMarked None r r
+no_link r = record { prefixes = refl; routers = refl; many = refl; books = λ l b at unmarked. (at, λ e. none-some l e) }
+
+-- a step that touches no router
+pub link_marks : (w : World) (s : Step) (before after : Recorder) → touched_router s ≡ None → LinkMarked (touched_link w s) before after → Marks w s before after
+link_marks w s before after none marked = record {
+  prefixes = marked.prefixes;
+  links = marked.books;
+  others = λ i d. ap (λ rs. slice_get rs.items i) marked.routers;
+  book = λ i b is at. absurd (none-some i (sym none ∙ is));
+  of = λ v of. link_of (touched_link w s) before after v marked of;
+}
+
+-- a step that touches a router, and a link or none
+pub router_marks : (w : World) (s : Step) (router : ℕ) (Spared : Prefix → Type 0) (before mid after : Recorder) → touched_router s ≡ Some router → ((p : Prefix) → Spared p → touches w s p ≡ false)
+    → RouterMarked router Spared before mid → LinkMarked (touched_link w s) mid after → Marks w s before after
+router_marks w s router Spared before mid after is spares routers links = record {
+  prefixes = links.prefixes ∙ routers.prefixes;
+  links = λ l b at unmarked. let was = links.books l b at unmarked in (ap (λ ls. slice_get ls.items l) (sym routers.links) ∙ was.0, was.1);
+  others = λ i d. ap (λ rs. slice_get rs.items i) links.routers ∙ routers.others i (λ e. d (is ∙ ap Some (sym e)));
+  book = λ i b touched at.
+      let here : router ≡ i = same_Some router i (sym is ∙ touched) in
+      subst (λ k. (old : RouterBook) × (slice_get (before.routers).items k ≡ Some old) × MachinesMarked (λ p. touches w s p ≡ false) (before.prefixes).items old b) here
+      (let old = routers.book b (subst (λ rs. slice_get rs.items router ≡ Some b) links.routers (subst (λ k. slice_get (after.routers).items k ≡ Some b) (sym here) at)) in
+      (old.0, old.1, record { shown = old.2.shown; machines = old.2.machines; places = old.2.places; is_marked = old.2.is_marked; spared = λ j p there unmarked. let was = old.2.spared j p there unmarked in (was.0, spares p was.1) }));
+  of = λ v of. link_of (touched_link w s) mid after v links (router_of router Spared before mid v routers of);
+}
+
+-- ---- what is current
+
+-- what shows a machine shows it of a router that has the same
+shows_moved : (x y : Router) (p : Prefix) (m : Machine) (j : ℕ) (shown : List (Option MachineShown)) → row_of prefix_cmp p y.machines ≡ Some m → SameMachine p x y → ShowsPlace x p j shown → ShowsPlace y p j shown
+shows_moved x y p m j shown at same place =
+    let now = same m at in
+    let s = place.2 in
+    let is : s.machine ≡ m = same_Some s.machine m (sym s.is_machine ∙ now.0) in (
+      place.0,
+      place.1,
+      record {
+        machine = s.machine;
+        is_machine = at ∙ ap Some (sym is);
+        rd = s.rd;
+        fd = s.fd;
+        origin_is = s.origin_is;
+        awaits = s.awaits;
+        chosen = s.chosen ∙ sym now.1;
+        published = s.published ∙ sym now.2;
+      },
+    )
+
+touched_or_not : (o : Option ℕ) (i : ℕ) → (o ≡ Some i) ⊎ (o ≢ Some i)
+touched_or_not None i = inr (λ e. none-some i e)
+touched_or_not (Some k) i = by_number (cases_eq k i)
+  where
+    by_number : (k ≡ i) ⊎ (k ≢ i) → (Some k ≡ Some i) ⊎ (Some k ≢ Some i)
+    by_number (inl e) = inl (ap Some e)
+    by_number (inr d) = inr (λ e. d (same_Some k i e))
+
+-- a world that became another by a step, or stayed as it was
+pub record IsLedTo (w : World) (s : Step) (v : World) : Type 0 where
+  pub routers_len : length v.routers ≡ length w.routers
+  pub attachments_len : length v.attachments ≡ length w.attachments
+  pub links : (l : ℕ) → touched_link w s ≢ Some l → slice_get v.links l ≡ slice_get w.links l
+  pub routers : (i : ℕ) → touched_router s ≢ Some i → (slice_get v.routers i ≡ slice_get w.routers i) × (slice_get v.attachments i ≡ slice_get w.attachments i)
+  pub machines : (i : ℕ) (x y : Router) (p : Prefix) → touched_router s ≡ Some i → slice_get w.routers i ≡ Some x → slice_get v.routers i ≡ Some y → touches w s p ≡ false → SameMachine p x y
+
+pub led_to_next : (n : Network) (w : World) (s : Step) → IsReached n w → IsLedTo w s (next w s)
+led_to_next n w s r =
+    let shape = next-shape w s in
+    record {
+      routers_len = shape.routers;
+      attachments_len = shape.attachments;
+      links = link_untouched w s;
+      routers = router_untouched w s;
+      machines = λ i x y p is at there apart. machine_untouched w i x y p at ((reached n (wired n r.valid) p r.steps w r.runs).kept.routers_kept i x at).control_is s is there apart;
+    }
+
+pub led_nowhere : (w : World) (s : Step) → IsLedTo w s w
+led_nowhere w s = record {
+  routers_len = refl;
+  attachments_len = refl;
+  links = λ l d. refl;
+  routers = λ i d. (refl, refl);
+  machines = λ i x y p is at there apart. stays p x y (same_Some x y (sym at ∙ there));
+}
+
+-- what is current stays so, where what the step may change is marked
+pub current_after : (w : World) (s : Step) (v : World) (before after : Recorder) → IsLedTo w s v → IsRecorderOf w before → Marks w s before after → IsCurrent w before → IsCurrent v after
+current_after w s v before after led of marks current = record {
   links = λ l k b at book unmarked.
       let kept = marks.links l b book unmarked in
-      current.links l k b (sym (links l kept.1) ∙ at) kept.0 unmarked;
-  routers = λ i x a b at has book unmarked.
-      let kept = marks.routers i b book unmarked in
-      let same = routers i kept.1 in
-      subst (λ (ps : List Prefix). ShowsRouter ps x (length a.notices) b) (sym (ap (λ p. p.items) marks.prefixes))
-      (current.routers i x a b (sym same.0 ∙ at) (sym same.1 ∙ has) kept.0 unmarked);
+      current.links l k b (sym (led.links l kept.1) ∙ at) kept.0 unmarked;
+  routers = λ i y a b at has book.
+      subst (λ (ps : List Prefix). IsRouterCurrent ps y (length a.notices) b) (sym (ap (λ ps. ps.items) marks.prefixes)) (by_touch i y a b at has book (touched_or_not (touched_router s) i));
 }
+  where
+    by_touch : (i : ℕ) (y : Router) (a : Attachments) (b : RouterBook) → slice_get v.routers i ≡ Some y → slice_get v.attachments i ≡ Some a → slice_get (after.routers).items i ≡ Some b
+        → (touched_router s ≡ Some i) ⊎ (touched_router s ≢ Some i) → IsRouterCurrent (before.prefixes).items y (length a.notices) b
+    by_touch i y a b at has book (inr d) =
+        let same = led.routers i d in
+        current.routers i y a b (sym same.0 ∙ at) (sym same.1 ∙ has) (sym (marks.others i d) ∙ book)
+    by_touch i y a b at has book (inl is) =
+        let old = marks.book i b is book in
+        let was_router = element_there w.routers i (let within = slice_get_within v.routers i y at in let many = led.routers_len in omega (arith, within, many)) in
+        let was_attachments = element_there w.attachments i (let within = slice_get_within v.attachments i a has in let many = led.attachments_len in omega (arith, within, many)) in
+        let was = current.routers i was_router.0 was_attachments.0 old.0 was_router.1 was_attachments.1 old.1 in
+        record {
+          router = λ unmarked. absurd (false≢true (sym unmarked ∙ old.2.is_marked));
+          machines = λ j p m there heard unmarked.
+              let before_that = old.2.spared j p there unmarked in
+              let same = led.machines i was_router.0 y p is was_router.1 at before_that.1 in
+              subst (λ ms. ShowsPlace y p j ms.items) (sym old.2.machines)
+              (shows_moved was_router.0 y p m j ((old.0).machines).items heard same (was.machines j p m there (same m heard).0 before_that.0));
+        }
 
 -- what is so of both ends of a result
 pub by_result : {X E : Type 0} (r : Result X E) {A B C : Type 0} → OnOk r A → OnErr r B → (A → C) → (B → C) → C

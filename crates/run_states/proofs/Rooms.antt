@@ -18,7 +18,12 @@ room_after w v s n k left done room = subst (HasRoomForSteps (n - (k + 1))) (sym
 
 -- where all is shown, what is not marked is
 pub shown_current : (w : World) (r : Recorder) → ShowsWorld w r → IsCurrent w r
-shown_current w r shows = record { links = λ l k b at book unmarked. shows.links l k b at book tt; routers = λ i x a b at has book unmarked. shows.routers i x a b at has book tt }
+shown_current w r shows = record {
+  links = λ l k b at book unmarked. shows.links l k b at book tt;
+  routers = λ i x a b at has book.
+      let all = shows.routers i x a b at has book in
+      record { router = λ unmarked. all; machines = λ j p m there heard unmarked. all.machines j p m there heard };
+}
 
 -- the front of a list is no longer than the list
 pub front_length : {A : Type 0} (n : ℕ) (xs : List A) → length (take n xs) ≤ length xs

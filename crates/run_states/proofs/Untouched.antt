@@ -11,7 +11,7 @@ use Rattle.network_model.specs.Machine.{changed_at}
 use Rattle.network_model.specs.World.{Attachments, Link, Router, World, place_at}
 use Rattle.network_model.specs.Step.{changed_attachments, changed_link, changed_router, front_at, link_come_up, link_gone_down, next, notice_at, release_at, router_accepting, router_at_home, router_publishing, router_releasing, with_attachment, with_cost, with_delivered, with_front_taken, with_message, with_notice_taken, with_noticed, with_released, without_attachment}
 use Rattle.network_model.proofs.ListLaws.{option_map_or-ind, slice_get-changed_at_other}
-use Rattle.run_states.specs.Recorders.{touched_link, touched_router}
+use Rattle.run_states.specs.Marks.{touched_link, touched_router}
 
 -- ---- links
 

@@ -1,7 +1,8 @@
 -- Books of what was shown: what a change makes of one, and when one shows its link or its router as it is.
-use Rattle.std.specs.Prelude.{◌≡◌, ℕ, List, [], ◌∷◌, Option, Some, None, slice_get, slice_set}
+use Rattle.std.specs.Prelude.{◌≡◌, ℕ, List, [], ◌∷◌, Bool, false, true, Option, Some, None, slice_get, slice_set, vec_len}
+use Rattle.std.specs.Option.{option_map_or}
 use Rattle.std.specs.FinMap.{find as row_of}
-use Rattle.ipv4_prefix.specs.Prefix.{Prefix, prefix_cmp}
+use Rattle.ipv4_prefix.specs.Prefix.{Prefix, prefix_cmp, prefix_eq}
 use Rattle.network_model.specs.Machine.{Machine}
 use Rattle.network_model.specs.World.{Link, Router}
 use Rattle.run_states.specs.declared.shown.MachineShown.{MachineShown}
@@ -43,12 +44,38 @@ pub record RouterFollows (c : RouterChange) (before after : RouterBook) : Type 0
   pub shown : after.shown ≡ shown_after c.shown before.shown
   pub machines : (after.machines).items ≡ machines_after (c.machines).items (before.machines).items
 
+-- a place of a router's machines shows the machine for a prefix
+abbrev pub ShowsPlace : Router → Prefix → ℕ → List (Option MachineShown) → Type 0
+ShowsPlace r p j shown = (s : MachineShown) × (slice_get shown j ≡ Some (Some s)) × ShowsMachine r p s
+
 -- what is shown of a router's machines for these prefixes: of those that it has heard of what they are
 abbrev pub ShowsMachines : Router → List Prefix → List (Option MachineShown) → Type 0
-ShowsMachines r prefixes shown = (j : ℕ) (p : Prefix) (m : Machine) → slice_get prefixes j ≡ Some p → row_of prefix_cmp p r.machines ≡ Some m
-    → (s : MachineShown) × (slice_get shown j ≡ Some (Some s)) × ShowsMachine r p s
+ShowsMachines r prefixes shown = (j : ℕ) (p : Prefix) (m : Machine) → slice_get prefixes j ≡ Some p → row_of prefix_cmp p r.machines ≡ Some m → ShowsPlace r p j shown
+
+-- the same of the machines that are not marked
+abbrev pub ShowsUnmarked : Router → List Prefix → List Bool → List (Option MachineShown) → Type 0
+ShowsUnmarked r prefixes marks shown = (j : ℕ) (p : Prefix) (m : Machine) → slice_get prefixes j ≡ Some p → row_of prefix_cmp p r.machines ≡ Some m → slice_get marks j ≡ Some false
+    → ShowsPlace r p j shown
 
 -- the book shows the router, which has yet to take so many notices, as it is
 pub record ShowsRouter (prefixes : List Prefix) (r : Router) (notices : ℕ) (b : RouterBook) : Type 0 where
   pub shown : b.shown ≡ Some (router_shown r notices)
   pub machines : ShowsMachines r prefixes (b.machines).items
+
+-- a router's book has a place and a mark for each of so many prefixes
+pub record HasPlaces (n : ℕ) (b : RouterBook) : Type 0 where
+  pub machines : vec_len b.machines ≡ n
+  pub marks : vec_len b.marks ≡ n
+
+-- whether a prefix is the one that is given, or none is
+abbrev pub covers : Option Prefix → Prefix → Bool
+covers which p = option_map_or (prefix_eq p) which true
+
+-- the router's book is marked, and some of its machines: those that are not marked now were not before, and this is so of their prefixes
+pub record MachinesMarked (Spared : Prefix → Type 0) (prefixes : List Prefix) (before after : RouterBook) : Type 0 where
+  pub shown : after.shown ≡ before.shown
+  pub machines : after.machines ≡ before.machines
+  pub places : vec_len after.marks ≡ vec_len before.marks
+  pub is_marked : after.is_marked ≡ true
+  pub spared : (j : ℕ) (p : Prefix) → slice_get prefixes j ≡ Some p → slice_get (after.marks).items j ≡ Some false
+      → (slice_get (before.marks).items j ≡ Some false) × Spared p

@@ -3,3 +3,4 @@ pub mod Queues
 pub mod Shown
 pub mod Values
 pub mod Recorders
+pub mod Marks

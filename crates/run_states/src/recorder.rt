@@ -1,15 +1,19 @@
 //! What of a run was shown, and what has changed since.
 
-ghost use Rattle.std.specs.Prelude.{◌≡◌, IfOk, None, OnErr, OnOk, Some, option_map, vec_len};
+ghost use Rattle.std.specs.Prelude.{◌≡◌, IfOk, OnErr, OnOk, Some, false, option_map, vec_len};
 ghost use Rattle.network_model.specs.Step as steps;
 ghost use Rattle.network_model.specs.World as model;
+ghost use Rattle.world.specs.Headline.{IsReached};
 ghost use Rattle.world.specs.Steps.{HasRoomForSteps};
-ghost use Rattle.run_states.specs.Recorders.{AreLinksCurrent, AreRoutersCurrent, Follows, IsCurrent, IsRecorderOf, LinksFollow, Marks, RoutersFollow, ShowsLinks, ShowsRouters, ShowsWorld, touched_link, touched_router};
+ghost use Rattle.run_states.specs.Books.{covers};
+ghost use Rattle.run_states.specs.Marks.{LinkMarked, Marks, RouterMarked, message_prefix, touched_link, touches};
+ghost use Rattle.run_states.specs.Recorders.{AreLinksCurrent, ArePrefixesOf, AreRoutersCurrent, Follows, IsCurrent, IsRecorderOf, LinksFollow, RoutersFollow, ShowsLinks, ShowsRouters, ShowsWorld};
 
 use crate::link_book::{LinkBook, LinkChange};
 use crate::router_book::{RouterBook, RouterChange};
 use ipv4_prefix::Prefix;
-use network_model::{NoMemory, Refusal, Step};
+use network_model::{Item, NoMemory, Refusal, Step};
+use route_table::PrefixMap;
 use std::alloc::Global;
 use world::{Network, World};
 
@@ -34,6 +38,7 @@ impl Recorder {
     pub(crate) fn new(alloc: Global, network: &Network) -> Result<Recorder, NoMemory>
         ensures of { IfOk result (IsRecorderOf (model.opening network.now)) }
         ensures current { IfOk result (IsCurrent (model.opening network.now)) }
+        ensures prefixes { IfOk result (λ r. ArePrefixesOf (network.now).attachments r.prefixes.items) }
     {
         let prefixes = prefixes_of(alloc, network)?;
         let mut links = Vec::new(alloc);
@@ -51,8 +56,10 @@ impl Recorder {
         })
     }
 
-    /// Does a step of the world, and marks what it may have changed. Refused, the world stays.
+    /// Does a step of a world to which a run leads, and marks what it may have changed. Refused, the world
+    /// stays.
     pub(crate) fn step(&mut self, world: &mut World, step: Step) -> Result<(), Refusal>
+        requires reached { (n : model.Network) × IsReached n world.old }
         requires room { HasRoomForSteps 1 world.old }
         requires of { IsRecorderOf world.old self.old }
         requires current { IsCurrent world.old self.old }
@@ -61,6 +68,7 @@ impl Recorder {
         ensures err { OnErr result (world.new ≡ world.old) }
         ensures of { IsRecorderOf world.new self.new }
         ensures current { IsCurrent world.new self.new }
+        ensures prefixes { self.new.prefixes ≡ self.old.prefixes }
     {
         self.mark(world, &step);
         world.step(step)
@@ -68,7 +76,7 @@ impl Recorder {
 
     // Marks what a step that is about to be done may change.
     fn mark(&mut self, world: &World, step: &Step)
-        ensures { Marks (touched_link world.now step.now) (touched_router step.now) self.old self.new }
+        ensures { Marks world.now step.now self.old self.new }
     {
         match *step {
             Step::LinkUp { link } => self.mark_link(link),
@@ -84,10 +92,10 @@ impl Recorder {
                 cost: _,
             } => self.mark_port(world, router, port),
             Step::Deliver { router, port } => {
-                self.mark_router(router);
+                self.mark_machines(router, next_message(world, router, port));
                 self.mark_port(world, router, port);
             }
-            Step::Publish { router } => self.mark_router(router),
+            Step::Publish { router } => self.mark_publication(world, router),
             Step::Release { router } => {
                 self.mark_router(router);
                 self.mark_release(world, router);
@@ -102,24 +110,16 @@ impl Recorder {
     }
 
     fn mark_link(&mut self, link: u16)
-        ensures { Marks (Some link) None self.old self.new }
+        ensures { LinkMarked (Some link) self.old self.new }
     {
         if let Some(book) = self.links.get_mut(usize::from(link)) {
             book.is_marked = true;
         }
     }
 
-    fn mark_router(&mut self, router: u16)
-        ensures { Marks None (Some router) self.old self.new }
-    {
-        if let Some(book) = self.routers.get_mut(usize::from(router)) {
-            book.is_marked = true;
-        }
-    }
-
     // Marks the link at a router's port.
     fn mark_port(&mut self, world: &World, router: u16, port: u8)
-        ensures { Marks (option_map (λ p. p.link) (model.place_at world.now router port)) None self.old self.new }
+        ensures { LinkMarked (option_map (λ p. p.link) (model.place_at world.now router port)) self.old self.new }
     {
         if let Some(place) = world.port(router, port) {
             self.mark_link(place.link);
@@ -128,12 +128,43 @@ impl Recorder {
 
     // Marks the link by which the message leaves that a router releases next.
     fn mark_release(&mut self, world: &World, router: u16)
-        ensures { Marks (touched_link world.now (Step.Release router)) None self.old self.new }
+        ensures { LinkMarked (touched_link world.now (Step.Release router)) self.old self.new }
     {
         if let Some(found) = world.routers().get(usize::from(router))
             && let Some(held) = found.front()
         {
             self.mark_port(world, router, held.port);
+        }
+    }
+
+    // Marks a router, and none of its machines.
+    fn mark_router(&mut self, router: u16)
+        ensures { RouterMarked router (λ _. Unit {0}) self.old self.new }
+    {
+        if let Some(book) = self.routers.get_mut(usize::from(router)) {
+            book.is_marked = true;
+        }
+    }
+
+    // Marks a router and its machine for this prefix, or where none is given each of them.
+    fn mark_machines(&mut self, router: u16, which: Option<Prefix>)
+        ensures { RouterMarked router (λ p. covers which p ≡ false) self.old self.new }
+    {
+        if let Some(book) = self.routers.get_mut(usize::from(router)) {
+            book.mark_machines(&self.prefixes, which);
+        }
+    }
+
+    // Marks a router that is about to publish, and its machines of which it chose another row.
+    fn mark_publication(&mut self, world: &World, router: u16)
+        ensures { RouterMarked router (λ p. touches world.now (Step.Publish router) p ≡ false)
+            self.old self.new }
+    {
+        self.mark_router(router);
+        if let Some(found) = world.routers().get(usize::from(router)) {
+            for (prefix, _) in found.table().changed() {
+                self.mark_machines(router, Some(prefix));
+            }
         }
     }
 
@@ -200,14 +231,29 @@ impl Recorder {
     }
 }
 
+// The prefix of the message that a port takes next; none where it takes something else, or nothing.
+fn next_message(world: &World, router: u16, port: u8) -> Option<Prefix>
+    ensures { result ≡ message_prefix (steps.front_at world.now router port) }
+{
+    let place = world.port(router, port)?;
+    match world.links().front(place.link, place.end) {
+        Ok(Item::Message(message)) => Some(message.prefix),
+        _ => None,
+    }
+}
+
 // The prefixes of a network, in their order, each once.
-fn prefixes_of(alloc: Global, network: &Network) -> Result<Vec<Prefix>, NoMemory> {
-    let mut prefixes: Vec<Prefix> = network
-        .attachments()
-        .iter()
-        .map(|attachment| attachment.0)
-        .collect(alloc)?;
-    prefixes.sort_unstable();
-    prefixes.dedup();
+fn prefixes_of(alloc: Global, network: &Network) -> Result<Vec<Prefix>, NoMemory>
+    ensures { IfOk result (λ v. ArePrefixesOf (network.now).attachments v.items) }
+{
+    let mut given = PrefixMap::new(alloc);
+    for attachment in network.attachments() {
+        given.reserve(1)?;
+        given.put(attachment.0, ());
+    }
+    let mut prefixes = Vec::new(alloc);
+    for row in given.as_slice() {
+        prefixes.push(row.0)?;
+    }
     Ok(prefixes)
 }

@@ -1,11 +1,11 @@
 //! What was shown of a router, and of its machines.
 
-ghost use Rattle.std.specs.Prelude.{◌≡◌, ◌++◌, ◌∷◌, [], ◌⊎◌, IfOk, OnOk, Some, false, true, length, vec_len};
+ghost use Rattle.std.specs.Prelude.{◌≡◌, ◌++◌, ◌∷◌, [], ◌⊎◌, ℕ, All, IfOk, OnOk, Some, false, true, length, slice_get};
 ghost use Rattle.ipv4_prefix.specs.Prefix.{Prefix};
 ghost use Rattle.network_model.specs.World as model;
 ghost use Rattle.run_states.specs.declared.shown.MachineShown.{MachineShown};
 ghost use Rattle.run_states.specs.Shown.{ShowsMachine};
-ghost use Rattle.run_states.specs.Books.{RouterFollows, ShowsMachines, ShowsRouter, machines_after};
+ghost use Rattle.run_states.specs.Books.{HasPlaces, MachinesMarked, RouterFollows, ShowsMachines, ShowsRouter, ShowsUnmarked, covers, machines_after};
 
 use crate::shown::{MachineShown, RouterShown, machine_shown, router_news, router_shown};
 use ipv4_prefix::Prefix;
@@ -20,7 +20,9 @@ pub(crate) struct RouterBook {
     shown: Option<RouterShown>,
     /// Its machines, by the numbers of the prefixes, where they were shown.
     machines: Vec<Option<MachineShown>>,
-    /// Whether a step may have changed it.
+    /// Whether a step may have changed each of them.
+    marks: Vec<bool>,
+    /// Whether a step may have changed it, or one of its machines.
     pub is_marked: bool,
 }
 
@@ -36,16 +38,28 @@ pub(crate) struct RouterChange {
 impl RouterBook {
     /// The book of a router that was not shown, with machines for so many prefixes.
     pub(crate) fn new(alloc: Global, prefixes: usize) -> Result<RouterBook, NoMemory>
-        ensures places { IfOk result (λ b. vec_len b.machines ≡ prefixes) }
+        ensures places { IfOk result (HasPlaces prefixes) }
         ensures marked { IfOk result (λ b. b.is_marked ≡ true) }
+        ensures marks { IfOk result (λ b. All (λ m. m ≡ true) b.marks.items) }
     {
         let mut machines = Vec::new(alloc);
         machines.resize(prefixes, None)?;
+        let mut marks = Vec::new(alloc);
+        marks.resize(prefixes, true)?;
         Ok(RouterBook {
             shown: None,
             machines,
+            marks,
             is_marked: true,
         })
+    }
+
+    /// A step may have changed the machine for this prefix, or where none is given each of them.
+    pub(crate) fn mark_machines(&mut self, prefixes: &[Prefix], which: Option<Prefix>)
+        ensures { MachinesMarked (λ p. covers which p ≡ false) prefixes.now self.old self.new }
+    {
+        self.is_marked = true;
+        set_marks(prefixes, &which, &mut self.marks);
     }
 
     /// What became of the router since it was shown; from now on it is shown as it is. It has yet to take so
@@ -57,13 +71,20 @@ impl RouterBook {
         router: &Router,
         notices: usize,
     ) -> Result<RouterChange, NoMemory>
-        requires { vec_len self.old.machines ≡ length prefixes.now }
+        requires places { HasPlaces (length prefixes.now) self.old }
+        requires current { ShowsUnmarked router.now prefixes.now self.old.marks.items self.old.machines.items }
         ensures follows { IfOk result (λ c. RouterFollows c self.old self.new) }
         ensures shows { IfOk result (λ _. ShowsRouter prefixes.now router.now notices self.new) }
-        ensures len { vec_len self.new.machines ≡ vec_len self.old.machines }
+        ensures places { HasPlaces (length prefixes.now) self.new }
         ensures unmarked { IfOk result (λ _. self.new.is_marked ≡ false) }
     {
-        let machines = machine_changes(alloc, prefixes, router, &mut self.machines)?;
+        let machines = machine_changes(
+            alloc,
+            prefixes,
+            router,
+            &mut self.marks,
+            &mut self.machines,
+        )?;
         let now = router_shown(router, notices);
         let shown = router_news(self.shown, now);
         self.shown = Some(now);
@@ -72,22 +93,55 @@ impl RouterBook {
     }
 }
 
-// The machines of a router that are others than those shown; from now on they are shown as they are.
+// Sets the marks of the places whose prefixes are meant, where there are such places.
+fn set_marks(prefixes: &[Prefix], which: &Option<Prefix>, marks: &mut [bool])
+    ensures len { length marks.new ≡ length marks.old }
+    ensures unmarked { (j : ℕ) (p : Prefix) → slice_get prefixes.now j ≡ Some p
+        → slice_get marks.new j ≡ Some false
+        → (slice_get marks.old j ≡ Some false) × (covers which.now p ≡ false) }
+{
+    let places = prefixes.len().min(marks.len());
+    for number in 0..places {
+        if covers(which, prefixes[number]) {
+            marks[number] = true;
+        }
+    }
+}
+
+// Whether a prefix is the one that is given, or none is.
+fn covers(which: &Option<Prefix>, prefix: Prefix) -> bool
+    ensures { result ≡ covers which.now prefix }
+{
+    match *which {
+        Some(only) => prefix == only,
+        None => true,
+    }
+}
+
+// The marked machines of a router that are others than those shown; from now on they are shown as they are,
+// and not marked.
 fn machine_changes(
     alloc: Global,
     prefixes: &[Prefix],
     router: &Router,
+    marks: &mut [bool],
     shown: &mut [Option<MachineShown>],
 ) -> Result<Vec<(usize, MachineShown)>, NoMemory>
-    requires { length shown.old ≡ length prefixes.now }
+    requires marks { length marks.old ≡ length prefixes.now }
+    requires machines { length shown.old ≡ length prefixes.now }
+    requires current { ShowsUnmarked router.now prefixes.now marks.old shown.old }
     ensures follows { IfOk result (λ cs. shown.new ≡ machines_after cs.items shown.old) }
     ensures shows { IfOk result (λ _. ShowsMachines router.now prefixes.now shown.new) }
+    ensures marks { length marks.new ≡ length marks.old }
     ensures len { length shown.new ≡ length shown.old }
 {
     let mut changes = Vec::new(alloc);
     for (number, &prefix) in prefixes.iter().enumerate() {
-        if let Some(now) = machine_shown(router, prefix) {
-            note(number, now, &mut shown[number], &mut changes)?;
+        if marks[number] {
+            if let Some(now) = machine_shown(router, prefix) {
+                note(number, now, &mut shown[number], &mut changes)?;
+            }
+            marks[number] = false;
         }
     }
     Ok(changes)

@@ -43,6 +43,8 @@ pub fn write_states<'n, W: Write>(
     let mut ended = World::open(alloc, network)?;
     let ran = ended.run(steps);
     let mut world = World::open(alloc, network)?;
+    // A network has no faults, so the headline holds of each world that its steps lead to.
+    let _links = network.links();
     let mut recorder = Recorder::new(alloc, network)?;
     let opening = opening_value(alloc, network, directory, &recorder, ran.done, every)?;
     write_value(alloc, &opening, out)?;

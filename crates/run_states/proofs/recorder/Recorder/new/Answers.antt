@@ -1,4 +1,4 @@
-use Rattle.std.proofs.Common.{◌≡◌, ◌∙◌, ap, sym, true, length, arith}
+use Rattle.std.proofs.Common.{◌≡◌, ◌∙◌, ap, sym, false, true, All, length, arith}
 use Rattle.std.proofs.lemmas.Bool.{false≢true}
 use Rattle.std.proofs.lemmas.List.{length-map}
 use Rattle.std.proofs.lemmas.List.FromFn.{length-map-range_with_len}
@@ -17,11 +17,15 @@ returns-clause-of c =
       routers = omega (arith, routers);
       few_links = omega arith;
       few_routers = omega arith;
-      machines = c.loop-2.invariant.machines;
+      places = c.loop-2.invariant.places;
     }
 
 pub returns-clause-current : goal.returns-clause-current
 returns-clause-current c = record {
   links = λ l k b at book unmarked. absurd (false≢true (sym unmarked ∙ all_at (λ x. x.is_marked ≡ true) (c.loop.links).items l b c.loop.invariant.marked book));
-  routers = λ i x a b at has book unmarked. absurd (false≢true (sym unmarked ∙ all_at (λ x. x.is_marked ≡ true) (c.loop-2.routers).items i b c.loop-2.invariant.marked book));
+  routers = λ i x a b at has book. record {
+    router = λ unmarked. absurd (false≢true (sym unmarked ∙ all_at (λ x. x.is_marked ≡ true) (c.loop-2.routers).items i b c.loop-2.invariant.marked book));
+    machines = λ j p m there heard unmarked.
+        absurd (false≢true (all_at (λ k. k ≡ true) (b.marks).items j false (all_at (λ x. All (λ k. k ≡ true) (x.marks).items) (c.loop-2.routers).items i b c.loop-2.invariant.marks book) unmarked));
+  };
 }

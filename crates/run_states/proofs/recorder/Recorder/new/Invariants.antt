@@ -1,4 +1,5 @@
 use Rattle.std.proofs.Common.{◌≡◌, true, All, vec_len}
+use Rattle.run_states.specs.Books.{HasPlaces}
 use Rattle.run_states.proofs.recorder.Recorder.new.Given as goal
 
 abbrev pub invariant-loop : goal.invariant-loop
@@ -11,5 +12,6 @@ abbrev pub invariant-loop-2 : goal.invariant-loop-2
 invariant-loop-2 l = record {
   many : vec_len l.routers ≡ l.counter;
   marked : All (λ b. b.is_marked ≡ true) (l.routers).items;
-  machines : All (λ b. vec_len b.machines ≡ vec_len l.prefixes) (l.routers).items;
+  marks : All (λ b. All (λ k. k ≡ true) (b.marks).items) (l.routers).items;
+  places : All (HasPlaces (vec_len l.prefixes)) (l.routers).items;
 }

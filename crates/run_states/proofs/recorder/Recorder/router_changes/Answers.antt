@@ -4,10 +4,10 @@ use Rattle.std.proofs.lemmas.Option.{same_Some, slice_get_read}
 use Rattle.ipv4_prefix.specs.Prefix.{Prefix}
 use Rattle.network_model.specs.World.{Attachments, Router}
 use Rattle.run_states.specs.declared.router_book.RouterBook.{RouterBook}
-use Rattle.run_states.specs.Books.{RouterFollows, ShowsRouter}
+use Rattle.run_states.specs.Books.{HasPlaces, RouterFollows, ShowsRouter, ShowsUnmarked}
 use Rattle.run_states.specs.Recorders.{RoutersFollow}
 use Rattle.run_states.proofs.Followed.{AreShownBelow, follow_last, shown_all, shown_next, shown_still}
-use Rattle.run_states.proofs.Lists.{all_at, written_same}
+use Rattle.run_states.proofs.Lists.{made_of, slice_get-set_other, written_same}
 use Rattle.run_states.proofs.recorder.Recorder.router_changes.Goals as goal
 use Rattle.run_states.proofs.recorder.Recorder.router_changes.Goals.{then-book+in_ok-change+in_ok-push, else-book}
 
@@ -16,12 +16,23 @@ loop-number-init c =
     let first = (c.args.self.now.routers).items in
     record {
       follows = subst (λ cs. RoutersFollow cs first first) (sym c.new-changes.ensures.items) refl;
-      shown = record { current = λ j b at unmarked x a there has. c.requires.current j x a b there has at unmarked; below = λ j b less at. absurd (omega arith) };
+      shown = record { current = λ j b at unmarked x a there has. (c.requires.current j x a b there has at).router unmarked; below = λ j b less at. absurd (omega arith) };
       links = refl;
       prefixes = refl;
       many = refl;
-      machines = c.requires.of.machines;
+      places = c.requires.of.places;
+      rest = λ j past. refl;
     }
+
+pub change-requires-clause-current : goal.change-requires-clause-current
+change-requires-clause-current c =
+    let n = c.loop-number.number in
+    let books = (c.loop-number.self.routers).items in
+    let old = c.index_mut-book.result.now in
+    let there : slice_get books n ≡ Some old = slice_get_read books (length books) n old refl (omega (arith, (c.loop-number.self.routers).ok)) c.index_mut-book.ensures.value in
+    let attachments = made_of (λ (y : Attachments). length y.notices) (slice_get (c.args.world.now).attachments n) c.notices-notices.result c.notices-notices.ensures in
+    subst (λ ps. ShowsUnmarked c.router-router.result.now ps (old.marks).items (old.machines).items) (sym (c.deref.ensures.value ∙ ap (λ v. v.items) c.loop-number.invariant.prefixes))
+    (c.requires.current n c.router-router.result.now attachments.0 old c.router-router.ensures attachments.1 (sym (c.loop-number.invariant.rest n (omega arith)) ∙ there)).machines
 
 pub loop-number-preserved : goal.loop-number-preserved
 loop-number-preserved c =
@@ -34,7 +45,7 @@ loop-number-preserved c =
     let marked = λ (b : RouterBook). b.is_marked in
     let shows = λ (j : ℕ) (b : RouterBook). (x : Router) (a : Attachments) → slice_get (c.args.world.now).routers j ≡ Some x → slice_get (c.args.world.now).attachments j ≡ Some a
     → ShowsRouter (c.args.self.now.prefixes).items x (length a.notices) b in
-    let placed = λ (b : RouterBook). vec_len b.machines ≡ vec_len c.args.self.now.prefixes in
+    let placed = HasPlaces (vec_len c.args.self.now.prefixes) in
     elim c.if-book.branch [
       | then-book+in_ok-change+in_ok-push w ↦
           let new = w.change.new.self in
@@ -55,8 +66,11 @@ loop-number-preserved c =
             links = ap (λ r. r.links) w.self-is ∙ c.loop-number.invariant.links;
             prefixes = ap (λ r. r.prefixes) w.self-is ∙ c.loop-number.invariant.prefixes;
             many = ap (λ r. (r.routers).len) w.self-is ∙ c.loop-number.invariant.many;
-            machines = subst (All placed) (sym now)
-                (All-set placed books n new (w.in_ok-change.ensures.len ∙ all_at placed books n old c.loop-number.invariant.machines there) c.loop-number.invariant.machines);
+            places = subst (All placed) (sym now)
+                (All-set placed books n new
+                (subst (λ k. HasPlaces k new) (ap length w.deref.ensures.value ∙ sym (c.loop-number.self.prefixes).ok.0 ∙ ap (λ v. v.len) c.loop-number.invariant.prefixes) w.in_ok-change.ensures.places)
+                c.loop-number.invariant.places);
+            rest = λ j past. ap (λ bs. slice_get bs j) now ∙ slice_get-set_other books n j new (λ e. absurd (omega (arith, past, e))) ∙ c.loop-number.invariant.rest j (omega (arith, past));
           }
       | else-book w ↦
           let now : (c.if-book.self.routers).items ≡ books = ap (λ r. (r.routers).items) w.self-is ∙ written_same books n old c.index_mut-book.ensures.value in
@@ -67,12 +81,13 @@ loop-number-preserved c =
             links = ap (λ r. r.links) w.self-is ∙ c.loop-number.invariant.links;
             prefixes = ap (λ r. r.prefixes) w.self-is ∙ c.loop-number.invariant.prefixes;
             many = ap (λ r. (r.routers).len) w.self-is ∙ c.loop-number.invariant.many;
-            machines = subst (All placed) (sym now) c.loop-number.invariant.machines;
+            places = subst (All placed) (sym now) c.loop-number.invariant.places;
+            rest = λ j past. ap (λ bs. slice_get bs j) now ∙ c.loop-number.invariant.rest j (omega (arith, past));
           }
     ]
 
 pub returns-clause-shows : goal.returns-clause-shows
-returns-clause-shows c = λ i x a b at has book all.
+returns-clause-shows c = λ i x a b at has book.
     let books = (c.loop-number.self.routers).items in
     let marked = λ (b : RouterBook). b.is_marked in
     let shows = λ (j : ℕ) (b : RouterBook). (x : Router) (a : Attachments) → slice_get (c.args.world.now).routers j ≡ Some x → slice_get (c.args.world.now).attachments j ≡ Some a

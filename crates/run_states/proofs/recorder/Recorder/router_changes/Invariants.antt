@@ -1,7 +1,7 @@
-use Rattle.std.proofs.Common.{◌≡◌, Some, All, length, slice_get, vec_len}
+use Rattle.std.proofs.Common.{◌≡◌, ◌≤◌, ℕ, Some, All, length, slice_get, vec_len}
 use Rattle.network_model.specs.World.{Attachments, Router}
 use Rattle.run_states.specs.declared.router_book.RouterBook.{RouterBook}
-use Rattle.run_states.specs.Books.{ShowsRouter}
+use Rattle.run_states.specs.Books.{HasPlaces, ShowsRouter}
 use Rattle.run_states.specs.Recorders.{RoutersFollow}
 use Rattle.run_states.proofs.Followed.{AreShownBelow}
 use Rattle.run_states.proofs.recorder.Recorder.router_changes.Given as goal
@@ -13,5 +13,6 @@ invariant-loop-number l = record {
   links : l.self.links ≡ l.initial.self.links;
   prefixes : l.self.prefixes ≡ l.initial.self.prefixes;
   many : vec_len l.self.routers ≡ vec_len l.initial.self.routers;
-  machines : All (λ (b : RouterBook). vec_len b.machines ≡ vec_len l.initial.self.prefixes) (l.self.routers).items;
+  places : All (HasPlaces (vec_len l.initial.self.prefixes)) (l.self.routers).items;
+  rest : (j : ℕ) → l.number ≤ j → slice_get (l.self.routers).items j ≡ slice_get (l.initial.self.routers).items j;
 }

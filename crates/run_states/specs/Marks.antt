@@ -1,0 +1,86 @@
+-- What a step may change, and the marks of it.
+use Rattle.std.specs.Prelude.{◌≡◌, ◌≢◌, ℕ, Bool, false, is_some, Option, Some, None, slice_get, vec_len, option_map, option_and_then}
+use Rattle.std.specs.FinMap.{find as row_of}
+use Rattle.std.specs.Option.{option_map_or}
+use Rattle.ipv4_prefix.specs.Prefix.{Prefix, prefix_cmp}
+use Rattle.network_model.specs.declared.item.Item.{Item}
+use Rattle.network_model.specs.declared.step.Step.{Step}
+use Rattle.network_model.specs.declared.step.Step.TheVariants.{LinkUp, LinkDown, SetCost, Deliver, Publish, Release, Attach, Detach}
+use Rattle.network_model.specs.World.{World, place_at}
+use Rattle.network_model.specs.Step.{changed_rows, front_at, release_at}
+use Rattle.run_states.specs.declared.link_book.LinkBook.{LinkBook}
+use Rattle.run_states.specs.declared.router_book.RouterBook.{RouterBook}
+use Rattle.run_states.specs.declared.recorder.Recorder.{Recorder}
+use Rattle.run_states.specs.Books.{MachinesMarked, covers}
+use Rattle.run_states.specs.Recorders.{IsRecorderOf}
+
+-- the link that a step may change
+abbrev pub touched_link : World → Step → Option ℕ
+touched_link w (LinkUp l) = Some l
+touched_link w (LinkDown l) = Some l
+touched_link w (SetCost i q cost) = option_map (λ p. p.link) (place_at w i q)
+touched_link w (Deliver i q) = option_map (λ p. p.link) (place_at w i q)
+touched_link w (Publish i) = None
+touched_link w (Release i) = option_and_then (λ h. option_map (λ p. p.link) (place_at w i h.port)) (release_at w i)
+touched_link w (Attach i p cost) = None
+touched_link w (Detach i p) = None
+
+-- the router that a step may change, with its attachments
+abbrev pub touched_router : Step → Option ℕ
+touched_router (LinkUp l) = None
+touched_router (LinkDown l) = None
+touched_router (SetCost i q cost) = None
+touched_router (Deliver i q) = Some i
+touched_router (Publish i) = Some i
+touched_router (Release i) = Some i
+touched_router (Attach i p cost) = Some i
+touched_router (Detach i p) = Some i
+
+-- the prefix of an item that is a message
+abbrev pub message_prefix : Option Item → Option Prefix
+message_prefix (Some (Item.Message m)) = Some m.prefix
+message_prefix (Some (Item.Up session cost)) = None
+message_prefix (Some (Item.Down session)) = None
+message_prefix (Some (Item.Cost session cost)) = None
+message_prefix None = None
+
+-- whether a step may change the machine of that router for a prefix, or one of its rows: a message is for one prefix, all else that is
+-- delivered may be for each, and a publication puts the rows in force that changed
+abbrev pub touches : World → Step → Prefix → Bool
+touches w (LinkUp l) p = false
+touches w (LinkDown l) p = false
+touches w (SetCost i q cost) p = false
+touches w (Deliver i q) p = covers (message_prefix (front_at w i q)) p
+touches w (Publish i) p = option_map_or (λ r. is_some (row_of prefix_cmp p (changed_rows r.table))) (slice_get w.routers i) false
+touches w (Release i) p = false
+touches w (Attach i p' cost) p = false
+touches w (Detach i p') p = false
+
+-- this link's book is marked, where there is one, and all else of the recorder stays: those that are not marked now were not changed, and
+-- are of others
+pub record LinkMarked (link : Option ℕ) (before after : Recorder) : Type 0 where
+  pub prefixes : after.prefixes ≡ before.prefixes
+  pub routers : after.routers ≡ before.routers
+  pub many : vec_len after.links ≡ vec_len before.links
+  pub books : (l : ℕ) (b : LinkBook) → slice_get (after.links).items l ≡ Some b → b.is_marked ≡ false
+      → (slice_get (before.links).items l ≡ Some b) × (link ≢ Some l)
+
+-- this router's book is marked, where there is one, with all of its machines but for prefixes of which this is so; all else of the
+-- recorder stays
+pub record RouterMarked (router : ℕ) (Spared : Prefix → Type 0) (before after : Recorder) : Type 0 where
+  pub prefixes : after.prefixes ≡ before.prefixes
+  pub links : after.links ≡ before.links
+  pub many : vec_len after.routers ≡ vec_len before.routers
+  pub others : (i : ℕ) → i ≢ router → slice_get (after.routers).items i ≡ slice_get (before.routers).items i
+  pub book : (b : RouterBook) → slice_get (after.routers).items router ≡ Some b
+      → (old : RouterBook) × (slice_get (before.routers).items router ≡ Some old) × MachinesMarked Spared (before.prefixes).items old b
+
+-- all that a step may change is marked, and all else of the recorder stays
+pub record Marks (w : World) (s : Step) (before after : Recorder) : Type 0 where
+  pub prefixes : after.prefixes ≡ before.prefixes
+  pub links : (l : ℕ) (b : LinkBook) → slice_get (after.links).items l ≡ Some b → b.is_marked ≡ false
+      → (slice_get (before.links).items l ≡ Some b) × (touched_link w s ≢ Some l)
+  pub others : (i : ℕ) → touched_router s ≢ Some i → slice_get (after.routers).items i ≡ slice_get (before.routers).items i
+  pub book : (i : ℕ) (b : RouterBook) → touched_router s ≡ Some i → slice_get (after.routers).items i ≡ Some b
+      → (old : RouterBook) × (slice_get (before.routers).items i ≡ Some old) × MachinesMarked (λ p. touches w s p ≡ false) (before.prefixes).items old b
+  pub of : (v : World) → IsRecorderOf v before → IsRecorderOf v after
