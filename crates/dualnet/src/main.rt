@@ -1,13 +1,13 @@
 //! The program: a network of IPv4 routers, run by the script of a scenario.
 #![tactic(auto)]
 
-ghost use Rattle.std.specs.Prelude.{◌≡◌};
-ghost use Rattle.dualnet.specs.Files.{scenario_of, read_journal, kept_journal};
-
 use advice::{Faulty, advise, advise_journal, file_to_explain, is_check};
 use journal::JournalFault;
 use play::{Cause, Fault, Host, Source, play, refuse};
-use program_files::{Input, exit_code, given_words, is_one_file, open_file, tell};
+use program_files::{
+    Input, exit_code, given_words, is_one_file, kept_path, open_file, replayed_path, scenario_path,
+    tell,
+};
 use std::io::{BufWriter, IsTerminal, LineWriter, Read, Write};
 use std::process::ExitCode;
 use std::{fs, io};
@@ -114,76 +114,6 @@ fn tell_line(rt: &HostRuntime, words: &Words<'_>, fault: Fault, journal: &[u8]) 
     ) {
         let text = str::from_utf8(journal).unwrap_or("");
         let _ = advise_journal(path, text, line, &mut rt.stderr());
-    }
-}
-
-// The file of the scenario.
-fn scenario_path<'a>(words: &Words<'a>) -> Option<&'a str>
-    ensures { result ≡ scenario_of words.now }
-{
-    match *words {
-        Words::Check { file, explain: _ } => Some(file),
-        Words::Run {
-            file,
-            threads: _,
-            workers: _,
-            journal: _,
-            explain: _,
-            format: _,
-            progress: _,
-        } => Some(file),
-        Words::Replay {
-            file,
-            journal: _,
-            explain: _,
-            format: _,
-            progress: _,
-        } => Some(file),
-        Words::Explain { kind: _ } => None,
-        Words::Shell {
-            file,
-            journal: _,
-            explain: _,
-        } => Some(file),
-    }
-}
-
-// The file of the journal that is to be replayed.
-fn replayed_path<'a>(words: &Words<'a>) -> Option<&'a str>
-    ensures { result ≡ read_journal words.now }
-{
-    match *words {
-        Words::Replay {
-            file: _,
-            journal,
-            explain: _,
-            format: _,
-            progress: _,
-        } => Some(journal),
-        _ => None,
-    }
-}
-
-// The file that the journal of a run or a shell is to be written to.
-fn kept_path<'a>(words: &Words<'a>) -> Option<&'a str>
-    ensures { result ≡ kept_journal words.now }
-{
-    match *words {
-        Words::Run {
-            file: _,
-            threads: _,
-            workers: _,
-            journal,
-            explain: _,
-            format: _,
-            progress: _,
-        } => journal,
-        Words::Shell {
-            file: _,
-            journal: path,
-            explain: _,
-        } => path,
-        _ => None,
     }
 }
 

@@ -1,10 +1,8 @@
 //! The program that shows the run of a network: its states in a page, or as lines of JSON.
 #![tactic(auto)]
 
-ghost use Rattle.std.specs.Prelude.{◌≡◌, IfSome, true};
-
 use play::{Cause, Fault, Host, Source, refuse};
-use program_files::{exit_code, given_words, is_one_file, open_file, tell};
+use program_files::{exit_code, given_words, is_read, open_file, tell};
 use std::io::{BufWriter, Write};
 use std::process::ExitCode;
 use std::{fs, io};
@@ -77,18 +75,6 @@ fn write_to<H: Host, W: Write>(
         out,
         &mut rt.stderr(),
     )
-}
-
-// Whether the path is that of a file that is read.
-fn is_read(rt: &HostRuntime, words: &ViewWords<'_>, path: &str) -> bool
-    ensures scenario { (words.now.file).now ≡ path.now → result ≡ true }
-    ensures journal { IfSome words.now.journal (λ j. j.now ≡ path.now → result ≡ true) }
-{
-    let is_journal = match words.journal {
-        Some(journal) => is_one_file(rt, journal, path),
-        None => false,
-    };
-    is_journal || is_one_file(rt, words.file, path)
 }
 
 // Says that the output could not be written, and answers the exit status.

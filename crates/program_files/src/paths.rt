@@ -1,0 +1,89 @@
+//! The files that a command line names.
+
+ghost use Rattle.std.specs.Prelude.{◌≡◌, IfSome, true};
+ghost use Rattle.program_files.specs.Paths.{scenario_of, read_journal, kept_journal};
+
+use crate::files::is_one_file;
+use words::{ViewWords, Words};
+
+/// The file of the scenario.
+pub fn scenario_path<'a>(words: &Words<'a>) -> Option<&'a str>
+    ensures { result ≡ scenario_of words.now }
+{
+    match *words {
+        Words::Check { file, explain: _ } => Some(file),
+        Words::Run {
+            file,
+            threads: _,
+            workers: _,
+            journal: _,
+            explain: _,
+            format: _,
+            progress: _,
+        } => Some(file),
+        Words::Replay {
+            file,
+            journal: _,
+            explain: _,
+            format: _,
+            progress: _,
+        } => Some(file),
+        Words::Explain { kind: _ } => None,
+        Words::Shell {
+            file,
+            journal: _,
+            explain: _,
+        } => Some(file),
+    }
+}
+
+/// The file of the journal that is to be replayed.
+pub fn replayed_path<'a>(words: &Words<'a>) -> Option<&'a str>
+    ensures { result ≡ read_journal words.now }
+{
+    match *words {
+        Words::Replay {
+            file: _,
+            journal,
+            explain: _,
+            format: _,
+            progress: _,
+        } => Some(journal),
+        _ => None,
+    }
+}
+
+/// The file that the journal of a run or a shell is to be written to.
+pub fn kept_path<'a>(words: &Words<'a>) -> Option<&'a str>
+    ensures { result ≡ kept_journal words.now }
+{
+    match *words {
+        Words::Run {
+            file: _,
+            threads: _,
+            workers: _,
+            journal,
+            explain: _,
+            format: _,
+            progress: _,
+        } => journal,
+        Words::Shell {
+            file: _,
+            journal: path,
+            explain: _,
+        } => path,
+        _ => None,
+    }
+}
+
+/// Whether the path leads to a file that `dualnet-view` reads, the scenario or the journal, by whatever spelling or link.
+pub fn is_read(rt: &HostRuntime, words: &ViewWords<'_>, path: &str) -> bool
+    ensures scenario { (words.now.file).now ≡ path.now → result ≡ true }
+    ensures journal { IfSome words.now.journal (λ j. j.now ≡ path.now → result ≡ true) }
+{
+    let is_journal = match words.journal {
+        Some(journal) => is_one_file(rt, journal, path),
+        None => false,
+    };
+    is_journal || is_one_file(rt, words.file, path)
+}
