@@ -11,10 +11,10 @@ use Rattle.forwarder.specs.Replies.{Replied}
 use Rattle.texts.specs.Words.{Text}
 use Rattle.words.specs.declared.format.Format.{Format}
 use Rattle.script.specs.Directories.{Directory}
-use Rattle.play.specs.Formats.{packet_line}
+use Rattle.reports.specs.Formats.{packet_line}
 use Rattle.worker_pool.specs.Faults.{IsBeginFault, IsInjectFault}
-use Rattle.play.specs.declared.fault.Cause.{Cause}
-use Rattle.play.specs.Faults.{OfRefusal, OfWorkers}
+use Rattle.plans.specs.declared.fault.Cause.{Cause}
+use Rattle.plans.specs.Faults.{OfRefusal, OfWorkers}
 use Rattle.texts.specs.Lines.{lines_text}
 
 -- the jobs that wait until the workers have answered them, in order, and the number of the last job that was given

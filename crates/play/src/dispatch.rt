@@ -9,15 +9,15 @@ ghost use Rattle.publication.specs.Lists.{image_of};
 ghost use Rattle.fabric.specs.Writers.{IsReaderPort};
 ghost use Rattle.forwarder.specs.Gathering.{is_reply_to, job_number};
 ghost use Rattle.worker_pool.specs.Faults.{IsBeginFault, IsDrainFault};
+ghost use Rattle.reports.specs.Report.{unknown_router};
 ghost use Rattle.play.specs.Dispatching.{CannotInject, IsNextJob, packets_text};
-ghost use Rattle.play.specs.Commands.{unknown_router};
 
-use crate::fault::Cause;
 use crate::host::Host;
-use crate::printer::Printer;
 use fabric::{Fabric, FabricName};
 use network_model::NoMemory;
+use plans::Cause;
 use publication::ImageReader;
+use reports::Printer;
 use std::alloc::Global;
 use std::io::Write;
 use std::marker::Model;

@@ -1,7 +1,7 @@
 use Rattle.std.proofs.Common.{◌≡◌, [], ◌∷◌, ◌++◌, ap, subst, ◌∙◌, arith}
 use Rattle.std.specs.Io.KnownBytes.{Appends}
 use Rattle.texts.proofs.Printed.{line_next}
-use Rattle.play.specs.Formats.{packet_line}
+use Rattle.reports.specs.Formats.{packet_line}
 use Rattle.play.specs.Dispatching.{reply_text}
 use Rattle.play.proofs.dispatch.print_replies.Goals as goal
 
