@@ -1,7 +1,6 @@
 //! Commands that print what a network does.
 
 ghost use Rattle.std.specs.Prelude.{◌⊎◌, IfErr, OnOk};
-ghost use Rattle.std.specs.Io.KnownBytes.{Appends};
 ghost use Rattle.script.specs.declared.command.Command.TheVariants as Command;
 ghost use Rattle.play.specs.Commands.{IsDone, IsRefused, IsStepDone, IsStepRefused};
 

@@ -1,6 +1,6 @@
 //! Prints the rows that a router published.
 
-ghost use Rattle.std.specs.Prelude.{◌≡◌, IfErr, OnOk};
+ghost use Rattle.std.specs.Prelude.{IfErr, OnOk};
 ghost use Rattle.std.specs.Io.KnownBytes.{Appends};
 ghost use Rattle.world.specs.Steps.{CanBeRefused};
 ghost use Rattle.reports.specs.Report.{rows_text, unknown_router};
