@@ -4,7 +4,7 @@ use Rattle.plans.specs.declared.fault.Cause.TheVariants.{Journal as OfJournal}
 use Rattle.plans.specs.Faults.{OfBytes, unplaced}
 use Rattle.plans.proofs.Planned.{IsPlanned}
 use Rattle.reports.specs.Ends.{StopsReplay}
-use Rattle.reports.proofs.Replaying.{journal_of, replay_ends, stops_journal, stops_opening, stops_unread}
+use Rattle.reports.proofs.Replays.{journal_of, replay_ends, stops_journal, stops_opening, stops_unread}
 use Rattle.reports.proofs.replaying.replay.Goals as goal
 
 pub returns-in_err-lines-clause-fault : goal.returns-in_err-lines-clause-fault
