@@ -1,5 +1,4 @@
 mod Doing
-mod Dispatching
 mod Running
 mod Trying
 mod Sessions

@@ -14,7 +14,7 @@ use Rattle.plans.specs.declared.fault.Cause.{Cause}
 use Rattle.plans.specs.declared.fault.Fault.{Fault}
 use Rattle.plans.specs.Faults.{at_line, OfRefusal, OfWorkers}
 use Rattle.reports.specs.Report.{unknown_router}
-use Rattle.play.specs.Dispatching.{CannotInject}
+use Rattle.dispatch.specs.Dispatching.{CannotInject}
 use Rattle.play.specs.Settling.{Settles, StopsSettling}
 
 -- the step was done

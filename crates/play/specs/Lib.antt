@@ -1,5 +1,4 @@
 pub mod Settling
-pub mod Dispatching
 pub mod Commands
 pub mod Runs
 pub mod Shell

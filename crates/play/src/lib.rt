@@ -3,15 +3,13 @@
 #![tactic(auto)]
 
 mod commands;
-mod dispatch;
-mod host;
 mod options;
 mod program;
 mod progress;
 mod session;
 mod shell;
 
-pub use host::Host;
+pub use dispatch::Host;
 pub use plans::{Cause, Fault, Plan, Source, read_bytes, read_plan, read_text, refuse};
 pub use program::play;
 pub use reports::End;

@@ -8,10 +8,10 @@ ghost use Rattle.play.specs.Commands.{AreDone, StopsAtCommand};
 ghost use Rattle.play.specs.Runs.{IsRunToEnd, RunsPlan, StopsFor, StopsPlan};
 ghost use Rattle.play.specs.Outcomes.{Ends, Stops};
 
-use crate::host::Host;
 use crate::options::Options;
 use crate::session::Session;
 use crate::shell::shell;
+use dispatch::Host;
 use fabric::{Fabric, FabricName, Unnamed};
 use plans::{Fault, Plan, read_plan, read_text, refuse};
 use reports::{End, check, end_line, replay};

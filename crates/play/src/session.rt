@@ -9,11 +9,10 @@ ghost use Rattle.reports.specs.Ends.{KeepsJournal};
 ghost use Rattle.play.specs.Commands.{IsDone, IsRefused, AreDone, StopsAtCommand};
 
 use crate::commands::{look_up, show_trace, try_step};
-use crate::dispatch::{Dispatcher, ports_of, print_replies};
-use crate::host::Host;
 use crate::options::Options;
 use crate::progress::ScriptProgress;
 use control::{Progress, settle};
+use dispatch::{Dispatcher, Host, ports_of, print_replies};
 use fabric::{Fabric, FabricName, Refusal};
 use json_lines::EndLine;
 use network_model::NoMemory;

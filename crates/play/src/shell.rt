@@ -7,9 +7,9 @@ ghost use Rattle.plans.specs.Faults.{IsUnanswered, IsWantOfMemory, OfBytes};
 ghost use Rattle.reports.specs.Ends.{KeepsJournal};
 ghost use Rattle.play.specs.Shell.{AreTried, CannotReadOn, IsShellEnd, StopsShell, StopsShellPlan, TriesPlan};
 
-use crate::host::Host;
 use crate::options::Options;
 use crate::session::Session;
+use dispatch::Host;
 use fabric::{Fabric, FabricName, Unnamed};
 use plans::{Cause, Fault, Plan, read_failure, read_plan, read_text, refuse};
 use reports::End;

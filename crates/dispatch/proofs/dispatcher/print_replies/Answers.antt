@@ -2,8 +2,8 @@ use Rattle.std.proofs.Common.{◌≡◌, [], ◌∷◌, ◌++◌, ap, subst, ◌
 use Rattle.std.specs.Io.KnownBytes.{Appends}
 use Rattle.texts.proofs.Printed.{line_next}
 use Rattle.reports.specs.Formats.{packet_line}
-use Rattle.play.specs.Dispatching.{reply_text}
-use Rattle.play.proofs.dispatch.print_replies.Goals as goal
+use Rattle.dispatch.specs.Dispatching.{reply_text}
+use Rattle.dispatch.proofs.dispatcher.print_replies.Goals as goal
 
 pub loop-reply-preserved : goal.loop-reply-preserved
 loop-reply-preserved g c =

@@ -1,7 +1,7 @@
 use Rattle.std.proofs.Common.{◌≡◌, ◌+◌, All, vec_len, vec_capacity, length}
 use Rattle.std.specs.Vec.Iter.{into_iter_items}
 use Rattle.fabric.specs.Writers.{IsReaderPort}
-use Rattle.play.proofs.dispatch.ports_of.Given as goal
+use Rattle.dispatch.proofs.dispatcher.ports_of.Given as goal
 
 -- a port for each list of readers so far, and the lists that are left are of all routers
 abbrev pub invariant-loop-readers : goal.invariant-loop-readers

@@ -1,9 +1,9 @@
 use Rattle.std.proofs.Common.{◌≡◌, All, IfOk, ap, subst, ◌∙◌, true, count_by}
 use Rattle.std.specs.List.{list_any}
 use Rattle.forwarder.specs.Gathering.{is_reply_to}
-use Rattle.play.proofs.Dispatching.{waiting_in}
-use Rattle.play.proofs.dispatch.Dispatcher.drain.Given as given
-use Rattle.play.proofs.dispatch.Dispatcher.drain.Goals as goal
+use Rattle.dispatch.proofs.Dispatching.{waiting_in}
+use Rattle.dispatch.proofs.dispatcher.Dispatcher.drain.Given as given
+use Rattle.dispatch.proofs.dispatcher.Dispatcher.drain.Goals as goal
 
 -- the jobs of the workers are those that wait
 jobs : (g : given.Over) (c : goal.After-drop-self-inside g) → c.in-Some.pool.jobs ≡ c.args.self.now.jobs

@@ -10,7 +10,7 @@ ghost use Rattle.fabric.specs.Writers.{IsReaderPort};
 ghost use Rattle.forwarder.specs.Gathering.{is_reply_to, job_number};
 ghost use Rattle.worker_pool.specs.Faults.{IsBeginFault, IsDrainFault};
 ghost use Rattle.reports.specs.Report.{unknown_router};
-ghost use Rattle.play.specs.Dispatching.{CannotInject, IsNextJob, packets_text};
+ghost use Rattle.dispatch.specs.Dispatching.{CannotInject, IsNextJob, packets_text};
 
 use crate::host::Host;
 use fabric::{Fabric, FabricName};
@@ -38,7 +38,7 @@ impl<B: FabricName> Model for Dispatcher<B> {
     ghost use Rattle.std.specs.Prelude.{◌≤◌, [], IfSome, vec_len};
     ghost use Rattle.std.specs.Option.{option_map_or};
     ghost use Rattle.network_model.specs.Network.{most_workers};
-    ghost use Rattle.play.specs.Dispatching.{Dispatched};
+    ghost use Rattle.dispatch.specs.Dispatching.{Dispatched};
 
     ghost Value = { Dispatched B };
 

@@ -1,7 +1,7 @@
 use Rattle.std.proofs.Common.{rules, length}
 use Rattle.publication.proofs.Places.{rest_all}
 use Rattle.fabric.specs.Writers.{IsReaderPort}
-use Rattle.play.proofs.dispatch.ports_of.Goals as goal
+use Rattle.dispatch.proofs.dispatcher.ports_of.Goals as goal
 
 pub loop-readers-preserved : goal.loop-readers-preserved
 loop-readers-preserved g c = (
