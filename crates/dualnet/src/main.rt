@@ -20,13 +20,16 @@ fn main(rt: HostRuntime) -> ExitCode {
 
 // Does what the command line asks for.
 fn status<H: Host>(rt: &HostRuntime, wait: &H) -> io::Result<u8> {
-    let alloc = rt.alloc();
-    let given = match given_words(rt)? {
-        Ok(given) => given,
-        Err(status) => return Ok(status),
-    };
-    let words: Vec<&str> = given.iter().map(|word| word.as_str()).collect(alloc)?;
-    match read_words(alloc, words.as_slice()) {
+    match given_words(rt)? {
+        Ok(given) => run_given(rt, wait, &given),
+        Err(status) => Ok(status),
+    }
+}
+
+// Does what the words of the command line ask for.
+fn run_given<H: Host>(rt: &HostRuntime, wait: &H, given: &[String]) -> io::Result<u8> {
+    let words: Vec<&str> = given.iter().map(|word| word.as_str()).collect(rt.alloc())?;
+    match read_words(rt.alloc(), words.as_slice()) {
         Ok(words) => print_by(rt, wait, &words),
         Err(error) => Ok(tell(rt, &error)),
     }
@@ -47,47 +50,72 @@ fn print_by<H: Host>(rt: &HostRuntime, wait: &H, words: &Words<'_>) -> io::Resul
 // Does what the words ask for, over the files that they name.
 fn run_words<H: Host, W: Write>(rt: &HostRuntime, wait: &H, words: &Words<'_>, out: &mut W) -> u8 {
     if is_overwritten(rt, words) {
-        return refuse(Fault::from(Cause::Unwritable), &mut rt.stderr());
+        refuse(Fault::from(Cause::Unwritable), &mut rt.stderr())
+    } else {
+        let mut scenario = Kept::of(rt, first_input(rt, words));
+        let mut second = Kept::of(rt, second_input(rt, words));
+        run_over(rt, wait, words, &mut scenario, &mut second, out)
     }
-    let mut scenario = Kept {
-        file: match scenario_path(words) {
-            Some(path) => open_file(rt, path),
-            None => Source::Missing,
-        },
-        bytes: Vec::new(rt.alloc()),
-    };
-    let mut second = Kept {
-        file: second_input(rt, words),
-        bytes: Vec::new(rt.alloc()),
-    };
-    let mut kept = Vec::new(rt.alloc());
+}
+
+// Does what the words ask for, over these files.
+fn run_over<H: Host, W: Write>(
+    rt: &HostRuntime,
+    wait: &H,
+    words: &Words<'_>,
+    scenario: &mut Kept,
+    second: &mut Kept,
+    out: &mut W,
+) -> u8 {
+    let mut journal = Vec::new(rt.alloc());
     let mut fault = None;
     let status = play(
         wait,
         rt.alloc(),
         words,
-        &mut scenario,
-        &mut second,
+        &mut *scenario,
+        &mut *second,
         out,
         &mut rt.stderr(),
-        &mut kept,
+        &mut journal,
         &mut fault,
     );
     let _ = out.flush();
-    if let (Some(file), Some(fault)) = (file_to_explain(words), fault) {
-        tell_line(rt, words, fault, &second.bytes);
+    if let Some(fault) = fault {
+        tell_more(rt, words, fault, &scenario.bytes, &second.bytes);
+    }
+    keep_journal(rt, words, status, &journal)
+}
+
+// Tells more of a fault, where that is asked for.
+fn tell_more(rt: &HostRuntime, words: &Words<'_>, fault: Fault, scenario: &[u8], second: &[u8]) {
+    if let Some(file) = file_to_explain(words) {
+        tell_line(rt, words, fault, second);
         let faulty = Faulty {
             file,
-            text: str::from_utf8(&scenario.bytes).unwrap_or(""),
+            text: str::from_utf8(scenario).unwrap_or(""),
             kind: fault.kind(),
             place: fault.place,
             is_check: is_check(words),
         };
         let _ = advise(rt.alloc(), faulty, &mut rt.stderr());
     }
+}
+
+// Writes the journal of a run or a shell that ended with this status, where that is asked for, and answers the exit
+// status.
+fn keep_journal(rt: &HostRuntime, words: &Words<'_>, status: u8, journal: &[u8]) -> u8 {
     match kept_path(words) {
-        Some(path) if status == 0 => write_journal(rt, path, &kept),
+        Some(path) if status == 0 => write_journal(rt, path, journal),
         _ => status,
+    }
+}
+
+// The scenario.
+fn first_input(rt: &HostRuntime, words: &Words<'_>) -> Source<Input> {
+    match scenario_path(words) {
+        Some(path) => open_file(rt, path),
+        None => Source::Missing,
     }
 }
 
@@ -138,6 +166,16 @@ fn write_journal(rt: &HostRuntime, path: &str, journal: &[u8]) -> u8 {
 struct Kept {
     file: Source<Input>,
     bytes: Vec<u8>,
+}
+
+impl Kept {
+    // Nothing is read yet.
+    fn of(rt: &HostRuntime, file: Source<Input>) -> Kept {
+        Kept {
+            file,
+            bytes: Vec::new(rt.alloc()),
+        }
+    }
 }
 
 impl Read for Kept {

@@ -6,8 +6,8 @@ use Rattle.fabric.specs.Fabric.{Fabric}
 use Rattle.control.proofs.Sharing.{refused_for}
 use Rattle.control.specs.Served.{IsServed, IsTurnRefused, none_asked}
 use Rattle.script.specs.declared.command.Command.{Command}
-use Rattle.play.specs.declared.fault.Cause.{Cause}
-use Rattle.play.specs.declared.fault.Cause.TheVariants.{Refused}
+use Rattle.plans.specs.declared.fault.Cause.{Cause}
+use Rattle.plans.specs.declared.fault.Cause.TheVariants.{Refused}
 use Rattle.play.specs.Settling.{StopsSettling}
 use Rattle.play.specs.Commands.{IsDone, AreDone}
 

@@ -1,9 +1,4 @@
-mod Whole
-mod Printed
 mod Doing
-mod Dispatching
-mod Stops
 mod Running
-mod Slices
 mod Trying
-pub mod Sessions
+mod Sessions

@@ -5,10 +5,11 @@ use Rattle.fabric.specs.Fabric.{Fabric, opening_fabric}
 use Rattle.texts.specs.Words.{Text}
 use Rattle.script.specs.Directories.{Directory}
 use Rattle.script.specs.declared.command.Command.{Command}
-use Rattle.play.specs.declared.fault.Fault.{Fault}
-use Rattle.play.specs.declared.plan.Plan.{Plan}
+use Rattle.plans.specs.declared.fault.Fault.{Fault}
+use Rattle.plans.specs.declared.plan.Plan.{Plan}
+use Rattle.reports.specs.Ends.{KeepsJournal}
 use Rattle.play.specs.Commands.{AreDone}
-use Rattle.play.specs.Ends.{KeepsJournal, RunsPlan}
+use Rattle.play.specs.Runs.{RunsPlan}
 use Rattle.play.specs.Shell.{AreTried, TriesPlan}
 
 module _ (plan : Plan) (d : Directory) (f g : Fabric) (old new : Text) (names : d ≡ plan.directory) (opened : f ≡ opening_fabric plan.network) where

@@ -4,14 +4,14 @@ use Rattle.std.proofs.Common.{◌≤◌, inl, inr, List, [], ◌∷◌, ◌++◌
 use Rattle.fabric.specs.Fabric.{Fabric, opening_fabric}
 use Rattle.texts.specs.Words.{Text}
 use Rattle.script.specs.declared.command.Command.{Command}
-use Rattle.play.specs.declared.fault.Cause.{Cause}
-use Rattle.play.specs.declared.fault.Fault.{Fault}
-use Rattle.play.specs.declared.plan.Plan.{Plan}
-use Rattle.play.specs.Faults.{most_bytes}
+use Rattle.plans.specs.declared.fault.Cause.{Cause}
+use Rattle.plans.specs.declared.fault.Fault.{Fault}
+use Rattle.plans.specs.declared.plan.Plan.{Plan}
+use Rattle.plans.specs.Faults.{most_bytes}
+use Rattle.plans.proofs.Planned.{IsPlanned}
+use Rattle.reports.specs.Ends.{KeepsJournal}
 use Rattle.play.specs.Commands.{IsDone, IsRefused}
-use Rattle.play.specs.Ends.{KeepsJournal}
 use Rattle.play.specs.Shell.{AreTried, IsShellEnd, IsTried, StopsShell, StopsShellPlan, TriesPlan}
-use Rattle.play.proofs.Running.{IsPlanned}
 
 -- some commands after others
 tried_all : (cs ds : List Command) (f g h : Fabric) → AreTried cs f g → AreTried ds g h → AreTried (cs ++ ds) f h

@@ -1,7 +1,5 @@
--- What the commands of a script do, and print.
-use Rattle.std.specs.Prelude.{◌≡◌, ℕ, ◌⊎◌, ⊤, List, [], ◌∷◌, Option, Some, None, nat_lt, if◌then◌else◌, length, take, slice_get, MatchOption}
-use Rattle.ipv4_prefix.specs.Prefix.{Prefix}
-use Rattle.network_model.specs.declared.route.Entry.{Entry}
+-- What the commands of a script do.
+use Rattle.std.specs.Prelude.{◌≡◌, ℕ, ◌⊎◌, ⊤, List, [], ◌∷◌, Some, take, slice_get, MatchOption}
 use Rattle.network_model.specs.declared.step.Step.{Step as NetworkStep}
 use Rattle.network_model.specs.declared.step.Refusal.{Refusal}
 use Rattle.network_model.specs.declared.step.Refusal.TheVariants.{UnknownRouter, NoMemory, Stale, NoImage}
@@ -9,21 +7,15 @@ use Rattle.network_model.specs.Step.{Lawful}
 use Rattle.world.specs.Steps.{CanBeRefused}
 use Rattle.fabric.specs.Fabric.{Fabric, after_step, fabric_refusal}
 use Rattle.fabric.specs.Images.{answer_at}
-use Rattle.texts.specs.Words.{Text}
-use Rattle.words.specs.declared.format.Format.{Format}
-use Rattle.script.specs.Directories.{Directory}
 use Rattle.script.specs.declared.command.Command.{Command}
 use Rattle.script.specs.declared.command.Command.TheVariants.{Step, Try, Settle, State, Table, Lookup, Inject, Trace, Drain, Report}
 use Rattle.script.specs.declared.place.Key.TheVariants.{Script}
-use Rattle.play.specs.declared.fault.Cause.{Cause}
-use Rattle.play.specs.declared.fault.Fault.{Fault}
-use Rattle.play.specs.Faults.{at_line, OfRefusal, OfWorkers}
-use Rattle.texts.specs.Lines.{lines_text}
-use Rattle.play.specs.Dispatching.{CannotInject}
-use Rattle.play.specs.Formats.{row_line}
+use Rattle.plans.specs.declared.fault.Cause.{Cause}
+use Rattle.plans.specs.declared.fault.Fault.{Fault}
+use Rattle.plans.specs.Faults.{at_line, OfRefusal, OfWorkers}
+use Rattle.reports.specs.Report.{unknown_router}
+use Rattle.dispatch.specs.Dispatching.{CannotInject}
 use Rattle.play.specs.Settling.{Settles, StopsSettling}
-
--- ---- commands
 
 -- the step was done
 abbrev pub IsStepDone : NetworkStep → Fabric → Fabric → Type 0
@@ -45,10 +37,6 @@ IsDone (Inject router addr) f g = g ≡ f
 IsDone (Trace router addr) f g = g ≡ f
 IsDone Drain f g = g ≡ f
 IsDone Report f g = g ≡ f
-
--- why a command on a router is refused
-abbrev pub unknown_router : Fabric → ℕ → Option Refusal
-unknown_router f router = if nat_lt router (length f.world.routers) then None else Some UnknownRouter
 
 -- why a packet is not traced: there is no such router; or want of memory, or a reader that shows a later image, or none
 abbrev pub CannotTrace : Fabric → ℕ → Refusal → Type 0
@@ -82,9 +70,3 @@ pub record StopsAtCommand (commands : List Command) (f g : Fabric) (fault : Faul
   pub done : AreDone (take position commands) f before
   pub refused : IsRefused command before g cause
   pub named : fault ≡ at_line cause Script position
-
--- ---- texts
-
--- rows of a router, a line each
-abbrev pub rows_text : Format → Directory → ℕ → List (Prefix × Entry) → Text
-rows_text format d router = lines_text (row_line format d router)

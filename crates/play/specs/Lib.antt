@@ -1,10 +1,5 @@
-pub mod Faults
-pub mod Formats
 pub mod Settling
-pub mod Shell
-pub mod Dispatching
 pub mod Commands
-pub mod Scenarios
+pub mod Runs
+pub mod Shell
 pub mod Outcomes
-pub mod Report
-pub mod Ends

@@ -3,11 +3,13 @@ use Rattle.std.specs.Prelude.{◌≡◌, Option}
 use Rattle.texts.specs.Words.{Text}
 use Rattle.words.specs.declared.words.Words.{Words}
 use Rattle.words.specs.declared.words.Words.TheVariants.{Check, Run, Replay, Explain, Shell}
-use Rattle.play.specs.declared.fault.Fault.{Fault}
-use Rattle.play.specs.declared.program.End.{End}
-use Rattle.play.specs.declared.program.End.TheVariants.{Done}
-use Rattle.play.specs.Scenarios.{StopsReading, StopsFor}
-use Rattle.play.specs.Ends.{OfBytes, IsChecked, IsRunToEnd, Replays, StopsReplay}
+use Rattle.plans.specs.declared.fault.Fault.{Fault}
+use Rattle.reports.specs.declared.end.End.{End}
+use Rattle.reports.specs.declared.end.End.TheVariants.{Done}
+use Rattle.plans.specs.Faults.{OfBytes}
+use Rattle.plans.specs.Scenarios.{StopsReading}
+use Rattle.reports.specs.Ends.{IsChecked, Replays, StopsReplay}
+use Rattle.play.specs.Runs.{IsRunToEnd, StopsFor}
 use Rattle.play.specs.Shell.{IsShellEnd, StopsShell}
 
 -- how a command ends that has met no fault

@@ -5,13 +5,13 @@ use Rattle.texts.specs.Words.{Text}
 use Rattle.script.specs.Reading.{Parts}
 use Rattle.script.specs.Directories.{directory_of}
 use Rattle.script.specs.declared.command.Command.{Command}
-use Rattle.play.specs.declared.fault.Cause.{Cause}
-use Rattle.play.specs.declared.fault.Fault.{Fault}
-use Rattle.play.specs.declared.plan.Plan.{Plan}
-use Rattle.play.specs.Faults.{most_bytes, CannotRead, IsUnanswered, IsWantOfMemory, IsWithoutReaders}
+use Rattle.plans.specs.declared.fault.Cause.{Cause}
+use Rattle.plans.specs.declared.fault.Fault.{Fault}
+use Rattle.plans.specs.declared.plan.Plan.{Plan}
+use Rattle.plans.specs.Faults.{most_bytes, CannotRead, IsUnanswered, IsWantOfMemory, IsWithoutReaders}
+use Rattle.plans.specs.Scenarios.{IsScenario, StopsReading, network_read}
+use Rattle.reports.specs.Ends.{KeepsJournal}
 use Rattle.play.specs.Commands.{IsDone, IsRefused}
-use Rattle.play.specs.Ends.{KeepsJournal}
-use Rattle.play.specs.Scenarios.{IsScenario, StopsReading, network_read}
 
 -- a command was done, or it was refused for its cause
 abbrev pub IsTried : Command → Fabric → Fabric → Type 0

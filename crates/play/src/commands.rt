@@ -1,17 +1,13 @@
-//! Commands that print what a network does or is.
+//! Commands that print what a network does.
 
-ghost use Rattle.std.specs.Prelude.{◌≡◌, ◌⊎◌, IfErr, OnOk};
-ghost use Rattle.std.specs.Io.KnownBytes.{Appends};
-ghost use Rattle.world.specs.Steps.{CanBeRefused};
+ghost use Rattle.std.specs.Prelude.{◌⊎◌, IfErr, OnOk};
 ghost use Rattle.script.specs.declared.command.Command.TheVariants as Command;
-ghost use Rattle.play.specs.Commands.{IsDone, IsRefused, IsStepDone, IsStepRefused, rows_text, unknown_router};
+ghost use Rattle.play.specs.Commands.{IsDone, IsRefused, IsStepDone, IsStepRefused};
 
-use crate::fault::Cause;
-use crate::printer::Printer;
 use fabric::{Fabric, FabricName, Refusal, Step};
-use route_table::RouteTable;
+use plans::Cause;
+use reports::Printer;
 use std::alloc::Global;
-use std::io;
 use std::io::Write;
 use std::sync::Wait;
 use tracer::trace;
@@ -80,36 +76,4 @@ pub fn show_trace<B: FabricName, W: Write>(
         }
         Err(fault) => Err(Cause::Refused(Refusal::from(fault))),
     }
-}
-
-/// Prints a router's published rows. What it prints may be lost.
-pub fn show_table<B: FabricName, W: Write>(
-    fabric: &Fabric<B>,
-    printer: &Printer<'_>,
-    router: u16,
-    out: &mut W,
-) -> Result<(), Refusal>
-    ensures { IfErr result (λ e. CanBeRefused (unknown_router fabric.now router) e) }
-{
-    let table = fabric.table(router)?;
-    let _ = print_table(printer, router, table, out);
-    Ok(())
-}
-
-// Prints the rows that a router published, a line each, up to the first write that fails.
-fn print_table<W: Write>(
-    printer: &Printer<'_>,
-    router: u16,
-    table: &RouteTable,
-    out: &mut W,
-) -> io::Result<()>
-    ensures { OnOk result (Appends (W.contents out.old) (W.contents out.new)
-        (rows_text printer.now.format printer.now.directory.now router (table.now).table.published)) }
-{
-    for (prefix, entry) in table.published_rows() {
-        let names = printer.directory;
-        let json = json_lines::row(names, router, prefix, entry);
-        printer.print(names.row(router, prefix, entry), json, out)?;
-    }
-    Ok(())
 }

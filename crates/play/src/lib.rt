@@ -1,29 +1,15 @@
-//! What the program does, over any readers and writers: it checks and runs scenarios, and replays
-//! journals.
+//! What the program does, over any readers and writers: it does the commands of scripts and of shells on the network
+//! of a scenario, and by [`play`] whatever the command line asks for.
 #![tactic(auto)]
 
 mod commands;
-mod dispatch;
-mod fault;
-mod files;
-mod host;
-mod keep;
-mod kind;
 mod options;
-mod plan;
-mod printer;
 mod program;
 mod progress;
-mod read;
-mod reasons;
-mod replay;
-mod report;
 mod session;
 mod shell;
 
-pub use fault::{Cause, Fault};
-pub use files::Source;
-pub use host::Host;
-pub use plan::{Plan, read_plan};
-pub use program::{End, play, refuse};
-pub use read::{read_bytes, read_text};
+pub use dispatch::Host;
+pub use plans::{Cause, Fault, Plan, Source, read_bytes, read_plan, read_text, refuse};
+pub use program::play;
+pub use reports::End;

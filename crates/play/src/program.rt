@@ -2,52 +2,24 @@
 
 ghost use Rattle.std.specs.Prelude.{◌≡◌, ◌⊎◌, IfOk, IfErr, OnOk, vec_len};
 ghost use Rattle.fabric.specs.Writers.{opening_tables};
+ghost use Rattle.plans.specs.Faults.{status_of, IsUnanswered, IsWantOfMemory, OfBytes};
+ghost use Rattle.reports.specs.Ends.{status_at, KeepsJournal};
 ghost use Rattle.play.specs.Commands.{AreDone, StopsAtCommand};
-ghost use Rattle.play.specs.Faults.{status_of, IsUnanswered, IsWantOfMemory};
-ghost use Rattle.play.specs.Scenarios.{StopsFor, StopsPlan, StopsReading};
-ghost use Rattle.play.specs.Ends.{status_at, OfBytes, IsChecked, IsRunToEnd, KeepsJournal, RunsPlan};
+ghost use Rattle.play.specs.Runs.{IsRunToEnd, RunsPlan, StopsFor, StopsPlan};
 ghost use Rattle.play.specs.Outcomes.{Ends, Stops};
 
-use crate::fault::{Cause, Fault};
-use crate::host::Host;
 use crate::options::Options;
-use crate::plan::{Plan, read_plan};
-use crate::progress::end_line;
-use crate::read::read_text;
-use crate::replay::replay;
 use crate::session::Session;
 use crate::shell::shell;
-use fabric::{Fabric, FabricName, MOST_STEPS, Unnamed};
-use network_model::Refusal;
+use dispatch::Host;
+use fabric::{Fabric, FabricName, Unnamed};
+use plans::{Fault, Plan, read_plan, read_text, refuse};
+use reports::{End, check, end_line, replay};
 use script::Command;
 use std::alloc::Global;
 use std::io::{Read, Write};
 use std::marker::Brand;
 use words::Words;
-
-/// How a command ends that has met no fault.
-#[derive(Clone, Copy, Debug, PartialEq, Eq)]
-pub enum End {
-    /// It did what it was asked for.
-    Done,
-    /// A step of a journal was refused.
-    Refused,
-    /// The report of a journal is not that of the network.
-    Differs,
-}
-
-impl End {
-    /// The exit status of the program.
-    fn status(self) -> u8
-        ensures { result ≡ status_at self }
-    {
-        match self {
-            End::Done => 0,
-            End::Refused => 2,
-            End::Differs => 3,
-        }
-    }
-}
 
 /// Does what the words ask for, and answers the exit status. Only a replay and a shell read `journal`:
 /// the shell reads its commands there. A fault is a line on `err`, and where the program stops for it,
@@ -151,30 +123,6 @@ where
     }
 }
 
-// Reads a scenario, and says what it holds.
-fn check<R: Read + Drop, W: Write>(alloc: Global, scenario: R, out: &mut W) -> Result<End, Fault>
-    ensures ok { IfOk result (λ end. (end ≡ End.Done)
-        × OfBytes (R.remaining scenario) IsChecked) }
-    ensures fault { IfErr result (λ e. OfBytes (R.remaining scenario)
-        (λ bytes. StopsReading bytes e)) }
-{
-    let text = read_text(alloc, scenario)?;
-    let Plan {
-        network,
-        directory: _,
-        commands,
-    } = read_plan(alloc, text.as_str())?;
-    let routers = network.routers();
-    let links = network.links().len();
-    let prefixes = network.prefixes();
-    let commands = commands.len();
-    let _ = writeln!(
-        out,
-        "ok: {routers} routers, {links} links, {prefixes} prefixes, {commands} commands"
-    );
-    Ok(End::Done)
-}
-
 // Opens the network of a scenario, does its commands, says how many steps were done, and keeps their
 // journal.
 fn run<H, R, W, E>(
@@ -265,16 +213,4 @@ where
     let done = session.do_commands(fabric, commands, out, err);
     end_line(progress, err);
     session.finish(fabric, done, out, kept)
-}
-
-/// Says on `err` why the program stops, and answers its exit status. Where the journal is full, a
-/// second line says how many steps were done.
-pub fn refuse<E: Write>(fault: Fault, err: &mut E) -> u8
-    ensures { result ≡ status_of fault.cause }
-{
-    let _ = writeln!(err, "dualnet: {fault}");
-    if matches!(fault.cause, Cause::Refused(Refusal::JournalFull)) {
-        let _ = writeln!(err, "dualnet: {MOST_STEPS} steps were done");
-    }
-    fault.status()
 }

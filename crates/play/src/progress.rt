@@ -1,4 +1,4 @@
-//! Tells how far a run or a replay is, on a line that moves, where that is asked for. A write that fails is lost.
+//! Tells how far a run is, on a line that moves, where that is asked for. A write that fails is lost.
 
 use control::Progress;
 use std::io::Write;
@@ -22,20 +22,5 @@ impl<'a, E: Write> Progress for ScriptProgress<'a, E> {
             );
             let _ = self.err.flush();
         }
-    }
-}
-
-/// Tells how many steps of a journal were done.
-pub fn tell_steps<E: Write>(asked: bool, done: usize, all: usize, err: &mut E) {
-    if asked {
-        let _ = write!(err, "\rdualnet: {done} of {all} steps");
-        let _ = err.flush();
-    }
-}
-
-/// Ends the line.
-pub fn end_line<E: Write>(asked: bool, err: &mut E) {
-    if asked {
-        let _ = writeln!(err, "");
     }
 }

@@ -3,18 +3,16 @@
 ghost use Rattle.std.specs.Prelude.{◌≡◌, ◌⊎◌, IfErr, IfOk, List, OnOk, None, vec_len};
 ghost use Rattle.fabric.specs.Writers.{opening_tables};
 ghost use Rattle.script.specs.declared.command.Command.{Command as CommandOf};
+ghost use Rattle.plans.specs.Faults.{IsUnanswered, IsWantOfMemory, OfBytes};
+ghost use Rattle.reports.specs.Ends.{KeepsJournal};
 ghost use Rattle.play.specs.Shell.{AreTried, CannotReadOn, IsShellEnd, StopsShell, StopsShellPlan, TriesPlan};
-ghost use Rattle.play.specs.Ends.{KeepsJournal, OfBytes};
-ghost use Rattle.play.specs.Faults.{IsUnanswered, IsWantOfMemory};
 
-use crate::fault::{Cause, Fault};
-use crate::host::Host;
 use crate::options::Options;
-use crate::plan::{Plan, read_plan};
-use crate::program::{End, refuse};
-use crate::read::{read_failure, read_text};
 use crate::session::Session;
+use dispatch::Host;
 use fabric::{Fabric, FabricName, Unnamed};
+use plans::{Cause, Fault, Plan, read_failure, read_plan, read_text, refuse};
+use reports::End;
 use script::read_command;
 use std::alloc::Global;
 use std::io::{BufRead, BufReader, Read, Write};

@@ -2,7 +2,7 @@
 
 ghost use Rattle.std.specs.Prelude.{◌≡◌, true};
 
-use play::Source;
+use plans::Source;
 use std::io::Read;
 use std::os::unix::fs::MetadataExt;
 use std::{fs, io};

@@ -4,7 +4,7 @@ ghost use Rattle.std.specs.Prelude.{◌≡◌, ◌≢◌, ◌⊎◌};
 ghost use Rattle.clap.specs.Words.{kind_of};
 
 use network_model::NoMemory;
-use play::{Fault, refuse};
+use plans::{Fault, refuse};
 use std::process::ExitCode;
 use std::{env, io};
 use words::{Error, ErrorKind, exit_status, not_utf8};

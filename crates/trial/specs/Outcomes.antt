@@ -2,11 +2,11 @@
 use Rattle.std.specs.Prelude.{◌≡◌, ℕ, ◌⊎◌, Option, []}
 use Rattle.texts.specs.Words.{Text}
 use Rattle.words.specs.declared.words.Words.{Words}
-use Rattle.play.specs.declared.program.End.{End}
-use Rattle.play.specs.declared.fault.Fault.{Fault}
-use Rattle.play.specs.Ends.{status_at}
+use Rattle.reports.specs.declared.end.End.{End}
+use Rattle.plans.specs.declared.fault.Fault.{Fault}
+use Rattle.reports.specs.Ends.{status_at}
 use Rattle.play.specs.Outcomes.{Ends, Stops}
-use Rattle.play.specs.Faults.{status_of}
+use Rattle.plans.specs.Faults.{status_of}
 
 -- a command came to an end, or it stopped for a fault; the status says which, and a journal was kept or
 -- not

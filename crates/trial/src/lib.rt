@@ -1,5 +1,10 @@
-//! What the program does, held in memory: for examples, random scenarios and tests.
+//! What the program does, held in memory, and what is found of it: for examples, cases, random scenarios
+//! and tests.
 #![tactic(auto)]
+
+pub mod case;
+pub mod example;
+pub mod soak;
 
 ghost use Rattle.std.specs.Prelude.{Option};
 ghost use Rattle.texts.specs.Words.{Text};

@@ -3,7 +3,7 @@
 ghost use Rattle.std.specs.Prelude.{◌≡◌, IfOk, Ok, take};
 ghost use Rattle.network_model.specs.World as model;
 ghost use Rattle.network_model.specs.Run.{Runs};
-ghost use Rattle.play.specs.Ends.{OfBytes};
+ghost use Rattle.plans.specs.Faults.{OfBytes};
 ghost use Rattle.view.specs.Shown.{IsShown};
 
 use crate::limited::Limited;

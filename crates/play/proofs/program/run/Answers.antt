@@ -1,8 +1,9 @@
 use Rattle.std.proofs.Common.{string_bytes, refl}
 use Rattle.script.proofs.Exits.{at_err}
-use Rattle.play.specs.Scenarios.{StopsFor}
-use Rattle.play.specs.Ends.{OfBytes}
-use Rattle.play.proofs.Running.{IsPlanned, plan_ends, plan_stops}
+use Rattle.plans.specs.Faults.{OfBytes}
+use Rattle.plans.proofs.Planned.{IsPlanned}
+use Rattle.play.specs.Runs.{StopsFor}
+use Rattle.play.proofs.Running.{plan_ends, plan_stops}
 use Rattle.play.proofs.program.run.Goals as goal
 
 pub returns-in_err-run_plan-clause-fault : goal.returns-in_err-run_plan-clause-fault

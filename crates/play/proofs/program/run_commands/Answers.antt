@@ -1,5 +1,5 @@
 use Rattle.std.proofs.Common.{OnOk, subst}
-use Rattle.play.specs.Ends.{KeepsJournal}
+use Rattle.reports.specs.Ends.{KeepsJournal}
 use Rattle.play.proofs.program.run_commands.Goals as goal
 
 -- the session has the names that it had

@@ -1,5 +1,5 @@
 use Rattle.std.proofs.Common.{OnOk, sym, subst}
-use Rattle.play.specs.Ends.{RunsPlan}
+use Rattle.play.specs.Runs.{RunsPlan}
 use Rattle.play.proofs.Sessions.{runs_plan}
 use Rattle.play.proofs.program.run_plan.Goals as goal
 use Rattle.play.proofs.program.run_plan.Goals.{in-Ok, in-Err}

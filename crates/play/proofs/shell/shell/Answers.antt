@@ -1,8 +1,8 @@
 use Rattle.std.proofs.Common.{string_bytes, refl}
 use Rattle.script.proofs.Exits.{at_err}
-use Rattle.play.specs.Ends.{OfBytes}
+use Rattle.plans.specs.Faults.{OfBytes}
 use Rattle.play.specs.Shell.{StopsShell}
-use Rattle.play.proofs.Running.{IsPlanned}
+use Rattle.plans.proofs.Planned.{IsPlanned}
 use Rattle.play.proofs.Trying.{shell_ends, shell_stops}
 use Rattle.play.proofs.shell.shell.Goals as goal
 

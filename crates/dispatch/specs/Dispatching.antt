@@ -1,0 +1,46 @@
+-- Jobs that workers are given, and what they answer.
+use Rattle.std.specs.Prelude.{◌≡◌, ℕ, ◌+◌, ◌⊎◌, List, Option, Some, min, slice_get}
+use Rattle.ipv4_prefix.specs.Prefix.{Prefix}
+use Rattle.network_model.specs.declared.route.Entry.{Entry}
+use Rattle.network_model.specs.declared.step.Refusal.{Refusal}
+use Rattle.network_model.specs.Publication.{Image}
+use Rattle.world.specs.Steps.{CanBeRefused}
+use Rattle.publication.specs.declared.job.Job.{Job}
+use Rattle.publication.specs.Lists.{image_of}
+use Rattle.forwarder.specs.Replies.{Replied}
+use Rattle.texts.specs.Words.{Text}
+use Rattle.words.specs.declared.format.Format.{Format}
+use Rattle.script.specs.Directories.{Directory}
+use Rattle.reports.specs.Formats.{packet_line}
+use Rattle.worker_pool.specs.Faults.{IsBeginFault, IsInjectFault}
+use Rattle.plans.specs.declared.fault.Cause.{Cause}
+use Rattle.plans.specs.Faults.{OfRefusal, OfWorkers}
+use Rattle.texts.specs.Lines.{lines_text}
+
+-- the jobs that wait until the workers have answered them, in order, and the number of the last job that was given
+pub record Dispatched (X : Type 0) : Type 0 where
+  pub jobs : List (Job X)
+  pub last : ℕ
+
+-- the number of the job after this one; it stays at the greatest that a number can be
+abbrev pub next_number : ℕ → ℕ
+next_number last = min (last + 1) 18446744073709551615
+
+-- the job after this one is to look the address up at the router, in an image no older than the one of these that is the router's
+pub record IsNextJob {X : Type 0} (openings : List (List (Prefix × Entry))) (images : List Image) (last router address : ℕ) (job : Job X) : Type 0 where
+  pub number : job.number ≡ next_number last
+  pub at_router : (job.told).router ≡ router
+  pub addr : job.addr ≡ address
+  pub in_force : slice_get images router ≡ Some (image_of openings job.told)
+
+-- why a job is not given: for this cause or for want of memory, or there is no thread or no memory for the workers, or they do not take it
+abbrev pub CannotInject : Option Refusal → Cause → Type 0
+CannotInject refusal cause = OfRefusal (CanBeRefused refusal) cause ⊎ OfWorkers (λ e. IsBeginFault e ⊎ IsInjectFault e) cause
+
+-- what a worker answered
+abbrev pub reply_text : {X : Type 0} → Format → Directory → Replied X → Text
+reply_text format d r = packet_line format d (r.job).number ((r.job).told).router (r.job).addr (r.answer).matched
+
+-- what workers answered, a line for each reply
+abbrev pub packets_text : {X : Type 0} → Format → Directory → List (Replied X) → Text
+packets_text format d = lines_text (reply_text format d)

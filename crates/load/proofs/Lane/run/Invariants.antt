@@ -1,6 +1,0 @@
-use Rattle.std.proofs.Common.{◌≡◌, ◌≤◌}
-use Rattle.load.proofs.Lane.run.Given as goal
-
--- at most one answer for each job so far
-abbrev pub invariant-loop-number : goal.invariant-loop-number
-invariant-loop-number g l = (l.answered ≤ l.number) × (l.self.answered ≡ l.initial.self.answered)

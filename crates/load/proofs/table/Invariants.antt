@@ -1,6 +1,0 @@
-use Rattle.std.proofs.Common.{◌≡◌}
-use Rattle.load.proofs.table.Given as goal
-
--- nothing was published
-abbrev pub invariant-loop-number : goal.invariant-loop-number
-invariant-loop-number l = l.image.generation ≡ 0

@@ -1,0 +1,3 @@
+mod Whole
+pub mod Planned
+pub mod Stops

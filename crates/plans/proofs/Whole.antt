@@ -1,0 +1,45 @@
+-- A text that a limit does not cut.
+use Rattle.std.proofs.Common.{◌≡◌, ℕ, ◌<◌, List, [], ◌∷◌, ◌++◌, length, take, zero, suc, Option, Some, None, IfSome, option_map, refl, ap, ◌∙◌, arith, length-take}
+use Rattle.plans.specs.declared.fault.Cause.{Cause}
+use Rattle.plans.specs.declared.fault.Cause.TheVariants.{Memory, Unreadable, TooLarge, Document, Lines, Network, Refused, Journal, Unwritable, Workers}
+use Rattle.plans.specs.Faults.{Gives, CannotRead, IsUnread}
+
+-- what a limit does not reach is whole
+take_short : (n : ℕ) (xs : List ℕ) → length (take n xs) < n → take n xs ≡ xs
+take_short zero xs lt = absurd (omega (arith, lt))
+take_short (suc n) [] lt = refl
+take_short (suc n) (x ∷ xs) lt = ap (λ t. x ∷ t) (take_short n xs (omega (arith, lt)))
+
+pub read_whole : (rem : Option (List ℕ)) (n : ℕ) (old bs text : List ℕ) → old ≡ [] → IfSome (option_map (take n) rem) (λ xs. bs ≡ old ++ xs) → length bs < n
+    → text ≡ bs → IfSome rem (λ xs. text ≡ xs)
+read_whole None n old bs text nothing h lt e = tt
+read_whole (Some xs) n old bs text nothing h lt e =
+    let is : bs ≡ take n xs = h ∙ ap (λ t. t ++ take n xs) nothing in
+    e ∙ is ∙ take_short n xs (rw (← is) lt)
+
+-- what holds of all bytes holds of those that a reader gives
+pub any_bytes : (known : Option (List ℕ)) (P : List ℕ → Type 0) → ((xs : List ℕ) → P xs) → (bytes : List ℕ) × Gives known bytes × P bytes
+any_bytes None P holds = ([], tt, holds [])
+any_bytes (Some xs) P holds = (xs, refl, holds xs)
+
+-- a reader that gives more than was wanted
+pub read_longer : (rem : Option (List ℕ)) (n most : ℕ) (old bs : List ℕ) → old ≡ [] → IfSome (option_map (take n) rem) (λ xs. bs ≡ old ++ xs) → most < length bs
+    → (bytes : List ℕ) × Gives rem bytes × (most < length bytes)
+read_longer None n most old bs nothing h longer = (bs, tt, longer)
+read_longer (Some xs) n most old bs nothing h longer =
+    let is : bs ≡ take n xs = h ∙ ap (λ t. t ++ take n xs) nothing in
+    let same : length bs ≡ length (take n xs) = ap length is in
+    (xs, refl, omega (arith, longer, same, length-take n xs))
+
+-- a reader that fails gives no bytes that matter
+pub cannot_read : (cause : Cause) → CannotRead cause → (bytes : List ℕ) → IsUnread bytes cause
+cannot_read (Memory m) why bytes = tt
+cannot_read Unreadable why bytes = tt
+cannot_read TooLarge why bytes = absurd why
+cannot_read (Document fault) why bytes = absurd why
+cannot_read (Lines fault) why bytes = absurd why
+cannot_read (Network fault) why bytes = absurd why
+cannot_read (Refused refusal) why bytes = absurd why
+cannot_read (Journal fault) why bytes = absurd why
+cannot_read Unwritable why bytes = absurd why
+cannot_read (Workers fault) why bytes = absurd why

@@ -1,0 +1,3 @@
+pub mod Printed
+mod Slices
+mod Replays

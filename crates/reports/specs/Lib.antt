@@ -1,0 +1,3 @@
+pub mod Formats
+pub mod Report
+pub mod Ends

@@ -1,0 +1,88 @@
+-- What is told of links, routers, machines and rows.
+use Rattle.std.specs.Prelude.{◌≡◌, ℕ, List, [], ◌∷◌, ◌++◌, ◌⊎◌, Option, Some, None, IsSome, nat_lt, if◌then◌else◌, option_map, length, is_some}
+use Rattle.std.specs.FinMap.{find as row_of}
+use Rattle.std.specs.Io.KnownBytes.{Appends}
+use Rattle.ipv4_prefix.specs.Prefix.{Prefix, prefix_cmp}
+use Rattle.diffusing_replies.specs.Origin.{origin_number}
+use Rattle.network_model.specs.Machine.{Machine}
+use Rattle.network_model.specs.World.{Link, Router}
+use Rattle.network_model.specs.declared.route.Entry.{Entry}
+use Rattle.network_model.specs.declared.step.Refusal.{Refusal}
+use Rattle.network_model.specs.declared.step.Refusal.TheVariants.{UnknownRouter}
+use Rattle.fabric.specs.Fabric.{Fabric}
+use Rattle.dual_machine.specs.State.{MachineState}
+use Rattle.texts.specs.Words.{Text}
+use Rattle.texts.specs.Lines.{lines_text}
+use Rattle.script.specs.Directories.{Directory}
+use Rattle.words.specs.declared.format.Format.{Format}
+use Rattle.reports.specs.Formats.{machine_line, row_line, unheard_line}
+use Rattle.script.specs.declared.lines.LinkLine.{LinkLine}
+use Rattle.script.specs.declared.lines.RouterLine.{RouterLine}
+use Rattle.script.specs.declared.lines.MachineLine.{MachineLine}
+
+-- why nothing is told of a router: it is not there
+abbrev pub unknown_router : Fabric → ℕ → Option Refusal
+unknown_router f router = if nat_lt router (length f.world.routers) then None else Some UnknownRouter
+
+-- what is told of a link
+abbrev pub link_line : Link → LinkLine
+link_line k = record {
+  a = k.a.router;
+  b = k.b.router;
+  up = k.up;
+  session = k.session;
+  from_a = k.a.cost;
+  from_b = k.b.cost;
+  queued_a = length k.a.inbox;
+  queued_b = length k.b.inbox;
+}
+
+-- what is told of a router that has yet to take so many notices of its attachments
+abbrev pub router_line : ℕ → Router → ℕ → RouterLine
+router_line number r notices = record {
+  router = number;
+  generation = r.generation;
+  held = length (r.gate).held;
+  ripe = (r.gate).ripe;
+  notices = notices;
+}
+
+-- the number of the origin state of the computation under way, if one is
+abbrev pub IsOriginNumber : MachineState → Option ℕ → Type 0
+IsOriginNumber s None = (s.machine).computation ≡ None
+IsOriginNumber s (Some number) = IsSome (s.machine).computation × (option_map origin_number s.origin ≡ Some number)
+
+-- a line that tells of a router's machine for a prefix: an origin state is named exactly while a computation is under way
+pub record TellsOfMachine (number : ℕ) (r : Router) (p : Prefix) (line : MachineLine) : Type 0 where
+  pub machine : Machine
+  pub is_machine : row_of prefix_cmp p r.machines ≡ Some machine
+  pub router : line.router ≡ number
+  pub prefix : line.prefix ≡ p
+  pub origin : is_some line.origin ≡ is_some machine.computation
+  pub rd : line.rd ≡ machine.rd
+  pub fd : line.fd ≡ machine.fd
+  pub entry : row_of prefix_cmp p (r.table).control ≡ Some line.entry
+
+-- what is told of a router's machine for a prefix; none where the router has no machine or no row for it
+abbrev pub IsMachineLine : ℕ → Router → Prefix → Option MachineLine → Type 0
+IsMachineLine number r p None = (row_of prefix_cmp p r.machines ≡ None) ⊎ (row_of prefix_cmp p (r.table).control ≡ None)
+IsMachineLine number r p (Some line) = TellsOfMachine number r p line
+
+-- ---- texts
+
+-- what is told of a router's machine for a prefix, or that the router has not heard of the prefix, in a format
+abbrev pub state_text : Format → Directory → ℕ → Prefix → Option MachineLine → Text
+state_text format d number p None = unheard_line format d number p
+state_text format d number p (Some line) = machine_line format d line
+
+-- rows of a router, a line each
+abbrev pub rows_text : Format → Directory → ℕ → List (Prefix × Entry) → Text
+rows_text format d router = lines_text (row_line format d router)
+
+-- a line on a router's machine for a prefix was printed
+abbrev pub PrintsMachine : Format → Directory → ℕ → Router → Prefix → Option Text → Option Text → Type 0
+PrintsMachine format d number r p old new = (line : Option MachineLine) × IsMachineLine number r p line × Appends old new (state_text format d number p line ++ 10 ∷ [])
+
+-- something was printed, and what was there before stays
+abbrev pub Prints : Option Text → Option Text → Type 0
+Prints old new = (text : Text) × Appends old new text

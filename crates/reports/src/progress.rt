@@ -1,0 +1,18 @@
+//! Tells how far a replay is, on a line that moves, where that is asked for. A write that fails is lost.
+
+use std::io::Write;
+
+/// Tells how many steps of a journal were done.
+pub fn tell_steps<E: Write>(asked: bool, done: usize, all: usize, err: &mut E) {
+    if asked {
+        let _ = write!(err, "\rdualnet: {done} of {all} steps");
+        let _ = err.flush();
+    }
+}
+
+/// Ends the line.
+pub fn end_line<E: Write>(asked: bool, err: &mut E) {
+    if asked {
+        let _ = writeln!(err, "");
+    }
+}

@@ -1,0 +1,176 @@
+//! Prints what a network is at: its links, its routers and their machines.
+
+ghost use Rattle.std.specs.Prelude.{◌≡◌, ◌<◌, Err, IsOk, IfSome, OnOk, OnErr, MatchOption, length, slice_get};
+ghost use Rattle.reports.specs.Report.{unknown_router};
+ghost use Rattle.reports.specs.Report.{link_line as line_of_link, router_line as line_of_router, IsMachineLine, IsOriginNumber, Prints, PrintsMachine};
+
+use crate::printer::Printer;
+use crate::reasons::print_reasons;
+use dual_machine::{Machine, Mode};
+use fabric::{Fabric, FabricName, Refusal};
+use ipv4_prefix::Prefix;
+use link_fifo::Links;
+use network_model::End;
+use router_core::Router;
+use script::{LinkLine, MachineLine, RouterLine};
+use std::io;
+use std::io::Write;
+use world::World;
+
+/// Prints what a router's machine for a prefix is at, on a line, and why, where more is to be told.
+/// Refused with `UnknownRouter`. A write that fails is lost.
+pub fn print_state<B: FabricName, W: Write>(
+    fabric: &Fabric<B>,
+    printer: &Printer<'_>,
+    router: u16,
+    prefix: Prefix,
+    explain: bool,
+    out: &mut W,
+) -> Result<(), Refusal>
+    ensures cause { MatchOption (unknown_router fabric.now router) (IsOk result)
+        (λ e. result ≡ Err e) }
+    ensures err { OnErr result (out.new ≡ out.old) }
+{
+    let routers = fabric.world().routers();
+    let found = routers
+        .get(usize::from(router))
+        .ok_or(Refusal::UnknownRouter)?;
+    let _ = print_machine(printer, router, found, prefix, out);
+    if explain {
+        let _ = print_reasons(printer, router, found, prefix, out);
+    }
+    Ok(())
+}
+
+/// Prints each link, and each router with its machines in the order of their prefixes, a line each, up
+/// to the first write that fails.
+pub fn print_report<B: FabricName, W: Write>(
+    fabric: &Fabric<B>,
+    printer: &Printer<'_>,
+    out: &mut W,
+) -> io::Result<()>
+    ensures { OnOk result (Prints (W.contents out.old) (W.contents out.new)) }
+{
+    let world = fabric.world();
+    print_links(printer, world.links(), out)?;
+    print_routers(printer, world, out)
+}
+
+// Prints each link. A network has fewer than 65535.
+fn print_links<W: Write>(printer: &Printer<'_>, links: &Links, out: &mut W) -> io::Result<()>
+    ensures { OnOk result (Prints (W.contents out.old) (W.contents out.new)) }
+{
+    let count = u16::try_from(links.len()).unwrap_or(u16::MAX);
+    for link in 0..count {
+        printer.link(link_line(links, link), out)?;
+    }
+    Ok(())
+}
+
+// Prints each router, with its machines. A network has fewer than 65535 routers.
+fn print_routers<W: Write>(printer: &Printer<'_>, world: &World, out: &mut W) -> io::Result<()>
+    ensures { OnOk result (Prints (W.contents out.old) (W.contents out.new)) }
+{
+    let count = u16::try_from(world.routers().len()).unwrap_or(u16::MAX);
+    for number in 0..count {
+        let notices = world.notices(number);
+        print_router(printer, number, world.router(number), notices, out)?;
+    }
+    Ok(())
+}
+
+// Prints a router, and its machine for each prefix that it has heard of.
+fn print_router<W: Write>(
+    printer: &Printer<'_>,
+    number: u16,
+    router: &Router,
+    notices: usize,
+    out: &mut W,
+) -> io::Result<()>
+    ensures { OnOk result (Prints (W.contents out.old) (W.contents out.new)) }
+{
+    let line = router_line(number, router, notices);
+    let names = printer.directory;
+    printer.print(names.router(line), json_lines::router(names, line), out)?;
+    for (prefix, _) in router.table().rows() {
+        print_machine(printer, number, router, prefix, out)?;
+    }
+    Ok(())
+}
+
+// Prints what a router's machine for a prefix is at.
+fn print_machine<W: Write>(
+    printer: &Printer<'_>,
+    number: u16,
+    router: &Router,
+    prefix: Prefix,
+    out: &mut W,
+) -> io::Result<()>
+    ensures { OnOk result (PrintsMachine printer.now.format printer.now.directory.now number router.now prefix
+        (W.contents out.old) (W.contents out.new)) }
+{
+    match machine_line(number, router, prefix) {
+        Some(line) => printer.machine(line, out),
+        None => {
+            let names = printer.directory;
+            let json = json_lines::unheard(names, number, prefix);
+            printer.print(names.unheard(number, prefix), json, out)
+        }
+    }
+}
+
+// What is told of a link.
+fn link_line(links: &Links, link: u16) -> LinkLine
+    requires { link < length links.now.links }
+    ensures { IfSome (slice_get links.now.links link) (λ k. result ≡ line_of_link k) }
+{
+    LinkLine {
+        a: links.router(link, End::A),
+        b: links.router(link, End::B),
+        up: links.is_up(link),
+        session: links.session(link),
+        from_a: links.cost(link, End::A),
+        from_b: links.cost(link, End::B),
+        queued_a: links.queued(link, End::A),
+        queued_b: links.queued(link, End::B),
+    }
+}
+
+// What is told of a router that has yet to take so many notices of its attachments.
+fn router_line(number: u16, router: &Router, notices: usize) -> RouterLine
+    ensures { result ≡ line_of_router number router.now notices }
+{
+    RouterLine {
+        router: number,
+        generation: router.generation(),
+        held: router.held(),
+        ripe: router.ripe(),
+        notices,
+    }
+}
+
+// What is told of a router's machine for a prefix; none where the router has not heard of it.
+fn machine_line(number: u16, router: &Router, prefix: Prefix) -> Option<MachineLine>
+    ensures { IsMachineLine number router.now prefix result }
+{
+    let entry = router.table().get(prefix)?;
+    let machine = router.machine(prefix)?;
+    Some(MachineLine {
+        router: number,
+        prefix,
+        origin: origin_number(machine),
+        rd: machine.rd(),
+        fd: machine.fd(),
+        entry,
+    })
+}
+
+// The number of the origin state of the computation under way.
+fn origin_number(machine: &Machine) -> Option<u8>
+    ensures { IsOriginNumber machine.now result }
+{
+    match machine.mode() {
+        Mode::Passive => None,
+        Mode::Active { origin, .. } => Some(origin.number()),
+    }
+}

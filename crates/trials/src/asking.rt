@@ -1,0 +1,218 @@
+//! Does what a case asks, and tells where it gives something else.
+
+use advice::{Faulty, advise, file_to_explain, is_check};
+use play::Host;
+use std::alloc::{AllocError, Global};
+use std::io::Write;
+use trial::case::{Given, Verdict, Wanted, judge};
+use trial::{Outcome, play_in_memory};
+use words::{Error, Format, Words, exit_status, read_words};
+
+/// What is asked, of which texts, and what it should give.
+#[derive(Clone, Copy)]
+pub struct Case<'a> {
+    /// The file that it stands in.
+    pub file: &'a str,
+    pub name: &'a str,
+    /// Command lines, each of which should give the same.
+    pub commands: &'a str,
+    pub scenario: &'a str,
+    pub journal: &'a str,
+    pub wanted: Wanted<'a>,
+}
+
+/// Whether there is a command line, and each gives what it should; tells of those that do not.
+pub fn is_right<H: Host, W: Write>(
+    wait: &H,
+    alloc: Global,
+    case: &Case<'_>,
+    out: &mut W,
+) -> Result<bool, AllocError> {
+    if case.commands.is_empty() {
+        let _ = writeln!(out, "{}: {}: asks nothing", case.file, case.name);
+        return Ok(false);
+    }
+    let mut right = true;
+    for line in case.commands.lines() {
+        right = is_line_right(wait, alloc, case, line, out)? && right;
+    }
+    Ok(right)
+}
+
+// Whether a line asks something, and gives what it should.
+fn is_line_right<H: Host, W: Write>(
+    wait: &H,
+    alloc: Global,
+    case: &Case<'_>,
+    line: &str,
+    out: &mut W,
+) -> Result<bool, AllocError> {
+    let Some(words) = line.strip_prefix("$ ") else {
+        let _ = writeln!(out, "{}: {}: no command line: {line}", case.file, case.name);
+        return Ok(false);
+    };
+    let given = ask_words(wait, alloc, case, words)?;
+    let verdict = judge(&case.wanted, &given);
+    if verdict != Verdict::IsRight {
+        let _ = writeln!(out, "{}: {}: {line}", case.file, case.name);
+        tell(&case.wanted, &given, verdict, out);
+    }
+    Ok(verdict == Verdict::IsRight)
+}
+
+// What a command line gives.
+fn ask_words<H: Host>(
+    wait: &H,
+    alloc: Global,
+    case: &Case<'_>,
+    line: &str,
+) -> Result<Given, AllocError> {
+    let words: Vec<&str> = line.split(' ').collect(alloc)?;
+    match read_words(alloc, words.as_slice()) {
+        Ok(words) => do_words(wait, alloc, case, &words),
+        Err(error) => tell_refusal(alloc, &error),
+    }
+}
+
+fn do_words<H: Host>(
+    wait: &H,
+    alloc: Global,
+    case: &Case<'_>,
+    asked: &Words<'_>,
+) -> Result<Given, AllocError> {
+    let words = format!(in alloc; "{asked:?}\n")?;
+    let scenario = case.scenario.as_bytes();
+    let mut outcome = play_in_memory(wait, alloc, asked, scenario, case.journal.as_bytes());
+    if let (Some(file), Some(fault)) = (file_to_explain(asked), outcome.fault) {
+        let faulty = Faulty {
+            file,
+            text: case.scenario,
+            kind: fault.kind(),
+            place: fault.place,
+            is_check: is_check(asked),
+        };
+        let _ = advise(alloc, faulty, &mut outcome.err);
+    }
+    let replay = replay_status(wait, alloc, asked, scenario, &outcome);
+    Ok(Given {
+        outcome,
+        words,
+        replay,
+    })
+}
+
+// The status of the replay of a run or a shell that came to its end, else 0.
+fn replay_status<H: Host>(
+    wait: &H,
+    alloc: Global,
+    asked: &Words<'_>,
+    scenario: &[u8],
+    ran: &Outcome,
+) -> u8 {
+    let file = match *asked {
+        Words::Run {
+            file,
+            threads: _,
+            workers: _,
+            journal: _,
+            explain: _,
+            format: _,
+            progress: _,
+        } => Some(file),
+        Words::Shell {
+            file,
+            journal: _,
+            explain: _,
+        } => Some(file),
+        _ => None,
+    };
+    match file {
+        Some(file) if ran.status == 0 => {
+            let again = Words::Replay {
+                file,
+                journal: "",
+                explain: false,
+                format: Format::Text,
+                progress: false,
+            };
+            play_in_memory(wait, alloc, &again, scenario, ran.kept.as_slice()).status
+        }
+        _ => 0,
+    }
+}
+
+// What the program gives where its command line asks for nothing that can be done.
+fn tell_refusal(alloc: Global, error: &Error) -> Result<Given, AllocError> {
+    let text = error.to_string(alloc)?.into_bytes();
+    let nothing = Vec::new(alloc);
+    let (out, err) = if error.use_stderr() {
+        (nothing, text)
+    } else {
+        (text, nothing)
+    };
+    let outcome = Outcome {
+        status: exit_status(error),
+        out,
+        err,
+        kept: Vec::new(alloc),
+        fault: None,
+    };
+    Ok(Given {
+        outcome,
+        words: String::new(alloc),
+        replay: 0,
+    })
+}
+
+// Tells what was given that should not be.
+fn tell<W: Write>(wanted: &Wanted<'_>, given: &Given, verdict: Verdict, out: &mut W) {
+    let ran = &given.outcome;
+    let (wanted, bytes) = match verdict {
+        Verdict::PrintsSomethingElse => (wanted.out.text(), ran.out.as_slice()),
+        Verdict::KeepsSomethingElse => (wanted.kept.unwrap_or(""), ran.kept.as_slice()),
+        Verdict::IsReadAsSomethingElse => (wanted.words.unwrap_or(""), given.words.as_bytes()),
+        _ => (wanted.err.text(), ran.err.as_slice()),
+    };
+    let text = str::from_utf8(bytes).unwrap_or("no UTF-8");
+    let difference = first_difference(wanted, text);
+    let _ = writeln!(
+        out,
+        "    {}, at status {}, and line {}\n    should be: {}\n    is:        {}",
+        verdict.text(),
+        ran.status,
+        difference.line,
+        difference.wanted,
+        difference.given
+    );
+}
+
+// The first line at which two texts differ.
+#[derive(Clone, Copy)]
+struct Difference<'w, 'g> {
+    line: usize,
+    wanted: &'w str,
+    given: &'g str,
+}
+
+fn first_difference<'w, 'g>(wanted: &'w str, given: &'g str) -> Difference<'w, 'g> {
+    let mut others = given.lines();
+    let mut line = 1usize;
+    for wanted in wanted.lines() {
+        let given = others.next().unwrap_or("nothing");
+        if given != wanted {
+            return Difference {
+                line,
+                wanted,
+                given,
+            };
+        }
+        line = line.saturating_add(1);
+    }
+    let wanted = "nothing";
+    let given = others.next().unwrap_or("nothing");
+    Difference {
+        line,
+        wanted,
+        given,
+    }
+}

@@ -1,0 +1,106 @@
+//! Tries the program, in memory, on what the words of the command line name, one after another, and
+//! tells what it finds: `trials WORD..`. The words are
+//!
+//!     FILE.toml               an example: the scenario of that file
+//!     FILE.cases              the cases of that file
+//!     FILE.faults             the table of faults of that file
+//!     soak SEED COUNT         so many random scenarios
+//!     load WORKERS ANSWERS    1 to 16 workers, each of which answers so many jobs
+//!
+//! The modules say what is tried of each. The exit status is 0 where all is as it should be, else 1.
+#![tactic(auto)]
+
+mod asking;
+mod cases;
+mod examples;
+mod faults;
+mod load;
+mod random;
+mod soak;
+mod traces;
+
+ghost use Rattle.std.specs.Prelude.{◌<◌, IfSome, length};
+
+use crate::cases::are_cases_right;
+use crate::examples::is_example_right;
+use crate::load::are_jobs_answered;
+use crate::soak::are_scenarios_good;
+use play::Host;
+use std::env;
+use std::io::{self, Write};
+use std::process::ExitCode;
+
+const USAGE: &str = "usage: trials WORD.., where the words are FILE.toml, FILE.cases, FILE.faults, \
+soak SEED COUNT, load WORKERS ANSWERS";
+
+fn main(rt: HostRuntime) -> ExitCode {
+    match try_words(&rt, &rt) {
+        Ok(true) => ExitCode::from(0),
+        _ => ExitCode::from(1),
+    }
+}
+
+// Whether there are words, each of them asks for something, and all of that is as it should be.
+fn try_words<H: Host>(rt: &HostRuntime, wait: &H) -> io::Result<bool> {
+    let given: Vec<String> = env::args(rt)?.skip(1).collect(rt.alloc())?;
+    let words: Vec<&str> = given.iter().map(|word| word.as_str()).collect(rt.alloc())?;
+    if words.is_empty() {
+        let _ = writeln!(&mut rt.stderr(), "{USAGE}");
+        return Ok(false);
+    }
+    let mut out = rt.stdout();
+    let mut right = true;
+    let mut rest = words.as_slice();
+    while let Some((task, after)) = first_task(rest) {
+        right = is_right(rt, wait, task, &mut out) && right;
+        rest = after;
+    }
+    if let Some(word) = rest.first() {
+        let _ = writeln!(&mut out, "{word}: asks for nothing that can be tried");
+        let _ = writeln!(&mut rt.stderr(), "{USAGE}");
+        right = false;
+    }
+    Ok(right)
+}
+
+// What some words ask for.
+#[derive(Clone, Copy)]
+enum Task<'a> {
+    Example(&'a str),
+    Cases(&'a str),
+    Soak { seed: u64, count: u32 },
+    Load { workers: u8, answers: u32 },
+}
+
+// What the first words ask for, and the words behind them; none where they ask for nothing.
+fn first_task<'w, 'a>(words: &'w [&'a str]) -> Option<(Task<'a>, &'w [&'a str])>
+    ensures { IfSome result (λ found. length found.1.now < length words.now) }
+{
+    match words {
+        ["soak", seed, count, rest @ ..] => {
+            let seed = seed.parse().ok()?;
+            let count = count.parse().ok()?;
+            Some((Task::Soak { seed, count }, rest))
+        }
+        ["load", workers, answers, rest @ ..] => {
+            let workers = workers.parse().ok()?;
+            let answers = answers.parse().ok()?;
+            Some((Task::Load { workers, answers }, rest))
+        }
+        [file, rest @ ..] if file.ends_with(".toml") => Some((Task::Example(*file), rest)),
+        [file, rest @ ..] if file.ends_with(".cases") || file.ends_with(".faults") => {
+            Some((Task::Cases(*file), rest))
+        }
+        _ => None,
+    }
+}
+
+// Whether what is asked for is as it should be; tells what is found of it.
+fn is_right<H: Host, W: Write>(rt: &HostRuntime, wait: &H, task: Task<'_>, out: &mut W) -> bool {
+    match task {
+        Task::Example(file) => is_example_right(rt, wait, file, out),
+        Task::Cases(file) => are_cases_right(rt, wait, file, out),
+        Task::Soak { seed, count } => are_scenarios_good(wait, rt.alloc(), seed, count, out),
+        Task::Load { workers, answers } => are_jobs_answered(rt, wait, workers, answers, out),
+    }
+}
