@@ -1,37 +1,25 @@
-use network_model::{Distance, Held, Kind, Message, Prefix};
+use crate::values::update;
+use network_model::Held;
 use release_gate::Gate;
-use std::process::Abort;
-use std::test::Fail;
 
 // An update that leaves by this port.
-pub(crate) fn update(port: u8) -> Result<Held, Fail> {
-    let message = Message {
-        kind: Kind::Update,
-        prefix: Prefix::new(0x0a00_0000, 8)?,
-        value: Distance::ZERO,
-    };
-    Ok(Held {
+pub(crate) fn held(port: u8) -> Held {
+    Held {
         port,
         session: 1,
-        message,
-    })
-}
-
-fn holds_and_releases(rt: &impl Abort, gate: &mut Gate) -> Result<(), Fail> {
-    let (first, second) = (update(0)?, update(1)?);
-    gate.reserve(1)?;
-    gate.hold(first)?;
-    assert_eq!(rt; gate.release(), None);
-    gate.ripen();
-    gate.hold(second)?;
-    assert_eq!(rt; gate.release(), Some(first));
-    assert_eq!(rt; gate.front(), None);
-    assert_eq!(rt; (gate.held(), gate.ripe()), (1, 0));
-    Ok(())
+        message: update(),
+    }
 }
 
 #[test]
-fn what_was_held_leaves_once_ripe(rt: HostRuntime) -> Result<(), Fail> {
+fn what_was_held_leaves_once_ripe(rt: HostRuntime) {
     let mut gate = Gate::new(rt.alloc());
-    holds_and_releases(&rt, &mut gate)
+    gate.reserve(1).expect(&rt, "memory");
+    gate.hold(held(0)).expect(&rt, "memory");
+    let early = gate.release();
+    gate.ripen();
+    gate.hold(held(1)).expect(&rt, "memory");
+    assert_eq!(rt; (early, gate.release()), (None, Some(held(0))));
+    assert_eq!(rt; gate.front(), None);
+    assert_eq!(rt; (gate.held(), gate.ripe()), (1, 0));
 }

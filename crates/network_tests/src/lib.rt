@@ -31,4 +31,6 @@ mod rows;
 #[cfg(test)]
 mod tables;
 #[cfg(test)]
+mod values;
+#[cfg(test)]
 mod worlds;

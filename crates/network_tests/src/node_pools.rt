@@ -1,16 +1,15 @@
 use node_pool::{Block, NodePool};
-use std::test::Fail;
 
 #[test]
-fn nodes_and_results_lie_apart(rt: HostRuntime) -> Result<(), Fail> {
+fn nodes_and_results_lie_apart(rt: HostRuntime) {
     let mut pool = NodePool::new(rt.alloc());
-    pool.reserve(17, 15)?;
-    let root = pool.take_nodes(1, 'r')?;
+    pool.reserve(17, 15).expect(&rt, "memory");
+    let root = pool.take_nodes(1, 'r').expect(&rt, "memory");
     let size = 16;
-    let base = pool.take_nodes(size, 'n')?;
-    assert_eq!(rt; (root, base, pool.take_results(15, 7u8)?), (0, 1, 0));
+    let base = pool.take_nodes(size, 'n').expect(&rt, "memory");
+    let results = pool.take_results(15, 7u8).expect(&rt, "memory");
+    assert_eq!(rt; (root, base, results), (0, 1, 0));
     pool.give(Block::Nodes { base, size });
     assert_eq!(rt; (pool.nodes.spare(16), pool.results.spare(15)), (1, 0));
     assert_eq!(rt; pool.nodes.get(root), 'r');
-    Ok(())
 }

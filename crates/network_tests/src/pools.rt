@@ -1,51 +1,43 @@
 use node_pool::Pool;
-use std::process::Abort;
-use std::test::Fail;
 
-fn takes_again(rt: &impl Abort, pool: &mut Pool<char>) -> Result<(), Fail> {
-    let first = pool.take(3, 'a')?;
-    let second = pool.take(3, 'b')?;
+#[test]
+fn what_was_given_is_taken_again(rt: HostRuntime) {
+    let mut pool = Pool::new(rt.alloc());
+    let first = pool.take(3, 'a').expect(&rt, "memory");
+    let second = pool.take(3, 'b').expect(&rt, "memory");
     assert_eq!(rt; (first, second), (0, 3));
     pool.give(second, 3);
     assert_eq!(rt; (pool.spare(3), pool.cell_count()), (1, 6));
-    assert_eq!(rt; pool.take(3, 'c')?, second);
+    let again = pool.take(3, 'c').expect(&rt, "memory");
     // A block of another size does not fit.
-    let other = pool.take(2, 'd')?;
-    assert_eq!(rt; (other, pool.spare(3), pool.cell_count()), (6, 0, 8));
-    Ok(())
+    let other = pool.take(2, 'd').expect(&rt, "memory");
+    assert_eq!(rt; (again, other), (3, 6));
+    assert_eq!(rt; (pool.spare(3), pool.cell_count()), (0, 8));
 }
 
 #[test]
-fn what_was_given_is_taken_again(rt: HostRuntime) -> Result<(), Fail> {
-    let mut pool = Pool::new(rt.alloc());
-    takes_again(&rt, &mut pool)
-}
-
-#[test]
-fn the_pool_stays_as_large_as_it_was(rt: HostRuntime) -> Result<(), Fail> {
+fn the_pool_stays_as_large_as_it_was(rt: HostRuntime) {
     let mut pool = Pool::new(rt.alloc());
     for turn in 0..1000u32 {
-        let large = pool.take(16, turn)?;
+        let large = pool.take(16, turn).expect(&rt, "memory");
         pool.give(large, 16);
-        let small = pool.take(1, turn)?;
+        let small = pool.take(1, turn).expect(&rt, "memory");
         pool.give(small, 1);
     }
     assert_eq!(rt; pool.cell_count(), 17);
-    Ok(())
 }
 
 #[test]
-fn a_block_moves_with_a_gap(rt: HostRuntime) -> Result<(), Fail> {
+fn a_block_moves_with_a_gap(rt: HostRuntime) {
     let mut pool = Pool::new(rt.alloc());
-    pool.reserve(5)?;
-    let base = pool.take(2, 'a')?;
+    pool.reserve(5).expect(&rt, "memory");
+    let base = pool.take(2, 'a').expect(&rt, "memory");
     let second = pool.place(base, 1);
     pool.set(second, 'c');
-    let moved = pool.grow(base, 2, 1, 'b')?;
+    let moved = pool.grow(base, 2, 1, 'b').expect(&rt, "memory");
     let low = pool.get(pool.place(moved, 0));
     let middle = pool.get(pool.place(moved, 1));
     let high = pool.get(pool.place(moved, 2));
     assert_eq!(rt; (low, middle, high), ('a', 'b', 'c'));
     assert_eq!(rt; (moved, pool.cell_count(), pool.spare(2)), (2, 5, 1));
-    Ok(())
 }

@@ -1,21 +1,21 @@
 //! Calls that take memory. Each is refused, and changes nothing, where a heap has too little left, be it
 //! 0, 16, 32 or more bytes; once there is room it ends as if it had never been refused.
 
-use crate::gates::update;
+use crate::gates::held;
 use crate::links::one_link;
-use crate::routers::{one_port, take, ten_is_there, up};
+use crate::routers::{one_port, take, up};
+use crate::values::{addr, prefix, ten, update};
 use dual_machine::{Cost, Distance, Event, Kind, Machine, PortInfo, Sends};
 use image_compiler::compile;
-use ipv4_prefix::parse_addr;
-use link_fifo::LinkRefusal;
+use link_fifo::{LinkRefusal, Links};
 use linked_list_allocator::LocalHeap;
-use network_model::{End, Item, NoMemory, Prefix, SmallAllocator};
+use network_model::{End, Item, NoMemory, SmallAllocator};
 use release_gate::Gate;
 use route_table::{Entry, RouteTable};
 use router_core::Router;
 use std::alloc::Global;
 use std::process::Abort;
-use std::test::Fail;
+use tree_bitmap::Image;
 
 // More than each of the calls takes.
 const HEAP: usize = 4096;
@@ -45,8 +45,8 @@ enum Call {
 
 impl Call {
     // Whether the call is refused with so many bytes left.
-    fn is_refused(self, rt: &impl Abort, alloc: Global, left: usize) -> Result<bool, Fail> {
-        let heap = LocalHeap::new(alloc, HEAP)?;
+    fn is_refused(self, rt: &impl Abort, alloc: Global, left: usize) -> bool {
+        let heap = LocalHeap::new(alloc, HEAP).expect(rt, "memory");
         match self {
             Call::Open(count) => open(rt, &heap, left, count),
             Call::Event => hear(rt, &heap, left),
@@ -58,34 +58,30 @@ impl Call {
             Call::AcceptMessage => accept_message(rt, &heap, left),
         }
     }
+}
 
-    // It is refused with little left, and from some room on never more.
-    fn is_refused_until_there_is_room(self, rt: &impl Abort, alloc: Global) -> Result<(), Fail> {
-        let mut refused = 0;
-        for units in 0..128usize {
-            if self.is_refused(rt, alloc, units * UNIT)? {
-                assert_eq!(rt; refused, units);
-                refused = units + 1;
-            }
+// The call is refused with little left, and from some room on never more.
+fn needs_room(rt: &impl Abort, alloc: Global, call: Call) {
+    let mut refused = 0;
+    for units in 0..128usize {
+        if call.is_refused(rt, alloc, units * UNIT) {
+            assert_eq!(rt; refused, units);
+            refused = units + 1;
         }
-        assert!(rt; refused > 0 && refused < 128);
-        Ok(())
     }
+    assert!(rt; refused > 0 && refused < 128);
 }
 
 // Takes all of the heap but so many bytes, until it is dropped.
-fn ballast(heap: &LocalHeap, left: usize) -> Result<Vec<u8, &LocalHeap>, Fail> {
-    Ok(Vec::with_capacity(heap, heap.free().saturating_sub(left))?)
+fn ballast<'h>(rt: &impl Abort, heap: &'h LocalHeap, left: usize) -> Vec<u8, &'h LocalHeap> {
+    Vec::with_capacity(heap, heap.free().saturating_sub(left)).expect(rt, "memory")
 }
 
 // 32 ports, each up at cost 1.
-fn ports() -> Result<[PortInfo; 32], Fail> {
-    let port = PortInfo {
-        up: true,
-        cost: Cost::new(1)?,
-    };
-    Ok([port; 32])
-}
+const PORTS: [PortInfo; 32] = [PortInfo {
+    up: true,
+    cost: Cost::ONE,
+}; 32];
 
 // What a machine shows.
 fn shown<A: SmallAllocator>(machine: &Machine<A>) -> (Distance, Distance, Option<u8>, bool) {
@@ -97,29 +93,31 @@ fn shown<A: SmallAllocator>(machine: &Machine<A>) -> (Distance, Distance, Option
     )
 }
 
-fn open(rt: &impl Abort, heap: &LocalHeap, left: usize, count: usize) -> Result<bool, Fail> {
-    let ports = ports()?;
-    assert!(rt; count <= ports.len());
-    let ports = &ports[..count];
-    let weight = ballast(heap, left)?;
-    let first = Machine::new(heap, None, ports);
-    drop(weight);
-    let is_refused = first.is_err();
-    let machine = match first {
-        Ok(machine) => machine,
-        Err(NoMemory) => {
-            assert_eq!(rt; heap.used(), 0);
-            Machine::new(heap, None, ports)?
-        }
-    };
-    assert_eq!(rt; shown(&machine), (Distance::INF, Distance::INF, None, true));
+// A machine over no port, or so many, that has heard nothing.
+fn is_new(rt: &impl Abort, machine: &Machine<&LocalHeap>, count: usize) {
+    assert_eq!(rt; shown(machine), (Distance::INF, Distance::INF, None, true));
     for port in 0..32u8 {
         assert_eq!(rt;
             machine.neighbour(port).is_some(),
             usize::from(port) < count
         );
     }
-    Ok(is_refused)
+}
+
+fn open(rt: &impl Abort, heap: &LocalHeap, left: usize, count: usize) -> bool {
+    assert!(rt; count <= PORTS.len());
+    let ports = &PORTS[..count];
+    let weight = ballast(rt, heap, left);
+    let first = Machine::new(heap, None, ports);
+    drop(weight);
+    if let Ok(machine) = &first {
+        is_new(rt, machine, count);
+        return false;
+    }
+    assert_eq!(rt; heap.used(), 0);
+    let again = Machine::new(heap, None, ports).expect(rt, "room");
+    is_new(rt, &again, count);
+    true
 }
 
 const UPDATE: Event = Event::Message {
@@ -128,119 +126,101 @@ const UPDATE: Event = Event::Message {
     value: Distance::ZERO,
 };
 
-fn hear(rt: &impl Abort, heap: &LocalHeap, left: usize) -> Result<bool, Fail> {
-    let mut machine = Machine::new(heap, None, &ports()?[..2])?;
+fn hear(rt: &impl Abort, heap: &LocalHeap, left: usize) -> bool {
+    let mut machine = Machine::new(heap, None, &PORTS[..2]).expect(rt, "room");
     let mut sends = Sends::new(heap);
     let before = shown(&machine);
-    let weight = ballast(heap, left)?;
+    let weight = ballast(rt, heap, left);
     assert!(rt; machine.is_timely(UPDATE));
     let first = machine.event(UPDATE, &mut sends);
     drop(weight);
     if first == Err(NoMemory) {
         assert_eq!(rt; (shown(&machine), sends.as_slice().len()), (before, 0));
         assert!(rt; machine.is_timely(UPDATE));
-        machine.event(UPDATE, &mut sends)?;
+        machine.event(UPDATE, &mut sends).expect(rt, "room");
     }
     let one = Distance::new(1);
     assert_eq!(rt; shown(&machine), (one, one, Some(0), true));
     assert_eq!(rt; sends.as_slice().len(), 2);
-    Ok(first.is_err())
+    first.is_err()
 }
 
-fn set(rt: &impl Abort, heap: &LocalHeap, left: usize) -> Result<bool, Fail> {
-    let ten = Prefix::parse("10.0.0.0/8")?;
+fn set(rt: &impl Abort, heap: &LocalHeap, left: usize) -> bool {
     let mut table = RouteTable::new(heap);
-    let weight = ballast(heap, left)?;
-    let first = table.set(ten, Entry::Local);
+    let weight = ballast(rt, heap, left);
+    let first = table.set(ten(), Entry::Local);
     drop(weight);
     if first == Err(NoMemory) {
-        assert_eq!(rt; (table.len(), table.get(ten)), (0, None));
+        assert_eq!(rt; (table.len(), table.get(ten())), (0, None));
         assert!(rt; !table.is_changed());
-        table.set(ten, Entry::Local)?;
+        table.set(ten(), Entry::Local).expect(rt, "room");
     }
-    assert_eq!(rt; (table.len(), table.get(ten)), (1, Some(Entry::Local)));
-    assert_eq!(rt; table.published(ten), None);
-    Ok(first.is_err())
+    assert_eq!(rt; (table.len(), table.get(ten())), (1, Some(Entry::Local)));
+    assert_eq!(rt; table.published(ten()), None);
+    first.is_err()
 }
 
-fn hold(rt: &impl Abort, heap: &LocalHeap, left: usize) -> Result<bool, Fail> {
+fn hold(rt: &impl Abort, heap: &LocalHeap, left: usize) -> bool {
     let mut gate = Gate::new(heap);
-    let weight = ballast(heap, left)?;
-    let first = gate.hold(update(0)?);
+    let weight = ballast(rt, heap, left);
+    let first = gate.hold(held(0));
     drop(weight);
     if first == Err(NoMemory) {
         assert_eq!(rt; gate.held(), 0);
-        gate.hold(update(0)?)?;
+        gate.hold(held(0)).expect(rt, "room");
     }
     gate.ripen();
-    assert_eq!(rt; (gate.held(), gate.release()), (1, Some(update(0)?)));
-    Ok(first.is_err())
+    assert_eq!(rt; (gate.held(), gate.release()), (1, Some(held(0))));
+    first.is_err()
 }
 
-fn come_up(rt: &impl Abort, heap: &LocalHeap, left: usize) -> Result<bool, Fail> {
-    let mut links = one_link(heap)?;
-    let weight = ballast(heap, left)?;
+// Whether the link is up, and how many notices each end has yet to take.
+fn is_at(rt: &impl Abort, links: &Links<&LocalHeap>, up: bool, notices: usize) {
+    assert!(rt; !links.is_empty());
+    let queued = (links.queued(0, End::A), links.queued(0, End::B));
+    assert_eq!(rt; (links.is_up(0), queued), (up, (notices, notices)));
+}
+
+fn come_up(rt: &impl Abort, heap: &LocalHeap, left: usize) -> bool {
+    let mut links = one_link(rt, heap);
+    let weight = ballast(rt, heap, left);
     let first = links.up(0);
     drop(weight);
-    assert!(rt; !links.is_empty());
     if first == Err(LinkRefusal::NoMemory) {
-        assert_eq!(rt;
-            (
-                links.is_up(0),
-                links.queued(0, End::A),
-                links.queued(0, End::B)
-            ),
-            (false, 0, 0)
-        );
-        links.up(0)?;
+        is_at(rt, &links, false, 0);
+        links.up(0).expect(rt, "room");
     }
-    assert!(rt; !links.is_empty());
-    assert_eq!(rt;
-        (
-            links.is_up(0),
-            links.queued(0, End::A),
-            links.queued(0, End::B)
-        ),
-        (true, 1, 1)
-    );
-    Ok(first.is_err())
+    is_at(rt, &links, true, 1);
+    first.is_err()
 }
 
 // An image of two rows answers by them, and one that was refused leaves nothing behind.
-fn compile_two(
-    rt: &impl Abort,
-    alloc: Global,
-    heap: &LocalHeap,
-    left: usize,
-) -> Result<bool, Fail> {
-    let (wide, narrow) = (Prefix::parse("10.0.0.0/8")?, Prefix::parse("10.1.0.0/16")?);
+fn compile_two(rt: &impl Abort, alloc: Global, heap: &LocalHeap, left: usize) -> bool {
     let mut table = RouteTable::new(alloc);
-    table.set(wide, Entry::Local)?;
-    table.set(narrow, Entry::Unreachable)?;
-    let weight = ballast(heap, left)?;
+    table.set(ten(), Entry::Local).expect(rt, "memory");
+    let narrow = prefix(rt, "10.1.0.0/16");
+    table.set(narrow, Entry::Unreachable).expect(rt, "memory");
+    let weight = ballast(rt, heap, left);
     let first = compile(heap, &table);
     drop(weight);
-    let is_refused = first.is_err();
-    let image = match first {
-        Ok(image) => image,
-        Err(NoMemory) => {
-            assert_eq!(rt; heap.used(), 0);
-            compile(heap, &table)?
-        }
-    };
-    assert_eq!(rt;
-        image.lookup(parse_addr("10.1.0.1")?),
-        Some((narrow, Entry::Unreachable))
-    );
-    assert_eq!(rt;
-        image.lookup(parse_addr("10.2.0.1")?),
-        Some((wide, Entry::Local))
-    );
-    Ok(is_refused)
+    if let Ok(image) = &first {
+        answers_by_two(rt, image);
+        return false;
+    }
+    assert_eq!(rt; heap.used(), 0);
+    answers_by_two(rt, &compile(heap, &table).expect(rt, "room"));
+    true
+}
+
+fn answers_by_two(rt: &impl Abort, image: &Image<&LocalHeap>) {
+    let narrow = (prefix(rt, "10.1.0.0/16"), Entry::Unreachable);
+    assert_eq!(rt; image.lookup(addr(rt, "10.1.0.1")), Some(narrow));
+    let wide = (ten(), Entry::Local);
+    assert_eq!(rt; image.lookup(addr(rt, "10.2.0.1")), Some(wide));
 }
 
 // What a router shows: how many rows it has chosen and messages it holds, and whether it would publish.
-fn told<A: SmallAllocator>(router: &Router<A>) -> (usize, usize, bool) {
+fn told(router: &Router<&LocalHeap>) -> (usize, usize, bool) {
     (router.table().len(), router.held(), router.due())
 }
 
@@ -250,68 +230,67 @@ fn accept(
     left: usize,
     router: &mut Router<&LocalHeap>,
     item: Item,
-) -> Result<bool, Fail> {
+) -> bool {
     let before = told(router);
-    let weight = ballast(heap, left)?;
+    let weight = ballast(rt, heap, left);
     assert!(rt; router.can_take(0, &item));
     let first = router.accept(0, &item);
     drop(weight);
     if first == Err(NoMemory) {
         assert_eq!(rt; told(router), before);
-        assert!(rt; router.can_take(0, &item));
-        router.accept(0, &item)?;
+        take(rt, router, item);
     }
-    Ok(first.is_err())
+    first.is_err()
 }
 
-fn accept_notice(rt: &impl Abort, heap: &LocalHeap, left: usize) -> Result<bool, Fail> {
-    let mut router = one_port(heap, &[])?;
-    let is_refused = accept(rt, heap, left, &mut router, up()?)?;
-    assert!(rt; router.can_take(0, &ten_is_there()?));
-    Ok(is_refused)
+fn accept_notice(rt: &impl Abort, heap: &LocalHeap, left: usize) -> bool {
+    let mut router = one_port(rt, heap, &[]);
+    let is_refused = accept(rt, heap, left, &mut router, up(rt));
+    assert!(rt; router.can_take(0, &Item::Message(update())));
+    is_refused
 }
 
-fn accept_message(rt: &impl Abort, heap: &LocalHeap, left: usize) -> Result<bool, Fail> {
-    let mut router = one_port(heap, &[])?;
-    take(&mut router, up()?)?;
-    let is_refused = accept(rt, heap, left, &mut router, ten_is_there()?)?;
+fn accept_message(rt: &impl Abort, heap: &LocalHeap, left: usize) -> bool {
+    let mut router = one_port(rt, heap, &[]);
+    take(rt, &mut router, up(rt));
+    let is_refused = accept(rt, heap, left, &mut router, Item::Message(update()));
     assert_eq!(rt; told(&router), (1, 1, true));
-    Ok(is_refused)
+    is_refused
 }
 
 #[test]
-fn a_machine_of_more_than_four_ports_needs_room_to_open(rt: HostRuntime) -> Result<(), Fail> {
-    Call::Open(5).is_refused_until_there_is_room(&rt, rt.alloc())?;
-    Call::Open(32).is_refused_until_there_is_room(&rt, rt.alloc())
+fn a_machine_of_more_than_four_ports_needs_room_to_open(rt: HostRuntime) {
+    needs_room(&rt, rt.alloc(), Call::Open(5));
+    needs_room(&rt, rt.alloc(), Call::Open(32));
 }
 
 #[test]
-fn a_machine_needs_room_for_what_it_sends(rt: HostRuntime) -> Result<(), Fail> {
-    Call::Event.is_refused_until_there_is_room(&rt, rt.alloc())
+fn a_machine_needs_room_for_what_it_sends(rt: HostRuntime) {
+    needs_room(&rt, rt.alloc(), Call::Event);
 }
 
 #[test]
-fn a_table_needs_room_for_a_new_row(rt: HostRuntime) -> Result<(), Fail> {
-    Call::Set.is_refused_until_there_is_room(&rt, rt.alloc())
+fn a_table_needs_room_for_a_new_row(rt: HostRuntime) {
+    needs_room(&rt, rt.alloc(), Call::Set);
 }
 
 #[test]
-fn a_gate_needs_room_for_a_message(rt: HostRuntime) -> Result<(), Fail> {
-    Call::Hold.is_refused_until_there_is_room(&rt, rt.alloc())
+fn a_gate_needs_room_for_a_message(rt: HostRuntime) {
+    needs_room(&rt, rt.alloc(), Call::Hold);
 }
 
 #[test]
-fn a_link_needs_room_for_its_notices(rt: HostRuntime) -> Result<(), Fail> {
-    Call::Up.is_refused_until_there_is_room(&rt, rt.alloc())
+fn a_link_needs_room_for_its_notices(rt: HostRuntime) {
+    needs_room(&rt, rt.alloc(), Call::Up);
 }
 
 #[test]
-fn an_image_needs_room_for_its_nodes(rt: HostRuntime) -> Result<(), Fail> {
-    Call::Compile.is_refused_until_there_is_room(&rt, rt.alloc())
+fn an_image_needs_room_for_its_nodes(rt: HostRuntime) {
+    needs_room(&rt, rt.alloc(), Call::Compile);
 }
 
 #[test]
-fn a_router_needs_room_for_an_item(rt: HostRuntime) -> Result<(), Fail> {
-    Call::AcceptNotice.is_refused_until_there_is_room(&rt, rt.alloc())?;
-    Call::AcceptMessage.is_refused_until_there_is_room(&rt, rt.alloc())
+fn a_router_needs_room_for_an_item(rt: HostRuntime) {
+    needs_room(&rt, rt.alloc(), Call::AcceptNotice);
+    needs_room(&rt, rt.alloc(), Call::AcceptMessage);
 }

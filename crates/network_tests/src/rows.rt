@@ -1,9 +1,8 @@
 //! Rows that are listed and taken out, and addresses that are looked up side by side.
 
-use crate::images::{NESTED, set_nested};
-use ipv4_prefix::parse_addr;
+use crate::images::{NESTED, finds, set_nested};
+use crate::values::{addr, prefix, via};
 use std::process::Abort;
-use std::test::Fail;
 use tree_bitmap::parts::{empty, remove_row, set_row};
 use tree_bitmap::{Entry, Image, Prefix, next_prefix};
 
@@ -23,36 +22,38 @@ const ROWS: [(u32, u8); 12] = [
     (0xffff_ffff, 32),
 ];
 
-#[test]
-fn rows_in_order(rt: HostRuntime) -> Result<(), Fail> {
-    let mut image = empty(rt.alloc())?;
-    let first = Prefix::covering(0, 0);
-    assert_eq!(rt; image.row_count(), 0);
-    assert_eq!(rt; image.first_row_from(first), None);
+fn set(rt: &impl Abort, image: &mut Image, prefix: Prefix, entry: Entry) {
+    set_row(image, prefix, entry).expect(rt, "memory");
+}
+
+// Sets the rows in another order, each by way of the port of its place.
+fn set_all(rt: &impl Abort, image: &mut Image) {
     for i in 0..12 {
         let place = 5 * i % 12;
         let (addr, len) = ROWS[place];
-        let port = place as u8;
-        set_row(
-            &mut image,
-            Prefix::new(addr, len)?,
-            Entry::Via { port, session: 1 },
-        )?;
+        let prefix = Prefix::new(addr, len).expect(rt, "prefix");
+        set(rt, image, prefix, via(place as u8));
     }
-    assert_eq!(rt; image.row_count(), 12);
-    let mut cursor = first;
+}
+
+fn lists_all(rt: &impl Abort, image: &Image) {
+    let mut cursor = Prefix::covering(0, 0);
     for place in 0..12 {
-        let port = place as u8;
-        let Some((prefix, entry)) = image.first_row_from(cursor) else {
-            panic!(rt; "a row is missing");
-        };
+        let (prefix, entry) = image.first_row_from(cursor).expect(rt, "row");
         assert_eq!(rt; (prefix.addr(), prefix.len()), ROWS[place]);
-        assert_eq!(rt; entry, Entry::Via { port, session: 1 });
-        if let Some(next) = next_prefix(prefix) {
-            cursor = next;
-        }
+        assert_eq!(rt; entry, via(place as u8));
+        cursor = next_prefix(prefix).unwrap_or(cursor);
     }
-    Ok(())
+}
+
+#[test]
+fn rows_in_order(rt: HostRuntime) {
+    let mut image = empty(rt.alloc()).expect(&rt, "memory");
+    assert_eq!(rt; image.row_count(), 0);
+    assert_eq!(rt; image.first_row_from(Prefix::covering(0, 0)), None);
+    set_all(&rt, &mut image);
+    assert_eq!(rt; image.row_count(), 12);
+    lists_all(&rt, &image);
 }
 
 #[test]
@@ -70,21 +71,19 @@ fn next_prefixes(rt: HostRuntime) {
     }
 }
 
-fn remove_nested(rt: &impl Abort, image: &mut Image) -> Result<(), Fail> {
-    for (prefix, _) in NESTED {
-        let prefix = Prefix::parse(prefix)?;
+fn remove_nested(rt: &impl Abort, image: &mut Image) {
+    for (text, _) in NESTED {
+        let prefix = prefix(rt, text);
         assert!(rt; remove_row(image, prefix));
         assert!(rt; !remove_row(image, prefix));
     }
-    Ok(())
 }
 
 #[test]
-fn a_row_that_is_gone_leaves_the_shorter_one(rt: HostRuntime) -> Result<(), Fail> {
-    let mut image = empty(rt.alloc())?;
-    set_nested(&mut image)?;
-    let addr = parse_addr("192.0.2.255")?;
-    for (prefix, port) in [
+fn a_row_that_is_gone_leaves_the_shorter_one(rt: HostRuntime) {
+    let mut image = empty(rt.alloc()).expect(&rt, "memory");
+    set_nested(&rt, &mut image);
+    for (text, port) in [
         ("192.0.2.255/32", 6),
         ("192.0.2.254/31", 5),
         ("192.0.2.240/28", 4),
@@ -92,60 +91,48 @@ fn a_row_that_is_gone_leaves_the_shorter_one(rt: HostRuntime) -> Result<(), Fail
         ("192.0.0.0/4", 2),
         ("192.0.0.0/3", 1),
     ] {
-        let prefix = Prefix::parse(prefix)?;
-        let row = (prefix, Entry::Via { port, session: 1 });
-        assert_eq!(rt; image.lookup(addr), Some(row));
-        assert!(rt; remove_row(&mut image, prefix));
+        finds(&rt, &image, "192.0.2.255", text, via(port));
+        assert!(rt; remove_row(&mut image, prefix(&rt, text)));
     }
-    assert_eq!(rt; image.lookup(addr), None);
+    assert_eq!(rt; image.lookup(addr(&rt, "192.0.2.255")), None);
     assert_eq!(rt; image.row_count(), 0);
-    Ok(())
 }
 
 // What rows needed that are gone serves those that come.
 #[test]
-fn rows_that_come_and_go_take_no_more_memory(rt: HostRuntime) -> Result<(), Fail> {
-    let mut image = empty(rt.alloc())?;
-    set_nested(&mut image)?;
-    remove_nested(&rt, &mut image)?;
+fn rows_that_come_and_go_take_no_more_memory(rt: HostRuntime) {
+    let mut image = empty(rt.alloc()).expect(&rt, "memory");
+    set_nested(&rt, &mut image);
+    remove_nested(&rt, &mut image);
     let bytes = image.bytes();
     for _ in 0..100 {
-        set_nested(&mut image)?;
-        remove_nested(&rt, &mut image)?;
+        set_nested(&rt, &mut image);
+        remove_nested(&rt, &mut image);
     }
     // Each on a way of its own: the nodes of those before serve it.
     for i in 0..1000u32 {
         let prefix = Prefix::covering(i * 0x0040_1001, 32);
-        set_row(&mut image, prefix, Entry::Local)?;
+        set(&rt, &mut image, prefix, Entry::Local);
         assert!(rt; remove_row(&mut image, prefix));
     }
-    assert_eq!(rt; image.bytes(), bytes);
-    assert_eq!(rt; image.row_count(), 0);
-    Ok(())
+    assert_eq!(rt; (image.bytes(), image.row_count()), (bytes, 0));
 }
 
-// So many rows that look-ups go down side by side.
-#[test]
-fn side_by_side_as_one_by_one(rt: HostRuntime) -> Result<(), Fail> {
-    let mut image = empty(rt.alloc())?;
-    set_nested(&mut image)?;
-    for i in 0..8192u32 {
-        let port = (i % 32) as u8;
-        set_row(
-            &mut image,
-            Prefix::covering(i << 19, 32),
-            Entry::Via { port, session: 1 },
-        )?;
-    }
+// Addresses in many nodes, and three that the nested rows cover.
+fn addrs(rt: &impl Abort) -> [u32; 43] {
     let mut addrs = [0; 43];
     for k in 0..43u32 {
         addrs[k as usize] = k * 0x0608_0000 % 0xffff_0000;
     }
-    addrs[6] = parse_addr("192.0.2.255")?;
-    addrs[7] = parse_addr("192.0.2.254")?;
-    addrs[42] = parse_addr("192.0.2.241")?;
+    addrs[6] = addr(rt, "192.0.2.255");
+    addrs[7] = addr(rt, "192.0.2.254");
+    addrs[42] = addr(rt, "192.0.2.241");
+    addrs
+}
+
+fn are_found(rt: &impl Abort, image: &Image, addrs: &[u32; 43]) {
     let mut answers = [None; 43];
-    image.lookup_all(&addrs, &mut answers);
+    image.lookup_all(addrs, &mut answers);
     for k in 0..43 {
         assert_eq!(rt; answers[k], image.lookup(addrs[k]));
     }
@@ -154,5 +141,16 @@ fn side_by_side_as_one_by_one(rt: HostRuntime) -> Result<(), Fail> {
     let mut few = [None; 3];
     image.lookup_all(&addrs[40..], &mut few);
     assert_eq!(rt; few[2], image.lookup(addrs[42]));
-    Ok(())
+}
+
+// So many rows that look-ups go down side by side.
+#[test]
+fn side_by_side_as_one_by_one(rt: HostRuntime) {
+    let mut image = empty(rt.alloc()).expect(&rt, "memory");
+    set_nested(&rt, &mut image);
+    for i in 0..8192u32 {
+        let port = (i % 32) as u8;
+        set(&rt, &mut image, Prefix::covering(i << 19, 32), via(port));
+    }
+    are_found(&rt, &image, &addrs(&rt));
 }

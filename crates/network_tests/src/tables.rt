@@ -1,54 +1,43 @@
 //! A table that is set, published and read.
 
-use ipv4_prefix::Prefix;
+use crate::values::{prefix, via};
 use route_table::{Entry, RouteTable};
 use std::process::Abort;
-use std::test::Fail;
 
-const VIA: Entry = Entry::Via {
-    port: 3,
-    session: 1,
-};
-
-// The rows come in the order of their prefixes.
-fn keeps(rt: &impl Abort, table: &mut RouteTable) -> Result<(), Fail> {
-    let wide = Prefix::parse("192.0.2.0/24")?;
-    let narrow = Prefix::parse("192.0.2.0/25")?;
-    let low = Prefix::parse("10.0.0.0/8")?;
-    table.reserve(3)?;
-    table.set(narrow, Entry::Local)?;
-    table.set(wide, Entry::Unreachable)?;
-    table.set(low, VIA)?;
-    let mut rows = table.rows();
-    assert_eq!(rt; rows.next(), Some((low, VIA)));
-    assert_eq!(rt; rows.next(), Some((wide, Entry::Unreachable)));
-    assert_eq!(rt; rows.next(), Some((narrow, Entry::Local)));
-    assert_eq!(rt; rows.next(), None);
-    Ok(())
+fn set(rt: &impl Abort, table: &mut RouteTable, text: &str, entry: Entry) {
+    table.set(prefix(rt, text), entry).expect(rt, "memory");
 }
 
+// The rows come in the order of their prefixes.
 #[test]
-fn keeps_rows_in_order(rt: HostRuntime) -> Result<(), Fail> {
+fn keeps_rows_in_order(rt: HostRuntime) {
     let mut table = RouteTable::new(rt.alloc());
-    keeps(&rt, &mut table)
+    table.reserve(3).expect(&rt, "memory");
+    set(&rt, &mut table, "192.0.2.0/25", Entry::Local);
+    set(&rt, &mut table, "192.0.2.0/24", Entry::Unreachable);
+    set(&rt, &mut table, "10.0.0.0/8", via(3));
+    let mut rows = table.rows();
+    for (text, entry) in [
+        ("10.0.0.0/8", via(3)),
+        ("192.0.2.0/24", Entry::Unreachable),
+        ("192.0.2.0/25", Entry::Local),
+    ] {
+        assert_eq!(rt; rows.next(), Some((prefix(&rt, text), entry)));
+    }
+    assert_eq!(rt; rows.next(), None);
 }
 
 // A row that is back at its published entry is no longer changed.
-fn publishes(rt: &impl Abort, table: &mut RouteTable) -> Result<(), Fail> {
-    let away = Prefix::parse("192.0.2.0/24")?;
-    table.set(away, Entry::Unreachable)?;
+#[test]
+fn a_table_publishes_what_changed(rt: HostRuntime) {
+    let away = prefix(&rt, "192.0.2.0/24");
+    let mut table = RouteTable::new(rt.alloc());
+    set(&rt, &mut table, "192.0.2.0/24", Entry::Unreachable);
     table.mark_published();
     assert!(rt; !table.is_changed());
-    table.set(away, VIA)?;
+    set(&rt, &mut table, "192.0.2.0/24", via(3));
     assert_eq!(rt; table.published(away), Some(Entry::Unreachable));
-    assert_eq!(rt; table.changed().next(), Some((away, VIA)));
-    table.set(away, Entry::Unreachable)?;
+    assert_eq!(rt; table.changed().next(), Some((away, via(3))));
+    set(&rt, &mut table, "192.0.2.0/24", Entry::Unreachable);
     assert!(rt; !table.is_changed());
-    Ok(())
-}
-
-#[test]
-fn a_table_publishes_what_changed(rt: HostRuntime) -> Result<(), Fail> {
-    let mut table = RouteTable::new(rt.alloc());
-    publishes(&rt, &mut table)
 }

@@ -1,68 +1,69 @@
+use crate::values::{cost, prefix, ten, via};
 use network_model::{Cost, Entry};
+use router_core::Router;
 use std::alloc::Global;
 use std::process::Abort;
-use std::test::Fail;
 use world::{LinkSpec, Network, NetworkFault, Prefix, Refusal, Step, World};
 
-// Routers 0 and 1 with one link at cost 5 each way; router 0 is attached to 10.0.0.0/8 at cost 1.
-fn two_routers(alloc: Global) -> Result<Network, Fail> {
-    let link = LinkSpec {
-        a: 0,
-        b: 1,
-        from_a: Cost::new(5)?,
-        from_b: Cost::new(5)?,
-    };
-    let links = vec![in alloc; link]?;
-    let attachments = vec![in alloc; (Prefix::parse("10.0.0.0/8")?, 0, Cost::new(1)?)]?;
-    Ok(Network::new(2, links, attachments)?)
-}
-
-// Does the step, where it is done.
-fn step(world: &mut World, step: Step) -> Result<(), Fail> {
-    if !world.has_room_for(1) {
-        return Err("a generation has no room".into());
+// A link at this cost each way.
+fn link(a: u16, b: u16, cost: Cost) -> LinkSpec {
+    LinkSpec {
+        a,
+        b,
+        from_a: cost,
+        from_b: cost,
     }
-    world.step(step)?;
-    Ok(())
 }
 
-// The world's refusal of a step.
+// Routers 0 and 1 with one link at cost 5 each way; router 0 is attached to 10.0.0.0/8 at cost 1.
+fn two_routers(rt: &impl Abort, alloc: Global) -> World {
+    let links = vec![in alloc; link(0, 1, cost(rt, 5))].expect(rt, "memory");
+    let attachments = vec![in alloc; (ten(), 0, Cost::ONE)].expect(rt, "memory");
+    let network = Network::new(2, links, attachments).expect(rt, "network");
+    World::open(alloc, &network).expect(rt, "memory")
+}
+
+// Does the step, or is refused so.
+fn does(rt: &impl Abort, world: &mut World, step: Step, wanted: Result<(), Refusal>) {
+    assert!(rt; world.has_room_for(1));
+    assert_eq!(rt; world.step(step), wanted);
+}
+
+fn do_all(rt: &impl Abort, world: &mut World, steps: &[Step]) {
+    for step in steps {
+        does(rt, world, *step, Ok(()));
+    }
+}
+
 fn refused(rt: &impl Abort, world: &mut World, step: Step, refusal: Refusal) {
-    assert!(rt; world.has_room_for(1) && world.step(step) == Err(refusal));
+    does(rt, world, step, Err(refusal));
+}
+
+// The second router of the world.
+fn second<'a>(rt: &impl Abort, world: &'a World) -> &'a Router {
+    assert!(rt; world.routers().len() > 1);
+    world.router(1)
 }
 
 // Router 1 learns the way of router 0, and publishes it.
-fn learns(rt: &impl Abort, world: &mut World) -> Result<(), Fail> {
-    for lawful in [
-        Step::LinkUp { link: 0 },
-        Step::Deliver { router: 0, port: 0 },
-        Step::Deliver { router: 1, port: 0 },
-        Step::Publish { router: 0 },
-        Step::Release { router: 0 },
-        Step::Deliver { router: 1, port: 0 },
-        Step::Publish { router: 1 },
-    ] {
-        step(world, lawful)?;
-    }
-    let ten = Prefix::parse("10.0.0.0/8")?;
-    let via = Entry::Via {
-        port: 0,
-        session: 1,
-    };
-    assert_eq!(rt; world.routers().len(), 2);
-    if world.routers().len() > 1 {
-        assert_eq!(rt; world.router(1).table().published(ten), Some(via));
-    }
-    Ok(())
-}
+const LEARNS: [Step; 7] = [
+    Step::LinkUp { link: 0 },
+    Step::Deliver { router: 0, port: 0 },
+    Step::Deliver { router: 1, port: 0 },
+    Step::Publish { router: 0 },
+    Step::Release { router: 0 },
+    Step::Deliver { router: 1, port: 0 },
+    Step::Publish { router: 1 },
+];
 
 #[test]
-fn a_world_learns_the_way(rt: HostRuntime) -> Result<(), Fail> {
-    let network = two_routers(rt.alloc())?;
-    let mut world = World::open(rt.alloc(), &network)?;
+fn a_world_learns_the_way(rt: HostRuntime) {
+    let mut world = two_routers(&rt, rt.alloc());
     let nothing = Step::Deliver { router: 0, port: 0 };
     refused(&rt, &mut world, nothing, Refusal::NothingToDeliver);
-    learns(&rt, &mut world)
+    do_all(&rt, &mut world, &LEARNS);
+    assert_eq!(rt; world.routers().len(), 2);
+    assert_eq!(rt; second(&rt, &world).table().published(ten()), Some(via(0)));
 }
 
 #[test]
@@ -72,181 +73,170 @@ fn refuses_a_network_without_routers(rt: HostRuntime) {
     assert!(rt; matches!(made, Err(NetworkFault::BadRouters)));
 }
 
-fn stops(rt: &impl Abort, world: &mut World) {
-    let steps = [
-        Step::LinkUp { link: 0 },
-        Step::Release { router: 0 },
-        Step::LinkDown { link: 0 },
-    ];
-    if world.has_room_for(steps.len()) {
-        let ran = world.run(&steps);
-        assert_eq!(rt; (ran.done, ran.refusal), (1, Some(Refusal::NothingRipe)));
-    }
+const STOPS: [Step; 3] = [
+    Step::LinkUp { link: 0 },
+    Step::Release { router: 0 },
+    Step::LinkDown { link: 0 },
+];
+
+#[test]
+fn runs_up_to_a_refused_step(rt: HostRuntime) {
+    let mut world = two_routers(&rt, rt.alloc());
+    assert!(rt; world.has_room_for(STOPS.len()));
+    let ran = world.run(&STOPS);
+    assert_eq!(rt; (ran.done, ran.refusal), (1, Some(Refusal::NothingRipe)));
     assert!(rt; world.links().len() == 1 && world.links().is_up(0));
 }
 
-#[test]
-fn runs_up_to_a_refused_step(rt: HostRuntime) -> Result<(), Fail> {
-    let network = two_routers(rt.alloc())?;
-    let mut world = World::open(rt.alloc(), &network)?;
-    stops(&rt, &mut world);
-    Ok(())
+// How many notices router 1 has yet to take.
+fn waits(rt: &impl Abort, world: &World, notices: usize) {
+    assert!(rt; world.routers().len() > 1);
+    assert_eq!(rt; world.notices(1), notices);
 }
 
-fn spec(a: u16, b: u16) -> Result<LinkSpec, Fail> {
-    Ok(LinkSpec {
-        a,
-        b,
-        from_a: Cost::new(1)?,
-        from_b: Cost::new(1)?,
-    })
-}
+// Router 1 takes what waits at the port past that of its link.
+const TAKE: Step = Step::Deliver { router: 1, port: 1 };
 
-// How many notices a router has yet to take.
-fn waits(rt: &impl Abort, world: &World, router: u16, notices: usize) {
-    assert!(rt; usize::from(router) < world.routers().len());
-    if usize::from(router) < world.routers().len() {
-        assert_eq!(rt; world.notices(router), notices);
+fn detach() -> Step {
+    Step::Detach {
+        router: 1,
+        prefix: ten(),
     }
 }
 
-// Router 1 is attached, and no longer so; its notices wait at the port past that of its link.
-fn comes_and_goes(rt: &impl Abort, world: &mut World) -> Result<(), Fail> {
-    let (router, prefix) = (1, Prefix::parse("10.0.0.0/8")?);
-    let cost = Cost::new(3)?;
-    let taken = Step::Deliver { router, port: 1 };
-    refused(rt, world, taken, Refusal::NothingToDeliver);
-    let detach = Step::Detach { router, prefix };
-    refused(rt, world, detach, Refusal::NotAttached);
+// Router 1 is attached, and no longer so.
+#[test]
+fn an_attachment_comes_and_goes(rt: HostRuntime) {
+    let mut world = two_routers(&rt, rt.alloc());
+    refused(&rt, &mut world, TAKE, Refusal::NothingToDeliver);
+    refused(&rt, &mut world, detach(), Refusal::NotAttached);
     let attach = Step::Attach {
-        router,
-        prefix,
-        cost,
+        router: 1,
+        prefix: ten(),
+        cost: cost(&rt, 3),
     };
-    for lawful in [attach, detach] {
-        step(world, lawful)?;
-    }
-    waits(rt, world, router, 2);
-    step(world, taken)?;
-    waits(rt, world, router, 1);
-    if world.routers().len() > 1 {
-        let chosen = world.router(router).table().get(prefix);
-        assert_eq!(rt; chosen, Some(Entry::Local));
-    }
-    step(world, taken)?;
-    waits(rt, world, router, 0);
-    let unknown = Step::Detach {
-        router,
-        prefix: Prefix::parse("0.0.0.0/0")?,
-    };
-    refused(rt, world, unknown, Refusal::UnknownPrefix);
-    refused(
-        rt,
-        world,
-        Step::Deliver { router, port: 2 },
-        Refusal::UnknownLink,
-    );
-    Ok(())
+    does(&rt, &mut world, attach, Ok(()));
+    does(&rt, &mut world, detach(), Ok(()));
+    waits(&rt, &world, 2);
+    does(&rt, &mut world, TAKE, Ok(()));
+    waits(&rt, &world, 1);
+    let chosen = second(&rt, &world).table().get(ten());
+    assert_eq!(rt; chosen, Some(Entry::Local));
+    does(&rt, &mut world, TAKE, Ok(()));
+    waits(&rt, &world, 0);
+    are_unknown(&rt, &mut world);
 }
 
-#[test]
-fn an_attachment_comes_and_goes(rt: HostRuntime) -> Result<(), Fail> {
-    let network = two_routers(rt.alloc())?;
-    let mut world = World::open(rt.alloc(), &network)?;
-    comes_and_goes(&rt, &mut world)
+// A prefix, and a port, that router 1 does not have.
+fn are_unknown(rt: &impl Abort, world: &mut World) {
+    let (router, prefix) = (1, prefix(rt, "0.0.0.0/0"));
+    let detach = Step::Detach { router, prefix };
+    refused(rt, world, detach, Refusal::UnknownPrefix);
+    let deliver = Step::Deliver { router, port: 2 };
+    refused(rt, world, deliver, Refusal::UnknownLink);
 }
 
-// As much as a network can have: 256 routers and 1024 links, 32 of them at router 0, and 16384
-// attachments, 4096 of them its own. Link 0 joins routers 0 and 1.
-fn largest(alloc: Global) -> Result<Network, Fail> {
+// 1024 links, 32 of them at router 0. Link 0 joins routers 0 and 1.
+fn most_links(rt: &impl Abort, alloc: Global) -> Vec<LinkSpec> {
     let mut links = Vec::new(alloc);
     for b in 1..33 {
-        links.push(spec(0, b)?)?;
+        links.push(link(0, b, Cost::ONE)).expect(rt, "memory");
     }
     for apart in 1..5 {
         for a in 1..249 {
-            links.push(spec(a, a + apart)?)?;
+            links
+                .push(link(a, a + apart, Cost::ONE))
+                .expect(rt, "memory");
         }
     }
+    links
+}
+
+// 16384 attachments, 4096 of them of router 0.
+fn most_attachments(rt: &impl Abort, alloc: Global) -> Vec<(Prefix, u16, Cost)> {
     let mut attachments = Vec::new(alloc);
     for router in [0, 253, 254, 255] {
         for block in 0..4096 {
-            let prefix = Prefix::new(0x0A00_0000 + block * 0x100, 24)?;
-            attachments.push((prefix, router, Cost::new(1)?))?;
+            let prefix = Prefix::covering(0x0A00_0000 + block * 0x100, 24);
+            attachments
+                .push((prefix, router, Cost::ONE))
+                .expect(rt, "memory");
         }
     }
-    Ok(Network::new(256, links, attachments)?)
+    attachments
+}
+
+// As much as a network can have: 256 routers, and as many links and attachments.
+fn largest(rt: &impl Abort, alloc: Global) -> World {
+    let (links, attachments) = (most_links(rt, alloc), most_attachments(rt, alloc));
+    let network = Network::new(256, links, attachments).expect(rt, "network");
+    World::open(alloc, &network).expect(rt, "memory")
+}
+
+// Does the step so many times.
+fn repeat(rt: &impl Abort, world: &mut World, step: &Step, count: usize) {
+    for _ in 0..count {
+        does(rt, world, *step, Ok(()));
+    }
 }
 
 // A router takes so many items at its first port.
-fn deliver(world: &mut World, router: u16, count: usize) -> Result<(), Fail> {
-    for _ in 0..count {
-        step(world, Step::Deliver { router, port: 0 })?;
-    }
-    Ok(())
+fn deliver(rt: &impl Abort, world: &mut World, router: u16, count: usize) {
+    repeat(rt, world, &Step::Deliver { router, port: 0 }, count);
 }
 
-// A router sends so many messages.
-fn release(world: &mut World, router: u16, count: usize) -> Result<(), Fail> {
-    for _ in 0..count {
-        step(world, Step::Release { router })?;
-    }
-    Ok(())
-}
+const COMES_UP: [Step; 3] = [
+    Step::LinkUp { link: 0 },
+    Step::Deliver { router: 0, port: 0 },
+    Step::Publish { router: 0 },
+];
 
 // Link 0 comes up, and router 0 sends all that it is attached to.
-fn comes_up(world: &mut World) -> Result<(), Fail> {
-    step(world, Step::LinkUp { link: 0 })?;
-    deliver(world, 0, 1)?;
-    step(world, Step::Publish { router: 0 })?;
-    release(world, 0, 4096)
+fn comes_up(rt: &impl Abort, world: &mut World) {
+    do_all(rt, world, &COMES_UP);
+    repeat(rt, world, &Step::Release { router: 0 }, 4096);
 }
 
 // Router 1 learns all that router 0 is attached to, and publishes it at another cost.
-fn learns_all(rt: &impl Abort, world: &mut World) -> Result<(), Fail> {
-    let cost = Cost::new(2)?;
-    comes_up(world)?;
-    deliver(world, 1, 4097)?;
+fn learns_all(rt: &impl Abort, world: &mut World) {
+    let cost = cost(rt, 2);
+    comes_up(rt, world);
+    deliver(rt, world, 1, 4097);
     for router in [0, 1] {
-        step(
-            world,
-            Step::SetCost {
-                router,
-                port: 0,
-                cost,
-            },
-        )?;
-        deliver(world, router, 1)?;
+        let priced = Step::SetCost {
+            router,
+            port: 0,
+            cost,
+        };
+        does(rt, world, priced, Ok(()));
+        deliver(rt, world, router, 1);
     }
-    step(world, Step::Publish { router: 1 })?;
+    does(rt, world, Step::Publish { router: 1 }, Ok(()));
     assert_eq!(rt; world.routers().len(), 256);
-    if world.routers().len() > 1 {
-        let found = world.router(1);
-        assert_eq!(rt; (found.table().len(), found.held()), (4096, 8192));
-    }
-    Ok(())
+    let found = second(rt, world);
+    assert_eq!(rt; (found.table().len(), found.held()), (4096, 8192));
 }
 
+const DOWN: Step = Step::LinkDown { link: 0 };
+
 // What was sent both ways is lost with its session.
-fn loses_all(rt: &impl Abort, world: &mut World) -> Result<(), Fail> {
-    release(world, 1, 8192)?;
-    step(world, Step::LinkDown { link: 0 })?;
-    deliver(world, 0, 1)?;
-    deliver(world, 1, 1)?;
-    comes_up(world)?;
-    step(world, Step::LinkDown { link: 0 })?;
-    deliver(world, 0, 1)?;
+fn loses_all(rt: &impl Abort, world: &mut World) {
+    repeat(rt, world, &Step::Release { router: 1 }, 8192);
+    does(rt, world, DOWN, Ok(()));
+    deliver(rt, world, 0, 1);
+    deliver(rt, world, 1, 1);
+    comes_up(rt, world);
+    does(rt, world, DOWN, Ok(()));
+    deliver(rt, world, 0, 1);
     // The notices that the link came up and went down are left.
-    deliver(world, 1, 2)?;
+    deliver(rt, world, 1, 2);
     let nothing = Step::Deliver { router: 1, port: 0 };
-    assert!(rt; world.has_room_for(1) && world.step(nothing) == Err(Refusal::NothingToDeliver));
-    Ok(())
+    refused(rt, world, nothing, Refusal::NothingToDeliver);
 }
 
 #[test]
-fn the_largest_network_works(rt: HostRuntime) -> Result<(), Fail> {
-    let network = largest(rt.alloc())?;
-    let mut world = World::open(rt.alloc(), &network)?;
-    learns_all(&rt, &mut world)?;
-    loses_all(&rt, &mut world)
+fn the_largest_network_works(rt: HostRuntime) {
+    let mut world = largest(&rt, rt.alloc());
+    learns_all(&rt, &mut world);
+    loses_all(&rt, &mut world);
 }

@@ -1,0 +1,35 @@
+//! Costs, prefixes, addresses and messages of several of these tests.
+
+use ipv4_prefix::parse_addr;
+use network_model::{Cost, Distance, Entry, Kind, Message, Prefix};
+use std::process::Abort;
+
+pub(crate) fn cost(rt: &impl Abort, value: u32) -> Cost {
+    Cost::new(value).expect(rt, "cost")
+}
+
+pub(crate) fn prefix(rt: &impl Abort, text: &str) -> Prefix {
+    Prefix::parse(text).expect(rt, text)
+}
+
+pub(crate) fn addr(rt: &impl Abort, text: &str) -> u32 {
+    parse_addr(text).expect(rt, text)
+}
+
+pub(crate) fn via(port: u8) -> Entry {
+    Entry::Via { port, session: 1 }
+}
+
+// The prefix 10.0.0.0/8.
+pub(crate) fn ten() -> Prefix {
+    Prefix::covering(0x0a00_0000, 8)
+}
+
+// An update of it.
+pub(crate) fn update() -> Message {
+    Message {
+        kind: Kind::Update,
+        prefix: ten(),
+        value: Distance::ZERO,
+    }
+}
