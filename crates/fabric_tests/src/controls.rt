@@ -15,7 +15,6 @@ use std::marker::Brand;
 use std::process::Abort;
 use std::sync::Wait;
 use std::sync::atomic::{AtomicU64, Ordering};
-use std::test::Fail;
 use std::thread;
 use std::thread::Threads;
 use std::time::{Clock, Duration};
@@ -38,17 +37,12 @@ enum Trial {
     Settles,
 }
 
-fn two<H: Threads + Wait + Abort + Clock + Sync>(
-    rt: &H,
-    alloc: Global,
-    shares: u8,
-    trial: Trial,
-) -> Result<(), Fail>
+fn two<H: Threads + Wait + Abort + Clock + Sync>(rt: &H, alloc: Global, shares: u8, trial: Trial)
     requires { 0 < shares }
 {
-    let network = two_routers(alloc)?;
-    let unnamed = Unnamed::many(alloc, usize::from(network.routers()))?;
-    opened::<Brand, H>(rt, alloc, network, unnamed, shares, trial)
+    let network = two_routers(rt, alloc);
+    let unnamed = Unnamed::many(alloc, usize::from(network.routers())).expect(rt, "memory");
+    opened::<Brand, H>(rt, alloc, network, unnamed, shares, trial);
 }
 
 // Opens it, does this, and closes it.
@@ -59,7 +53,7 @@ fn opened<B, H>(
     unnamed: Vec<Unnamed>,
     shares: u8,
     trial: Trial,
-) -> Result<(), Fail>
+)
 where
     B: FabricName + Send + Sync,
     H: Threads + Wait + Abort + Clock + Sync,
@@ -69,14 +63,13 @@ where
     requires some { 0 < shares }
 {
     let Ok((fabric, _ports)) = Fabric::<B>::open(rt, alloc, network, unnamed, 0) else {
-        return Err("open".into());
+        panic!(rt; "open");
     };
-    let (fabric, done) = match trial {
+    let fabric = match trial {
         Trial::Settles => settles(rt, alloc, fabric, shares),
         _ => controlled::<B, Brand, H>(rt, alloc, Opening::new(shares), fabric, trial),
     };
     fabric.close(rt);
-    done
 }
 
 // Puts it under a lock, does this, and takes it out. The shares add up to the journal's sum.
@@ -86,7 +79,7 @@ fn controlled<B, N, H>(
     opening: Opening,
     fabric: Fabric<B>,
     trial: Trial,
-) -> (Fabric<B>, Result<(), Fail>)
+) -> Fabric<B>
 where
     B: FabricName + Send + Sync,
     N: ControlName + Send + Sync,
@@ -97,14 +90,17 @@ where
     requires asked { (s : Step) → N.asked s ≡ true }
 {
     match Control::<B, N>::new(alloc, opening, fabric) {
-        Ok((control, shares)) => {
-            let (shares, done) = tried(rt, &control, shares, trial);
+        Ok((control, mut shares)) => {
+            tried(rt, &control, &mut shares, trial);
             let sum = sum_of(&shares);
             let fabric = control.close(shares);
             assert_eq!(rt; fabric.sum(), sum);
-            (fabric, done)
+            fabric
         }
-        Err(fabric) => (fabric, Err("memory".into())),
+        Err(fabric) => {
+            fabric.close(rt);
+            panic!(rt; "memory")
+        }
     }
 }
 
@@ -116,26 +112,17 @@ fn sum_of<N: ControlName>(shares: &[Share<N>]) -> u128 {
     sum
 }
 
-fn tried<B, N, H>(
-    rt: &H,
-    control: &Control<B, N>,
-    shares: Vec<Share<N>>,
-    trial: Trial,
-) -> (Vec<Share<N>>, Result<(), Fail>)
+fn tried<B, N, H>(rt: &H, control: &Control<B, N>, shares: &mut Vec<Share<N>>, trial: Trial)
 where
     B: FabricName + Send + Sync,
     N: ControlName + Send + Sync,
     H: Threads + Wait + Abort + Clock + Sync,
-    requires some { 0 < vec_len shares }
+    requires some { 0 < vec_len shares.old }
     requires asked { (s : Step) → N.asked s ≡ true }
-    ensures { vec_len result.0 ≡ vec_len shares }
+    ensures { vec_len shares.new ≡ vec_len shares.old }
 {
-    let mut shares = shares;
     match trial {
-        Trial::ByHand => {
-            let done = by_hand(rt, control, &mut shares[0]);
-            (shares, done)
-        }
+        Trial::ByHand => by_hand(rt, control, &mut shares[0]),
         Trial::Meets => meets(rt, control, shares),
         Trial::PublishOutside => publish_outside(rt, control, shares),
         Trial::IsRefused { router } => is_refused(rt, control, shares, router),
@@ -145,33 +132,61 @@ where
 
 // ---- one thread
 
+fn steps<B: FabricName, N: ControlName, H: Wait + Abort>(
+    rt: &H,
+    control: &Control<B, N>,
+    share: &mut Share<N>,
+    step: Step,
+    wanted: Result<(), Refusal>,
+)
+    requires asked { (s : Step) → N.asked s ≡ true }
+{
+    assert_eq!(rt; control.step(rt, step, share), wanted);
+}
+
+fn turns<B: FabricName, N: ControlName, H: Wait + Abort>(
+    rt: &H,
+    control: &Control<B, N>,
+    share: &mut Share<N>,
+    router: u16,
+    wanted: Result<Option<Step>, Refusal>,
+)
+    requires asked { (s : Step) → N.asked s ≡ true }
+{
+    assert_eq!(rt; control.turn(rt, router, share), wanted);
+}
+
+fn has_sum<N: ControlName>(rt: &impl Abort, share: &Share<N>, sum: u128) {
+    assert_eq!(rt; share.sum(), sum);
+}
+
 fn by_hand<B: FabricName, N: ControlName, H: Wait + Abort>(
     rt: &H,
     control: &Control<B, N>,
     share: &mut Share<N>,
-) -> Result<(), Fail>
+)
     requires asked { (s : Step) → N.asked s ≡ true }
 {
-    assert_eq!(rt; (share.number(), share.sum()), (0, 0));
-    assert!(rt; control.is_settled(rt));
-    assert_eq!(rt; control.turn(rt, 0, share), Ok(None));
-    assert_eq!(rt; control.step(rt, UP, share), Ok(()));
-    assert_eq!(rt; share.sum(), UP.number());
-    assert!(rt; !control.is_settled(rt));
-    assert_eq!(rt; control.step(rt, UP, share), Err(Refusal::AlreadyUp));
-    assert_eq!(rt; control.turn(rt, 2, share), Err(Refusal::UnknownRouter));
-    assert_eq!(rt; share.sum(), UP.number());
     let deliver = Step::Deliver { router: 1, port: 0 };
-    assert_eq!(rt; control.turn(rt, 1, share), Ok(Some(deliver)));
-    assert_eq!(rt; share.sum(), UP.number() + deliver.number());
+    let (up, delivered) = (UP.number(), UP.number() + deliver.number());
+    assert!(rt; share.number() == 0 && control.is_settled(rt));
+    has_sum(rt, share, 0);
+    turns(rt, control, share, 0, Ok(None));
+    steps(rt, control, share, UP, Ok(()));
+    has_sum(rt, share, up);
+    assert!(rt; !control.is_settled(rt));
+    steps(rt, control, share, UP, Err(Refusal::AlreadyUp));
+    turns(rt, control, share, 2, Err(Refusal::UnknownRouter));
+    has_sum(rt, share, up);
+    turns(rt, control, share, 1, Ok(Some(deliver)));
+    has_sum(rt, share, delivered);
     let unknown = control.job(rt, 1, 2, ADDR).err();
     assert_eq!(rt; unknown, Some(Refusal::UnknownRouter));
-    Ok(())
 }
 
 #[test]
-fn steps_and_turns_by_hand_add_up(rt: HostRuntime) -> Result<(), Fail> {
-    two(&rt, rt.alloc(), 1, Trial::ByHand)
+fn steps_and_turns_by_hand_add_up(rt: HostRuntime) {
+    two(&rt, rt.alloc(), 1, Trial::ByHand);
 }
 
 // ---- threads that serve
@@ -187,44 +202,55 @@ impl TurnGate for Open {
     fn after(&self, _thread: u8, _turn: u64) {}
 }
 
-fn serves<B, N, H>(
+// The first thread does this step, and then all serve.
+pub(crate) fn serves_after<B, N, H, G>(
     rt: &H,
     control: &Control<B, N>,
-    shares: Vec<Share<N>>,
-) -> (Vec<Share<N>>, Result<(), Fail>)
+    shares: &mut Vec<Share<N>>,
+    step: Step,
+    gate: &G,
+)
 where
     B: FabricName + Send + Sync,
     N: ControlName + Send + Sync,
     H: Threads + Wait + Abort + Sync,
-    requires some { 0 < vec_len shares }
+    G: TurnGate + Sync,
+    requires some { 0 < vec_len shares.old }
     requires asked { (s : Step) → N.asked s ≡ true }
-    ensures { vec_len result.0 ≡ vec_len shares }
+    ensures { vec_len shares.new ≡ vec_len shares.old }
 {
-    let mut shares = shares;
-    assert_eq!(rt; control.step(rt, UP, &mut shares[0]), Ok(()));
-    let first = shares[0].sum();
-    assert_eq!(rt; control.serve(rt, &mut shares, &Open), Ok(()));
+    control.step(rt, step, &mut shares[0]).expect(rt, "step");
+    control.serve(rt, shares, gate).expect(rt, "turns");
     assert!(rt; control.is_settled(rt));
-    assert!(rt; shares[0].sum() > first);
-    assert_eq!(rt; control.step(rt, DOWN, &mut shares[0]), Ok(()));
-    assert_eq!(rt; control.serve(rt, &mut shares, &Open), Ok(()));
-    assert!(rt; control.is_settled(rt));
-    (shares, Ok(()))
+}
+
+fn serves<B, N, H>(rt: &H, control: &Control<B, N>, shares: &mut Vec<Share<N>>)
+where
+    B: FabricName + Send + Sync,
+    N: ControlName + Send + Sync,
+    H: Threads + Wait + Abort + Sync,
+    requires some { 0 < vec_len shares.old }
+    requires asked { (s : Step) → N.asked s ≡ true }
+    ensures { vec_len shares.new ≡ vec_len shares.old }
+{
+    serves_after(rt, control, shares, UP, &Open);
+    assert!(rt; shares[0].sum() > UP.number());
+    serves_after(rt, control, shares, DOWN, &Open);
 }
 
 #[test]
-fn one_thread_serves_until_all_is_settled(rt: HostRuntime) -> Result<(), Fail> {
-    two(&rt, rt.alloc(), 1, Trial::Serves)
+fn one_thread_serves_until_all_is_settled(rt: HostRuntime) {
+    two(&rt, rt.alloc(), 1, Trial::Serves);
 }
 
 #[test]
-fn two_threads_serve_until_all_is_settled(rt: HostRuntime) -> Result<(), Fail> {
-    two(&rt, rt.alloc(), 2, Trial::Serves)
+fn two_threads_serve_until_all_is_settled(rt: HostRuntime) {
+    two(&rt, rt.alloc(), 2, Trial::Serves);
 }
 
 #[test]
-fn sixteen_threads_serve_until_all_is_settled(rt: HostRuntime) -> Result<(), Fail> {
-    two(&rt, rt.alloc(), 16, Trial::Serves)
+fn sixteen_threads_serve_until_all_is_settled(rt: HostRuntime) {
+    two(&rt, rt.alloc(), 16, Trial::Serves);
 }
 
 fn priced(router: u16, cost: Cost) -> Step {
@@ -237,65 +263,54 @@ fn priced(router: u16, cost: Cost) -> Step {
 
 // Fills the journal with the same cost, told again and again, so that this router has something to
 // do, and no other.
-fn fill<B: FabricName, N: ControlName, H: Wait>(
+fn fill<B: FabricName, N: ControlName, H: Wait + Abort>(
     rt: &H,
     control: &Control<B, N>,
     router: u16,
     share: &mut Share<N>,
-) -> Result<(), Fail>
+)
     requires asked { (s : Step) → N.asked s ≡ true }
 {
-    control.step(rt, UP, share)?;
-    for _ in 0..10 {
-        control.turn(rt, 0, share)?;
-        control.turn(rt, 1, share)?;
+    control.step(rt, UP, share).expect(rt, "step");
+    for turn in 0..20u16 {
+        control.turn(rt, turn % 2, share).expect(rt, "turn");
     }
-    if !control.is_settled(rt) {
-        return Err("something is left to do".into());
-    }
-    let cost = Cost::new(5)?;
-    control.step(rt, priced(router, cost), share)?;
+    assert!(rt; control.is_settled(rt));
+    let cost = Cost::new(5).expect(rt, "cost");
+    control
+        .step(rt, priced(router, cost), share)
+        .expect(rt, "step");
     for _ in 0..MOST_STEPS {
         let told = control.step(rt, priced(router, cost), share);
         if told.is_err() || control.turn(rt, router, share).is_err() {
             break;
         }
     }
-    Ok(())
 }
 
 // The thread of this router meets a refusal, and the other has nothing to do.
-fn is_refused<B, N, H>(
-    rt: &H,
-    control: &Control<B, N>,
-    shares: Vec<Share<N>>,
-    router: u16,
-) -> (Vec<Share<N>>, Result<(), Fail>)
+fn is_refused<B, N, H>(rt: &H, control: &Control<B, N>, shares: &mut Vec<Share<N>>, router: u16)
 where
     B: FabricName + Send + Sync,
     N: ControlName + Send + Sync,
     H: Threads + Wait + Abort + Sync,
-    requires some { 0 < vec_len shares }
+    requires some { 0 < vec_len shares.old }
     requires asked { (s : Step) → N.asked s ≡ true }
-    ensures { vec_len result.0 ≡ vec_len shares }
+    ensures { vec_len shares.new ≡ vec_len shares.old }
 {
-    let mut shares = shares;
-    if let Err(fail) = fill(rt, control, router, &mut shares[0]) {
-        return (shares, Err(fail));
-    }
-    let done = control.serve(rt, &mut shares, &Open);
+    fill(rt, control, router, &mut shares[0]);
+    let done = control.serve(rt, shares, &Open);
     assert_eq!(rt; done, Err(Refusal::JournalFull));
-    (shares, Ok(()))
 }
 
 #[test]
-fn first_thread_is_refused(rt: HostRuntime) -> Result<(), Fail> {
-    two(&rt, rt.alloc(), 2, Trial::IsRefused { router: 0 })
+fn first_thread_is_refused(rt: HostRuntime) {
+    two(&rt, rt.alloc(), 2, Trial::IsRefused { router: 0 });
 }
 
 #[test]
-fn second_thread_is_refused(rt: HostRuntime) -> Result<(), Fail> {
-    two(&rt, rt.alloc(), 2, Trial::IsRefused { router: 1 })
+fn second_thread_is_refused(rt: HostRuntime) {
+    two(&rt, rt.alloc(), 2, Trial::IsRefused { router: 1 });
 }
 
 // Whether the number gets there within 1000 polls, a millisecond apart.
@@ -332,61 +347,48 @@ impl<H: Clock> TurnGate for Meeting<'_, H> {
     fn after(&self, _thread: u8, _turn: u64) {}
 }
 
-fn meets<B, N, H>(
-    rt: &H,
-    control: &Control<B, N>,
-    shares: Vec<Share<N>>,
-) -> (Vec<Share<N>>, Result<(), Fail>)
+fn meets<B, N, H>(rt: &H, control: &Control<B, N>, shares: &mut Vec<Share<N>>)
 where
     B: FabricName + Send + Sync,
     N: ControlName + Send + Sync,
     H: Threads + Wait + Abort + Clock + Sync,
-    requires some { 0 < vec_len shares }
+    requires some { 0 < vec_len shares.old }
     requires asked { (s : Step) → N.asked s ≡ true }
-    ensures { vec_len result.0 ≡ vec_len shares }
+    ensures { vec_len shares.new ≡ vec_len shares.old }
 {
-    let mut shares = shares;
     let gate = Meeting {
         rt,
         begun: AtomicU64::new(0),
         met: AtomicU64::new(0),
     };
-    assert_eq!(rt; control.step(rt, UP, &mut shares[0]), Ok(()));
-    assert_eq!(rt; control.serve(rt, &mut shares, &gate), Ok(()));
+    serves_after(rt, control, shares, UP, &gate);
     assert_eq!(rt; gate.met.load(Ordering::SeqCst), 2);
-    (shares, Ok(()))
 }
 
 #[test]
-fn two_threads_meet_in_their_turns(rt: HostRuntime) -> Result<(), Fail> {
-    two(&rt, rt.alloc(), 2, Trial::Meets)
+fn two_threads_meet_in_their_turns(rt: HostRuntime) {
+    two(&rt, rt.alloc(), 2, Trial::Meets);
 }
 
-fn settles<B, H>(
-    rt: &H,
-    alloc: Global,
-    fabric: Fabric<B>,
-    threads: u8,
-) -> (Fabric<B>, Result<(), Fail>)
+fn settles<B, H>(rt: &H, alloc: Global, fabric: Fabric<B>, threads: u8) -> Fabric<B>
 where
     B: FabricName + Send + Sync,
     H: Threads + Wait + Abort + Sync,
 {
     let mut fabric = fabric;
-    assert_eq!(rt; fabric.step(rt, UP), Ok(()));
-    let done = settle(rt, alloc, &mut fabric, threads, &mut ());
-    assert_eq!(rt; done, Ok(()));
+    fabric.step(rt, UP).expect(rt, "step");
+    settle(rt, alloc, &mut fabric, threads, &mut ()).expect(rt, "turns");
     assert!(rt; fabric.is_settled());
     assert!(rt; fabric.journal().len() > 1);
-    (fabric, Ok(()))
+    fabric
 }
 
 #[test]
-fn two_threads_settle_a_network(rt: HostRuntime) -> Result<(), Fail> {
-    two(&rt, rt.alloc(), 2, Trial::Settles)
+fn two_threads_settle_a_network(rt: HostRuntime) {
+    two(&rt, rt.alloc(), 2, Trial::Settles);
 }
 
 #[test]
-fn two_threads_publish_outside_the_lock(rt: HostRuntime) -> Result<(), Fail> {
-    two(&rt, rt.alloc(), 2, Trial::PublishOutside)
+fn two_threads_publish_outside_the_lock(rt: HostRuntime) {
+    two(&rt, rt.alloc(), 2, Trial::PublishOutside);
 }

@@ -5,18 +5,17 @@ ghost use Rattle.fabric.specs.Writers.{opening_tables};
 ghost use Rattle.control.specs.Names.{IsNamed};
 
 use crate::controls::gets_to;
-use crate::networks::{port_of, two_routers};
-use control::{Control, ControlName, Opening, Refusal, Share, Step, TurnGate};
+use crate::networks::{port_of, ten, two_routers};
+use control::{Control, ControlName, Opening, Share, Step, TurnGate};
 use fabric::{Fabric, Network, Unnamed};
 use forwarder::{Answer, ForwardPort, ImageReader};
-use network_model::{Entry, Prefix};
+use network_model::Entry;
 use publication::FabricName;
 use std::alloc::Global;
 use std::marker::Brand;
 use std::process::Abort;
 use std::sync::Wait;
 use std::sync::atomic::{AtomicU64, Ordering};
-use std::test::Fail;
 use std::thread;
 use std::thread::Threads;
 use std::time::Clock;
@@ -46,51 +45,53 @@ impl<H: Clock> TurnGate for Waiting<'_, H> {
 }
 
 // What a router answers for that address, and by which row.
-fn by(generation: u64, entry: Entry) -> Result<Answer, Fail> {
-    let matched = Some((Prefix::parse("10.0.0.0/8")?, entry));
-    Ok(Answer {
+fn by(generation: u64, entry: Entry) -> Answer {
+    Answer {
         generation,
-        matched,
-    })
+        matched: Some((ten(), entry)),
+    }
 }
 
-// What a port answers to the job of this number, at this router.
-fn answer<B, N, R>(
+// A port answers the job of this number, at this router, so.
+fn answers<B, N, R>(
     rt: &R,
     control: &Control<B, N>,
     port: &mut ForwardPort<B>,
     number: u64,
     router: u16,
-) -> Option<Answer>
+    wanted: Answer,
+)
 where
     B: FabricName,
     N: ControlName,
-    R: Wait,
+    R: Wait + Abort,
 {
-    let job = control.job(rt, number, router, ADDR).ok()?;
-    let reply = port.answer(&job).ok()?;
-    Some(reply.answer())
+    let Ok(job) = control.job(rt, number, router, ADDR) else {
+        panic!(rt; "job");
+    };
+    let Ok(reply) = port.answer(&job) else {
+        panic!(rt; "answer");
+    };
+    assert_eq!(rt; reply.answer(), wanted);
 }
 
-// Does that at router 0 once the first turn has begun, and lets the turn go on.
+// Does that at router 0, by its opening table, once the first turn has begun, and lets the turn go on.
 fn answer_first<B, N, H>(
     rt: &H,
     control: &Control<B, N>,
     port: ForwardPort<B>,
     gate: &Waiting<'_, H>,
-) -> (ForwardPort<B>, Option<Answer>)
+) -> ForwardPort<B>
 where
     B: FabricName,
     N: ControlName,
-    H: Wait + Clock,
+    H: Wait + Clock + Abort,
 {
     let mut port = port;
-    if !gets_to(rt, &gate.begun, 1) {
-        return (port, None);
-    }
-    let first = answer(rt, control, &mut port, 1, 0);
+    assert!(rt; gets_to(rt, &gate.begun, 1));
+    answers(rt, control, &mut port, 1, 0, by(0, Entry::Local));
     gate.answered.store(1, Ordering::SeqCst);
-    (port, first)
+    port
 }
 
 // Serves with these shares. What calls it, a closure, knows of none that there is one.
@@ -99,63 +100,55 @@ fn serve<B, N, H>(
     control: &Control<B, N>,
     shares: Vec<Share<N>>,
     gate: &Waiting<'_, H>,
-) -> (Vec<Share<N>>, Result<(), Refusal>)
+) -> Vec<Share<N>>
 where
     B: FabricName + Send + Sync,
     N: ControlName + Send + Sync,
-    H: Threads + Wait + Clock + Sync,
-    ensures { vec_len result.0 ≡ vec_len shares }
+    H: Threads + Wait + Clock + Sync + Abort,
+    ensures { vec_len result ≡ vec_len shares }
 {
     let mut shares = shares;
-    if shares.is_empty() {
-        return (shares, Ok(()));
+    if !shares.is_empty() {
+        control.serve(rt, &mut shares, gate).expect(rt, "turns");
     }
-    let done = control.serve(rt, &mut shares, gate);
-    (shares, done)
+    shares
 }
 
+// The attached router answers by its opening table, and the other router by the first that it published.
 fn gives_jobs<B, N, H>(
     rt: &H,
     control: &Control<B, N>,
     shares: Vec<Share<N>>,
     port: ForwardPort<B>,
-) -> (Vec<Share<N>>, Result<(), Fail>)
+) -> Vec<Share<N>>
 where
     B: FabricName + Send + Sync,
     N: ControlName + Send + Sync,
     H: Threads + Wait + Abort + Clock + Sync,
     requires some { 0 < vec_len shares }
     requires asked { (s : Step) → N.asked s ≡ true }
-    ensures { vec_len result.0 ≡ vec_len shares }
+    ensures { vec_len result ≡ vec_len shares }
 {
     let mut shares = shares;
-    let up = control.step(rt, Step::LinkUp { link: 0 }, &mut shares[0]);
-    assert_eq!(rt; up, Ok(()));
+    let up = Step::LinkUp { link: 0 };
+    control.step(rt, up, &mut shares[0]).expect(rt, "step");
     let gate = Waiting {
         rt,
         begun: AtomicU64::new(0),
         answered: AtomicU64::new(0),
     };
-    let ((shares, served), (port, first)) = thread::join(
+    let (shares, port) = thread::join(
         rt,
         || { serve(rt, control, shares, &gate) },
         || answer_first(rt, control, port, &gate),
     );
-    assert_eq!(rt; served, Ok(()));
     let mut port = port;
-    let done = are_right(rt, first, answer(rt, control, &mut port, 2, 1));
-    (shares, done)
-}
-
-// The attached router answers by its opening table, and the other router by the first that it published.
-fn are_right<R: Abort>(rt: &R, first: Option<Answer>, second: Option<Answer>) -> Result<(), Fail> {
     let via = Entry::Via {
         port: 0,
         session: 1,
     };
-    assert_eq!(rt; first, Some(by(0, Entry::Local)?));
-    assert_eq!(rt; second, Some(by(1, via)?));
-    Ok(())
+    answers(rt, control, &mut port, 2, 1, by(1, via));
+    shares
 }
 
 fn controlled<B, N, H>(
@@ -164,7 +157,7 @@ fn controlled<B, N, H>(
     opening: Opening,
     fabric: Fabric<B>,
     port: ForwardPort<B>,
-) -> (Fabric<B>, Result<(), Fail>)
+) -> Fabric<B>
 where
     B: FabricName + Send + Sync,
     N: ControlName + Send + Sync,
@@ -176,14 +169,17 @@ where
 {
     match Control::<B, N>::new(alloc, opening, fabric) {
         Ok((control, shares)) => {
-            let (shares, done) = gives_jobs(rt, &control, shares, port);
-            (control.close(shares), done)
+            let shares = gives_jobs(rt, &control, shares, port);
+            control.close(shares)
         }
-        Err(fabric) => (fabric, Err("memory".into())),
+        Err(fabric) => {
+            fabric.close(rt);
+            panic!(rt; "memory")
+        }
     }
 }
 
-fn opened<B, H>(rt: &H, alloc: Global, network: Network, unnamed: Vec<Unnamed>) -> Result<(), Fail>
+fn opened<B, H>(rt: &H, alloc: Global, network: Network, unnamed: Vec<Unnamed>)
 where
     B: FabricName + Send + Sync,
     H: Threads + Wait + Abort + Clock + Sync,
@@ -191,38 +187,34 @@ where
     requires each { vec_len unnamed ≡ network.routers }
     requires openings { opening_tables network ≡ B.openings }
 {
-    if unnamed.len() != 2 {
-        return Err("routers".into());
-    }
+    assert!(rt; unnamed.len() == 2);
     let Ok((fabric, ports)) = Fabric::<B>::open(rt, alloc, network, unnamed, 1) else {
-        return Err("open".into());
+        panic!(rt; "open");
     };
-    let (fabric, done) = match port(alloc, ports) {
-        Ok(port) => controlled::<B, Brand, H>(rt, alloc, Opening::new(1), fabric, port),
-        Err(fail) => (fabric, Err(fail)),
-    };
+    let port = port(rt, alloc, ports);
+    let fabric = controlled::<B, Brand, H>(rt, alloc, Opening::new(1), fabric, port);
     fabric.close(rt);
-    done
 }
 
 // The port of these readers.
 fn port<B: FabricName>(
+    rt: &impl Abort,
     alloc: Global,
     ports: Vec<Vec<ImageReader<B>>>,
-) -> Result<ForwardPort<B>, Fail>
+) -> ForwardPort<B>
     requires { length B.books ≡ 2 }
 {
     let mut ports = ports;
-    let mut readers = ports.pop().ok_or("port")?;
-    let second = readers.pop().ok_or("reader")?;
-    let first = readers.pop().ok_or("reader")?;
-    port_of(alloc, first, second)
+    let mut readers = ports.pop().expect(rt, "port");
+    let second = readers.pop().expect(rt, "reader");
+    let first = readers.pop().expect(rt, "reader");
+    port_of(rt, alloc, first, second)
 }
 
 #[test]
-fn job_while_a_turn_waits(rt: HostRuntime) -> Result<(), Fail> {
+fn job_while_a_turn_waits(rt: HostRuntime) {
     let alloc = rt.alloc();
-    let network = two_routers(alloc)?;
-    let unnamed = Unnamed::many(alloc, usize::from(network.routers()))?;
-    opened::<Brand, _>(&rt, alloc, network, unnamed)
+    let network = two_routers(&rt, alloc);
+    let unnamed = Unnamed::many(alloc, usize::from(network.routers())).expect(&rt, "memory");
+    opened::<Brand, _>(&rt, alloc, network, unnamed);
 }

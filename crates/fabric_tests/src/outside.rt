@@ -2,13 +2,12 @@
 
 ghost use Rattle.std.specs.Prelude.{◌≡◌, ◌<◌, true, vec_len};
 
-use crate::controls::{UP, gets_to};
+use crate::controls::{UP, gets_to, serves_after};
 use control::{Control, ControlName, Share, Step, TurnGate};
 use publication::FabricName;
 use std::process::Abort;
 use std::sync::Wait;
 use std::sync::atomic::{AtomicU64, Ordering};
-use std::test::Fail;
 use std::thread::Threads;
 use std::time::Clock;
 
@@ -48,20 +47,15 @@ impl<H: Clock> TurnGate for Outside<'_, H> {
 }
 
 // Router 0's publication waits for turns of the other thread, which get the lock meanwhile.
-pub(crate) fn publish_outside<B, N, H>(
-    rt: &H,
-    control: &Control<B, N>,
-    shares: Vec<Share<N>>,
-) -> (Vec<Share<N>>, Result<(), Fail>)
+pub(crate) fn publish_outside<B, N, H>(rt: &H, control: &Control<B, N>, shares: &mut Vec<Share<N>>)
 where
     B: FabricName + Send + Sync,
     N: ControlName + Send + Sync,
     H: Threads + Wait + Abort + Clock + Sync,
-    requires some { 0 < vec_len shares }
+    requires some { 0 < vec_len shares.old }
     requires asked { (s : Step) → N.asked s ≡ true }
-    ensures { vec_len result.0 ≡ vec_len shares }
+    ensures { vec_len shares.new ≡ vec_len shares.old }
 {
-    let mut shares = shares;
     let gate = Outside {
         rt,
         begun: AtomicU64::new(0),
@@ -69,10 +63,7 @@ where
         met: AtomicU64::new(0),
         missed: AtomicU64::new(0),
     };
-    assert_eq!(rt; control.step(rt, UP, &mut shares[0]), Ok(()));
-    assert_eq!(rt; control.serve(rt, &mut shares, &gate), Ok(()));
-    assert!(rt; control.is_settled(rt));
+    serves_after(rt, control, shares, UP, &gate);
     assert_eq!(rt; gate.met.load(Ordering::SeqCst), 1);
     assert_eq!(rt; gate.missed.load(Ordering::SeqCst), 0);
-    (shares, Ok(()))
 }

@@ -4,17 +4,16 @@ ghost use Rattle.std.specs.Prelude.{◌≡◌, ◌⊎◌, ◌∷◌, [], All, ma
 ghost use Rattle.std.specs.Thread.{IsSend, IsSync};
 ghost use Rattle.publication.specs.Lists.{opening_of, patched_prefixes};
 
-use ipv4_prefix::parse_addr;
+use crate::networks::ten;
 use publication::{
-    Answer, Entry, FabricName, ImageReader, ImageWriter, Job, NoImage, NoMemory, OpenFault, Patch,
-    Prefix, ReadGate, Told, Unnamed, close_all, open, open_all,
+    Answer, Entry, FabricName, ImageReader, ImageWriter, Job, NoImage, NoMemory, Patch, Prefix,
+    ReadGate, Told, Unnamed, close_all, open, open_all,
 };
 use std::alloc::{Allocator, Global};
 use std::marker::Brand;
 use std::process::Abort;
 use std::sync::Wait;
 use std::sync::atomic::{AtomicBool, AtomicU64, Ordering};
-use std::test::*;
 use std::thread;
 use std::thread::{Threads, join};
 use std::time::{Clock, Duration};
@@ -56,36 +55,38 @@ pub(crate) fn set<B: FabricName, A: Allocator + Copy, R: Wait>(
     writer.publish(rt, Patch { generation, rows })
 }
 
+// An address of 10.0.0.0/8.
+const ADDR: u32 = 0x0A00_0001;
+
+// What a reader answers from an opening image without rows.
+const NOTHING: Answer = Answer {
+    generation: 0,
+    matched: None,
+};
+
 fn three_patches<B: FabricName, R: Wait + Abort>(
     rt: &R,
     alloc: Global,
     writer: &mut ImageWriter<B>,
     reader: &mut ImageReader<B>,
-) -> Result<(), Fail>
+)
     requires empty { writer.old.waiting ≡ [] }
     requires router { reader.old.router ≡ writer.old.published.router }
 {
-    let block = Prefix::parse("10.0.0.0/8")?;
-    let addr = parse_addr("10.0.0.1")?;
-    let none = Answer {
-        generation: 0,
-        matched: None,
-    };
-    assert_eq!(rt; reader.lookup(addr), Ok(none));
-    set(rt, alloc, writer, &[(block, via(0))])?;
-    set(rt, alloc, writer, &[(block, via(1))])?;
-    let told = set(rt, alloc, writer, &[(block, Entry::Unreachable)])?;
+    assert_eq!(rt; reader.lookup(ADDR), Ok(NOTHING));
+    set(rt, alloc, writer, &[(ten(), via(0))]).expect(rt, "memory");
+    set(rt, alloc, writer, &[(ten(), via(1))]).expect(rt, "memory");
+    let told = set(rt, alloc, writer, &[(ten(), Entry::Unreachable)]).expect(rt, "memory");
     reader.learn(&told);
     assert!(rt; reader.is_at(&told));
-    assert_eq!(rt; reader.lookup(addr), found(3, block, Entry::Unreachable));
-    assert!(rt; !writer.waits_for(block));
+    assert_eq!(rt; reader.lookup(ADDR), found(3, ten(), Entry::Unreachable));
+    assert!(rt; !writer.waits_for(ten()));
     let job = Job {
         number: 1,
-        addr,
+        addr: ADDR,
         told,
     };
     assert_eq!(rt; (job.router(), job.generation()), (1, 3));
-    Ok(())
 }
 
 // At the second of two routers.
@@ -94,7 +95,7 @@ fn at_second<B: FabricName, R: Wait + Abort>(
     alloc: Global,
     unnamed: Vec<Unnamed>,
     images: Vec<Image>,
-) -> Result<(), Fail>
+)
     requires name { unnamed.items ≡ B.books }
     requires rows { map (λ i. i.rows) images.items ≡ B.openings }
     requires generation { All (λ i. i.generation ≡ 0) images.items }
@@ -102,41 +103,38 @@ fn at_second<B: FabricName, R: Wait + Abort>(
     requires two { vec_len images ≡ 2 }
 {
     let Ok((mut writers, mut lists)) = open_all::<B, _, R>(rt, alloc, unnamed, images, 1) else {
-        return Err("open".into());
+        panic!(rt; "open");
     };
-    let done = match lists[1].pop() {
-        None => Err("readers".into()),
+    match lists[1].pop() {
+        None => panic!(rt; "reader"),
         Some(mut reader) => three_patches(rt, alloc, &mut writers[1], &mut reader),
-    };
+    }
     close_all(rt, writers);
-    done
 }
 
 #[test]
-fn readers_see_three_patches_one_after_another(rt: HostRuntime) -> Result<(), Fail> {
+fn readers_see_three_patches_one_after_another(rt: HostRuntime) {
     let alloc = rt.alloc();
-    let images = vec![in alloc; empty(alloc)?, empty(alloc)?]?;
-    at_second::<Brand, _>(&rt, alloc, Unnamed::many(alloc, 2)?, images)
+    let first = empty(alloc).expect(&rt, "memory");
+    let second = empty(alloc).expect(&rt, "memory");
+    let images = vec![in alloc; first, second].expect(&rt, "memory");
+    let unnamed = Unnamed::many(alloc, 2).expect(&rt, "memory");
+    at_second::<Brand, _>(&rt, alloc, unnamed, images);
 }
 
 // Publishes 200 patches of two rows.
-fn set_many<B: FabricName, R: Wait>(
+fn set_many<B: FabricName, R: Wait + Abort>(
     rt: &R,
     alloc: Global,
     writer: &mut ImageWriter<B>,
     wide: Prefix,
     narrow: Prefix,
-) -> Option<Told<B>>
+)
     requires { writer.old.waiting ≡ [] }
 {
-    let mut last = None;
     for k in 1..201u8 {
-        match set(rt, alloc, writer, &[(wide, via(0)), (narrow, via(k))]) {
-            Ok(told) => last = Some(told),
-            Err(_) => return None,
-        }
+        set(rt, alloc, writer, &[(wide, via(0)), (narrow, via(k))]).expect(rt, "memory");
     }
-    last
 }
 
 // Counts the answers whose generation fell, and those that were refused.
@@ -159,22 +157,18 @@ fn race<B: FabricName + Send + Sync, R: Threads + Wait + Abort + Sync>(
     alloc: Global,
     unnamed: Unnamed,
     image: Image,
-) -> Result<(), Fail>
+)
     requires books { B.books ≡ unnamed ∷ [] }
     requires generation { image.generation ≡ 0 }
     requires rows { image.rows ≡ opening_of B.openings 0 }
 {
-    let wide = Prefix::parse("10.0.0.0/8")?;
-    let narrow = Prefix::parse("10.1.0.0/16")?;
-    let addr = parse_addr("10.1.0.1")?;
+    let (wide, narrow) = (ten(), Prefix::covering(0x0A01_0000, 16));
+    let addr = 0x0A01_0001;
     let Ok((mut writer, mut readers)) = open::<B, _, R>(rt, alloc, unnamed, 0, image, 1) else {
-        return Err("open".into());
+        panic!(rt; "open");
     };
-    let Some(reader) = readers.pop() else {
-        writer.close(rt);
-        return Err("readers".into());
-    };
-    let (told, (reader, wrong)) = join(
+    let reader = readers.pop().expect(rt, "reader");
+    let (_, (reader, wrong)) = join(
         rt,
         || set_many(rt, alloc, &mut writer, wide, narrow),
         || look_many(reader, addr),
@@ -183,16 +177,14 @@ fn race<B: FabricName + Send + Sync, R: Threads + Wait + Abort + Sync>(
     let last = reader.lookup(addr);
     writer.close(rt);
     assert_eq!(rt; wrong, 0);
-    assert!(rt; told.is_some());
     assert_eq!(rt; last, found(200, narrow, via(200)));
     assert_eq!(rt; reader.lookup(addr), Err(NoImage));
-    Ok(())
 }
 
 #[test]
-fn a_reader_never_sees_an_older_generation(rt: HostRuntime) -> Result<(), Fail> {
-    let image = empty(rt.alloc())?;
-    race::<Brand, _>(&rt, rt.alloc(), Unnamed::new(), image)
+fn a_reader_never_sees_an_older_generation(rt: HostRuntime) {
+    let image = empty(rt.alloc()).expect(&rt, "memory");
+    race::<Brand, _>(&rt, rt.alloc(), Unnamed::new(), image);
 }
 
 // Holds a reader inside until another has looked up 1000 times since the writer began to publish, and
@@ -251,49 +243,39 @@ impl<R: Clock> ReadGate for Hold<'_, R> {
 }
 
 // Publishes a row once the reader is held, and then another.
-fn set_while_held<B: FabricName, R: Wait + Clock>(
+fn set_while_held<B: FabricName, R: Wait + Clock + Abort>(
     rt: &R,
     alloc: Global,
     writer: &mut ImageWriter<B>,
-    wide: Prefix,
     gate: &Hold<'_, R>,
-) -> Option<Told<B>>
+) -> Told<B>
     requires { writer.old.waiting ≡ [] }
 {
     gate.wait_for(&gate.held);
     gate.publishes.store(true, Ordering::SeqCst);
-    let last = match set(rt, alloc, writer, &[(wide, via(0))]) {
-        Ok(_) => set(rt, alloc, writer, &[(wide, via(1))]).ok(),
-        Err(_) => None,
-    };
+    set(rt, alloc, writer, &[(ten(), via(0))]).expect(rt, "memory");
+    let last = set(rt, alloc, writer, &[(ten(), via(1))]).expect(rt, "memory");
     gate.published.store(true, Ordering::SeqCst);
     last
 }
 
-// What a reader answers once it has learned what was told at its router.
-fn learned<B: FabricName>(
-    mut reader: ImageReader<B>,
-    told: &Told<B>,
-    addr: u32,
-) -> Option<Result<Answer, NoImage>> {
-    if reader.view().router() != told.router() {
-        return None;
-    }
+// Once a reader has learned what was told at its router, it answers by the second row.
+fn has_learned<B: FabricName>(rt: &impl Abort, mut reader: ImageReader<B>, told: &Told<B>) {
+    assert!(rt; reader.view().router() == told.router());
     reader.learn(told);
-    Some(reader.lookup(addr))
+    assert_eq!(rt; reader.lookup(ADDR), found(2, ten(), via(1)));
 }
 
 // Looks up 1000 times once the writer publishes, and counts the answers that were refused or whose
 // generation fell.
 fn look_while_held<B: FabricName, R: Clock>(
     mut reader: ImageReader<B>,
-    addr: u32,
     gate: &Hold<'_, R>,
 ) -> (ImageReader<B>, u32) {
     let (mut last, mut wrong) = (0, 0u32);
     gate.wait_for(&gate.publishes);
     for _ in 0..1_000u32 {
-        match reader.lookup(addr) {
+        match reader.lookup(ADDR) {
             Ok(answer) => {
                 wrong = wrong.wrapping_add((answer.generation < last) as u32);
                 last = answer.generation;
@@ -306,21 +288,19 @@ fn look_while_held<B: FabricName, R: Clock>(
 }
 
 // Publishes, while a reader that looks up is held.
-fn publish_and_look<B: FabricName + Send + Sync, R: Threads + Wait + Clock + Sync>(
+fn publish_and_look<B: FabricName + Send + Sync, R: Threads + Wait + Clock + Abort + Sync>(
     rt: &R,
     alloc: Global,
     writer: &mut ImageWriter<B>,
     reader: &mut ImageReader<B>,
-    wide: Prefix,
-    addr: u32,
     gate: &Hold<'_, R>,
-) -> (Option<Told<B>>, Result<Answer, NoImage>)
+) -> (Told<B>, Result<Answer, NoImage>)
     requires { writer.old.waiting ≡ [] }
 {
     join(
         rt,
-        || set_while_held(rt, alloc, writer, wide, gate),
-        || reader.lookup_held(addr, gate),
+        || set_while_held(rt, alloc, writer, gate),
+        || reader.lookup_held(ADDR, gate),
     )
 }
 
@@ -329,20 +309,16 @@ fn publish_while_held<B: FabricName + Send + Sync, R: Threads + Wait + Clock + A
     alloc: Global,
     unnamed: Unnamed,
     image: Image,
-) -> Result<(), Fail>
+)
     requires books { B.books ≡ unnamed ∷ [] }
     requires generation { image.generation ≡ 0 }
     requires rows { image.rows ≡ opening_of B.openings 0 }
 {
-    let wide = Prefix::parse("10.0.0.0/8")?;
-    let addr = parse_addr("10.0.0.1")?;
     let Ok((mut writer, mut readers)) = open::<B, _, R>(rt, alloc, unnamed, 0, image, 2) else {
-        return Err("open".into());
+        panic!(rt; "open");
     };
-    let (Some(mut first), Some(second)) = (readers.pop(), readers.pop()) else {
-        writer.close(rt);
-        return Err("readers".into());
-    };
+    let mut first = readers.pop().expect(rt, "reader");
+    let second = readers.pop().expect(rt, "reader");
     let gate = Hold {
         rt,
         held: AtomicBool::new(false),
@@ -357,28 +333,18 @@ fn publish_while_held<B: FabricName + Send + Sync, R: Threads + Wait + Clock + A
             requires shared { IsSync R.row }
             requires named { IsSend B.row × IsSync B.row }
             requires empty { writer.waiting ≡ [] }
-        { publish_and_look(rt, alloc, &mut writer, &mut first, wide, addr, &gate) },
-        || look_while_held(second, addr, &gate),
+        { publish_and_look(rt, alloc, &mut writer, &mut first, &gate) },
+        || look_while_held(second, &gate),
     );
-    let after = match told {
-        Some(told) => (learned(first, &told, addr), learned(second, &told, addr)),
-        None => (None, None),
-    };
+    has_learned(rt, first, &told);
+    has_learned(rt, second, &told);
     writer.close(rt);
     assert!(rt; !gate.late.load(Ordering::SeqCst));
-    let none = Answer {
-        generation: 0,
-        matched: None,
-    };
-    assert_eq!(rt; answer, Ok(none));
-    assert_eq!(rt; wrong, 0);
-    assert_eq!(rt; after.0, Some(found(2, wide, via(1))));
-    assert_eq!(rt; after.1, Some(found(2, wide, via(1))));
-    Ok(())
+    assert_eq!(rt; (answer, wrong), (Ok(NOTHING), 0));
 }
 
 #[test]
-fn a_held_reader_keeps_its_image(rt: HostRuntime) -> Result<(), Fail> {
-    let image = empty(rt.alloc())?;
-    publish_while_held::<Brand, _>(&rt, rt.alloc(), Unnamed::new(), image)
+fn a_held_reader_keeps_its_image(rt: HostRuntime) {
+    let image = empty(rt.alloc()).expect(&rt, "memory");
+    publish_while_held::<Brand, _>(&rt, rt.alloc(), Unnamed::new(), image);
 }

@@ -3,7 +3,7 @@
 ghost use Rattle.std.specs.Prelude.{◌≡◌, ◌+◌, ◌++◌, ◌∷◌, [], ℕ, List, length, All, sum_by, IfOk, MatchOption, vec_len};
 ghost use Rattle.publication.specs.declared.job.Job.{Job};
 ghost use Rattle.publication.specs.Lists.{opening_of};
-ghost use Rattle.packet_queue.specs.Ends.{puts_into, takes_from, put_by, taken_by, parts_of, AreAllEnds};
+ghost use Rattle.packet_queue.specs.Ends.{puts_into, takes_from, put_by, taken_by, parts_of, AreAllEnds, IsSameInjector};
 ghost use Rattle.packet_queue.specs.Jobs.{jobs_of};
 
 use packet_queue::{FabricName, Injector, Job, PacketQueue, Taken, Taker, reckon};
@@ -13,7 +13,6 @@ use std::marker::Brand;
 use std::process::Abort;
 use std::snapshot::Snapshot;
 use std::sync::Wait;
-use std::test::*;
 use std::thread;
 use std::thread::{Promise, PromisedHandle, Threads};
 use tree_bitmap::Image;
@@ -51,28 +50,41 @@ fn back<B: FabricName>(put: Result<(), Job<B>>) -> Option<u64> {
     }
 }
 
-fn in_order<B: FabricName, R: Wait + Abort>(
+// The queue takes a job of this number, or hands it back.
+fn puts<B: FabricName, R: Wait + Abort>(
     rt: &R,
-    alloc: Global,
+    injector: &mut Injector<B>,
     told: &Told<B>,
-) -> Result<(), Fail> {
-    let (mut injector, mut takers) = PacketQueue::new::<B, _>(alloc, 2)?;
+    number: u64,
+    wanted: Option<u64>,
+)
+    ensures { IsSameInjector injector.old injector.new }
+{
+    assert_eq!(rt; back(injector.inject(rt, asked(number, told))), wanted);
+}
+
+// What comes out of the queue next.
+fn gives<B: FabricName, R: Wait + Abort>(rt: &R, taker: &mut Taker<B>, wanted: Sight) {
+    assert_eq!(rt; seen_as(taker.next(rt)), wanted);
+}
+
+fn in_order<B: FabricName, R: Wait + Abort>(rt: &R, alloc: Global, told: &Told<B>) {
+    let (mut injector, mut takers) = PacketQueue::new::<B, _>(alloc, 2).expect(rt, "memory");
     assert_eq!(rt; injector.workers(), 2);
-    let mut second = takers.pop().ok_or("two")?;
-    let mut first = takers.pop().ok_or("two")?;
+    let mut second = takers.pop().expect(rt, "two");
+    let mut first = takers.pop().expect(rt, "two");
     assert!(rt; takers.is_empty());
-    assert_eq!(rt; back(injector.inject(rt, asked(0, told))), None);
-    assert_eq!(rt; back(injector.inject(rt, asked(1, told))), None);
-    assert_eq!(rt; back(injector.inject(rt, asked(2, told))), None);
+    for number in 0..3 {
+        puts(rt, &mut injector, told, number, None);
+    }
     assert!(rt; injector.stop(rt));
-    assert_eq!(rt; seen_as(first.next(rt)), Sight::Job(0));
-    assert_eq!(rt; seen_as(second.next(rt)), Sight::Job(1));
-    assert_eq!(rt; seen_as(second.next(rt)), Sight::Job(2));
-    assert_eq!(rt; seen_as(second.next(rt)), Sight::Stop);
-    assert_eq!(rt; seen_as(first.next(rt)), Sight::Stop);
+    gives(rt, &mut first, Sight::Job(0));
+    gives(rt, &mut second, Sight::Job(1));
+    gives(rt, &mut second, Sight::Job(2));
+    gives(rt, &mut second, Sight::Stop);
+    gives(rt, &mut first, Sight::Stop);
     drop(injector);
-    assert_eq!(rt; seen_as(first.next(rt)), Sight::Closed);
-    Ok(())
+    gives(rt, &mut first, Sight::Closed);
 }
 
 // Puts so many jobs, takes so many messages, and counts what is left.
@@ -82,56 +94,63 @@ fn left_of<B: FabricName, R: Wait + Abort>(
     told: &Told<B>,
     put: u64,
     take: u64,
-) -> Result<u64, Fail> {
-    let (mut injector, mut takers) = PacketQueue::new::<B, _>(alloc, 3)?;
+) -> u64 {
+    let Ok((mut injector, mut takers)) = PacketQueue::new::<B, _>(alloc, 3) else {
+        panic!(rt; "memory");
+    };
     for number in 0..put {
-        assert_eq!(rt; back(injector.inject(rt, asked(number, told))), None);
+        puts(rt, &mut injector, told, number, None);
     }
     assert!(rt; injector.stop(rt));
     let Some(mut taker) = takers.pop() else {
-        return Err("three".into());
+        panic!(rt; "three");
     };
     for _ in 0..take {
         assert!(rt; taker.next(rt).is_some());
     }
-    takers.push(taker)?;
-    Ok(reckon(injector, takers))
+    let Ok(()) = takers.push(taker) else {
+        panic!(rt; "memory");
+    };
+    reckon(injector, takers)
 }
 
-fn counted<B: FabricName, R: Wait + Abort>(
-    rt: &R,
-    alloc: Global,
-    told: &Told<B>,
-) -> Result<(), Fail> {
-    assert_eq!(rt; left_of(rt, alloc, told, 0, 0)?, 0);
-    assert_eq!(rt; left_of(rt, alloc, told, 5, 0)?, 5);
-    assert_eq!(rt; left_of(rt, alloc, told, 61, 20)?, 41);
-    assert_eq!(rt; left_of(rt, alloc, told, 5, 5)?, 0);
-    assert_eq!(rt; left_of(rt, alloc, told, 5, 7)?, 0);
-    Ok(())
+fn counted<B: FabricName, R: Wait + Abort>(rt: &R, alloc: Global, told: &Told<B>) {
+    for (put, take, left) in [(0, 0, 0), (5, 0, 5), (61, 20, 41), (5, 5, 0), (5, 7, 0)] {
+        assert_eq!(rt; left_of(rt, alloc, told, put, take), left);
+    }
 }
 
-fn closed<B: FabricName, R: Wait + Abort>(
-    rt: &R,
-    alloc: Global,
-    told: &Told<B>,
-) -> Result<(), Fail> {
-    let (mut injector, takers) = PacketQueue::new::<B, _>(alloc, 0)?;
-    assert_eq!(rt; back(injector.inject(rt, asked(1, told))), Some(1));
+// A queue for no worker takes no job.
+fn closed_from_the_first<B: FabricName, R: Wait + Abort>(rt: &R, alloc: Global, told: &Told<B>) {
+    let (mut injector, takers) = PacketQueue::new::<B, _>(alloc, 0).expect(rt, "memory");
+    puts(rt, &mut injector, told, 1, Some(1));
     assert!(rt; injector.stop(rt));
     assert_eq!(rt; reckon(injector, takers), 0);
-    let (mut injector, takers) = PacketQueue::new::<B, _>(alloc, 2)?;
-    assert_eq!(rt; back(injector.inject(rt, asked(2, told))), None);
+}
+
+// Nor does one whose takers are gone.
+fn closed_by_takers<B: FabricName, R: Wait + Abort>(rt: &R, alloc: Global, told: &Told<B>) {
+    let (mut injector, takers) = PacketQueue::new::<B, _>(alloc, 2).expect(rt, "memory");
+    puts(rt, &mut injector, told, 2, None);
     drop(takers);
-    assert_eq!(rt; back(injector.inject(rt, asked(3, told))), Some(3));
+    puts(rt, &mut injector, told, 3, Some(3));
     assert!(rt; !injector.stop(rt));
-    let (mut injector, mut takers) = PacketQueue::new::<B, _>(alloc, 1)?;
-    assert_eq!(rt; back(injector.inject(rt, asked(4, told))), None);
+}
+
+// What is in a queue whose injector is gone comes out.
+fn closed_by_injector<B: FabricName, R: Wait + Abort>(rt: &R, alloc: Global, told: &Told<B>) {
+    let (mut injector, mut takers) = PacketQueue::new::<B, _>(alloc, 1).expect(rt, "memory");
+    puts(rt, &mut injector, told, 4, None);
     drop(injector);
-    let mut taker = takers.pop().ok_or("one")?;
-    assert_eq!(rt; seen_as(taker.next(rt)), Sight::Job(4));
-    assert_eq!(rt; seen_as(taker.next(rt)), Sight::Closed);
-    Ok(())
+    let mut taker = takers.pop().expect(rt, "one");
+    gives(rt, &mut taker, Sight::Job(4));
+    gives(rt, &mut taker, Sight::Closed);
+}
+
+fn closed<B: FabricName, R: Wait + Abort>(rt: &R, alloc: Global, told: &Told<B>) {
+    closed_from_the_first(rt, alloc, told);
+    closed_by_takers(rt, alloc, told);
+    closed_by_injector(rt, alloc, told);
 }
 
 // A taker with the jobs that a worker took.
@@ -276,22 +295,21 @@ fn hundred<B, R>(
     told: &Told<B>,
     mut injector: Injector<B>,
     takers: Vec<Taker<B>>,
-) -> Result<(), Fail>
+)
 where
     B: FabricName + Send + Sync + 'static,
     R: Threads + Wait + Abort + Copy + Send + Sync + 'static,
     requires all { AreAllEnds injector takers.items }
     requires nothing { All (λ t. taken_by t ≡ []) takers.items }
 {
-    let running = start_all::<B, R>(rt, alloc, &injector, takers)?;
+    let running = start_all::<B, R>(rt, alloc, &injector, takers).expect(&rt, "memory");
     for number in 0..100 {
-        assert_eq!(rt; back(injector.inject(&rt, asked(number, told))), None);
+        puts(&rt, &mut injector, told, number, None);
     }
     assert!(rt; injector.stop(&rt));
-    let (jobs, left) = finish::<B, R>(&rt, alloc, injector, running)?;
+    let (jobs, left) = finish::<B, R>(&rt, alloc, injector, running).expect(&rt, "memory");
     assert_eq!(rt; left, 0);
     assert_eq!(rt; bits_of(&jobs), Some((1 << 100) - 1));
-    Ok(())
 }
 
 // What is done with a queue.
@@ -303,7 +321,7 @@ enum Trial {
     FeedsThreads,
 }
 
-fn tried<B, R>(rt: R, alloc: Global, told: &Told<B>, trial: Trial) -> Result<(), Fail>
+fn tried<B, R>(rt: R, alloc: Global, told: &Told<B>, trial: Trial)
 where
     B: FabricName + Send + Sync + 'static,
     R: Threads + Wait + Abort + Copy + Send + Sync + 'static,
@@ -313,20 +331,14 @@ where
         Trial::CountsWhatIsLeft => counted(&rt, alloc, told),
         Trial::Closes => closed(&rt, alloc, told),
         Trial::FeedsThreads => {
-            let (injector, takers) = PacketQueue::new::<B, _>(alloc, 2)?;
-            hundred(rt, alloc, told, injector, takers)
+            let (injector, takers) = PacketQueue::new::<B, _>(alloc, 2).expect(&rt, "memory");
+            hundred(rt, alloc, told, injector, takers);
         }
     }
 }
 
 // Opens the writer of a router, whose list the jobs are told of.
-fn opened<B, R>(
-    rt: R,
-    alloc: Global,
-    unnamed: Unnamed,
-    image: Image,
-    trial: Trial,
-) -> Result<(), Fail>
+fn opened<B, R>(rt: R, alloc: Global, unnamed: Unnamed, image: Image, trial: Trial)
 where
     B: FabricName + Send + Sync + 'static,
     R: Threads + Wait + Abort + Copy + Send + Sync + 'static,
@@ -335,40 +347,36 @@ where
     requires rows { image.rows ≡ opening_of B.openings 0 }
 {
     let Ok((writer, _)) = open::<B, _, R>(&rt, alloc, unnamed, 0, image, 0) else {
-        return Err("open".into());
+        panic!(rt; "open");
     };
-    let told = writer.tell();
-    let done = tried(rt, alloc, &told, trial);
+    tried(rt, alloc, &writer.tell(), trial);
     writer.close(&rt);
-    done
+}
+
+fn with_told<R>(rt: R, alloc: Global, trial: Trial)
+where
+    R: Threads + Wait + Abort + Copy + Send + Sync + 'static,
+{
+    let image = empty(alloc).expect(&rt, "memory");
+    opened::<Brand, R>(rt, alloc, Unnamed::new(), image, trial);
 }
 
 #[test]
-fn jobs_come_out_as_they_were_put_in(rt: HostRuntime) -> Result<(), Fail> {
-    let image = empty(rt.alloc())?;
-    opened::<Brand, _>(rt, rt.alloc(), Unnamed::new(), image, Trial::KeepsTheOrder)
+fn jobs_come_out_as_they_were_put_in(rt: HostRuntime) {
+    with_told(rt, rt.alloc(), Trial::KeepsTheOrder);
 }
 
 #[test]
-fn counts_what_is_left(rt: HostRuntime) -> Result<(), Fail> {
-    let image = empty(rt.alloc())?;
-    opened::<Brand, _>(
-        rt,
-        rt.alloc(),
-        Unnamed::new(),
-        image,
-        Trial::CountsWhatIsLeft,
-    )
+fn counts_what_is_left(rt: HostRuntime) {
+    with_told(rt, rt.alloc(), Trial::CountsWhatIsLeft);
 }
 
 #[test]
-fn hands_back_when_closed(rt: HostRuntime) -> Result<(), Fail> {
-    let image = empty(rt.alloc())?;
-    opened::<Brand, _>(rt, rt.alloc(), Unnamed::new(), image, Trial::Closes)
+fn hands_back_when_closed(rt: HostRuntime) {
+    with_told(rt, rt.alloc(), Trial::Closes);
 }
 
 #[test]
-fn two_threads_take_all_jobs_of_a_queue(rt: HostRuntime) -> Result<(), Fail> {
-    let image = empty(rt.alloc())?;
-    opened::<Brand, _>(rt, rt.alloc(), Unnamed::new(), image, Trial::FeedsThreads)
+fn two_threads_take_all_jobs_of_a_queue(rt: HostRuntime) {
+    with_told(rt, rt.alloc(), Trial::FeedsThreads);
 }

@@ -4,20 +4,19 @@
 ghost use Rattle.std.specs.Prelude.{◌≡◌, ◌∷◌, [], length};
 ghost use Rattle.publication.specs.Lists.{opening_of};
 
+use crate::networks::ten;
 use crate::publications::{found, set, via};
 use crate::workers::{port_of, put, work_five};
-use ipv4_prefix::parse_addr;
 use linked_list_allocator::LocalHeap;
 use network_model::Refusal;
 use packet_queue::PacketQueue;
 use publication::{
-    Entry, FabricName, ImageReader, ImageWriter, NoMemory, Patch, Prefix, Unnamed, open,
+    Entry, FabricName, ImageReader, ImageWriter, NoMemory, Patch, Prefix, Told, Unnamed, open,
 };
 use std::alloc::Global;
 use std::marker::Brand;
 use std::process::Abort;
 use std::sync::Wait;
-use std::test::*;
 use tree_bitmap::Image;
 use tree_bitmap::parts::empty;
 
@@ -29,10 +28,11 @@ const LARGEST: usize = 16 << 20;
 
 // Takes all of the heap but so many bytes, hole by hole, until it is dropped.
 pub fn ballast<'h>(
+    rt: &impl Abort,
     alloc: Global,
     heap: &'h LocalHeap,
     left: usize,
-) -> Result<Vec<Vec<u8, &'h LocalHeap>>, Fail> {
+) -> Vec<Vec<u8, &'h LocalHeap>> {
     let mut weights = Vec::new(alloc);
     for halvings in 0..21u8 {
         let size = LARGEST >> halvings;
@@ -43,10 +43,11 @@ pub fn ballast<'h>(
             let Ok(weight) = Vec::with_capacity(heap, size) else {
                 break;
             };
-            weights.push(weight)?;
+            let pushed = weights.push(weight);
+            assert!(rt; pushed.is_ok());
         }
     }
-    Ok(weights)
+    weights
 }
 
 // A call that is tried with so many bytes left.
@@ -58,13 +59,8 @@ enum Call {
 }
 
 // Whether the call is refused with so many bytes left.
-fn is_refused<R: Wait + Abort>(
-    rt: &R,
-    alloc: Global,
-    call: Call,
-    left: usize,
-) -> Result<bool, Fail> {
-    let heap = LocalHeap::new(alloc, HEAP)?;
+fn is_refused<R: Wait + Abort>(rt: &R, alloc: Global, call: Call, left: usize) -> bool {
+    let heap = LocalHeap::new(alloc, HEAP).expect(rt, "memory");
     match call {
         Call::MakeQueue => is_queue_refused::<Brand>(rt, alloc, &heap, left),
         _ => is_refused_to_one_router(rt, alloc, &heap, call, left),
@@ -72,21 +68,15 @@ fn is_refused<R: Wait + Abort>(
 }
 
 // It is refused with no, one, two and more units of memory left, and from some room on never more.
-fn is_refused_until_there_is_room<R: Wait + Abort>(
-    rt: &R,
-    alloc: Global,
-    call: Call,
-    unit: u8,
-) -> Result<(), Fail> {
+fn is_refused_until_there_is_room<R: Wait + Abort>(rt: &R, alloc: Global, call: Call, unit: u8) {
     let mut refused = 0;
     for units in 0..1024usize {
-        if is_refused(rt, alloc, call, units * usize::from(unit))? {
+        if is_refused(rt, alloc, call, units * usize::from(unit)) {
             assert_eq!(rt; refused, units);
             refused = units + 1;
         }
     }
     assert!(rt; refused > 0 && refused < 1024);
-    Ok(())
 }
 
 fn is_refused_to_one_router<'h, R: Wait + Abort>(
@@ -95,8 +85,8 @@ fn is_refused_to_one_router<'h, R: Wait + Abort>(
     heap: &'h LocalHeap,
     call: Call,
     left: usize,
-) -> Result<bool, Fail> {
-    let image = empty(heap)?;
+) -> bool {
+    let image = empty(heap).expect(rt, "room");
     with_reader::<Brand, R>(rt, alloc, heap, Unnamed::new(), image, call, left)
 }
 
@@ -108,23 +98,38 @@ fn with_reader<'h, B: FabricName, R: Wait + Abort>(
     image: Image<&'h LocalHeap>,
     call: Call,
     left: usize,
-) -> Result<bool, Fail>
+) -> bool
     requires books { B.books ≡ unnamed ∷ [] }
     requires generation { image.generation ≡ 0 }
     requires rows { image.rows ≡ opening_of B.openings 0 }
 {
     let Ok((mut writer, mut readers)) = open::<B, _, R>(rt, heap, unnamed, 0, image, 1) else {
-        return Err("open".into());
+        panic!(rt; "open");
     };
-    let end = match (call, readers.pop()) {
-        (Call::Publish, Some(mut reader)) => {
-            is_publication_refused(rt, alloc, heap, &mut writer, &mut reader, left)
-        },
-        (Call::Work, Some(reader)) => are_replies_refused(rt, alloc, heap, &writer, reader, left),
-        _ => Err("readers".into()),
+    let mut reader = readers.pop().expect(rt, "reader");
+    let end = match call {
+        Call::Work => are_replies_refused(rt, alloc, heap, &writer, reader, left),
+        _ => is_publication_refused(rt, alloc, heap, &mut writer, &mut reader, left),
     };
     writer.close(rt);
     end
+}
+
+// A reader that learns this answers two addresses by these rows.
+fn answers<'h, B: FabricName>(
+    rt: &impl Abort,
+    reader: &mut ImageReader<B, &'h LocalHeap>,
+    told: &Told<B>,
+    generation: u64,
+    rows: &[(Prefix, Entry); 2],
+)
+    requires { reader.old.router ≡ told.now.router }
+    ensures { reader.new.router ≡ reader.old.router }
+{
+    reader.learn(told);
+    let [(one, first), (two, second)] = *rows;
+    assert_eq!(rt; reader.lookup(0x0A00_0001), found(generation, one, first));
+    assert_eq!(rt; reader.lookup(0x0A01_0001), found(generation, two, second));
 }
 
 // Publishes a row of 10.0.0.0/8, then with so little left another, and one of 10.1.0.0/16. Where that is
@@ -137,34 +142,36 @@ fn is_publication_refused<'h, B: FabricName, R: Wait + Abort>(
     writer: &mut ImageWriter<B, &'h LocalHeap>,
     reader: &mut ImageReader<B, &'h LocalHeap>,
     left: usize,
-) -> Result<bool, Fail>
+) -> bool
     requires empty { writer.old.waiting ≡ [] }
     requires router { reader.old.router ≡ writer.old.published.router }
 {
-    let wide = Prefix::parse("10.0.0.0/8")?;
-    let narrow = Prefix::parse("10.1.0.0/16")?;
-    let (one, two) = (parse_addr("10.0.0.1")?, parse_addr("10.1.0.1")?);
-    let told = set(rt, heap, writer, &[(wide, via(0))])?;
+    let (wide, narrow) = (ten(), Prefix::covering(0x0A01_0000, 16));
+    let told = set(rt, heap, writer, &[(wide, via(0))]).expect(rt, "room");
     reader.learn(&told);
     let last = [(wide, Entry::Unreachable), (narrow, via(2))];
-    let rows = Vec::from_slice(heap, &last)?;
-    let weight = ballast(alloc, heap, left)?;
+    let rows = Vec::from_slice(heap, &last).expect(rt, "room");
+    let weight = ballast(rt, alloc, heap, left);
     let second = set(rt, heap, writer, &[(wide, via(1)), (narrow, via(1))]);
     drop(weight);
     let Err(NoMemory) = second else {
-        return Ok(false);
+        return false;
     };
     assert_eq!(rt; writer.generation(), 1);
-    reader.learn(&writer.tell());
-    assert_eq!(rt; reader.lookup(one), found(1, wide, via(0)));
-    assert_eq!(rt; reader.lookup(two), found(1, wide, via(0)));
+    answers(
+        rt,
+        reader,
+        &writer.tell(),
+        1,
+        &[(wide, via(0)), (wide, via(0))],
+    );
     let generation = 2;
-    let told = writer.publish(rt, Patch { generation, rows })?;
+    let told = writer
+        .publish(rt, Patch { generation, rows })
+        .expect(rt, "room");
     assert_eq!(rt; writer.generation(), 2);
-    reader.learn(&told);
-    assert_eq!(rt; reader.lookup(one), found(2, wide, Entry::Unreachable));
-    assert_eq!(rt; reader.lookup(two), found(2, narrow, via(2)));
-    Ok(true)
+    answers(rt, reader, &told, 2, &last);
+    true
 }
 
 // A worker takes five jobs from a queue with so little left for its replies: it takes all of them, also
@@ -176,27 +183,28 @@ fn are_replies_refused<'h, B: FabricName, R: Wait + Abort>(
     writer: &ImageWriter<B, &'h LocalHeap>,
     reader: ImageReader<B, &'h LocalHeap>,
     left: usize,
-) -> Result<bool, Fail>
+) -> bool
     requires one { length B.books ≡ 1 }
     requires first { reader.router ≡ 0 }
 {
-    let port = port_of(heap, reader)?;
-    let (mut injector, mut takers) = PacketQueue::new::<B, &'h LocalHeap>(heap, 1)?;
-    put(rt, &mut injector, &writer.tell(), 5)?;
+    let port = port_of(rt, heap, reader);
+    let made = PacketQueue::new::<B, &'h LocalHeap>(heap, 1);
+    let (mut injector, mut takers) = made.expect(rt, "room");
+    put(rt, &mut injector, &writer.tell(), 5);
     drop(injector);
-    let taker = takers.pop().ok_or("taker")?;
-    let weight = ballast(alloc, heap, left)?;
+    let taker = takers.pop().expect(rt, "taker");
+    let weight = ballast(rt, alloc, heap, left);
     let replies = work_five(rt, heap, port, taker);
     drop(weight);
     match replies {
         Ok(replies) => {
             assert_eq!(rt; replies.len(), 5);
-            Ok(false)
-        },
+            false
+        }
         Err(refusal) => {
             assert_eq!(rt; refusal, Refusal::NoMemory);
-            Ok(true)
-        },
+            true
+        }
     }
 }
 
@@ -206,31 +214,33 @@ fn is_queue_refused<'h, B: FabricName>(
     alloc: Global,
     heap: &'h LocalHeap,
     left: usize,
-) -> Result<bool, Fail> {
-    let weight = ballast(alloc, heap, left)?;
+) -> bool {
+    let weight = ballast(rt, alloc, heap, left);
     let first = PacketQueue::new::<B, &'h LocalHeap>(heap, 2);
     drop(weight);
-    if let Ok(made) = first {
-        assert_eq!(rt; made.1.len(), 2);
-        return Ok(false);
-    }
-    assert_eq!(rt; heap.used(), 0);
-    let made = PacketQueue::new::<B, &'h LocalHeap>(heap, 2)?;
-    assert_eq!(rt; made.1.len(), 2);
-    Ok(true)
+    let is_refused = first.is_err();
+    let (_injector, takers) = match first {
+        Ok(made) => made,
+        Err(_) => {
+            assert_eq!(rt; heap.used(), 0);
+            PacketQueue::new::<B, &'h LocalHeap>(heap, 2).expect(rt, "room")
+        }
+    };
+    assert_eq!(rt; takers.len(), 2);
+    is_refused
 }
 
 #[test]
-fn a_refused_publication_is_done_again(rt: HostRuntime) -> Result<(), Fail> {
-    is_refused_until_there_is_room(&rt, rt.alloc(), Call::Publish, 16)
+fn a_refused_publication_is_done_again(rt: HostRuntime) {
+    is_refused_until_there_is_room(&rt, rt.alloc(), Call::Publish, 16);
 }
 
 #[test]
-fn a_queue_needs_room_for_its_places(rt: HostRuntime) -> Result<(), Fail> {
-    is_refused_until_there_is_room(&rt, rt.alloc(), Call::MakeQueue, 32)
+fn a_queue_needs_room_for_its_places(rt: HostRuntime) {
+    is_refused_until_there_is_room(&rt, rt.alloc(), Call::MakeQueue, 32);
 }
 
 #[test]
-fn a_worker_without_room_takes_all_jobs(rt: HostRuntime) -> Result<(), Fail> {
-    is_refused_until_there_is_room(&rt, rt.alloc(), Call::Work, 16)
+fn a_worker_without_room_takes_all_jobs(rt: HostRuntime) {
+    is_refused_until_there_is_room(&rt, rt.alloc(), Call::Work, 16);
 }

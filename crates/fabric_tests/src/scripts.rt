@@ -5,7 +5,7 @@
 ghost use Rattle.std.specs.Prelude.{◌≡◌, vec_len};
 ghost use Rattle.fabric.specs.Writers.{opening_tables};
 
-use crate::networks::{link, two_routers};
+use crate::networks::{link, ten, two_routers};
 use crate::refusals::ballast;
 use fabric::{
     Answer, Entry, Fabric, FabricName, MOST_STEPS, Network, Prefix, Refusal, Step, Unnamed, World,
@@ -18,7 +18,6 @@ use std::marker::Brand;
 use std::mem::size_of;
 use std::process::Abort;
 use std::sync::Wait;
-use std::test::Fail;
 
 // More than a journal and all else takes.
 const HEAP: usize = 64 << 20;
@@ -38,14 +37,14 @@ enum Act {
 
 // What a router shows of a prefix: RD, FD, the successor and whether it is passive, where it has a machine,
 // and the rows chosen and published.
-#[derive(Clone, Copy, Debug, PartialEq)]
+#[derive(Clone, Copy, PartialEq)]
 struct Row {
     machine: Option<(Distance, Distance, Option<u8>, bool)>,
     chosen: Option<Entry>,
     published: Option<Entry>,
 }
 
-#[derive(Clone, Copy, Debug, PartialEq)]
+#[derive(Clone, Copy, PartialEq)]
 struct RouterLine {
     generation: u64,
     held: usize,
@@ -55,7 +54,7 @@ struct RouterLine {
     answer: Result<Answer, Refusal>,
 }
 
-#[derive(Clone, Copy, Debug, PartialEq)]
+#[derive(Clone, Copy, PartialEq)]
 struct LinkLine {
     session: u16,
     is_up: bool,
@@ -95,45 +94,52 @@ fn row_of<A: SmallAllocator>(router: &Router<A>, prefix: Prefix) -> Row {
     }
 }
 
-fn link_lines<A: SmallAllocator>(alloc: Global, world: &World<A>) -> Result<Vec<LinkLine>, Fail> {
+fn link_lines<A: SmallAllocator>(
+    rt: &impl Abort,
+    alloc: Global,
+    world: &World<A>,
+) -> Vec<LinkLine> {
     let links = world.links();
     let mut lines = Vec::new(alloc);
     for number in 0..1024u16 {
         if usize::from(number) < links.len() {
-            lines.push(LinkLine {
+            let line = LinkLine {
                 session: links.session(number),
                 is_up: links.is_up(number),
                 queued: (links.queued(number, End::A), links.queued(number, End::B)),
-            })?;
+            };
+            lines.push(line).expect(rt, "memory");
         }
     }
-    Ok(lines)
+    lines
 }
 
 fn report_of<B: FabricName, A: SmallAllocator>(
+    rt: &impl Abort,
     alloc: Global,
     fabric: &mut Fabric<B, A>,
-) -> Result<Report, Fail> {
-    let (ten, any) = (Prefix::parse("10.0.0.0/8")?, Prefix::parse("0.0.0.0/0")?);
+) -> Report {
+    let any = Prefix::covering(0, 0);
     let mut routers = Vec::new(alloc);
     for number in 0..256u16 {
         let answer = fabric.lookup(number, ADDR);
         if let Some(router) = fabric.world().routers().get(usize::from(number)) {
-            routers.push(RouterLine {
+            let line = RouterLine {
                 generation: router.generation(),
                 held: router.held(),
                 ripe: router.ripe(),
-                ten: row_of(router, ten),
+                ten: row_of(router, ten()),
                 any: row_of(router, any),
                 answer,
-            })?;
+            };
+            routers.push(line).expect(rt, "memory");
         }
     }
-    Ok(Report {
+    Report {
         routers,
-        links: link_lines(alloc, fabric.world())?,
+        links: link_lines(rt, alloc, fabric.world()),
         steps: fabric.journal().len(),
-    })
+    }
 }
 
 // Does a step, first with no room, then with ever more, until it is not refused.
@@ -142,20 +148,20 @@ fn step_by_room<'h, B: FabricName, H: Wait + Abort>(
     alloc: Global,
     heap: &'h LocalHeap,
     fabric: &mut Fabric<B, &'h LocalHeap>,
-    step: Step,
-) -> Result<(), Fail> {
-    let before = report_of(alloc, fabric)?;
+    step: &Step,
+) {
+    let before = report_of(rt, alloc, fabric);
     for units in 0..4096usize {
-        let weight = ballast(alloc, heap, units * 16)?;
-        let end = fabric.step(rt, step);
+        let weight = ballast(rt, alloc, heap, units * 16);
+        let end = fabric.step(rt, *step);
         drop(weight);
-        match end {
-            Ok(()) => return Ok(()),
-            Err(Refusal::NoMemory) => assert!(rt; report_of(alloc, fabric)?.is(&before)),
-            Err(_) => return Err("refused for another cause".into()),
+        if end.is_ok() {
+            return;
         }
+        assert_eq!(rt; end, Err(Refusal::NoMemory));
+        assert!(rt; report_of(rt, alloc, fabric).is(&before));
     }
-    Err("refused for ever".into())
+    panic!(rt; "refused for ever");
 }
 
 // Does a step, with ample room or with as little as it needs.
@@ -166,12 +172,12 @@ fn step<'h, B: FabricName, H: Wait + Abort>(
     fabric: &mut Fabric<B, &'h LocalHeap>,
     next: Step,
     is_tight: bool,
-) -> Result<(), Fail> {
+) {
     if is_tight {
-        return step_by_room(rt, alloc, heap, fabric, next);
+        step_by_room(rt, alloc, heap, fabric, &next);
+    } else {
+        fabric.step(rt, next).expect(rt, "room");
     }
-    fabric.step(rt, next).map_err(|_| "refused with room")?;
-    Ok(())
 }
 
 // The first three routers take turns until nothing is left to do.
@@ -181,16 +187,16 @@ fn settle<'h, B: FabricName, H: Wait + Abort>(
     heap: &'h LocalHeap,
     fabric: &mut Fabric<B, &'h LocalHeap>,
     is_tight: bool,
-) -> Result<(), Fail> {
+) {
     for turn in 0..1000u16 {
         if fabric.is_settled() {
-            return Ok(());
+            return;
         }
         if let Some(next) = fabric.next_step(turn % 3) {
-            step(rt, alloc, heap, fabric, next, is_tight)?;
+            step(rt, alloc, heap, fabric, next, is_tight);
         }
     }
-    Err("never at rest".into())
+    panic!(rt; "never at rest");
 }
 
 fn run<'h, B: FabricName, H: Wait + Abort>(
@@ -200,14 +206,14 @@ fn run<'h, B: FabricName, H: Wait + Abort>(
     fabric: &mut Fabric<B, &'h LocalHeap>,
     script: &[Act],
     is_tight: bool,
-) -> Result<Report, Fail> {
+) -> Report {
     for &next in script {
         match next {
-            Act::Do(next) => step(rt, alloc, heap, fabric, next, is_tight)?,
-            Act::Settle => settle(rt, alloc, heap, fabric, is_tight)?,
+            Act::Do(next) => step(rt, alloc, heap, fabric, next, is_tight),
+            Act::Settle => settle(rt, alloc, heap, fabric, is_tight),
         }
     }
-    report_of(alloc, fabric)
+    report_of(rt, alloc, fabric)
 }
 
 fn open_and_run<'h, B: FabricName, H: Wait + Abort>(
@@ -218,14 +224,14 @@ fn open_and_run<'h, B: FabricName, H: Wait + Abort>(
     unnamed: Vec<Unnamed, &'h LocalHeap>,
     script: &[Act],
     is_tight: bool,
-) -> Result<Report, Fail>
+) -> Report
     requires books { unnamed.items ≡ B.books }
     requires each { vec_len unnamed ≡ network.routers }
     requires openings { opening_tables network ≡ B.openings }
 {
     let Ok((mut fabric, _ports)) = Fabric::<B, &'h LocalHeap>::open(rt, heap, network, unnamed, 0)
     else {
-        return Err("open".into());
+        panic!(rt; "open");
     };
     let last = run(rt, alloc, heap, &mut fabric, script, is_tight);
     fabric.close(rt);
@@ -239,9 +245,9 @@ fn end_of<H: Wait + Abort>(
     network: Network,
     script: &[Act],
     is_tight: bool,
-) -> Result<Report, Fail> {
-    let heap = LocalHeap::new(alloc, HEAP)?;
-    let unnamed = Unnamed::many(&heap, usize::from(network.routers()))?;
+) -> Report {
+    let heap = LocalHeap::new(alloc, HEAP).expect(rt, "memory");
+    let unnamed = Unnamed::many(&heap, usize::from(network.routers())).expect(rt, "room");
     open_and_run::<Brand, H>(rt, alloc, &heap, network, unnamed, script, is_tight)
 }
 
@@ -252,25 +258,21 @@ fn end_of_both<H: Wait + Abort>(
     tight: Network,
     free: Network,
     script: &[Act],
-) -> Result<Report, Fail> {
-    let end = end_of(rt, alloc, tight, script, true)?;
-    assert!(rt; end.is(&end_of(rt, alloc, free, script, false)?));
-    Ok(end)
+) -> Report {
+    let end = end_of(rt, alloc, tight, script, true);
+    assert!(rt; end.is(&end_of(rt, alloc, free, script, false)));
+    end
 }
 
-fn end_of_triangle<H: Wait + Abort>(
-    rt: &H,
-    alloc: Global,
-    cost: u32,
-    script: &[Act],
-) -> Result<Report, Fail> {
-    end_of_both(
-        rt,
-        alloc,
-        triangle(alloc, cost)?,
-        triangle(alloc, cost)?,
-        script,
-    )
+// So many routers are there, and these are passive at an RD and an FD, with the successor at a port, for
+// 10.0.0.0/8.
+fn are_at(rt: &impl Abort, end: &Report, routers: usize, wanted: &[(usize, u32, u32, Option<u8>)]) {
+    assert_eq!(rt; end.routers.len(), routers);
+    for &(router, rd, fd, successor) in wanted {
+        let machine = Some((Distance::new(rd), Distance::new(fd), successor, true));
+        let line = end.routers.get(router).expect(rt, "router");
+        assert_eq!(rt; line.ten.machine, machine);
+    }
 }
 
 fn up(link: u16) -> Act {
@@ -281,12 +283,12 @@ fn down(link: u16) -> Act {
     Act::Do(Step::LinkDown { link })
 }
 
-fn set_cost(router: u16, port: u8, cost: u32) -> Result<Act, Fail> {
-    Ok(Act::Do(Step::SetCost {
+fn set_cost(rt: &impl Abort, router: u16, port: u8, cost: u32) -> Act {
+    Act::Do(Step::SetCost {
         router,
         port,
-        cost: Cost::new(cost)?,
-    }))
+        cost: Cost::new(cost).expect(rt, "cost"),
+    })
 }
 
 fn deliver(router: u16, port: u8) -> Act {
@@ -301,50 +303,47 @@ fn release(router: u16) -> Act {
     Act::Do(Step::Release { router })
 }
 
-// A machine that is passive at this RD and FD, with the successor at this port.
-fn passive(
-    rd: u32,
-    fd: u32,
-    successor: Option<u8>,
-) -> Option<(Distance, Distance, Option<u8>, bool)> {
-    Some((Distance::new(rd), Distance::new(fd), successor, true))
-}
-
 // Routers 0, 1 and 2, of which 0 is attached to 10.0.0.0/8 at cost 1; the links 0 1 and 1 2 at cost 1, and
 // 0 2 at this one. Router 1 has 0 at its port 0, and 2 has 1 there and 0 at port 1.
-fn triangle(alloc: Global, cost: u32) -> Result<Network, Fail> {
-    let links = vec![in alloc; link(0, 1, 1)?, link(1, 2, 1)?, link(0, 2, cost)?]?;
-    let attachments = vec![in alloc; (Prefix::parse("10.0.0.0/8")?, 0, Cost::new(1)?)]?;
-    Ok(Network::new(3, links, attachments)?)
+fn triangle(rt: &impl Abort, alloc: Global, cost: u32) -> Network {
+    let (first, second, third) = (link(rt, 0, 1, 1), link(rt, 1, 2, 1), link(rt, 0, 2, cost));
+    let links = vec![in alloc; first, second, third].expect(rt, "memory");
+    let attachments = vec![in alloc; (ten(), 0, Cost::ONE)].expect(rt, "memory");
+    Network::new(3, links, attachments).expect(rt, "network")
 }
 
 // Routers 0, 1 and 2 in a line at cost 1; 0 is attached to 10.0.0.0/8, and 2 to all, at cost 1.
-fn line(alloc: Global) -> Result<Network, Fail> {
-    let links = vec![in alloc; link(0, 1, 1)?, link(1, 2, 1)?]?;
-    let ten = (Prefix::parse("10.0.0.0/8")?, 0, Cost::new(1)?);
-    let any = (Prefix::parse("0.0.0.0/0")?, 2, Cost::new(1)?);
-    Ok(Network::new(3, links, vec![in alloc; ten, any]?)?)
+fn line(rt: &impl Abort, alloc: Global) -> Network {
+    let links = vec![in alloc; link(rt, 0, 1, 1), link(rt, 1, 2, 1)].expect(rt, "memory");
+    let any = (Prefix::covering(0, 0), 2, Cost::ONE);
+    let attachments = vec![in alloc; (ten(), 0, Cost::ONE), any].expect(rt, "memory");
+    Network::new(3, links, attachments).expect(rt, "network")
 }
 
 #[test]
-fn two_routers_settle_with_little_memory(rt: HostRuntime) -> Result<(), Fail> {
+fn two_routers_settle_with_little_memory(rt: HostRuntime) {
     let alloc = rt.alloc();
-    let script = [up(0), Act::Settle];
-    let end = end_of_both(
-        &rt,
-        alloc,
-        two_routers(alloc)?,
-        two_routers(alloc)?,
-        &script,
-    )?;
-    assert_eq!(&rt; (end.steps, end.routers.len()), (9, 2));
-    assert_eq!(&rt; end.routers[1].ten.machine, passive(6, 6, Some(0)));
-    Ok(())
+    let (tight, free) = (two_routers(&rt, alloc), two_routers(&rt, alloc));
+    let end = end_of_both(&rt, alloc, tight, free, &[up(0), Act::Settle]);
+    assert_eq!(&rt; end.steps, 9);
+    are_at(&rt, &end, 2, &[(1, 6, 6, Some(0))]);
+}
+
+// A script ends so in a triangle.
+fn ends_so<H: Wait + Abort>(
+    rt: &H,
+    alloc: Global,
+    cost: u32,
+    script: &[Act],
+    wanted: &[(usize, u32, u32, Option<u8>)],
+) {
+    let (tight, free) = (triangle(rt, alloc, cost), triangle(rt, alloc, cost));
+    let end = end_of_both(rt, alloc, tight, free, script);
+    are_at(rt, &end, 3, wanted);
 }
 
 #[test]
-fn a_diffusing_computation_goes_round_a_triangle(rt: HostRuntime) -> Result<(), Fail> {
-    let alloc = rt.alloc();
+fn a_diffusing_computation_goes_round_a_triangle(rt: HostRuntime) {
     let script = [
         up(0),
         up(1),
@@ -358,36 +357,39 @@ fn a_diffusing_computation_goes_round_a_triangle(rt: HostRuntime) -> Result<(), 
         publish(2),
         Act::Settle,
     ];
-    let end = end_of_triangle(&rt, alloc, 5, &script)?;
-    assert_eq!(&rt; end.routers.len(), 3);
-    assert_eq!(&rt; end.routers[1].ten.machine, passive(7, 7, Some(1)));
-    assert_eq!(&rt; end.routers[2].ten.machine, passive(6, 3, Some(1)));
-    Ok(())
+    ends_so(
+        &rt,
+        rt.alloc(),
+        5,
+        &script,
+        &[(1, 7, 7, Some(1)), (2, 6, 3, Some(1))],
+    );
 }
 
 #[test]
-fn a_cost_rises_twice(rt: HostRuntime) -> Result<(), Fail> {
-    let alloc = rt.alloc();
+fn a_cost_rises_twice(rt: HostRuntime) {
     let script = [
         up(0),
         up(1),
         up(2),
         Act::Settle,
-        set_cost(1, 0, 10)?,
+        set_cost(&rt, 1, 0, 10),
         deliver(1, 0),
-        set_cost(1, 0, 20)?,
+        set_cost(&rt, 1, 0, 20),
         deliver(1, 0),
         Act::Settle,
     ];
-    let end = end_of_triangle(&rt, alloc, 12, &script)?;
-    assert_eq!(&rt; end.routers.len(), 3);
-    assert_eq!(&rt; end.routers[1].ten.machine, passive(14, 14, Some(1)));
-    assert_eq!(&rt; end.routers[2].ten.machine, passive(13, 12, Some(1)));
-    Ok(())
+    ends_so(
+        &rt,
+        rt.alloc(),
+        12,
+        &script,
+        &[(1, 14, 14, Some(1)), (2, 13, 12, Some(1))],
+    );
 }
 
 #[test]
-fn a_prefix_is_cut_off(rt: HostRuntime) -> Result<(), Fail> {
+fn a_prefix_is_cut_off(rt: HostRuntime) {
     let alloc = rt.alloc();
     let script = [
         up(0),
@@ -400,13 +402,13 @@ fn a_prefix_is_cut_off(rt: HostRuntime) -> Result<(), Fail> {
         deliver(2, 0),
         Act::Settle,
     ];
-    let end = end_of_both(&rt, alloc, line(alloc)?, line(alloc)?, &script)?;
-    assert_eq!(&rt; end.routers.len(), 3);
+    let (tight, free) = (line(&rt, alloc), line(&rt, alloc));
+    let end = end_of_both(&rt, alloc, tight, free, &script);
+    are_at(&rt, &end, 3, &[(2, u32::MAX, u32::MAX, None)]);
     let cut_off = Some((Distance::INF, Distance::INF, None, true));
-    assert_eq!(&rt; end.routers[2].ten.machine, cut_off);
+    assert_eq!(&rt; end.routers.len(), 3);
     assert_eq!(&rt; end.routers[0].any.machine, cut_off);
     assert_eq!(&rt; end.routers[1].ten.published, Some(Entry::Unreachable));
-    Ok(())
 }
 
 fn is_opening_refused_over<'h, B: FabricName, H: Wait + Abort>(
@@ -416,47 +418,46 @@ fn is_opening_refused_over<'h, B: FabricName, H: Wait + Abort>(
     network: Network,
     unnamed: Vec<Unnamed, &'h LocalHeap>,
     left: usize,
-) -> Result<bool, Fail>
+) -> bool
     requires books { unnamed.items ≡ B.books }
     requires each { vec_len unnamed ≡ network.routers }
     requires openings { opening_tables network ≡ B.openings }
 {
-    let weight = ballast(alloc, heap, left)?;
+    let weight = ballast(rt, alloc, heap, left);
     let end = Fabric::<B, &'h LocalHeap>::open(rt, heap, network, unnamed, 1);
     drop(weight);
     match end {
         Ok((fabric, _ports)) => {
             fabric.close(rt);
-            Ok(false)
-        },
+            false
+        }
         Err(refusal) => {
             assert!(rt; refusal == Refusal::NoMemory || refusal == Refusal::NoReaderPlace);
-            Ok(true)
-        },
+            true
+        }
     }
 }
 
 // Whether two routers, and a reader of each for one worker, need more than so many bytes. A refusal leaves
 // the heap as it was.
-fn is_opening_refused<H: Wait + Abort>(rt: &H, alloc: Global, left: usize) -> Result<bool, Fail> {
-    let heap = LocalHeap::new(alloc, HEAP)?;
-    let network = two_routers(alloc)?;
-    let unnamed = Unnamed::many(&heap, usize::from(network.routers()))?;
-    let end = is_opening_refused_over::<Brand, H>(rt, alloc, &heap, network, unnamed, left)?;
+fn is_opening_refused<H: Wait + Abort>(rt: &H, alloc: Global, left: usize) -> bool {
+    let heap = LocalHeap::new(alloc, HEAP).expect(rt, "memory");
+    let network = two_routers(rt, alloc);
+    let unnamed = Unnamed::many(&heap, usize::from(network.routers())).expect(rt, "room");
+    let end = is_opening_refused_over::<Brand, H>(rt, alloc, &heap, network, unnamed, left);
     assert_eq!(rt; heap.used(), 0);
-    Ok(end)
+    end
 }
 
 #[test]
-fn an_opening_needs_room(rt: HostRuntime) -> Result<(), Fail> {
+fn an_opening_needs_room(rt: HostRuntime) {
     let mut refused = 0;
     for units in 0..1024usize {
-        assert!(&rt; is_opening_refused(&rt, rt.alloc(), units * 16)?);
-        if is_opening_refused(&rt, rt.alloc(), JOURNAL + units * 64)? {
+        assert!(&rt; is_opening_refused(&rt, rt.alloc(), units * 16));
+        if is_opening_refused(&rt, rt.alloc(), JOURNAL + units * 64) {
             assert_eq!(&rt; refused, units);
             refused = units + 1;
         }
     }
     assert!(&rt; refused > 0 && refused < 1024);
-    Ok(())
 }

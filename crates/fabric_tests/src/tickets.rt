@@ -10,54 +10,74 @@ use std::alloc::Global;
 use std::marker::Brand;
 use std::process::Abort;
 use std::sync::Wait;
-use std::test::Fail;
 use tracer::{Ending, TraceFault, trace};
 
 // An address of the prefix of router 0.
 const ADDR: u32 = 0x0A00_0001;
 
-// Whether the fabric takes it back.
-fn back<B: FabricName, H: Wait>(rt: &H, fabric: &mut Fabric<B>, ticket: Ticket<B>) -> bool {
-    match fabric.give_back(ticket) {
-        Ok(()) => true,
-        Err(ticket) => {
-            ticket.close(rt);
-            false
-        }
+// The fabric takes it back.
+fn give_back<B: FabricName, H: Wait + Abort>(rt: &H, fabric: &mut Fabric<B>, ticket: Ticket<B>) {
+    if let Err(ticket) = fabric.give_back(ticket) {
+        ticket.close(rt);
+        panic!(rt; "not back");
     }
 }
 
-// The refusal of a ticket; none where one was made.
-fn ticket_refused<B: FabricName, H: Wait>(
+// No ticket is made.
+fn refuses<B: FabricName, H: Wait + Abort>(
     rt: &H,
     fabric: &mut Fabric<B>,
     router: u16,
-) -> Option<Refusal> {
+    wanted: Refusal,
+) {
     match fabric.ticket(router) {
         Ok(ticket) => {
             ticket.close(rt);
-            None
+            panic!(rt; "a ticket");
         }
-        Err(refusal) => Some(refusal),
+        Err(refusal) => assert_eq!(rt; refusal, wanted),
     }
 }
 
+fn steps<B: FabricName, H: Wait + Abort>(
+    rt: &H,
+    fabric: &mut Fabric<B>,
+    step: Step,
+    wanted: Result<(), Refusal>,
+) {
+    assert_eq!(rt; fabric.step(rt, step), wanted);
+}
+
+// So many steps are in the journal.
+fn has_steps<B: FabricName>(rt: &impl Abort, fabric: &Fabric<B>, steps: usize) {
+    assert_eq!(rt; fabric.journal().len(), steps);
+}
+
 // What waits for the writer of router 1 while it is out, and what does not.
-fn is_busy<B: FabricName, H: Wait + Abort>(rt: &H, fabric: &mut Fabric<B>) -> Result<(), Fail> {
-    let delivered = fabric.step(rt, Step::Deliver { router: 1, port: 0 });
-    let delivered_far = fabric.step(rt, Step::Deliver { router: 1, port: 9 });
-    let published = fabric.step(rt, Step::Publish { router: 1 });
-    let unknown = fabric.step(rt, Step::Publish { router: 2 });
-    let elsewhere = fabric.step(rt, Step::Publish { router: 0 });
-    assert_eq!(rt; delivered, Err(Refusal::Busy));
-    assert_eq!(rt; delivered_far, Err(Refusal::Busy));
-    assert_eq!(rt; published, Err(Refusal::Busy));
-    assert_eq!(rt; ticket_refused(rt, fabric, 1), Some(Refusal::Busy));
-    assert_eq!(rt; unknown, Err(Refusal::UnknownRouter));
-    assert_eq!(rt; elsewhere, Err(Refusal::NothingDue));
+fn is_busy<B: FabricName, H: Wait + Abort>(rt: &H, fabric: &mut Fabric<B>) {
+    for (step, refusal) in [
+        (Step::Deliver { router: 1, port: 0 }, Refusal::Busy),
+        (Step::Deliver { router: 1, port: 9 }, Refusal::Busy),
+        (Step::Publish { router: 1 }, Refusal::Busy),
+        (Step::Publish { router: 2 }, Refusal::UnknownRouter),
+        (Step::Publish { router: 0 }, Refusal::NothingDue),
+    ] {
+        steps(rt, fabric, step, Err(refusal));
+    }
+    refuses(rt, fabric, 1, Refusal::Busy);
     assert_eq!(rt; fabric.next_step(1), None);
-    assert_eq!(rt; fabric.journal().len(), 6);
-    Ok(())
+    has_steps(rt, fabric, 6);
+}
+
+// How a packet for the prefix of router 0 ends at router 1.
+fn ends<B: FabricName>(
+    rt: &impl Abort,
+    alloc: Global,
+    fabric: &mut Fabric<B>,
+    wanted: Result<Ending, TraceFault>,
+) {
+    let end = trace(fabric, alloc, 1, ADDR).map(|t| t.end);
+    assert_eq!(rt; end, wanted);
 }
 
 // The writer of router 1 publishes, while the fabric goes on.
@@ -66,56 +86,44 @@ fn goes_on<B: FabricName, H: Wait + Abort>(
     alloc: Global,
     fabric: &mut Fabric<B>,
     mut ticket: Ticket<B>,
-) -> Result<(), Fail>
+)
     requires { ticket.is_published ≡ false }
 {
-    let down = fabric.step(rt, Step::LinkDown { link: 0 });
-    let longer = fabric.journal().len();
-    let before = trace(fabric, alloc, 1, ADDR).map(|t| t.end);
-    let done = ticket.publish(rt);
-    let unchanged = fabric.journal().len();
-    let stale = trace(fabric, alloc, 1, ADDR).map(|t| t.end);
-    let is_back = back(rt, fabric, ticket);
-    assert_eq!(rt; down, Ok(()));
-    assert_eq!(rt; longer, 7);
-    assert_eq!(rt; before, Ok(Ending::NoRoute));
-    assert!(rt; done.is_ok());
-    assert_eq!(rt; unchanged, 7);
-    assert_eq!(rt; stale, Err(TraceFault::Stale));
-    assert!(rt; is_back);
-    assert_eq!(rt; fabric.journal().len(), 8);
-    let last = fabric.journal().last().copied();
-    assert_eq!(rt; last, Some(Step::Publish { router: 1 }));
-    let after = trace(fabric, alloc, 1, ADDR)?;
-    assert_eq!(rt; after.end, Ending::DeadLink);
-    assert_eq!(rt; after.path.as_slice(), [1u16].as_slice());
-    Ok(())
+    steps(rt, fabric, Step::LinkDown { link: 0 }, Ok(()));
+    has_steps(rt, fabric, 7);
+    ends(rt, alloc, fabric, Ok(Ending::NoRoute));
+    assert!(rt; ticket.publish(rt).is_ok());
+    has_steps(rt, fabric, 7);
+    ends(rt, alloc, fabric, Err(TraceFault::Stale));
+    give_back(rt, fabric, ticket);
+    has_steps(rt, fabric, 8);
+    has_published(rt, alloc, fabric);
 }
 
-fn lends<B: FabricName, H: Wait + Abort>(
-    rt: &H,
-    alloc: Global,
-    fabric: &mut Fabric<B>,
-) -> Result<(), Fail> {
+// The publication is the last step, and its link is down.
+fn has_published<B: FabricName>(rt: &impl Abort, alloc: Global, fabric: &mut Fabric<B>) {
+    let last = fabric.journal().last().copied();
+    assert_eq!(rt; last, Some(Step::Publish { router: 1 }));
+    let after = trace(fabric, alloc, 1, ADDR).expect(rt, "trace");
+    assert_eq!(rt; after.end, Ending::DeadLink);
+    assert_eq!(rt; after.path.as_slice(), [1u16].as_slice());
+}
+
+fn lends<B: FabricName, H: Wait + Abort>(rt: &H, alloc: Global, fabric: &mut Fabric<B>) {
     let ran = fabric.run(rt, &LEARNS[..6]);
     assert_eq!(rt; (ran.done, ran.refusal), (6, None));
-    let unknown = ticket_refused(rt, fabric, 2);
-    let nothing = ticket_refused(rt, fabric, 0);
-    assert_eq!(rt; unknown, Some(Refusal::UnknownRouter));
-    assert_eq!(rt; nothing, Some(Refusal::NothingDue));
+    refuses(rt, fabric, 2, Refusal::UnknownRouter);
+    refuses(rt, fabric, 0, Refusal::NothingDue);
     let Ok(ticket) = fabric.ticket(1) else {
-        return Err("ticket".into());
+        panic!(rt; "ticket");
     };
-    assert!(rt; back(rt, fabric, ticket));
-    assert_eq!(rt; fabric.journal().len(), 6);
+    give_back(rt, fabric, ticket);
+    has_steps(rt, fabric, 6);
     let Ok(ticket) = fabric.ticket(1) else {
-        return Err("ticket again".into());
+        panic!(rt; "ticket again");
     };
-    if let Err(fail) = is_busy(rt, fabric) {
-        ticket.close(rt);
-        return Err(fail);
-    }
-    goes_on(rt, alloc, fabric, ticket)
+    is_busy(rt, fabric);
+    goes_on(rt, alloc, fabric, ticket);
 }
 
 fn opened<B: FabricName, H: Wait + Abort>(
@@ -123,23 +131,22 @@ fn opened<B: FabricName, H: Wait + Abort>(
     alloc: Global,
     network: Network,
     unnamed: Vec<Unnamed>,
-) -> Result<(), Fail>
+)
     requires books { unnamed.items ≡ B.books }
     requires each { vec_len unnamed ≡ network.routers }
     requires openings { opening_tables network ≡ B.openings }
 {
     let Ok((mut fabric, _ports)) = Fabric::<B>::open(rt, alloc, network, unnamed, 0) else {
-        return Err("open".into());
+        panic!(rt; "open");
     };
-    let done = lends(rt, alloc, &mut fabric);
+    lends(rt, alloc, &mut fabric);
     fabric.close(rt);
-    done
 }
 
 #[test]
-fn goes_on_while_a_writer_is_out(rt: HostRuntime) -> Result<(), Fail> {
+fn goes_on_while_a_writer_is_out(rt: HostRuntime) {
     let alloc = rt.alloc();
-    let network = two_routers(alloc)?;
-    let unnamed = Unnamed::many(alloc, usize::from(network.routers()))?;
-    opened::<Brand, HostRuntime>(&rt, alloc, network, unnamed)
+    let network = two_routers(&rt, alloc);
+    let unnamed = Unnamed::many(alloc, usize::from(network.routers())).expect(&rt, "memory");
+    opened::<Brand, HostRuntime>(&rt, alloc, network, unnamed);
 }

@@ -3,56 +3,48 @@
 ghost use Rattle.std.specs.Prelude.{◌≡◌, ◌≤◌, All, IfOk, length, map, vec_len};
 ghost use Rattle.network_model.specs.Network.{most_workers};
 
-use crate::networks::port_of;
+use crate::networks::{port_of, ten};
+use crate::publications::via;
 use forwarder::{Answer, GatherFault, ImageReader};
-use network_model::{Entry, NoMemory, Prefix, Refusal};
+use network_model::Refusal;
 use publication::{Told, Unnamed, close_all, open_all};
 use std::alloc::Global;
 use std::marker::Brand;
 use std::process::Abort;
 use std::sync::Wait;
-use std::test::*;
 use std::thread::Threads;
 use tree_bitmap::Image;
 use tree_bitmap::parts::{empty, set_row};
 use worker_pool::{FabricName, ForwardPort, Job, PoolFault, Reply, WorkerPool};
 
-// The row of 10.0.0.0/8 at a router: over the port that has the router's number.
-fn row(router: u8) -> Result<(Prefix, Entry), Fail> {
-    let via = Entry::Via {
-        port: router,
-        session: 1,
-    };
-    Ok((Prefix::parse("10.0.0.0/8")?, via))
-}
-
-// An image of that row.
-fn image(alloc: Global, router: u8) -> Result<Image, Fail>
-    ensures { IfOk result (λ i. i.generation ≡ 0) }
+// An image of 10.0.0.0/8 over the port that has the router's number.
+fn image(rt: &impl Abort, alloc: Global, router: u8) -> Image
+    ensures { result.generation ≡ 0 }
 {
-    let (prefix, entry) = row(router)?;
-    let mut image = empty(alloc)?;
-    set_row(&mut image, prefix, entry)?;
-    Ok(image)
+    let mut image = empty(alloc).expect(rt, "memory");
+    set_row(&mut image, ten(), via(router)).expect(rt, "memory");
+    image
 }
 
 // A port for each of so many workers.
 fn ports_of<B: FabricName>(
+    rt: &impl Abort,
     alloc: Global,
     workers: u8,
     firsts: Vec<ImageReader<B>>,
     seconds: Vec<ImageReader<B>>,
-) -> Result<Vec<ForwardPort<B>>, Fail>
+) -> Vec<ForwardPort<B>>
     requires { length B.books ≡ 2 }
 {
     let (mut firsts, mut seconds) = (firsts, seconds);
     let mut ports = Vec::new(alloc);
     for _ in 0..workers {
-        let first = firsts.pop().ok_or("reader")?;
-        let second = seconds.pop().ok_or("reader")?;
-        ports.push(port_of(alloc, first, second)?)?;
+        let first = firsts.pop().expect(rt, "reader");
+        let second = seconds.pop().expect(rt, "reader");
+        let pushed = ports.push(port_of(rt, alloc, first, second));
+        assert!(rt; pushed.is_ok());
     }
-    Ok(ports)
+    ports
 }
 
 // What the two routers have published.
@@ -79,25 +71,20 @@ impl<B: FabricName> Tolds<B> {
 }
 
 // Gives the workers so many jobs, the greatest number first.
-fn ask<B: FabricName, R: Wait>(
-    rt: &R,
-    pool: &mut WorkerPool<B>,
-    tolds: &Tolds<B>,
-    jobs: u8,
-) -> Result<(), PoolFault>
+fn ask<B: FabricName, R: Wait + Abort>(rt: &R, pool: &mut WorkerPool<B>, tolds: &Tolds<B>, jobs: u8)
     ensures { pool.new.workers ≡ pool.old.workers }
 {
     for place in 0..jobs {
-        pool.inject(rt, tolds.job(jobs - 1 - place))?;
+        pool.inject(rt, tolds.job(jobs - 1 - place))
+            .expect(rt, "job");
     }
-    Ok(())
 }
 
 // There is one reply to each of so many jobs, in order of their numbers, from the router of each.
-fn are_right<B: FabricName, R: Abort>(rt: &R, replies: &[Reply<B>], jobs: u8) -> Result<(), Fail> {
+fn are_right<B: FabricName, R: Abort>(rt: &R, replies: &[Reply<B>], jobs: u8) {
     assert_eq!(rt; replies.len(), usize::from(jobs));
     for number in 0..jobs {
-        let reply = replies.get(usize::from(number)).ok_or("reply")?;
+        let reply = replies.get(usize::from(number)).expect(rt, "reply");
         let router = number % 2;
         let job = reply.job();
         assert_eq!(rt;
@@ -106,11 +93,10 @@ fn are_right<B: FabricName, R: Abort>(rt: &R, replies: &[Reply<B>], jobs: u8) ->
         );
         let answer = Answer {
             generation: 0,
-            matched: Some(row(router)?),
+            matched: Some((ten(), via(router))),
         };
         assert_eq!(rt; reply.answer(), answer);
     }
-    Ok(())
 }
 
 // The workers of these ports answer so many jobs, and give the ports back.
@@ -120,80 +106,73 @@ fn answers<B, R>(
     ports: Vec<ForwardPort<B>>,
     tolds: &Tolds<B>,
     jobs: u8,
-) -> Result<Vec<ForwardPort<B>>, Fail>
+) -> Vec<ForwardPort<B>>
 where
     B: FabricName + Send + Sync + 'static,
     R: Threads + Wait + Abort + Copy + Send + 'static,
     requires { vec_len ports ≤ most_workers }
-    ensures { IfOk result (λ back. vec_len back ≡ vec_len ports) }
+    ensures { vec_len result ≡ vec_len ports }
 {
-    let mut pool = WorkerPool::new(rt, alloc, ports)?;
-    if let Err(fault) = ask(&rt, &mut pool, tolds, jobs) {
-        drop(pool.end(&rt));
-        return Err(fault.into());
-    }
+    let mut pool = WorkerPool::new(rt, alloc, ports).expect(&rt, "workers");
+    ask(&rt, &mut pool, tolds, jobs);
     let (ports, replies) = pool.drain(&rt, alloc);
-    are_right(&rt, &replies?, jobs)?;
-    Ok(ports)
+    let Ok(replies) = replies else {
+        panic!(rt; "replies");
+    };
+    are_right(&rt, &replies, jobs);
+    ports
 }
 
 // Workers that are ended give their ports back, by which others answer.
-fn answers_later<B, R>(
-    rt: R,
-    alloc: Global,
-    ports: Vec<ForwardPort<B>>,
-    tolds: &Tolds<B>,
-) -> Result<(), Fail>
+fn answers_later<B, R>(rt: R, alloc: Global, ports: Vec<ForwardPort<B>>, tolds: &Tolds<B>)
 where
     B: FabricName + Send + Sync + 'static,
     R: Threads + Wait + Abort + Copy + Send + 'static,
     requires { vec_len ports ≤ most_workers }
 {
-    let mut pool = WorkerPool::new(rt, alloc, ports)?;
-    let asked = ask(&rt, &mut pool, tolds, 70);
+    let mut pool = WorkerPool::new(rt, alloc, ports).expect(&rt, "workers");
+    ask(&rt, &mut pool, tolds, 70);
     let ports = pool.end(&rt);
-    asked?;
-    let ports = answers(rt, alloc, ports, tolds, 3)?;
-    answers(rt, alloc, ports, tolds, 0)?;
-    Ok(())
+    let ports = answers(rt, alloc, ports, tolds, 3);
+    answers(rt, alloc, ports, tolds, 0);
 }
 
-// The fault of three jobs, two of them with one number, or all of them at ports without an image.
-fn fault_of<B, R>(
+// Three jobs, two of them with one number, or all of them at ports without an image, have this fault.
+fn has_fault<B, R>(
     rt: R,
     alloc: Global,
     ports: Vec<ForwardPort<B>>,
     tolds: &Tolds<B>,
-) -> Result<Option<PoolFault>, Fail>
+    fault: PoolFault,
+)
 where
     B: FabricName + Send + Sync + 'static,
     R: Threads + Wait + Abort + Copy + Send + 'static,
     requires { vec_len ports ≤ most_workers }
 {
-    let mut pool = WorkerPool::new(rt, alloc, ports)?;
-    let mut asked = ask(&rt, &mut pool, tolds, 2);
-    if asked.is_ok() {
-        asked = pool.inject(&rt, tolds.job(1));
-    }
+    let mut pool = WorkerPool::new(rt, alloc, ports).expect(&rt, "workers");
+    ask(&rt, &mut pool, tolds, 2);
+    pool.inject(&rt, tolds.job(1)).expect(&rt, "job");
     let (_ports, replies) = pool.drain(&rt, alloc);
-    asked?;
-    Ok(replies.err())
+    assert_eq!(rt; replies.err(), Some(fault));
 }
 
 // Without workers each job is refused.
-fn refuses<B, R>(rt: R, alloc: Global, tolds: &Tolds<B>) -> Result<(), Fail>
+fn refuses<B, R>(rt: R, alloc: Global, tolds: &Tolds<B>)
 where
     B: FabricName + Send + Sync + 'static,
     R: Threads + Wait + Abort + Copy + Send + 'static,
 {
-    let mut pool = WorkerPool::new(rt, alloc, Vec::new(alloc))?;
+    let mut pool = WorkerPool::new(rt, alloc, Vec::new(alloc)).expect(&rt, "workers");
     assert_eq!(rt; pool.inject(&rt, tolds.job(0)), Err(PoolFault::Closed));
     let (ports, replies) = pool.drain(&rt, alloc);
     assert!(rt; ports.is_empty());
-    are_right(&rt, &replies?, 0)?;
-    let pool = WorkerPool::new(rt, alloc, ports)?;
+    let Ok(replies) = replies else {
+        panic!(rt; "replies");
+    };
+    are_right(&rt, &replies, 0);
+    let pool = WorkerPool::new(rt, alloc, ports).expect(&rt, "workers");
     assert!(rt; pool.end(&rt).is_empty());
-    Ok(())
 }
 
 // What is done with ports of two routers.
@@ -206,36 +185,25 @@ enum Trial {
     Refuses,
 }
 
-fn tried<B, R>(
-    rt: R,
-    alloc: Global,
-    ports: Vec<ForwardPort<B>>,
-    tolds: &Tolds<B>,
-    trial: Trial,
-) -> Result<(), Fail>
+fn tried<B, R>(rt: R, alloc: Global, ports: Vec<ForwardPort<B>>, tolds: &Tolds<B>, trial: Trial)
 where
     B: FabricName + Send + Sync + 'static,
     R: Threads + Wait + Abort + Copy + Send + 'static,
 {
-    if ports.len() > 16 {
-        return Err("ports".into());
-    }
+    assert!(rt; ports.len() <= 16);
     match trial {
-        Trial::Answers(jobs) => {
-            answers(rt, alloc, ports, tolds, jobs)?;
-        }
-        Trial::AnswersLater => answers_later(rt, alloc, ports, tolds)?,
+        Trial::Answers(jobs) => drop(answers(rt, alloc, ports, tolds, jobs)),
+        Trial::AnswersLater => answers_later(rt, alloc, ports, tolds),
         Trial::Doubles => {
-            let fault = fault_of(rt, alloc, ports, tolds)?;
-            assert_eq!(rt; fault, Some(PoolFault::Gather(GatherFault::Doubled)));
+            let fault = PoolFault::Gather(GatherFault::Doubled);
+            has_fault(rt, alloc, ports, tolds, fault);
         }
         Trial::HasNoImage => {
-            let fault = fault_of(rt, alloc, ports, tolds)?;
-            assert_eq!(rt; fault, Some(PoolFault::Refused(Refusal::NoImage)));
+            let fault = PoolFault::Refused(Refusal::NoImage);
+            has_fault(rt, alloc, ports, tolds, fault);
         }
-        Trial::Refuses => refuses(rt, alloc, tolds)?,
+        Trial::Refuses => refuses(rt, alloc, tolds),
     }
-    Ok(())
 }
 
 // Opens the writers of two routers, makes a port for each worker, and does this; without an image it
@@ -247,7 +215,7 @@ fn opened<B, R>(
     images: Vec<Image>,
     workers: u8,
     trial: Trial,
-) -> Result<(), Fail>
+)
 where
     B: FabricName + Send + Sync + 'static,
     R: Threads + Wait + Abort + Copy + Send + 'static,
@@ -257,70 +225,66 @@ where
     requires each { vec_len unnamed ≡ 2 }
     requires two { vec_len images ≡ 2 }
 {
-    let Ok((writers, lists)) = open_all::<B, _, R>(&rt, alloc, unnamed, images, workers) else {
-        return Err("open".into());
+    let Ok((writers, mut lists)) = open_all::<B, _, R>(&rt, alloc, unnamed, images, workers) else {
+        panic!(rt; "open");
     };
     let tolds = Tolds {
         first: writers[0].tell(),
         second: writers[1].tell(),
     };
-    let mut lists = lists;
-    let ports = match (lists.pop(), lists.pop()) {
-        (Some(seconds), Some(firsts)) => ports_of(alloc, workers, firsts, seconds),
-        _ => Err("lists".into()),
-    };
+    let seconds = lists.pop().expect(&rt, "readers");
+    let firsts = lists.pop().expect(&rt, "readers");
+    let ports = ports_of(&rt, alloc, workers, firsts, seconds);
     if let Trial::HasNoImage = trial {
         close_all(&rt, writers);
-        return tried(rt, alloc, ports?, &tolds, trial);
+        tried(rt, alloc, ports, &tolds, trial);
+    } else {
+        tried(rt, alloc, ports, &tolds, trial);
+        close_all(&rt, writers);
     }
-    let done = match ports {
-        Ok(ports) => tried(rt, alloc, ports, &tolds, trial),
-        Err(fail) => Err(fail),
-    };
-    close_all(&rt, writers);
-    done
 }
 
-fn pooled<R>(rt: R, alloc: Global, workers: u8, trial: Trial) -> Result<(), Fail>
+fn pooled<R>(rt: R, alloc: Global, workers: u8, trial: Trial)
 where
     R: Threads + Wait + Abort + Copy + Send + 'static,
 {
-    let images = vec![in alloc; image(alloc, 0)?, image(alloc, 1)?]?;
-    let unnamed = Unnamed::many(alloc, 2)?;
-    opened::<Brand, R>(rt, alloc, unnamed, images, workers, trial)
+    let (first, second) = (image(&rt, alloc, 0), image(&rt, alloc, 1));
+    let images = vec![in alloc; first, second].expect(&rt, "memory");
+    let unnamed = Unnamed::many(alloc, 2).expect(&rt, "memory");
+    opened::<Brand, R>(rt, alloc, unnamed, images, workers, trial);
 }
 
 #[test]
-fn one_worker_answers_all_jobs(rt: HostRuntime) -> Result<(), Fail> {
-    pooled(rt, rt.alloc(), 1, Trial::Answers(200))
+fn one_worker_answers_all_jobs(rt: HostRuntime) {
+    pooled(rt, rt.alloc(), 1, Trial::Answers(200));
 }
 
 #[test]
-fn two_workers_answer_all_jobs(rt: HostRuntime) -> Result<(), Fail> {
-    pooled(rt, rt.alloc(), 2, Trial::Answers(200))
+fn two_workers_answer_all_jobs(rt: HostRuntime) {
+    pooled(rt, rt.alloc(), 2, Trial::Answers(200));
 }
 
 #[test]
-fn sixteen_workers_answer_all_jobs(rt: HostRuntime) -> Result<(), Fail> {
-    pooled(rt, rt.alloc(), 16, Trial::Answers(200))
+fn sixteen_workers_answer_all_jobs(rt: HostRuntime) {
+    pooled(rt, rt.alloc(), 16, Trial::Answers(200));
 }
 
 #[test]
-fn the_ports_of_a_pool_come_back(rt: HostRuntime) -> Result<(), Fail> {
-    pooled(rt, rt.alloc(), 2, Trial::AnswersLater)
+fn the_ports_of_a_pool_come_back(rt: HostRuntime) {
+    pooled(rt, rt.alloc(), 2, Trial::AnswersLater);
 }
 
 #[test]
-fn a_number_that_two_jobs_have_is_found(rt: HostRuntime) -> Result<(), Fail> {
-    pooled(rt, rt.alloc(), 2, Trial::Doubles)
+fn a_number_that_two_jobs_have_is_found(rt: HostRuntime) {
+    pooled(rt, rt.alloc(), 2, Trial::Doubles);
 }
 
 #[test]
-fn workers_without_an_image(rt: HostRuntime) -> Result<(), Fail> {
-    pooled(rt, rt.alloc(), 2, Trial::HasNoImage)
+fn workers_without_an_image(rt: HostRuntime) {
+    pooled(rt, rt.alloc(), 2, Trial::HasNoImage);
 }
 
 #[test]
-fn a_pool_of_no_workers_takes_no_job(rt: HostRuntime) -> Result<(), Fail> {
-    pooled(rt, rt.alloc(), 0, Trial::Refuses)
+fn a_pool_of_no_workers_takes_no_job(rt: HostRuntime) {
+    pooled(rt, rt.alloc(), 0, Trial::Refuses);
 }

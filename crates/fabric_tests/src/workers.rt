@@ -3,16 +3,17 @@
 ghost use Rattle.std.specs.Prelude.{◌≡◌, ◌∷◌, [], length};
 ghost use Rattle.publication.specs.Lists.{new_writing};
 
+use crate::networks::ten;
+use crate::publications::via;
 use forwarder::{ForwardPort, GatherFault, JobGate, Reply, gather, work};
-use network_model::{Answer, Entry, Prefix, Refusal};
+use network_model::{Answer, Refusal};
 use packet_queue::{Injector, PacketQueue, Taker};
 use publication::{FabricName, ImageReader, ImageWriter, Job, Patch, Told, Unnamed, open};
-use std::alloc::{AllocError, Allocator, Global};
+use std::alloc::{Allocator, Global};
 use std::marker::Brand;
 use std::process::Abort;
 use std::sync::Wait;
 use std::sync::atomic::{AtomicBool, AtomicU64, Ordering};
-use std::test::*;
 use std::thread;
 use std::thread::{Threads, join};
 use std::time::{Clock, Duration};
@@ -31,59 +32,59 @@ fn asked<B: FabricName>(number: u64, addr: u32, told: &Told<B>) -> Job<B>
 
 // A port of one reader.
 pub fn port_of<B: FabricName, A: Allocator>(
+    rt: &impl Abort,
     alloc: A,
     reader: ImageReader<B, A>,
-) -> Result<ForwardPort<B, A>, AllocError>
+) -> ForwardPort<B, A>
     requires one { length B.books ≡ 1 }
     requires first { reader.router ≡ 0 }
 {
-    let readers = vec![in alloc; reader]?;
-    Ok(ForwardPort::new(readers))
+    ForwardPort::new(vec![in alloc; reader].expect(rt, "memory"))
 }
 
 fn replies_to<B: FabricName>(
+    rt: &impl Abort,
     alloc: Global,
     port: &mut ForwardPort<B>,
     told: &Told<B>,
     numbers: &[u64],
-) -> Result<Vec<Reply<B>>, Fail> {
+) -> Vec<Reply<B>> {
     let mut replies = Vec::new(alloc);
     for number in numbers {
-        let reply = port.answer(&asked(*number, 9, told)).map_err(|_| "image")?;
-        replies.push(reply)?;
+        let Ok(reply) = port.answer(&asked(*number, 9, told)) else {
+            panic!(rt; "image");
+        };
+        let pushed = replies.push(reply);
+        assert!(rt; pushed.is_ok());
     }
-    Ok(replies)
+    replies
 }
 
-// The numbers of the jobs that replies keep, where they are gathered.
-fn gathered<B: FabricName>(
+// The numbers of the jobs of three replies.
+fn numbers_of<B: FabricName>(rt: &impl Abort, replies: &[Reply<B>]) -> [u64; 3] {
+    assert!(rt; replies.len() == 3);
+    [
+        replies[0].job().number,
+        replies[1].job().number,
+        replies[2].job().number,
+    ]
+}
+
+// Replies to these jobs are gathered for jobs 1 to 3, in this order, or with this fault.
+fn gathers_as<B: FabricName>(
+    rt: &impl Abort,
     alloc: Global,
     port: &mut ForwardPort<B>,
     told: &Told<B>,
     numbers: &[u64],
-) -> Result<Result<Vec<u64>, GatherFault>, Fail> {
+    wanted: Result<[u64; 3], GatherFault>,
+) {
     let jobs = [asked(1, 9, told), asked(2, 9, told), asked(3, 9, told)];
-    let replies = replies_to(alloc, port, told, numbers)?;
-    match gather(&jobs, replies) {
-        Ok(replies) => {
-            let mut order = Vec::new(alloc);
-            for reply in &replies {
-                order.push(reply.job().number)?;
-            }
-            Ok(Ok(order))
-        }
-        Err(fault) => Ok(Err(fault)),
-    }
-}
-
-// The fault of replies to these jobs, as they are gathered for jobs 1 to 3.
-fn fault_of<B: FabricName>(
-    alloc: Global,
-    port: &mut ForwardPort<B>,
-    told: &Told<B>,
-    numbers: &[u64],
-) -> Result<Option<GatherFault>, Fail> {
-    Ok(gathered(alloc, port, told, numbers)?.err())
+    let gathered = match gather(&jobs, replies_to(rt, alloc, port, told, numbers)) {
+        Ok(replies) => Ok(numbers_of(rt, &replies)),
+        Err(fault) => Err(fault),
+    };
+    assert_eq!(rt; gathered, wanted);
 }
 
 fn gathers<B: FabricName, R: Abort>(
@@ -91,42 +92,19 @@ fn gathers<B: FabricName, R: Abort>(
     alloc: Global,
     told: &Told<B>,
     port: &mut ForwardPort<B>,
-) -> Result<(), Fail> {
-    let good = gathered(alloc, port, told, &[3, 1, 2])?.map_err(|_| "good")?;
-    assert_eq!(rt; good.as_slice(), [1, 2, 3].as_slice());
-    for (numbers, fault) in [
-        ([1, 4, 1].as_slice(), GatherFault::Stranger),
-        (&[1, 1, 4], GatherFault::Doubled),
-        (&[1, 3], GatherFault::Missing),
+) {
+    for (numbers, wanted) in [
+        ([3, 1, 2].as_slice(), Ok([1, 2, 3])),
+        (&[1, 4, 1], Err(GatherFault::Stranger)),
+        (&[1, 1, 4], Err(GatherFault::Doubled)),
+        (&[1, 3], Err(GatherFault::Missing)),
     ] {
-        assert_eq!(rt; fault_of(alloc, port, told, numbers)?, Some(fault));
+        gathers_as(rt, alloc, port, told, numbers, wanted);
     }
-    Ok(())
 }
 
-// 10.0.0.0/8 by way of port 0, and an address that it covers.
-fn row() -> Result<(Prefix, Entry), Fail> {
-    let via = Entry::Via {
-        port: 0,
-        session: 1,
-    };
-    Ok((Prefix::parse("10.0.0.0/8")?, via))
-}
-
+// An address of 10.0.0.0/8.
 const ADDR: u32 = 0x0a00_0001;
-
-// Publishes that row.
-fn set_row<B: FabricName, R: Wait>(
-    rt: &R,
-    alloc: Global,
-    writer: &mut ImageWriter<B>,
-) -> Result<Told<B>, Fail>
-    requires new { writer.old ≡ new_writing 0 }
-{
-    let rows = vec![in alloc; row()?]?;
-    let generation = 1;
-    Ok(writer.publish(rt, Patch { generation, rows })?)
-}
 
 // The port answers the job so, and the reply keeps the job.
 fn is_answered<B: FabricName>(
@@ -134,13 +112,16 @@ fn is_answered<B: FabricName>(
     port: &mut ForwardPort<B>,
     job: &Job<B>,
     want: Answer,
-) -> Result<(), Fail> {
-    let reply = port.answer(job).map_err(|_| "image")?;
+) {
+    let Ok(reply) = port.answer(job) else {
+        panic!(rt; "image");
+    };
+    let (kept, generation) = (reply.job(), want.generation);
     assert_eq!(rt; reply.answer(), want);
-    assert_eq!(rt; reply.seen().generation(), want.generation);
-    let kept = reply.job();
-    assert_eq!(rt; (kept.number, kept.addr), (job.number, job.addr));
-    Ok(())
+    assert_eq!(rt;
+        (reply.seen().generation(), kept.number, kept.addr),
+        (generation, job.number, job.addr)
+    );
 }
 
 // A job is answered from a list that is no older than it was told of.
@@ -149,20 +130,24 @@ fn answers<B: FabricName, R: Wait + Abort>(
     alloc: Global,
     writer: &mut ImageWriter<B>,
     port: &mut ForwardPort<B>,
-) -> Result<(), Fail>
+)
     requires new { writer.old ≡ new_writing 0 }
 {
     let nothing = Answer {
         generation: 0,
         matched: None,
     };
-    is_answered(rt, port, &asked(1, ADDR, &writer.tell()), nothing)?;
-    let told = set_row(rt, alloc, writer)?;
+    is_answered(rt, port, &asked(1, ADDR, &writer.tell()), nothing);
+    let rows = vec![in alloc; (ten(), via(0))].expect(rt, "memory");
+    let generation = 1;
+    let told = writer
+        .publish(rt, Patch { generation, rows })
+        .expect(rt, "memory");
     let found = Answer {
-        generation: 1,
-        matched: Some(row()?),
+        generation,
+        matched: Some((ten(), via(0))),
     };
-    is_answered(rt, port, &asked(2, ADDR, &told), found)
+    is_answered(rt, port, &asked(2, ADDR, &told), found);
 }
 
 // Adds up the numbers of the jobs that it meets.
@@ -183,17 +168,16 @@ impl JobGate for Met {
 }
 
 // Puts jobs 1 to the last into a queue.
-pub fn put<B: FabricName, A: Allocator, R: Wait>(
+pub fn put<B: FabricName, A: Allocator, R: Wait + Abort>(
     rt: &R,
     injector: &mut Injector<B, A>,
     told: &Told<B>,
     last: u64,
-) -> Result<(), Fail> {
+) {
     for number in 0..last {
         let job = asked(number + 1, ADDR, told);
-        injector.inject(rt, job).map_err(|_| "closed")?;
+        assert!(rt; injector.inject(rt, job).is_ok());
     }
-    Ok(())
 }
 
 // A worker of this port takes what is in a queue, and meets jobs 1 to 5.
@@ -221,21 +205,27 @@ fn works<B: FabricName, R: Wait + Abort>(
     told: &Told<B>,
     port: ForwardPort<B>,
     stops: bool,
-) -> Result<(), Fail> {
-    let (mut injector, mut takers) = PacketQueue::new::<B, _>(alloc, 1)?;
-    put(rt, &mut injector, told, 5)?;
+) {
+    let (mut injector, mut takers) = PacketQueue::new::<B, _>(alloc, 1).expect(rt, "memory");
+    put(rt, &mut injector, told, 5);
     if stops {
         assert!(rt; injector.stop(rt));
-        put(rt, &mut injector, told, 1)?;
+        put(rt, &mut injector, told, 1);
     }
     drop(injector);
-    let taker = takers.pop().ok_or("taker")?;
-    let replies = work_five(rt, alloc, port, taker).map_err(|_| "replies")?;
-    assert_eq!(rt; replies.len(), 5);
-    for (place, reply) in replies.iter().enumerate() {
-        assert_eq!(rt; reply.job().number, place as u64 + 1);
+    let taker = takers.pop().expect(rt, "taker");
+    let Ok(replies) = work_five(rt, alloc, port, taker) else {
+        panic!(rt; "replies");
+    };
+    are_one_to_five(rt, &replies);
+}
+
+// There are replies to jobs 1 to 5, in order.
+fn are_one_to_five<B: FabricName>(rt: &impl Abort, replies: &[Reply<B>]) {
+    assert!(rt; replies.len() == 5);
+    for place in 0..5usize {
+        assert_eq!(rt; replies[place].job().number, place as u64 + 1);
     }
-    Ok(())
 }
 
 // Each of two jobs waits, once it is taken, until the other is taken too: 1000 polls at most.
@@ -276,14 +266,14 @@ fn are_one_each<B: FabricName>(
     told: &Told<B>,
     first: Result<Vec<Reply<B>>, Refusal>,
     second: Result<Vec<Reply<B>>, Refusal>,
-) -> Result<(), Fail> {
-    let mut replies = first.map_err(|_| "replies")?;
-    let mut others = second.map_err(|_| "replies")?;
+) {
+    let (Ok(mut replies), Ok(mut others)) = (first, second) else {
+        panic!(rt; "replies");
+    };
     assert_eq!(rt; (replies.len(), others.len()), (1, 1));
-    replies.append(&mut others)?;
+    replies.append(&mut others).expect(rt, "memory");
     let jobs = [asked(1, ADDR, told), asked(2, ADDR, told)];
     assert!(rt; gather(&jobs, replies).is_ok());
-    Ok(())
 }
 
 // Two workers take a job each from their takers.
@@ -293,7 +283,7 @@ fn meet<B, R>(
     told: &Told<B>,
     first: (ForwardPort<B>, Taker<B>),
     second: (ForwardPort<B>, Taker<B>),
-) -> Result<(), Fail>
+)
 where
     B: FabricName + Send + Sync,
     R: Threads + Wait + Clock + Abort + Sync,
@@ -309,28 +299,21 @@ where
         || work(rt, alloc, second.0, second.1, &gate),
     );
     assert!(rt; !gate.late.load(Ordering::SeqCst));
-    are_one_each(rt, told, first.replies, second.replies)
+    are_one_each(rt, told, first.replies, second.replies);
 }
 
 // Two workers answer a job each.
-fn meets<B, R>(
-    rt: &R,
-    alloc: Global,
-    told: &Told<B>,
-    first: ForwardPort<B>,
-    second: ForwardPort<B>,
-) -> Result<(), Fail>
+fn meets<B, R>(rt: &R, alloc: Global, told: &Told<B>, first: ForwardPort<B>, second: ForwardPort<B>)
 where
     B: FabricName + Send + Sync,
     R: Threads + Wait + Clock + Abort + Sync,
 {
-    let (mut injector, mut takers) = PacketQueue::new::<B, _>(alloc, 2)?;
-    put(rt, &mut injector, told, 2)?;
+    let (mut injector, mut takers) = PacketQueue::new::<B, _>(alloc, 2).expect(rt, "memory");
+    put(rt, &mut injector, told, 2);
     assert!(rt; injector.stop(rt));
-    match (takers.pop(), takers.pop()) {
-        (Some(one), Some(other)) => meet(rt, alloc, told, (first, one), (second, other)),
-        _ => Err("takers".into()),
-    }
+    let one = takers.pop().expect(rt, "taker");
+    let other = takers.pop().expect(rt, "taker");
+    meet(rt, alloc, told, (first, one), (second, other));
 }
 
 // A worker without an image takes all jobs, answers none, and says why.
@@ -339,14 +322,13 @@ fn goes_on<B: FabricName, R: Wait + Abort>(
     alloc: Global,
     told: &Told<B>,
     port: ForwardPort<B>,
-) -> Result<(), Fail> {
-    let (mut injector, mut takers) = PacketQueue::new::<B, _>(alloc, 1)?;
-    put(rt, &mut injector, told, 5)?;
+) {
+    let (mut injector, mut takers) = PacketQueue::new::<B, _>(alloc, 1).expect(rt, "memory");
+    put(rt, &mut injector, told, 5);
     drop(injector);
-    let taker = takers.pop().ok_or("taker")?;
+    let taker = takers.pop().expect(rt, "taker");
     let refusal = work_five(rt, alloc, port, taker).err();
     assert_eq!(rt; refusal, Some(Refusal::NoImage));
-    Ok(())
 }
 
 // What is done with a writer of one router and two of its readers.
@@ -367,7 +349,7 @@ fn tried<B, R>(
     first: ImageReader<B>,
     second: ImageReader<B>,
     trial: Trial,
-) -> Result<(), Fail>
+)
 where
     B: FabricName + Send + Sync,
     R: Threads + Wait + Clock + Abort + Sync,
@@ -377,24 +359,18 @@ where
     requires second { second.router ≡ 0 }
 {
     let told = writer.tell();
-    let mut first = port_of(alloc, first)?;
+    let mut first = port_of(rt, alloc, first);
     match trial {
         Trial::Gathers => gathers(rt, alloc, &told, &mut first),
         Trial::Answers => answers(rt, alloc, writer, &mut first),
         Trial::WorksToAStop => works(rt, alloc, &told, first, true),
         Trial::WorksToTheEnd => works(rt, alloc, &told, first, false),
-        Trial::Meets => meets(rt, alloc, &told, first, port_of(alloc, second)?),
-        Trial::GoesOn => Ok(()),
+        Trial::Meets => meets(rt, alloc, &told, first, port_of(rt, alloc, second)),
+        Trial::GoesOn => {}
     }
 }
 
-fn opened<B, R>(
-    rt: &R,
-    alloc: Global,
-    unnamed: Unnamed,
-    image: Image,
-    trial: Trial,
-) -> Result<(), Fail>
+fn opened<B, R>(rt: &R, alloc: Global, unnamed: Unnamed, image: Image, trial: Trial)
 where
     B: FabricName + Send + Sync,
     R: Threads + Wait + Clock + Abort + Sync,
@@ -403,53 +379,53 @@ where
     requires generation { image.generation ≡ 0 }
 {
     let Ok((mut writer, mut readers)) = open::<B, _, R>(rt, alloc, unnamed, 0, image, 3) else {
-        return Err("open".into());
+        panic!(rt; "open");
     };
-    let done = match (readers.pop(), readers.pop()) {
-        (Some(first), Some(second)) => tried(rt, alloc, &mut writer, first, second, trial),
-        _ => Err("readers".into()),
-    };
+    let first = readers.pop().expect(rt, "reader");
+    let second = readers.pop().expect(rt, "reader");
+    let third = readers.pop().expect(rt, "reader");
+    tried(rt, alloc, &mut writer, first, second, trial);
     let told = writer.tell();
     writer.close(rt);
-    done?;
-    match (trial, readers.pop()) {
-        (Trial::GoesOn, Some(reader)) => goes_on(rt, alloc, &told, port_of(alloc, reader)?),
-        _ => Ok(()),
+    if let Trial::GoesOn = trial {
+        goes_on(rt, alloc, &told, port_of(rt, alloc, third));
     }
 }
 
-#[test]
-fn replies_are_gathered_in_order_of_their_jobs(rt: HostRuntime) -> Result<(), Fail> {
-    let image = empty(rt.alloc())?;
-    opened::<Brand, _>(&rt, rt.alloc(), Unnamed::new(), image, Trial::Gathers)
+fn one_router<R>(rt: &R, alloc: Global, trial: Trial)
+where
+    R: Threads + Wait + Clock + Abort + Sync,
+{
+    let image = empty(alloc).expect(rt, "memory");
+    opened::<Brand, R>(rt, alloc, Unnamed::new(), image, trial);
 }
 
 #[test]
-fn a_worker_answers_its_jobs(rt: HostRuntime) -> Result<(), Fail> {
-    let image = empty(rt.alloc())?;
-    opened::<Brand, _>(&rt, rt.alloc(), Unnamed::new(), image, Trial::Answers)
+fn replies_are_gathered_in_order_of_their_jobs(rt: HostRuntime) {
+    one_router(&rt, rt.alloc(), Trial::Gathers);
 }
 
 #[test]
-fn a_worker_works_until_it_is_stopped(rt: HostRuntime) -> Result<(), Fail> {
-    let image = empty(rt.alloc())?;
-    opened::<Brand, _>(&rt, rt.alloc(), Unnamed::new(), image, Trial::WorksToAStop)
+fn a_worker_answers_its_jobs(rt: HostRuntime) {
+    one_router(&rt, rt.alloc(), Trial::Answers);
 }
 
 #[test]
-fn works_to_the_end(rt: HostRuntime) -> Result<(), Fail> {
-    let image = empty(rt.alloc())?;
-    opened::<Brand, _>(&rt, rt.alloc(), Unnamed::new(), image, Trial::WorksToTheEnd)
+fn a_worker_works_until_it_is_stopped(rt: HostRuntime) {
+    one_router(&rt, rt.alloc(), Trial::WorksToAStop);
 }
 
 #[test]
-fn goes_on_without_an_image(rt: HostRuntime) -> Result<(), Fail> {
-    let image = empty(rt.alloc())?;
-    opened::<Brand, _>(&rt, rt.alloc(), Unnamed::new(), image, Trial::GoesOn)
+fn works_to_the_end(rt: HostRuntime) {
+    one_router(&rt, rt.alloc(), Trial::WorksToTheEnd);
 }
 
 #[test]
-fn two_workers_meet_at_their_first_jobs(rt: HostRuntime) -> Result<(), Fail> {
-    let image = empty(rt.alloc())?;
-    opened::<Brand, _>(&rt, rt.alloc(), Unnamed::new(), image, Trial::Meets)
+fn goes_on_without_an_image(rt: HostRuntime) {
+    one_router(&rt, rt.alloc(), Trial::GoesOn);
+}
+
+#[test]
+fn two_workers_meet_at_their_first_jobs(rt: HostRuntime) {
+    one_router(&rt, rt.alloc(), Trial::Meets);
 }

@@ -1,5 +1,5 @@
 use Rattle.std.proofs.Common.{[], ◌∷◌}
-use Rattle.fabric_tests.proofs.workers.goes_on_without_an_image.Given as goal
+use Rattle.fabric_tests.proofs.workers.one_router.Given as goal
 
 -- the book that was just made, and the image's rows
 abbrev pub ghosts-opened : goal.ghosts-opened

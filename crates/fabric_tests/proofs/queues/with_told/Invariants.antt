@@ -1,5 +1,5 @@
 use Rattle.std.proofs.Common.{[], ◌∷◌}
-use Rattle.fabric_tests.proofs.queues.jobs_come_out_as_they_were_put_in.Given as goal
+use Rattle.fabric_tests.proofs.queues.with_told.Given as goal
 
 -- the book that was just made, and the image's rows
 abbrev pub ghosts-opened : goal.ghosts-opened
