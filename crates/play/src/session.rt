@@ -211,6 +211,8 @@ where
 fn into_cause(done: Result<(), Refusal>) -> Result<(), Cause>
     ensures { MatchResult done (λ _. IsOk result) (λ e. result ≡ Err (Cause.Refused e)) }
 {
-    done?;
-    Ok(())
+    match done {
+        Ok(()) => Ok(()),
+        Err(refusal) => Err(Cause::Refused(refusal)),
+    }
 }

@@ -11,8 +11,8 @@ use crate::options::Options;
 use crate::session::Session;
 use dispatch::Host;
 use fabric::{Fabric, FabricName, Unnamed};
-use plans::{Cause, Fault, Plan, read_failure, read_plan, read_text, refuse};
-use reports::End;
+use plans::{Cause, Fault, Plan, read_failure, read_plan, read_text};
+use reports::{End, tell_cause};
 use script::read_command;
 use std::alloc::Global;
 use std::io::{BufRead, BufReader, Read, Write};
@@ -188,20 +188,9 @@ where
         Ok(command) => {
             let done = session.do_command(fabric, command, out, &mut ());
             if let Err(cause) = done {
-                tell(cause, explain, out, err);
+                tell_cause(cause, explain, out, err);
             }
         }
-        Err(fault) => tell(Cause::Lines(fault), explain, out, err),
-    }
-}
-
-// Tells of a command that was not done, after all that was printed before; and when that comes, and
-// what to do, where more is to be told.
-fn tell<W: Write, E: Write>(cause: Cause, explain: bool, out: &mut W, err: &mut E) {
-    let _ = out.flush();
-    let fault = Fault::from(cause);
-    let _ = refuse(fault, err);
-    if explain {
-        let _ = write!(err, "{}", fault.kind().page().brief());
+        Err(fault) => tell_cause(Cause::Lines(fault), explain, out, err),
     }
 }

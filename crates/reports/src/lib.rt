@@ -12,12 +12,14 @@ mod reasons;
 mod replaying;
 mod report;
 mod table;
+mod telling;
 
 pub use checking::check;
 pub use end::End;
 pub use keeping::keep;
 pub use printer::Printer;
-pub use progress::end_line;
+pub use progress::{end_line, tell_commands};
 pub use replaying::replay;
 pub use report::{print_report, print_state};
 pub use table::show_table;
+pub use telling::tell_cause;
