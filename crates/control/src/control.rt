@@ -4,6 +4,7 @@ ghost use Rattle.std.specs.Prelude.{◌≡◌, ◌<◌, ◌≤◌, ◌+◌, ◌*
 ghost use Rattle.network_model.specs.Journal.{journal_sum, step_number, steps_in_sum};
 ghost use Rattle.network_model.specs.Step as steps;
 ghost use Rattle.network_model.specs.Turns as turns;
+ghost use Rattle.network_model.specs.Forwarding.{is_quiet};
 ghost use Rattle.network_model.specs.Network.{most_routers};
 ghost use Rattle.world.specs.Steps.{IsDoneOr};
 ghost use Rattle.publication.specs.Lists.{image_of};
@@ -232,10 +233,10 @@ impl<B: FabricName, N: ControlName> Control<B, N> {
         self.guarded.lock(rt).job(number, router, addr)
     }
 
-    /// Whether nothing is left to do.
+    /// Whether nothing is left to do; then all is quiet.
     pub fn is_settled<R: Wait>(&self, rt: &R) -> bool
         ensures { (f : FabricState) × IsServed N.opened N.asked f × HasHeadline f
-            × (result ≡ turns.is_settled f.world) }
+            × (result ≡ turns.is_settled f.world) × (result ≡ is_quiet f.world) }
     {
         self.guarded.lock(rt).is_settled()
     }

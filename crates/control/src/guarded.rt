@@ -4,6 +4,7 @@ ghost use Rattle.std.specs.Prelude.{◌≡◌, ◌≤◌, ◌<◌, ◌+◌, ◌*
 ghost use Rattle.network_model.specs.Journal.{journal_sum, step_number};
 ghost use Rattle.network_model.specs.Step as steps;
 ghost use Rattle.network_model.specs.Turns as turns;
+ghost use Rattle.network_model.specs.Forwarding.{is_quiet};
 ghost use Rattle.network_model.specs.Network.{most_routers};
 ghost use Rattle.world.specs.Steps.{IsDoneOr};
 ghost use Rattle.publication.specs.Lists.{image_of};
@@ -215,6 +216,7 @@ impl<B: FabricName, N: ControlName> Guarded<B, N> {
         ensures served { IsServed N.opened N.asked self.now }
         ensures headline { HasHeadline self.now }
         ensures settled { result ≡ turns.is_settled (self.now).world }
+        ensures quiet { result ≡ is_quiet (self.now).world }
     {
         self.fabric.holds();
         self.fabric.is_settled()

@@ -2,7 +2,9 @@
 
 ghost use Rattle.std.specs.Prelude.{◌≡◌, ◌<◌, ◌≤◌, ◌⊎◌, IsTrue, IfErr, OnOk, vec_len};
 ghost use Rattle.network_model.specs.Turns as turns;
+ghost use Rattle.network_model.specs.Forwarding.{is_quiet};
 ghost use Rattle.fabric.specs.Fabric.{Fabric as FabricState};
+ghost use Rattle.fabric.specs.Headline.{HasBestRows};
 ghost use Rattle.control.specs.Names.{IsNamed};
 ghost use Rattle.control.specs.Served.{CanFailOutside, IsServed, IsTurnRefused, none_asked};
 ghost use Rattle.control.specs.Shares.{IsHolder, AreSameHolders};
@@ -42,9 +44,10 @@ impl Origin for Brand {
 }
 
 /// Lets routers take turns until nothing is left to do, or a step is refused, or there is no memory for
-/// the threads' shares. One thread takes all turns, in ascending cyclic order of the routers; while there
-/// is much to publish, up to so many do it together, and where the system gives fewer, those that it
-/// gives do all. How far it is, `progress` is told.
+/// the threads' shares. Where it is done all is quiet, and rows lead along least-cost walks. One thread
+/// takes all turns, in ascending cyclic order of the routers; while there is much to publish, up to so
+/// many do it together, and where the system gives fewer, those that it gives do all. How far it is,
+/// `progress` is told.
 pub fn settle<B, P, R>(
     rt: &R,
     alloc: Global,
@@ -58,11 +61,15 @@ where
     R: Threads + Wait + Sync,
     ensures turns { IsServed fabric.old none_asked fabric.new }
     ensures settled { OnOk result (IsTrue (turns.is_settled (fabric.new).world)) }
+    ensures quiet { OnOk result (IsTrue (is_quiet (fabric.new).world)) }
+    ensures least_cost { OnOk result (HasBestRows fabric.new) }
     ensures err { IfErr result (λ e. IsTurnRefused fabric.old none_asked e
         ⊎ (e ≡ Refusal.NoMemory)) }
 {
     let by = (rt, alloc, threads, progress);
-    replace_with(fabric, by, |fabric, by| settle_moved(fabric, by))
+    let done = replace_with(fabric, by, |fabric, by| settle_moved(fabric, by));
+    fabric.holds();
+    done
 }
 
 // The fabric, settled by so many threads.
@@ -76,6 +83,7 @@ where
     R: Threads + Wait + Sync,
     ensures turns { IsServed fabric none_asked result.0 }
     ensures settled { OnOk result.1 (IsTrue (turns.is_settled (result.0).world)) }
+    ensures quiet { OnOk result.1 (IsTrue (is_quiet (result.0).world)) }
     ensures err { IfErr result.1 (λ e. IsTurnRefused fabric none_asked e
         ⊎ (e ≡ Refusal.NoMemory)) }
 {
@@ -99,6 +107,7 @@ where
     requires from { fabric ≡ O.from }
     ensures turns { IsServed O.from none_asked result.0 }
     ensures settled { OnOk result.1 (IsTrue (turns.is_settled (result.0).world)) }
+    ensures quiet { OnOk result.1 (IsTrue (is_quiet (result.0).world)) }
     ensures err { IfErr result.1 (λ e. IsTurnRefused O.from none_asked e ⊎ (e ≡ Refusal.NoMemory)) }
 {
     let mut fabric = fabric;

@@ -1,12 +1,14 @@
 -- What the laws of all runs say of every fabric.
-use Rattle.std.proofs.Common.{sym, ap, ◌∙◌, ◌≡◌, ℕ, Bool, true, false, cond, ◌&&◌, List, [], ◌∷◌, Option, Some, None, option_map, option_and_then, slice_get}
-use Rattle.packet_loops.proofs.Common.{option_map_or, slice_get-map, Prefix, longest_match, Entry, Router, router_publishing, IsNetwork, image_answer, None_not_Some}
-use Rattle.packet_loops.specs.Packets.{IsMixtureWalk, mixture_rows}
-use Rattle.packet_loops.proofs.Walks.{always_mixtures_free}
+use Rattle.std.proofs.Common.{refl, sym, ap, ◌∙◌, ◌≡◌, ℕ, Bool, true, false, cond, ◌&&◌, List, [], ◌∷◌, Option, Some, None, option_map, option_and_then, slice_get}
+use Rattle.packet_loops.proofs.Common.{option_map_or, slice_get-map, Prefix, longest_match, Entry, entry_leads, Router, router_publishing, IsNetwork, image_answer, None_not_Some}
+use Rattle.packet_loops.specs.Packets.{mixture_rows}
+use Rattle.all_packets.specs.Packets.{mixture_hop, IsMovingWay}
+use Rattle.all_packets.proofs.Ways.{always_no_moving_circles}
 use Rattle.quiet_routes.proofs.Routes.{quiet_routes}
+use Rattle.convergence.proofs.Converging.{always_converges}
 use Rattle.fabric.specs.Images.{image_in_force}
 use Rattle.fabric.specs.Fabric.{Fabric, is_lent, IsFabric}
-use Rattle.fabric.specs.Headline.{image_row, IsImageWalk, NeverMeetsTwice, LeadsAtLeastCost}
+use Rattle.fabric.specs.Headline.{image_row, image_hop, IsImageWay, NeverMeetsTwice, LeadsAtLeastCost, ConvergesLeftAlone}
 
 -- a packet that a mixture of images sends on is one that the mixture of tables does
 forwarded : (f : Fabric) (capacity : ℕ) → IsFabric f capacity → (by_control : ℕ → Bool) (i addr : ℕ) (p : Prefix) (entry : Entry) → image_row f by_control i addr ≡ Some (p, entry)
@@ -21,18 +23,28 @@ forwarded f capacity kept by_control i addr p entry row = by_choice (by_control 
     by_choice false None at is = absurd (None_not_Some (sym (ap (option_and_then (λ image. image_answer image addr)) at) ∙ is))
     by_choice false (Some r) at is = sym (ap (option_and_then (λ image. image_answer image addr)) at) ∙ is
 
--- so a way along images in force is one in a mixture of tables
-as_mixture : (f : Fabric) (capacity : ℕ) → IsFabric f capacity → (by_control : ℕ → Bool) (addr : ℕ) (p : Prefix) (walk : List ℕ) → IsImageWalk f by_control addr p walk → IsMixtureWalk (λ k. by_control k && is_lent f k) f.world addr p walk
-as_mixture f capacity kept by_control addr p [] w = tt
-as_mixture f capacity kept by_control addr p (i ∷ []) w = tt
-as_mixture f capacity kept by_control addr p (i ∷ k ∷ ks) w =
-    (record { entry = (w.0).0; matched = forwarded f capacity kept by_control i addr p (w.0).0 (w.0).1; leads = (w.0).2 }, as_mixture f capacity kept by_control addr p (k ∷ ks) w.1)
+-- so where a packet goes on along an image, it goes on in a mixture of tables
+goes_on : (f : Fabric) (capacity : ℕ) → IsFabric f capacity → (by_control : ℕ → Bool) (addr i k : ℕ) → image_hop f by_control addr i ≡ Some k → mixture_hop (λ j. by_control j && is_lent f j) f.world addr i ≡ Some k
+goes_on f capacity kept by_control addr i k h = by_row (image_row f by_control i addr) refl h
+  where
+    by_row : (o : Option (Prefix × Entry)) → image_row f by_control i addr ≡ o → option_and_then (λ r. entry_leads f.world i r.1) o ≡ Some k → mixture_hop (λ j. by_control j && is_lent f j) f.world addr i ≡ Some k
+    by_row None is g = absurd (None_not_Some g)
+    by_row (Some r) is g = ap (option_and_then (λ (x : Prefix × Entry). entry_leads f.world i x.1)) (forwarded f capacity kept by_control i addr r.0 r.1 is) ∙ g
+
+-- and a way along images in force is one along the rows of tables
+along_rows : (f : Fabric) (capacity : ℕ) → IsFabric f capacity → (addr : ℕ) (way : List ℕ) → IsImageWay f addr way → IsMovingWay f.world addr way
+along_rows f capacity kept addr [] w = tt
+along_rows f capacity kept addr (i ∷ []) w = tt
+along_rows f capacity kept addr (i ∷ k ∷ ks) w = (((w.0).0 && is_lent f i, goes_on f capacity kept (λ j. (w.0).0) addr i k (w.0).1), along_rows f capacity kept addr (k ∷ ks) w.1)
 
 -- no packet circles
 pub never_twice : (f : Fabric) (capacity : ℕ) → IsFabric f capacity → IsNetwork f.network → NeverMeetsTwice f
-never_twice f capacity kept valid by_control addr p walk w =
-    always_mixtures_free f.network f.journal f.world valid kept.runs (λ k. by_control k && is_lent f k) addr p walk (as_mixture f capacity kept by_control addr p walk w)
+never_twice f capacity kept valid addr way w = always_no_moving_circles f.network f.journal f.world valid kept.runs addr way (along_rows f capacity kept addr way w)
 
 -- at quiet, rows are best
 pub least_cost : (f : Fabric) (capacity : ℕ) → IsFabric f capacity → IsNetwork f.network → LeadsAtLeastCost f
 least_cost f capacity kept valid = quiet_routes f.network f.journal f.world valid kept.runs
+
+-- left alone, the network converges
+pub converges : (f : Fabric) (capacity : ℕ) → IsFabric f capacity → IsNetwork f.network → ConvergesLeftAlone f
+converges f capacity kept valid = always_converges f.network f.journal f.world valid kept.runs

@@ -7,6 +7,7 @@ use Rattle.network_model.specs.Step.{router_publishing}
 use Rattle.network_model.specs.Forwarding.{entry_leads, is_quiet}
 use Rattle.loop_freedom.specs.Network.{meets_twice}
 use Rattle.quiet_routes.specs.Routes.{HasBestRow}
+use Rattle.convergence.specs.Converges.{Converges}
 use Rattle.fabric.specs.Fabric.{Fabric, is_lent}
 use Rattle.fabric.specs.Images.{image_in_force}
 
@@ -34,10 +35,32 @@ IsImageWalk f by_control addr p [] = ⊤
 IsImageWalk f by_control addr p (i ∷ []) = ⊤
 IsImageWalk f by_control addr p (i ∷ k ∷ ks) = IsSentOn f by_control addr p i k × IsImageWalk f by_control addr p (k ∷ ks)
 
--- whichever of the writers that are out have published, no packet that is matched by one prefix at every hop meets a router twice
-abbrev pub NeverMeetsTwice : Fabric → Type 0
-NeverMeetsTwice f = (by_control : ℕ → Bool) (addr : ℕ) (p : Prefix) (walk : List ℕ) → IsImageWalk f by_control addr p walk → meets_twice walk ≡ false
+-- the router that a packet for the address goes to from router i, by the row that the image in force there gives for it
+abbrev pub image_hop : Fabric → (ℕ → Bool) → ℕ → ℕ → Option ℕ
+image_hop f by_control addr i = option_and_then (λ r. entry_leads f.world i r.1) (image_row f by_control i addr)
 
--- where all is quiet, each router's row for each prefix is the best: it begins a least-cost walk to an attached router, the cost of its attachment included, or says that there is none
+-- a packet goes from router i to router k along the image in force at i: the one that is there, or, where the writer is out, the one that it publishes meanwhile
+abbrev pub MayGoOn : Fabric → ℕ → ℕ → ℕ → Type 0
+MayGoOn f addr i k = (has_published : Bool) × (image_hop f (λ j. has_published) addr i ≡ Some k)
+
+-- a way of a packet along the images in force, whichever prefixes match its address
+abbrev pub IsImageWay : Fabric → ℕ → List ℕ → Type 0
+IsImageWay f addr [] = ⊤
+IsImageWay f addr (i ∷ []) = ⊤
+IsImageWay f addr (i ∷ k ∷ ks) = MayGoOn f addr i k × IsImageWay f addr (k ∷ ks)
+
+-- no packet meets a router twice, whichever prefixes match it, and whichever of the writers that are out publish while it moves
+abbrev pub NeverMeetsTwice : Fabric → Type 0
+NeverMeetsTwice f = (addr : ℕ) (way : List ℕ) → IsImageWay f addr way → meets_twice way ≡ false
+
+-- each router's row for each prefix is the best: it begins a least-cost walk to an attached router, the cost of its attachment included, or says that there is none
+abbrev pub HasBestRows : Fabric → Type 0
+HasBestRows f = (p : Prefix) (i : ℕ) → i < f.network.routers → HasBestRow f.world p i
+
+-- where all is quiet, each router's row for each prefix is the best
 abbrev pub LeadsAtLeastCost : Fabric → Type 0
-LeadsAtLeastCost f = is_quiet f.world ≡ true → (p : Prefix) (i : ℕ) → i < f.network.routers → HasBestRow f.world p i
+LeadsAtLeastCost f = is_quiet f.world ≡ true → HasBestRows f
+
+-- once no link, cost or attachment changes any more, the steps that are left to do have a bound, whatever their order; and where none is left, all is quiet and each row is best
+abbrev pub ConvergesLeftAlone : Fabric → Type 0
+ConvergesLeftAlone f = Converges f.network f.world

@@ -12,9 +12,10 @@ ghost use Rattle.fabric.specs.Desks.{all_lent, writings};
 ghost use Rattle.fabric.specs.Fabric.{opening_fabric, after_step, awaits_writer, count_lent, fabric_refusal, lent_at, next_fabric_step, with_lent, ForwardsAsPublished};
 ghost use Rattle.image_patch.specs.Patches.{patched};
 ghost use Rattle.fabric.specs.Images.{answer_at, due_at};
-ghost use Rattle.fabric.specs.Headline.{NeverMeetsTwice, LeadsAtLeastCost};
+ghost use Rattle.fabric.specs.Headline.{NeverMeetsTwice, HasBestRows, LeadsAtLeastCost, ConvergesLeftAlone};
 ghost use Rattle.fabric.specs.Writers.{IsReaderPort, opening_tables, waiting_at};
 ghost use Rattle.network_model.specs.Turns as turns;
+ghost use Rattle.network_model.specs.Forwarding.{is_quiet};
 ghost use Rattle.network_model.specs.Publication.{answer_of};
 ghost use Rattle.network_model.specs.Network.{most_workers};
 
@@ -193,10 +194,12 @@ impl<B: FabricName, A: SmallAllocator> Fabric<B, A> {
     }
 
     /// Whether nothing is left to do: no item is queued on any link, no notice waits, nothing is due,
-    /// and nothing is ripe. Where it is not so, some router has something to do. It is known without going through
-    /// the network.
+    /// and nothing is ripe. Where it is so, all is quiet, and rows lead along least-cost walks; where it is
+    /// not so, some router has something to do. It is known without going through the network.
     pub fn is_settled(&self) -> bool
         ensures settled { result ≡ turns.is_settled (self.now).world }
+        ensures quiet { result ≡ is_quiet (self.now).world }
+        ensures least_cost { IsTrue result → HasBestRows self.now }
         ensures idle { ((i : ℕ) → i < (self.now).network.routers
             → turns.next_step (self.now).world i ≡ None) → IsTrue result }
     {
@@ -459,12 +462,14 @@ impl<B: FabricName, A: SmallAllocator> Fabric<B, A> {
 
     /// It does nothing. What holds of every fabric, for whoever has one: each image in force has the
     /// rows that its router published, and answers every address with the longest match over them; no
-    /// packet that is matched by one prefix at every hop meets a router twice; and where all is quiet,
-    /// rows lead along least-cost walks.
+    /// packet meets a router twice, whichever prefixes match it on its way; and where all is quiet,
+    /// rows lead along least-cost walks. And once no link, cost or attachment changes any more, the steps
+    /// that are left to do have a bound, whatever their order, and where none is left all is quiet.
     pub fn holds(&self)
         ensures forwards { ForwardsAsPublished self.now }
         ensures no_loop { NeverMeetsTwice self.now }
         ensures least_cost { LeadsAtLeastCost self.now }
+        ensures converges { ConvergesLeftAlone self.now }
     {
         // The three parts follow from what a fabric keeps, and from that its network has no fault.
         let _desks = &self.desks;

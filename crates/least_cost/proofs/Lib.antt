@@ -10,3 +10,4 @@ pub mod Runs
 pub mod Below
 pub mod AtQuiet
 pub mod Reached
+pub mod Settled

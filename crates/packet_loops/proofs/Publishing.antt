@@ -102,7 +102,7 @@ module _ (n : Network) (N : IsWired n) (p : Prefix) (w : World) (pfd : ℕ → �
       ∙ ap (kept p e.port) (drop_all (length (r.gate).held) (r.gate).held (omega arith))
 
   -- a router that publishes does so in the view
-  net : NetPublish (topology n N) old new
+  pub net : NetPublish (topology n N) old new
   net = record {
     j = i;
     published_at = published_is;

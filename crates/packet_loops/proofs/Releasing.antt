@@ -1,9 +1,10 @@
 -- A router that releases a message does so in the view, or nothing of the prefix changes.
 use Rattle.std.proofs.Common.{refl, sym, ap, subst, ◌∙◌, arith, inl, inr, ◌≡◌, ℕ, zero, suc, ◌-◌, Bool, true, false, ◌&&◌, ◌==◌, nat_lt, if◌then◌else◌, List, [], ◌∷◌, ◌++◌, take, drop, Some, None, is_some, slice_get, option_map, eq-eqb, ne_eqb, append-nil, length-drop}
 use Rattle.packet_loops.proofs.Common.{cases_eq, and_from, and_left, and_right, Prefix, prefix_eq, changed_at, opening_machine, Item, Held, End, A, B, Side, Link, Router, World, Network, other, side, machine_of, Place, session_at, changed_side, with_item, with_message, router_releasing, ripe_front, Some_injective, None_not_Some, slice_get-changed_at, LinkEnd, State, Reported, at_port, msg_of, held_as, heard, inbox_of, is_kept, kept, ripe_of, unripe_of, next_hop_at, view, lay, eqb_sym, Releases, Skips, SameLinks, SameCosts, SameMachines, SamePublished, arriving}
+use Rattle.loop_freedom.specs.Network.{Release as NetRelease, Skip}
 use Rattle.packet_loops.proofs.Wiring.{IsWired}
 use Rattle.packet_loops.specs.LinkEnds.{across}
-use Rattle.packet_loops.proofs.Places.{far, far_laid}
+use Rattle.packet_loops.proofs.Places.{far, far_laid, topology}
 use Rattle.packet_loops.proofs.View.{heard-append, on_link-there, on_link-hit, on_link-same, on_router-there, on_router-miss, on_router-same}
 use Rattle.packet_loops.proofs.Kept.{ends, RouterKept, WorldKept, StepKept, with_links, with_router, changed_side-ends, changed_beside, changed_here, up_beside, session_beside, other_end}
 
@@ -257,17 +258,14 @@ module _ (n : Network) (N : IsWired n) (p : Prefix) (w : World) (pfd : ℕ → �
   costs_same = record { cost_same = λ e. on_link-same (λ en y. (side en y).cost) 0 w.links (with_message h x0.end) x0.link (lay n e) (λ y j is link there. message_cost h y.end x0.end j) }
 
   -- a message of another prefix that is released leaves the view as it was
-  releases_other : prefix_eq p (h.message).prefix ≡ false → StepKept n N p w pfd then' pfd
-  releases_other apart = record {
-    kept = kept_then;
-    step = Skips (record {
-      machines = machines_same n p w pfd K i r router_at h F ls;
-      inboxes = record { inbox_same = λ e. on_link-same (inbox_of p) [] w.links (with_message h x0.end) x0.link (lay n e) (λ y j is link there. message_unheard p h y.end x0.end j apart) };
-      holdings = record { ripe_same = λ e. ripe_beside n p w pfd K i r router_at h F ls e (and_right (h.port == e.port) (prefix_eq p (h.message).prefix) apart); unripe_same = unripe_same n p w pfd K i r router_at h F ls };
-      links = links_same;
-      costs = costs_same;
-      publications = published_same n p w pfd K i r router_at h F ls;
-    });
+  pub skipped_other : prefix_eq p (h.message).prefix ≡ false → Skip (topology n N) before now
+  skipped_other apart = record {
+    machines = machines_same n p w pfd K i r router_at h F ls;
+    inboxes = record { inbox_same = λ e. on_link-same (inbox_of p) [] w.links (with_message h x0.end) x0.link (lay n e) (λ y j is link there. message_unheard p h y.end x0.end j apart) };
+    holdings = record { ripe_same = λ e. ripe_beside n p w pfd K i r router_at h F ls e (and_right (h.port == e.port) (prefix_eq p (h.message).prefix) apart); unripe_same = unripe_same n p w pfd K i r router_at h F ls };
+    links = links_same;
+    costs = costs_same;
+    publications = published_same n p w pfd K i r router_at h F ls;
   }
 
   -- the message goes in the view where it does in the world
@@ -291,23 +289,20 @@ module _ (n : Network) (N : IsWired n) (p : Prefix) (w : World) (pfd : ℕ → �
       (λ y j is link there. ap (λ (s : Side). heard p s.inbox) (message_near h y.end x0.end j (other_end n N (far n a) (across x0) laid_far e apart y is link)))
 
   -- a message of the prefix that is released is released in the view
-  releases_this : prefix_eq p (h.message).prefix ≡ true → StepKept n N p w pfd then' pfd
-  releases_this same = record {
-    kept = kept_then;
-    step = Releases (record {
-      a = a;
-      first = held_as h;
-      valid_place = ap is_some laid_a;
-      ripe_at = ripe_here n p w pfd K i r router_at h F ls (and_from (h.port == h.port) (prefix_eq p (h.message).prefix) (eq-eqb h.port h.port refl) same);
-      ripe_elsewhere = ripe_elsewhere n p w pfd K i r router_at h F ls;
-      inbox_at = inbox_far same;
-      inbox_elsewhere = inbox_elsewhere;
-      unripe_same = unripe_same n p w pfd K i r router_at h F ls;
-      machines = machines_same n p w pfd K i r router_at h F ls;
-      links = links_same;
-      costs = costs_same;
-      publications = published_same n p w pfd K i r router_at h F ls;
-    });
+  pub released_this : prefix_eq p (h.message).prefix ≡ true → NetRelease (topology n N) before now
+  released_this same = record {
+    a = a;
+    first = held_as h;
+    valid_place = ap is_some laid_a;
+    ripe_at = ripe_here n p w pfd K i r router_at h F ls (and_from (h.port == h.port) (prefix_eq p (h.message).prefix) (eq-eqb h.port h.port refl) same);
+    ripe_elsewhere = ripe_elsewhere n p w pfd K i r router_at h F ls;
+    inbox_at = inbox_far same;
+    inbox_elsewhere = inbox_elsewhere;
+    unripe_same = unripe_same n p w pfd K i r router_at h F ls;
+    machines = machines_same n p w pfd K i r router_at h F ls;
+    links = links_same;
+    costs = costs_same;
+    publications = published_same n p w pfd K i r router_at h F ls;
   }
 
   -- the step Release is one of the view where the port of the message is there
@@ -315,8 +310,8 @@ module _ (n : Network) (N : IsWired n) (p : Prefix) (w : World) (pfd : ℕ → �
   releases_there = by_prefix (prefix_eq p (h.message).prefix) refl
     where
       by_prefix : (b : Bool) → prefix_eq p (h.message).prefix ≡ b → StepKept n N p w pfd then' pfd
-      by_prefix true is = releases_this is
-      by_prefix false is = releases_other is
+      by_prefix true is = record { kept = kept_then; step = Releases (released_this is) }
+      by_prefix false is = record { kept = kept_then; step = Skips (skipped_other is) }
 
 -- ---- the world, where it is not
 
@@ -332,16 +327,17 @@ module _ (n : Network) (N : IsWired n) (p : Prefix) (w : World) (pfd : ℕ → �
           let one : kept p h.port (h ∷ F.rest) ≡ held_as h ∷ kept p h.port F.rest = kept_first p h.port h F.rest (and_from (h.port == h.port) (prefix_eq p (h.message).prefix) (eq-eqb h.port h.port refl) is) in
           cc
 
-  -- the step Release leaves the view as it was where the port of the message is not there
-  pub releases_nowhere : lay n (at_port i h.port) ≡ None → StepKept n N p w pfd (record w { links = w.links; routers = changed_at i router_releasing w.routers }) pfd
-  releases_nowhere out = record {
-    kept = world_kept n p w pfd K i r router_at h F w.links K;
-    step = Skips (record {
-      machines = machines_same n p w pfd K i r router_at h F w.links;
-      inboxes = record { inbox_same = λ e. refl };
-      holdings = record { ripe_same = λ e. ripe_beside n p w pfd K i r router_at h F w.links e (and_right (h.port == e.port) (prefix_eq p (h.message).prefix) (unplaced out)); unripe_same = unripe_same n p w pfd K i r router_at h F w.links };
-      links = record { up_same = λ e. refl; session_same = λ e. refl };
-      costs = record { cost_same = λ e. refl };
-      publications = published_same n p w pfd K i r router_at h F w.links;
-    });
+  -- a release leaves the view as it was where the port of the message is not there
+  pub skipped_nowhere : lay n (at_port i h.port) ≡ None → Skip (topology n N) (view n p w pfd) (view n p (record w { links = w.links; routers = changed_at i router_releasing w.routers }) pfd)
+  skipped_nowhere out = record {
+    machines = machines_same n p w pfd K i r router_at h F w.links;
+    inboxes = record { inbox_same = λ e. refl };
+    holdings = record { ripe_same = λ e. ripe_beside n p w pfd K i r router_at h F w.links e (and_right (h.port == e.port) (prefix_eq p (h.message).prefix) (unplaced out)); unripe_same = unripe_same n p w pfd K i r router_at h F w.links };
+    links = record { up_same = λ e. refl; session_same = λ e. refl };
+    costs = record { cost_same = λ e. refl };
+    publications = published_same n p w pfd K i r router_at h F w.links;
   }
+
+  -- so the step Release is one of the view there
+  pub releases_nowhere : lay n (at_port i h.port) ≡ None → StepKept n N p w pfd (record w { links = w.links; routers = changed_at i router_releasing w.routers }) pfd
+  releases_nowhere out = record { kept = world_kept n p w pfd K i r router_at h F w.links K; step = Skips (skipped_nowhere out) }

@@ -1,7 +1,8 @@
 -- A router that takes an item takes it in the view too, or nothing of the prefix changes.
 use Rattle.std.proofs.Common.{refl, sym, ap, subst, ◌∙◌, arith, inl, inr, ◌≡◌, ℕ, zero, suc, ◌<◌, Bool, true, false, List, [], ◌∷◌, ◌++◌, length, drop, Option, Some, None, is_some, slice_get, option_map, option_and_then}
-use Rattle.packet_loops.proofs.Common.{option_map_or, cases_eq, false≢true, slice_get_within, Prefix, prefix_cmp, prefix_eq, Machine, reaction, changed_at, opening_machine, attachment_after, Neighbour, Event, Item, Entry, End, Side, Link, Router, World, Network, side, machine_of, places_from, Place, Port, router_accepting, with_front_taken, session_at, Some_injective, None_not_Some, slice_get-changed_at, listed_at, LinkEnd, State, SeenItem, UpNotice, DownNotice, CostNotice, Reported, at_port, msg_of, next_hop, heard, heard_item, inbox_of, kept, ripe_of, unripe_of, next_hop_at, view, lay, Meets, IsSound, is_up_at, test_at, sent_to, machine_laws, Takes, Skips, event_of, seen_after, held_for, SameLinks, SameCosts, none_sent, IsLawfulInbox, meets_item, place_cases, Invariant}
+use Rattle.packet_loops.proofs.Common.{option_map_or, cases_eq, false≢true, slice_get_within, Prefix, prefix_cmp, prefix_eq, Machine, reaction, changed_at, opening_machine, attachment_after, Neighbour, Event, Item, Message, Entry, End, Side, Link, Router, World, Network, side, machine_of, places_from, Place, Port, router_accepting, with_front_taken, session_at, Some_injective, None_not_Some, slice_get-changed_at, listed_at, LinkEnd, State, SeenItem, UpNotice, DownNotice, CostNotice, Reported, at_port, msg_of, next_hop, heard, heard_item, inbox_of, kept, ripe_of, unripe_of, next_hop_at, view, lay, Meets, IsSound, is_up_at, test_at, sent_to, machine_laws, Takes, Skips, event_of, seen_after, held_for, SameLinks, SameCosts, none_sent, IsLawfulInbox, meets_item, place_cases, Invariant}
 use Rattle.std.specs.FinMap.{find as row_of}
+use Rattle.loop_freedom.specs.Network.{Take as NetTake, Skip}
 use Rattle.machine_laws.proofs.Events.{ports_length as records_length}
 use Rattle.packet_loops.proofs.Wiring.{IsWired}
 use Rattle.packet_loops.proofs.Places.{laid, topology}
@@ -145,18 +146,19 @@ module _ (n : Network) (N : IsWired n) (p : Prefix) (w : World) (pfd : ℕ → �
   ]
 
   -- an item of which the prefix hears nothing leaves the view as it was
-  pub skips : heard_item p item ≡ [] → Unmoved n p i r r' → StepKept n N p w pfd v pfd
-  skips silent U = record {
-    kept = world_kept U.keeps (ap (λ (m : Machine). m.attachment) U.machine_is);
-    step = Skips (record {
-      machines = record { machine_same = router_same (λ y. machine_of y p) (opening_machine None []) U.machine_is; seen_same = λ e. router_same (λ y. session_at y.ports e.port) 0 (U.seen_is e.port) e.router };
-      inboxes = record { inbox_same = inboxes_same silent };
-      holdings = record { ripe_same = λ e. router_same (λ y. kept p e.port (ripe_of y)) [] (U.ripe_is e.port) e.router; unripe_same = λ e. router_same (λ y. kept p e.port (unripe_of y)) [] (U.unripe_is e.port) e.router };
-      links = links_same;
-      costs = costs_same;
-      publications = record { published_same = published_as U.published_is; published_fd_same = λ j. refl };
-    });
+  pub skipped : heard_item p item ≡ [] → Unmoved n p i r r' → Skip (topology n N) old new
+  skipped silent U = record {
+    machines = record { machine_same = router_same (λ y. machine_of y p) (opening_machine None []) U.machine_is; seen_same = λ e. router_same (λ y. session_at y.ports e.port) 0 (U.seen_is e.port) e.router };
+    inboxes = record { inbox_same = inboxes_same silent };
+    holdings = record { ripe_same = λ e. router_same (λ y. kept p e.port (ripe_of y)) [] (U.ripe_is e.port) e.router; unripe_same = λ e. router_same (λ y. kept p e.port (unripe_of y)) [] (U.unripe_is e.port) e.router };
+    links = links_same;
+    costs = costs_same;
+    publications = record { published_same = published_as U.published_is; published_fd_same = λ j. refl };
   }
+
+  -- and so is a step of the view that keeps what a world keeps
+  pub skips : heard_item p item ≡ [] → Unmoved n p i r r' → StepKept n N p w pfd v pfd
+  skips silent U = record { kept = world_kept U.keeps (ap (λ (m : Machine). m.attachment) U.machine_is); step = Skips (skipped silent U) }
 
   -- ---- an item that the prefix hears
 
@@ -199,26 +201,23 @@ module _ (n : Network) (N : IsWired n) (p : Prefix) (w : World) (pfd : ℕ → �
         silent_to_none n p i r kept_r (laid n a x0 laid_a).known (event_of q hears) sound (meets_item machine_laws m q hears (new.inbox a) (session_at r.ports q) (old.session a) (old.up a) there lawful_front)
 
     -- an item that the prefix hears is taken in the view
-    pub takes : Reacted n p i q hears r r' → StepKept n N p w pfd v pfd
-    takes Q = record {
-      kept = world_kept (Q.keeps silent_beyond) (ap (λ (m : Machine). m.attachment) Q.machine_is ∙ machine_laws.keeps_attachment (machine_of r p) (event_of q hears) ∙ item_leaves q hears (machine_of r p).attachment);
-      step = Takes (record {
-        a = a;
-        item = hears;
-        valid_place = ap is_some laid_a;
-        inbox_at = inbox_front;
-        inbox_elsewhere = inbox_elsewhere;
-        machine_at = on_router-there (λ y. machine_of y p) (opening_machine None []) v.routers i r' (new_at i refl) ∙ Q.machine_is ∙ ap (λ (m : Machine). (reaction m (event_of q hears)).machine) (sym machine_was);
-        machine_elsewhere = λ j apart. on_router-miss (λ y. machine_of y p) (opening_machine None []) w.routers (router_accepting q item) i j apart;
-        seen_at = on_router-there (λ y. session_at y.ports q) 0 v.routers i r' (new_at i refl) ∙ Q.seen_here ∙ ap (seen_after hears) (sym seen_was);
-        seen_elsewhere = seen_beside;
-        unripe_at = unripe_here;
-        unripe_elsewhere = λ e apart. on_router-miss (λ y. kept p e.port (unripe_of y)) [] w.routers (router_accepting q item) i e.router apart;
-        ripe_same = λ e. router_same (λ y. kept p e.port (ripe_of y)) [] (Q.ripe_is e.port) e.router;
-        links = links_same;
-        costs = costs_same;
-        publications = record { published_same = published_as Q.published_is; published_fd_same = λ j. refl };
-      });
+    pub taken : Reacted n p i q hears r r' → NetTake (topology n N) old new
+    taken Q = record {
+      a = a;
+      item = hears;
+      valid_place = ap is_some laid_a;
+      inbox_at = inbox_front;
+      inbox_elsewhere = inbox_elsewhere;
+      machine_at = on_router-there (λ y. machine_of y p) (opening_machine None []) v.routers i r' (new_at i refl) ∙ Q.machine_is ∙ ap (λ (m : Machine). (reaction m (event_of q hears)).machine) (sym machine_was);
+      machine_elsewhere = λ j apart. on_router-miss (λ y. machine_of y p) (opening_machine None []) w.routers (router_accepting q item) i j apart;
+      seen_at = on_router-there (λ y. session_at y.ports q) 0 v.routers i r' (new_at i refl) ∙ Q.seen_here ∙ ap (seen_after hears) (sym seen_was);
+      seen_elsewhere = seen_beside;
+      unripe_at = unripe_here;
+      unripe_elsewhere = λ e apart. on_router-miss (λ y. kept p e.port (unripe_of y)) [] w.routers (router_accepting q item) i e.router apart;
+      ripe_same = λ e. router_same (λ y. kept p e.port (ripe_of y)) [] (Q.ripe_is e.port) e.router;
+      links = links_same;
+      costs = costs_same;
+      publications = record { published_same = published_as Q.published_is; published_fd_same = λ j. refl };
     }
       where
         seen_beside : (e : LinkEnd) → (e ≡ a → ⊥) → new.seen e ≡ old.seen e
@@ -238,7 +237,27 @@ module _ (n : Network) (N : IsWired n) (p : Prefix) (w : World) (pfd : ℕ → �
             ∙ Q.unripe_is e.port
             ∙ (λ z. unripe_is z ++ held_for (seen_is z) (sent_to e.port (reaction (machine_is z) (event_of q hears)).sends))
 
+    -- which is what the prefix hears
+    pub taken_item : (Q : Reacted n p i q hears r r') → (taken Q).item ≡ hears
+    unfolding taken
+    taken_item Q = refl
+
+    -- and so is a step of the view that keeps what a world keeps
+    pub takes : Reacted n p i q hears r r' → StepKept n N p w pfd v pfd
+    takes Q = record {
+      kept = world_kept (Q.keeps silent_beyond) (ap (λ (m : Machine). m.attachment) Q.machine_is ∙ machine_laws.keeps_attachment (machine_of r p) (event_of q hears) ∙ item_leaves q hears (machine_of r p).attachment);
+      step = Takes (taken Q);
+    }
+
 -- ---- each item
+
+-- the prefix hears a message of its own
+pub one_word : (p : Prefix) (m : Message) → prefix_eq p m.prefix ≡ true → heard_item p (Item.Message m) ≡ Reported (msg_of m) ∷ []
+one_word p m is = rw is refl
+
+-- and none of another prefix
+pub no_word : (p : Prefix) (m : Message) → prefix_eq p m.prefix ≡ false → heard_item p (Item.Message m) ≡ []
+no_word p m is = rw is refl
 
 module _ (n : Network) (N : IsWired n) (p : Prefix) (w : World) (pfd : ℕ → ℕ) (K : WorldKept n p w) (I : Invariant (topology n N) (view n p w pfd))
     (i q : ℕ) (x0 : Place) (laid_a : lay n (at_port i q) ≡ Some x0) (k : Link) (at : slice_get w.links x0.link ≡ Some k) (r : Router) (router_at : slice_get w.routers i ≡ Some r) where
@@ -271,12 +290,6 @@ module _ (n : Network) (N : IsWired n) (p : Prefix) (w : World) (pfd : ℕ → �
       (λ y. record y { session = session; cost = cost }) (cost_opened r.ports q session cost) (λ x there. sym law.1 ∙ session_of x there))
   takes_item (Item.Message m) front = by_prefix (prefix_eq p m.prefix) refl
     where
-      one_word : prefix_eq p m.prefix ≡ true → heard_item p (Item.Message m) ≡ Reported (msg_of m) ∷ []
-      one_word is = rw is refl
-
-      no_word : prefix_eq p m.prefix ≡ false → heard_item p (Item.Message m) ≡ []
-      no_word is = rw is refl
-
       by_prefix : (b : Bool) → prefix_eq p m.prefix ≡ b → StepKept n N p w pfd (v_of (Item.Message m)) pfd
-      by_prefix true is = takes n N p w pfd K I i q x0 laid_a k at r router_at (Item.Message m) front (Reported (msg_of m)) (one_word is) (reacts_to_message n p i r (K.routers_kept i r router_at) q m is)
-      by_prefix false is = skips n N p w pfd K I i q x0 laid_a k at r router_at (Item.Message m) front (no_word is) (unmoved_by_message n p i r (K.routers_kept i r router_at) q m is)
+      by_prefix true is = takes n N p w pfd K I i q x0 laid_a k at r router_at (Item.Message m) front (Reported (msg_of m)) (one_word p m is) (reacts_to_message n p i r (K.routers_kept i r router_at) q m is)
+      by_prefix false is = skips n N p w pfd K I i q x0 laid_a k at r router_at (Item.Message m) front (no_word p m is) (unmoved_by_message n p i r (K.routers_kept i r router_at) q m is)

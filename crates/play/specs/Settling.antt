@@ -2,14 +2,18 @@
 use Rattle.std.specs.Prelude.{◌≡◌, ◌⊎◌, true}
 use Rattle.network_model.specs.declared.step.Refusal.{Refusal}
 use Rattle.network_model.specs.declared.step.Refusal.TheVariants.{NoMemory}
+use Rattle.network_model.specs.Forwarding.{is_quiet}
 use Rattle.network_model.specs.Turns.{is_settled}
 use Rattle.fabric.specs.Fabric.{Fabric}
+use Rattle.fabric.specs.Headline.{HasBestRows}
 use Rattle.control.specs.Served.{IsServed, IsTurnRefused, none_asked}
 
--- steps, each of which some router had to do next, lead to a network that is settled
+-- steps, each of which some router had to do next, lead to a network that is settled, and so quiet: each router's row for each prefix is the best
 pub record Settles (f g : Fabric) : Type 0 where
   pub served : IsServed f none_asked g
   pub settled : is_settled g.world ≡ true
+  pub quiet : is_quiet g.world ≡ true
+  pub least_cost : HasBestRows g
 
 -- such steps were done, and on the way one was refused, or there was no memory for the threads
 pub record StopsSettling (f g : Fabric) (e : Refusal) : Type 0 where

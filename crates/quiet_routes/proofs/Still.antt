@@ -1,6 +1,6 @@
 -- A quiet world is a quiet state of the view, and its published rows are those of its machines.
-use Rattle.std.proofs.Common.{refl, sym, ap, ◌∙◌, ◌≡◌, ℕ, zero, suc, Bool, true, false, cond, not, ◌&&◌, List, [], ◌∷◌, take, drop, Option, Some, None, slice_get, filter, option_map, option_and_then, unwrap_or, is_none, is_some}
-use Rattle.packet_loops.proofs.Common.{list_all, option_map_or, take-nil, drop-nil, and_parts, false≢true, Prefix, prefix_cmp, prefix_eq, Machine, Computation, opening_machine, port_successor, Held, Entry, End, A, B, Link, Router, Attachments, World, Network, side, machine_of, neighbours, Place, entry_eq, has_row, changed_rows, entry_of, session_at, is_empty, is_quiet_router, is_quiet_link, has_no_notice, is_quiet, entry_from_eq, Some_injective, None_not_Some, is_active, next_hop_of, find-map, State, at_port, next_hop, next_hop_at, on_link, inbox_of, heard, kept, ripe_of, unripe_of, view, lay}
+use Rattle.std.proofs.Common.{refl, sym, ap, ◌∙◌, ◌≡◌, ℕ, Bool, true, false, cond, not, ◌&&◌, List, [], ◌∷◌, Option, Some, None, slice_get, filter, option_map, option_and_then, unwrap_or, is_none, is_some}
+use Rattle.packet_loops.proofs.Common.{list_all, option_map_or, and_parts, false≢true, Prefix, prefix_cmp, prefix_eq, Machine, Computation, opening_machine, port_successor, Entry, Link, Router, Attachments, World, Network, machine_of, neighbours, entry_eq, has_row, changed_rows, entry_of, session_at, is_empty, is_quiet_router, is_quiet_link, has_no_notice, is_quiet, entry_from_eq, Some_injective, None_not_Some, is_active, next_hop_of, find-map, State, at_port, next_hop, next_hop_at, view, lay}
 use Rattle.std.specs.FinMap.{find as row_of}
 use Rattle.packet_loops.proofs.Wiring.{IsWired}
 use Rattle.packet_loops.proofs.Machines.{prefix_same}
@@ -10,14 +10,9 @@ use Rattle.packet_loops.proofs.Runs.{Reached}
 use Rattle.packet_loops.proofs.View.{on_router-there}
 use Rattle.least_cost.specs.Quiet.{IsQuiet}
 use Rattle.quiet_routes.proofs.Worlds.{Good}
+use Rattle.quiet_routes.proofs.Silent.{all_at, empty_is, inbox_none, ripe_none, unripe_none}
 
 -- ---- lists all of whose elements pass
-
--- where all elements pass, the one at a position does
-all_at : {A : Type 0} (f : A → Bool) (xs : List A) → list_all f xs ≡ true → (k : ℕ) (x : A) → slice_get xs k ≡ Some x → f x ≡ true
-all_at f [] h k x e = absurd (None_not_Some e)
-all_at f (y ∷ ys) h zero x e = ap f (sym (Some_injective e)) ∙ (and_parts (f y) (list_all f ys) h).0
-all_at f (y ∷ ys) h (suc k) x e = all_at f ys (and_parts (f y) (list_all f ys) h).1 k x e
 
 -- where all rows pass, the one that is found does
 row_passes : {X : Type 0} (p : Prefix) (f : Prefix × X → Bool) (rows : List (Prefix × X)) → list_all f rows ≡ true → (x : X) → row_of prefix_cmp p rows ≡ Some x → f (p, x) ≡ true
@@ -39,11 +34,6 @@ nothing_filtered f (x ∷ xs) h = by_test (f x) h (nothing_filtered f xs)
     by_test : (b : Bool) → is_empty (cond (not b) (x ∷ filter (λ y. not (f y)) xs) (filter (λ y. not (f y)) xs)) ≡ true → (is_empty (filter (λ y. not (f y)) xs) ≡ true → list_all f xs ≡ true) → (b && list_all f xs) ≡ true
     by_test true e rest = rest e
     by_test false e rest = absurd (false≢true e)
-
--- a list that is empty by the test is the empty list
-empty_is : {A : Type 0} (xs : List A) → is_empty xs ≡ true → xs ≡ []
-empty_is [] h = refl
-empty_is (x ∷ xs) h = absurd (false≢true h)
 
 -- ---- one router
 
@@ -114,19 +104,6 @@ module _ (n : Network) (N : IsWired n) (p : Prefix) (w : World) (rs : List Route
   pub row_now : (i : ℕ) (r : Router) → slice_get w.routers i ≡ Some r → row_of prefix_cmp p (r.table).published ≡ option_map (λ m. entry_of r.ports m) (row_of prefix_cmp p r.machines)
   row_now i r at = (still i r at).row_is ∙ ap (row_of prefix_cmp p) (R.kept.routers_kept i r at).control_is ∙ find-map prefix_cmp (λ (m : Machine). entry_of r.ports m) p r.machines
 
-  -- no port has an item to take
-  inbox_none : (o : Option Place) → on_link (inbox_of p) [] o w.links ≡ []
-  inbox_none None = refl
-  inbox_none (Some x) = by_link (slice_get w.links x.link) refl
-    where
-      by_end : (k : Link) (e : End) → (is_empty (k.a).inbox ≡ true) × (is_empty (k.b).inbox ≡ true) → heard p (side e k).inbox ≡ []
-      by_end k A h = ap (heard p) (empty_is (k.a).inbox h.0)
-      by_end k B h = ap (heard p) (empty_is (k.b).inbox h.1)
-
-      by_link : (o : Option Link) → slice_get w.links x.link ≡ o → option_map_or (inbox_of p x.end) o [] ≡ []
-      by_link None at = refl
-      by_link (Some k) at = by_end k x.end (and_parts (is_empty (k.a).inbox) (is_empty (k.b).inbox) (link_quiet x.link k at))
-
   -- every machine of the view is passive
   passive_now : (i : ℕ) → is_active (s.machine i) ≡ false
   passive_now i = by_router (slice_get w.routers i) refl
@@ -134,14 +111,6 @@ module _ (n : Network) (N : IsWired n) (p : Prefix) (w : World) (rs : List Route
       by_router : (o : Option Router) → slice_get w.routers i ≡ o → is_active (option_map_or (λ r. machine_of r p) o (opening_machine None [])) ≡ false
       by_router None at = refl
       by_router (Some r) at = (still i r at).passive
-
-  -- nothing is kept of any part of what routers hold
-  kept_none : (part : Router → List Held) → ((r : Router) → (r.gate).held ≡ [] → part r ≡ []) → (i q : ℕ) → option_map_or (λ r. kept p q (part r)) (slice_get w.routers i) [] ≡ []
-  kept_none part none i q = by_router (slice_get w.routers i) refl
-    where
-      by_router : (o : Option Router) → slice_get w.routers i ≡ o → option_map_or (λ r. kept p q (part r)) o [] ≡ []
-      by_router None at = refl
-      by_router (Some r) at = ap (kept p q) (none r (still i r at).held_none)
 
   -- every published next hop is the successor, in the session seen there
   published_now : (i : ℕ) → s.published i ≡ next_hop_of (λ q. s.seen (at_port i q)) (port_successor (s.machine i))
@@ -162,8 +131,8 @@ module _ (n : Network) (N : IsWired n) (p : Prefix) (w : World) (rs : List Route
   pub quiet_now : IsQuiet (topology n N) n.routers s
   quiet_now = record {
     passive = λ i l. passive_now i;
-    inbox_empty = λ e v. inbox_none (lay n e);
-    ripe_empty = λ e v. kept_none ripe_of (λ r h. ap (take (r.gate).ripe) h ∙ take-nil (r.gate).ripe) e.router e.port;
-    unripe_empty = λ e v. kept_none unripe_of (λ r h. ap (drop (r.gate).ripe) h ∙ drop-nil (r.gate).ripe) e.router e.port;
+    inbox_empty = λ e v. inbox_none p w link_quiet (lay n e);
+    ripe_empty = λ e v. ripe_none p w (λ i r at. (still i r at).held_none) e.router e.port;
+    unripe_empty = λ e v. unripe_none p w (λ i r at. (still i r at).held_none) e.router e.port;
     published_is = λ i l. published_now i;
   }

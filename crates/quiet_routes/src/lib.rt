@@ -1,7 +1,10 @@
-//! What holds of a network of routers that has come to rest: published rows lead along cheapest ways.
+//! What holds of a network of routers that has come to rest: no machine is in a computation, and
+//! published rows lead along cheapest ways.
 #![tactic(auto)]
 
+ghost use Rattle.packet_loops.specs.Packets.{HoldsInEveryWorld};
 ghost use Rattle.quiet_routes.specs.Routes.{QuietRoutes, SomeQuietRuns};
+ghost use Rattle.quiet_routes.specs.Settled.{SettledIsQuiet};
 
 /// Where a walk of up links leads from a router to one that is attached to the prefix, its row for the
 /// prefix is Local (at an attached router) or begins a chain of Via rows over up links in their
@@ -16,4 +19,10 @@ pub fn quiet_routes()
 /// a router that has not heard of the prefix.
 pub fn some_quiet_runs()
     ensures { SomeQuietRuns }
+{}
+
+/// A network has nothing left to do exactly where all is quiet: where nothing waits and nothing is due,
+/// no machine is left in a computation.
+pub fn settled_is_quiet()
+    ensures { HoldsInEveryWorld SettledIsQuiet }
 {}

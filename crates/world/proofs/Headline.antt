@@ -2,7 +2,7 @@
 use Rattle.std.proofs.Common.{List, ◌++◌}
 use Rattle.network_model.specs.declared.step.Step.{Step}
 use Rattle.packet_loops.proofs.Common.{Network, World, opening, Runs}
-use Rattle.packet_loops.proofs.Walks.{always_packets_free}
+use Rattle.all_packets.proofs.Ways.{always_no_circles}
 use Rattle.quiet_routes.proofs.Routes.{quiet_routes}
 use Rattle.world.specs.Headline.{IsReached, HasWorldHeadline}
 use Rattle.world.proofs.Runs.{runs-append}
@@ -18,6 +18,6 @@ reached_on n w v ss reached more = record {
 -- what holds there
 pub sound_there : (n : Network) (w : World) → IsReached n w → HasWorldHeadline n w
 sound_there n w reached = record {
-  no_loop = always_packets_free n reached.steps w reached.valid reached.runs;
+  no_loop = always_no_circles n reached.steps w reached.valid reached.runs;
   least_cost = quiet_routes n reached.steps w reached.valid reached.runs;
 }

@@ -6,7 +6,7 @@ use Rattle.network_model.specs.World.{Network, World, opening}
 use Rattle.network_model.specs.Network.{IsNetwork}
 use Rattle.network_model.specs.Run.{Runs}
 use Rattle.network_model.specs.Forwarding.{is_quiet}
-use Rattle.packet_loops.specs.Packets.{NoPacketLoops}
+use Rattle.all_packets.specs.Packets.{NoPacketCircles}
 use Rattle.quiet_routes.specs.Routes.{HasBestRow}
 
 -- some list of lawful steps leads from the opening of a network without faults to this world
@@ -15,7 +15,7 @@ pub record IsReached (n : Network) (w : World) : Type 0 where
   pub steps : List Step
   pub runs : Runs (opening n) steps w
 
--- no packet that is matched by one prefix at every hop meets a router twice along the published rows; and where all is quiet, each router's row for each prefix is the best
+-- no packet meets a router twice along the published rows, whichever prefixes match it on its way; and where all is quiet, each router's row for each prefix is the best
 pub record HasWorldHeadline (n : Network) (w : World) : Type 0 where
-  pub no_loop : NoPacketLoops w
+  pub no_loop : NoPacketCircles w
   pub least_cost : is_quiet w ≡ true → (p : Prefix) (i : ℕ) → i < n.routers → HasBestRow w p i

@@ -1,0 +1,99 @@
+-- Where nothing is on a link or held, every machine is passive: who is awaited owes a reply, and has a greater feasible distance.
+use Rattle.std.proofs.Common.{◌≡◌, ℕ, zero, suc, ◌+◌, ◌<◌, ◌≤◌, Bool, true, false, ◌==◌, [], Option, Some, None, is_some, refl, sym, subst, arith, ◌∙◌, eq-eqb}
+use Rattle.network_model.proofs.Common.{and_from, and_parts, false≢true, infinity, is_port, Computation, LinkEnd, State, at_port, one_if}
+use Rattle.machine_laws.specs.Laws.{is_active, is_up_at, awaits, owes, owes_of}
+use Rattle.machine_laws.proofs.MachineLaws.{machine_laws}
+use Rattle.loop_freedom.specs.Network.{Topology}
+use Rattle.loop_freedom.specs.Facts.{End, pipe, is_current, end_at}
+use Rattle.loop_freedom.proofs.Link.{EndInvariant}
+use Rattle.loop_freedom.proofs.Invariant.{Invariant}
+use Rattle.loop_freedom.proofs.Opened.{opening_keeps}
+use Rattle.loop_freedom.proofs.Walks.{run_keeps}
+use Rattle.least_cost.specs.Settled.{NothingOnTheWay, PassiveOnceSettled}
+use Rattle.least_cost.proofs.Kept.{Kept}
+use Rattle.least_cost.proofs.Runs.{kept_run}
+
+-- where nothing is on the way between two ends, one that is awaited owes a reply
+owed : (x y : End) → EndInvariant x y → pipe x ≡ [] → pipe y ≡ [] → x.awaits ≡ true → y.owes ≡ true
+owed x y h px py waits = by_debt y.owes (rw (px, py, waits) at h.awaited_once)
+  where
+    by_debt : (b : Bool) → 0 + one_if b + 0 ≡ 1 → b ≡ true
+    by_debt true e = refl
+    by_debt false e = absurd (omega (arith, e))
+
+-- a machine that owes a reply is active
+active_debtor : (c : Option Computation) (q : ℕ) → owes_of c q ≡ true → is_some c ≡ true
+active_debtor None q h = absurd (false≢true h)
+active_debtor (Some c) q h = refl
+
+module _ (t : Topology) (s : State) (I : Invariant t s) (k : Kept t s) (rest : NothingOnTheWay t s) where
+  -- nothing is on the way from an end
+  silent : (e : LinkEnd) → t.valid e ≡ true → pipe (end_at t s e) ≡ []
+  silent e v = rw (rest.inbox_empty (t.far e) (t.far_valid e v), rest.ripe_empty e v, rest.unripe_empty e v) refl
+
+  -- a router that is active too, at a greater feasible distance
+  record Debtor (i : ℕ) : Type 0 where
+    router : ℕ
+    active : is_active (s.machine router) ≡ true
+    further : (s.machine i).fd < (s.machine router).fd
+
+  -- the router across from a port that is awaited is such a router: it owes a reply, and that to its successor
+  debtor_across : (e : LinkEnd) → awaits (s.machine e.router) e.port ≡ true → Debtor e.router
+  debtor_across e waits =
+      record { router = f.router; active = active_debtor (s.machine f.router).computation f.port debt.1; further = falls.0 }
+    where
+      f : LinkEnd
+      f = t.far e
+
+      on : is_up_at (s.machine e.router) e.port ≡ true
+      on = (I.sound e.router).awaits_up e.port waits
+
+      v : t.valid e ≡ true
+      v = k.up_valid e on
+
+      now : (is_up_at (s.machine e.router) e.port ≡ s.up e) × (s.seen e ≡ s.session e)
+      now = rw (rest.inbox_empty e v) at (I.lawful e v)
+
+      up : s.up e ≡ true
+      up = sym now.0 ∙ on
+
+      current : is_current (s.machine e.router) e.port (s.seen e) (s.session e) ≡ true
+      current = and_from (is_up_at (s.machine e.router) e.port) (s.seen e == s.session e) on (eq-eqb (s.seen e) (s.session e) now.1)
+
+      waits_here : (end_at t s e).awaits ≡ true
+      waits_here = and_from (is_current (s.machine e.router) e.port (s.seen e) (s.session e)) (awaits (s.machine e.router) e.port) current waits
+
+      debt : (is_current (s.machine f.router) f.port (s.seen f) (s.session f) ≡ true) × (owes (s.machine f.router) f.port ≡ true)
+      debt = and_parts (is_current (s.machine f.router) f.port (s.seen f) (s.session f)) (owes (s.machine f.router) f.port)
+          (owed (end_at t s e) (end_at t s f) (I.links e v up) (silent e v) (silent f (t.far_valid e v)) waits_here)
+
+      chosen : (end_at t s f).chosen ≡ true
+      chosen = and_from (is_current (s.machine f.router) f.port (s.seen f) (s.session f)) (is_port f.port (s.machine f.router).successor) debt.0
+          (rw ((I.sound f.router).owes_successor f.port debt.1) (eq-eqb f.port f.port refl))
+
+      back : EndInvariant (end_at t s f) (end_at t s e)
+      back = subst (λ (x : LinkEnd). EndInvariant (end_at t s f) (end_at t s x)) (t.far_far e v) (I.links f (t.far_valid e v) (I.up_far e v ∙ up))
+
+      falls : ((s.machine e.router).fd < (s.machine f.router).fd) × (s.published_fd e.router < (s.machine f.router).fd)
+      falls = back.control_edge_falls chosen
+
+  -- for each router that is active there is such a router
+  debtor : (i : ℕ) → is_active (s.machine i) ≡ true → Debtor i
+  debtor i active = let some = (I.sound i).awaits_some active in debtor_across (at_port i some.0) some.1
+
+  -- so no router is active whose feasible distance is at most d below infinity
+  none_active : (d i : ℕ) → infinity ≤ (s.machine i).fd + d → is_active (s.machine i) ≡ true → ⊥
+  none_active zero i near active = omega (arith, near, (I.sound i).active_above active, (I.sound i).rd_bounded)
+  none_active (suc d) i near active = let next = debtor i active in none_active d next.router (omega (arith, near, next.further)) next.active
+
+  -- every machine is passive
+  pub all_passive : (i : ℕ) → is_active (s.machine i) ≡ false
+  all_passive i = by_test (is_active (s.machine i)) refl
+    where
+      by_test : (b : Bool) → is_active (s.machine i) ≡ b → is_active (s.machine i) ≡ false
+      by_test true h = absurd (none_active infinity i (omega arith) h)
+      by_test false h = h
+
+-- after every run, where nothing is on a link or held every machine is passive
+pub passive_once_settled : PassiveOnceSettled
+passive_once_settled t first last o run rest = all_passive t last (run_keeps machine_laws t first last (opening_keeps t first o) run) (kept_run t first last o run) rest
