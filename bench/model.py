@@ -41,8 +41,8 @@ def step_of(network: Network, words: list[str]) -> Step:
     raise ValueError(f"no command: {' '.join(words)}")
 
 
-def trace(router: Router, addr: int) -> tuple[list[str], str]:
-    """The routers that a packet meets, and how it ends."""
+def trace(router: Router, addr: int, through: bool = False) -> tuple[list[str], str]:
+    """The routers that a packet meets, while one prefix matches it or through, and how it ends."""
     path: list[str] = []
     first: Prefix | None = None
     while True:
@@ -51,7 +51,7 @@ def trace(router: Router, addr: int) -> tuple[list[str], str]:
         if row is None:
             return path, "no route"
         prefix, entry = row
-        if first is not None and prefix != first:
+        if first is not None and prefix != first and not through:
             return path, "crossed"
         if entry == "local":
             return path, "delivered"
@@ -106,6 +106,9 @@ def answers(network: Network, words: list[str]) -> Iterator[str]:
         case ["trace", name, addr]:
             path, end = trace(network.routers[name], read_addr(addr))
             yield f"trace {name} {addr}: {' '.join(path)} {end}"
+        case ["trace", name, addr, "--through"]:
+            path, end = trace(network.routers[name], read_addr(addr), through=True)
+            yield f"trace {name} {addr} --through: {' '.join(path)} {end}"
         case _:
             network.do(step_of(network, words))
 

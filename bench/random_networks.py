@@ -114,8 +114,8 @@ class Script:
                 return f"{kind} {self.ends()}"
 
     def command(self) -> str:
-        kinds = ["try", "settle", "state", "table", "lookup", "report"]
-        weights = [80, 2, 6, 3, 6, 1]
+        kinds = ["try", "settle", "state", "table", "lookup", "trace", "report"]
+        weights = [80, 2, 6, 3, 3, 6, 1]
         kind = self.random.choices(kinds, weights)[0]
         match kind:
             case "try":
@@ -126,6 +126,8 @@ class Script:
                 return f"table {self.router()}"
             case "lookup":
                 return f"lookup {self.router()} {self.addr()}"
+            case "trace":
+                return f"trace {self.router()} {self.addr()}{self.random.choice(['', ' --through'])}"
             case _:
                 return kind
 

@@ -1,9 +1,9 @@
 -- What a fabric under a lock can have become: nothing at first, then step after step; and what the sum of its journal tells.
-use Rattle.std.proofs.Common.{inl, inr, refl, sym, ap, subst, ◌∙◌, ◌≡◌, ◌≢◌, ◌⊎◌, ℕ, ◌+◌, ◌||◌, Bool, true, false, not, find, map, if◌then◌else◌, List, [], ◌∷◌, ◌++◌, Option, Some, None, nat_lt, is_none, is_some, length, slice_get, option_and_then, Result, Ok, Err, IfOk, OnOk, OnErr, append_assoc, append-nil}
+use Rattle.std.proofs.Common.{inl, inr, refl, sym, ap, subst, ◌∙◌, ◌≡◌, ◌≢◌, ◌⊎◌, ℕ, ◌+◌, ◌≤◌, ◌||◌, Bool, true, false, not, find, map, if◌then◌else◌, List, [], ◌∷◌, ◌++◌, Option, Some, None, nat_lt, ltb-false, is_none, is_some, length, slice_get, option_and_then, Result, Ok, Err, IfOk, OnOk, OnErr, append_assoc, append-nil}
 use Rattle.network_model.proofs.Common.{option_map_or, false≢true, most_steps, first_cause, is_lawful, next_step, Lawful_to_refusal, None_not_Some, Some_injective, option_map_or-ind, slice_get-changed_at_other, routers-changed_link, range_with_len, or-true, Router, World, degree_of, Patch, Lawful, next, refusal, is_due, ripe_front, changed_link, with_cost, with_delivered, with_front_taken, with_message, with_noticed, with_released, front_at, notice_at, release_at, router_accepting, router_at_home, router_publishing, router_releasing, Runs}
 use Rattle.network_model.specs.declared.step.Step.TheVariants.{LinkUp, LinkDown, SetCost, Deliver, Publish, Release, Attach, Detach}
 use Rattle.network_model.specs.declared.step.Refusal.{Refusal}
-use Rattle.world.specs.Steps.{IsDoneOr}
+use Rattle.world.specs.Steps.{CanBeRefused, IsDoneOr}
 use Rattle.publication.specs.Outings.{Outing}
 use Rattle.network_model.specs.declared.step.Refusal.TheVariants.{UnknownRouter, NothingDue, NothingRipe}
 use Rattle.fabric.specs.Fabric.{next_fabric_step as next_turn}
@@ -11,10 +11,12 @@ use Rattle.fabric.proofs.Fabrics.{fit-append}
 use Rattle.fabric.proofs.Lending.{Spares, lent_none, lent_set, spared}
 use Rattle.network_model.specs.declared.step.Step.{Step}
 use Rattle.network_model.specs.Journal.{Fits}
+use Rattle.convergence.proofs.Turns.{next_chosen}
+use Rattle.fabric.proofs.Idle.{busy-unsettled}
 use Rattle.world.proofs.Runs.{with_last_step}
 use Rattle.fabric.specs.Fabric.{Fabric, after_step, awaits_writer, count_lent, fabric_refusal, is_lent, lent_at, with_lent}
 use Rattle.fabric.specs.Images.{images_in_force}
-use Rattle.control.specs.Served.{AreTurns, IsServed, IsTurnAt, PublishesNext, images_after, may_do}
+use Rattle.control.specs.Served.{AreTurns, IsServed, IsStopped, IsTurnAt, PublishesNext, images_after, may_do}
 
 -- ---- a router that publishes next
 
@@ -72,6 +74,34 @@ turn_next f i s due = by_step (next_step f.world i) due
     by_step : (o : Option Step) → option_and_then (λ t. if awaits_writer f t then None else Some t) o ≡ Some s → o ≡ Some s
     by_step None none = absurd (None_not_Some none)
     by_step (Some t) is = by_wait t (awaits_writer f t) is
+
+-- and it waits for no writer
+turn_free : (f : Fabric) (i : ℕ) (s : Step) → next_turn f i ≡ Some s → awaits_writer f s ≡ false
+turn_free f i s due = by_step (next_step f.world i) due
+  where
+    by_wait : (t : Step) (b : Bool) → awaits_writer f t ≡ b → (if b then None else Some t) ≡ Some s → awaits_writer f s ≡ false
+    by_wait t true waits none = absurd (None_not_Some none)
+    by_wait t false free is = ap (awaits_writer f) (sym (Some_injective is)) ∙ free
+
+    by_step : (o : Option Step) → option_and_then (λ t. if awaits_writer f t then None else Some t) o ≡ Some s → awaits_writer f s ≡ false
+    by_step None none = absurd (None_not_Some none)
+    by_step (Some t) is = by_wait t (awaits_writer f t) refl is
+
+-- so the world does not refuse it
+turn_lawful : (f : Fabric) (i : ℕ) (s : Step) → next_turn f i ≡ Some s → refusal f.world s ≡ None
+turn_lawful f i s due = Lawful_to_refusal f.world s (next_chosen f.world i s (turn_next f i s due)).1
+
+-- a step that a router has to do next is refused for want of room or of memory alone
+pub stopped : (f : Fabric) (i : ℕ) (s : Step) (e : Refusal) → next_turn f i ≡ Some s → CanBeRefused (fabric_refusal f s) e → IsStopped f e
+stopped f i s e due refused = record {
+  unsettled = busy-unsettled f.world i s (turn_next f i s due);
+  cause = by_room (nat_lt (length f.journal + count_lent f.lent) most_steps) refl refused;
+}
+  where
+    by_room : (b : Bool) → nat_lt (length f.journal + count_lent f.lent) most_steps ≡ b → CanBeRefused (if b then if awaits_writer f s then Some Refusal.Busy else refusal f.world s else Some Refusal.JournalFull) e
+        → ((e ≡ Refusal.JournalFull) × (most_steps ≤ length f.journal + count_lent f.lent)) ⊎ (e ≡ Refusal.NoMemory)
+    by_room true _ is = inr (subst (λ o. CanBeRefused o e) (ap (λ b. if b then Some Refusal.Busy else refusal f.world s) (turn_free f i s due) ∙ turn_lawful f i s due) is)
+    by_room false full is = inl (is, ltb-false (length f.journal + count_lent f.lent) most_steps full)
 
 -- a publication that a router does next is its own
 pub next_router : (w : World) (i j : ℕ) → next_step w i ≡ Some (Publish j) → j ≡ i

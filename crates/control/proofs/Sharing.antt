@@ -1,11 +1,12 @@
 -- New shares, one after another; and why a turn is refused.
-use Rattle.std.specs.Prelude.{◌≡◌, ℕ, ◌<◌, Bool, List, [], ◌∷◌, ◌++◌, length, if◌then◌else◌, ◌==◌, Option, Some, None, Result, Err, ⊤}
+use Rattle.std.specs.Prelude.{◌≡◌, ℕ, ◌<◌, Bool, List, [], ◌∷◌, ◌++◌, length, if◌then◌else◌, ◌==◌, Option, Some, Result, Err, ⊤}
 use Rattle.std.proofs.Common.{sym, subst, arith, inl, inr}
 use Rattle.network_model.specs.declared.step.Step.{Step}
 use Rattle.network_model.specs.declared.step.Refusal.{Refusal}
 use Rattle.publication.proofs.Places.{each-push}
-use Rattle.world.specs.Steps.{CanBeRefused, IsDoneOr}
+use Rattle.world.specs.Steps.{IsDoneOr}
 use Rattle.fabric.specs.Fabric.{Fabric, fabric_refusal, next_fabric_step}
+use Rattle.fabric.proofs.Causes.{refused_as}
 use Rattle.control.specs.declared.share.Share.{Share}
 use Rattle.control.specs.Served.{IsFound, IsTurn, IsTurnRefused}
 use Rattle.control.specs.Shares.{AreNew}
@@ -17,19 +18,10 @@ new_more sum ss ts s n new is many number its =
     (each-push (λ k t. (t.number ≡ k) × (t.sum ≡ (if k == 0 then sum else 0))) ss s new
     (subst (λ k. (s.number ≡ k) × (s.sum ≡ (if k == 0 then sum else 0))) (sym many) (number, its)))
 
--- why a step was refused
-pub refused_for : (cause : Option Refusal) (e : Refusal) → IsDoneOr {X = ⊤} cause (Err e) → CanBeRefused cause e
-refused_for None e h = h
-refused_for (Some c) e h = let inner : ◌≡◌ {A = Result ⊤ Refusal} (Err e) (Err c) = h in cc
-
-pub refused_as : (X : Type 0) (cause : Option Refusal) (e : Refusal) → IsDoneOr {X = X} cause (Err e) → CanBeRefused cause e
-refused_as X None e h = h
-refused_as X (Some c) e h = let inner : ◌≡◌ {A = Result X Refusal} (Err e) (Err c) = h in cc
-
 -- a turn whose step was refused
 pub refused_turn : (f : Fabric) (i : ℕ) (s : Step) (r : Result ⊤ Refusal) (e : Refusal) (answer : Result (Option Step) Refusal) → next_fabric_step f i ≡ Some s → r ≡ Err e → answer ≡ Err e → IsDoneOr (fabric_refusal f s) r → IsTurn f i answer
 refused_turn f i s r e answer due refused is done =
-    subst (IsTurn f i) (sym is) (inr (s, due, inl (refused_for (fabric_refusal f s) e (subst (IsDoneOr (fabric_refusal f s)) refused done))))
+    subst (IsTurn f i) (sym is) (inr (s, due, inl (refused_as ⊤ (fabric_refusal f s) e (subst (IsDoneOr (fabric_refusal f s)) refused done))))
 
 -- a turn that was refused at one of the routers
 pub turn_refused : (opened : Fabric) (asked : Step → Bool) (shares sum i : ℕ) (f : Fabric) (answer : Result (Option Step) Refusal) (e : Refusal) → IsFound opened asked shares sum f → i < (opened.network).routers

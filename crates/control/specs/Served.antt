@@ -1,20 +1,20 @@
 -- What a fabric that was under a lock can have become, and how a step or a turn comes out there.
-use Rattle.std.specs.Prelude.{◌≡◌, ℕ, ◌≤◌, ◌<◌, ◌⊎◌, ⊤, Bool, true, false, ◌||◌, List, [], ◌∷◌, ◌++◌, length, Option, Some, None, Result, Ok, Err}
+use Rattle.std.specs.Prelude.{◌≡◌, ℕ, ◌+◌, ◌≤◌, ◌<◌, ◌⊎◌, ⊤, Bool, true, false, ◌||◌, List, [], ◌∷◌, ◌++◌, length, Option, Some, None, Result, Ok, Err}
 use Rattle.std.specs.List.{AllByRecursion}
 use Rattle.network_model.specs.declared.step.Step.{Step}
 use Rattle.network_model.specs.declared.step.Step.TheVariants.{LinkUp, LinkDown, SetCost, Deliver, Publish, Release, Attach, Detach}
 use Rattle.network_model.specs.declared.step.Refusal.{Refusal}
-use Rattle.network_model.specs.declared.step.Refusal.TheVariants.{NoMemory, UnknownRouter, WrongTicket}
+use Rattle.network_model.specs.declared.step.Refusal.TheVariants.{JournalFull, NoMemory, UnknownRouter, WrongTicket}
 use Rattle.network_model.specs.World.{World}
 use Rattle.network_model.specs.Step.{Lawful, next}
 use Rattle.network_model.specs.Run.{Runs}
-use Rattle.network_model.specs.Turns.{is_lawful, next_step}
-use Rattle.network_model.specs.Journal.{Fits, journal_sum, step_number}
+use Rattle.network_model.specs.Turns.{is_lawful, is_settled, next_step}
+use Rattle.network_model.specs.Journal.{Fits, journal_sum, most_steps, step_number}
 use Rattle.network_model.specs.Publication.{Image}
 use Rattle.world.specs.Steps.{CanBeRefused}
-use Rattle.fabric.specs.Fabric.{Fabric, fabric_refusal, is_lent, ForwardsAsPublished}
+use Rattle.fabric.specs.Fabric.{Fabric, count_lent, fabric_refusal, is_lent, ForwardsAsPublished}
 use Rattle.fabric.specs.Fabric.{next_fabric_step as next_turn}
-use Rattle.fabric.specs.Headline.{NeverMeetsTwice, LeadsAtLeastCost}
+use Rattle.fabric.specs.Headline.{NeverMeetsTwice, LeadsAtLeastCost, ConvergesLeftAlone}
 use Rattle.fabric.specs.Images.{images_in_force}
 
 -- a fabric of no routers
@@ -80,11 +80,12 @@ pub record IsServed (opened : Fabric) (asked : Step → Bool) (fabric : Fabric) 
   -- each writer that is out was out then, or its router publishes next
   pub out : (i : ℕ) → is_lent fabric i ≡ true → (is_lent opened i ≡ true) ⊎ PublishesNext fabric.world i
 
--- its images in force answer by longest match over what the routers published, no packet circles along them, and at quiet they lead along least-cost walks
+-- its images in force answer by longest match over what the routers published, no packet circles along them, at quiet they lead along least-cost walks, and left alone it comes to rest there
 pub record HasHeadline (fabric : Fabric) : Type 0 where
   pub forwards : ForwardsAsPublished fabric
   pub no_loop : NeverMeetsTwice fabric
   pub least_cost : LeadsAtLeastCost fabric
+  pub converges : ConvergesLeftAlone fabric
 
 -- a fabric that the holder of a share of this sum can have found under the lock: its journal counts what the share does, and where there is no other share, nothing else
 pub record IsFound (opened : Fabric) (asked : Step → Bool) (shares sum : ℕ) (fabric : Fabric) : Type 0 where
@@ -102,6 +103,11 @@ pub record IsTurnRefused (opened : Fabric) (asked : Step → Bool) (e : Refusal)
   pub step : Step
   pub due : next_turn fabric router ≡ Some step
   pub refused : CanBeRefused (fabric_refusal fabric step) e ⊎ ((step ≡ Publish router) × (e ≡ WrongTicket))
+
+-- why one thread that takes all turns stops before nothing is left to do: the journal, with the places set aside, is full; or there is no memory
+pub record IsStopped (f : Fabric) (e : Refusal) : Type 0 where
+  pub unsettled : is_settled f.world ≡ false
+  pub cause : ((e ≡ JournalFull) × (most_steps ≤ length f.journal + count_lent f.lent)) ⊎ (e ≡ NoMemory)
 
 -- what is left of a turn while its writer is out can fail: for want of memory, or since its ticket is handed back
 abbrev pub CanFailOutside : Fabric → (Step → Bool) → Type 0

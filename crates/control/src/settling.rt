@@ -6,7 +6,7 @@ ghost use Rattle.network_model.specs.Forwarding.{is_quiet};
 ghost use Rattle.fabric.specs.Fabric.{Fabric as FabricState};
 ghost use Rattle.fabric.specs.Headline.{HasBestRows};
 ghost use Rattle.control.specs.Names.{IsNamed};
-ghost use Rattle.control.specs.Served.{CanFailOutside, IsServed, IsTurnRefused, none_asked};
+ghost use Rattle.control.specs.Served.{CanFailOutside, IsServed, IsStopped, IsTurnRefused, none_asked};
 ghost use Rattle.control.specs.Shares.{IsHolder, AreSameHolders};
 
 use crate::control::Control;
@@ -46,8 +46,9 @@ impl Origin for Brand {
 /// Lets routers take turns until nothing is left to do, or a step is refused, or there is no memory for
 /// the threads' shares. Where it is done all is quiet, and rows lead along least-cost walks. One thread
 /// takes all turns, in ascending cyclic order of the routers; while there is much to publish, up to so
-/// many do it together, and where the system gives fewer, those that it gives do all. How far it is,
-/// `progress` is told.
+/// many do it together, and where the system gives fewer, those that it gives do all. One thread alone
+/// is refused with `JournalFull` or `NoMemory` and with nothing else. Where a writer is out, it does not
+/// come back. How far it is, `progress` is told.
 pub fn settle<B, P, R>(
     rt: &R,
     alloc: Global,
@@ -65,6 +66,7 @@ where
     ensures least_cost { OnOk result (HasBestRows fabric.new) }
     ensures err { IfErr result (λ e. IsTurnRefused fabric.old none_asked e
         ⊎ (e ≡ Refusal.NoMemory)) }
+    ensures alone { threads ≤ 1 → IfErr result (IsStopped fabric.new) }
 {
     let by = (rt, alloc, threads, progress);
     let done = replace_with(fabric, by, |fabric, by| settle_moved(fabric, by));
@@ -86,6 +88,7 @@ where
     ensures quiet { OnOk result.1 (IsTrue (is_quiet (result.0).world)) }
     ensures err { IfErr result.1 (λ e. IsTurnRefused fabric none_asked e
         ⊎ (e ≡ Refusal.NoMemory)) }
+    ensures alone { by.entry.2 ≤ 1 → IfErr result.1 (IsStopped result.0) }
 {
     let (rt, alloc, threads, progress) = by;
     settle_from::<B, Brand, P, R>(rt, alloc, fabric, threads, progress)
@@ -109,6 +112,7 @@ where
     ensures settled { OnOk result.1 (IsTrue (turns.is_settled (result.0).world)) }
     ensures quiet { OnOk result.1 (IsTrue (is_quiet (result.0).world)) }
     ensures err { IfErr result.1 (λ e. IsTurnRefused O.from none_asked e ⊎ (e ≡ Refusal.NoMemory)) }
+    ensures alone { threads ≤ 1 → IfErr result.1 (IsStopped result.0) }
 {
     let mut fabric = fabric;
     for _ in rt.forever() {
@@ -116,12 +120,14 @@ where
         if done.is_err() || fabric.is_settled() {
             return (fabric, done);
         }
-        let opening = Opening::new(threads.max(1));
-        let (next, done) = settle_together::<B, Brand, R>(rt, alloc, opening, fabric);
-        if done.is_err() || next.is_settled() {
-            return (next, done);
+        if threads > 1 {
+            let opening = Opening::new(threads);
+            let (next, done) = settle_together::<B, Brand, R>(rt, alloc, opening, fabric);
+            if done.is_err() || next.is_settled() {
+                return (next, done);
+            }
+            fabric = next;
         }
-        fabric = next;
     }
     unreachable!()
 }
@@ -142,6 +148,7 @@ where
     requires { IsServed O.from none_asked fabric.old }
     ensures turns { IsServed O.from none_asked fabric.new }
     ensures err { IfErr result (IsTurnRefused O.from none_asked) }
+    ensures alone { IfErr result (IsStopped fabric.new) }
 {
     let mut watch = Watch::all();
     let mut router = 0;

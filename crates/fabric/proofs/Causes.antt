@@ -3,11 +3,16 @@ use Rattle.std.proofs.Common.{refl, sym, ap, subst, ◌∙◌, ◌≡◌, ℕ, �
 use Rattle.packet_loops.proofs.Common.{false≢true, slice_get_read, slice_get_within, Prefix, Refusal, Router, World, Lawful, is_due, refusal, router_publishing, Lawful_to_refusal, Image}
 use Rattle.network_model.specs.declared.step.Step.{Step}
 use Rattle.network_model.specs.declared.step.Step.TheVariants.{Publish}
-use Rattle.world.specs.Steps.{IsDoneOr}
+use Rattle.world.specs.Steps.{CanBeRefused, IsDoneOr}
 use Rattle.image_patch.specs.declared.Patch.{Patch as PatchFields}
 use Rattle.fabric.specs.Fabric.{Fabric, fabric_refusal}
 use Rattle.fabric.specs.Images.{due_at, image_in_force}
 use Rattle.fabric.specs.Patches.{IsPatchDue}
+
+-- a call that answers this refusal was refused for its cause, or for want of memory
+pub refused_as : (X : Type 0) (cause : Option Refusal) (e : Refusal) → IsDoneOr {X = X} cause (Err e) → CanBeRefused cause e
+refused_as X None e h = h
+refused_as X (Some c) e h = let inner : ◌≡◌ {A = Result X Refusal} (Err e) (Err c) = h in cc
 
 -- what a router publishes next, where something is due
 abbrev next_image : Router → Option Image

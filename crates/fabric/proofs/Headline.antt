@@ -1,14 +1,14 @@
 -- What the laws of all runs say of every fabric.
-use Rattle.std.proofs.Common.{refl, sym, ap, ◌∙◌, ◌≡◌, ℕ, Bool, true, false, cond, ◌&&◌, List, [], ◌∷◌, Option, Some, None, option_map, option_and_then, slice_get}
+use Rattle.std.proofs.Common.{refl, sym, ap, ◌∙◌, ◌≡◌, ℕ, Bool, true, false, cond, ◌&&◌, List, [], Option, Some, None, option_map, option_and_then, slice_get}
 use Rattle.packet_loops.proofs.Common.{option_map_or, slice_get-map, Prefix, longest_match, Entry, entry_leads, Router, router_publishing, IsNetwork, image_answer, None_not_Some}
 use Rattle.packet_loops.specs.Packets.{mixture_rows}
-use Rattle.all_packets.specs.Packets.{mixture_hop, IsMovingWay}
-use Rattle.all_packets.proofs.Ways.{always_no_moving_circles}
+use Rattle.all_packets.specs.Packets.{mixture_hop, IsMovingWay, MayGoOn}
+use Rattle.all_packets.proofs.Ways.{always_no_moving_circles, way_by}
 use Rattle.quiet_routes.proofs.Routes.{quiet_routes}
 use Rattle.convergence.proofs.Converging.{always_converges}
 use Rattle.fabric.specs.Images.{image_in_force}
 use Rattle.fabric.specs.Fabric.{Fabric, is_lent, IsFabric}
-use Rattle.fabric.specs.Headline.{image_row, image_hop, IsImageWay, NeverMeetsTwice, LeadsAtLeastCost, ConvergesLeftAlone}
+use Rattle.fabric.specs.Headline.{image_row, image_hop, GoesByImage, IsMovingImageWay, NeverMeetsTwice, LeadsAtLeastCost, ConvergesLeftAlone}
 
 -- a packet that a mixture of images sends on is one that the mixture of tables does
 forwarded : (f : Fabric) (capacity : ℕ) → IsFabric f capacity → (by_control : ℕ → Bool) (i addr : ℕ) (p : Prefix) (entry : Entry) → image_row f by_control i addr ≡ Some (p, entry)
@@ -32,10 +32,8 @@ goes_on f capacity kept by_control addr i k h = by_row (image_row f by_control i
     by_row (Some r) is g = ap (option_and_then (λ (x : Prefix × Entry). entry_leads f.world i x.1)) (forwarded f capacity kept by_control i addr r.0 r.1 is) ∙ g
 
 -- and a way along images in force is one along the rows of tables
-along_rows : (f : Fabric) (capacity : ℕ) → IsFabric f capacity → (addr : ℕ) (way : List ℕ) → IsImageWay f addr way → IsMovingWay f.world addr way
-along_rows f capacity kept addr [] w = tt
-along_rows f capacity kept addr (i ∷ []) w = tt
-along_rows f capacity kept addr (i ∷ k ∷ ks) w = (((w.0).0 && is_lent f i, goes_on f capacity kept (λ j. (w.0).0) addr i k (w.0).1), along_rows f capacity kept addr (k ∷ ks) w.1)
+along_rows : (f : Fabric) (capacity : ℕ) → IsFabric f capacity → (addr : ℕ) (way : List ℕ) → IsMovingImageWay f addr way → IsMovingWay f.world addr way
+along_rows f capacity kept addr = way_by (GoesByImage f addr) (MayGoOn f.world addr) (λ i k h. (h.0 && is_lent f i, goes_on f capacity kept (λ j. h.0) addr i k h.1))
 
 -- no packet circles
 pub never_twice : (f : Fabric) (capacity : ℕ) → IsFabric f capacity → IsNetwork f.network → NeverMeetsTwice f

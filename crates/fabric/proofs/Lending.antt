@@ -161,6 +161,15 @@ spared f (Release j) free i out = tt
 spared f (Attach j p cost) free i out = tt
 spared f (Detach j p) free i out = tt
 
+-- each patch with which a writer is out is the one that is due
+pub lent_due : (w : World) (desks : List Desk) → ArePending w desks → (i : ℕ) (patch : Patch) → lent_at (all_lent desks) i ≡ Some patch → IsPending w i patch
+lent_due w desks pending i patch lent = by_desk (slice_get desks i) refl
+  where
+    by_desk : (o : Option Desk) → slice_get desks i ≡ o → IsPending w i patch
+    by_desk None at = absurd (None_not_Some (sym (ap (λ o. option_map_or (λ l. l) o None) (slice_get-map (λ (d : Desk). d.out) desks i ∙ ap (option_map (λ (d : Desk). d.out)) at)) ∙ lent))
+    by_desk (Some d) at = (subst (λ o. IfSome o (λ p. ((d.writing).waiting ≡ p ∷ []) × IsPending w i p)) (sym (lent_there desks i d at) ∙ lent)
+        (each_there (λ k (x : Desk). IfSome x.out (λ p. ((x.writing).waiting ≡ p ∷ []) × IsPending w k p)) desks pending i d at)).1
+
 -- so every patch with which a writer is out stays due
 pub all_pending_next : (f : Fabric) (s : Step) (desks : List Desk) → f.lent ≡ all_lent desks → awaits_writer f s ≡ false → ArePending f.world desks → ArePending (next f.world s) desks
 all_pending_next f s desks is free pending = there_each (λ i d. IfSome d.out (λ p. ((d.writing).waiting ≡ p ∷ []) × IsPending (next f.world s) i p)) desks each

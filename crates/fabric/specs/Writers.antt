@@ -12,7 +12,7 @@ use Rattle.publication.specs.Lists.{EachAt, Writing, image_of, is_named, no_patc
 use Rattle.image_patch.specs.Patches.{patched}
 use Rattle.network_model.specs.declared.step.Step.{Step}
 use Rattle.fabric.specs.Desks.{Desk, all_lent, writings}
-use Rattle.fabric.specs.Fabric.{Fabric, count_lent, fabric_of, IsFabric, IsSumOf}
+use Rattle.fabric.specs.Fabric.{Fabric, count_lent, fabric_of, lent_at, IsFabric, IsSumOf}
 use Rattle.fabric.specs.Images.{image_in_force}
 
 -- the rows that each router of a network has chosen when it opens, by the routers' numbers
@@ -50,6 +50,10 @@ pub record IsPending (w : World) (i : ℕ) (patch : Patch) : Type 0 where
 -- so is each patch with which a writer is out, and it stands for what waits with that
 abbrev pub ArePending : World → List Desk → Type 0
 ArePending w desks = EachAt (λ i d. IfSome d.out (λ p. ((d.writing).waiting ≡ p ∷ []) × IsPending w i p)) desks
+
+-- in a fabric: each patch with which a writer is out is the one that is due
+abbrev pub LentAreDue : Fabric → Type 0
+LentAreDue f = (i : ℕ) (patch : Patch) → lent_at f.lent i ≡ Some patch → IsPending f.world i patch
 
 -- each router has a reader, and each reader is of its router
 pub record AreReaders (w : World) (views : List Known) : Type 0 where

@@ -13,7 +13,7 @@ ghost use Rattle.fabric.specs.Fabric.{opening_fabric, after_step, awaits_writer,
 ghost use Rattle.image_patch.specs.Patches.{patched};
 ghost use Rattle.fabric.specs.Images.{answer_at, due_at};
 ghost use Rattle.fabric.specs.Headline.{NeverMeetsTwice, HasBestRows, LeadsAtLeastCost, ConvergesLeftAlone};
-ghost use Rattle.fabric.specs.Writers.{IsReaderPort, opening_tables, waiting_at};
+ghost use Rattle.fabric.specs.Writers.{IsReaderPort, LentAreDue, opening_tables, waiting_at};
 ghost use Rattle.network_model.specs.Turns as turns;
 ghost use Rattle.network_model.specs.Forwarding.{is_quiet};
 ghost use Rattle.network_model.specs.Publication.{answer_of};
@@ -86,6 +86,7 @@ impl<B: FabricName, A: SmallAllocator> Fabric<B, A> {
         ensures forwards { IfOk result (λ o. ForwardsAsPublished o.0) }
         ensures no_loop { IfOk result (λ o. NeverMeetsTwice o.0) }
         ensures least_cost { IfOk result (λ o. LeadsAtLeastCost o.0) }
+        ensures converges { IfOk result (λ o. ConvergesLeftAlone o.0) }
     {
         let world = WatchedWorld::open(alloc, &network)?;
         let images = opening_images(alloc, world.world())?;
@@ -195,13 +196,14 @@ impl<B: FabricName, A: SmallAllocator> Fabric<B, A> {
 
     /// Whether nothing is left to do: no item is queued on any link, no notice waits, nothing is due,
     /// and nothing is ripe. Where it is so, all is quiet, and rows lead along least-cost walks; where it is
-    /// not so, some router has something to do. It is known without going through the network.
+    /// not so, some router has something to do in its world, for which it may await its writer. It is known
+    /// without going through the network.
     pub fn is_settled(&self) -> bool
         ensures settled { result ≡ turns.is_settled (self.now).world }
         ensures quiet { result ≡ is_quiet (self.now).world }
         ensures least_cost { IsTrue result → HasBestRows self.now }
-        ensures idle { ((i : ℕ) → i < (self.now).network.routers
-            → turns.next_step (self.now).world i ≡ None) → IsTrue result }
+        ensures idle { IsTrue result ↔ ((i : ℕ) → i < (self.now).network.routers
+            → turns.next_step (self.now).world i ≡ None) }
     {
         // The network has no fault, which its type keeps.
         let _routers = self.network.routers();
@@ -284,6 +286,7 @@ impl<B: FabricName, A: SmallAllocator> Fabric<B, A> {
         ensures forwards { ForwardsAsPublished self.new }
         ensures no_loop { NeverMeetsTwice self.new }
         ensures least_cost { LeadsAtLeastCost self.new }
+        ensures converges { ConvergesLeftAlone self.new }
     {
         let done = self.do_step(rt, step);
         self.holds();
@@ -340,6 +343,7 @@ impl<B: FabricName, A: SmallAllocator> Fabric<B, A> {
         ensures forwards { ForwardsAsPublished self.new }
         ensures no_loop { NeverMeetsTwice self.new }
         ensures least_cost { LeadsAtLeastCost self.new }
+        ensures converges { ConvergesLeftAlone self.new }
     {
         let made = self.make_ticket(router);
         self.holds();
@@ -398,6 +402,7 @@ impl<B: FabricName, A: SmallAllocator> Fabric<B, A> {
         ensures forwards { ForwardsAsPublished self.new }
         ensures no_loop { NeverMeetsTwice self.new }
         ensures least_cost { LeadsAtLeastCost self.new }
+        ensures converges { ConvergesLeftAlone self.new }
     {
         let done = self.take_ticket(ticket);
         self.holds();
@@ -441,6 +446,7 @@ impl<B: FabricName, A: SmallAllocator> Fabric<B, A> {
         ensures forwards { ForwardsAsPublished self.new }
         ensures no_loop { NeverMeetsTwice self.new }
         ensures least_cost { LeadsAtLeastCost self.new }
+        ensures converges { ConvergesLeftAlone self.new }
         ensures stop { MatchOption result.refusal (result.done ≡ length steps.now)
             (StopsAt (fabric_refusal self.new) steps.now result.done) }
     {
@@ -462,16 +468,19 @@ impl<B: FabricName, A: SmallAllocator> Fabric<B, A> {
 
     /// It does nothing. What holds of every fabric, for whoever has one: each image in force has the
     /// rows that its router published, and answers every address with the longest match over them; no
-    /// packet meets a router twice, whichever prefixes match it on its way; and where all is quiet,
-    /// rows lead along least-cost walks. And once no link, cost or attachment changes any more, the steps
-    /// that are left to do have a bound, whatever their order, and where none is left all is quiet.
+    /// packet meets a router twice, whichever prefixes match it on its way; where all is quiet, rows
+    /// lead along least-cost walks; and once links and attachments stay as they are, every order of
+    /// deliveries, publications and releases of its world comes to an end, and there every router has its
+    /// least-cost row. Where a writer is out, its publication is one of the steps that are left (`pending`).
+    /// A journal that is full, or a writer that stays out, can stop a fabric before.
     pub fn holds(&self)
         ensures forwards { ForwardsAsPublished self.now }
         ensures no_loop { NeverMeetsTwice self.now }
         ensures least_cost { LeadsAtLeastCost self.now }
         ensures converges { ConvergesLeftAlone self.now }
+        ensures pending { LentAreDue self.now }
     {
-        // The three parts follow from what a fabric keeps, and from that its network has no fault.
+        // The four parts follow from what a fabric keeps, and from that its network has no fault.
         let _desks = &self.desks;
         let _routers = self.network.routers();
     }

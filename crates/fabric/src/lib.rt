@@ -21,8 +21,8 @@
 //!
 //! What always holds of a fabric (`IsFabric` in `specs/Fabric.antt`, and the files beside it): the world
 //! is the run of the journal; each image in force has the rows that its router published; each writer that
-//! is out has a patch that is still due. From that come the three parts of the headline, which `open`,
-//! `step`, `run` and `holds` hand on: `forwards`, `no_loop` and `least_cost`.
+//! is out has a patch that is still due. From that come the four parts of the headline, which `open`,
+//! `step`, `run` and `holds` hand on: `forwards`, `no_loop`, `least_cost` and `converges`.
 //!
 //! A fabric is not `Drop`, since a writer ends only by `close`, which waits for its readers.
 #![tactic(auto)]

@@ -1,5 +1,5 @@
 -- Lines of JSON, each an object with no spaces between its parts. Names are small letters and digits, prefixes and addresses digits, dots and slashes: no text needs an escape.
-use Rattle.std.specs.Prelude.{ℕ, Bool, ◌==◌, if◌then◌else◌, List, [], ◌∷◌, ◌++◌, Option, Some, None, codes, decimal}
+use Rattle.std.specs.Prelude.{ℕ, Bool, true, false, ◌==◌, if◌then◌else◌, List, [], ◌∷◌, ◌++◌, Option, Some, None, codes, decimal}
 use Rattle.std.specs.List.{flat_map}
 use Rattle.metric.specs.Distance.{infinity}
 use Rattle.ipv4_prefix.specs.Prefix.{Prefix}
@@ -90,11 +90,16 @@ asked_json d (Row router prefix entry) = row_json d router prefix entry
 asked_json d (Lookup router addr found) = lookup_json d router addr found
 asked_json d (Packet number router addr found) = packet_json d number router addr found
 
+-- the member of a trace that goes on whichever prefixes match
+abbrev pub through_json : Bool → Text
+through_json true = codes "\"through\":true,"
+through_json false = []
+
 -- the trace of a packet for an address from a router: the routers that it passes, and why it ends
-abbrev pub trace_json : Directory → ℕ → ℕ → List ℕ → Ending → Text
-trace_json d router addr path end =
+abbrev pub trace_json : Directory → ℕ → ℕ → Bool → List ℕ → Ending → Text
+trace_json d router addr through path end =
     codes "{\"kind\":\"trace\",\"router\":\"" ++ name_text d (Some router) ++ codes "\",\"address\":\"" ++ address_text addr
-    ++ codes "\",\"path\":[" ++ names_json d path ++ codes "],\"end\":\"" ++ end_text end ++ codes "\"}"
+    ++ codes "\"," ++ through_json through ++ codes "\"path\":[" ++ names_json d path ++ codes "],\"end\":\"" ++ end_text end ++ codes "\"}"
 
 -- ---- links, routers, machines
 

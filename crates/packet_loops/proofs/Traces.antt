@@ -12,7 +12,7 @@ use Rattle.packet_loops.proofs.Walks.{leads_known, always_packets_free}
 -- ---- of more routers than there are, one is met twice
 
 -- every number of the list is below n
-abbrev AllBelow : ℕ → List ℕ → Type 0
+abbrev pub AllBelow : ℕ → List ℕ → Type 0
 AllBelow n [] = ⊤
 AllBelow n (x ∷ xs) = (x < n) × AllBelow n xs
 
@@ -36,7 +36,7 @@ distinct [] h = tt
 distinct (x ∷ xs) h = let parts = or_parts (is_met x xs) (meets_twice xs) h in (apart x xs parts.0, distinct xs parts.1)
 
 -- routers below n of which none is met twice are at most n
-few : (n : ℕ) (xs : List ℕ) → AllBelow n xs → meets_twice xs ≡ false → length xs ≤ n
+pub few : (n : ℕ) (xs : List ℕ) → AllBelow n xs → meets_twice xs ≡ false → length xs ≤ n
 few n xs b h = length-le_from_distinct_below xs n (distinct xs h) (below n xs b)
 
 -- ---- where a trace goes

@@ -3,7 +3,7 @@ use Rattle.packet_loops.proofs.Common.{⊤, Refusal, NoMemory}
 use Rattle.std.proofs.Common.{◌≡◌, ◌⊎◌, List, [], ◌∷◌, ◌++◌, Option, Result, Ok, Err, IsOk, IfErr, OnErr, MatchResult, refl, sym, subst, true≢false}
 use Rattle.world.specs.Steps.{CanBeRefused, IsDoneOr}
 use Rattle.fabric.specs.Fabric.{Fabric}
-use Rattle.control.proofs.Sharing.{refused_for}
+use Rattle.fabric.proofs.Causes.{refused_as}
 use Rattle.control.specs.Served.{IsServed, IsTurnRefused, none_asked}
 use Rattle.script.specs.declared.command.Command.{Command}
 use Rattle.plans.specs.declared.fault.Cause.{Cause}
@@ -19,7 +19,7 @@ one_done (d ∷ cs) c f g h done is = (done.0, done.1, one_done cs c done.0 g h 
 -- what is refused leaves all as it was
 pub step_refused : (cause : Option Refusal) (r : Result ⊤ Refusal) (f g : Fabric) → IsDoneOr cause r → OnErr r (g ≡ f) → IfErr r (λ e. CanBeRefused cause e × (g ≡ f))
 step_refused cause (Ok x) f g done same = tt
-step_refused cause (Err e) f g done same = (refused_for cause e done, same)
+step_refused cause (Err e) f g done same = (refused_as _ cause e done, same)
 
 -- a network that does not settle
 pub settle_refused : (r : Result ⊤ Refusal) (f g : Fabric) → IsServed f none_asked g → IfErr r (λ e. IsTurnRefused f none_asked e ⊎ (e ≡ NoMemory)) → IfErr r (StopsSettling f g)

@@ -8,7 +8,7 @@ use Rattle.world.specs.Steps.{CanBeRefused}
 use Rattle.fabric.specs.Fabric.{Fabric, after_step, fabric_refusal}
 use Rattle.fabric.specs.Images.{answer_at}
 use Rattle.script.specs.declared.command.Command.{Command}
-use Rattle.script.specs.declared.command.Command.TheVariants.{Step, Try, Settle, State, Table, Lookup, Inject, Trace, Drain, Report}
+use Rattle.script.specs.declared.command.Command.TheVariants.{Step, Try, Settle, State, Table, Lookup, Inject, Trace, TraceThrough, Drain, Report}
 use Rattle.script.specs.declared.place.Key.TheVariants.{Script}
 use Rattle.plans.specs.declared.fault.Cause.{Cause}
 use Rattle.plans.specs.declared.fault.Fault.{Fault}
@@ -35,6 +35,7 @@ IsDone (Table router) f g = g ≡ f
 IsDone (Lookup router addr) f g = g ≡ f
 IsDone (Inject router addr) f g = g ≡ f
 IsDone (Trace router addr) f g = g ≡ f
+IsDone (TraceThrough router addr) f g = g ≡ f
 IsDone Drain f g = g ≡ f
 IsDone Report f g = g ≡ f
 
@@ -52,6 +53,7 @@ IsRefused (Table router) f g cause = OfRefusal (CanBeRefused (unknown_router f r
 IsRefused (Lookup router addr) f g cause = OfRefusal (λ e. MatchOption (answer_at f.world router addr) (e ≡ UnknownRouter) (λ _. (e ≡ Stale) ⊎ (e ≡ NoImage))) cause × (g ≡ f)
 IsRefused (Inject router addr) f g cause = CannotInject (unknown_router f router) cause × (g ≡ f)
 IsRefused (Trace router addr) f g cause = OfRefusal (CannotTrace f router) cause × (g ≡ f)
+IsRefused (TraceThrough router addr) f g cause = OfRefusal (CannotTrace f router) cause × (g ≡ f)
 IsRefused Drain f g cause = OfWorkers (λ e. ⊤) cause × (g ≡ f)
 IsRefused Report f g cause = ⊥
 

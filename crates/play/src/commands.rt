@@ -1,8 +1,9 @@
 //! Commands that print what a network does.
 
-ghost use Rattle.std.specs.Prelude.{◌⊎◌, IfErr, OnOk};
+ghost use Rattle.std.specs.Prelude.{◌≡◌, ◌⊎◌, IfErr, OnOk};
 ghost use Rattle.script.specs.declared.command.Command.TheVariants as Command;
-ghost use Rattle.play.specs.Commands.{IsDone, IsRefused, IsStepDone, IsStepRefused};
+ghost use Rattle.plans.specs.Faults.{OfRefusal};
+ghost use Rattle.play.specs.Commands.{CannotTrace, IsDone, IsRefused, IsStepDone, IsStepRefused};
 
 use fabric::{Fabric, FabricName, Refusal, Step};
 use plans::Cause;
@@ -10,7 +11,7 @@ use reports::Printer;
 use std::alloc::Global;
 use std::io::Write;
 use std::sync::Wait;
-use tracer::trace;
+use tracer::{trace, trace_through};
 
 /// Does a step, and says whether it was refused. What it prints may be lost.
 pub fn try_step<B: FabricName, H: Wait, W: Write>(
@@ -52,24 +53,32 @@ pub fn look_up<B: FabricName, W: Write>(
     }
 }
 
-/// Traces a packet along the images in force, and prints its way. What it prints may be lost.
+/// Traces a packet along the images in force, while one prefix matches it or through, and prints its way.
+/// What it prints may be lost.
 pub fn show_trace<B: FabricName, W: Write>(
     alloc: Global,
     fabric: &mut Fabric<B>,
     printer: &Printer<'_>,
     router: u16,
     addr: u32,
+    through: bool,
     out: &mut W,
 ) -> Result<(), Cause>
-    ensures ok { OnOk result (IsDone (Command.Trace router addr) fabric.old fabric.new) }
-    ensures err { IfErr result (IsRefused (Command.Trace router addr) fabric.old fabric.new) }
+    ensures ok { OnOk result (fabric.new ≡ fabric.old) }
+    ensures err { IfErr result (λ cause. OfRefusal (CannotTrace fabric.old router) cause
+        × (fabric.new ≡ fabric.old)) }
 {
-    match trace(fabric, alloc, router, addr) {
+    let done = if through {
+        trace_through(fabric, alloc, router, addr)
+    } else {
+        trace(fabric, alloc, router, addr)
+    };
+    match done {
         Ok(traced) => {
             let names = printer.directory;
             let _ = printer.print(
-                names.trace(router, addr, &traced),
-                json_lines::trace(names, router, addr, &traced),
+                names.trace(router, addr, through, &traced),
+                json_lines::trace(names, router, addr, through, &traced),
                 out,
             );
             Ok(())

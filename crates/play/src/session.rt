@@ -144,7 +144,10 @@ where
                     .inject(*self.rt, self.alloc, fabric, router, addr)
             }
             Command::Trace { router, addr } => {
-                show_trace(self.alloc, fabric, &printer, router, addr, out)
+                show_trace(self.alloc, fabric, &printer, router, addr, false, out)
+            }
+            Command::TraceThrough { router, addr } => {
+                show_trace(self.alloc, fabric, &printer, router, addr, true, out)
             }
             Command::Drain => self.drain(&printer, out),
             Command::Report => {

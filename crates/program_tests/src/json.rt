@@ -138,9 +138,16 @@ fn the_line_of_a_trace(rt: HostRuntime) {
         let want = format!(in alloc;
             "{{\"kind\":\"trace\",\"router\":\"a\",\"address\":\"10.1.2.3\",\"path\":[\"a\",\"b\"],\"end\":\"{words}\"}}"
         ).expect(&rt, "memory");
-        let line = json_lines::trace(&directory, 0, 0x0a01_0203, &traced);
+        let line = json_lines::trace(&directory, 0, 0x0a01_0203, false, &traced);
         is_written(&rt, alloc, &line, want.as_str());
     }
+    let path = vec![in alloc; 0_u16, 1].expect(&rt, "memory");
+    let end = Ending::Delivered;
+    let traced = Trace { path, end };
+    let line = json_lines::trace(&directory, 0, 0x0a01_0203, true, &traced);
+    let want =
+        "{\"kind\":\"trace\",\"router\":\"a\",\"address\":\"10.1.2.3\",\"through\":true,\"path\":[\"a\",\"b\"],\"end\":\"delivered\"}";
+    is_written(&rt, alloc, &line, want);
 }
 
 #[test]

@@ -1,6 +1,6 @@
 -- What a line asks for, by its first word.
 use Rattle.std.proofs.Common.{◌≡◌, ◌≢◌, ℕ, false, inl, inr, List, [], ◌∷◌, All, Contains, bytes_eq, codes, refl, sym, subst, ◌∙◌, arith}
-use Rattle.script.proofs.Common.{list_any, false≢true, bytes_eq-Decides, All-nil, All-cons, All-contains, list_any_at, Prefix, LinkSpec, Text, NamesRouter, NamesText, NamesNoAddress, NamesNoPrefix, AsksNoStep, AsksBadQuestion, Asks, address_verbs, HasBadValue, AsksNothing}
+use Rattle.script.proofs.Common.{list_any, false≢true, bytes_eq-Decides, All-nil, All-cons, All-contains, list_any_at, Prefix, LinkSpec, Text, NamesRouter, NamesText, NamesNoAddress, NamesNoPrefix, NamesThrough, AsksNoStep, AsksNoTrace, AsksTrace, AsksBadQuestion, Asks, address_verbs, HasBadValue, AsksNothing}
 use Rattle.script.specs.declared.command.Command.{Command}
 use Rattle.script.specs.declared.fault.Fault.{Fault}
 use Rattle.script.specs.declared.fault.Fault.TheVariants.{BadName, BadLine, BadCost, BadCommand, TooLarge, NoMemory, Prefix as OfPrefix}
@@ -9,6 +9,10 @@ use Rattle.script.proofs.StepTexts.{clash, first_same, rest_same, no_prefix, no_
 -- the words name no router and text after a verb that takes an address
 abbrev pub NamesNone : List Text → List Text → Type 0
 NamesNone names words = (verb : Text) → Contains address_verbs verb → (router : ℕ) (text : Text) → ¬ (NamesText names verb words router text)
+
+-- the words name no router and text to trace through
+abbrev pub NamesNoThrough : List Text → List Text → Type 0
+NamesNoThrough names words = (router : ℕ) (text : Text) → ¬ (NamesThrough names words router text)
 
 -- the word is none of the list
 abbrev IsApart : Text → List Text → Type 0
@@ -30,6 +34,18 @@ own_verb : (names : List Text) (verb : Text) (rest : List Text)
 own_verb names verb rest none word among router text h =
     none router text (subst (λ v. NamesText names v (verb ∷ rest) router text) (sym (first_same _ _ _ _ h.spelled)) h)
 
+-- ---- words after `trace`
+
+-- words that are not three ask for no trace where they name no router and address
+pub two_word_fault : (names rest : List Text) → ((a b c : Text) → rest ≢ a ∷ b ∷ c ∷ []) → (fault : Fault) → NamesNoAddress names (codes "trace") (codes "trace" ∷ rest) fault → AsksNoTrace names (codes "trace" ∷ rest) fault
+two_word_fault names rest apart BadName h = h
+two_word_fault names rest apart BadLine h = h
+two_word_fault names rest apart BadCost h = h
+two_word_fault names rest apart (OfPrefix fault) h = (h.0, inl h.1)
+two_word_fault names rest apart BadCommand h = (h, λ router text n. apart n.name text (codes "--through") (rest_same _ _ _ _ n.spelled))
+two_word_fault names rest apart TooLarge h = h
+two_word_fault names rest apart NoMemory h = h
+
 -- ---- words that ask for no command
 
 module _ (names : List Text) (links : List LinkSpec) (attachments : List (Prefix × ℕ × ℕ)) where
@@ -40,8 +56,9 @@ module _ (names : List Text) (links : List LinkSpec) (attachments : List (Prefix
       → NamesNoPrefix names attachments (codes "state") (verb ∷ rest) BadCommand
       → ((router : ℕ) → ¬ (NamesRouter names (codes "table") (verb ∷ rest) router))
       → NamesNone names (verb ∷ rest)
+      → NamesNoThrough names (verb ∷ rest)
       → AsksNothing names links attachments (verb ∷ rest) BadCommand
-  no_command verb rest some step tried state table address = (commands, faults)
+  no_command verb rest some step tried state table address through = (commands, faults)
     where
       single : (word : Text) → verb ∷ rest ≢ word ∷ []
       single word h = some (rest_same _ _ _ _ h)
@@ -55,6 +72,7 @@ module _ (names : List Text) (links : List LinkSpec) (attachments : List (Prefix
       commands (Command.Lookup router addr) h = address _ (0, omega arith, refl) router h.0 h.1
       commands (Command.Inject router addr) h = address _ (1, omega arith, refl) router h.0 h.1
       commands (Command.Trace router addr) h = address _ (2, omega arith, refl) router h.0 h.1
+      commands (Command.TraceThrough router addr) h = through router h.0 h.1
       commands Command.Drain h = single _ h
       commands Command.Report h = single _ h
 
@@ -63,7 +81,8 @@ module _ (names : List Text) (links : List LinkSpec) (attachments : List (Prefix
       questions BadLine h = h
       questions BadCost h = h
       questions (OfPrefix fault) (inl h) = state.1 fault h
-      questions (OfPrefix fault) (inr h) = address h.1.0 h.1.1 h.1.2.0 h.1.2.1 h.1.2.2
+      questions (OfPrefix fault) (inr (is, inl h)) = address h.0 h.1 h.2.0 h.2.1 h.2.2
+      questions (OfPrefix fault) (inr (is, inr h)) = through h.0 h.1 h.2
       questions BadCommand h = h
       questions TooLarge h = h
       questions NoMemory h = h
@@ -82,37 +101,64 @@ module _ (names : List Text) (links : List LinkSpec) (attachments : List (Prefix
     state_fault (OfPrefix fault) h = inr (inr (inl h))
     state_fault BadCommand h =
         no_command _ rest some (no_verb names links attachments _ rest refl refl refl refl refl refl refl refl) (λ after e. absurd (clash _ _ _ _ refl e)) h
-        (other_router names links attachments _ _ _ refl) (other_verb names _ rest (apart_from _ address_verbs refl))
+        (other_router names links attachments _ _ _ refl) (other_verb names _ rest (apart_from _ address_verbs refl)) (λ router text n. clash _ _ _ _ refl n.spelled)
     state_fault TooLarge h = absurd h
     state_fault NoMemory h = absurd h
 
     pub no_table : ((router : ℕ) → ¬ (NamesRouter names (codes "table") (codes "table" ∷ rest) router)) → AsksNothing names links attachments (codes "table" ∷ rest) BadCommand
     no_table none =
         no_command _ rest some (no_verb names links attachments _ rest refl refl refl refl refl refl refl refl) (λ after e. absurd (clash _ _ _ _ refl e))
-        (other_prefix names links attachments _ _ _ refl) none (other_verb names _ rest (apart_from _ address_verbs refl))
+        (other_prefix names links attachments _ _ _ refl) none (other_verb names _ rest (apart_from _ address_verbs refl)) (λ router text n. clash _ _ _ _ refl n.spelled)
 
-    -- why a verb that takes an address, and is no other, asks for nothing
-    address_fault : (verb : Text) → Contains address_verbs verb → AsksNoStep names links attachments (verb ∷ rest) BadCommand
+    -- a verb that takes an address, and is no other, after which neither a router and a text nor a trace through is named
+    no_address : (verb : Text) → AsksNoStep names links attachments (verb ∷ rest) BadCommand
         → bytes_eq verb (codes "try") ≡ false → bytes_eq verb (codes "state") ≡ false → bytes_eq verb (codes "table") ≡ false
-        → (fault : Fault) → NamesNoAddress names verb (verb ∷ rest) fault → AsksNothing names links attachments (verb ∷ rest) fault
-    address_fault verb among step tried state table BadName h = absurd h
-    address_fault verb among step tried state table BadLine h = absurd h
-    address_fault verb among step tried state table BadCost h = absurd h
-    address_fault verb among step tried state table (OfPrefix fault) h = inr (inr (inr (h.0, (verb, among, h.1))))
-    address_fault verb among step tried state table BadCommand h =
+        → ((router : ℕ) (text : Text) → ¬ (NamesText names verb (verb ∷ rest) router text)) → NamesNoThrough names (verb ∷ rest) → AsksNothing names links attachments (verb ∷ rest) BadCommand
+    no_address verb step tried state table none through =
         no_command verb rest some step (λ after e. absurd (clash _ _ _ _ tried e)) (other_prefix names links attachments _ _ _ state)
-        (other_router names links attachments _ _ _ table) (own_verb names verb rest h)
-    address_fault verb among step tried state table TooLarge h = absurd h
-    address_fault verb among step tried state table NoMemory h = absurd h
+        (other_router names links attachments _ _ _ table) (own_verb names verb rest none) through
+
+    -- why such a verb, which is not `trace`, asks for nothing
+    address_fault : (verb : Text) → Contains address_verbs verb → AsksNoStep names links attachments (verb ∷ rest) BadCommand
+        → bytes_eq verb (codes "try") ≡ false → bytes_eq verb (codes "state") ≡ false → bytes_eq verb (codes "table") ≡ false → bytes_eq verb (codes "trace") ≡ false
+        → (fault : Fault) → NamesNoAddress names verb (verb ∷ rest) fault → AsksNothing names links attachments (verb ∷ rest) fault
+    address_fault verb among step tried state table trace BadName h = absurd h
+    address_fault verb among step tried state table trace BadLine h = absurd h
+    address_fault verb among step tried state table trace BadCost h = absurd h
+    address_fault verb among step tried state table trace (OfPrefix fault) h = inr (inr (inr (h.0, inl (verb, among, h.1))))
+    address_fault verb among step tried state table trace BadCommand h = no_address verb step tried state table h (λ router text n. clash _ _ _ _ trace n.spelled)
+    address_fault verb among step tried state table trace TooLarge h = absurd h
+    address_fault verb among step tried state table trace NoMemory h = absurd h
 
     pub lookup_fault : (fault : Fault) → NamesNoAddress names (codes "lookup") (codes "lookup" ∷ rest) fault → AsksNothing names links attachments (codes "lookup" ∷ rest) fault
-    lookup_fault = address_fault _ (0, omega arith, refl) (no_verb names links attachments _ rest refl refl refl refl refl refl refl refl) refl refl refl
+    lookup_fault = address_fault _ (0, omega arith, refl) (no_verb names links attachments _ rest refl refl refl refl refl refl refl refl) refl refl refl refl
 
     pub inject_fault : (fault : Fault) → NamesNoAddress names (codes "inject") (codes "inject" ∷ rest) fault → AsksNothing names links attachments (codes "inject" ∷ rest) fault
-    inject_fault = address_fault _ (1, omega arith, refl) (no_verb names links attachments _ rest refl refl refl refl refl refl refl refl) refl refl refl
+    inject_fault = address_fault _ (1, omega arith, refl) (no_verb names links attachments _ rest refl refl refl refl refl refl refl refl) refl refl refl refl
 
-    pub trace_fault : (fault : Fault) → NamesNoAddress names (codes "trace") (codes "trace" ∷ rest) fault → AsksNothing names links attachments (codes "trace" ∷ rest) fault
-    trace_fault = address_fault _ (2, omega arith, refl) (no_verb names links attachments _ rest refl refl refl refl refl refl refl refl) refl refl refl
+    pub trace_fault : (fault : Fault) → AsksNoTrace names (codes "trace" ∷ rest) fault → AsksNothing names links attachments (codes "trace" ∷ rest) fault
+    trace_fault BadName h = absurd h
+    trace_fault BadLine h = absurd h
+    trace_fault BadCost h = absurd h
+    trace_fault (OfPrefix fault) (is, inl h) = inr (inr (inr (is, inl (codes "trace", (2, omega arith, refl), h))))
+    trace_fault (OfPrefix fault) (is, inr h) = inr (inr (inr (is, inr h)))
+    trace_fault BadCommand h = no_address _ (no_verb names links attachments _ rest refl refl refl refl refl refl refl refl) refl refl refl h.0 h.1
+    trace_fault TooLarge h = absurd h
+    trace_fault NoMemory h = absurd h
+
+    -- a trace that words ask for is a command that they ask for
+    pub trace_asks : (command : Command) → AsksTrace names (codes "trace" ∷ rest) command → Asks names links attachments (codes "trace" ∷ rest) command
+    trace_asks (Command.Step s) h = absurd h
+    trace_asks (Command.Try s) h = absurd h
+    trace_asks Command.Settle h = absurd h
+    trace_asks (Command.State router prefix) h = absurd h
+    trace_asks (Command.Table router) h = absurd h
+    trace_asks (Command.Lookup router addr) h = absurd h
+    trace_asks (Command.Inject router addr) h = absurd h
+    trace_asks (Command.Trace router addr) h = h
+    trace_asks (Command.TraceThrough router addr) h = h
+    trace_asks Command.Drain h = absurd h
+    trace_asks Command.Report h = absurd h
 
   -- a fault of the step that a line asks for, where its first word is the verb of no other command
   module _ (verb : Text) (rest : List Text) (some : rest ≢ [])
@@ -121,7 +167,7 @@ module _ (names : List Text) (links : List LinkSpec) (attachments : List (Prefix
     no_step_command none =
         no_command verb rest some none (λ after e. absurd (tried (first_same _ _ _ _ e)))
         (no_prefix names attachments _ _ (λ router text h. absurd (state (first_same _ _ _ _ h.spelled)))) (λ router h. table (first_same _ _ _ _ h.spelled))
-        (other_verb names verb rest (All-cons (λ w. verb ≢ w) _ (codes "inject" ∷ codes "trace" ∷ []) lookup (All-cons (λ w. verb ≢ w) _ (codes "trace" ∷ []) inject (All-cons (λ w. verb ≢ w) _ [] trace (All-nil (λ w. verb ≢ w))))))
+        (other_verb names verb rest (All-cons (λ w. verb ≢ w) _ (codes "inject" ∷ codes "trace" ∷ []) lookup (All-cons (λ w. verb ≢ w) _ (codes "trace" ∷ []) inject (All-cons (λ w. verb ≢ w) _ [] trace (All-nil (λ w. verb ≢ w)))))) (λ router text n. trace (first_same _ _ _ _ n.spelled))
 
     pub step_fault : (fault : Fault) → AsksNoStep names links attachments (verb ∷ rest) fault → AsksNothing names links attachments (verb ∷ rest) fault
     step_fault BadName h = inl h

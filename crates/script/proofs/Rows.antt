@@ -1,5 +1,5 @@
 -- Worked examples: each definition computes what it is to say.
-use Rattle.std.proofs.Common.{◌≡◌, ℕ, inl, inr, List, [], ◌∷◌, Some, None, codes, refl, ap, arith}
+use Rattle.std.proofs.Common.{◌≡◌, ℕ, inl, inr, true, false, List, [], ◌∷◌, Some, None, codes, refl, ap, arith}
 use Rattle.script.proofs.Common.{Prefix, LinkSpec, Local, Via, LinkUp, SetCost, Deliver, Publish, Attach, Detach, Ending, Text, words_of, router_number, router_named, IsLink, IsAttachment, link_between, IsPortOn, IsCommand, IsCommandFault, Directory, neighbours_of, directory_of, source_at, lookup_text, packet_text, trace_text}
 use Rattle.std.specs.Fmt.{digits}
 use Rattle.script.specs.declared.command.Command.{Command}
@@ -117,6 +117,14 @@ asks_state = (
   (2, 3, (0, omega arith, refl)),
 )
 
+asks_through : IsCommand names links attachments (codes "trace c 10.0.0.1 --through") (Command.TraceThrough 2 167772161)
+unfolding digits
+asks_through = (
+  codes "10.0.0.1",
+  record { name = codes "c"; spelled = refl; has_text = λ e. cc; known = refl },
+  (omega arith, refl),
+)
+
 asks_lookup : IsCommand names links attachments (codes "lookup b 10.0.0.1") (Command.Lookup 1 167772161)
 unfolding digits
 asks_lookup = (
@@ -192,13 +200,17 @@ packet_missed : packet_text directory 12 0 0 None ≡ codes "packet 12 a 0.0.0.0
 unfolding digits
 packet_missed = refl
 
-trace_lost : trace_text directory 2 167772161 (2 ∷ 1 ∷ []) Ending.DeadLink ≡ codes "trace c 10.0.0.1: c b dead link"
+trace_lost : trace_text directory 2 167772161 false (2 ∷ 1 ∷ []) Ending.DeadLink ≡ codes "trace c 10.0.0.1: c b dead link"
 unfolding digits
 trace_lost = refl
 
-trace_missed : trace_text directory 0 0 (0 ∷ []) Ending.NoRoute ≡ codes "trace a 0.0.0.0: a no route"
+trace_missed : trace_text directory 0 0 false (0 ∷ []) Ending.NoRoute ≡ codes "trace a 0.0.0.0: a no route"
 unfolding digits
 trace_missed = refl
+
+trace_through : trace_text directory 2 167772161 true (2 ∷ 1 ∷ []) Ending.Delivered ≡ codes "trace c 10.0.0.1 --through: c b delivered"
+unfolding digits
+trace_through = refl
 
 -- from b's port to a, and past both its ports from its own attachments
 across_named : source_at directory 1 0 ≡ Some 0

@@ -110,11 +110,33 @@ NamesAddress names verb words router addr = (text : Text) × NamesText names ver
 abbrev pub NamesBadAddress : List Text → Text → List Text → Type 0
 NamesBadAddress names verb words = (router : ℕ) × (text : Text) × NamesText names verb words router text × ¬ (IsAddressText text)
 
+-- the words name a router, then a text that is not empty, and then `--through`, after `trace`
+pub record NamesThrough (names : List Text) (words : List Text) (router : ℕ) (text : Text) : Type 0 where
+  pub name : Text
+  pub spelled : words ≡ codes "trace" ∷ name ∷ text ∷ codes "--through" ∷ []
+  pub has_text : text ≢ []
+  pub known : router_number names name ≡ Some router
+
+-- the words name a router and an address to trace through
+abbrev pub AsksThrough : List Text → List Text → ℕ → ℕ → Type 0
+AsksThrough names words router addr = (text : Text) × NamesThrough names words router text × SpellsAddress text addr
+
+-- the words name a router to trace from through, but what follows is no address
+abbrev pub AsksBadThrough : List Text → List Text → Type 0
+AsksBadThrough names words = (router : ℕ) × (text : Text) × NamesThrough names words router text × ¬ (IsAddressText text)
+
 -- why the words name no router and address after the verb
 abbrev pub NamesNoAddress : List Text → Text → List Text → Fault → Type 0
 NamesNoAddress names verb words BadCommand = (router : ℕ) (text : Text) → ¬ (NamesText names verb words router text)
 NamesNoAddress names verb words (OfPrefix fault) = (fault ≡ BadAddress) × NamesBadAddress names verb words
 NamesNoAddress names verb words _ = ⊥
+
+-- why words ask for no trace
+abbrev pub AsksNoTrace : List Text → List Text → Fault → Type 0
+AsksNoTrace names words BadCommand =
+    ((router : ℕ) (text : Text) → ¬ (NamesText names (codes "trace") words router text)) × ((router : ℕ) (text : Text) → ¬ (NamesThrough names words router text))
+AsksNoTrace names words (OfPrefix fault) = (fault ≡ BadAddress) × (NamesBadAddress names (codes "trace") words ⊎ AsksBadThrough names words)
+AsksNoTrace names words _ = ⊥
 
 -- the words are `try`, and then words that ask for something
 abbrev pub Tries : (List Text → Type 0) → List Text → Type 0
@@ -205,8 +227,15 @@ Asks names links attachments words (Command.Table router) = NamesRouter names (c
 Asks names links attachments words (Command.Lookup router addr) = NamesAddress names (codes "lookup") words router addr
 Asks names links attachments words (Command.Inject router addr) = NamesAddress names (codes "inject") words router addr
 Asks names links attachments words (Command.Trace router addr) = NamesAddress names (codes "trace") words router addr
+Asks names links attachments words (Command.TraceThrough router addr) = AsksThrough names words router addr
 Asks names links attachments words Command.Drain = words ≡ codes "drain" ∷ []
 Asks names links attachments words Command.Report = words ≡ codes "report" ∷ []
+
+-- the words ask for a trace
+abbrev pub AsksTrace : List Text → List Text → Command → Type 0
+AsksTrace names words (Command.Trace router addr) = NamesAddress names (codes "trace") words router addr
+AsksTrace names words (Command.TraceThrough router addr) = AsksThrough names words router addr
+AsksTrace names words _ = ⊥
 
 -- the command that a line says
 abbrev pub IsCommand : List Text → List LinkSpec → List (Prefix × ℕ × ℕ) → Text → Command → Type 0
@@ -218,7 +247,7 @@ address_verbs = codes "lookup" ∷ codes "inject" ∷ codes "trace" ∷ []
 
 -- the words ask for a command that names an address, but what stands in its place is none
 abbrev pub AsksBadAddress : List Text → List Text → Type 0
-AsksBadAddress names words = (verb : Text) × Contains address_verbs verb × NamesBadAddress names verb words
+AsksBadAddress names words = ((verb : Text) × Contains address_verbs verb × NamesBadAddress names verb words) ⊎ AsksBadThrough names words
 
 -- the words ask for a machine's state, or for a command that names an address, but the prefix or the address in it is none
 abbrev pub AsksBadQuestion : List Text → List Text → Fault → Type 0

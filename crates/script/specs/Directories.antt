@@ -1,5 +1,5 @@
 -- Who stands at the other end of each port, and the texts that name routers.
-use Rattle.std.specs.Prelude.{ℕ, ◌==◌, if◌then◌else◌, List, ◌++◌, map, Option, Some, None, option_map, filter_map, length, min, slice_get, option_and_then, unwrap_or, codes, decimal}
+use Rattle.std.specs.Prelude.{ℕ, ◌==◌, if◌then◌else◌, Bool, true, false, List, [], ◌++◌, map, Option, Some, None, option_map, filter_map, length, min, slice_get, option_and_then, unwrap_or, codes, decimal}
 use Rattle.std.specs.List.{flat_map, range_with_len}
 use Rattle.ipv4_prefix.specs.Prefix.{Prefix}
 use Rattle.ipv4_prefix.specs.Texts.{address_text, prefix_text}
@@ -80,6 +80,11 @@ end_text Ending.Unreachable = codes "unreachable"
 end_text Ending.DeadLink = codes "dead link"
 end_text Ending.Crossed = codes "crossed"
 
+-- the option of a trace that goes on whichever prefixes match
+abbrev pub through_text : Bool → Text
+through_text true = codes " --through"
+through_text false = []
+
 -- the trace of a packet for an address from a router: the routers that it passes, and why it ends
-abbrev pub trace_text : Directory → ℕ → ℕ → List ℕ → Ending → Text
-trace_text d router addr path end = codes "trace " ++ name_text d (Some router) ++ codes " " ++ address_text addr ++ codes ": " ++ path_text d path ++ end_text end
+abbrev pub trace_text : Directory → ℕ → ℕ → Bool → List ℕ → Ending → Text
+trace_text d router addr through path end = codes "trace " ++ name_text d (Some router) ++ codes " " ++ address_text addr ++ through_text through ++ codes ": " ++ path_text d path ++ end_text end

@@ -2,7 +2,7 @@
 
 ghost use Rattle.std.specs.Prelude.{◌≡◌, ◌≢◌, [], ◌∷◌, ◌⊎◌, IfOk, IfErr, OnOk, codes};
 ghost use Rattle.texts.specs.Words.{Text, words_of, texts};
-ghost use Rattle.script.specs.Commands.{Asks, AsksNothing, IsCommand, IsCommandFault, NamesAddress, NamesNoAddress};
+ghost use Rattle.script.specs.Commands.{Asks, AsksNoTrace, AsksNothing, AsksTrace, IsCommand, IsCommandFault, NamesAddress, NamesNoAddress};
 ghost use Rattle.script.specs.Reading.{StopsHere, ReadsFirst, IsWhole};
 
 use crate::fault::Fault;
@@ -13,7 +13,7 @@ use crate::step::read_step;
 use ipv4_prefix::{Prefix, parse_addr};
 use metric::Cost;
 use network_model::{LinkSpec, Step};
-use texts::first_word;
+use texts::{first_word, three_words};
 
 /// One command of a script. Routers go by their numbers, from 0.
 #[derive(Clone, Copy, Debug, PartialEq, Eq)]
@@ -32,8 +32,10 @@ pub enum Command {
     Lookup { router: u16, addr: u32 },
     /// Give the address to the workers, to look up at the router.
     Inject { router: u16, addr: u32 },
-    /// Print the way of a packet for the address from the router.
+    /// Print the way of a packet for the address from the router, while one prefix matches it.
     Trace { router: u16, addr: u32 },
+    /// Print its way to the end, whichever prefixes match it.
+    TraceThrough { router: u16, addr: u32 },
     /// Wait for the workers, and print their answers.
     Drain,
     /// Print all links, routers and machines.
@@ -69,9 +71,9 @@ pub(crate) fn read_commands(
 }
 
 /// The command that a line says: a step, `try STEP`, `settle`, `state A PREFIX`, `table A`,
-/// `lookup A ADDR`, `inject A ADDR`, `trace A ADDR`, `drain` or `report`. A `BadCommand` comes before
-/// the fault of a cost, a prefix or an address, but a prefix that the scenario does not have is a
-/// `BadCommand` after all others.
+/// `lookup A ADDR`, `inject A ADDR`, `trace A ADDR`, `trace A ADDR --through`, `drain` or `report`. A
+/// `BadCommand` comes before the fault of a cost, a prefix or an address, but a prefix that the scenario
+/// does not have is a `BadCommand` after all others.
 pub fn read_command(
     names: &Names,
     links: &[LinkSpec],
@@ -138,13 +140,31 @@ fn read_words(
             let (router, addr) = read_addr(names, operands)?;
             Ok(Command::Inject { router, addr })
         }
-        "trace" => {
-            let (router, addr) = read_addr(names, operands)?;
-            Ok(Command::Trace { router, addr })
-        }
+        "trace" => read_trace(names, operands),
         _ => {
             let step = read_step(names, links, attachments, verb, operands)?;
             Ok(Command::Step(step))
+        }
+    }
+}
+
+// The trace that the operands of `trace` ask for.
+fn read_trace(names: &Names, operands: &str) -> Result<Command, Fault>
+    ensures ok { IfOk result (AsksTrace names.now (codes "trace" ∷ words_of operands.now)) }
+    ensures err { IfErr result (AsksNoTrace names.now (codes "trace" ∷ words_of operands.now)) }
+{
+    match three_words(operands) {
+        Some((name, text, option)) => {
+            if option != "--through" || text.is_empty() {
+                return Err(Fault::BadCommand);
+            }
+            let router = read_router(names, name)?;
+            let addr = parse_addr(text)?;
+            Ok(Command::TraceThrough { router, addr })
+        }
+        None => {
+            let (router, addr) = read_addr(names, operands)?;
+            Ok(Command::Trace { router, addr })
         }
     }
 }

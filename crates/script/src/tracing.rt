@@ -1,7 +1,7 @@
 //! Texts of traces.
 
 ghost use Rattle.std.specs.Prelude.{◌≡◌, Some};
-ghost use Rattle.script.specs.Directories.{end_text, trace_text};
+ghost use Rattle.script.specs.Directories.{end_text, through_text, trace_text};
 
 use crate::directory::Directory;
 use ipv4_prefix::Addr;
@@ -12,14 +12,22 @@ use std::marker::Model;
 impl Directory {
     /// The text of a trace from a router: `trace A ADDR: NAMES END`, with the names of the routers on
     /// its path, each followed by a space, and `delivered`, `no route`, `unreachable`, `dead link` or
-    /// `crossed`.
-    pub fn trace<'a>(&'a self, router: u16, addr: u32, traced: &'a Trace) -> TraceText<'a>
-        ensures { result ≡ trace_text self.now router addr traced.now.path.items traced.now.end }
+    /// `crossed`; with ` --through` after the address where it is a trace through.
+    pub fn trace<'a>(
+        &'a self,
+        router: u16,
+        addr: u32,
+        through: bool,
+        traced: &'a Trace,
+    ) -> TraceText<'a>
+        ensures { result ≡ trace_text self.now router addr through traced.now.path.items
+            traced.now.end }
     {
         TraceText {
             directory: self,
             router,
             addr,
+            through,
             path: PathText {
                 directory: self,
                 path: &traced.path,
@@ -59,6 +67,13 @@ impl fmt::Display for PathText<'_> {
     }
 }
 
+// The option of a trace.
+fn option_words(through: bool) -> &'static str
+    ensures { result.now ≡ through_text through }
+{
+    if through { " --through" } else { "" }
+}
+
 // The words for the end of a trace.
 fn end_words(end: Ending) -> &'static str
     ensures { result.now ≡ end_text end }
@@ -78,6 +93,7 @@ pub struct TraceText<'a> {
     directory: &'a Directory,
     router: u16,
     addr: u32,
+    through: bool,
     path: PathText<'a>,
     end: Ending,
 }
@@ -86,12 +102,12 @@ impl<'a> Model for TraceText<'a> {
     ghost use Rattle.std.specs.Prelude.{◌++◌, Some, codes};
     ghost use Rattle.ipv4_prefix.specs.Texts.{address_text};
     ghost use Rattle.texts.specs.Words.{Text};
-    ghost use Rattle.script.specs.Directories.{name_text, end_text};
+    ghost use Rattle.script.specs.Directories.{name_text, end_text, through_text};
 
     ghost Value = { Text };
 
     ghost view = { λ t. codes "trace " ++ name_text t.directory.now (Some t.router) ++ codes " "
-        ++ address_text t.addr ++ codes ": " ++ t.path ++ end_text t.end };
+        ++ address_text t.addr ++ through_text t.through ++ codes ": " ++ t.path ++ end_text t.end };
 }
 
 impl fmt::Display for TraceText<'_> {
@@ -100,7 +116,8 @@ impl fmt::Display for TraceText<'_> {
     fn fmt<W: fmt::Write>(&self, f: &mut fmt::Formatter<W>) -> fmt::Result {
         let name = self.directory.name(Some(self.router));
         let addr = Addr(self.addr);
+        let option = option_words(self.through);
         let end = end_words(self.end);
-        write!(f, "trace {name} {addr}: {}{end}", self.path)
+        write!(f, "trace {name} {addr}{option}: {}{end}", self.path)
     }
 }

@@ -1,2 +1,3 @@
 pub mod Tracing
+pub mod Following
 pub mod Faults

@@ -8,4 +8,4 @@ mod walk;
 pub use fabric::{Fabric, FabricName};
 pub use fault::TraceFault;
 pub use network_model::{Ending, Trace};
-pub use walk::trace;
+pub use walk::{trace, trace_through};

@@ -1,19 +1,22 @@
-//! The trace of a packet.
+//! Traces of packets.
 
-ghost use Rattle.std.specs.Prelude.{◌≡◌, ◌≤◌, ◌<◌, ◌⊎◌, false, length, vec_len, Err, IfOk, IfErr};
+ghost use Rattle.std.specs.Prelude.{◌≡◌, ◌≢◌, ◌≤◌, ◌<◌, ◌⊎◌, false, length, vec_len, Err, IfOk, IfErr};
 ghost use Rattle.ipv4_prefix.specs.Prefix.{Prefix};
 ghost use Rattle.network_model.specs.Forwarding as model;
 ghost use Rattle.network_model.specs.Network.{most_routers};
 ghost use Rattle.fabric.specs.Fabric.{ForwardsAsPublished};
-ghost use Rattle.fabric.specs.Headline.{IsImageWalk, none_published};
+ghost use Rattle.fabric.specs.Headline.{IsImageWalk, IsImageWay, none_published};
+ghost use Rattle.all_packets.specs.Packets.{IsWay};
+ghost use Rattle.all_packets.specs.Through.{ThroughEnds, through as trace_through};
 ghost use Rattle.loop_freedom.specs.Network.{meets_twice};
 ghost use Rattle.packet_loops.specs.Packets.{TracesEnd};
+ghost use Rattle.tracer.specs.Following.{FollowsEnd, followed, kept_prefix};
 ghost use Rattle.tracer.specs.Tracing.{HasLinksOfPorts, LeadsToRouters};
 
 use crate::fault::TraceFault;
 use crate::onward::{Onward, ask};
 use fabric::{Fabric, FabricName};
-use network_model::Trace;
+use network_model::{Ending, Prefix, Trace};
 use std::alloc::Global;
 
 // The number of routers, and what holds of the traces of every fabric: its journal is a run.
@@ -23,6 +26,8 @@ fn router_count<B: FabricName>(fabric: &Fabric<B>) -> u16
     ensures links { HasLinksOfPorts (fabric.now).world }
     ensures routers { LeadsToRouters (fabric.now).world }
     ensures traces { TracesEnd (fabric.now).world }
+    ensures through { ThroughEnds (fabric.now).world }
+    ensures ends { FollowsEnd (fabric.now).world }
     ensures forwards { ForwardsAsPublished fabric.now }
 {
     fabric.holds();
@@ -33,8 +38,8 @@ fn router_count<B: FabricName>(fabric: &Fabric<B>) -> u16
 
 /// The trace of a packet for an address from a router: at each router it asks the image in force, and
 /// follows the row's link where that is up in the row's session. It waits for nobody. Refused with
-/// `UnknownRouter`; with `NoMemory`; with `Stale` or `NoImage` where a look-up is, which does not
-/// happen.
+/// `UnknownRouter`; with `NoMemory`; with `Stale` while a ticket that has published is not back; with
+/// `NoImage`, which does not happen.
 pub fn trace<B: FabricName>(
     fabric: &mut Fabric<B>,
     alloc: Global,
@@ -47,6 +52,62 @@ pub fn trace<B: FabricName>(
     ensures in_force { IfOk result (λ t. (p : Prefix)
         × IsImageWalk fabric.old none_published addr p t.path.items) }
     ensures no_loop { IfOk result (λ t. meets_twice t.path.items ≡ false) }
+    ensures few { IfOk result (λ t. vec_len t.path ≤ most_routers) }
+    ensures unknown { length (fabric.old).world.routers ≤ router → result
+        ≡ Err TraceFault.UnknownRouter }
+    ensures err { router < length (fabric.old).world.routers → IfErr result
+        (λ e. (e ≡ TraceFault.NoMemory) ⊎ (e ≡ TraceFault.Stale) ⊎ (e ≡ TraceFault.NoImage)) }
+    ensures same { fabric.new ≡ fabric.old }
+{
+    // It tells what holds of traces.
+    let _routers = router_count(fabric);
+    follow(fabric, alloc, router, addr, false)
+}
+
+/// The trace of a packet to its end, whichever prefixes match it on its way: where a `trace` ends
+/// `crossed`, it goes on from the last router. So its end is another, and it meets no router twice. It
+/// waits for nobody, and is refused as `trace` is.
+pub fn trace_through<B: FabricName>(
+    fabric: &mut Fabric<B>,
+    alloc: Global,
+    router: u16,
+    addr: u32,
+) -> Result<Trace, TraceFault>
+    ensures ok { IfOk result (λ t. model.trace_of t
+        ≡ trace_through (fabric.old).world router addr) }
+    ensures way { IfOk result (λ t. IsWay (fabric.old).world addr t.path.items) }
+    ensures in_force { IfOk result (λ t. IsImageWay fabric.old none_published addr t.path.items) }
+    ensures no_loop { IfOk result (λ t. meets_twice t.path.items ≡ false) }
+    ensures ended { IfOk result (λ t. t.end ≢ Ending.Crossed) }
+    ensures few { IfOk result (λ t. vec_len t.path ≤ most_routers) }
+    ensures unknown { length (fabric.old).world.routers ≤ router → result
+        ≡ Err TraceFault.UnknownRouter }
+    ensures err { router < length (fabric.old).world.routers → IfErr result
+        (λ e. (e ≡ TraceFault.NoMemory) ⊎ (e ≡ TraceFault.Stale) ⊎ (e ≡ TraceFault.NoImage)) }
+    ensures same { fabric.new ≡ fabric.old }
+{
+    // It tells what holds of traces.
+    let _routers = router_count(fabric);
+    follow(fabric, alloc, router, addr, true)
+}
+
+// The prefix that the routers behind one that matched this have to match too, if there is one.
+fn kept_prefix(through: bool, prefix: Prefix) -> Option<Prefix>
+    ensures { result ≡ kept_prefix through prefix }
+{
+    if through { None } else { Some(prefix) }
+}
+
+// Follows a packet router by router: while one prefix matches it, or through.
+fn follow<B: FabricName>(
+    fabric: &mut Fabric<B>,
+    alloc: Global,
+    router: u16,
+    addr: u32,
+    through: bool,
+) -> Result<Trace, TraceFault>
+    ensures ok { IfOk result (λ t. (router < length (fabric.old).world.routers)
+        × (model.trace_of t ≡ followed through (fabric.old).world router addr)) }
     ensures few { IfOk result (λ t. vec_len t.path ≤ most_routers) }
     ensures unknown { length (fabric.old).world.routers ≤ router → result
         ≡ Err TraceFault.UnknownRouter }
@@ -67,7 +128,7 @@ pub fn trace<B: FabricName>(
         match next {
             Onward::Ends(end) => return Ok(Trace { path, end }),
             Onward::Goes { prefix, router } => {
-                first = Some(prefix);
+                first = kept_prefix(through, prefix);
                 at = router;
             }
         }

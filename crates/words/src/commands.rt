@@ -34,6 +34,7 @@ Commands of a script and of the shell:
   table A                prints the rows that A published
   lookup A ADDR          looks the address up in A's image
   trace A ADDR           follows a packet for the address from A
+  trace A ADDR --through follows it on where another prefix matches
   inject A ADDR, drain   gives the workers a packet, prints what they answered
   report                 prints all links, routers and machines
 

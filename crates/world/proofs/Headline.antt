@@ -4,6 +4,7 @@ use Rattle.network_model.specs.declared.step.Step.{Step}
 use Rattle.packet_loops.proofs.Common.{Network, World, opening, Runs}
 use Rattle.all_packets.proofs.Ways.{always_no_circles}
 use Rattle.quiet_routes.proofs.Routes.{quiet_routes}
+use Rattle.convergence.proofs.Converging.{always_converges}
 use Rattle.world.specs.Headline.{IsReached, HasWorldHeadline}
 use Rattle.world.proofs.Runs.{runs-append}
 
@@ -20,4 +21,5 @@ pub sound_there : (n : Network) (w : World) → IsReached n w → HasWorldHeadli
 sound_there n w reached = record {
   no_loop = always_no_circles n reached.steps w reached.valid reached.runs;
   least_cost = quiet_routes n reached.steps w reached.valid reached.runs;
+  converges = always_converges n reached.steps w reached.valid reached.runs;
 }

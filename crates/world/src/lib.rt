@@ -27,7 +27,8 @@
 //! comparison.
 //!
 //! To whom lawful steps lead from the opening of a network without faults, the laws apply: no packet
-//! circles, and where all is quiet rows lead at least cost (`headline` of [`World::run`]).
+//! circles along the published rows, where all is quiet rows lead at least cost, and a network that is left alone comes to rest
+//! there (`headline` of [`World::run`]).
 #![tactic(auto)]
 
 mod attachments;

@@ -1,8 +1,8 @@
-use Rattle.std.proofs.Common.{◌≡◌, ◌∙◌, Some, refl, sym, inl, inr}
+use Rattle.std.proofs.Common.{◌≡◌, ◌∙◌, Some, refl, sym, subst, inl, inr}
 use Rattle.fabric.specs.Fabric.{fabric_refusal, next_fabric_step}
-use Rattle.control.specs.Served.{none_asked}
-use Rattle.control.proofs.Serving.{done_free, served_next, turn_next}
-use Rattle.control.proofs.Sharing.{refused_as}
+use Rattle.control.specs.Served.{IsStopped, none_asked}
+use Rattle.control.proofs.Serving.{done_free, served_next, stopped, turn_next}
+use Rattle.fabric.proofs.Causes.{refused_as}
 use Rattle.control.proofs.settling.take_turns.Goals as goal
 
 -- the step that was done was the router's next
@@ -25,3 +25,10 @@ returns-in-Err-clause-err g c = record {
   due = sym c.next_step.ensures ∙ c.in-Some-next_step.is;
   refused = inl (refused_as _ (fabric_refusal c.loop.fabric c.in-Some-next_step.step) c.in-Err.refusal c.in-Err.ensures.cause);
 }
+
+-- and it was refused for want of room or of memory
+pub returns-in-Err-clause-alone : goal.returns-in-Err-clause-alone
+returns-in-Err-clause-alone g c =
+    let e = c.in-Err.refusal in
+    let cause = refused_as _ (fabric_refusal c.loop.fabric c.in-Some-next_step.step) e c.in-Err.ensures.cause in
+    subst (λ f. IsStopped f e) (sym c.in-Err.ensures.err) (stopped c.loop.fabric c.in-Some-next.found c.in-Some-next_step.step e (sym c.next_step.ensures ∙ c.in-Some-next_step.is) cause)

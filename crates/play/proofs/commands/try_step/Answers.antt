@@ -1,7 +1,7 @@
 use Rattle.std.proofs.Common.{OnErr, ◌≡◌, inr, subst}
 use Rattle.world.specs.Steps.{IsDoneOr}
 use Rattle.fabric.specs.Fabric.{fabric_refusal}
-use Rattle.control.proofs.Sharing.{refused_for}
+use Rattle.fabric.proofs.Causes.{refused_as}
 use Rattle.play.proofs.commands.try_step.Goals as goal
 
 pub returns-in-Err : goal.returns-in-Err
@@ -9,6 +9,6 @@ returns-in-Err g c =
     let cause = fabric_refusal c.args.fabric.now c.args.step in
     inr (
       c.in-Err.refusal,
-      refused_for cause c.in-Err.refusal (subst (λ r. IsDoneOr cause r) c.in-Err.is c.step.ensures.cause),
+      refused_as _ cause c.in-Err.refusal (subst (λ r. IsDoneOr cause r) c.in-Err.is c.step.ensures.cause),
       subst (λ r. OnErr r (c.step.new.self ≡ c.args.fabric.now)) c.in-Err.is c.step.ensures.err,
     )

@@ -1,8 +1,9 @@
 use Rattle.std.proofs.Common.{◌∷◌, codes}
-use Rattle.script.proofs.Common.{words_of, AsksNothing, words-some}
+use Rattle.std.proofs.lemmas.Result.{IfErr-weaker, IfOk-weaker}
+use Rattle.script.proofs.Common.{words_of, Asks, AsksNoTrace, AsksNothing, AsksTrace, words-some}
 use Rattle.script.proofs.Exits.{at_err}
 use Rattle.script.proofs.StepTexts.{names_router, names_no_router}
-use Rattle.script.proofs.CommandTexts.{state_fault, no_table, lookup_fault, inject_fault, trace_fault, step_fault}
+use Rattle.script.proofs.CommandTexts.{state_fault, no_table, lookup_fault, inject_fault, trace_asks, trace_fault, step_fault}
 use Rattle.script.proofs.command.read_words.Goals as goal
 
 pub returns-in_err-router-in-state-clause-err : goal.returns-in_err-router-in-state-clause-err
@@ -23,11 +24,17 @@ returns-in_err-router-in-inject-clause-err c =
     (rw c.in-inject.is (inject_fault c.args.names.now c.args.links.now c.args.attachments.now (words_of c.args.operands.now) (words-some c.args.operands.now)
     c.in_err-router-in-inject.field-0.0 (c.in_err-router-in-inject.ensures.err (codes "inject"))))
 
-pub returns-in_err-router-in-trace-clause-err : goal.returns-in_err-router-in-trace-clause-err
-returns-in_err-router-in-trace-clause-err c =
-    at_err c.from_residual-in_err-router-in-trace.result (AsksNothing c.args.names.now c.args.links.now c.args.attachments.now (c.args.verb.now ∷ words_of c.args.operands.now)) c.in_err-router-in-trace.field-0.0 c.from_residual-in_err-router-in-trace.ensures.1
-    (rw c.in-trace.is (trace_fault c.args.names.now c.args.links.now c.args.attachments.now (words_of c.args.operands.now) (words-some c.args.operands.now)
-    c.in_err-router-in-trace.field-0.0 (c.in_err-router-in-trace.ensures.err (codes "trace"))))
+pub returns-in-trace-clause-err : goal.returns-in-trace-clause-err
+returns-in-trace-clause-err c =
+    let rest = words_of c.args.operands.now in
+    rw c.in-trace.is (IfErr-weaker c.read_trace.result (AsksNoTrace c.args.names.now (codes "trace" ∷ rest)) (AsksNothing c.args.names.now c.args.links.now c.args.attachments.now (codes "trace" ∷ rest))
+    (trace_fault c.args.names.now c.args.links.now c.args.attachments.now rest (words-some c.args.operands.now)) c.read_trace.ensures.err)
+
+pub returns-in-trace-clause-ok : goal.returns-in-trace-clause-ok
+returns-in-trace-clause-ok c =
+    let rest = words_of c.args.operands.now in
+    rw c.in-trace.is (IfOk-weaker c.read_trace.result (AsksTrace c.args.names.now (codes "trace" ∷ rest)) (Asks c.args.names.now c.args.links.now c.args.attachments.now (codes "trace" ∷ rest))
+    (trace_asks c.args.names.now c.args.links.now c.args.attachments.now rest (words-some c.args.operands.now)) c.read_trace.ensures.ok)
 
 pub returns-in_err-router-in-table-clause-err : goal.returns-in_err-router-in-table-clause-err
 returns-in_err-router-in-table-clause-err c =
@@ -54,6 +61,3 @@ returns-in_ok-router-in-lookup-clause-ok c = rw c.in-lookup.is (c.in_ok-router-i
 
 pub returns-in_ok-router-in-inject-clause-ok : goal.returns-in_ok-router-in-inject-clause-ok
 returns-in_ok-router-in-inject-clause-ok c = rw c.in-inject.is (c.in_ok-router-in-inject.ensures.ok (codes "inject"))
-
-pub returns-in_ok-router-in-trace-clause-ok : goal.returns-in_ok-router-in-trace-clause-ok
-returns-in_ok-router-in-trace-clause-ok c = rw c.in-trace.is (c.in_ok-router-in-trace.ensures.ok (codes "trace"))

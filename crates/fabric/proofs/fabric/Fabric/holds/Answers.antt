@@ -1,6 +1,7 @@
 use Rattle.std.specs.Prelude.{vec_capacity}
 use Rattle.fabric.specs.Writers.{fabric_seen}
 use Rattle.fabric.proofs.Headline.{never_twice, least_cost, converges}
+use Rattle.fabric.proofs.Lending.{lent_due}
 use Rattle.fabric.proofs.fabric.Fabric.holds.Goals as goal
 
 pub returns-clause-no_loop : goal.returns-clause-no_loop
@@ -14,3 +15,7 @@ returns-clause-least_cost g c =
 pub returns-clause-converges : goal.returns-clause-converges
 returns-clause-converges g c =
     rw (← c.self.view_is) (converges (fabric_seen g.B.FabricName.openings c.self.inside.network c.self.inside.journal.items c.self.inside.world c.self.inside.desks.items) (vec_capacity c.self.inside.journal) c.self.invariant.0 c.routers-routers.ensures.valid)
+
+pub returns-clause-pending : goal.returns-clause-pending
+returns-clause-pending g c =
+    rw (← c.self.view_is) (lent_due c.self.inside.world c.self.inside.desks.items c.self.invariant.2)

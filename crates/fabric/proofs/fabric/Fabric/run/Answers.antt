@@ -1,8 +1,10 @@
-use Rattle.std.proofs.Common.{◌≡◌, ◌+◌, ◌++◌, [], ◌∷◌, take, sym, ap, subst, ◌∙◌, arith, add-one, append_assoc}
+use Rattle.std.proofs.Common.{◌≡◌, ◌+◌, ◌++◌, [], ◌∷◌, Some, slice_get, length, refl, take, sym, ap, subst, ◌∙◌, arith, add-one, append_assoc}
 use Rattle.std.proofs.Math.Seq.{take-suc}
 use Rattle.network_model.specs.declared.step.Step.{Step}
-use Rattle.packet_loops.proofs.Common.{Lawful, Runs}
-use Rattle.fabric.specs.Fabric.{Fabric, after_step}
+use Rattle.packet_loops.proofs.Common.{Lawful, Runs, slice_get_read}
+use Rattle.world.specs.Steps.{CanBeRefused}
+use Rattle.fabric.specs.Fabric.{Fabric, after_step, fabric_refusal}
+use Rattle.fabric.proofs.Causes.{refused_as}
 use Rattle.world.proofs.Runs.{with_last_step}
 use Rattle.fabric.proofs.fabric.Fabric.run.Goals as goal
 
@@ -19,3 +21,10 @@ loop-done-preserved g c =
       journal = ap (λ (f : Fabric). f.journal) done.1 ∙ ap (λ ss. ss ++ s ∷ []) c.loop-done.invariant.journal ∙ append_assoc c.args.self.now.journal (take c.loop-done.done c.args.steps.now) (s ∷ []) ∙ ap (λ ss. c.args.self.now.journal ++ ss) (sym steps);
       network = ap (λ (f : Fabric). f.network) done.1 ∙ c.loop-done.invariant.network;
     }
+
+-- the step that was refused
+pub returns-in-Err-clause-stop : goal.returns-in-Err-clause-stop
+returns-in-Err-clause-stop g c =
+    let s : Step = c.index-steps-done.result in
+    let at : slice_get c.args.steps.now c.loop-done.done ≡ Some s = slice_get_read c.args.steps.now (length c.args.steps.now) c.loop-done.done s refl (omega arith) c.index-steps-done.is in
+    (s, at, subst (λ f. CanBeRefused (fabric_refusal f s) c.in-Err.refusal) (sym c.in-Err.ensures.err) (refused_as _ (fabric_refusal c.loop-done.self s) c.in-Err.refusal c.in-Err.ensures.cause))
