@@ -3,7 +3,8 @@ use Rattle.std.proofs.Common.{refl, sym, ap, ◌∙◌, ◌≡◌, ℕ, Bool, tr
 use Rattle.packet_loops.proofs.Common.{option_map_or, slice_get-map, Prefix, longest_match, Entry, entry_leads, Router, router_publishing, IsNetwork, image_answer, None_not_Some}
 use Rattle.packet_loops.specs.Packets.{mixture_rows}
 use Rattle.all_packets.specs.Packets.{mixture_hop, IsMovingWay, MayGoOn}
-use Rattle.all_packets.proofs.Ways.{always_no_moving_circles, way_by}
+use Rattle.all_packets.proofs.Improving.{way_by}
+use Rattle.all_packets.proofs.Ways.{always_no_moving_circles}
 use Rattle.quiet_routes.proofs.Routes.{quiet_routes}
 use Rattle.convergence.proofs.Converging.{always_converges}
 use Rattle.fabric.specs.Images.{image_in_force}

@@ -329,7 +329,7 @@ module _ (t : Topology) (n : ℕ) (s : State) (k : Kept t s) (q : IsQuiet t n s)
   leads i c = record { live = walk_map t (Follows s) (λ e. s.up e ≡ true) (λ e f. f.sends.linked) i c.places c.follows; cost = c.cost; home = c.reaches.attached }
 
   -- each router is routed where a walk leads to an attached router, and else cut off
-  optimal_here : (i : ℕ) → i < n → IsOptimal t n s i
+  pub optimal_here : (i : ℕ) → i < n → IsOptimal t n s i
   optimal_here i l = record { connected = λ es w. routed i l (reached i l es w); disconnected = λ none. go none (cases_lt (rd i) infinity) }
     where
       go : ((es : List LinkEnd) → LeadsHome t s i es → ⊥) → (rd i < infinity) ⊎ (infinity ≤ rd i) → IsCutOff s i

@@ -5,7 +5,7 @@ use Rattle.machine_laws.specs.Laws.{is_active, is_up_at, awaits, owes, owes_of}
 use Rattle.machine_laws.proofs.MachineLaws.{machine_laws}
 use Rattle.loop_freedom.specs.Network.{Topology}
 use Rattle.loop_freedom.specs.Facts.{End, pipe, is_current, end_at}
-use Rattle.loop_freedom.proofs.Link.{EndInvariant}
+use Rattle.loop_freedom.proofs.Link.{EndInvariant, Answered}
 use Rattle.loop_freedom.proofs.Invariant.{Invariant}
 use Rattle.loop_freedom.proofs.Opened.{opening_keeps}
 use Rattle.loop_freedom.proofs.Walks.{run_keeps}
@@ -14,10 +14,10 @@ use Rattle.least_cost.proofs.Kept.{Kept}
 use Rattle.least_cost.proofs.Runs.{kept_run}
 
 -- where nothing is on the way between two ends, one that is awaited owes a reply
-owed : (x y : End) → EndInvariant x y → pipe x ≡ [] → pipe y ≡ [] → x.awaits ≡ true → y.owes ≡ true
-owed x y h px py waits = by_debt y.owes (rw (px, py, waits) at h.awaited_once)
+owed : (x y : End) → Answered x y → pipe x ≡ [] → pipe y ≡ [] → x.awaits ≡ true → y.owes ≡ true
+owed x y h px py waits = by_debt y.owes (rw (px, py, waits) at h.answered)
   where
-    by_debt : (b : Bool) → 0 + one_if b + 0 ≡ 1 → b ≡ true
+    by_debt : (b : Bool) → 1 ≤ 0 + one_if b + 0 → b ≡ true
     by_debt true e = refl
     by_debt false e = absurd (omega (arith, e))
 
@@ -65,7 +65,7 @@ module _ (t : Topology) (s : State) (I : Invariant t s) (k : Kept t s) (rest : N
 
       debt : (is_current (s.machine f.router) f.port (s.seen f) (s.session f) ≡ true) × (owes (s.machine f.router) f.port ≡ true)
       debt = and_parts (is_current (s.machine f.router) f.port (s.seen f) (s.session f)) (owes (s.machine f.router) f.port)
-          (owed (end_at t s e) (end_at t s f) (I.links e v up) (silent e v) (silent f (t.far_valid e v)) waits_here)
+          (owed (end_at t s e) (end_at t s f) (I.answers e v up) (silent e v) (silent f (t.far_valid e v)) waits_here)
 
       chosen : (end_at t s f).chosen ≡ true
       chosen = and_from (is_current (s.machine f.router) f.port (s.seen f) (s.session f)) (is_port f.port (s.machine f.router).successor) debt.0

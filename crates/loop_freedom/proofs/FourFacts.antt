@@ -1,6 +1,6 @@
 -- The four facts, from what every state keeps.
-use Rattle.std.proofs.Common.{ap, subst, ◌∙◌, arith, inl, inr, ◌≡◌, ◌⊎◌, ◌+◌, ◌<◌, ◌≤◌, false}
-use Rattle.network_model.proofs.Common.{Query, Reply, LinkEnd, State, one_if}
+use Rattle.std.proofs.Common.{ap, subst, ◌∙◌, arith, inl, inr, ◌≡◌, ◌⊎◌, ◌<◌, ◌≤◌, false}
+use Rattle.network_model.proofs.Common.{Reply, LinkEnd, State, one_if}
 use Rattle.machine_laws.proofs.MachineLaws.{machine_laws}
 use Rattle.loop_freedom.specs.Network.{HoldsInEveryState, Topology}
 use Rattle.loop_freedom.specs.Facts.{End, count, pipe, LinkFacts, HasFacts, end_at}
@@ -10,14 +10,14 @@ use Rattle.loop_freedom.proofs.Invariant.{Invariant}
 use Rattle.loop_freedom.proofs.Opened.{opening_keeps}
 use Rattle.loop_freedom.proofs.Walks.{run_keeps}
 
--- where y does not await x, or x's reply is on its way, no query of y is on its way and x owes no reply
-none_open : (x y : End) → EndInvariant y x → (y.awaits ≡ false) ⊎ (0 < count Reply (pipe x)) → count Query (pipe y) + one_if x.owes ≡ 0
-none_open x y h (inl not) =
+-- where y does not await x, or x's reply is on its way, as many replies are on their way as y awaits
+answer_sent : (x y : End) → (y.awaits ≡ false) ⊎ (0 < count Reply (pipe x)) → one_if y.awaits ≤ count Reply (pipe x)
+answer_sent x y (inl not) =
     let none : one_if y.awaits ≡ 0 = ap one_if not in
-    omega (arith, h.awaited_once, none)
-none_open x y h (inr answered) =
+    omega (arith, none)
+answer_sent x y (inr answered) =
     let few : one_if y.awaits ≤ 1 = one_if_at_most_one y.awaits in
-    omega (arith, h.awaited_once, few, answered)
+    omega (arith, few, answered)
 
 -- where y does not await x, or x has released its reply, x has released at least what y awaits
 answer_out : (x y : End) → (y.awaits ≡ false) ⊎ (0 < count Reply x.out) → one_if y.awaits ≤ count Reply x.out
@@ -29,7 +29,7 @@ answer_out x y (inr answered) =
     omega (arith, few, answered)
 
 -- the facts hold between two ends that keep the invariant both ways
-link_facts : (x y : End) → EndInvariant x y → EndInvariant y x → LinkFacts x y
+pub link_facts : (x y : End) → EndInvariant x y → EndInvariant y x → LinkFacts x y
 link_facts x y h g = record {
   feasible_below_sent = h.feasible_below_sent;
   feasible_below_kept = h.feasible_below_kept;
@@ -37,7 +37,7 @@ link_facts x y h g = record {
   published_below_kept = h.published_below_kept;
   control_edge_falls = h.control_edge_falls;
   published_edge_falls = h.published_edge_falls;
-  control_edge_waits = λ active chosen answered. h.control_edge_waits active chosen (none_open x y g answered);
+  control_edge_waits = λ active chosen answered. h.control_edge_waits active chosen (answer_sent x y answered);
   published_edge_waits = λ active shown answered. h.published_edge_waits active shown (answer_out x y answered);
 }
 

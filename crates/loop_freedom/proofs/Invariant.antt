@@ -1,11 +1,11 @@
 -- What every state of a run keeps, and when two states show the same of a link.
-use Rattle.std.proofs.Common.{refl, sym, subst, ◌≡◌, ℕ, ◌<◌, ◌≤◌, true, false, List, [], ◌++◌, Option, length}
+use Rattle.std.proofs.Common.{sym, subst, arith, ◌≡◌, ℕ, ◌<◌, ◌≤◌, true, false, List, [], ◌++◌, Option, length}
 use Rattle.network_model.proofs.Common.{both_ways, Machine, SeenHeld, SeenItem, NextHop, LinkEnd, State, infinity}
 use Rattle.machine_laws.specs.Laws.{IsSound, is_up_at}
 use Rattle.loop_freedom.specs.Network.{Topology}
 use Rattle.loop_freedom.specs.Facts.{AtLeast, AtLeastFromLastQuery, End, pipe, messages, live, is_next_hop, end_of, end_at}
 use Rattle.loop_freedom.proofs.Lists.{at_least_left}
-use Rattle.loop_freedom.proofs.Link.{EndInvariant}
+use Rattle.loop_freedom.proofs.Link.{EndInvariant, Answered}
 use Rattle.loop_freedom.proofs.Notices.{IsLawfulInbox, IsLawfullyHeld}
 
 -- the items that an end has yet to take lead from what its router has seen to the link as it is
@@ -25,6 +25,7 @@ pub record Invariant (t : Topology) (s : State) : Type 0 where
   pub unripe_lawful : (e : LinkEnd) → t.valid e ≡ true → IsLawfullyHeld (s.session e) (s.unripe e)
   pub next_hop_old : (e : LinkEnd) → t.valid e ≡ true → (k : ℕ) → is_next_hop e.port k (s.published e.router) ≡ true → k ≤ s.session e
   pub links : (e : LinkEnd) → t.valid e ≡ true → s.up e ≡ true → EndInvariant (end_at t s e) (end_at t s (t.far e))
+  pub answers : (e : LinkEnd) → t.valid e ≡ true → s.up e ≡ true → Answered (end_at t s e) (end_at t s (t.far e))
 
 -- ends with equal parts, and with the same on its way, are equal
 pub end_cong : {m m' : Machine} {seen seen' n n' : ℕ} {o o' : Option NextHop} {pfd pfd' : ℕ} (q : ℕ) (items items' : List SeenItem) (ripe ripe' unripe unripe' : List SeenHeld)
@@ -62,9 +63,13 @@ end_invariant_new x y off px py off' ch sh aw ow b = record {
   published_below_kept = λ f. absurd (both_ways y.current off' f);
   control_edge_falls = λ e. absurd (both_ways x.chosen ch e);
   published_edge_falls = λ e. absurd (both_ways x.shown sh e);
-  awaited_once = rw (px, py, aw, ow) refl;
+  awaited_once = rw (px, py, aw, ow) (omega arith);
   computation_below_sent = λ e. subst (AtLeastFromLastQuery y.rd) (sym py) tt;
   computation_below_kept = λ a c. absurd (both_ways x.current off c);
   control_edge_waits = λ a e. absurd (both_ways x.chosen ch e);
   published_edge_waits = λ a e. absurd (both_ways x.shown sh e);
 }
+
+-- who is awaited is so between ends that equal others
+pub answered_same : {x y x' y' : End} → x' ≡ x → y' ≡ y → Answered x y → Answered x' y'
+answered_same {x} {y} {x'} {y'} a b h = subst (λ (z : End). Answered z y') (sym a) (subst (λ (z : End). Answered x z) (sym b) h)

@@ -17,11 +17,15 @@ pub record EndInvariant (x y : End) : Type 0 where
   pub published_below_kept : y.current ≡ true → x.pfd ≤ y.reported
   pub control_edge_falls : x.chosen ≡ true → (y.fd < x.fd) × (y.pfd < x.fd)
   pub published_edge_falls : x.shown ≡ true → (y.fd < x.pfd) × (y.pfd < x.pfd)
-  pub awaited_once : count Query (pipe x) + one_if y.owes + count Reply (pipe y) ≡ one_if x.awaits
+  pub awaited_once : count Query (pipe x) + one_if y.owes + count Reply (pipe y) ≤ one_if x.awaits
   pub computation_below_sent : y.active ≡ true → AtLeastFromLastQuery y.rd (pipe y)
-  pub computation_below_kept : y.active ≡ true → x.current ≡ true → count Query (pipe y) ≡ 0 → y.rd ≤ x.reported
-  pub control_edge_waits : y.active ≡ true → x.chosen ≡ true → count Query (pipe y) + one_if x.owes ≡ 0 → y.rd < x.fd
+  pub computation_below_kept : y.active ≡ true → x.current ≡ true → one_if y.awaits ≤ one_if x.owes + count Reply (pipe x) → y.rd ≤ x.reported
+  pub control_edge_waits : y.active ≡ true → x.chosen ≡ true → one_if y.awaits ≤ count Reply (pipe x) → y.rd < x.fd
   pub published_edge_waits : y.active ≡ true → x.shown ≡ true → one_if y.awaits ≤ count Reply x.out → y.rd < x.pfd
+
+-- where x awaits y, its query is on its way, or y owes the reply, or that is on its way
+pub record Answered (x y : End) : Type 0 where
+  pub answered : one_if x.awaits ≤ count Query (pipe x) + one_if y.owes + count Reply (pipe y)
 
 -- what the neighbour has reported once a message that may have come is taken
 abbrev pub heard : Option Report → ℕ → ℕ

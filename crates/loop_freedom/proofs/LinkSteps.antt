@@ -3,7 +3,7 @@ use Rattle.std.proofs.Common.{refl, sym, ◌∙◌, ap, arith, append_assoc, inl
 use Rattle.network_model.proofs.Common.{cases_Bool, cases_lt, both_ways, false_from_ne_true, Kind, Query, Reply, infinity, Report, one_if}
 use Rattle.loop_freedom.specs.Facts.{count, AtLeast, AtLeastFromLastQuery, End, pipe}
 use Rattle.loop_freedom.proofs.Lists.{front, one_if_at_most_one, count-append, at_least_append, at_least_right, at_least_less, from_last_query_of_all, at_least_without_query, from_last_query_right, from_last_query_append}
-use Rattle.loop_freedom.proofs.Link.{EndInvariant, heard, Keeps, GoesOn, EndStep}
+use Rattle.loop_freedom.proofs.Link.{EndInvariant, Answered, heard, Keeps, GoesOn, EndStep}
 
 -- both ends of a live link before and after a step: each may take what the other sent, and add what it sends
 pub record LinkStep (x y x' y' : End) (tx ty : Option Report) (ax ay : List Report) : Type 0 where
@@ -87,8 +87,8 @@ shown_current' {x} {y} {x'} {y'} J e =
     let was : x.shown ≡ true = sym J.here.shown_is ∙ e in
     (J.here.current_stays (J.one.shown_current was).0, J.there.current_stays (J.one.shown_current was).1)
 
--- x awaits y exactly where one query to y or one reply from y is on its way, or y owes the reply
-pub awaited_once' : {x y x' y' : End} {tx ty : Option Report} {ax ay : List Report} → LinkStep x y x' y' tx ty ax ay → count Query (pipe x') + one_if y'.owes + count Reply (pipe y') ≡ one_if x'.awaits
+-- where one query to y or one reply from y is on its way, or y owes the reply, x awaits y, and there is one of these alone
+pub awaited_once' : {x y x' y' : End} {tx ty : Option Report} {ax ay : List Report} → LinkStep x y x' y' tx ty ax ay → count Query (pipe x') + one_if y'.owes + count Reply (pipe y') ≤ one_if x'.awaits
 awaited_once' {x} {y} {x'} {y'} {tx} {ty} {ax} {ay} J =
     let S : LinkStep y x y' x' ty tx ay ax = swapped J in
     let a = count_old J Query in
@@ -108,7 +108,7 @@ risen {x} {y} {x'} {y'} {tx} {ty} {ax} {ay} J e lt =
     let S : LinkStep y x y' x' ty tx ay ax = swapped J in
     let none : count Query (pipe x) ≡ 0 = omega (arith, J.one.awaited_once, r.2, count_old S Reply) in (
       at_least_less x.rd x'.fd (pipe x) r.1 (at_least_without_query x.rd (pipe x) none (J.two.computation_below_sent r.0)),
-      λ f. let g = J.two.computation_below_kept r.0 f none in omega (arith, g, r.1),
+      λ f. let g = J.two.computation_below_kept r.0 f (omega (arith, r.2, count_old S Reply)) in omega (arith, g, r.1),
     )
 
 -- the feasible distance of x after the step is at most what y kept of x before it, and all that was on its way to y
@@ -157,9 +157,9 @@ published_below_kept' {x} {y} {x'} {y'} {tx} {ty} {ax} {ay} J f =
       | inr g ↦ let e = J.there.comes g f in omega (arith, e, J.here.pfd_is, J.one.pfd_bounded)
     ]
 
--- where y does not await x, or takes its reply now, no query of y is on its way and x owes no reply
-pub no_query_left : {x y x' y' : End} {tx ty : Option Report} {ax ay : List Report} → LinkStep x y x' y' tx ty ax ay → one_if y.awaits ≤ count Reply (front ty) → count Query (pipe y) + one_if x.owes ≡ 0
-no_query_left {x} {y} {x'} {y'} {tx} {ty} {ax} {ay} J le = omega (arith, J.two.awaited_once, le, count_old J Reply)
+-- where y does not await x, or takes its reply now, that was on its way
+answer_comes : {x y x' y' : End} {tx ty : Option Report} {ax ay : List Report} → LinkStep x y x' y' tx ty ax ay → one_if y.awaits ≤ count Reply (front ty) → one_if y.awaits ≤ count Reply (pipe x)
+answer_comes {x} {y} {x'} {y'} {tx} {ty} {ax} {ay} J le = omega (arith, le, count_old J Reply)
 
 -- where y is the successor of x, both feasible distances of y are below that of x
 pub control_edge_falls' : {x y x' y' : End} {tx ty : Option Report} {ax ay : List Report} → LinkStep x y x' y' tx ty ax ay → x'.chosen ≡ true → (y'.fd < x'.fd) × (y'.pfd < x'.fd)
@@ -175,7 +175,7 @@ control_edge_falls' {x} {y} {x'} {y'} {tx} {ty} {ax} {ay} J e =
     let g : y'.current ≡ true = J.there.current_stays (J.one.chosen_current k.was) in
     let rising : y.fd < y'.fd → y'.fd < x'.fd = λ lt.
     let r = J.there.rises g lt in
-    let w = J.one.control_edge_waits r.0 k.was (no_query_left J r.2) in
+    let w = J.one.control_edge_waits r.0 k.was (answer_comes J r.2) in
     omega (arith, w, r.1, k.grows) in
     let first : y'.fd < x'.fd = elim (cases_lt y.fd y'.fd) [ inl lt ↦ rising lt | inr le ↦ omega (arith, le, o.0, k.grows) ] in
     (first, omega (arith, J.there.pfd_is, o.1, k.grows)) in
@@ -212,26 +212,34 @@ heard_from_last_query : (n r : ℕ) (t : Option Report) (ms : List Report) → c
 heard_from_last_query n r None ms z f h = f (omega (arith, z))
 heard_from_last_query n r (Some m) ms z f h = h.0 z
 
--- where no query of y is on its way, the distance of y's computation is at most what x keeps of y
-pub computation_below_kept' : {x y x' y' : End} {tx ty : Option Report} {ax ay : List Report} → LinkStep x y x' y' tx ty ax ay → y'.active ≡ true → x'.current ≡ true → count Query (pipe y') ≡ 0 → y'.rd ≤ x'.reported
+-- where y does not await x, or x has its query or has answered, the distance of y's computation is at most what x keeps of y
+pub computation_below_kept' : {x y x' y' : End} {tx ty : Option Report} {ax ay : List Report} → LinkStep x y x' y' tx ty ax ay → y'.active ≡ true → x'.current ≡ true → one_if y'.awaits ≤ one_if x'.owes + count Reply (pipe x') → y'.rd ≤ x'.reported
 computation_below_kept' {x} {y} {x'} {y'} {tx} {ty} {ax} {ay} J e c z =
     let S : LinkStep y x y' x' ty tx ay ax = swapped J in
     let unknown : x'.reported ≡ infinity → y'.rd ≤ x'.reported = λ i. omega (arith, i, J.there.rd_bounded) in
     let new = count_new S Query in
+    let tn = awaited_once' S in
+    let t2 = J.two.awaited_once in
+    let l = one_if_at_most_one y.awaits in
+    let co = count_old S Query in
+    let ro = count_old J Reply in
+    let rn = count_new J Reply in
     let goes_on : GoesOn y y' ay → x.current ≡ true → y'.rd ≤ x'.reported = λ k g.
     let t : AtLeastFromLastQuery y.rd (front tx ++ staying y y') = rw (pipe_old S) at (J.one.computation_below_sent k.was) in
-    let z2 : count Query (staying y y') ≡ 0 = omega (arith, z, new) in
-    let h : y.rd ≤ heard tx x.reported = heard_from_last_query y.rd x.reported tx (staying y y') z2 (λ s. J.one.computation_below_kept k.was g (count_old S Query ∙ s)) t in
+    let z2 : count Query (staying y y') ≡ 0 = omega (arith, z, tn, new) in
+    let q = J.there.queries (omega (arith, t2, ro)) in
+    let p = J.here.replies (omega (arith, t2, co, l)) in
+    let h : y.rd ≤ heard tx x.reported = heard_from_last_query y.rd x.reported tx (staying y y') z2 (λ s. J.one.computation_below_kept k.was g (omega (arith, s, z, q, p, ro, rn, k.silent))) t in
     rw (J.here.reports g, k.stays) h in
     let known : y'.current ≡ true → x.current ≡ true → y'.rd ≤ x'.reported = λ f g.
-    elim (J.there.asks f e) [ inl k ↦ goes_on k g | inr some ↦ absurd (omega (arith, some, z, new)) ] in
+    elim (J.there.asks f e) [ inl k ↦ goes_on k g | inr some ↦ absurd (omega (arith, some, z, tn, new)) ] in
     elim (cases_Bool y'.current) [
       | inl f ↦ elim (cases_Bool x.current) [ inl g ↦ known f g | inr g ↦ unknown (J.here.comes g c) ]
       | inr f ↦ unknown (unheard' S f c)
     ]
 
--- where x has no query of its active successor y to answer, the distance of y's computation is below x's feasible distance
-pub control_edge_waits' : {x y x' y' : End} {tx ty : Option Report} {ax ay : List Report} → LinkStep x y x' y' tx ty ax ay → y'.active ≡ true → x'.chosen ≡ true → count Query (pipe y') + one_if x'.owes ≡ 0 → y'.rd < x'.fd
+-- where x has answered its active successor y, or y does not await it, the distance of y's computation is below x's feasible distance
+pub control_edge_waits' : {x y x' y' : End} {tx ty : Option Report} {ax ay : List Report} → LinkStep x y x' y' tx ty ax ay → y'.active ≡ true → x'.chosen ≡ true → one_if y'.awaits ≤ count Reply (pipe x') → y'.rd < x'.fd
 control_edge_waits' {x} {y} {x'} {y'} {tx} {ty} {ax} {ay} J e ch z =
     let S : LinkStep y x y' x' ty tx ay ax = swapped J in
     let c : x'.current ≡ true = J.here.chosen_current ch in
@@ -239,14 +247,15 @@ control_edge_waits' {x} {y} {x'} {y'} {tx} {ty} {ax} {ay} J e ch z =
     let new : x'.reported < x'.fd → y'.rd < x'.fd = λ less.
     let h : y'.rd ≤ x'.reported = computation_below_kept' J e c (omega (arith, z)) in omega (arith, h, less) in
     let cn = count_new S Query in
-    let co = count_old S Query in
+    let tn = awaited_once' S in
+    let ro = count_old J Reply in
+    let rn = count_new J Reply in
     let keeps : Keeps x x' ax → GoesOn y y' ay → y'.rd < x'.fd = λ k g.
-    let l = one_if_at_most_one y.awaits in
-    let r = J.here.replies (omega (arith, J.two.awaited_once, co, l)) in
-    let w = J.one.control_edge_waits g.was k.was (omega (arith, r, z, cn, co, k.silent)) in
+    let q = J.there.queries (omega (arith, J.two.awaited_once, ro)) in
+    let w = J.one.control_edge_waits g.was k.was (omega (arith, z, q, ro, rn, k.silent, g.silent)) in
     omega (arith, w, g.stays, k.grows) in
     let old : Keeps x x' ax → y'.rd < x'.fd = λ k.
-    elim (J.there.asks f e) [ inl g ↦ keeps k g | inr some ↦ absurd (omega (arith, some, z, cn)) ] in
+    elim (J.there.asks f e) [ inl g ↦ keeps k g | inr some ↦ absurd (omega (arith, some, z, tn, cn)) ] in
     elim (J.here.chooses ch) [ inl less ↦ new less | inr k ↦ old k ]
 
 -- where x's published successor y awaits no reply that x has yet to release, y's computation is below x's published distance
@@ -288,3 +297,18 @@ step_keeps J = record {
   control_edge_waits = control_edge_waits' J;
   published_edge_waits = published_edge_waits' J;
 }
+
+-- a step at either end keeps that who is awaited has the query, owes the reply, or has sent it
+pub step_answered : {x y x' y' : End} {tx ty : Option Report} {ax ay : List Report} → LinkStep x y x' y' tx ty ax ay → Answered x y → Answered x' y'
+step_answered {x} {y} {x'} {y'} {tx} {ty} {ax} {ay} J T =
+    let S : LinkStep y x y' x' ty tx ay ax = swapped J in
+    let a = count_old J Query in
+    let b = count_new J Query in
+    let c = count_old S Reply in
+    let d = count_new S Reply in
+    let s = J.one.awaited_once in
+    let l = one_if_at_most_one x.awaits in
+    let q = J.here.queries (omega (arith, a, c, s)) in
+    let r = J.there.replies (omega (arith, a, c, s, l)) in
+    let u = T.answered in
+    record { answered = omega (arith, a, b, c, d, u, q, r) }

@@ -1,14 +1,14 @@
 -- A link that comes up or goes down keeps the invariant.
 use Rattle.std.proofs.Common.{refl, sym, ◌∙◌, ap, subst, arith, inl, inr, ◌≡◌, ℕ, suc, ◌<◌, ◌≤◌, true, false, ◌==◌, [], ◌∷◌, append-nil, ne_eqb}
-use Rattle.network_model.proofs.Common.{both_ways, and_left, and_right, false_from_ne_true, Machine, is_port, UpNotice, LinkEnd, State, infinity}
+use Rattle.network_model.proofs.Common.{both_ways, and_left, and_right, false_from_ne_true, Machine, is_port, UpNotice, LinkEnd, State, infinity, one_if}
 use Rattle.machine_laws.specs.Laws.{is_up_at, awaits, owes}
 use Rattle.loop_freedom.specs.Network.{Topology, LinkUp, LinkDown, IsEnd}
 use Rattle.loop_freedom.proofs.Ends.{end_cases, end_far, end_near, end_valid}
-use Rattle.loop_freedom.proofs.Link.{EndInvariant}
+use Rattle.loop_freedom.proofs.Link.{EndInvariant, Answered}
 use Rattle.loop_freedom.specs.Facts.{pipe, messages, live, is_current, is_next_hop, end_at}
 use Rattle.loop_freedom.proofs.OnTheWay.{messages-append}
 use Rattle.loop_freedom.proofs.Notices.{IsLawfulInbox, lawful_seen, lawful_up, lawful_down, lawful_empty, nothing_held_later, lawfully_held_later}
-use Rattle.loop_freedom.proofs.Invariant.{Invariant, IsLawfulAt, end_at_cong, end_invariant_same, end_invariant_new}
+use Rattle.loop_freedom.proofs.Invariant.{Invariant, IsLawfulAt, end_at_cong, end_invariant_same, answered_same, end_invariant_new}
 
 -- a port that saw an earlier session does not know of the link's present one
 not_seen : (m : Machine) (q seen n : ℕ) → seen < n → is_current m q seen n ≡ false
@@ -89,6 +89,19 @@ module _ (t : Topology) (old new : State) (I : Invariant t old) (L : LinkUp t ol
         end_invariant_same (other_end e d df) (other_end (t.far e) df dff) (I.links e v (sym (L.up_elsewhere e d) ∙ u))
   ]
 
+  -- and who is awaited is so: nobody on a link that came up
+  up_answers : (e : LinkEnd) → t.valid e ≡ true → new.up e ≡ true → Answered (end_at t new e) (end_at t new (t.far e))
+  up_answers e v u = elim (end_cases t L.a e) [
+    | inl x ↦
+        let X = new_end e x in
+        let none : one_if (end_at t new e).awaits ≡ 0 = ap one_if (and_left (is_current (new.machine e.router) e.port (new.seen e) (new.session e)) (awaits (new.machine e.router) e.port) X.off) in
+        record { answered = omega (arith, none) }
+    | inr d ↦
+        let df : IsEnd t L.a (t.far e) → ⊥ = λ y. d (end_near t L.a e L.valid_place v y) in
+        let dff : IsEnd t L.a (t.far (t.far e)) → ⊥ = λ y. d (subst (λ (z : LinkEnd). IsEnd t L.a z) (t.far_far e v) y) in
+        answered_same (other_end e d df) (other_end (t.far e) df dff) (I.answers e v (sym (L.up_elsewhere e d) ∙ u))
+  ]
+
   -- the items at every end are lawful after a link came up
   up_lawful : (e : LinkEnd) → t.valid e ≡ true → IsLawfulAt new e
   up_lawful e v = elim (end_cases t L.a e) [
@@ -136,6 +149,7 @@ module _ (t : Topology) (old new : State) (I : Invariant t old) (L : LinkUp t ol
     unripe_lawful = λ e v. rw (L.holdings.unripe_same e) (lawfully_held_later (old.session e) (new.session e) (old.unripe e) (grows e) (I.unripe_lawful e v));
     next_hop_old = λ e v k h. (let g = I.next_hop_old e v k (rw (L.publications.published_same e.router) at h) in let w = grows e in omega (arith, g, w));
     links = up_links;
+    answers = up_answers;
   }
 
 module _ (t : Topology) (old new : State) (I : Invariant t old) (L : LinkDown t old new) where
@@ -161,6 +175,16 @@ module _ (t : Topology) (old new : State) (I : Invariant t old) (L : LinkDown t 
         let df : IsEnd t L.a (t.far e) → ⊥ = λ y. d (end_near t L.a e L.valid_place v y) in
         let dff : IsEnd t L.a (t.far (t.far e)) → ⊥ = λ y. d (subst (λ (z : LinkEnd). IsEnd t L.a z) (t.far_far e v) y) in
         end_invariant_same (down_other_end e df) (down_other_end (t.far e) dff) (I.links e v (sym (L.up_elsewhere e d) ∙ u))
+  ]
+
+  -- and who is awaited is so
+  down_answers : (e : LinkEnd) → t.valid e ≡ true → new.up e ≡ true → Answered (end_at t new e) (end_at t new (t.far e))
+  down_answers e v u = elim (end_cases t L.a e) [
+    | inl x ↦ absurd (both_ways (new.up e) (L.up_at e x) u)
+    | inr d ↦
+        let df : IsEnd t L.a (t.far e) → ⊥ = λ y. d (end_near t L.a e L.valid_place v y) in
+        let dff : IsEnd t L.a (t.far (t.far e)) → ⊥ = λ y. d (subst (λ (z : LinkEnd). IsEnd t L.a z) (t.far_far e v) y) in
+        answered_same (down_other_end e df) (down_other_end (t.far e) dff) (I.answers e v (sym (L.up_elsewhere e d) ∙ u))
   ]
 
   -- the items at every end are lawful after a link went down
@@ -196,4 +220,5 @@ module _ (t : Topology) (old new : State) (I : Invariant t old) (L : LinkDown t 
     unripe_lawful = λ e v. rw (L.holdings.unripe_same e, L.session_same e) (I.unripe_lawful e v);
     next_hop_old = λ e v k h. rw (L.session_same e) (I.next_hop_old e v k (rw (L.publications.published_same e.router) at h));
     links = down_links;
+    answers = down_answers;
   }

@@ -7,10 +7,10 @@ use Rattle.machine_laws.specs.Laws.{IsSound, Meets, MachineLaws, is_up_at, sent_
 use Rattle.loop_freedom.specs.Network.{Topology, SameLinks, SameCosts, SamePublished, Take, TakeAtHome, event_of, held_for}
 use Rattle.loop_freedom.proofs.Lists.{front}
 use Rattle.loop_freedom.specs.Facts.{End, messages, live, end_of, end_at}
-use Rattle.loop_freedom.proofs.Link.{EndStep, EndInvariant}
+use Rattle.loop_freedom.proofs.Link.{Answered, EndStep, EndInvariant}
 use Rattle.loop_freedom.proofs.Notices.{lawful_seen, IsLawfullyHeld, lawfully_held_append}
 use Rattle.loop_freedom.proofs.Reacts.{PortStep, reacts, rests}
-use Rattle.loop_freedom.proofs.LinkSteps.{LinkStep, step_keeps}
+use Rattle.loop_freedom.proofs.LinkSteps.{LinkStep, step_keeps, step_answered}
 use Rattle.loop_freedom.proofs.Invariant.{Invariant, IsLawfulAt, end_cong}
 
 -- router i's machine reacts to the event, and what it sends is held, unripe; nothing else changes but what its own ends see and have yet to take
@@ -179,6 +179,21 @@ module _ (laws : MachineLaws) (t : Topology) (old new : State) (I : Invariant t 
       record { one = I.links e v up_e; two = two; here = A.step; there = B.step; out_here = outs e B.taken B.took; out_there = outs f A.taken took_e } in
       step_keeps J
 
+  -- and who is awaited is so
+  answers' : (e : LinkEnd) → t.valid e ≡ true → new.up e ≡ true → Answered (end_at t new e) (end_at t new (t.far e))
+  answers' e v u =
+      let up_e : old.up e ≡ true = sym (M.links.up_same e) ∙ u in
+      let f = t.far e in
+      let up_f : old.up f ≡ true = I.up_far e v ∙ up_e in
+      let back : t.far f ≡ e = t.far_far e v in
+      let A = stepped e v up_e in
+      let B = stepped f (t.far_valid e v) up_f in
+      let two : EndInvariant (end_at t old f) (end_at t old e) = subst (λ (w : LinkEnd). EndInvariant (end_at t old f) (end_at t old w)) back (I.links f (t.far_valid e v) up_f) in
+      let took_e : messages (old.inbox (t.far f)) ≡ front A.taken ++ messages (new.inbox (t.far f)) = subst (λ (w : LinkEnd). messages (old.inbox w) ≡ front A.taken ++ messages (new.inbox w)) (sym back) A.took in
+      let J : LinkStep (end_at t old e) (end_at t old f) (end_at t new e) (end_at t new f) A.taken B.taken A.added B.added =
+      record { one = I.links e v up_e; two = two; here = A.step; there = B.step; out_here = outs e B.taken B.took; out_there = outs f A.taken took_e } in
+      step_answered J (I.answers e v up_e)
+
   -- every machine is sound after the step
   machines' : (k : ℕ) → IsSound (new.machine k)
   machines' k = elim (cases_eq k i) [
@@ -214,4 +229,5 @@ module _ (laws : MachineLaws) (t : Topology) (old new : State) (I : Invariant t 
     unripe_lawful = unripe';
     next_hop_old = λ e v k h. rw (M.links.session_same e) (I.next_hop_old e v k (rw (M.publications.published_same e.router) at h));
     links = links';
+    answers = answers';
   }

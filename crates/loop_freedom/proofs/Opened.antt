@@ -39,4 +39,5 @@ opening_keeps t s O = record {
   unripe_lawful = λ e v. rw (O.unripe_empty e) tt;
   next_hop_old = λ e v k h. absurd (false≢true (rw (O.nothing_published e.router) at h));
   links = λ e v u. absurd (both_ways (s.up e) (O.all_down e) u);
+  answers = λ e v u. absurd (both_ways (s.up e) (O.all_down e) u);
 }

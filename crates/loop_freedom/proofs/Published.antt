@@ -1,9 +1,8 @@
 -- A publication keeps the invariant of a live link.
-use Rattle.std.proofs.Common.{sym, ◌∙◌, ap, subst, arith, ◌≡◌, ◌+◌, ◌≤◌, true, [], ◌++◌, append-nil}
-use Rattle.network_model.proofs.Common.{Query, infinity, one_if}
+use Rattle.std.proofs.Common.{sym, ◌∙◌, ap, subst, arith, ◌≡◌, ◌≤◌, true, [], ◌++◌, append-nil}
+use Rattle.network_model.proofs.Common.{Query, Reply, infinity}
 use Rattle.loop_freedom.specs.Facts.{count, AtLeast, AtLeastFromLastQuery, End, pipe}
-use Rattle.loop_freedom.proofs.Lists.{one_if_at_most_one}
-use Rattle.loop_freedom.proofs.Link.{EndInvariant}
+use Rattle.loop_freedom.proofs.Link.{EndInvariant, Answered}
 
 -- the end once its router has published what it chose
 abbrev pub shown_as_chosen : End → End
@@ -29,9 +28,9 @@ publish_here x y c b h g = record {
   published_edge_falls = h.control_edge_falls;
   awaited_once = rw (same_pipe x) h.awaited_once;
   computation_below_sent = h.computation_below_sent;
-  computation_below_kept = h.computation_below_kept;
-  control_edge_waits = h.control_edge_waits;
-  published_edge_waits = λ a s le. h.control_edge_waits a s (let t = g.awaited_once in let l = one_if_at_most_one y.awaits in omega (arith, t, le, l));
+  computation_below_kept = λ a c le. h.computation_below_kept a c (let s = ap (count Reply) (same_pipe x) in omega (arith, le, s));
+  control_edge_waits = λ a e le. h.control_edge_waits a e (let s = ap (count Reply) (same_pipe x) in omega (arith, le, s));
+  published_edge_waits = λ a s le. h.control_edge_waits a s le;
 }
 
 -- the invariant, seen from the end across, holds after a publication
@@ -50,7 +49,15 @@ publish_there x y h = record {
   published_edge_falls = λ e. ((h.published_edge_falls e).0, (h.published_edge_falls e).0);
   awaited_once = rw (same_pipe y) h.awaited_once;
   computation_below_sent = λ a. subst (AtLeastFromLastQuery y.rd) (sym (same_pipe y)) (h.computation_below_sent a);
-  computation_below_kept = λ a c z. h.computation_below_kept a c (ap (count Query) (sym (same_pipe y)) ∙ z);
-  control_edge_waits = λ a s z. h.control_edge_waits a s (ap (λ ms. count Query ms + one_if x.owes) (sym (same_pipe y)) ∙ z);
+  computation_below_kept = h.computation_below_kept;
+  control_edge_waits = h.control_edge_waits;
   published_edge_waits = h.published_edge_waits;
 }
+
+-- a publication of the one that awaits keeps that it is answered
+pub answered_here : (x y : End) → Answered x y → Answered (shown_as_chosen x) y
+answered_here x y T = record { answered = (let s : count Query (pipe (shown_as_chosen x)) ≡ count Query (pipe x) = ap (count Query) (append-nil (pipe x)) in let u = T.answered in omega (arith, s, u)) }
+
+-- and one of the other
+pub answered_there : (x y : End) → Answered x y → Answered x (shown_as_chosen y)
+answered_there x y T = record { answered = (let s : count Reply (pipe (shown_as_chosen y)) ≡ count Reply (pipe y) = ap (count Reply) (append-nil (pipe y)) in let u = T.answered in omega (arith, s, u)) }

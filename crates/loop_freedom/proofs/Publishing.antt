@@ -4,12 +4,12 @@ use Rattle.network_model.proofs.Common.{cases_eq, false≢true, and_parts, and-t
 use Rattle.machine_laws.specs.Laws.{is_up_at}
 use Rattle.machine_laws.proofs.Successors.{port_successor_from, is_port_successor}
 use Rattle.loop_freedom.specs.Network.{Topology, Publish, next_hop_of}
-use Rattle.loop_freedom.proofs.Link.{EndInvariant}
-use Rattle.loop_freedom.proofs.Published.{shown_as_chosen, publish_here, publish_there}
+use Rattle.loop_freedom.proofs.Link.{EndInvariant, Answered}
+use Rattle.loop_freedom.proofs.Published.{shown_as_chosen, publish_here, publish_there, answered_here, answered_there}
 use Rattle.loop_freedom.specs.Facts.{messages, live, is_current, is_next_hop, end_of, end_at}
 use Rattle.loop_freedom.proofs.OnTheWay.{live-append}
 use Rattle.loop_freedom.proofs.Notices.{lawful_seen, lawfully_held_append}
-use Rattle.loop_freedom.proofs.Invariant.{Invariant, end_at_cong, end_invariant_same}
+use Rattle.loop_freedom.proofs.Invariant.{Invariant, end_at_cong, end_invariant_same, answered_same, answered_same}
 
 -- a published successor is port q in session n exactly where q is the machine's successor and knows of session n
 next_hop_seen : (m : Machine) (q n : ℕ) (seen : ℕ → ℕ) (s : Option ℕ) → (s ≡ Some q → is_up_at m q ≡ true)
@@ -90,6 +90,24 @@ module _ (t : Topology) (old new : State) (I : Invariant t old) (P : Publish t o
         ]
       ]
 
+  -- and who is awaited is so
+  answers' : (e : LinkEnd) → t.valid e ≡ true → new.up e ≡ true → Answered (end_at t new e) (end_at t new (t.far e))
+  answers' e v u =
+      let f = t.far e in
+      let x = end_at t old e in
+      let y = end_at t old f in
+      let one : Answered x y = I.answers e v (sym (P.links.up_same e) ∙ u) in
+      elim (cases_eq e.router P.j) [
+        | inl re ↦ elim (cases_eq f.router P.j) [
+          | inl rf ↦ answered_same (here e v re) (here f (t.far_valid e v) rf) (answered_there (shown_as_chosen x) y (answered_here x y one))
+          | inr df ↦ answered_same (here e v re) (elsewhere f df) (answered_here x y one)
+        ]
+        | inr de ↦ elim (cases_eq f.router P.j) [
+          | inl rf ↦ answered_same (elsewhere e de) (here f (t.far_valid e v) rf) (answered_there x y one)
+          | inr df ↦ answered_same (elsewhere e de) (elsewhere f df) one
+        ]
+      ]
+
   -- no published successor is of a session later than its link's
   next_hops : (e : LinkEnd) → t.valid e ≡ true → (k : ℕ) → is_next_hop e.port k (new.published e.router) ≡ true → k ≤ new.session e
   next_hops e v k h = elim (cases_eq e.router P.j) [
@@ -126,4 +144,5 @@ module _ (t : Topology) (old new : State) (I : Invariant t old) (P : Publish t o
     ];
     next_hop_old = next_hops;
     links = links';
+    answers = answers';
   }

@@ -7,7 +7,7 @@ use Rattle.loop_freedom.specs.Facts.{messages, live, end_at}
 use Rattle.loop_freedom.proofs.OnTheWay.{messages-append}
 use Rattle.loop_freedom.proofs.Notices.{IsLawfulInbox, lawful_cost, lawful_message, IsLawfullyHeld}
 use Rattle.loop_freedom.proofs.Ends.{place_cases}
-use Rattle.loop_freedom.proofs.Invariant.{Invariant, IsLawfulAt, end_at_cong, end_invariant_same}
+use Rattle.loop_freedom.proofs.Invariant.{Invariant, IsLawfulAt, end_at_cong, end_invariant_same, answered_same}
 
 -- a step keeps the invariant where it leaves machines, publications, links, and what is on its way as a whole
 pub still_keeps : (t : Topology) (old new : State) → Invariant t old → SameMachines old new → SamePublished old new → SameLinks old new
@@ -32,6 +32,9 @@ still_keeps t old new I M P L cost lawful ripe unripe outs kept = record {
   links = λ e v u.
       let up_e : old.up e ≡ true = sym (L.up_same e) ∙ u in
       end_invariant_same (same_end e v up_e) (same_end (t.far e) (t.far_valid e v) (I.up_far e v ∙ up_e)) (I.links e v up_e);
+  answers = λ e v u.
+      let up_e : old.up e ≡ true = sym (L.up_same e) ∙ u in
+      answered_same (same_end e v up_e) (same_end (t.far e) (t.far_valid e v) (I.up_far e v ∙ up_e)) (I.answers e v up_e);
 }
   where
     same_end : (e : LinkEnd) → t.valid e ≡ true → old.up e ≡ true → end_at t new e ≡ end_at t old e

@@ -3,11 +3,10 @@ use Rattle.std.specs.Prelude.{◌≡◌, ◌⊎◌, ℕ, suc, ◌<◌, Bool, tru
 use Rattle.network_model.specs.declared.machine.Neighbour.{Neighbour}
 use Rattle.network_model.specs.declared.machine.Event.{Event}
 use Rattle.network_model.specs.declared.machine.Event.TheVariants.{Message, Up, Down, Cost}
-use Rattle.metric.specs.declared.kind.Kind.{Kind}
-use Rattle.network_model.specs.Machine.{Machine, reaction, opening_machine, port_successor, event_at_home}
+use Rattle.network_model.specs.Machine.{reaction, opening_machine, port_successor, event_at_home}
 use Rattle.network_model.specs.declared.machine.Outgoing.{Outgoing}
 use Rattle.metric.specs.Distance.{infinity}
-use Rattle.network_model.specs.View.{LinkEnd, Report, SeenItem, UpNotice, DownNotice, CostNotice, Reported, SeenHeld, NextHop, State, at_port}
+use Rattle.network_model.specs.View.{LinkEnd, SeenItem, UpNotice, DownNotice, CostNotice, Reported, SeenHeld, NextHop, State, at_port}
 use Rattle.machine_laws.specs.Laws.{sent_to, is_up_at}
 
 -- which link ends there are, and which end is across each link

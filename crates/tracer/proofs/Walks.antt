@@ -11,7 +11,7 @@ use Rattle.packet_loops.specs.Packets.{TracesEnd}
 use Rattle.all_packets.specs.Packets.{IsWay}
 use Rattle.all_packets.specs.Through.{through_from, ThroughEnds}
 use Rattle.all_packets.specs.Through.{through as trace_through}
-use Rattle.all_packets.proofs.Ways.{way_by}
+use Rattle.all_packets.proofs.Improving.{way_by}
 use Rattle.tracer.specs.Following.{FollowsEnd, followed, followed_from, kept_prefix}
 use Rattle.tracer.specs.Tracing.{LeadsToRouters}
 

@@ -1,0 +1,460 @@
+-- Whatever happens keeps the order of sessions.
+use Rattle.std.proofs.Common.{refl, sym, ap, subst, ◌∙◌, arith, inl, inr, ◌≡◌, ◌⊎◌, ℕ, ◌≤◌, max, Bool, true, false, ◌&&◌, ◌==◌, nat_lt, is_none, if◌then◌else◌, List, [], ◌∷◌, take, drop, Option, Some, None, slice_get, eq-eqb, ltb-false}
+use Rattle.packet_loops.proofs.Common.{option_map_or, and_parts, and_from, false≢true, take-append-le, Prefix, Held, Router, machine_of, session_at, router_publishing, router_releasing, ripe_front, next_hop_at, ripe_of, is_up_at, is_port, is_next_hop, Topology, LinkEnd, at_port, place_cases}
+use Rattle.network_model.proofs.Common.{cases_eq, both_ways}
+use Rattle.loop_freedom.specs.Facts.{End}
+use Rattle.router_core.specs.Alone.{router_publishing_some}
+use Rattle.single_router.specs.declared.input.Input.{Input}
+use Rattle.single_router.specs.declared.input.Input.TheVariants as input
+use Rattle.single_router.specs.declared.opening.Attachment.{Attachment}
+use Rattle.single_router.specs.Inputs.{told_fault}
+use Rattle.single_router.specs.Openings.{make_fault, made_router}
+use Rattle.daemon_laws.specs.Processes.{Carried, Processes}
+use Rattle.daemon_laws.specs.Happenings.{Happening, Tells, Takes, Loses, Publishes, PublishesSome, Forgets, Releases, BeginsAnew, IsOwn, CanHappen, with_router, is_same_end, with_coming, with_heard, told, forgotten, with_taken, with_released, next, after, Begins, AllCanHappen}
+use Rattle.daemon_laws.specs.Facts.{fds_next}
+use Rattle.daemon_laws.proofs.Seen.{is_in}
+use Rattle.daemon_laws.proofs.Moving.{in_session}
+use Rattle.daemon_laws.proofs.Invariant.{router_at, session_of, Invariant}
+use Rattle.daemon_laws.proofs.Meeting.{GoesAt, may_before}
+use Rattle.daemon_laws.proofs.InForce.{Ends, AsChosen, AsBefore, PutsInForce}
+use Rattle.daemon_laws.proofs.Releasing.{as_carried, Sent, OnItsWay, Lost, front_of, ripe_front_is}
+use Rattle.daemon_laws.proofs.Beginning.{Made, made}
+use Rattle.daemon_laws.proofs.Orderly.{CarriedPast, HeldPast, carried_later, carried_append, carried_drop, carried_first, held_later, held_append, held_drop, held_take, stamped_past, HoldsMore, told_more, Shows, Orderly, hop_from}
+use Rattle.daemon_laws.proofs.Steps.{router_here, router_away, end_same, tells_at, taken_at, publishes_puts, publishes_some_puts, forgets_puts, sent_is, next_keeps}
+
+-- ---- a router that holds more
+
+-- what an end took last is what it had taken last, or the first message that was on its way to it
+data Hears (w w' : Processes) (d : LinkEnd) : Type 0 where
+  Before : w'.heard d ≡ w.heard d → Hears w w' d
+  Now : (c : Carried) → slice_get (w.coming d) 0 ≡ Some c → w'.heard d ≡ c.session → Hears w w' d
+
+-- one router holds more, and some first message may be taken; nothing else changes
+record Grows (t : Topology) (p : Prefix) (w w' : Processes) : Type 0 where
+  at : GoesAt t p w w'
+  more : HoldsMore (w.routers at.i) (w'.routers at.i)
+  last_most : (e : LinkEnd) → w'.last e ≤ max (w.last e) (session_of w' e)
+  coming_fewer : (e : LinkEnd) (n : ℕ) → CarriedPast n (w.coming e) → CarriedPast n (w'.coming e)
+  hears : (d : LinkEnd) → Hears w w' d
+
+module _ (t : Topology) (p : Prefix) (pfd : ℕ → ℕ) (w w' : Processes) (I : Invariant t p pfd w) (O : Orderly t p w) (G : Grows t p w w') where
+  -- the router that makes the step
+  abbrev i : ℕ
+  i = (G.at).i
+
+  -- a port that is up is in the last session of its end
+  up_last' : (e : LinkEnd) → is_up_at (machine_of (router_at w' e) p) e.port ≡ true → w'.last e ≤ session_of w' e
+  up_last' e u = elim (cases_eq e.router i) [
+    | inl r ↦ subst (λ (f : LinkEnd). is_up_at (machine_of (router_at w' f) p) f.port ≡ true → w'.last f ≤ session_of w' f) (sym (ap (λ (k : ℕ). at_port k e.port) r)) (here e.port) u
+    | inr d ↦
+        let same : router_at w' e ≡ router_at w e = (G.at).routers_elsewhere e.router d in
+        let was = O.up_last e (ap (λ (r : Router). is_up_at (machine_of r p) e.port) (sym same) ∙ u) in
+        let s : session_of w' e ≡ session_of w e = ap (λ (r : Router). session_at r.ports e.port) same in
+        let m = G.last_most e in
+        omega (arith, was, s, m)
+  ]
+    where
+      here : (q : ℕ) → is_up_at (machine_of (router_at w' (at_port i q)) p) q ≡ true → w'.last (at_port i q) ≤ session_of w' (at_port i q)
+      here q u =
+          let e = at_port i q in
+          let n = session_of w' e in
+          let on : is_in p (router_at w' e) q n ≡ true = and_from (is_up_at (machine_of (router_at w' e) p) q) (n == n) u (eq-eqb n n refl) in
+          let m = G.last_most e in
+          elim (may_before t p pfd w w' I (G.at) n q (inl on)) [
+            | inl was ↦
+                let up : is_up_at (machine_of (router_at w e) p) q ≡ true = (and_parts (is_up_at (machine_of (router_at w e) p) q) (session_of w e == n) was).0 in
+                let l = O.up_last e up in
+                let s = in_session p (router_at w e) q n was in
+                omega (arith, l, s, m)
+            | inr lt ↦ omega (arith, lt, m)
+          ]
+
+  -- what an end shows is as before
+  shows_before : (e : LinkEnd) (k : ℕ) → Shows p w' e k → Shows p w e k
+  shows_before e k h = ap (λ o. is_next_hop e.port k o) (sym (hop_same e)) ∙ h
+    where
+      hop_same : (e : LinkEnd) → next_hop_at p (router_at w' e) ≡ next_hop_at p (router_at w e)
+      hop_same e = elim (cases_eq e.router i) [
+        | inl r ↦ subst (λ (j : ℕ). next_hop_at p (w'.routers j) ≡ next_hop_at p (w.routers j)) (sym r) (hop_from p (w.routers i) (w'.routers i) (G.more).published_same)
+        | inr d ↦ ap (next_hop_at p) ((G.at).routers_elsewhere e.router d)
+      ]
+
+  -- what may be released stays
+  ripe_same : (e : LinkEnd) → ripe_of (router_at w' e) ≡ ripe_of (router_at w e)
+  ripe_same e = elim (cases_eq e.router i) [
+    | inl r ↦ subst (λ (j : ℕ). ripe_of (w'.routers j) ≡ ripe_of (w.routers j)) (sym r)
+        (let r0 = w.routers i in
+        (λ z. take ((G.more).ripe_same z) ((G.more).held_is z)) ∙ take-append-le (r0.gate).ripe (r0.gate).held (G.more).more (I.keeps i).ripe_within)
+    | inr d ↦ ap ripe_of ((G.at).routers_elsewhere e.router d)
+  ]
+
+  -- what is held is of sessions that its sender has been in
+  held' : (e : LinkEnd) → HeldPast e.port (w'.last e) ((router_at w' e).gate).held
+  held' e = elim (cases_eq e.router i) [
+    | inl r ↦ subst (λ (f : LinkEnd). HeldPast f.port (w'.last f) ((router_at w' f).gate).held) (sym (ap (λ (k : ℕ). at_port k e.port) r)) (here e.port)
+    | inr d ↦ subst (λ (r : Router). HeldPast e.port (w'.last e) (r.gate).held) (sym ((G.at).routers_elsewhere e.router d))
+        (held_later e.port (w.last e) (w'.last e) ((router_at w e).gate).held ((G.at).last_grows e) (O.held_past e))
+  ]
+    where
+      here : (q : ℕ) → HeldPast q (w'.last (at_port i q)) ((w'.routers i).gate).held
+      here q =
+          let e = at_port i q in
+          subst (λ hs. HeldPast q (w'.last e) hs) (sym (G.more).held_is)
+          (held_append q (w'.last e) ((w.routers i).gate).held (G.more).more
+          (held_later q (w.last e) (w'.last e) ((w.routers i).gate).held ((G.at).last_grows e) (O.held_past e))
+          (stamped_past q (w'.last e) (w'.routers i).ports (G.more).more ((G.at).last_after e) (G.more).stamped))
+
+  -- what an end took last is of no session later than n, where what is on its way and what it had taken are
+  heard' : (d : LinkEnd) (n : ℕ) → w.heard d ≤ n → CarriedPast n (w.coming d) → w'.heard d ≤ n
+  heard' d n le past = by_hears (G.hears d)
+    where
+      by_hears : Hears w w' d → w'.heard d ≤ n
+      by_hears (Before same) = omega (arith, same, le)
+      by_hears (Now c at is) = (let l = carried_first n (w.coming d) c at past in omega (arith, is, l))
+
+  -- such a step keeps the order
+  grows_orderly : Orderly t p w'
+  grows_orderly = record {
+    up_last = up_last';
+    held_past = held';
+    coming_past = λ e v. G.coming_fewer (t.far e) (w'.last e) (carried_later (w.last e) (w'.last e) (w.coming (t.far e)) ((G.at).last_grows e) (O.coming_past e v));
+    heard_past = λ e v. (let h = heard' (t.far e) (w.last e) (O.heard_past e v) (O.coming_past e v) in let l = (G.at).last_grows e in omega (arith, h, l));
+    row_held = λ e k h. subst (λ hs. HeldPast e.port k hs) (sym (ripe_same e)) (O.row_held e k (shows_before e k h));
+    row_coming = λ e v k h. G.coming_fewer (t.far e) k (O.row_coming e v k (shows_before e k h));
+    row_heard = λ e v k h. heard' (t.far e) k (O.row_heard e v k (shows_before e k h)) (O.row_coming e v k (shows_before e k h));
+  }
+
+-- ---- a router whose machine and ports stay
+
+-- a router has its machine, its ports and what it holds as before
+record SameSessions (p : Prefix) (w w' : Processes) (e : LinkEnd) : Type 0 where
+  up_is : is_up_at (machine_of (router_at w' e) p) e.port ≡ is_up_at (machine_of (router_at w e) p) e.port
+  session_is : session_of w' e ≡ session_of w e
+  held_is : ((router_at w' e).gate).held ≡ ((router_at w e).gate).held
+
+-- so it is of one that differs from the old one in none of these
+same_sessions_by : (p : Prefix) (w w' : Processes) (e : LinkEnd) (r : Router) → router_at w' e ≡ r → {o : Router} → router_at w e ≡ o
+    → is_up_at (machine_of r p) e.port ≡ is_up_at (machine_of o p) e.port → session_at r.ports e.port ≡ session_at o.ports e.port → (r.gate).held ≡ (o.gate).held → SameSessions p w w' e
+same_sessions_by p w w' e r is {o} was up session held = record {
+  up_is = ap (λ (x : Router). is_up_at (machine_of x p) e.port) is ∙ up ∙ ap (λ (x : Router). is_up_at (machine_of x p) e.port) (sym was);
+  session_is = ap (λ (x : Router). session_at x.ports e.port) is ∙ session ∙ ap (λ (x : Router). session_at x.ports e.port) (sym was);
+  held_is = ap (λ (x : Router). (x.gate).held) is ∙ held ∙ ap (λ (x : Router). (x.gate).held) (sym was);
+}
+
+-- ---- a message that is released
+
+-- the first of what is held for a port
+first_past : (q n : ℕ) (h : Held) (hs : List Held) → HeldPast q n (h ∷ hs) → h.port ≡ q → h.session ≤ n
+first_past q n h hs past at = past.0 at
+
+module _ (t : Topology) (p : Prefix) (pfd : ℕ → ℕ) (w : Processes) (I : Invariant t p pfd w) (O : Orderly t p w) (i : ℕ) (h : Held) (front : ripe_front (w.routers i) ≡ Some h) where
+  -- the router that releases
+  abbrev r : Router
+  r = w.routers i
+
+  -- the processes after
+  abbrev v : Processes
+  v = with_released t i w h
+
+  -- the message is the first of those that it may release
+  ripe_is : ripe_of r ≡ h ∷ ripe_of (router_releasing r)
+  ripe_is = ripe_front_is r h (front_of r h front)
+
+  -- the router then
+  released_now : (e : LinkEnd) → e.router ≡ i → router_at v e ≡ router_releasing r
+  released_now e g = ap (with_router i router_releasing w.routers) g ∙ router_here i router_releasing w.routers
+
+  -- another router
+  released_away : (e : LinkEnd) → (e.router ≡ i → ⊥) → router_at v e ≡ router_at w e
+  released_away e d = router_away i router_releasing w.routers e.router d
+
+  -- what an end shows is as before
+  shows_still : (e : LinkEnd) (k : ℕ) → Shows p v e k → Shows p w e k
+  shows_still e k x = elim (cases_eq e.router i) [
+    | inl g ↦ subst (λ (j : ℕ). is_next_hop e.port k (next_hop_at p (w.routers j)) ≡ true) (sym g) (subst (λ (y : Router). is_next_hop e.port k (next_hop_at p y) ≡ true) (released_now e g) x)
+    | inr d ↦ subst (λ (y : Router). is_next_hop e.port k (next_hop_at p y) ≡ true) (released_away e d) x
+  ]
+
+  -- what is on its way is of no session later than n, where what was and the message are
+  coming_then : (e : LinkEnd) → t.valid e ≡ true → (n : ℕ) → CarriedPast n (w.coming (t.far e)) → (e ≡ at_port i h.port → h.session ≤ n) → CarriedPast n (v.coming (t.far e))
+  coming_then e va n past le = by_sent (sent_is t p pfd w I i h v (λ d. refl))
+    where
+      by_sent : Sent t p i h w v → CarriedPast n (v.coming (t.far e))
+      by_sent (Lost off same) = subst (CarriedPast n) (sym (same (t.far e))) past
+      by_sent (OnItsWay vb at elsewhere) = elim (place_cases e (at_port i h.port)) [
+        | inl is ↦ subst (λ (d : LinkEnd). CarriedPast n (v.coming (t.far d))) (sym is)
+            (subst (CarriedPast n) (sym at) (carried_append n (w.coming (t.far (at_port i h.port))) (as_carried h ∷ []) (subst (λ (d : LinkEnd). CarriedPast n (w.coming (t.far d))) is past) (le is, tt)))
+        | inr d ↦ subst (CarriedPast n) (sym (elsewhere (t.far e) (λ x. d (sym (t.far_far e va) ∙ ap t.far x ∙ t.far_far (at_port i h.port) vb)))) past
+      ]
+
+  -- a release keeps the order
+  released_orderly : Orderly t p v
+  released_orderly = record {
+    up_last = λ e u. elim (cases_eq e.router i) [
+      | inl g ↦
+          let l = O.up_last e (subst (λ (j : ℕ). is_up_at (machine_of (w.routers j) p) e.port ≡ true) (sym g) (subst (λ (y : Router). is_up_at (machine_of y p) e.port ≡ true) (released_now e g) u)) in
+          let s : session_of v e ≡ session_of w e = ap (λ (y : Router). session_at y.ports e.port) (released_now e g) ∙ ap (λ (j : ℕ). session_at (w.routers j).ports e.port) (sym g) in
+          omega (arith, l, s)
+      | inr d ↦
+          let l = O.up_last e (subst (λ (y : Router). is_up_at (machine_of y p) e.port ≡ true) (released_away e d) u) in
+          let s : session_of v e ≡ session_of w e = ap (λ (y : Router). session_at y.ports e.port) (released_away e d) in
+          omega (arith, l, s)
+    ];
+    held_past = λ e. elim (cases_eq e.router i) [
+      | inl g ↦ subst (λ (y : Router). HeldPast e.port (w.last e) (y.gate).held) (sym (released_now e g)) (held_drop e.port (w.last e) (r.gate).held (subst (λ (j : ℕ). HeldPast e.port (w.last e) ((w.routers j).gate).held) g (O.held_past e)))
+      | inr d ↦ subst (λ (y : Router). HeldPast e.port (w.last e) (y.gate).held) (sym (released_away e d)) (O.held_past e)
+    ];
+    coming_past = λ e va. coming_then e va (w.last e) (O.coming_past e va) (λ is. past_last e is);
+    heard_past = O.heard_past;
+    row_held = λ e k x. elim (cases_eq e.router i) [
+      | inl g ↦ subst (λ (y : Router). HeldPast e.port k (ripe_of y)) (sym (released_now e g)) (rest e k g (O.row_held e k (shows_still e k x)))
+      | inr d ↦ subst (λ (y : Router). HeldPast e.port k (ripe_of y)) (sym (released_away e d)) (O.row_held e k (shows_still e k x))
+    ];
+    row_coming = λ e va k x. coming_then e va k (O.row_coming e va k (shows_still e k x)) (λ is. past_row e k is (O.row_held e k (shows_still e k x)));
+    row_heard = λ e va k x. O.row_heard e va k (shows_still e k x);
+  }
+    where
+      whole : (e : LinkEnd) (k : ℕ) → e.router ≡ i → HeldPast e.port k (ripe_of (router_at w e)) → HeldPast e.port k (h ∷ ripe_of (router_releasing r))
+      whole e k g past = subst (λ hs. HeldPast e.port k hs) (ap (λ (j : ℕ). ripe_of (w.routers j)) g ∙ ripe_is) past
+
+      rest : (e : LinkEnd) (k : ℕ) → e.router ≡ i → HeldPast e.port k (ripe_of (router_at w e)) → HeldPast e.port k (ripe_of (router_releasing r))
+      rest e k g past = (whole e k g past).1
+
+      past_row : (e : LinkEnd) (k : ℕ) → e ≡ at_port i h.port → HeldPast e.port k (ripe_of (router_at w e)) → h.session ≤ k
+      past_row e k is past = first_past e.port k h (ripe_of (router_releasing r)) (whole e k (ap (λ (d : LinkEnd). d.router) is) past) (sym (ap (λ (d : LinkEnd). d.port) is))
+
+      past_last : (e : LinkEnd) → e ≡ at_port i h.port → h.session ≤ w.last e
+      past_last e is = past_row e (w.last e) is (held_take e.port (w.last e) ((router_at w e).gate).ripe ((router_at w e).gate).held (O.held_past e))
+
+-- ---- each happening
+
+module _ (t : Topology) (p : Prefix) (pfd : ℕ → ℕ) (w : Processes) (I : Invariant t p pfd w) (O : Orderly t p w) where
+  -- a process tells its router
+  tells_orderly : (i : ℕ) (x : Input) → IsOwn w i x → Orderly t p (next t w (Tells i x))
+  tells_orderly i x own = grows_orderly t p pfd w (next t w (Tells i x)) I O (record {
+    at = tells_at t p pfd w I i x own;
+    more = subst (HoldsMore (w.routers i)) (sym (router_here i (told x) w.routers)) (told_more x (w.routers i));
+    last_most = λ e. omega arith;
+    coming_fewer = λ e n h. h;
+    hears = λ d. Before refl;
+  })
+
+  -- a process takes a message
+  takes_orderly : (e : LinkEnd) → Orderly t p (next t w (Takes e))
+  takes_orderly e = by_front (slice_get (w.coming e) 0) refl
+    where
+      hears : (c : Carried) → slice_get (w.coming e) 0 ≡ Some c → (le : c.session ≤ w.last e) (d : LinkEnd) → (b : Bool) → is_same_end d e ≡ b → (f : Bool)
+          → (if b && f then c.session else w.heard d) ≡ w.heard d ⊎ ((slice_get (w.coming d) 0 ≡ Some c) × ((if b && f then c.session else w.heard d) ≡ c.session))
+      hears c at le d true is true = inr (ap (λ (g : LinkEnd). slice_get (w.coming g) 0) (end_same d e is) ∙ at, refl)
+      hears c at le d true is false = inl refl
+      hears c at le d false is f = inl refl
+
+      as_hears : (v : Processes) (c : Carried) (d : LinkEnd) → (v.heard d ≡ w.heard d) ⊎ ((slice_get (w.coming d) 0 ≡ Some c) × (v.heard d ≡ c.session)) → Hears w v d
+      as_hears v c d (inl same) = Before same
+      as_hears v c d (inr now) = Now c now.0 now.1
+
+      fewer : (d : LinkEnd) (n : ℕ) → CarriedPast n (w.coming d) → CarriedPast n (with_coming e (drop 1) w.coming d)
+      fewer d n h = by_same (is_same_end d e)
+        where
+          by_same : (b : Bool) → CarriedPast n (if b then drop 1 (w.coming d) else w.coming d)
+          by_same true = carried_drop n (w.coming d) h
+          by_same false = h
+
+      by_session : (c : Carried) → slice_get (w.coming e) 0 ≡ Some c → (b : Bool) → nat_lt (w.last e) c.session ≡ b
+          → Orderly t p (if b then w else record {
+            routers = with_router e.router (told (input.Message e.port c.session c.message)) w.routers;
+            coming = with_coming e (drop 1) w.coming;
+            last = w.last;
+            heard = with_heard e (told_fault (input.Message e.port c.session c.message) (w.routers e.router)) c.session w.heard;
+            lost = w.lost;
+          })
+      by_session c at true is = O
+      by_session c at false is =
+          let le : c.session ≤ w.last e = ltb-false (w.last e) c.session is in
+          let m = input.Message e.port c.session c.message in
+          let v : Processes = record {
+            routers = with_router e.router (told m) w.routers;
+            coming = with_coming e (drop 1) w.coming;
+            last = w.last;
+            heard = with_heard e (told_fault m (w.routers e.router)) c.session w.heard;
+            lost = w.lost;
+          } in
+          grows_orderly t p pfd w v I O (record {
+            at = taken_at t p pfd w I e c at le;
+            more = subst (HoldsMore (w.routers e.router)) (sym (router_here e.router (told m) w.routers)) (told_more m (w.routers e.router));
+            last_most = λ d. omega arith;
+            coming_fewer = fewer;
+            hears = λ d. as_hears v c d (hears c at le d (is_same_end d e) refl (is_none (told_fault m (w.routers e.router))));
+          })
+
+      by_front : (o : Option Carried) → slice_get (w.coming e) 0 ≡ o → Orderly t p (option_map_or (with_taken e w) o w)
+      by_front None at = O
+      by_front (Some c) at = by_session c at (nat_lt (w.last e) c.session) refl
+
+  -- a message is lost
+  loses_orderly : (e : LinkEnd) → Orderly t p (next t w (Loses e))
+  loses_orderly e = record {
+    up_last = O.up_last;
+    held_past = O.held_past;
+    coming_past = λ f v. fewer (t.far f) (w.last f) (O.coming_past f v);
+    heard_past = O.heard_past;
+    row_held = O.row_held;
+    row_coming = λ f v k h. fewer (t.far f) k (O.row_coming f v k h);
+    row_heard = O.row_heard;
+  }
+    where
+      fewer : (d : LinkEnd) (n : ℕ) → CarriedPast n (w.coming d) → CarriedPast n (with_coming e (drop 1) w.coming d)
+      fewer d n h = by_same (is_same_end d e)
+        where
+          by_same : (b : Bool) → CarriedPast n (if b then drop 1 (w.coming d) else w.coming d)
+          by_same true = carried_drop n (w.coming d) h
+          by_same false = h
+
+  -- a router puts rows in force, or forgets a prefix
+  puts_orderly : (i : ℕ) (f : Router → Router) (fd fd' : ℕ) → PutsInForce p (w.routers i) (f (w.routers i)) fd fd'
+      → Orderly t p (record { routers = with_router i f w.routers; coming = w.coming; last = w.last; heard = w.heard; lost = w.lost })
+  puts_orderly i f fd fd' P = record {
+    up_last = λ e u. (let s = same e in let l = O.up_last e (sym (s.up_is) ∙ u) in let q = s.session_is in omega (arith, l, q));
+    held_past = λ e. subst (λ hs. HeldPast e.port (w.last e) hs) (sym (same e).held_is) (O.held_past e);
+    coming_past = O.coming_past;
+    heard_past = O.heard_past;
+    row_held = λ e k h. by_row e k (shows e k h);
+    row_coming = λ e v k h. by_coming e v k (shows e k h);
+    row_heard = λ e v k h. by_heard e v k (shows e k h);
+  }
+    where
+      w' : Processes
+      w' = record { routers = with_router i f w.routers; coming = w.coming; last = w.last; heard = w.heard; lost = w.lost }
+
+      now : (e : LinkEnd) → e.router ≡ i → with_router i f w.routers e.router ≡ f (w.routers i)
+      now e g = ap (with_router i f w.routers) g ∙ router_here i f w.routers
+
+      same : (e : LinkEnd) → SameSessions p w (record { routers = with_router i f w.routers; coming = w.coming; last = w.last; heard = w.heard; lost = w.lost }) e
+      same e = elim (cases_eq e.router i) [
+        | inl g ↦ same_sessions_by p w w' e (f (w.routers i)) (now e g) (ap w.routers g) (P.up_is e.port) (ap (λ ports. session_at ports e.port) P.ports_are) P.held_is
+        | inr d ↦ same_sessions_by p w w' e (w.routers e.router) (router_away i f w.routers e.router d) refl refl refl refl
+      ]
+
+      -- what an end shows then is of the last session of its end, or it showed that before, and may release no more
+      Either : LinkEnd → ℕ → Type 0
+      Either e k = (w.last e ≤ k) ⊎ (Shows p w e k × (ripe_of (with_router i f w.routers e.router) ≡ ripe_of (w.routers e.router)))
+
+      in_last : (e : LinkEnd) → e.router ≡ i → (k : ℕ) → is_in p (w.routers i) e.port k ≡ true → w.last e ≤ k
+      in_last e g k on =
+          let r = w.routers i in
+          let up : is_up_at (machine_of r p) e.port ≡ true = (and_parts (is_up_at (machine_of r p) e.port) (session_at r.ports e.port == k) on).0 in
+          let s : session_at r.ports e.port ≡ k = in_session p r e.port k on in
+          let l = O.up_last e (subst (λ (j : ℕ). is_up_at (machine_of (w.routers j) p) e.port ≡ true) (sym g) up) in
+          let q : session_of w e ≡ session_at r.ports e.port = ap (λ (j : ℕ). session_at (w.routers j).ports e.port) g in
+          omega (arith, l, q, s)
+
+      by_ends : (e : LinkEnd) → e.router ≡ i → (k : ℕ) → is_next_hop e.port k (next_hop_at p (f (w.routers i))) ≡ true → Ends p (w.routers i) (f (w.routers i)) fd fd' → Either e k
+      by_ends e g k shown (AsChosen ends) =
+          let r = w.routers i in
+          let as_chosen : is_next_hop e.port k (next_hop_at p (f r)) ≡ (is_in p r e.port k && is_port e.port (machine_of r p).successor) = ap (λ (x : End). x.shown) (ends k e.port []).is in
+          inl (in_last e g k (and_parts (is_in p r e.port k) (is_port e.port (machine_of r p).successor) (sym as_chosen ∙ shown)).0)
+      by_ends e g k shown (AsBefore ends ripe) =
+          inr (
+            subst (λ (j : ℕ). is_next_hop e.port k (next_hop_at p (w.routers j)) ≡ true) (sym g) (sym (ap (λ (x : End). x.shown) (ends k e.port [])) ∙ shown),
+            ap ripe_of (now e g) ∙ ripe ∙ ap (λ (j : ℕ). ripe_of (w.routers j)) (sym g),
+          )
+
+      shows : (e : LinkEnd) (k : ℕ) → is_next_hop e.port k (next_hop_at p (with_router i f w.routers e.router)) ≡ true → Either e k
+      shows e k h = elim (cases_eq e.router i) [
+        | inl g ↦ by_ends e g k (subst (λ (x : Router). is_next_hop e.port k (next_hop_at p x) ≡ true) (now e g) h) P.ends
+        | inr d ↦ inr (subst (λ (r : Router). is_next_hop e.port k (next_hop_at p r) ≡ true) (router_away i f w.routers e.router d) h, ap ripe_of (router_away i f w.routers e.router d))
+      ]
+
+      by_row : (e : LinkEnd) (k : ℕ) → Either e k → HeldPast e.port k (ripe_of (with_router i f w.routers e.router))
+      by_row e k (inl late) =
+          let r = with_router i f w.routers e.router in
+          held_take e.port k (r.gate).ripe (r.gate).held (held_later e.port (w.last e) k (r.gate).held late (subst (λ hs. HeldPast e.port (w.last e) hs) (sym (same e).held_is) (O.held_past e)))
+      by_row e k (inr before) = subst (λ hs. HeldPast e.port k hs) (sym before.1) (O.row_held e k before.0)
+
+      by_coming : (e : LinkEnd) → t.valid e ≡ true → (k : ℕ) → Either e k → CarriedPast k (w.coming (t.far e))
+      by_coming e v k (inl late) = carried_later (w.last e) k (w.coming (t.far e)) late (O.coming_past e v)
+      by_coming e v k (inr before) = O.row_coming e v k before.0
+
+      by_heard : (e : LinkEnd) → t.valid e ≡ true → (k : ℕ) → Either e k → w.heard (t.far e) ≤ k
+      by_heard e v k (inl late) = (let a = O.heard_past e v in omega (arith, a, late))
+      by_heard e v k (inr before) = O.row_heard e v k before.0
+
+  -- a router releases a message
+  releases_orderly : (i : ℕ) → Orderly t p (next t w (Releases i))
+  releases_orderly i = by_front (ripe_front (w.routers i)) refl
+    where
+      by_front : (o : Option Held) → ripe_front (w.routers i) ≡ o → Orderly t p (option_map_or (with_released t i w) o w)
+      by_front None at = O
+      by_front (Some h) at = released_orderly t p pfd w I O i h at
+
+  -- a process ends, and another begins in its place
+  anew_orderly : (i : ℕ) (costs : List ℕ) (attachments : List Attachment) → make_fault costs attachments ≡ None → Orderly t p (next t w (BeginsAnew i costs attachments))
+  anew_orderly i costs attachments good = record {
+    up_last = λ e u. elim (cases_eq e.router i) [
+      | inl g ↦ absurd (both_ways (is_up_at (machine_of (with_router i (λ r. made_router costs attachments) w.routers e.router) p) e.port) ((made_at e g).none_up e.port) u)
+      | inr d ↦
+          let same = away e d in
+          let l = O.up_last e (ap (λ (r : Router). is_up_at (machine_of r p) e.port) (sym same) ∙ u) in
+          let s : session_at (with_router i (λ r. made_router costs attachments) w.routers e.router).ports e.port ≡ session_of w e = ap (λ (r : Router). session_at r.ports e.port) same in
+          omega (arith, l, s)
+    ];
+    held_past = λ e. elim (cases_eq e.router i) [
+      | inl g ↦ subst (λ hs. HeldPast e.port (w.last e) hs) (sym (made_at e g).holds_none) tt
+      | inr d ↦ subst (λ (r : Router). HeldPast e.port (w.last e) (r.gate).held) (sym (away e d)) (O.held_past e)
+    ];
+    coming_past = O.coming_past;
+    heard_past = O.heard_past;
+    row_held = λ e k h. O_row_held e k h;
+    row_coming = λ e v k h. O.row_coming e v k (before e k h);
+    row_heard = λ e v k h. O.row_heard e v k (before e k h);
+  }
+    where
+      made_at : (e : LinkEnd) → e.router ≡ i → Made p (with_router i (λ r. made_router costs attachments) w.routers e.router)
+      made_at e g = subst (Made p) (sym (ap (with_router i (λ r. made_router costs attachments) w.routers) g ∙ router_here i (λ r. made_router costs attachments) w.routers))
+          (made p (made_router costs attachments) (record { costs = costs; attachments = attachments; good = good; made = refl }))
+
+      away : (e : LinkEnd) → (e.router ≡ i → ⊥) → with_router i (λ r. made_router costs attachments) w.routers e.router ≡ w.routers e.router
+      away e d = router_away i (λ r. made_router costs attachments) w.routers e.router d
+
+      not_made : (e : LinkEnd) (k : ℕ) → Shows p (next t w (BeginsAnew i costs attachments)) e k → e.router ≡ i → ⊥
+      not_made e k h g = false≢true (sym (ap (λ o. is_next_hop e.port k o) (made_at e g).no_hop_is) ∙ h)
+
+      before : (e : LinkEnd) (k : ℕ) → Shows p (next t w (BeginsAnew i costs attachments)) e k → Shows p w e k
+      before e k h = subst (λ (r : Router). is_next_hop e.port k (next_hop_at p r) ≡ true) (away e (not_made e k h)) h
+
+      O_row_held : (e : LinkEnd) (k : ℕ) → Shows p (next t w (BeginsAnew i costs attachments)) e k → HeldPast e.port k (ripe_of (with_router i (λ r. made_router costs attachments) w.routers e.router))
+      O_row_held e k h = subst (λ (r : Router). HeldPast e.port k (ripe_of r)) (sym (away e (not_made e k h))) (O.row_held e k (before e k h))
+
+  -- whatever happens keeps the order
+  pub next_orderly : (h : Happening) → CanHappen w h → Orderly t p (next t w h)
+  next_orderly (Tells i x) can = tells_orderly i x can
+  next_orderly (Takes e) can = takes_orderly e
+  next_orderly (Loses e) can = loses_orderly e
+  next_orderly (Publishes i) can = puts_orderly i router_publishing (pfd i) (fds_next p w (Publishes i) pfd i) (publishes_puts t p pfd w I i)
+  next_orderly (PublishesSome i n) can = puts_orderly i (router_publishing_some n) (pfd i) (fds_next p w (PublishesSome i n) pfd i) (publishes_some_puts t p pfd w I i n)
+  next_orderly (Forgets i k) can = puts_orderly i (forgotten k) (pfd i) (fds_next p w (Forgets i k) pfd i) (forgets_puts t p pfd w I i k)
+  next_orderly (Releases i) can = releases_orderly i
+  next_orderly (BeginsAnew i costs attachments) can = anew_orderly i costs attachments can
+
+-- all that happens keeps it
+pub after_orderly : (t : Topology) (p : Prefix) (pfd : ℕ → ℕ) (w : Processes) (hs : List Happening) → Invariant t p pfd w → Orderly t p w → AllCanHappen t w hs → Orderly t p (after t w hs)
+after_orderly t p pfd w [] I O can = O
+after_orderly t p pfd w (h ∷ hs) I O can = after_orderly t p (fds_next p w h pfd) (next t w h) hs (next_keeps t p pfd w I h can.0) (next_orderly t p pfd w I O h can.0) can.1
+
+-- the order holds where routers begin
+pub begins_orderly : (t : Topology) (p : Prefix) (w : Processes) → Begins w → Orderly t p w
+begins_orderly t p w B = record {
+  up_last = λ e u. absurd (both_ways (is_up_at (machine_of (router_at w e) p) e.port) ((known e).none_up e.port) u);
+  held_past = λ e. subst (λ hs. HeldPast e.port (w.last e) hs) (sym (known e).holds_none) tt;
+  coming_past = λ e v. subst (CarriedPast (w.last e)) (sym (B.nothing_comes (t.far e))) tt;
+  heard_past = λ e v. (let z = B.never_heard (t.far e) in omega (arith, z));
+  row_held = λ e k h. absurd (hidden e k h);
+  row_coming = λ e v k h. absurd (hidden e k h);
+  row_heard = λ e v k h. absurd (hidden e k h);
+}
+  where
+    known : (e : LinkEnd) → Made p (router_at w e)
+    known e = made p (router_at w e) (B.routers_made e.router)
+
+    hidden : (e : LinkEnd) (k : ℕ) → Shows p w e k → ⊥
+    hidden e k h = false≢true (sym (ap (λ o. is_next_hop e.port k o) (known e).no_hop_is) ∙ h)

@@ -1,0 +1,301 @@
+-- Whatever happens keeps the invariant.
+use Rattle.std.proofs.Common.{refl, sym, ap, subst, ◌∙◌, arith, inl, inr, ◌≡◌, ◌≢◌, ◌⊎◌, ℕ, ◌<◌, ◌≤◌, Bool, true, false, ◌&&◌, ◌==◌, nat_lt, if◌then◌else◌, List, [], ◌∷◌, ◌++◌, take, drop, Option, Some, None, slice_get, eqb-true, eq-eqb, ne_eqb, ltb-false}
+use Rattle.packet_loops.proofs.Common.{option_map_or, and_parts, and_from, Prefix, prefix_eq, Held, Port, Router, machine_of, session_at, router_publishing, router_releasing, ripe_front, is_up_at, msg_of, Topology, LinkEnd, at_port}
+use Rattle.network_model.proofs.Common.{cases_eq, both_ways, and_left, false_from_ne_true, SeenHeld, infinity}
+use Rattle.loop_freedom.specs.Facts.{live}
+use Rattle.loop_freedom.proofs.Lists.{front}
+use Rattle.loop_freedom.proofs.Notices.{IsLawfullyHeld}
+use Rattle.network_model.specs.Step.{changed_rows}
+use Rattle.router_core.specs.Alone.{router_publishing_some, may_forget}
+use Rattle.single_router.specs.declared.input.Input.{Input}
+use Rattle.single_router.specs.declared.input.Input.TheVariants as input
+use Rattle.daemon_laws.specs.Processes.{Carried, Processes}
+use Rattle.daemon_laws.specs.Packets.{is_in_session}
+use Rattle.daemon_laws.specs.Happenings.{Happening, Tells, Takes, Loses, Publishes, PublishesSome, Forgets, Releases, BeginsAnew, IsOwn, CanHappen, with_router, is_same_end, with_coming, with_heard, told, forgotten, with_taken, sent_from, with_released, next, after, AllCanHappen}
+use Rattle.daemon_laws.specs.Facts.{fd_then, fds_next, fds_after}
+use Rattle.daemon_laws.proofs.Seen.{carried, is_in}
+use Rattle.daemon_laws.proofs.Items.{up_is, session_is}
+use Rattle.daemon_laws.proofs.Goes.{Goes}
+use Rattle.daemon_laws.proofs.Telling.{none_up, GoesAlone, goes_told, GoesWith, goes_with}
+use Rattle.daemon_laws.proofs.Invariant.{router_at, session_of, Invariant}
+use Rattle.daemon_laws.proofs.Meeting.{GoesAt, goes_keeps}
+use Rattle.daemon_laws.proofs.Polite.{first_is, polite}
+use Rattle.daemon_laws.proofs.InForce.{PutsInForce, puts_keeps}
+use Rattle.daemon_laws.proofs.Publishing.{puts_published}
+use Rattle.daemon_laws.proofs.PublishingSome.{puts_some}
+use Rattle.daemon_laws.proofs.Forgetting.{puts_forgetting}
+use Rattle.single_router.specs.declared.opening.Attachment.{Attachment}
+use Rattle.single_router.specs.Inputs.{told_fault}
+use Rattle.single_router.specs.Openings.{make_fault, made_router}
+use Rattle.daemon_laws.proofs.Beginning.{Made, made}
+use Rattle.daemon_laws.proofs.Losing.{loses_keeps}
+use Rattle.daemon_laws.proofs.Restarting.{restart_keeps}
+use Rattle.daemon_laws.proofs.Releasing.{as_carried, Sent, OnItsWay, Lost, release_keeps}
+
+-- ---- one router, or what comes to one end, changed
+
+-- the router that is changed
+pub router_here : (i : ℕ) (f : Router → Router) (rs : ℕ → Router) → with_router i f rs i ≡ f (rs i)
+router_here i f rs = rw (eq-eqb i i refl) refl
+
+-- another router
+pub router_away : (i : ℕ) (f : Router → Router) (rs : ℕ → Router) (j : ℕ) → j ≢ i → with_router i f rs j ≡ rs j
+router_away i f rs j d = rw (ne_eqb j i d) refl
+
+-- an end is the same as itself
+end_itself : (e : LinkEnd) → is_same_end e e ≡ true
+end_itself e = and_from (e.router == e.router) (e.port == e.port) (eq-eqb e.router e.router refl) (eq-eqb e.port e.port refl)
+
+-- ends that pass the test are one
+pub end_same : (d e : LinkEnd) → is_same_end d e ≡ true → d ≡ e
+end_same d e h =
+    let parts = and_parts (d.router == e.router) (d.port == e.port) h in
+    ap (λ (n : ℕ). at_port n d.port) (eqb-true d.router e.router parts.0) ∙ ap (λ (n : ℕ). at_port e.router n) (eqb-true d.port e.port parts.1)
+
+-- what comes to the end that is changed
+pub coming_here : (e : LinkEnd) (f : List Carried → List Carried) (cs : LinkEnd → List Carried) → with_coming e f cs e ≡ f (cs e)
+coming_here e f cs = rw (end_itself e) refl
+
+-- what comes to another end
+pub coming_away : (e : LinkEnd) (f : List Carried → List Carried) (cs : LinkEnd → List Carried) (d : LinkEnd) → (d ≡ e → ⊥) → with_coming e f cs d ≡ cs d
+coming_away e f cs d apart = let off : is_same_end d e ≡ false = false_from_ne_true (is_same_end d e) (λ h. apart (end_same d e h)) in rw off refl
+
+-- ---- each happening
+
+module _ (t : Topology) (p : Prefix) (pfd : ℕ → ℕ) (w : Processes) (I : Invariant t p pfd w) where
+  -- a process tells its router
+  abbrev pub tells_at : (i : ℕ) (x : Input) → IsOwn w i x → GoesAt t p w (next t w (Tells i x))
+  tells_at i x own =
+      let G : GoesAlone p x (w.routers i) (told x (w.routers i)) = goes_told p (w.routers i) (I.keeps i) (I.sound i) w i x own in
+      let now : with_router i (told x) w.routers i ≡ told x (w.routers i) = router_here i (told x) w.routers in
+      record {
+        i = i;
+        q = G.q;
+        took = G.took;
+        goes = subst (λ (r : Router). Goes p (w.routers i) r G.q G.took) (sym now) G.goes;
+        routers_elsewhere = λ j d. router_away i (told x) w.routers j d;
+        coming_elsewhere = λ e d. refl;
+        lost_same = refl;
+        last_grows = λ e. omega arith;
+        last_after = λ e. omega arith;
+        fresh = λ j lt. (
+            let same : session_at (with_router i (told x) w.routers i).ports j ≡ session_at (told x (w.routers i)).ports j = ap (λ (r : Router). session_at r.ports j) now in
+            let g = G.grows j (omega (arith, lt, same)) in
+            let own_up : IsOwn w i (input.Up j (session_at (told x (w.routers i)).ports j) g.0) = subst (IsOwn w i) g.1 own in
+            let later = own_up.0 in
+            omega (arith, later, same));
+        coming_at = λ v n may. sym (ap (λ o. front o ++ live n (carried p (w.coming (at_port i G.q)))) (G.takes_nothing n));
+        coming_fewer = λ k h. h;
+      }
+
+  -- that keeps the invariant
+  tells_keeps : (i : ℕ) (x : Input) → IsOwn w i x → Invariant t p pfd (next t w (Tells i x))
+  tells_keeps i x own = goes_keeps t p pfd w (next t w (Tells i x)) I (tells_at i x own)
+
+  -- a message as the prefix sees it
+  abbrev as_seen : Carried → SeenHeld
+  as_seen c = record { session = c.session; message = msg_of c.message }
+
+  module _ (e : LinkEnd) (c : Carried) (at : slice_get (w.coming e) 0 ≡ Some c) (le : c.session ≤ w.last e) where
+    -- the processes after the message is taken
+    abbrev w' : Processes
+    w' = record { routers = with_router e.router (told (input.Message e.port c.session c.message)) w.routers; coming = with_coming e (drop 1) w.coming; last = w.last; heard = with_heard e (told_fault (input.Message e.port c.session c.message) (w.routers e.router)) c.session w.heard; lost = w.lost }
+
+    -- what the prefix sees of the rest
+    abbrev rest : List SeenHeld
+    rest = carried p (drop 1 (w.coming e))
+
+    -- what came is the message and the rest
+    came : carried p (w.coming e) ≡ (if prefix_eq p (c.message).prefix then as_seen c ∷ rest else rest)
+    came = ap (carried p) (first_is c (w.coming e) at)
+
+    -- the values are not above infinity
+    pub bounded : prefix_eq p (c.message).prefix ≡ true → (c.message).value ≤ infinity
+    bounded same =
+        let h : IsLawfullyHeld (w.last (t.far e)) (as_seen c ∷ rest) = subst (λ hs. IsLawfullyHeld (w.last (t.far e)) hs) (came ∙ ap (λ b. if b then as_seen c ∷ rest else rest) same) (I.coming_lawful e) in
+        h.1
+
+    -- the rest is lawful
+    pub fewer : (k : ℕ) → IsLawfullyHeld k (carried p (w.coming e)) → IsLawfullyHeld k rest
+    fewer k h = by_prefix (prefix_eq p (c.message).prefix) (subst (λ hs. IsLawfullyHeld k hs) came h)
+      where
+        by_prefix : (b : Bool) → IsLawfullyHeld k (if b then as_seen c ∷ rest else rest) → IsLawfullyHeld k rest
+        by_prefix true g = g.2
+        by_prefix false g = g
+
+    -- the router's step
+    pub goes_here : GoesWith p (w.routers e.router) (I.keeps e.router) (I.sound e.router) e.port c.session c.message (told (input.Message e.port c.session c.message) (w.routers e.router))
+    goes_here = goes_with p (w.routers e.router) (I.keeps e.router) (I.sound e.router) e.port c.session c.message bounded
+
+    -- in each session that the router may be in, what comes over a link is what is taken, and then the rest
+    pub took_is : t.valid e ≡ true → (n : ℕ) → (is_in p (told (input.Message e.port c.session c.message) (w.routers e.router)) e.port n ≡ true) ⊎ (w.last e < n) → live n (carried p (w.coming e)) ≡ front (goes_here.took n) ++ live n rest
+    took_is v n may = ap (live n) came ∙ by_prefix (prefix_eq p (c.message).prefix) refl
+      where
+        there : (is_in p (told (input.Message e.port c.session c.message) (w.routers e.router)) e.port n ≡ true) ⊎ (w.last e < n) → c.session ≡ n → is_in p (told (input.Message e.port c.session c.message) (w.routers e.router)) e.port n ≡ true
+        there (inl on) s = on
+        there (inr lt) s = absurd (omega (arith, lt, s, le))
+
+        by_prefix : (b : Bool) → prefix_eq p (c.message).prefix ≡ b → live n (if b then as_seen c ∷ rest else rest) ≡ front (goes_here.took n) ++ live n rest
+        by_prefix false apart = sym (ap (λ o. front o ++ live n rest) (goes_here.takes_other n apart))
+        by_prefix true same = elim (cases_eq c.session n) [
+          | inl s ↦ ap (λ b. if b then msg_of c.message ∷ live n rest else live n rest) (eq-eqb c.session n s) ∙ sym (ap (λ o. front o ++ live n rest) (goes_here.takes n (there may s) same s (λ on. polite t p pfd w I e v c at same (subst (λ (k : ℕ). is_in p (w.routers e.router) e.port k ≡ true) (sym s) on))))
+          | inr d ↦ ap (λ b. if b then msg_of c.message ∷ live n rest else live n rest) (ne_eqb c.session n d) ∙ sym (ap (λ o. front o ++ live n rest) (goes_here.takes_not n d))
+        ]
+
+    -- each router was last in a session that its end was in
+    pub last_then : (d : LinkEnd) → session_at (w'.routers d.router).ports d.port ≤ w.last d
+    last_then d = elim (cases_eq d.router e.router) [
+      | inl g ↦
+          let is : session_at (w'.routers d.router).ports d.port ≡ session_at (w.routers d.router).ports d.port =
+          ap (λ (k : ℕ). session_at (w'.routers k).ports d.port) g
+          ∙ ap (λ (r : Router). session_at r.ports d.port) (router_here e.router (told (input.Message e.port c.session c.message)) w.routers) ∙ goes_here.same d.port
+          ∙ ap (λ (k : ℕ). session_at (w.routers k).ports d.port) (sym g) in
+          (let l = I.last_is d in omega (arith, is, l))
+      | inr a ↦
+          let is : session_at (w'.routers d.router).ports d.port ≡ session_at (w.routers d.router).ports d.port = ap (λ (r : Router). session_at r.ports d.port) (router_away e.router (told (input.Message e.port c.session c.message)) w.routers d.router a) in
+          (let l = I.last_is d in omega (arith, is, l))
+    ]
+
+    -- the message is taken
+    abbrev pub taken_at : GoesAt t p w w'
+    taken_at =
+        let f = told (input.Message e.port c.session c.message) in
+        let now : with_router e.router f w.routers e.router ≡ f (w.routers e.router) = router_here e.router f w.routers in
+        let rest_is : with_coming e (drop 1) w.coming e ≡ drop 1 (w.coming e) = coming_here e (drop 1) w.coming in
+        record {
+          i = e.router;
+          q = e.port;
+          took = goes_here.took;
+          goes = subst (λ (r : Router). Goes p (w.routers e.router) r e.port goes_here.took) (sym now) goes_here.goes;
+          routers_elsewhere = λ j d. router_away e.router f w.routers j d;
+          coming_elsewhere = λ d apart. coming_away e (drop 1) w.coming d apart;
+          lost_same = refl;
+          last_grows = λ d. omega arith;
+          last_after = last_then;
+          fresh = λ j lt. absurd (
+              let same : session_at (with_router e.router f w.routers e.router).ports j ≡ session_at (w.routers e.router).ports j = ap (λ (r : Router). session_at r.ports j) now ∙ goes_here.same j in
+              omega (arith, lt, same));
+          coming_at = λ v n may. took_is v n (subst (λ (r : Router). (is_in p r e.port n ≡ true) ⊎ (w.last e < n)) now may) ∙ ap (λ cs. front (goes_here.took n) ++ live n (carried p cs)) (sym rest_is);
+          coming_fewer = λ k h. subst (λ cs. IsLawfullyHeld k (carried p cs)) (sym rest_is) (fewer k h);
+        }
+
+    -- that keeps the invariant
+    taken_keeps : Invariant t p pfd w'
+    taken_keeps = goes_keeps t p pfd w w' I taken_at
+
+  -- a process takes the oldest message that is on its way to an end of a link
+  takes_keeps : (e : LinkEnd) → Invariant t p pfd (next t w (Takes e))
+  takes_keeps e = by_front (slice_get (w.coming e) 0) refl
+    where
+      by_session : (c : Carried) → slice_get (w.coming e) 0 ≡ Some c → (b : Bool) → nat_lt (w.last e) c.session ≡ b
+          → Invariant t p pfd (if b then w else record { routers = with_router e.router (told (input.Message e.port c.session c.message)) w.routers; coming = with_coming e (drop 1) w.coming; last = w.last; heard = with_heard e (told_fault (input.Message e.port c.session c.message) (w.routers e.router)) c.session w.heard; lost = w.lost })
+      by_session c at true is = I
+      by_session c at false is = taken_keeps e c at (ltb-false (w.last e) c.session is)
+
+      by_front : (o : Option Carried) → slice_get (w.coming e) 0 ≡ o → Invariant t p pfd (option_map_or (with_taken e w) o w)
+      by_front None at = I
+      by_front (Some c) at = by_session c at (nat_lt (w.last e) c.session) refl
+
+  -- router i puts rows in force, or forgets a prefix
+  puts_at : (i : ℕ) (f : Router → Router) (pfd' : ℕ → ℕ) → ((j : ℕ) → j ≢ i → pfd' j ≡ pfd j) → PutsInForce p (w.routers i) (f (w.routers i)) (pfd i) (pfd' i)
+      → Invariant t p pfd' (record { routers = with_router i f w.routers; coming = w.coming; last = w.last; heard = w.heard; lost = w.lost })
+  puts_at i f pfd' elsewhere puts = puts_keeps t p pfd pfd' w (record { routers = with_router i f w.routers; coming = w.coming; last = w.last; heard = w.heard; lost = w.lost }) I (record {
+    i = i;
+    puts = subst (λ (r : Router). PutsInForce p (w.routers i) r (pfd i) (pfd' i)) (sym (router_here i f w.routers)) puts;
+    routers_elsewhere = λ j d. router_away i f w.routers j d;
+    coming_is = λ e. refl;
+    last_same = λ e. refl;
+    lost_same = refl;
+    pfd_elsewhere = elsewhere;
+  })
+
+  -- a router publishes
+  pub publishes_puts : (i : ℕ) → PutsInForce p (w.routers i) (router_publishing (w.routers i)) (pfd i) (fds_next p w (Publishes i) pfd i)
+  publishes_puts i =
+      subst (λ (n : ℕ). PutsInForce p (w.routers i) (router_publishing (w.routers i)) (pfd i) n) (sym (ap (λ b. if b then (machine_of (w.routers i) p).fd else pfd i) (eq-eqb i i refl)))
+      (puts_published p (w.routers i) (I.keeps i) (I.sound i) (pfd i) (I.cheap i))
+
+  -- a router publishes some of its rows
+  pub publishes_some_puts : (i n : ℕ) → PutsInForce p (w.routers i) (router_publishing_some n (w.routers i)) (pfd i) (fds_next p w (PublishesSome i n) pfd i)
+  publishes_some_puts i n =
+      subst (λ (k : ℕ). PutsInForce p (w.routers i) (router_publishing_some n (w.routers i)) (pfd i) k)
+      (sym (ap (λ b. if b then fd_then p (take n (changed_rows (w.routers i).table)) (w.routers i) (pfd i) else pfd i) (eq-eqb i i refl)))
+      (puts_some p (w.routers i) (I.keeps i) (I.sound i) (I.cheap i) (pfd i) (I.pfd_bounded i) n)
+
+  -- a router forgets a prefix, where it may
+  pub forgets_puts : (i : ℕ) (k : Prefix) → PutsInForce p (w.routers i) (forgotten k (w.routers i)) (pfd i) (fds_next p w (Forgets i k) pfd i)
+  forgets_puts i k =
+      subst (λ (n : ℕ). PutsInForce p (w.routers i) (forgotten k (w.routers i)) (pfd i) n)
+      (sym (ap (λ b. if b && prefix_eq p k && may_forget k (w.routers i) then infinity else pfd i) (eq-eqb i i refl)))
+      (puts_forgetting p (w.routers i) (I.keeps i) (I.sound i) (I.cheap i) k (pfd i) (I.pfd_bounded i))
+
+  -- a router that is not in a session by its port is not in it by its machine
+  not_in_it : (e : LinkEnd) (session : ℕ) → is_in_session w e session ≡ false → is_in p (router_at w e) e.port session ≡ false
+  not_in_it e session h = by_port (slice_get (router_at w e).ports e.port) refl h
+    where
+      by_port : (o : Option Port) → slice_get (router_at w e).ports e.port ≡ o → option_map_or (λ (x : Port). x.up && (x.session == session)) o false ≡ false → is_in p (router_at w e) e.port session ≡ false
+      by_port None at g = and_left (is_up_at (machine_of (router_at w e) p) e.port) (session_of w e == session) (none_up p (router_at w e) (I.keeps e.router) e.port at)
+      by_port (Some x) at g = ap (λ b. b && (session_of w e == session)) (up_is p (router_at w e) (I.keeps e.router) e.port x at) ∙ ap (λ (s : ℕ). x.up && (s == session)) (session_is (router_at w e) e.port x at) ∙ g
+
+  -- the message that is released is on its way then, or lost
+  pub sent_is : (i : ℕ) (h : Held) (v : Processes) → ((e : LinkEnd) → v.coming e ≡ sent_from t w (at_port i h.port) h e) → Sent t p i h w v
+  sent_is i h v comes = by_test (t.valid a) refl (is_in_session w a h.session) refl comes
+    where
+      a : LinkEnd
+      a = at_port i h.port
+
+      by_test : (b : Bool) → t.valid (at_port i h.port) ≡ b → (d : Bool) → is_in_session w (at_port i h.port) h.session ≡ d
+          → ((e : LinkEnd) → v.coming e ≡ (if b && d then with_coming (t.far (at_port i h.port)) (λ cs. cs ++ record { session = h.session; message = h.message } ∷ []) w.coming else w.coming) e) → Sent t p i h w v
+      by_test true va true on is = OnItsWay va
+          (is (t.far (at_port i h.port)) ∙ coming_here (t.far (at_port i h.port)) (λ cs. cs ++ as_carried h ∷ []) w.coming)
+          (λ e apart. is e ∙ coming_away (t.far (at_port i h.port)) (λ cs. cs ++ as_carried h ∷ []) w.coming e apart)
+      by_test true va false off is = Lost (λ v'. not_in_it (at_port i h.port) h.session off) is
+      by_test false va d on is = Lost (λ v'. absurd (both_ways (t.valid (at_port i h.port)) va v')) is
+
+  -- a router releases a message
+  releases_keeps : (i : ℕ) → Invariant t p pfd (next t w (Releases i))
+  releases_keeps i = by_front (ripe_front (w.routers i)) refl
+    where
+      by_front : (o : Option Held) → ripe_front (w.routers i) ≡ o → Invariant t p pfd (option_map_or (with_released t i w) o w)
+      by_front None at = I
+      by_front (Some h) at = release_keeps t p pfd w (with_released t i w h) I (record {
+        i = i;
+        h = h;
+        front = at;
+        router_is = router_here i router_releasing w.routers;
+        routers_elsewhere = λ j d. router_away i router_releasing w.routers j d;
+        last_same = λ e. refl;
+        lost_same = refl;
+        sent = sent_is i h (with_released t i w h) (λ e. refl);
+      })
+
+  -- a process ends, and another begins in its place
+  anew_keeps : (i : ℕ) (costs : List ℕ) (attachments : List Attachment) → make_fault costs attachments ≡ None → Invariant t p (fds_next p w (BeginsAnew i costs attachments) pfd) (next t w (BeginsAnew i costs attachments))
+  anew_keeps i costs attachments good =
+      let now : with_router i (λ r. made_router costs attachments) w.routers i ≡ made_router costs attachments = router_here i (λ r. made_router costs attachments) w.routers in
+      restart_keeps t p pfd (fds_next p w (BeginsAnew i costs attachments) pfd) w (next t w (BeginsAnew i costs attachments)) I (record {
+        i = i;
+        made_here = subst (Made p) (sym now) (made p (made_router costs attachments) (record { costs = costs; attachments = attachments; good = good; made = refl }));
+        routers_elsewhere = λ j d. router_away i (λ r. made_router costs attachments) w.routers j d;
+        coming_is = λ e. refl;
+        last_same = λ e. refl;
+        lost_same = refl;
+        pfd_is = ap (λ b. if b then (machine_of (made_router costs attachments) p).fd else pfd i) (eq-eqb i i refl) ∙ ap (λ (r : Router). (machine_of r p).fd) (sym now);
+        pfd_elsewhere = λ j d. rw (ne_eqb j i d) refl;
+      })
+
+  -- whatever happens keeps it
+  pub next_keeps : (h : Happening) → CanHappen w h → Invariant t p (fds_next p w h pfd) (next t w h)
+  next_keeps (Tells i x) can = tells_keeps i x can
+  next_keeps (Takes e) can = takes_keeps e
+  next_keeps (Loses e) can = loses_keeps t p pfd w I e
+  next_keeps (Publishes i) can = puts_at i router_publishing (fds_next p w (Publishes i) pfd) (λ j d. rw (ne_eqb j i d) refl) (publishes_puts i)
+  next_keeps (PublishesSome i n) can = puts_at i (router_publishing_some n) (fds_next p w (PublishesSome i n) pfd) (λ j d. rw (ne_eqb j i d) refl) (publishes_some_puts i n)
+  next_keeps (Forgets i k) can = puts_at i (forgotten k) (fds_next p w (Forgets i k) pfd) (λ j d. ap (λ b. if b && prefix_eq p k && may_forget k (w.routers i) then infinity else pfd j) (ne_eqb j i d)) (forgets_puts i k)
+  next_keeps (Releases i) can = releases_keeps i
+  next_keeps (BeginsAnew i costs attachments) can = anew_keeps i costs attachments can
+
+-- all that happens keeps it
+pub after_keeps : (t : Topology) (p : Prefix) (pfd : ℕ → ℕ) (w : Processes) (hs : List Happening) → Invariant t p pfd w → AllCanHappen t w hs → Invariant t p (fds_after t p w hs pfd) (after t w hs)
+after_keeps t p pfd w [] I can = I
+after_keeps t p pfd w (h ∷ hs) I can = after_keeps t p (fds_next p w h pfd) (next t w h) hs (next_keeps t p pfd w I h can.0) can.1

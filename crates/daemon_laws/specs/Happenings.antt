@@ -1,0 +1,168 @@
+-- What happens to routers in processes of their own: each end of a link begins and ends its sessions by itself.
+use Rattle.std.specs.Prelude.{◌≡◌, ℕ, ◌<◌, max, Bool, true, false, ◌&&◌, ◌==◌, nat_lt, if◌then◌else◌, List, [], ◌∷◌, ◌++◌, drop, Option, Some, None, is_none, slice_get, ⊤}
+use Rattle.std.specs.Option.{option_map_or}
+use Rattle.metric.specs.Distance.{IsCost}
+use Rattle.ipv4_prefix.specs.Prefix.{Prefix}
+use Rattle.network_model.specs.declared.item.Held.{Held}
+use Rattle.network_model.specs.World.{Router}
+use Rattle.network_model.specs.Step.{router_publishing, router_releasing, ripe_front, session_at}
+use Rattle.network_model.specs.View.{LinkEnd, at_port}
+use Rattle.loop_freedom.specs.Network.{Topology}
+use Rattle.router_core.specs.Alone.{router_publishing_some, may_forget, router_forgetting}
+use Rattle.single_router.specs.declared.input.Input.{Input}
+use Rattle.single_router.specs.declared.input.Input.TheVariants.{Up, Down, Cost, Message, Attached, Detached}
+use Rattle.single_router.specs.declared.opening.Attachment.{Attachment}
+use Rattle.c_interface.specs.declared.fault.Fault.{Fault}
+use Rattle.single_router.specs.Inputs.{told_fault, router_after}
+use Rattle.single_router.specs.Openings.{make_fault, made_router}
+use Rattle.daemon_laws.specs.Processes.{Carried, Processes}
+use Rattle.daemon_laws.specs.Packets.{is_in_session}
+
+-- ---- what may happen
+
+-- what may happen at any moment, in any order
+pub data Happening : Type 0 where
+  -- the process of router i tells it of its own: that a link of it came up, went down or has another cost, or of an attachment
+  Tells : (i : ℕ) (input : Input) → Happening
+  -- the process at an end of a link takes the oldest message that is on its way there
+  Takes : (e : LinkEnd) → Happening
+  -- the oldest message that is on its way to an end of a link is lost
+  Loses : (e : LinkEnd) → Happening
+  -- router i publishes
+  Publishes : (i : ℕ) → Happening
+  -- router i puts the first n of its changed rows in force, and no more
+  PublishesSome : (i n : ℕ) → Happening
+  -- router i forgets a prefix, where it may
+  Forgets : (i : ℕ) (p : Prefix) → Happening
+  -- router i releases a message
+  Releases : (i : ℕ) → Happening
+  -- the process of router i ends, and one begins in its place, with a router that is made of these costs and attachments
+  BeginsAnew : (i : ℕ) (costs : List ℕ) (attachments : List Attachment) → Happening
+
+-- an input that the process of router i finds by itself: a link comes up in a session later than each that its end was in,
+-- and a cost is a cost; messages come from others
+abbrev pub IsOwn : Processes → ℕ → Input → Type 0
+IsOwn w i (Up port session cost) = (w.last (at_port i port) < session) × IsCost cost
+IsOwn w i (Down port) = ⊤
+IsOwn w i (Cost port cost) = IsCost cost
+IsOwn w i (Message port session m) = ⊥
+IsOwn w i (Attached p cost) = IsCost cost
+IsOwn w i (Detached p) = ⊤
+
+-- what a process tells is its own, and a router that it makes has no fault; all else may happen
+abbrev pub CanHappen : Processes → Happening → Type 0
+CanHappen w (Tells i input) = IsOwn w i input
+CanHappen w (Takes e) = ⊤
+CanHappen w (Loses e) = ⊤
+CanHappen w (Publishes i) = ⊤
+CanHappen w (PublishesSome i n) = ⊤
+CanHappen w (Forgets i p) = ⊤
+CanHappen w (Releases i) = ⊤
+CanHappen w (BeginsAnew i costs attachments) = make_fault costs attachments ≡ None
+
+-- ---- what comes of it
+
+-- one router changed
+abbrev pub with_router : ℕ → (Router → Router) → (ℕ → Router) → ℕ → Router
+with_router i f routers j = if j == i then f (routers j) else routers j
+
+-- whether two link ends are one
+abbrev pub is_same_end : LinkEnd → LinkEnd → Bool
+is_same_end e f = (e.router == f.router) && (e.port == f.port)
+
+-- what is on its way to one end changed
+abbrev pub with_coming : LinkEnd → (List Carried → List Carried) → (LinkEnd → List Carried) → LinkEnd → List Carried
+with_coming e f coming d = if is_same_end d e then f (coming d) else coming d
+
+-- a router that is told an input, which it takes or refuses: a session that is not later than its port's last, a message of another session
+abbrev pub told : Input → Router → Router
+told input r = if is_none (told_fault input r) then router_after input r else r
+
+-- a router that forgets the prefix, where it may
+abbrev pub forgotten : Prefix → Router → Router
+forgotten p r = if may_forget p r then router_forgetting p r else r
+
+-- the last session of each end, once the ports are these
+abbrev pub with_last : (ℕ → Router) → (LinkEnd → ℕ) → LinkEnd → ℕ
+with_last routers last e = max (last e) (session_at (routers e.router).ports e.port)
+
+-- the session of the message that each end took last, once one of this session came to this end; for a fault it is refused
+abbrev pub with_heard : LinkEnd → Option Fault → ℕ → (LinkEnd → ℕ) → LinkEnd → ℕ
+with_heard e fault session heard d = if is_same_end d e && is_none fault then session else heard d
+
+-- the process at this end took the message. One of a session that the end has not been in yet waits
+abbrev pub with_taken : LinkEnd → Processes → Carried → Processes
+with_taken e w c =
+    if nat_lt (w.last e) c.session
+    then w
+    else record {
+      routers = with_router e.router (told (Message e.port c.session c.message)) w.routers;
+      coming = with_coming e (drop 1) w.coming;
+      last = w.last;
+      heard = with_heard e (told_fault (Message e.port c.session c.message) (w.routers e.router)) c.session w.heard;
+      lost = w.lost;
+    }
+
+-- this message, sent from this end, is on its way to the other, where the port is in the message's session; else it is dropped
+abbrev pub sent_from : Topology → Processes → LinkEnd → Held → LinkEnd → List Carried
+sent_from t w e h =
+    if t.valid e && is_in_session w e h.session
+    then with_coming (t.far e) (λ cs. cs ++ record { session = h.session; message = h.message } ∷ []) w.coming
+    else w.coming
+
+-- router i released this message
+abbrev pub with_released : Topology → ℕ → Processes → Held → Processes
+with_released t i w h = record { routers = with_router i router_releasing w.routers; coming = sent_from t w (at_port i h.port) h; last = w.last; heard = w.heard; lost = w.lost }
+
+-- the processes after what happens
+abbrev pub next : Topology → Processes → Happening → Processes
+next t w (Tells i input) = record {
+  routers = with_router i (told input) w.routers;
+  coming = w.coming;
+  last = with_last (with_router i (told input) w.routers) w.last;
+  heard = w.heard;
+  lost = w.lost;
+}
+next t w (Takes e) = option_map_or (with_taken e w) (slice_get (w.coming e) 0) w
+next t w (Loses e) = record { routers = w.routers; coming = with_coming e (drop 1) w.coming; last = w.last; heard = w.heard; lost = true }
+next t w (Publishes i) = record { routers = with_router i router_publishing w.routers; coming = w.coming; last = w.last; heard = w.heard; lost = w.lost }
+next t w (PublishesSome i n) = record { routers = with_router i (router_publishing_some n) w.routers; coming = w.coming; last = w.last; heard = w.heard; lost = w.lost }
+next t w (Forgets i p) = record { routers = with_router i (forgotten p) w.routers; coming = w.coming; last = w.last; heard = w.heard; lost = w.lost }
+next t w (Releases i) = option_map_or (with_released t i w) (ripe_front (w.routers i)) w
+next t w (BeginsAnew i costs attachments) = record { routers = with_router i (λ r. made_router costs attachments) w.routers; coming = w.coming; last = w.last; heard = w.heard; lost = w.lost }
+
+-- the processes after all this, one after another
+abbrev pub after : Topology → Processes → List Happening → Processes
+after t w [] = w
+after t w (h ∷ hs) = after t (next t w h) hs
+
+-- all this may happen, each where it does
+abbrev pub AllCanHappen : Topology → Processes → List Happening → Type 0
+AllCanHappen t w [] = ⊤
+AllCanHappen t w (h ∷ hs) = CanHappen w h × AllCanHappen t (next t w h) hs
+
+-- ---- where it begins
+
+-- a router as it is made, with ports that are down
+pub record IsMade (r : Router) : Type 0 where
+  pub costs : List ℕ
+  pub attachments : List Attachment
+  pub good : make_fault costs attachments ≡ None
+  pub made : r ≡ made_router costs attachments
+
+-- each router is made, and nothing is on its way
+pub record Begins (w : Processes) : Type 0 where
+  pub routers_made : (i : ℕ) → IsMade (w.routers i)
+  pub nothing_comes : (e : LinkEnd) → w.coming e ≡ []
+  pub never_up : (e : LinkEnd) → w.last e ≡ 0
+  pub never_heard : (e : LinkEnd) → w.heard e ≡ 0
+  pub nothing_lost : w.lost ≡ false
+
+-- what holds at every moment, whatever has happened since
+abbrev pub HoldsAlways : (Topology → Processes → Type 0) → Type 0
+HoldsAlways P = (t : Topology) (first : Processes) (hs : List Happening) → Begins first → AllCanHappen t first hs → P t (after t first hs)
+
+-- no router refuses a message of the session that its end of the link is in
+abbrev pub NoneRefused : Topology → Processes → Type 0
+NoneRefused t w = (e : LinkEnd) (c : Carried) → t.valid e ≡ true → slice_get (w.coming e) 0 ≡ Some c → is_in_session w e c.session ≡ true
+    → told_fault (Message e.port c.session c.message) (w.routers e.router) ≡ None

@@ -1,0 +1,53 @@
+-- That the laws have something to say.
+use Rattle.std.specs.Prelude.{◌≡◌, ℕ, true, List, Some}
+use Rattle.ipv4_prefix.specs.Prefix.{Prefix}
+use Rattle.network_model.specs.declared.route.Entry.TheVariants.{Local, Via}
+use Rattle.network_model.specs.World.{machine_of}
+use Rattle.router_core.specs.Alone.{may_forget}
+use Rattle.loop_freedom.specs.Network.{Topology}
+use Rattle.single_router.specs.Inputs.{attachment_of}
+use Rattle.daemon_laws.specs.Processes.{Processes}
+use Rattle.daemon_laws.specs.Packets.{IsForwarded, entry_leads, unmarked_leads, published_rows}
+use Rattle.daemon_laws.specs.Happenings.{Happening, Begins, AllCanHappen, after}
+use Rattle.daemon_laws.specs.Rest.{IsAtRest, published_entry}
+
+-- something may happen after which a packet goes from one router to another by a published row
+pub record SomePacketGoes : Type 0 where
+  pub topology : Topology
+  pub first : Processes
+  pub happenings : List Happening
+  pub begins : Begins first
+  pub can : AllCanHappen topology first happenings
+  pub addr : ℕ
+  pub prefix : Prefix
+  pub from : ℕ
+  pub to : ℕ
+  pub goes : IsForwarded (entry_leads topology (after topology first happenings)) (published_rows (after topology first happenings)) addr prefix from to
+
+-- something may happen after which two routers are at rest: router 0 is attached at cost 1, and router 1, which has begun anew
+-- since, is at distance 8 by way of its port 0, in session 2
+pub record SomeRest : Type 0 where
+  pub topology : Topology
+  pub first : Processes
+  pub happenings : List Happening
+  pub begins : Begins first
+  pub can : AllCanHappen topology first happenings
+  pub prefix : Prefix
+  pub rests : IsAtRest topology 2 (after topology first happenings)
+  pub is_local : published_entry (after topology first happenings) 0 prefix ≡ Some Local
+  pub sends_on : published_entry (after topology first happenings) 1 prefix ≡ Some (Via 0 2)
+  -- also a packet that carries no session goes by it
+  pub goes : unmarked_leads topology (after topology first happenings) 1 (Via 0 2) ≡ Some 0
+  pub distance : (machine_of ((after topology first happenings).routers 1) prefix).rd ≡ 8
+
+-- something may happen after which a router may forget a prefix to which it was attached
+pub record SomeForgets : Type 0 where
+  pub topology : Topology
+  pub first : Processes
+  pub happenings : List Happening
+  pub begins : Begins first
+  pub can : AllCanHappen topology first happenings
+  pub prefix : Prefix
+  pub router : ℕ
+  pub was_attached : attachment_of (first.routers router) prefix ≡ Some 1
+  pub may : may_forget prefix ((after topology first happenings).routers router) ≡ true

@@ -1,0 +1,67 @@
+//! What holds of routers in processes of their own, whatever happens: no packet meets a router twice, and at rest rows lead at least cost.
+#![tactic(auto)]
+
+ghost use Rattle.daemon_laws.specs.Facts.{FourFactsAlwaysHold};
+ghost use Rattle.daemon_laws.specs.Happenings.{HoldsAlways, NoneRefused};
+ghost use Rattle.daemon_laws.specs.Packets.{NoMixtureLoops, NoPacketCircles, NoPacketLoops, NoUnmarkedCircles, NoUnmarkedLoops, NoUnmarkedMixtureLoops, NoUnmarkedWrittenCircles, NoWrittenCircles};
+ghost use Rattle.daemon_laws.specs.Reached.{SomeForgets, SomePacketGoes, SomeRest};
+ghost use Rattle.daemon_laws.specs.Rest.{RestIsAlwaysBest};
+
+/// Whatever happens, and in which order, no packet meets a router twice along routers that match its
+/// address by one prefix; nor where some routers forward by what they have chosen since they published.
+pub fn no_packet_loop()
+    ensures published { HoldsAlways NoPacketLoops }
+    ensures mixtures { HoldsAlways NoMixtureLoops }
+{}
+
+/// Nor does one where packets carry no session, if a router forwards what comes in by a port only while
+/// it is in the session of the message that it took there last.
+pub fn no_unmarked_loop()
+    ensures published { HoldsAlways NoUnmarkedLoops }
+    ensures mixtures { HoldsAlways NoUnmarkedMixtureLoops }
+{}
+
+/// Whatever happens, and in which order, no packet meets a router twice, whichever prefixes match its
+/// address on its way, and whichever routers publish while it moves: where packets carry the session of
+/// the row by which they are sent, and where they carry none, let in as above. Nor does one while rows are
+/// written into tables one by one, in any order.
+pub fn no_packet_circles()
+    ensures marked { HoldsAlways NoPacketCircles }
+    ensures unmarked { HoldsAlways NoUnmarkedCircles }
+    ensures written { HoldsAlways NoWrittenCircles }
+    ensures unmarked_written { HoldsAlways NoUnmarkedWrittenCircles }
+{}
+
+/// No router refuses a message of the session that its end of the link is in: the tests that keep out what
+/// no router sends keep out nothing that one does.
+pub fn none_refused()
+    ensures { HoldsAlways NoneRefused }
+{}
+
+/// At each link, in each session that both its ends are in: what a router has sent, and what the other
+/// keeps of it, is no less than its feasible distances; along each edge they fall; and so does the
+/// distance of a computation whose query has been answered.
+pub fn four_facts()
+    ensures { FourFactsAlwaysHold }
+{}
+
+/// Where all is at rest and the two ends of each link agree, each router's row for a prefix is local or
+/// begins a chain of rows to an attached router at a cost that is least, or no way leads to one.
+pub fn rest_is_best()
+    ensures { RestIsAlwaysBest }
+{}
+
+/// The laws are not empty of packets.
+pub fn some_packet()
+    ensures { SomePacketGoes }
+{}
+
+/// Nor of routers at rest.
+pub fn some_rest()
+    ensures { SomeRest }
+{}
+
+/// Nor of prefixes that are forgotten.
+pub fn some_forgets()
+    ensures { SomeForgets }
+{}

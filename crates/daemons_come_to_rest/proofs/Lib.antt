@@ -1,0 +1,12 @@
+pub mod Shown
+pub mod Moves
+pub mod Forgets
+pub mod Dues
+pub mod Gathered
+pub mod Kept
+pub mod Falling
+pub mod Bounds
+pub mod Resting
+pub mod Settled
+pub mod Converging
+pub mod Example

@@ -1,0 +1,50 @@
+-- Every moment comes to rest.
+use Rattle.std.proofs.Common.{refl, subst, ◌≡◌, ◌+◌, List}
+use Rattle.packet_loops.proofs.Common.{Prefix, Topology}
+use Rattle.network_model.proofs.Common.{infinity}
+use Rattle.coming_to_rest.specs.Rest.{IsFinite}
+use Rattle.coming_to_rest.proofs.Order.{every}
+use Rattle.daemon_laws.specs.Processes.{Processes}
+use Rattle.daemon_laws.specs.Happenings.{Happening, next, after}
+use Rattle.daemons_come_to_rest.specs.Rest.{HappensAlone, ComesToRest, rests, AlwaysComesToRest, AlwaysHasBound}
+use Rattle.daemons_come_to_rest.proofs.Gathered.{KnownIn, prefixes_in, all_known}
+use Rattle.daemons_come_to_rest.proofs.Kept.{Kept, kept_next, kept_first, kept_after}
+use Rattle.daemons_come_to_rest.proofs.Falling.{all_places, all_loads, all_dues, ProcessesFall, goes_alone}
+use Rattle.daemons_come_to_rest.proofs.Bounds.{alone_can, has_bound}
+
+module _ (t : Topology) (F : IsFinite t) (ps : List Prefix) where
+  -- something that still happens leads from the one to the other
+  record Leads (w v : Processes) : Type 0 where
+    happening : Happening
+    alone : HappensAlone F.routers w happening
+    to : next t w happening ≡ v
+
+  -- what is kept at every moment, and all prefixes are these
+  record Good (w : Processes) : Type 0 where
+    kept : Kept t w
+    known : KnownIn t F.routers ps w
+
+  -- it is kept
+  keeps : (w v : Processes) → Good w → Leads w v → Good v
+  keeps w v G L = subst Good L.to (record { kept = kept_next t w L.happening G.kept (alone_can F.routers w L.happening L.alone); known = (goes_alone t F ps w G.kept G.known L.happening L.alone).known })
+
+  -- and the measure falls
+  falls : (w v : Processes) → Good w → Leads w v → ProcessesFall t F ps w v
+  falls w v G L = subst (ProcessesFall t F ps w) L.to (goes_alone t F ps w G.kept G.known L.happening L.alone).falls
+
+  -- so all that is good comes to rest
+  good_rests : (w : Processes) → Good w → ComesToRest t F.routers w
+  good_rests = every Leads Good (ComesToRest t F.routers) (all_places t F ps) (all_loads t F ps) (all_dues t F ps) (infinity + 2)
+      (λ w close. rests w (λ h alone. close (next t w h) (record { happening = h; alone = alone; to = refl }))) keeps falls
+
+-- what is kept comes to rest
+pub kept_rests : (t : Topology) (F : IsFinite t) (w : Processes) → Kept t w → ComesToRest t F.routers w
+kept_rests t F w K = good_rests t F (prefixes_in t F w) w (record { kept = K; known = all_known t F w })
+
+-- every moment comes to rest
+pub always_rests : AlwaysComesToRest
+always_rests t first hs B can F = kept_rests t F (after t first hs) (kept_after t first hs (kept_first t first B) can)
+
+-- and has a bound
+pub always_bounded : AlwaysHasBound
+always_bounded t first hs B can F = let K = kept_after t first hs (kept_first t first B) can in has_bound t F (after t first hs) K (kept_rests t F (after t first hs) K)
