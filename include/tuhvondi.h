@@ -67,6 +67,8 @@ enum tuhvondi_status {
     TUHVONDI_NO_MEMORY = 20,
     /* A router would have more than 32 ports. */
     TUHVONDI_TOO_MANY_PORTS = 26,
+    /* A router would know more prefixes than it may. */
+    TUHVONDI_TOO_MANY_PREFIXES = 27,
     /* The router has not heard of the prefix. */
     TUHVONDI_UNKNOWN_PREFIX = 28,
     /* The router is not attached to the prefix. */
@@ -74,7 +76,13 @@ enum tuhvondi_status {
     /* A message is of another session than its port, or a link comes up in no later session. */
     TUHVONDI_OTHER_SESSION = 36,
     /* The router has published 2^64 - 1 times. */
-    TUHVONDI_GENERATIONS_SPENT = 37
+    TUHVONDI_GENERATIONS_SPENT = 37,
+    /* A reply to no query: the router awaits none of this prefix from this port. */
+    TUHVONDI_UNASKED = 38,
+    /* A query of a prefix from a port to which the router still owes the reply to the one before. */
+    TUHVONDI_ASKED_TWICE = 39,
+    /* The router knows something of the prefix, or its row is not yet in force as unreachable. */
+    TUHVONDI_STILL_USED = 44
 };
 
 /* A status in words, for messages: never null, and not to be freed. */
@@ -111,6 +119,8 @@ static inline const char *tuhvondi_status_text(uint32_t status)
         return "memory was refused";
     case TUHVONDI_TOO_MANY_PORTS:
         return "a router has at most 32 ports";
+    case TUHVONDI_TOO_MANY_PREFIXES:
+        return "the router knows as many prefixes as it may";
     case TUHVONDI_UNKNOWN_PREFIX:
         return "the router has not heard of the prefix";
     case TUHVONDI_NOT_ATTACHED:
@@ -119,6 +129,12 @@ static inline const char *tuhvondi_status_text(uint32_t status)
         return "the session is another";
     case TUHVONDI_GENERATIONS_SPENT:
         return "the router has published as often as can be counted";
+    case TUHVONDI_UNASKED:
+        return "it answers what nobody asked";
+    case TUHVONDI_ASKED_TWICE:
+        return "it asks again before it is answered";
+    case TUHVONDI_STILL_USED:
+        return "something is still known of the prefix";
     default:
         return "no status of this library";
     }

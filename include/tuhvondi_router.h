@@ -7,16 +7,24 @@
  * pointers that are not null, and numbers of elements; no two arguments overlap.
  *
  * A program tells its router what its links bring, then publishes where that is due, puts the rows that
- * it is given into its table (tuhvondi_image_apply takes them as they are), and only then releases
- * messages and puts them on their links:
+ * it is given into its table (tuhvondi_image_apply takes them as they are), and only then tells it more,
+ * or releases messages and puts them on their links:
  *
  *     tell one or more of: link_up, link_down, link_cost, message, attached, detached
  *     while tuhvondi_router_publish answers TUHVONDI_DONE: forward by its rows
  *     while tuhvondi_router_release answers TUHVONDI_DONE: send the message, or drop it where the
  *         connection of its port is of another session
  *
- * What the program has to see to so that no packet circles in the network as a whole stands in
- * docs/8-daemons.md, one sentence each.
+ * If every router of a network is of this library, and every program keeps the five duties of
+ * docs/8-daemons.md (order within a session, later sessions, forwarding first, letting in, one call at a
+ * time), it is proved of the network as a whole that no packet meets a router twice, also while links fail,
+ * messages are lost and processes begin anew (`no_packet_circles` of crates/daemon_laws), and that it comes
+ * to rest at least cost where no message is lost and the ends of each link agree (`processes_converge` of
+ * crates/daemons_come_to_rest).
+ *
+ * What no router sends is refused (TUHVONDI_UNASKED, TUHVONDI_ASKED_TWICE, TUHVONDI_OTHER_SESSION), and so is
+ * a prefix more than the router may know (TUHVONDI_TOO_MANY_PREFIXES). If a message is refused, but for
+ * another session or want of memory, end the session of its link: the two ends no longer know the same.
  */
 #ifndef TUHVONDI_ROUTER_H
 #define TUHVONDI_ROUTER_H
@@ -110,12 +118,14 @@ TUHVONDI_ASSERT(sizeof(struct tuhvondi_router) == 16, "a handle takes 16 bytes")
 /* Makes a router with a port for each of these costs, that of the port's link from here, and with these
  * attachments, and puts it into the handle; the router that it held is freed. All links are down, and
  * the attachments are published: a table begins with their rows, of kind TUHVONDI_LOCAL. Of a prefix that
- * stands twice the first cost counts.
+ * stands twice the first cost counts. The router may know most_prefixes prefixes: one that it has heard of
+ * counts until it is forgotten (tuhvondi_router_forget).
  * Refused: TUHVONDI_TOO_MANY_PORTS, TUHVONDI_BAD_COST, TUHVONDI_BAD_LENGTH, TUHVONDI_HOST_BITS,
- * TUHVONDI_NO_MEMORY; faults of costs come before those of attachments. */
+ * TUHVONDI_TOO_MANY_PREFIXES where there are more attachments than that, TUHVONDI_NO_MEMORY; faults of costs
+ * come before those of attachments. */
 uint32_t tuhvondi_router_new(const uint32_t *costs, size_t cost_count,
                              const struct tuhvondi_attachment *attachments, size_t attachment_count,
-                             struct tuhvondi_router *router);
+                             size_t most_prefixes, struct tuhvondi_router *router);
 
 /* The link of the port came up. The session is later than each that it had before, and the same at both
  * ends. Refused: TUHVONDI_BAD_COST, TUHVONDI_NO_ROUTER_HELD, TUHVONDI_UNKNOWN_PORT,
@@ -133,13 +143,14 @@ uint32_t tuhvondi_router_link_cost(struct tuhvondi_router *router, uint8_t port,
 
 /* The message came to its port. One of another session than the port's is refused, which discards it.
  * Refused: TUHVONDI_BAD_LENGTH, TUHVONDI_HOST_BITS, TUHVONDI_BAD_KIND, TUHVONDI_NO_ROUTER_HELD,
- * TUHVONDI_UNKNOWN_PORT, TUHVONDI_IS_DOWN, TUHVONDI_OTHER_SESSION, TUHVONDI_NO_MEMORY. */
+ * TUHVONDI_UNKNOWN_PORT, TUHVONDI_IS_DOWN, TUHVONDI_OTHER_SESSION, TUHVONDI_UNASKED, TUHVONDI_ASKED_TWICE,
+ * TUHVONDI_TOO_MANY_PREFIXES, TUHVONDI_NO_MEMORY, after which the message may be told again. */
 uint32_t tuhvondi_router_message(struct tuhvondi_router *router,
                                  const struct tuhvondi_message *message);
 
 /* The router itself is attached to the prefix at this cost from now on, or no more.
  * Refused: TUHVONDI_BAD_LENGTH, TUHVONDI_HOST_BITS, TUHVONDI_BAD_COST, TUHVONDI_NO_ROUTER_HELD,
- * TUHVONDI_NOT_ATTACHED where it was not, TUHVONDI_NO_MEMORY. */
+ * TUHVONDI_TOO_MANY_PREFIXES, TUHVONDI_NOT_ATTACHED where it was not, TUHVONDI_NO_MEMORY. */
 uint32_t tuhvondi_router_attached(struct tuhvondi_router *router, uint32_t addr, uint8_t len,
                                   uint32_t cost);
 uint32_t tuhvondi_router_detached(struct tuhvondi_router *router, uint32_t addr, uint8_t len);
@@ -149,11 +160,13 @@ uint32_t tuhvondi_router_counts(struct tuhvondi_router *router, struct tuhvondi_
 
 /* Publishes: writes the rows that are in force from now on and were not, in the order of their prefixes,
  * how many they are, and how often the router has published. All that it holds may then leave.
- * Refused, and then nothing is written: TUHVONDI_NO_ROUTER_HELD, TUHVONDI_BAD_COUNT where `changed` of
- * tuhvondi_router_counts is above row_count, TUHVONDI_NOTHING_DUE, TUHVONDI_GENERATIONS_SPENT,
- * TUHVONDI_NO_MEMORY. */
+ * If there is no room for all rows, it writes the first row_count of them, and 1 to `more`, else 0. These
+ * rows are in force from now on, but the router has not published yet, and nothing may leave for it: put
+ * them into the table, and publish again.
+ * Refused, and then nothing is written: TUHVONDI_NO_ROUTER_HELD, TUHVONDI_BAD_COUNT where there are rows and
+ * row_count is 0, TUHVONDI_NOTHING_DUE, TUHVONDI_GENERATIONS_SPENT, TUHVONDI_NO_MEMORY. */
 uint32_t tuhvondi_router_publish(struct tuhvondi_router *router, struct tuhvondi_row *rows,
-                                 size_t row_count, size_t *written, uint64_t *generation);
+                                 size_t row_count, size_t *written, uint8_t *more, uint64_t *generation);
 
 /* Takes the oldest message that may leave. It is for the connection of its port and session alone: where
  * that has ended it is dropped. Refused: TUHVONDI_NO_ROUTER_HELD, TUHVONDI_NOTHING_RIPE. */
@@ -169,6 +182,15 @@ uint32_t tuhvondi_router_state(struct tuhvondi_router *router, uint32_t addr, ui
  * TUHVONDI_BAD_COUNT where `prefixes` of tuhvondi_router_counts is above row_count, TUHVONDI_NO_MEMORY. */
 uint32_t tuhvondi_router_rows(struct tuhvondi_router *router, struct tuhvondi_row *rows,
                               size_t row_count, size_t *written);
+
+/* Forgets a prefix of which the router knows nothing any more: it is not attached to it, no computation is
+ * under way, no neighbour whose link is up has reported a distance, and its row, of kind
+ * TUHVONDI_UNREACHABLE, is in force. Take that row out of the table then (tuhvondi_image_remove): an address
+ * that it answered is answered by the row with the next shorter prefix. A message about the prefix has the
+ * router know it again.
+ * Refused: TUHVONDI_BAD_LENGTH, TUHVONDI_HOST_BITS, TUHVONDI_NO_ROUTER_HELD, TUHVONDI_UNKNOWN_PREFIX,
+ * TUHVONDI_STILL_USED. */
+uint32_t tuhvondi_router_forget(struct tuhvondi_router *router, uint32_t addr, uint8_t len);
 
 /* Frees the router, if there is one. The handle then holds none. */
 void tuhvondi_router_free(struct tuhvondi_router *router);

@@ -1,7 +1,7 @@
 -- The numbers of the faults.
 use Rattle.std.specs.Prelude.{◌≡◌, ℕ, ◌⊎◌, Option, None, Some}
 use Rattle.c_interface.specs.declared.fault.Fault.{Fault}
-use Rattle.c_interface.specs.declared.fault.Fault.TheVariants.{BadLength, HostBits, BadCost, BadKind, Empty, BadCount, Shared, UnknownPort, AlreadyUp, IsDown, NothingDue, NothingRipe, NoMemory, TooManyPorts, UnknownPrefix, NotAttached, OtherSession, GenerationsSpent}
+use Rattle.c_interface.specs.declared.fault.Fault.TheVariants.{BadLength, HostBits, BadCost, BadKind, Empty, BadCount, Shared, UnknownPort, AlreadyUp, IsDown, NothingDue, NothingRipe, NoMemory, TooManyPorts, TooManyPrefixes, UnknownPrefix, NotAttached, OtherSession, GenerationsSpent, Unasked, AskedTwice, StillUsed}
 
 -- the number by which C knows a fault
 abbrev pub fault_number : Fault → ℕ
@@ -19,10 +19,14 @@ fault_number NothingDue = 17
 fault_number NothingRipe = 18
 fault_number NoMemory = 20
 fault_number TooManyPorts = 26
+fault_number TooManyPrefixes = 27
 fault_number UnknownPrefix = 28
 fault_number NotAttached = 29
 fault_number OtherSession = 36
 fault_number GenerationsSpent = 37
+fault_number Unasked = 38
+fault_number AskedTwice = 39
+fault_number StillUsed = 44
 
 -- done, or refused for want of memory
 abbrev pub IsDoneOrFull : ℕ → Type 0

@@ -38,6 +38,8 @@ pub enum Fault {
     NoMemory,
     /// A router would have more than 32 ports.
     TooManyPorts,
+    /// A router would know more prefixes than it may.
+    TooManyPrefixes,
     /// The router has not heard of the prefix.
     UnknownPrefix,
     /// The router is not attached to the prefix.
@@ -47,6 +49,12 @@ pub enum Fault {
     OtherSession,
     /// The router has published as often as a number of 64 bits can count.
     GenerationsSpent,
+    /// A reply to no query: the router awaits none of this prefix from this port.
+    Unasked,
+    /// A query of a prefix from a port to which the router still owes the reply to the one before.
+    AskedTwice,
+    /// The router knows something of the prefix, or its row is not yet in force as Unreachable.
+    StillUsed,
 }
 
 impl Fault {
@@ -69,10 +77,14 @@ impl Fault {
             Fault::NothingRipe => 18,
             Fault::NoMemory => 20,
             Fault::TooManyPorts => 26,
+            Fault::TooManyPrefixes => 27,
             Fault::UnknownPrefix => 28,
             Fault::NotAttached => 29,
             Fault::OtherSession => 36,
             Fault::GenerationsSpent => 37,
+            Fault::Unasked => 38,
+            Fault::AskedTwice => 39,
+            Fault::StillUsed => 44,
         }
     }
 }

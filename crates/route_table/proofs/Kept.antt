@@ -1,5 +1,5 @@
--- That the changed rows and the room are kept: when one row is put, and when the rows are published.
-use Rattle.std.proofs.Common.{◌≡◌, ℕ, ◌+◌, ◌-◌, ◌<◌, ◌≤◌, Bool, true, false, not, cond, if◌then◌else◌, List, [], length, Some, None, refl, sym, ap, ◌∙◌, arith}
+-- That the changed rows and the room are kept: when one row is put, when the rows or some of them are published, and when a prefix is forgotten.
+use Rattle.std.proofs.Common.{◌≡◌, ℕ, ◌+◌, ◌-◌, ◌<◌, ◌≤◌, Bool, true, false, not, cond, if◌then◌else◌, List, [], length, take, drop, Some, None, refl, sym, ap, ◌∙◌, arith}
 use Rattle.std.specs.FinMap.{find, put, is_sorted}
 use Rattle.std.specs.FinMap.Entries.{length-put}
 use Rattle.std.specs.List.{filter}
@@ -16,6 +16,8 @@ use Rattle.network_model.proofs.RowLaws.{find-map}
 use Rattle.ipv4_prefix.proofs.PrefixOrder.{prefix_cmp_total}
 use Rattle.route_table.proofs.Changed.{differing-put_new, differing-put_same}
 use Rattle.route_table.proofs.Publication.{marked, with_in_force-differing, differing-marked}
+use Rattle.route_table.proofs.PublishedInPart.{marked_first, with_in_force-first, differing-first, length-first}
+use Rattle.route_table.proofs.Forgotten.{differing-without, length-without}
 
 -- whether a row is there does not depend on what is read of it
 pub is_known : (p : Prefix) (rows : List (Prefix × Row)) → is_some (find prefix_cmp p (control_rows rows)) ≡ is_some (find prefix_cmp p rows)
@@ -72,3 +74,31 @@ module _ (rows : List (Prefix × Row)) (row_capacity : ℕ) (changed : List (Pre
 
   pub kept_published : IsTable (with_in_force changed rows) row_capacity [] changed_capacity
   kept_published = record { differing = sym (ap differing_rows all_in_force ∙ differing-marked rows); can_change = let a = kept.can_change in omega (arith, length-in_force); can_be_kept = kept.can_be_kept }
+
+  -- ---- some rows are published
+
+  module _ (n : ℕ) where
+    pub first_in_force : with_in_force (take n changed) rows ≡ marked_first n rows
+    first_in_force = ap (λ cs. with_in_force (take n cs) rows) kept.differing ∙ with_in_force-first n rows s
+
+    pub length-first_in_force : length (with_in_force (take n changed) rows) ≡ length rows
+    length-first_in_force = ap length first_in_force ∙ length-first n rows
+
+    pub first_fits : length (with_in_force (take n changed) rows) ≤ row_capacity
+    first_fits = let a = kept.can_change in let b = kept.can_be_kept in omega (arith, length-first_in_force)
+
+    pub kept_some_published : IsTable (with_in_force (take n changed) rows) row_capacity (drop n changed) changed_capacity
+    kept_some_published = record {
+      differing = ap (drop n) kept.differing ∙ sym (ap differing_rows first_in_force ∙ differing-first n rows);
+      can_change = let a = kept.can_change in omega (arith, length-first_in_force);
+      can_be_kept = kept.can_be_kept;
+    }
+
+  -- ---- a prefix is forgotten
+
+  pub kept_without : (p : Prefix) → IsTable (without p rows) row_capacity (without p changed) changed_capacity
+  kept_without p = record {
+    differing = ap (without p) kept.differing ∙ sym (differing-without p rows);
+    can_change = let a = kept.can_change in omega (arith, length-without p rows);
+    can_be_kept = kept.can_be_kept;
+  }

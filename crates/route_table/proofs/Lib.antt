@@ -3,6 +3,8 @@ pub mod PrefixPlaces
 pub mod InForce
 pub mod Changed
 pub mod Publication
+pub mod PublishedInPart
+pub mod Forgotten
 pub mod Kept
 pub mod RowReads
 pub mod Patched

@@ -30,7 +30,7 @@ same_in_force c (Some e) h = ap (λ x. Some x) (entry_from_eq e c (elim (entry_e
 row_published : (r : Row) → differs r ≡ false → r ≡ row_in_force r.control
 row_published r h = λ i. record { control = r.control; published = same_in_force r.control r.published h i }
 
-with_in_force-past : (r : Prefix × Row) (cs : List (Prefix × Entry)) (rs : List (Prefix × Row)) → below_all prefix_cmp r.0 cs ≡ true → with_in_force cs (r ∷ rs) ≡ r ∷ with_in_force cs rs
+pub with_in_force-past : (r : Prefix × Row) (cs : List (Prefix × Entry)) (rs : List (Prefix × Row)) → below_all prefix_cmp r.0 cs ≡ true → with_in_force cs (r ∷ rs) ≡ r ∷ with_in_force cs rs
 with_in_force-past r [] rs b = refl
 with_in_force-past r (c ∷ cs) rs b =
     let parts = and_parts _ _ b in

@@ -1,3 +1,4 @@
+pub mod Parts
 pub mod Place
 pub mod PrefixMap
 pub mod Rows

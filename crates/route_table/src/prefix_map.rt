@@ -1,6 +1,6 @@
 //! A map from prefixes, in their order.
 
-ghost use Rattle.std.specs.Prelude.{◌≡◌, ◌≤◌, ◌+◌, max, [], length, IsTrue, OnOk, OnErr};
+ghost use Rattle.std.specs.Prelude.{◌≡◌, ◌≤◌, ◌+◌, max, [], length, drop, IsTrue, OnOk, OnErr};
 ghost use Rattle.std.specs.FinMap.{find as value_at, put, is_sorted};
 ghost use Rattle.ipv4_prefix.specs.Prefix.{prefix_cmp};
 ghost use Rattle.route_table.specs.Place.{IsPlace, without};
@@ -83,6 +83,15 @@ impl<X: Copy, A: Allocator> PrefixMap<X, A> {
         if let Ok(place) = self.place(prefix) {
             self.entries.remove(place);
         }
+    }
+
+    /// Removes this many rows at the front.
+    pub fn remove_first(&mut self, count: usize)
+        requires { count ≤ length (map_rows self.old) }
+        ensures rows { map_rows self.new ≡ drop count (map_rows self.old) }
+        ensures capacity { map_capacity self.new ≡ map_capacity self.old }
+    {
+        self.entries.drain(..count);
     }
 
     pub fn clear(&mut self)

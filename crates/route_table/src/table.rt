@@ -5,6 +5,7 @@ ghost use Rattle.std.specs.FinMap.{find as row_of, put, is_sorted};
 ghost use Rattle.ipv4_prefix.specs.Prefix.{prefix_cmp};
 ghost use Rattle.network_model.specs.Step.{changed_rows};
 ghost use Rattle.network_model.specs.Publication.{with_rows};
+ghost use Rattle.route_table.specs.Parts.{with_some_published, without_rows};
 ghost use Rattle.route_table.specs.PrefixMap.{map_rows, map_capacity};
 ghost use Rattle.route_table.specs.Rows.{with_change, with_in_force};
 
@@ -190,6 +191,27 @@ impl<A: Allocator> RouteTable<A> {
     {
         put_in_force(&mut self.rows, self.changed.as_slice());
         self.changed.clear();
+    }
+
+    /// Publishes some: the first `count` of the changed rows are in force from now on, and all of them
+    /// where there are no more. It takes no memory, and time by the number of changed rows.
+    pub fn mark_some_published(&mut self, count: usize)
+        ensures table { (self.new).table ≡ with_some_published count (self.old).table }
+        ensures room { (self.new).room ≡ (self.old).room }
+    {
+        let count = count.min(self.changed.len());
+        put_in_force(&mut self.rows, &self.changed.as_slice()[..count]);
+        self.changed.remove_first(count);
+    }
+
+    /// Forgets the prefix: the control row and the published one go, where they are there. Their room is
+    /// free for another prefix.
+    pub fn forget(&mut self, prefix: Prefix)
+        ensures table { (self.new).table ≡ without_rows prefix (self.old).table }
+        ensures room { (self.old).room ≤ (self.new).room }
+    {
+        self.rows.remove(prefix);
+        self.changed.remove(prefix);
     }
 }
 

@@ -2,13 +2,18 @@
 use Rattle.std.proofs.Common.{refl, sym, ap, ◌∙◌, arith, ◌≡◌, ℕ, zero, suc, ◌<◌, ◌≤◌, Bool, true, false, cond, if◌then◌else◌, List, [], ◌∷◌, map, length, get_or, Some, None, unwrap_or, eq-eqb}
 use Rattle.network_model.proofs.Common.{AllByRecursion, by_order, eq_by_cmp, Prefix, prefix_cmp, Machine, reaction, opening_machine, Router, machine_of, neighbours, opening_router, chosen_rows, entry_of, session_at, reactions, router_noticing, router_meeting, router_publishing, router_releasing, with_rows, map-put, sorted-map, sorted-put}
 use Rattle.std.specs.FinMap.{find as row_of, put, is_sorted}
+use Rattle.std.specs.List.{filter}
 use Rattle.std.specs.declared.cmp.Ordering.{Ordering}
 use Rattle.std.specs.declared.cmp.Ordering.TheVariants.{Less, Equal, Greater}
 use Rattle.network_model.specs.declared.machine.Event.{Event}
 use Rattle.network_model.specs.declared.network.Port.{Port}
 use Rattle.network_model.specs.declared.route.Entry.TheVariants.{Local, Via}
+use Rattle.route_table.specs.Place.{without}
+use Rattle.route_table.proofs.PrefixPlaces.{sorted-without}
+use Rattle.route_table.proofs.Forgotten.{map-without}
 use Rattle.router_core.specs.Parts.{HasPorts, IsRouter, ups, port_ups, ups_after}
-use Rattle.router_core.proofs.Ports.{ups-reaction, ups-neighbours}
+use Rattle.router_core.specs.Alone.{router_forgetting}
+use Rattle.router_core.proofs.Ports.{ups-reaction, ups-neighbours, length-ups}
 use Rattle.router_core.proofs.ControlRows.{with_rows-rows_by}
 use Rattle.router_core.proofs.Meetings.{reacted, chosen}
 use Rattle.router_core.proofs.Opening.{opening_machines, local_rows}
@@ -118,3 +123,25 @@ kept-publishing r kept = record { few = kept.few; sorted = kept.sorted; same_por
 
 pub kept-releasing : (r : Router) → IsRouter r → IsRouter (router_releasing r)
 kept-releasing r kept = record { few = kept.few; sorted = kept.sorted; same_ports = kept.same_ports; rows = kept.rows }
+
+-- ---- a prefix that is forgotten
+
+all-filter : {A : Type 0} (P : A → Type 0) (test : A → Bool) (xs : List A) → AllByRecursion P xs → AllByRecursion P (filter test xs)
+all-filter P test [] all = tt
+all-filter P test (x ∷ xs) all = by_test (test x) (all-filter P test xs all.1)
+  where
+    by_test : (b : Bool) → AllByRecursion P (filter test xs) → AllByRecursion P (cond b (x ∷ filter test xs) (filter test xs))
+    by_test true rest = (all.0, rest)
+    by_test false rest = rest
+
+pub kept-forgetting : (p : Prefix) (r : Router) → IsRouter r → IsRouter (router_forgetting p r)
+kept-forgetting p r kept = record {
+  few = kept.few;
+  sorted = sorted-without r.machines p kept.sorted;
+  same_ports = all-filter (HasPorts r.ports) _ r.machines kept.same_ports;
+  rows = ap (without p) kept.rows ∙ sym (map-without (entry_of r.ports) p r.machines);
+}
+
+-- the machine that is found has as many ports as the router
+pub length-found : (r : Router) (p : Prefix) (m : Machine) → IsRouter r → row_of prefix_cmp p r.machines ≡ Some m → length m.ports ≡ length r.ports
+length-found r p m kept found = length-ups m.ports r.ports (ap (λ o. ups (unwrap_or o (opening_machine None (neighbours r.ports))).ports) (sym found) ∙ machine_of-ports r p kept)

@@ -1,5 +1,7 @@
 -- The machines of a router have its ports, up and down as the notices said.
-use Rattle.std.proofs.Common.{refl, sym, ap, ◌∙◌, ◌≡◌, ℕ, Bool, true, false, List, [], ◌∷◌, length, Option, Some, None, slice_get, option_map}
+use Rattle.std.proofs.Common.{refl, sym, ap, ◌∙◌, arith, ◌≡◌, ℕ, ◌+◌, ◌<◌, Bool, true, false, List, [], ◌∷◌, length, drop, Option, Some, None, slice_get, option_map}
+use Rattle.std.proofs.lemmas.List.{drop_more}
+use Rattle.std.proofs.lemmas.Option.{slice_get_within, get_or_from_slice_get, slice_get-get_or}
 use Rattle.network_model.proofs.Common.{option_map_or, length-map, slice_get-map, Machine, changed_at, records_after, reaction, neighbours, map-changed_at, changed_at-map, reaction-keeps}
 use Rattle.network_model.specs.declared.machine.Event.{Event}
 use Rattle.network_model.specs.declared.machine.Event.TheVariants.{Message, Up, Down, Cost, Attached, Detached}
@@ -47,3 +49,14 @@ up_at-ups ns ports q same =
     option_map_or-map (λ n. n.up) (slice_get ns q)
     ∙ ap (λ o. option_map_or (λ b. b) o false) (sym (slice_get-map (λ n. n.up) ns q) ∙ ap (λ bs. slice_get bs q) same ∙ slice_get-map (λ p. p.up) ports q)
     ∙ sym (option_map_or-map (λ p. p.up) (slice_get ports q))
+
+-- ---- a walk along the ports
+
+-- the neighbour at a port is the first of those from there on
+pub drop_at : (ns : List Neighbour) (i : ℕ) (n : Neighbour) → slice_get ns i ≡ Some n → drop i ns ≡ n ∷ drop (i + 1) ns
+drop_at ns i n read = drop_more ns i n (slice_get_within ns i n read) ∙ ap (λ x. x ∷ drop (i + 1) ns) (get_or_from_slice_get ns i n n read)
+
+-- there is one at each port
+pub none_at : (ns : List Neighbour) (i : ℕ) → i < length ns → slice_get ns i ≡ None → ⊥
+none_at [] i within none = omega arith
+none_at (n ∷ ns) i within none = let there = slice_get-get_or (n ∷ ns) i n within in cc

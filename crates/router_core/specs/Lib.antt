@@ -1,3 +1,4 @@
+pub mod Alone
 pub mod Effects
 pub mod Parts
 pub mod Router

@@ -3,6 +3,7 @@
 #![tactic(auto)]
 
 mod effects;
+mod knowledge;
 mod router;
 
 pub use network_model::{Cost, Entry, Held, Item, Message, NoMemory, Port, Prefix};

@@ -1,6 +1,6 @@
 //! The router.
 
-ghost use Rattle.std.specs.Prelude.{◌≡◌, ◌+◌, ◌^◌, ◌<◌, ◌≤◌, ◌↔◌, map, length, true, Some, None, IsTrue, IfOk, IfSome, OnOk, OnErr, OnSome, IfNone, slice_get, slice_set, is_none, option_map};
+ghost use Rattle.std.specs.Prelude.{◌≡◌, ◌+◌, ◌^◌, ◌<◌, ◌≤◌, ◌↔◌, map, length, take, true, Some, None, IsTrue, IfOk, IfSome, OnOk, OnErr, OnSome, IfNone, slice_get, slice_set, is_none, option_map};
 ghost use Rattle.std.specs.List.{list_all};
 ghost use Rattle.std.specs.FinMap.{find as row_of, put, is_sorted};
 ghost use Rattle.std.specs.Option.{option_copied};
@@ -11,11 +11,13 @@ ghost use Rattle.network_model.specs.World as world;
 ghost use Rattle.network_model.specs.Step as step;
 ghost use Rattle.network_model.specs.Network.{most_ports};
 ghost use Rattle.dual_machine.specs.Event.{port_of, IsKnown, IsTimely};
-ghost use Rattle.route_table.specs.Place.{IsPlace};
+ghost use Rattle.route_table.specs.Place.{IsPlace, without};
+ghost use Rattle.router_core.specs.Alone.{router_publishing_some, may_forget, router_forgetting};
 ghost use Rattle.router_core.specs.Parts.{ups_after, port_ups, IsRouter};
 ghost use Rattle.router_core.specs.Router.{CanTake, is_port_up};
 
 use crate::effects::{Effects, meet_all};
+use crate::knowledge::knows_nothing;
 use dual_machine::{Machine, Sends};
 use network_model::{
     Cost, Entry, Event, Held, Item, NoMemory, Port, PortInfo, Prefix, SmallAllocator,
@@ -95,6 +97,16 @@ fn put_machine<A: SmallAllocator>(
         Err(place) => machines.insert(place, (prefix, machine))?,
     }
     Ok(())
+}
+
+// Removes the machine of a prefix, where there is one.
+fn remove_machine<A: SmallAllocator>(machines: &mut Vec<(Prefix, Machine<A>), A>, prefix: Prefix)
+    requires { is_sorted prefix_cmp machines.old.items ≡ true }
+    ensures { machines.new.items ≡ without prefix machines.old.items }
+{
+    if let Ok(place) = place_of(machines, prefix) {
+        machines.remove(place);
+    }
 }
 
 impl<A: SmallAllocator> Router<A> {
@@ -207,6 +219,20 @@ impl<A: SmallAllocator> Router<A> {
         Ok(rows)
     }
 
+    /// The rows that `publish_some` would put in force: the first `count` of those of `patch_rows`, and
+    /// all of them where there are no more.
+    pub fn first_patch_rows(
+        &self,
+        alloc: A,
+        count: usize,
+    ) -> Result<Vec<(Prefix, Entry), A>, NoMemory>
+        ensures { IfOk result (λ rows. rows.items
+            ≡ take count (step.changed_rows (self.now).table)) }
+    {
+        let rows = self.effects.table.changed().take(count).collect(alloc)?;
+        Ok(rows)
+    }
+
     /// Publishes: the chosen rows are in force, and all that is held is ripe.
     pub fn mark_published(&mut self)
         requires { (self.old).generation + 1 < 2 ^ 64 }
@@ -215,6 +241,15 @@ impl<A: SmallAllocator> Router<A> {
         self.effects.table.mark_published();
         self.effects.gate.ripen();
         self.generation += 1;
+    }
+
+    /// Publishes some: the first `count` of the changed rows, in the order of the prefixes, are in force,
+    /// and all of them where there are no more. What is held is no riper for that, and the generation
+    /// stays. It takes no memory.
+    pub fn publish_some(&mut self, count: usize)
+        ensures { self.new ≡ router_publishing_some count self.old }
+    {
+        self.effects.table.mark_some_published(count);
     }
 
     /// Takes the oldest message, where it is ripe.
@@ -242,6 +277,28 @@ impl<A: SmallAllocator> Router<A> {
             Ok(place) => Some(&self.machines[place].1),
             Err(_) => None,
         }
+    }
+
+    /// Whether the router can forget the prefix and lose nothing: it has heard of it, its machine knows
+    /// no more than one that has heard nothing, and the prefix's row, Unreachable, is in force. It takes
+    /// time by the number of ports.
+    pub fn may_forget(&self, prefix: Prefix) -> bool
+        ensures { result ≡ may_forget prefix self.now }
+    {
+        let Some(machine) = self.machine(prefix) else {
+            return false;
+        };
+        knows_nothing(machine, self.ports.len())
+            && self.effects.table.published(prefix) == Some(Entry::Unreachable)
+    }
+
+    /// Forgets the prefix: its machine and its rows go, whatever they say. `may_forget` says when nothing
+    /// is lost by it. What the router holds stays. Once it hears of the prefix again, it opens a machine.
+    pub fn forget(&mut self, prefix: Prefix)
+        ensures { self.new ≡ router_forgetting prefix self.old }
+    {
+        remove_machine(&mut self.machines, prefix);
+        self.effects.table.forget(prefix);
     }
 
     /// Whether the router may take the item from this port: the port is known, and the item is the

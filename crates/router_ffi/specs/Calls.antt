@@ -1,57 +1,63 @@
 -- What the calls answer, by the router that a handle holds, and what they leave.
-use Rattle.std.specs.Prelude.{◌≡◌, ◌≢◌, ℕ, ◌+◌, List, length, if◌then◌else◌, is_some, Option, Some, None, option_map, Result, Ok, Err}
+use Rattle.std.specs.Prelude.{◌≡◌, ◌≢◌, ℕ, List, length, if◌then◌else◌, is_some, Option, Some, None, option_map, Result, Ok, Err}
 use Rattle.ipv4_prefix.specs.Prefix.{Prefix}
-use Rattle.network_model.specs.Step.{changed_rows, ripe_front}
+use Rattle.network_model.specs.Step.{ripe_front}
 use Rattle.network_model.specs.World.{Router}
 use Rattle.c_interface.specs.Faults.{first_of, IsStatusBy}
 use Rattle.c_interface.specs.Rows.{prefix_fault}
 use Rattle.c_interface.specs.declared.fault.Fault.{Fault}
 use Rattle.c_interface.specs.declared.fault.Fault.TheVariants.{Empty, NothingRipe, UnknownPrefix}
 use Rattle.c_interface.specs.declared.row.Row.{Row}
-use Rattle.single_router.specs.Inputs.{told_fault, router_after}
-use Rattle.single_router.specs.Publishing.{IsWrittenOver}
-use Rattle.single_router.specs.States.{shown_state}
+use Rattle.single_router.specs.Bounded.{BoundedRouter, bounded_fault, with_router}
+use Rattle.single_router.specs.Inputs.{router_after}
+use Rattle.single_router.specs.Publishing.{IsWrittenOver, has_more, rows_given, router_given, forget_fault}
+use Rattle.single_router.specs.States.{flag, shown_state}
 use Rattle.single_router.specs.declared.input.Input.{Input}
 
 -- what a test of the router finds; that the handle holds none comes first
-abbrev pub held_fault : (Router → Option Fault) → Option Router → Option Fault
+abbrev pub held_fault : (BoundedRouter → Option Fault) → Option BoundedRouter → Option Fault
 held_fault test None = Some Empty
-held_fault test (Some r) = test r
+held_fault test (Some b) = test b
 
 -- why a router is not told what was read; the faults of reading come first
-abbrev pub tell_fault : Result Input Fault → Option Router → Option Fault
+abbrev pub tell_fault : Result Input Fault → Option BoundedRouter → Option Fault
 tell_fault (Err f) held = Some f
-tell_fault (Ok input) held = held_fault (told_fault input) held
+tell_fault (Ok input) held = held_fault (bounded_fault input) held
 
 -- what a handle holds once its router was told
-abbrev pub told : Result Input Fault → Option Router → Option Router
+abbrev pub told : Result Input Fault → Option BoundedRouter → Option BoundedRouter
 told (Err f) held = held
-told (Ok input) held = option_map (router_after input) held
+told (Ok input) held = option_map (with_router (router_after input)) held
 
 -- a router is told what was read: the status, and what its handle holds before and after
-pub record IsTold (read : Result Input Fault) (old new : Option Router) (status : ℕ) : Type 0 where
+pub record IsTold (read : Result Input Fault) (old new : Option BoundedRouter) (status : ℕ) : Type 0 where
   pub answers : IsStatusBy (tell_fault read old) status
   pub done : status ≡ 0 → new ≡ told read old
   pub refused : status ≢ 0 → new ≡ old
 
 -- why a router releases nothing
-abbrev pub release_fault : Router → Option Fault
-release_fault r = if is_some (ripe_front r) then None else Some NothingRipe
+abbrev pub release_fault : BoundedRouter → Option Fault
+release_fault b = if is_some (ripe_front b.router) then None else Some NothingRipe
 
 -- the prefix of these numbers, where they are one
 abbrev pub as_prefix : ℕ → ℕ → Prefix
 as_prefix addr len = record { addr = addr; len = len }
 
 -- why a router shows nothing of a prefix; the faults of its numbers come first
-abbrev pub state_fault : ℕ → ℕ → Option Router → Option Fault
-state_fault addr len held = first_of (prefix_fault addr len) (held_fault (λ r. if is_some (shown_state (as_prefix addr len) r) then None else Some UnknownPrefix) held)
+abbrev pub state_fault : ℕ → ℕ → Option BoundedRouter → Option Fault
+state_fault addr len held = first_of (prefix_fault addr len) (held_fault (λ b. if is_some (shown_state (as_prefix addr len) b.router) then None else Some UnknownPrefix) held)
+
+-- why a router does not forget a prefix; the faults of its numbers come first
+abbrev pub forget_call_fault : ℕ → ℕ → Option BoundedRouter → Option Fault
+forget_call_fault addr len held = first_of (prefix_fault addr len) (held_fault (λ b. forget_fault (as_prefix addr len) b.router) held)
 
 -- a publication of a router as a program is given it: the rows that it puts in force, over those that were there, how many
--- these are, and how often the router has then published
-pub record IsPublished (r : Router) (old new : List Row) (written generation : ℕ) : Type 0 where
-  pub rows : IsWrittenOver (changed_rows r.table) old new
-  pub count : written ≡ length (changed_rows r.table)
-  pub number : generation ≡ r.generation + 1
+-- these are, whether there are more, and how often the router has then published
+pub record IsPublished (r : Router) (old new : List Row) (written : ℕ) (more : ℕ) (generation : ℕ) : Type 0 where
+  pub rows : IsWrittenOver (rows_given (length old) r) old new
+  pub count : written ≡ length (rows_given (length old) r)
+  pub more_is : more ≡ flag (has_more (length old) r)
+  pub number : generation ≡ (router_given (length old) r).generation
 
 -- the rows that a router has chosen, as a program is given them, and how many these are
 pub record IsListed (r : Router) (old new : List Row) (written : ℕ) : Type 0 where

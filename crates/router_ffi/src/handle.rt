@@ -1,7 +1,7 @@
 //! What C holds of a router. No other module sees its pointer.
 
 ghost use Rattle.std.specs.Prelude.{◌≡◌, MatchOption, None, Some};
-ghost use Rattle.network_model.specs.World.{Router as RouterState};
+ghost use Rattle.single_router.specs.Bounded.{BoundedRouter};
 
 use single_router::SingleRouter;
 use std::alloc::Global;
@@ -16,7 +16,7 @@ pub struct RouterHandle {
     router: *mut u8,
     holds: bool,
     alloc: Global,
-    ghost value: { RouterState },
+    ghost value: { BoundedRouter },
 }
 
 impl Model for RouterHandle {

@@ -9,14 +9,15 @@ ghost use Rattle.network_model.specs.Step as step;
 ghost use Rattle.c_interface.specs.Faults.{fault_number, status_by, IsStatusBy};
 ghost use Rattle.single_router.specs.Frames.{frame_of};
 ghost use Rattle.single_router.specs.Inputs as inputs;
-ghost use Rattle.single_router.specs.Openings.{make_fault, made_router};
-ghost use Rattle.single_router.specs.Publishing.{publish_fault, room_fault};
-ghost use Rattle.single_router.specs.States.{counts_of, shown_state};
+ghost use Rattle.router_core.specs.Alone.{router_forgetting};
+ghost use Rattle.single_router.specs.Bounded.{bounded_make_fault, bounded_router, with_router};
+ghost use Rattle.single_router.specs.Publishing.{publish_fault, router_given, room_fault};
+ghost use Rattle.single_router.specs.States.{counts_of, flag, shown_state};
 ghost use Rattle.router_ffi.specs.Handles.{handle_router};
-ghost use Rattle.router_ffi.specs.Calls.{held_fault, tell_fault, told, release_fault, state_fault, as_prefix, IsTold, IsPublished, IsListed};
+ghost use Rattle.router_ffi.specs.Calls.{held_fault, tell_fault, told, release_fault, state_fault, forget_call_fault, as_prefix, IsTold, IsPublished, IsListed};
 
 use c_interface::{Fault, Row, read_prefix, status};
-use single_router::{Attachment, Counts, Frame, Input, SingleRouter, State};
+use single_router::{Attachment, Counts, Frame, Input, Published, SingleRouter, State};
 use std::alloc::Global;
 
 mod handle;
@@ -28,34 +29,37 @@ fn make(
     alloc: Global,
     costs: &[u32],
     attachments: &[Attachment],
+    most_prefixes: usize,
     router: &mut RouterHandle,
 ) -> Result<(), Fault>
-    ensures ok { OnOk result (IsStatusBy (make_fault costs.now attachments.now) 0) }
+    ensures ok { OnOk result (IsStatusBy (bounded_make_fault most_prefixes costs.now attachments.now) 0) }
     ensures made { OnOk result (handle_router router.new
-        ≡ Some (made_router costs.now attachments.now)) }
+        ≡ Some (bounded_router most_prefixes costs.now attachments.now)) }
     ensures unchanged { OnErr result (handle_router router.new ≡ handle_router router.old) }
     ensures err { IfErr result (λ f.
-        IsStatusBy (make_fault costs.now attachments.now) (fault_number f)) }
+        IsStatusBy (bounded_make_fault most_prefixes costs.now attachments.now) (fault_number f)) }
 {
-    router.put(Box::new(alloc, SingleRouter::new(alloc, costs, attachments)?)?);
+    let made = SingleRouter::new(alloc, costs, attachments, most_prefixes)?;
+    router.put(Box::new(alloc, made)?);
     Ok(())
 }
 
-/// Makes a router with a port for each of these costs and with these attachments, and puts it into the
-/// handle; the router that the handle held is freed.
+/// Makes a router with a port for each of these costs and with these attachments, which may know so many
+/// prefixes, and puts it into the handle; the router that the handle held is freed.
 #[unsafe(no_mangle)]
 pub extern "C" fn tuhvondi_router_new(
     alloc: Global,
     costs: &[u32],
     attachments: &[Attachment],
+    most_prefixes: usize,
     router: &mut RouterHandle,
 ) -> u32
-    ensures status { IsStatusBy (make_fault costs.now attachments.now) result }
+    ensures status { IsStatusBy (bounded_make_fault most_prefixes costs.now attachments.now) result }
     ensures done { result ≡ 0 → handle_router router.new
-        ≡ Some (made_router costs.now attachments.now) }
+        ≡ Some (bounded_router most_prefixes costs.now attachments.now) }
     ensures refused { result ≢ 0 → handle_router router.new ≡ handle_router router.old }
 {
-    status(make(alloc, costs, attachments, router))
+    status(make(alloc, costs, attachments, most_prefixes, router))
 }
 
 // Tells the router of a handle what was read.
@@ -176,7 +180,7 @@ pub extern "C" fn tuhvondi_router_counts(
 ) -> u32
     ensures status { result ≡ status_by (held_fault (λ _. None) (handle_router router.old)) }
     ensures done { result ≡ 0 →
-        option_map counts_of (handle_router router.old) ≡ Some counts.new }
+        option_map (λ b. counts_of b.router) (handle_router router.old) ≡ Some counts.new }
     ensures refused { result ≢ 0 → counts.new ≡ counts.old }
     ensures router { handle_router router.new ≡ handle_router router.old }
 {
@@ -188,22 +192,22 @@ pub extern "C" fn tuhvondi_router_counts(
     0
 }
 
-// Publishes the router of a handle: the number of the rows, and how often it has published.
+// Publishes the router of a handle: what it gave, and how often it has published.
 fn publish(
     alloc: Global,
     router: &mut RouterHandle,
     rows: &mut [Row],
-) -> Result<(usize, u64), Fault>
-    ensures ok { IfOk result (λ _. IsStatusBy
-        (held_fault (publish_fault (length rows.old)) (handle_router router.old)) 0) }
-    ensures rows { IfOk result (λ p. IfSome (handle_router router.old) (λ r.
-        IsPublished r rows.old rows.new p.0 p.1)) }
-    ensures published { OnOk result (handle_router router.new
-        ≡ option_map step.router_publishing (handle_router router.old)) }
+) -> Result<(Published, u64), Fault>
+    ensures ok { IfOk result (λ _. IsStatusBy (held_fault
+        (λ b. publish_fault (length rows.old) b.router) (handle_router router.old)) 0) }
+    ensures rows { IfOk result (λ p. IfSome (handle_router router.old) (λ b. IsPublished
+        b.router rows.old rows.new (p.0).count (flag (p.0).more) p.1)) }
+    ensures published { OnOk result (handle_router router.new ≡ option_map
+        (with_router (router_given (length rows.old))) (handle_router router.old)) }
     ensures unchanged { OnErr result ((handle_router router.new ≡ handle_router router.old)
         × (rows.new ≡ rows.old)) }
-    ensures err { IfErr result (λ f. IsStatusBy
-        (held_fault (publish_fault (length rows.old)) (handle_router router.old))
+    ensures err { IfErr result (λ f. IsStatusBy (held_fault
+        (λ b. publish_fault (length rows.old) b.router) (handle_router router.old))
         (fault_number f)) }
 {
     let Some(mut held) = router.take(alloc) else {
@@ -215,29 +219,31 @@ fn publish(
     Ok((outcome?, generation))
 }
 
-/// Publishes: writes the rows that are in force from now on and were not, how many they are, and how
-/// often the router has published.
+/// Publishes: writes the rows that are in force from now on and were not, how many they are, whether there
+/// are more, for which there was no room (1, else 0), and how often the router has published.
 #[unsafe(no_mangle)]
 pub extern "C" fn tuhvondi_router_publish(
     alloc: Global,
     router: &mut RouterHandle,
     rows: &mut [Row],
     written: &mut usize,
+    more: &mut u8,
     generation: &mut u64,
 ) -> u32
-    ensures status { IsStatusBy
-        (held_fault (publish_fault (length rows.old)) (handle_router router.old)) result }
-    ensures done { result ≡ 0 → IfSome (handle_router router.old) (λ r.
-        IsPublished r rows.old rows.new written.new generation.new) }
-    ensures published { result ≡ 0 → handle_router router.new
-        ≡ option_map step.router_publishing (handle_router router.old) }
+    ensures status { IsStatusBy (held_fault
+        (λ b. publish_fault (length rows.old) b.router) (handle_router router.old)) result }
+    ensures done { result ≡ 0 → IfSome (handle_router router.old) (λ b. IsPublished
+        b.router rows.old rows.new written.new more.new generation.new) }
+    ensures published { result ≡ 0 → handle_router router.new ≡ option_map
+        (with_router (router_given (length rows.old))) (handle_router router.old) }
     ensures refused { result ≢ 0 → handle_router router.new ≡ handle_router router.old }
-    ensures nothing { result ≢ 0 → (rows.new ≡ rows.old)
-        × ((written.new ≡ written.old) × (generation.new ≡ generation.old)) }
+    ensures nothing { result ≢ 0 → (rows.new ≡ rows.old) × ((written.new ≡ written.old)
+        × ((more.new ≡ more.old) × (generation.new ≡ generation.old))) }
 {
     match publish(alloc, router, rows) {
-        Ok((count, number)) => {
-            *written = count;
+        Ok((published, number)) => {
+            *written = published.count;
+            *more = u8::from(published.more);
             *generation = number;
             0
         }
@@ -253,10 +259,10 @@ pub extern "C" fn tuhvondi_router_release(
     message: &mut Frame,
 ) -> u32
     ensures status { result ≡ status_by (held_fault release_fault (handle_router router.old)) }
-    ensures done { result ≡ 0 → IfSome (handle_router router.old) (λ r.
-        option_map frame_of (step.ripe_front r) ≡ Some message.new) }
+    ensures done { result ≡ 0 → IfSome (handle_router router.old) (λ b.
+        option_map frame_of (step.ripe_front b.router) ≡ Some message.new) }
     ensures released { result ≡ 0 → handle_router router.new
-        ≡ option_map step.router_releasing (handle_router router.old) }
+        ≡ option_map (with_router step.router_releasing) (handle_router router.old) }
     ensures refused { result ≢ 0 → (handle_router router.new ≡ handle_router router.old)
         × (message.new ≡ message.old) }
 {
@@ -284,8 +290,8 @@ pub extern "C" fn tuhvondi_router_state(
     state: &mut State,
 ) -> u32
     ensures status { result ≡ status_by (state_fault addr len (handle_router router.old)) }
-    ensures done { result ≡ 0 → IfSome (handle_router router.old) (λ r.
-        shown_state (as_prefix addr len) r ≡ Some state.new) }
+    ensures done { result ≡ 0 → IfSome (handle_router router.old) (λ b.
+        shown_state (as_prefix addr len) b.router ≡ Some state.new) }
     ensures refused { result ≢ 0 → state.new ≡ state.old }
     ensures router { handle_router router.new ≡ handle_router router.old }
 {
@@ -315,10 +321,10 @@ pub extern "C" fn tuhvondi_router_rows(
     rows: &mut [Row],
     written: &mut usize,
 ) -> u32
-    ensures status { IsStatusBy (held_fault (λ r.
-        room_fault (length (r.table).control) (length rows.old)) (handle_router router.old)) result }
-    ensures done { result ≡ 0 → IfSome (handle_router router.old) (λ r.
-        IsListed r rows.old rows.new written.new) }
+    ensures status { IsStatusBy (held_fault (λ b.
+        room_fault (length ((b.router).table).control) (length rows.old)) (handle_router router.old)) result }
+    ensures done { result ≡ 0 → IfSome (handle_router router.old) (λ b.
+        IsListed b.router rows.old rows.new written.new) }
     ensures refused { result ≢ 0 → (rows.new ≡ rows.old) × (written.new ≡ written.old) }
     ensures router { handle_router router.new ≡ handle_router router.old }
 {
@@ -334,6 +340,31 @@ pub extern "C" fn tuhvondi_router_rows(
         }
         Err(fault) => fault.number(),
     }
+}
+
+/// Forgets a prefix of which the router knows nothing any more.
+#[unsafe(no_mangle)]
+pub extern "C" fn tuhvondi_router_forget(
+    alloc: Global,
+    router: &mut RouterHandle,
+    addr: u32,
+    len: u8,
+) -> u32
+    ensures status { result ≡ status_by (forget_call_fault addr len (handle_router router.old)) }
+    ensures done { result ≡ 0 → handle_router router.new ≡ option_map
+        (with_router (router_forgetting (as_prefix addr len))) (handle_router router.old) }
+    ensures refused { result ≢ 0 → handle_router router.new ≡ handle_router router.old }
+{
+    let prefix = match read_prefix(addr, len) {
+        Ok(prefix) => prefix,
+        Err(fault) => return fault.number(),
+    };
+    let Some(mut held) = router.take(alloc) else {
+        return Fault::Empty.number();
+    };
+    let outcome = held.forget(prefix);
+    router.put(held);
+    status(outcome)
 }
 
 /// Frees the router, if there is one. The handle then holds none.

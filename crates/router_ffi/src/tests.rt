@@ -3,9 +3,10 @@
 use crate::handle::RouterHandle;
 use crate::{
     tuhvondi_router_attached, tuhvondi_router_counts, tuhvondi_router_detached,
-    tuhvondi_router_free, tuhvondi_router_link_cost, tuhvondi_router_link_down,
-    tuhvondi_router_link_up, tuhvondi_router_message, tuhvondi_router_new, tuhvondi_router_publish,
-    tuhvondi_router_release, tuhvondi_router_rows, tuhvondi_router_state,
+    tuhvondi_router_forget, tuhvondi_router_free, tuhvondi_router_link_cost,
+    tuhvondi_router_link_down, tuhvondi_router_link_up, tuhvondi_router_message,
+    tuhvondi_router_new, tuhvondi_router_publish, tuhvondi_router_release, tuhvondi_router_rows,
+    tuhvondi_router_state,
 };
 use c_interface::{Fault, Row};
 use single_router::{Attachment, Counts, Frame, State};
@@ -101,22 +102,46 @@ fn state(alloc: Global, router: &mut RouterHandle) -> Result<State, u32> {
     }
 }
 
-// The first row of a publication, or the number of a fault.
+// How many rows a publication gives, the first of them, and its number; or the number of a fault.
 fn publish(alloc: Global, router: &mut RouterHandle) -> Result<(usize, Row, u64), u32> {
     let mut rows = [NO_ROW; 2];
     let mut written = 9;
+    let mut more = 9;
     let mut generation = 9;
-    match tuhvondi_router_publish(alloc, router, &mut rows, &mut written, &mut generation) {
+    match tuhvondi_router_publish(
+        alloc,
+        router,
+        &mut rows,
+        &mut written,
+        &mut more,
+        &mut generation,
+    ) {
         0 => Ok((written, rows[0], generation)),
         fault => Err(fault),
     }
+}
+
+// A router with one port, whose link is up, that may know so many prefixes.
+fn one_port(alloc: Global, most: usize) -> RouterHandle {
+    let mut router = RouterHandle::none(alloc);
+    tuhvondi_router_new(alloc, &[5], &[], most, &mut router);
+    tuhvondi_router_link_up(alloc, &mut router, 0, 1, 5);
+    router
+}
+
+// The status of a message about 10.0.0.0/8 from port 0.
+fn message(alloc: Global, router: &mut RouterHandle, kind: u8, value: u32) -> u32 {
+    tuhvondi_router_message(alloc, router, &frame(kind, 0, value))
 }
 
 #[test]
 fn a_route_is_learnt_published_and_told(rt: HostRuntime) {
     let alloc = rt.alloc();
     let mut router = RouterHandle::none(alloc);
-    assert_eq!(rt; tuhvondi_router_new(alloc, &[5, 10], &[], &mut router), 0);
+    assert_eq!(rt;
+        tuhvondi_router_new(alloc, &[5, 10], &[], 4, &mut router),
+        0
+    );
     assert_eq!(rt; tuhvondi_router_link_up(alloc, &mut router, 0, 1, 5), 0);
     assert_eq!(rt; state(alloc, &mut router), Err(28));
     // The neighbour at port 0 has a way of 7, so there is one of 12.
@@ -148,7 +173,10 @@ fn a_route_is_learnt_published_and_told(rt: HostRuntime) {
 fn a_router_asks_where_no_neighbour_is_feasible(rt: HostRuntime) {
     let alloc = rt.alloc();
     let mut router = RouterHandle::none(alloc);
-    assert_eq!(rt; tuhvondi_router_new(alloc, &[5, 10], &[], &mut router), 0);
+    assert_eq!(rt;
+        tuhvondi_router_new(alloc, &[5, 10], &[], 4, &mut router),
+        0
+    );
     assert_eq!(rt; tuhvondi_router_link_up(alloc, &mut router, 0, 1, 5), 0);
     assert_eq!(rt;
         tuhvondi_router_message(alloc, &mut router, &frame(UPDATE, 0, 7)),
@@ -178,11 +206,72 @@ fn a_router_asks_where_no_neighbour_is_feasible(rt: HostRuntime) {
 }
 
 #[test]
+fn rows_are_published_as_many_as_there_is_room_for(rt: HostRuntime) {
+    let alloc = rt.alloc();
+    let mut router = one_port(alloc, 4);
+    tuhvondi_router_attached(alloc, &mut router, 0xc000_0200, 24, 1);
+    tuhvondi_router_attached(alloc, &mut router, 0x0a00_0000, 8, 1);
+    let mut rows = [NO_ROW; 1];
+    let mut written = 9;
+    let mut more = 9;
+    let mut generation = 9;
+    let first = tuhvondi_router_publish(
+        alloc,
+        &mut router,
+        &mut rows,
+        &mut written,
+        &mut more,
+        &mut generation,
+    );
+    assert!(rt; first == 0 && written == 1 && more == 1 && generation == 0);
+    assert_eq!(rt; rows[0].addr, 0x0a00_0000);
+    // The first row is in force, and nothing may leave before the second is.
+    assert_eq!(rt; counts(alloc, &mut router).changed, 1);
+    assert_eq!(rt; release(alloc, &mut router), Err(18));
+    let second = publish(alloc, &mut router);
+    assert!(rt; second.is_ok_and(|p| p.0 == 1 && p.1.addr == 0xc000_0200 && p.2 == 1));
+    assert!(rt; release(alloc, &mut router).is_ok());
+}
+
+#[test]
+fn a_prefix_of_which_nothing_is_known_is_forgotten(rt: HostRuntime) {
+    let alloc = rt.alloc();
+    let mut router = one_port(alloc, 1);
+    assert_eq!(rt; message(alloc, &mut router, UPDATE, 7), 0);
+    assert!(rt; publish(alloc, &mut router).is_ok());
+    assert_eq!(rt;
+        tuhvondi_router_forget(alloc, &mut router, 0x0a00_0000, 8),
+        44
+    );
+    // The neighbour has no way any more, and answers so. It asks nothing twice, and answers once.
+    assert_eq!(rt; message(alloc, &mut router, QUERY, u32::MAX), 0);
+    assert_eq!(rt; message(alloc, &mut router, QUERY, u32::MAX), 39);
+    assert_eq!(rt; message(alloc, &mut router, REPLY, u32::MAX), 0);
+    assert_eq!(rt; message(alloc, &mut router, REPLY, u32::MAX), 38);
+    assert_eq!(rt;
+        tuhvondi_router_forget(alloc, &mut router, 0x0a00_0000, 8),
+        44
+    );
+    assert!(rt; publish(alloc, &mut router).is_ok());
+    // There is room for one prefix: for another once it is forgotten.
+    assert_eq!(rt; tuhvondi_router_attached(alloc, &mut router, 0, 0, 1), 27);
+    assert_eq!(rt;
+        tuhvondi_router_forget(alloc, &mut router, 0x0a00_0000, 8),
+        0
+    );
+    assert_eq!(rt;
+        tuhvondi_router_forget(alloc, &mut router, 0x0a00_0000, 8),
+        28
+    );
+    assert_eq!(rt; tuhvondi_router_attached(alloc, &mut router, 0, 0, 1), 0);
+}
+
+#[test]
 fn an_attachment_is_published_from_the_opening_on(rt: HostRuntime) {
     let alloc = rt.alloc();
     let mut router = RouterHandle::none(alloc);
     let ours = [attachment(0x0a00_0000, 8, 3)];
-    assert_eq!(rt; tuhvondi_router_new(alloc, &[5], &ours, &mut router), 0);
+    assert_eq!(rt; tuhvondi_router_new(alloc, &[5], &ours, 4, &mut router), 0);
     let shown = state(alloc, &mut router);
     assert!(rt; shown.is_ok_and(|s| s.attached == 3 && s.rd == 3 && s.published.kind == 0));
     assert_eq!(rt; publish(alloc, &mut router), Err(17));
@@ -213,17 +302,23 @@ fn each_fault_has_its_number(rt: HostRuntime) {
     let alloc = rt.alloc();
     let mut router = RouterHandle::none(alloc);
     let bad = [attachment(0x0a00_0000, 33, 0), attachment(1, 8, 1)];
-    assert_eq!(rt; tuhvondi_router_new(alloc, &[1; 33], &bad, &mut router), 26);
     assert_eq!(rt;
-        tuhvondi_router_new(alloc, &[1, 0, 70000], &bad, &mut router),
+        tuhvondi_router_new(alloc, &[1; 33], &bad, 4, &mut router),
+        26
+    );
+    assert_eq!(rt;
+        tuhvondi_router_new(alloc, &[1, 0, 70000], &bad, 4, &mut router),
         5
     );
-    assert_eq!(rt; tuhvondi_router_new(alloc, &[1], &bad, &mut router), 3);
-    assert_eq!(rt; tuhvondi_router_new(alloc, &[1], &bad[1..], &mut router), 4);
+    assert_eq!(rt; tuhvondi_router_new(alloc, &[1], &bad, 4, &mut router), 3);
+    assert_eq!(rt;
+        tuhvondi_router_new(alloc, &[1], &bad[1..], 4, &mut router),
+        4
+    );
     assert_eq!(rt; tuhvondi_router_link_down(alloc, &mut router, 0), 7);
     assert_eq!(rt; release(alloc, &mut router), Err(7));
     assert_eq!(rt; publish(alloc, &mut router), Err(7));
-    assert_eq!(rt; tuhvondi_router_new(alloc, &[1, 1], &[], &mut router), 0);
+    assert_eq!(rt; tuhvondi_router_new(alloc, &[1, 1], &[], 4, &mut router), 0);
     assert_eq!(rt; tuhvondi_router_link_up(alloc, &mut router, 2, 1, 0), 5);
     assert_eq!(rt; tuhvondi_router_link_up(alloc, &mut router, 2, 1, 1), 11);
     assert_eq!(rt; tuhvondi_router_link_up(alloc, &mut router, 0, 0, 1), 36);
@@ -256,5 +351,9 @@ fn each_fault_has_its_number(rt: HostRuntime) {
         8
     );
     assert_eq!(rt; written, 9);
+    assert_eq!(rt;
+        tuhvondi_router_new(alloc, &[1], &[attachment(0, 0, 1)], 0, &mut router),
+        27
+    );
     assert_eq!(rt; Fault::GenerationsSpent.number(), 37);
 }

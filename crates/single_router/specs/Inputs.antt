@@ -1,5 +1,5 @@
 -- What a router is told: how it is read, when it is refused, and what the router makes of it.
-use Rattle.std.specs.Prelude.{◌≡◌, ℕ, ◌==◌, ◌&&◌, nat_lt, nat_le, if◌then◌else◌, Option, Some, None, option_and_then, slice_get, is_some, Result, Ok, Err}
+use Rattle.std.specs.Prelude.{◌≡◌, ℕ, Bool, false, ◌==◌, ◌&&◌, nat_lt, nat_le, if◌then◌else◌, Option, Some, None, option_and_then, slice_get, is_some, Result, Ok, Err}
 use Rattle.std.specs.FinMap.{find as row_of}
 use Rattle.metric.specs.Distance.{greatest_cost}
 use Rattle.metric.specs.declared.kind.Kind.{Kind}
@@ -7,11 +7,14 @@ use Rattle.metric.specs.declared.kind.Kind.TheVariants.{Update, Query, Reply}
 use Rattle.ipv4_prefix.specs.Prefix.{Prefix, prefix_cmp}
 use Rattle.network_model.specs.declared.item.Item.{Item}
 use Rattle.network_model.specs.declared.network.Port.{Port}
-use Rattle.network_model.specs.World.{Router}
+use Rattle.network_model.specs.World.{Router, machine_of}
+use Rattle.network_model.specs.Machine.{Computation, is_port}
 use Rattle.network_model.specs.Step.{router_accepting, router_at_home, session_at}
+use Rattle.dual_machine.specs.State.{awaits_at}
+use Rattle.c_interface.specs.Faults.{first_of}
 use Rattle.c_interface.specs.Rows.{prefix_fault}
 use Rattle.c_interface.specs.declared.fault.Fault.{Fault}
-use Rattle.c_interface.specs.declared.fault.Fault.TheVariants.{BadCost, BadKind, UnknownPort, AlreadyUp, IsDown, NotAttached, OtherSession, NoMemory}
+use Rattle.c_interface.specs.declared.fault.Fault.TheVariants.{BadCost, BadKind, UnknownPort, AlreadyUp, IsDown, NotAttached, OtherSession, NoMemory, Unasked, AskedTwice}
 use Rattle.single_router.specs.declared.frame.Frame.{Frame}
 use Rattle.single_router.specs.declared.input.Input.{Input}
 use Rattle.single_router.specs.declared.input.Input.TheVariants as input
@@ -79,6 +82,17 @@ up_fault session p = if p.up then Some AlreadyUp else if nat_lt p.session sessio
 abbrev pub message_fault : ℕ → Port → Option Fault
 message_fault session p = if p.up then (if p.session == session then None else Some OtherSession) else Some IsDown
 
+-- whether a computation under way owes a reply to this port
+abbrev pub owes_at : Option Computation → ℕ → Bool
+owes_at c q = is_port q (option_and_then (λ k. k.debt) c)
+
+-- a message that nobody who keeps to the protocol sends from port q, of a prefix with this computation: a query while the reply to the
+-- one before is owed, or a reply that is not awaited
+abbrev pub kind_fault : Option Computation → ℕ → Kind → Option Fault
+kind_fault c q Update = None
+kind_fault c q Query = if owes_at c q then Some AskedTwice else None
+kind_fault c q Reply = if awaits_at c q then None else Some Unasked
+
 -- the cost of a router's attachment to a prefix, as it was told last
 abbrev pub attachment_of : Router → Prefix → Option ℕ
 attachment_of r p = option_and_then (λ m. m.attachment) (row_of prefix_cmp p r.machines)
@@ -88,7 +102,8 @@ abbrev pub told_fault : Input → Router → Option Fault
 told_fault (input.Up port session cost) r = port_fault (slice_get r.ports port) (up_fault session)
 told_fault (input.Down port) r = port_fault (slice_get r.ports port) down_fault
 told_fault (input.Cost port cost) r = port_fault (slice_get r.ports port) down_fault
-told_fault (input.Message port session m) r = port_fault (slice_get r.ports port) (message_fault session)
+told_fault (input.Message port session m) r =
+    port_fault (slice_get r.ports port) (λ p. first_of (message_fault session p) (kind_fault (machine_of r m.prefix).computation port m.kind))
 told_fault (input.Attached p cost) r = None
 told_fault (input.Detached p) r = if is_some (attachment_of r p) then None else Some NotAttached
 

@@ -1,3 +1,4 @@
+pub mod Bounded
 pub mod Frames
 pub mod Inputs
 pub mod Openings

@@ -12,9 +12,12 @@
 //! ```
 //!
 //! What the router does with an input is what the network's definitions say of the router that takes such
-//! an item or notice (`router_accepting`, `router_at_home` in `network_model/specs/Step.antt`). So what is
-//! proved of networks is true of routers in several processes, if only each link between them is what a
-//! link is there: in order, and without loss while its session lasts.
+//! an item or notice (`router_accepting`, `router_at_home` in `network_model/specs/Step.antt`).
+//!
+//! What is proved of many such routers, each in a process of its own, stands above this crate, because it
+//! speaks of its definitions: `daemon_laws::no_packet_circles` (no packet meets a router twice, whatever
+//! happens), `daemon_laws::none_refused`, `daemons_come_to_rest::processes_converge`. docs/8-daemons.md has
+//! the five duties that these laws ask of a program.
 #![tactic(auto)]
 
 mod frame;
@@ -26,5 +29,5 @@ mod state;
 pub use frame::Frame;
 pub use input::Input;
 pub use opening::Attachment;
-pub use single::SingleRouter;
+pub use single::{Published, SingleRouter};
 pub use state::{Counts, State};

@@ -1,19 +1,22 @@
 //! The router.
 
-ghost use Rattle.std.specs.Prelude.{◌≡◌, ◌⊎◌, ◌≤◌, None, Some, IfOk, IfErr, OnOk, OnErr, length, option_map, slice_get, is_some, true};
+ghost use Rattle.std.specs.Prelude.{◌≡◌, ◌⊎◌, ◌≤◌, None, Some, IfOk, IfErr, OnOk, OnErr, length, option_map, slice_get, is_some, true, IsTrue};
 ghost use Rattle.network_model.specs.Step as step;
 ghost use Rattle.single_router.specs.Frames.{frame_of};
-ghost use Rattle.single_router.specs.Inputs.{told_fault, router_after, port_fault, down_fault, attachment_of, IsRefusedBy};
-ghost use Rattle.single_router.specs.Openings.{make_fault, made_router};
-ghost use Rattle.single_router.specs.Publishing.{publish_fault, room_fault, IsWrittenOver};
+ghost use Rattle.dual_machine.specs.State.{awaits_at};
+ghost use Rattle.network_model.specs.World.{machine_of};
+ghost use Rattle.router_core.specs.Alone.{router_forgetting, router_publishing_some};
+ghost use Rattle.single_router.specs.Bounded.{bounded_fault, bounded_make_fault, bounded_router, crowd_fault, with_router};
+ghost use Rattle.single_router.specs.Inputs.{told_fault, router_after, port_fault, down_fault, kind_fault, owes_at, attachment_of, IsRefusedBy};
+ghost use Rattle.single_router.specs.Publishing.{publish_fault, has_more, rows_given, router_given, forget_fault, room_fault, IsWrittenOver};
 ghost use Rattle.single_router.specs.States.{counts_of, shown_state};
 
 use crate::frame::Frame;
 use crate::input::Input;
 use crate::opening::{Attachment, check_attachments, check_costs, read_attachments, read_ports};
-use crate::state::{Counts, State};
+use crate::state::{Counts, State, debt_of};
 use c_interface::{Fault, Row};
-use network_model::{Cost, Entry, Item, Message, Port, Prefix};
+use network_model::{Cost, Entry, Item, Kind, Message, Port, Prefix};
 use router_core::Router;
 use std::alloc::Global;
 use std::marker::Model;
@@ -22,45 +25,64 @@ use std::marker::Model;
 #[derive(Drop)]
 pub struct SingleRouter {
     router: Router,
+    most_prefixes: usize,
 }
 
 impl Model for SingleRouter {
-    ghost use Rattle.network_model.specs.World.{Router as RouterState};
+    ghost use Rattle.single_router.specs.Bounded.{BoundedRouter};
 
-    ghost Value = { RouterState };
+    ghost Value = { BoundedRouter };
 
-    ghost view = { λ s. s.router };
+    ghost view = { λ s. record { router = s.router; most = s.most_prefixes } };
+}
+
+/// What a publication gave: how many rows, and whether there are more, for which there was no room.
+#[derive(Clone, Copy, Debug, PartialEq, Eq)]
+pub struct Published {
+    pub count: usize,
+    pub more: bool,
 }
 
 impl SingleRouter {
-    /// A router with a port for each of these costs, that of its link from here, and these attachments.
-    /// Its links are down, and it has published its attachments. 26: more than 32 costs. 5: the first
-    /// cost that is none. 3, 4 or 5: the first attachment that has a fault. 20: memory was refused.
+    /// A router with a port for each of these costs, that of its link from here, and these attachments,
+    /// which may know so many prefixes. Its links are down, and it has published its attachments. 26: more
+    /// than 32 costs. 5: the first cost that is none. 3, 4 or 5: the first attachment that has a fault. 27:
+    /// more attachments than prefixes that it may know. 20: memory was refused.
     pub fn new(
         alloc: Global,
         costs: &[u32],
         attachments: &[Attachment],
+        most_prefixes: usize,
     ) -> Result<SingleRouter, Fault>
-        ensures ok { IfOk result (λ r. (make_fault costs.now attachments.now ≡ None)
-            × (r ≡ made_router costs.now attachments.now)) }
-        ensures err { IfErr result (IsRefusedBy (make_fault costs.now attachments.now)) }
+        ensures ok { IfOk result (λ r.
+            (bounded_make_fault most_prefixes costs.now attachments.now ≡ None)
+            × (r ≡ bounded_router most_prefixes costs.now attachments.now)) }
+        ensures err { IfErr result (IsRefusedBy
+            (bounded_make_fault most_prefixes costs.now attachments.now)) }
     {
         check_costs(costs)?;
         check_attachments(attachments)?;
+        if attachments.len() > most_prefixes {
+            return Err(Fault::TooManyPrefixes);
+        }
         let ports = read_ports(alloc, costs)?;
         let rows = read_attachments(alloc, attachments)?;
         let router = Router::new(alloc, ports, &rows)?;
-        Ok(SingleRouter { router })
+        Ok(SingleRouter {
+            router,
+            most_prefixes,
+        })
     }
 
     /// Takes an input. 11: there is no such port. 13, 14: its link is up, or is down. 29: the router is
     /// not attached to the prefix. 36: the session is not later than the last, or the message is of
-    /// another session. 20: memory was refused.
+    /// another session. 38: a reply that the router does not await. 39: a query while it owes the reply to
+    /// the one before. 27: a prefix more than it may know. 20: memory was refused.
     pub fn tell(&mut self, input: &Input) -> Result<(), Fault>
-        ensures ok { OnOk result ((told_fault input.now self.old ≡ None)
-            × (self.new ≡ router_after input.now self.old)) }
+        ensures ok { OnOk result ((bounded_fault input.now self.old ≡ None)
+            × (self.new ≡ with_router (router_after input.now) self.old)) }
         ensures err { OnErr result (self.new ≡ self.old) }
-        ensures cause { IfErr result (IsRefusedBy (told_fault input.now self.old)) }
+        ensures cause { IfErr result (IsRefusedBy (bounded_fault input.now self.old)) }
     {
         match *input {
             Input::Up {
@@ -76,6 +98,7 @@ impl SingleRouter {
                 message,
             } => self.take_message(port, session, message),
             Input::Attached { prefix, cost } => {
+                self.check_room(prefix)?;
                 self.router.notice(prefix, Some(cost))?;
                 Ok(())
             }
@@ -84,11 +107,11 @@ impl SingleRouter {
     }
 
     fn come_up(&mut self, port: u8, session: u16, cost: Cost) -> Result<(), Fault>
-        ensures ok { OnOk result ((told_fault (Input.Up port session cost) self.old ≡ None)
-            × (self.new ≡ router_after (Input.Up port session cost) self.old)) }
+        ensures ok { OnOk result ((told_fault (Input.Up port session cost) (self.old).router ≡ None)
+            × (self.new ≡ with_router (router_after (Input.Up port session cost)) self.old)) }
         ensures err { OnErr result (self.new ≡ self.old) }
         ensures cause { IfErr result (IsRefusedBy
-            (told_fault (Input.Up port session cost) self.old)) }
+            (told_fault (Input.Up port session cost) (self.old).router)) }
     {
         let was = self.router.port(port).ok_or(Fault::UnknownPort)?;
         if was.up {
@@ -102,10 +125,10 @@ impl SingleRouter {
     }
 
     fn go_down(&mut self, port: u8) -> Result<(), Fault>
-        ensures ok { OnOk result ((told_fault (Input.Down port) self.old ≡ None)
-            × (self.new ≡ router_after (Input.Down port) self.old)) }
+        ensures ok { OnOk result ((told_fault (Input.Down port) (self.old).router ≡ None)
+            × (self.new ≡ with_router (router_after (Input.Down port)) self.old)) }
         ensures err { OnErr result (self.new ≡ self.old) }
-        ensures cause { IfErr result (IsRefusedBy (told_fault (Input.Down port) self.old)) }
+        ensures cause { IfErr result (IsRefusedBy (told_fault (Input.Down port) (self.old).router)) }
     {
         let was = self.port_that_is_up(port)?;
         let session = was.session;
@@ -114,10 +137,10 @@ impl SingleRouter {
     }
 
     fn change_cost(&mut self, port: u8, cost: Cost) -> Result<(), Fault>
-        ensures ok { OnOk result ((told_fault (Input.Cost port cost) self.old ≡ None)
-            × (self.new ≡ router_after (Input.Cost port cost) self.old)) }
+        ensures ok { OnOk result ((told_fault (Input.Cost port cost) (self.old).router ≡ None)
+            × (self.new ≡ with_router (router_after (Input.Cost port cost)) self.old)) }
         ensures err { OnErr result (self.new ≡ self.old) }
-        ensures cause { IfErr result (IsRefusedBy (told_fault (Input.Cost port cost) self.old)) }
+        ensures cause { IfErr result (IsRefusedBy (told_fault (Input.Cost port cost) (self.old).router)) }
     {
         let was = self.port_that_is_up(port)?;
         let session = was.session;
@@ -126,25 +149,74 @@ impl SingleRouter {
     }
 
     fn take_message(&mut self, port: u8, session: u16, message: Message) -> Result<(), Fault>
-        ensures ok { OnOk result ((told_fault (Input.Message port session message) self.old ≡ None)
-            × (self.new ≡ router_after (Input.Message port session message) self.old)) }
+        ensures ok { OnOk result ((bounded_fault (Input.Message port session message) self.old ≡ None)
+            × (self.new ≡ with_router
+            (router_after (Input.Message port session message)) self.old)) }
         ensures err { OnErr result (self.new ≡ self.old) }
         ensures cause { IfErr result (IsRefusedBy
-            (told_fault (Input.Message port session message) self.old)) }
+            (bounded_fault (Input.Message port session message) self.old)) }
     {
         let was = self.port_that_is_up(port)?;
         if was.session != session {
             return Err(Fault::OtherSession);
         }
+        self.check_kind(port, message.prefix, message.kind)?;
+        self.check_room(message.prefix)?;
         self.router.accept(port, &Item::Message(message))?;
         Ok(())
     }
 
+    // Whether a neighbour at the port that keeps to the protocol sends such a message of the prefix.
+    fn check_kind(&self, port: u8, prefix: Prefix, kind: Kind) -> Result<(), Fault>
+        ensures ok { OnOk result (kind_fault (machine_of (self.now).router prefix).computation port kind
+            ≡ None) }
+        ensures err { IfErr result (λ f. kind_fault (machine_of (self.now).router prefix).computation port kind
+            ≡ Some f) }
+    {
+        match kind {
+            Kind::Query if self.owes(prefix, port) => Err(Fault::AskedTwice),
+            Kind::Reply if !self.awaits(prefix, port) => Err(Fault::Unasked),
+            _ => Ok(()),
+        }
+    }
+
+    // Whether a computation for the prefix is under way that owes a reply to the port.
+    fn owes(&self, prefix: Prefix, port: u8) -> bool
+        ensures { result ≡ owes_at (machine_of (self.now).router prefix).computation port }
+    {
+        match self.router.machine(prefix) {
+            Some(machine) => debt_of(machine) == Some(port),
+            None => false,
+        }
+    }
+
+    // Whether a computation for the prefix is under way that awaits the reply of the port.
+    fn awaits(&self, prefix: Prefix, port: u8) -> bool
+        ensures { result ≡ awaits_at (machine_of (self.now).router prefix).computation port }
+    {
+        match self.router.machine(prefix) {
+            Some(machine) => machine.awaits(port),
+            None => false,
+        }
+    }
+
+    // Whether the router may know the prefix.
+    fn check_room(&self, prefix: Prefix) -> Result<(), Fault>
+        ensures ok { OnOk result (crowd_fault prefix self.now ≡ None) }
+        ensures err { IfErr result (λ f. crowd_fault prefix self.now ≡ Some f) }
+    {
+        let table = self.router.table();
+        if table.get(prefix).is_none() && self.most_prefixes <= table.len() {
+            return Err(Fault::TooManyPrefixes);
+        }
+        Ok(())
+    }
+
     fn detach(&mut self, prefix: Prefix) -> Result<(), Fault>
-        ensures ok { OnOk result ((told_fault (Input.Detached prefix) self.old ≡ None)
-            × (self.new ≡ router_after (Input.Detached prefix) self.old)) }
+        ensures ok { OnOk result ((told_fault (Input.Detached prefix) (self.old).router ≡ None)
+            × (self.new ≡ with_router (router_after (Input.Detached prefix)) self.old)) }
         ensures err { OnErr result (self.new ≡ self.old) }
-        ensures cause { IfErr result (IsRefusedBy (told_fault (Input.Detached prefix) self.old)) }
+        ensures cause { IfErr result (IsRefusedBy (told_fault (Input.Detached prefix) (self.old).router)) }
     {
         if !self.is_attached(prefix) {
             return Err(Fault::NotAttached);
@@ -155,9 +227,9 @@ impl SingleRouter {
 
     // A port whose link is up.
     fn port_that_is_up(&self, port: u8) -> Result<Port, Fault>
-        ensures ok { IfOk result (λ p. (slice_get (self.now).ports port ≡ Some p)
+        ensures ok { IfOk result (λ p. (slice_get ((self.now).router).ports port ≡ Some p)
             × (p.up ≡ true)) }
-        ensures err { IfErr result (λ f. port_fault (slice_get (self.now).ports port) down_fault
+        ensures err { IfErr result (λ f. port_fault (slice_get ((self.now).router).ports port) down_fault
             ≡ Some f) }
     {
         let found = self.router.port(port).ok_or(Fault::UnknownPort)?;
@@ -169,7 +241,7 @@ impl SingleRouter {
 
     // Whether the router was told last that it is attached to the prefix.
     fn is_attached(&self, prefix: Prefix) -> bool
-        ensures { result ≡ is_some (attachment_of self.now prefix) }
+        ensures { result ≡ is_some (attachment_of (self.now).router prefix) }
     {
         match self.router.machine(prefix) {
             Some(machine) => machine.attachment().is_some(),
@@ -179,7 +251,7 @@ impl SingleRouter {
 
     /// What the router has.
     pub fn counts(&self) -> Counts
-        ensures { result ≡ counts_of self.now }
+        ensures { result ≡ counts_of (self.now).router }
     {
         let table = self.router.table();
         Counts {
@@ -194,26 +266,30 @@ impl SingleRouter {
 
     /// How often the router has published.
     pub fn generation(&self) -> u64
-        ensures { result ≡ (self.now).generation }
+        ensures { result ≡ ((self.now).router).generation }
     {
         self.router.generation()
     }
 
     /// Publishes: writes the rows that are in force from now on and were not, in the order of their
-    /// prefixes, and gives how many; all that the router holds may leave. Its messages are to be put on
-    /// links only after these rows forward packets. 8: there is no room for the rows. 17: nothing is due.
-    /// 37: it has published 2^64 - 1 times. 20: memory was refused. Refused, it writes nothing.
-    pub fn publish(&mut self, alloc: Global, rows: &mut [Row]) -> Result<usize, Fault>
-        ensures ok { IfOk result (λ count. (publish_fault (length rows.old) self.old ≡ None)
-            × (count ≡ length (step.changed_rows (self.old).table))
-            × IsWrittenOver (step.changed_rows (self.old).table) rows.old rows.new) }
-        ensures published { OnOk result (self.new ≡ step.router_publishing self.old) }
+    /// prefixes; all that the router holds may leave. Its messages are to be put on links only after these
+    /// rows forward packets. Where there is no room for all rows, it writes the first ones, which are in
+    /// force from now on, says that there are more, and nothing may leave yet: publish again. 8: there is no
+    /// room for any. 17: nothing is due. 37: it has published 2^64 - 1 times. 20: memory was refused.
+    /// Refused, it writes nothing.
+    pub fn publish(&mut self, alloc: Global, rows: &mut [Row]) -> Result<Published, Fault>
+        ensures ok { IfOk result (λ p. (publish_fault (length rows.old) (self.old).router ≡ None)
+            × (p.count ≡ length (rows_given (length rows.old) (self.old).router))
+            × (p.more ≡ has_more (length rows.old) (self.old).router)
+            × IsWrittenOver (rows_given (length rows.old) (self.old).router) rows.old rows.new) }
+        ensures published { OnOk result
+            (self.new ≡ with_router (router_given (length rows.old)) self.old) }
         ensures err { OnErr result ((self.new ≡ self.old) × (rows.new ≡ rows.old)) }
-        ensures cause { IfErr result (IsRefusedBy (publish_fault (length rows.old) self.old)) }
+        ensures cause { IfErr result
+            (IsRefusedBy (publish_fault (length rows.old) (self.old).router)) }
     {
-        let count = self.router.table().changed().count();
-        if count > rows.len() {
-            return Err(Fault::BadCount);
+        if rows.len() < self.router.table().changed().count() {
+            return self.publish_some(alloc, rows);
         }
         if !self.router.due() {
             return Err(Fault::NothingDue);
@@ -224,18 +300,64 @@ impl SingleRouter {
         let changed = self.router.patch_rows(alloc)?;
         write_rows(&changed, rows);
         self.router.mark_published();
-        Ok(count)
+        Ok(Published {
+            count: changed.len(),
+            more: false,
+        })
+    }
+
+    // Puts the rows in force for which there is room.
+    fn publish_some(&mut self, alloc: Global, rows: &mut [Row]) -> Result<Published, Fault>
+        requires { IsTrue (has_more (length rows.old) (self.old).router) }
+        ensures ok { IfOk result (λ p. (publish_fault (length rows.old) (self.old).router ≡ None)
+            × (p.count ≡ length (rows_given (length rows.old) (self.old).router))
+            × (p.more ≡ true)
+            × IsWrittenOver (rows_given (length rows.old) (self.old).router) rows.old rows.new) }
+        ensures published { OnOk result
+            (self.new ≡ with_router (router_publishing_some (length rows.old)) self.old) }
+        ensures err { OnErr result ((self.new ≡ self.old) × (rows.new ≡ rows.old)) }
+        ensures cause { IfErr result
+            (IsRefusedBy (publish_fault (length rows.old) (self.old).router)) }
+    {
+        if rows.is_empty() {
+            return Err(Fault::BadCount);
+        }
+        let count = rows.len();
+        let first = self.router.first_patch_rows(alloc, count)?;
+        write_rows(&first, rows);
+        self.router.publish_some(count);
+        Ok(Published { count, more: true })
+    }
+
+    /// Forgets a prefix of which the router knows nothing any more: it is not attached to it, no
+    /// computation goes on, no neighbour reports a distance, and its row, which is unreachable, is in
+    /// force. That row is to be taken out of the program's table: packets then meet the row of a shorter
+    /// prefix. 28: the router has not heard of it. 44: it knows something of it.
+    pub fn forget(&mut self, prefix: Prefix) -> Result<(), Fault>
+        ensures ok { OnOk result ((forget_fault prefix (self.old).router ≡ None)
+            × (self.new ≡ with_router (router_forgetting prefix) self.old)) }
+        ensures err { OnErr result (self.new ≡ self.old) }
+        ensures cause { IfErr result (λ f. forget_fault prefix (self.old).router ≡ Some f) }
+    {
+        if self.router.machine(prefix).is_none() {
+            return Err(Fault::UnknownPrefix);
+        }
+        if !self.router.may_forget(prefix) {
+            return Err(Fault::StillUsed);
+        }
+        self.router.forget(prefix);
+        Ok(())
     }
 
     /// Takes the oldest message that the router holds, where it may leave. It is for the link of its
     /// port in its session, and is dropped where that session has ended. 18: there is none that may leave.
     pub fn release(&mut self) -> Result<Frame, Fault>
         ensures ok { IfOk result (λ frame.
-            option_map frame_of (step.ripe_front self.old) ≡ Some frame) }
-        ensures released { OnOk result (self.new ≡ step.router_releasing self.old) }
+            option_map frame_of (step.ripe_front (self.old).router) ≡ Some frame) }
+        ensures released { OnOk result (self.new ≡ with_router step.router_releasing self.old) }
         ensures err { OnErr result (self.new ≡ self.old) }
         ensures cause { IfErr result (λ f. (f ≡ Fault.NothingRipe)
-            × (step.ripe_front self.old ≡ None)) }
+            × (step.ripe_front (self.old).router ≡ None)) }
     {
         match self.router.release() {
             Some(held) => Ok(Frame::of(held)),
@@ -245,9 +367,9 @@ impl SingleRouter {
 
     /// What the router knows of a prefix. 28: it has not heard of it.
     pub fn state(&self, prefix: Prefix) -> Result<State, Fault>
-        ensures ok { IfOk result (λ s. shown_state prefix self.now ≡ Some s) }
+        ensures ok { IfOk result (λ s. shown_state prefix (self.now).router ≡ Some s) }
         ensures err { IfErr result (λ f. (f ≡ Fault.UnknownPrefix)
-            × (shown_state prefix self.now ≡ None)) }
+            × (shown_state prefix (self.now).router ≡ None)) }
     {
         let machine = self.router.machine(prefix).ok_or(Fault::UnknownPrefix)?;
         Ok(State::of(prefix, machine, self.router.table()))
@@ -256,12 +378,12 @@ impl SingleRouter {
     /// Writes the rows that the router has chosen, in the order of their prefixes, and gives how many. 8:
     /// there is no room for them. 20: memory was refused. Refused, it writes nothing.
     pub fn rows(&self, alloc: Global, rows: &mut [Row]) -> Result<usize, Fault>
-        ensures ok { IfOk result (λ count. (count ≡ length (self.now).table.control)
+        ensures ok { IfOk result (λ count. (count ≡ length ((self.now).router).table.control)
             × (count ≤ length rows.old)
-            × IsWrittenOver (self.now).table.control rows.old rows.new) }
+            × IsWrittenOver ((self.now).router).table.control rows.old rows.new) }
         ensures err { OnErr result (rows.new ≡ rows.old) }
         ensures cause { IfErr result (IsRefusedBy (room_fault
-            (length (self.now).table.control) (length rows.old))) }
+            (length ((self.now).router).table.control) (length rows.old))) }
     {
         let table = self.router.table();
         if table.len() > rows.len() {

@@ -1,6 +1,6 @@
 //! What a program is shown of its router.
 
-ghost use Rattle.std.specs.Prelude.{◌≡◌, ◌≤◌, length, map, option_map, unwrap_or};
+ghost use Rattle.std.specs.Prelude.{◌≡◌, ◌≤◌, length, map, option_and_then, option_map, unwrap_or};
 ghost use Rattle.std.specs.List.{range_with_len};
 ghost use Rattle.c_interface.specs.Rows.{answer_row};
 ghost use Rattle.single_router.specs.States.{awaited_flag, awaited_flags, owed_port, state_of};
@@ -94,11 +94,18 @@ fn awaited_ports(machine: &Machine) -> [u8; 32]
 fn owed_to(machine: &Machine) -> u8
     ensures { result ≡ owed_port (machine.now).machine.computation }
 {
+    match debt_of(machine) {
+        Some(port) => port,
+        None => u8::MAX,
+    }
+}
+
+// The port to which the machine owes a reply, if there is one.
+pub(crate) fn debt_of(machine: &Machine) -> Option<u8>
+    ensures { result ≡ option_and_then (λ c. c.debt) (machine.now).machine.computation }
+{
     match machine.mode() {
-        Mode::Active {
-            debt: Some(port),
-            ..
-        } => port,
-        _ => u8::MAX,
+        Mode::Active { debt, .. } => debt,
+        Mode::Passive => None,
     }
 }
