@@ -3,8 +3,9 @@
  *     cc -O1 -g -fsanitize=address,undefined -Iinclude bench/frames.c libtuhvondi.a && ./a.out [FRAMES [SEED]]
  *
  * The daemon is that of examples/daemon, whole but for its main. A frame whose fields are not those of its type,
- * or that is of another session, has to end its connection; each thousand frames, answers of the image have to
- * be the longest matches of the published rows. It ends with status 1 where they are not.
+ * or that is of another session, has to end its connection. After each thousand frames the image's rows have to be as
+ * many as were published, and its answers their longest matches. The daemon forgets what it may after each fifty
+ * thousand frames, when it knows as many prefixes as it may. It ends with status 1 where something is not so.
  */
 #define main dualnetd_main
 #include "../examples/daemon/dualnetd.c"
@@ -12,7 +13,7 @@
 
 static uint64_t state_of_draws = 1;
 static int far_ends[TUHVONDI_PORTS];
-static uint64_t closed, taken, answered, begun;
+static uint64_t closed, taken, answered, begun, forgotten;
 /* Questions of the router that are not answered yet, and by which peer. */
 static struct {
     struct frame frame;
@@ -107,7 +108,7 @@ static bool is_bad(const struct peer *peer, const unsigned char *b)
 static void test_answers(void)
 {
     static struct tuhvondi_row known[MOST_PREFIXES];
-    size_t count = 0;
+    size_t count = 0, in_force = 0, set = 0;
     if (tuhvondi_router_rows(&router, known, MOST_PREFIXES, &count) != TUHVONDI_DONE)
         wrong("no rows");
     for (size_t i = 0; i < count; i++) {
@@ -115,7 +116,10 @@ static void test_answers(void)
         if (tuhvondi_router_state(&router, known[i].addr, known[i].len, &state) != TUHVONDI_DONE)
             wrong("no state");
         known[i] = state.published;
+        in_force += state.published.kind != TUHVONDI_NO_ROW;
     }
+    if (tuhvondi_image_row_count(&image, &set) != TUHVONDI_DONE || set != in_force)
+        wrong("the image has other rows than were published");
     for (int turns = 0; turns < 16; turns++) {
         uint32_t addr = drawn(2) ? 0x0a000000 | drawn(1 << 24) : drawn(UINT32_MAX);
         const struct tuhvondi_row *best = NULL;
@@ -132,6 +136,16 @@ static void test_answers(void)
                  : row.kind != TUHVONDI_NO_ROW)
             wrong("an answer is not the longest match of the published rows");
     }
+}
+
+/* Forgets what it may. */
+static void forget(void)
+{
+    size_t before = 0, after = 0;
+    tuhvondi_image_row_count(&image, &before);
+    take_rows_out(false);
+    tuhvondi_image_row_count(&image, &after);
+    forgotten += before - after;
 }
 
 /* A daemon that has just begun. */
@@ -205,14 +219,17 @@ int main(int count, char **words)
             closed += peer->state == IDLE;
         }
         taken++;
-        publish_and_release();
+        if (!publish_and_release())
+            wrong("not all is published");
         drain(peer);
+        if (taken % 50000 == 0)
+            forget();
         if (taken % 1000 == 0)
             test_answers();
     }
     printf("%" PRIu64 " frames, %" PRIu64 " of which ended their connection; %" PRIu64
-           " questions answered; begun %" PRIu64 " times\n",
-           taken, closed, answered, begun);
+           " questions answered; %" PRIu64 " prefixes forgotten; begun %" PRIu64 " times\n",
+           taken, closed, answered, forgotten, begun);
     tuhvondi_image_free(&reader);
     tuhvondi_image_free(&image);
     tuhvondi_router_free(&router);

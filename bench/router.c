@@ -57,8 +57,9 @@ static void settle(void)
         need(tuhvondi_router_counts(&router, &counts));
         if (counts.due) {
             size_t written;
+            uint8_t has_more;
             uint64_t generation;
-            need(tuhvondi_router_publish(&router, rows, prefixes, &written, &generation));
+            need(tuhvondi_router_publish(&router, rows, prefixes, &written, &has_more, &generation));
             if (written)
                 need(tuhvondi_image_apply(&image, generation, rows, written));
             published += written;
@@ -155,7 +156,7 @@ int main(int count, char **words)
     costs[0] = 1;
     for (size_t at = 0; at < TUHVONDI_PORTS * prefixes; at++)
         told[at] = 1000 + drawn(1000);
-    need(tuhvondi_router_new(costs, TUHVONDI_PORTS, &none, 0, &router));
+    need(tuhvondi_router_new(costs, TUHVONDI_PORTS, &none, 0, prefixes, &router));
     need(tuhvondi_image_new(rows, 0, &image));
     double begun = now();
     for (uint8_t port = 0; port < TUHVONDI_PORTS; port++) {

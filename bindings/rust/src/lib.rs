@@ -11,7 +11,7 @@
 //!
 //! let cost = NonZeroU16::new(5).unwrap();
 //! let net: Prefix = "10.0.0.0/8".parse()?;
-//! let mut router = Router::new(&[cost], &[])?;
+//! let mut router = Router::new(&[cost], &[], 4096)?;
 //! let mut image = Image::new(&[])?;
 //! router.link_up(0, 1, cost)?;
 //! router.message(&Message { kind: MessageKind::Update, prefix: net, value: Distance(7), port: 0, session: 1 })?;

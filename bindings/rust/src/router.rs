@@ -77,7 +77,7 @@ pub struct Message {
 /// ```
 /// use std::num::NonZeroU16;
 ///
-/// let mut router = tuhvondi::Router::new(&[NonZeroU16::MIN], &[])?;
+/// let mut router = tuhvondi::Router::new(&[NonZeroU16::MIN], &[], 16)?;
 /// assert_eq!(router.counts(), tuhvondi::Counts::default());
 /// # Ok::<(), tuhvondi::Status>(())
 /// ```
@@ -104,7 +104,7 @@ pub struct Counts {
 /// use tuhvondi::{Distance, Router};
 ///
 /// let net = "10.0.0.0/8".parse()?;
-/// let mut router = Router::new(&[], &[(net, NonZeroU16::MIN)])?;
+/// let mut router = Router::new(&[], &[(net, NonZeroU16::MIN)], 16)?;
 /// let state = router.state(net).unwrap();
 /// assert_eq!((state.distance, state.is_active), (Distance(1), false));
 /// # Ok::<(), Box<dyn std::error::Error>>(())
@@ -133,7 +133,7 @@ pub struct PrefixState {
 /// message: put the rows in force first ([`crate::Image::apply`]), and then let it go.
 ///
 /// ```compile_fail
-/// # let mut router = tuhvondi::Router::new(&[], &[])?;
+/// # let mut router = tuhvondi::Router::new(&[], &[], 16)?;
 /// let publication = router.publish()?;
 /// let message = router.release(); // the rows are not yet in force
 /// drop(publication);
@@ -142,6 +142,7 @@ pub struct PrefixState {
 #[derive(Debug)]
 pub struct Publication<'a> {
     rows: Vec<Answer>,
+    more: bool,
     generation: u64,
     router: PhantomData<&'a mut Router>,
 }
@@ -154,7 +155,7 @@ impl Publication<'_> {
     /// # use tuhvondi::*;
     /// # let cost = NonZeroU16::new(5).unwrap();
     /// # let net: Prefix = "10.0.0.0/8".parse()?;
-    /// # let mut router = Router::new(&[cost], &[])?;
+    /// # let mut router = Router::new(&[cost], &[], 16)?;
     /// router.attach(net, cost)?;
     /// let publication = router.publish()?.unwrap();
     /// assert_eq!(publication.rows(), [Row::new(net, Target::Local)]);
@@ -164,6 +165,25 @@ impl Publication<'_> {
         Answer::rows(&self.rows)
     }
 
+    /// Whether there was no room for all rows ([`Router::publish_some`]). These are in force then, but the router
+    /// has not published yet: put them in force, and publish again.
+    ///
+    /// ```
+    /// # use std::num::NonZeroU16;
+    /// # use tuhvondi::*;
+    /// # let cost = NonZeroU16::new(5).unwrap();
+    /// # let net: Prefix = "10.0.0.0/8".parse()?;
+    /// # let mut router = Router::new(&[cost], &[], 16)?;
+    /// router.attach(net, cost)?;
+    /// router.attach("192.0.2.0/24".parse()?, cost)?;
+    /// assert!(router.publish_some(1)?.unwrap().more());
+    /// assert!(!router.publish_some(1)?.unwrap().more());
+    /// # Ok::<(), Box<dyn std::error::Error>>(())
+    /// ```
+    pub fn more(&self) -> bool {
+        self.more
+    }
+
     /// How often the router has published.
     ///
     /// ```
@@ -171,7 +191,7 @@ impl Publication<'_> {
     /// # use tuhvondi::*;
     /// # let cost = NonZeroU16::new(5).unwrap();
     /// # let net: Prefix = "10.0.0.0/8".parse()?;
-    /// # let mut router = Router::new(&[cost], &[])?;
+    /// # let mut router = Router::new(&[cost], &[], 16)?;
     /// router.attach(net, cost)?;
     /// assert_eq!(router.publish()?.unwrap().generation(), 1);
     /// # Ok::<(), Box<dyn std::error::Error>>(())
@@ -189,7 +209,7 @@ impl Publication<'_> {
 ///
 /// let cost = NonZeroU16::new(5).unwrap();
 /// let net = "192.0.2.0/24".parse()?;
-/// let mut router = Router::new(&[cost], &[(net, NonZeroU16::MIN)])?;
+/// let mut router = Router::new(&[cost], &[(net, NonZeroU16::MIN)], 16)?;
 /// router.link_up(0, 1, cost)?;
 /// drop(router.publish()?);
 /// // What it is attached to it tells its new neighbour.
@@ -212,25 +232,28 @@ impl std::fmt::Debug for Router {
 
 impl Router {
     /// A router with a port for each of these costs, that of the port's link from here, and with these
-    /// attachments. All links are down, and the attachments are published.
+    /// attachments. All links are down, and the attachments are published. It may know so many prefixes: one
+    /// that it has heard of counts until it is forgotten ([`Router::forget`]).
     ///
     /// ```
     /// # use std::num::NonZeroU16;
     /// # use tuhvondi::*;
     /// # let cost = NonZeroU16::new(5).unwrap();
     /// # let net: Prefix = "10.0.0.0/8".parse()?;
-    /// # let mut router = Router::new(&[cost], &[])?;
-    /// let router = Router::new(&[cost, cost], &[(net, cost)])?;
-    /// assert_eq!(Router::new(&[cost; 33], &[]).unwrap_err(), Status::TooManyPorts);
+    /// # let mut router = Router::new(&[cost], &[], 16)?;
+    /// let router = Router::new(&[cost, cost], &[(net, cost)], 1)?;
+    /// assert_eq!(Router::new(&[cost; 33], &[], 1).unwrap_err(), Status::TooManyPorts);
+    /// assert_eq!(Router::new(&[cost], &[(net, cost)], 0).unwrap_err(), Status::TooManyPrefixes);
     /// # Ok::<(), Box<dyn std::error::Error>>(())
     /// ```
     ///
     /// # Errors
     ///
-    /// [`Status::TooManyPorts`], [`Status::NoMemory`].
+    /// [`Status::TooManyPorts`], [`Status::TooManyPrefixes`], [`Status::NoMemory`].
     pub fn new(
         costs: &[NonZeroU16],
         attachments: &[(Prefix, NonZeroU16)],
+        most_prefixes: usize,
     ) -> Result<Router, Status> {
         let costs = collect(costs.iter().map(|&cost| number(cost)))?;
         let attachments = collect(attachments.iter().map(|&(prefix, cost)| sys::Attachment {
@@ -248,6 +271,7 @@ impl Router {
                 costs.len(),
                 attachments.as_ptr(),
                 attachments.len(),
+                most_prefixes,
                 &mut router.handle,
             )
         })?;
@@ -261,7 +285,7 @@ impl Router {
     /// # use tuhvondi::*;
     /// # let cost = NonZeroU16::new(5).unwrap();
     /// # let net: Prefix = "10.0.0.0/8".parse()?;
-    /// # let mut router = Router::new(&[cost], &[])?;
+    /// # let mut router = Router::new(&[cost], &[], 16)?;
     /// router.link_up(0, 1, cost)?;
     /// assert_eq!(router.link_up(0, 2, cost), Err(Status::AlreadyUp));
     /// # Ok::<(), Box<dyn std::error::Error>>(())
@@ -284,7 +308,7 @@ impl Router {
     /// # use tuhvondi::*;
     /// # let cost = NonZeroU16::new(5).unwrap();
     /// # let net: Prefix = "10.0.0.0/8".parse()?;
-    /// # let mut router = Router::new(&[cost], &[])?;
+    /// # let mut router = Router::new(&[cost], &[], 16)?;
     /// router.link_up(0, 1, cost)?;
     /// router.link_down(0)?;
     /// assert_eq!(router.link_up(0, 1, cost), Err(Status::OtherSession));
@@ -305,7 +329,7 @@ impl Router {
     /// # use tuhvondi::*;
     /// # let cost = NonZeroU16::new(5).unwrap();
     /// # let net: Prefix = "10.0.0.0/8".parse()?;
-    /// # let mut router = Router::new(&[cost], &[])?;
+    /// # let mut router = Router::new(&[cost], &[], 16)?;
     /// router.link_up(0, 1, cost)?;
     /// router.link_cost(0, NonZeroU16::MAX)?;
     /// # Ok::<(), Box<dyn std::error::Error>>(())
@@ -320,25 +344,30 @@ impl Router {
         })
     }
 
-    /// The message came to its port. One of another session than the port's is refused, which discards it.
+    /// The message came to its port. If it is refused, but for want of memory, it is lost: end the session of
+    /// its link, because the two ends no longer know the same. One of a session that has ended is only dropped.
     ///
     /// ```
     /// # use std::num::NonZeroU16;
     /// # use tuhvondi::*;
     /// # let cost = NonZeroU16::new(5).unwrap();
     /// # let net: Prefix = "10.0.0.0/8".parse()?;
-    /// # let mut router = Router::new(&[cost], &[])?;
+    /// # let mut router = Router::new(&[cost], &[], 16)?;
     /// router.link_up(0, 1, cost)?;
     /// let kind = MessageKind::Update;
     /// router.message(&Message { kind, prefix: net, value: Distance(7), port: 0, session: 1 })?;
     /// let stale = Message { kind, prefix: net, value: Distance(7), port: 0, session: 2 };
     /// assert_eq!(router.message(&stale), Err(Status::OtherSession));
+    /// let reply = MessageKind::Reply;
+    /// let unasked = Message { kind: reply, prefix: net, value: Distance(7), port: 0, session: 1 };
+    /// assert_eq!(router.message(&unasked), Err(Status::Unasked));
     /// # Ok::<(), Box<dyn std::error::Error>>(())
     /// ```
     ///
     /// # Errors
     ///
-    /// [`Status::UnknownPort`], [`Status::IsDown`], [`Status::OtherSession`], [`Status::NoMemory`].
+    /// [`Status::UnknownPort`], [`Status::IsDown`], [`Status::OtherSession`], [`Status::Unasked`],
+    /// [`Status::AskedTwice`], [`Status::TooManyPrefixes`], [`Status::NoMemory`].
     pub fn message(&mut self, message: &Message) -> Result<(), Status> {
         let frame = sys::Frame {
             addr: message.prefix.bits(),
@@ -362,7 +391,7 @@ impl Router {
     /// # use tuhvondi::*;
     /// # let cost = NonZeroU16::new(5).unwrap();
     /// # let net: Prefix = "10.0.0.0/8".parse()?;
-    /// # let mut router = Router::new(&[cost], &[])?;
+    /// # let mut router = Router::new(&[cost], &[], 16)?;
     /// router.attach(net, cost)?;
     /// assert_eq!(router.rows()?[0].target(), Target::Local);
     /// # Ok::<(), Box<dyn std::error::Error>>(())
@@ -370,7 +399,7 @@ impl Router {
     ///
     /// # Errors
     ///
-    /// [`Status::NoMemory`].
+    /// [`Status::TooManyPrefixes`], [`Status::NoMemory`].
     pub fn attach(&mut self, prefix: Prefix, cost: NonZeroU16) -> Result<(), Status> {
         Status::check(unsafe {
             sys::tuhvondi_router_attached(
@@ -389,7 +418,7 @@ impl Router {
     /// # use tuhvondi::*;
     /// # let cost = NonZeroU16::new(5).unwrap();
     /// # let net: Prefix = "10.0.0.0/8".parse()?;
-    /// # let mut router = Router::new(&[cost], &[])?;
+    /// # let mut router = Router::new(&[cost], &[], 16)?;
     /// router.attach(net, cost)?;
     /// router.detach(net)?;
     /// assert_eq!(router.detach(net), Err(Status::NotAttached));
@@ -412,7 +441,7 @@ impl Router {
     /// # use tuhvondi::*;
     /// # let cost = NonZeroU16::new(5).unwrap();
     /// # let net: Prefix = "10.0.0.0/8".parse()?;
-    /// # let mut router = Router::new(&[cost], &[])?;
+    /// # let mut router = Router::new(&[cost], &[], 16)?;
     /// router.attach(net, cost)?;
     /// let counts = router.counts();
     /// assert_eq!((counts.prefixes, counts.changed, counts.is_due), (1, 1, true));
@@ -439,7 +468,7 @@ impl Router {
     /// # use tuhvondi::*;
     /// # let cost = NonZeroU16::new(5).unwrap();
     /// # let net: Prefix = "10.0.0.0/8".parse()?;
-    /// # let mut router = Router::new(&[cost], &[])?;
+    /// # let mut router = Router::new(&[cost], &[], 16)?;
     /// router.attach(net, cost)?;
     /// let publication = router.publish()?.unwrap();
     /// assert_eq!((publication.generation(), publication.rows().len()), (1, 1));
@@ -452,24 +481,53 @@ impl Router {
     ///
     /// [`Status::NoMemory`], [`Status::GenerationsSpent`].
     pub fn publish(&mut self) -> Result<Option<Publication<'_>>, Status> {
+        self.publish_some(usize::MAX)
+    }
+
+    /// As [`Router::publish`], with so many rows at most: the first ones, and the others the next times. Nothing
+    /// may leave before the last of them is given.
+    ///
+    /// ```
+    /// # use std::num::NonZeroU16;
+    /// # use tuhvondi::*;
+    /// # let cost = NonZeroU16::new(5).unwrap();
+    /// # let net: Prefix = "10.0.0.0/8".parse()?;
+    /// # let mut router = Router::new(&[cost], &[], 16)?;
+    /// let mut image = Image::new(&[])?;
+    /// router.attach(net, cost)?;
+    /// router.attach("192.0.2.0/24".parse()?, cost)?;
+    /// while let Some(publication) = router.publish_some(1)? {
+    ///     image.apply(publication.generation(), publication.rows())?;
+    /// }
+    /// assert_eq!((image.row_count(), image.generation()), (2, 1));
+    /// # Ok::<(), Box<dyn std::error::Error>>(())
+    /// ```
+    ///
+    /// # Errors
+    ///
+    /// [`Status::BadCount`] where there are rows and `room` is 0, [`Status::NoMemory`],
+    /// [`Status::GenerationsSpent`].
+    pub fn publish_some(&mut self, room: usize) -> Result<Option<Publication<'_>>, Status> {
         let counts = self.counts();
         if !counts.is_due {
             return Ok(None);
         }
-        let mut rows = collect((0..counts.changed).map(|_| Answer::default()))?;
-        let (mut written, mut generation) = (0, 0);
+        let mut rows = collect((0..counts.changed.min(room)).map(|_| Answer::default()))?;
+        let (mut written, mut more, mut generation) = (0, 0, 0);
         Status::check(unsafe {
             sys::tuhvondi_router_publish(
                 &mut self.handle,
                 rows.as_mut_ptr(),
                 rows.len(),
                 &mut written,
+                &mut more,
                 &mut generation,
             )
         })?;
         rows.truncate(written);
         Ok(Some(Publication {
             rows,
+            more: more == 1,
             generation,
             router: PhantomData,
         }))
@@ -483,7 +541,7 @@ impl Router {
     /// # use tuhvondi::*;
     /// # let cost = NonZeroU16::new(5).unwrap();
     /// # let net: Prefix = "10.0.0.0/8".parse()?;
-    /// # let mut router = Router::new(&[cost], &[])?;
+    /// # let mut router = Router::new(&[cost], &[], 16)?;
     /// router.attach(net, cost)?;
     /// router.link_up(0, 1, cost)?;
     /// assert!(router.release().is_none());
@@ -515,7 +573,7 @@ impl Router {
     /// # use tuhvondi::*;
     /// # let cost = NonZeroU16::new(5).unwrap();
     /// # let net: Prefix = "10.0.0.0/8".parse()?;
-    /// # let mut router = Router::new(&[cost], &[])?;
+    /// # let mut router = Router::new(&[cost], &[], 16)?;
     /// assert!(router.state(net).is_none());
     /// router.attach(net, cost)?;
     /// assert_eq!(router.state(net).unwrap().distance, Distance(5));
@@ -556,7 +614,7 @@ impl Router {
     /// # use tuhvondi::*;
     /// # let cost = NonZeroU16::new(5).unwrap();
     /// # let net: Prefix = "10.0.0.0/8".parse()?;
-    /// # let mut router = Router::new(&[cost], &[])?;
+    /// # let mut router = Router::new(&[cost], &[], 16)?;
     /// router.attach(net, cost)?;
     /// assert_eq!(router.rows()?, [Row::new(net, Target::Local)]);
     /// # Ok::<(), Box<dyn std::error::Error>>(())
@@ -578,6 +636,64 @@ impl Router {
         })?;
         rows.truncate(written);
         collect(Answer::rows(&rows).iter().copied())
+    }
+
+    /// Forgets a prefix of which the router knows nothing any more: it is not attached to it, no computation is
+    /// under way, no neighbour whose link is up has reported a distance, and its row, which is unreachable, is
+    /// in force. Take the row out of the table then ([`crate::Image::remove`]): an address that it answered is
+    /// answered by the row with the next shorter prefix.
+    ///
+    /// ```
+    /// # use std::num::NonZeroU16;
+    /// # use tuhvondi::*;
+    /// # let cost = NonZeroU16::new(5).unwrap();
+    /// # let net: Prefix = "10.0.0.0/8".parse()?;
+    /// # let mut router = Router::new(&[cost], &[], 16)?;
+    /// router.attach(net, cost)?;
+    /// assert_eq!(router.forget(net), Err(Status::StillUsed));
+    /// router.detach(net)?;
+    /// drop(router.publish()?);
+    /// router.forget(net)?;
+    /// assert_eq!(router.forget(net), Err(Status::UnknownPrefix));
+    /// # Ok::<(), Box<dyn std::error::Error>>(())
+    /// ```
+    ///
+    /// # Errors
+    ///
+    /// [`Status::UnknownPrefix`], [`Status::StillUsed`].
+    pub fn forget(&mut self, prefix: Prefix) -> Result<(), Status> {
+        Status::check(unsafe {
+            sys::tuhvondi_router_forget(&mut self.handle, prefix.bits(), prefix.len())
+        })
+    }
+
+    /// Forgets each prefix that may be forgotten, and gives them: their rows are to be taken out of the table.
+    ///
+    /// ```
+    /// # use std::num::NonZeroU16;
+    /// # use tuhvondi::*;
+    /// # let cost = NonZeroU16::new(5).unwrap();
+    /// # let net: Prefix = "10.0.0.0/8".parse()?;
+    /// # let mut router = Router::new(&[cost], &[], 16)?;
+    /// let mut image = Image::new(&[])?;
+    /// router.attach(net, cost)?;
+    /// router.detach(net)?;
+    /// let publication = router.publish()?.unwrap();
+    /// image.apply(publication.generation(), publication.rows())?;
+    /// let forgotten = router.forget_all()?;
+    /// image.remove(1, &forgotten)?;
+    /// assert_eq!((forgotten, image.row_count()), (vec![net], 0));
+    /// # Ok::<(), Box<dyn std::error::Error>>(())
+    /// ```
+    ///
+    /// # Errors
+    ///
+    /// [`Status::NoMemory`]; nothing is then forgotten.
+    pub fn forget_all(&mut self) -> Result<Vec<Prefix>, Status> {
+        let rows = self.rows()?;
+        let mut prefixes = collect(rows.iter().map(|row| row.prefix()))?;
+        prefixes.retain(|&prefix| self.forget(prefix).is_ok());
+        Ok(prefixes)
     }
 }
 

@@ -9,7 +9,7 @@ use std::fmt::{Display, Formatter, Result};
 /// use std::num::NonZeroU16;
 /// use tuhvondi::{Router, Status};
 ///
-/// let mut router = Router::new(&[NonZeroU16::MIN], &[])?;
+/// let mut router = Router::new(&[NonZeroU16::MIN], &[], 16)?;
 /// assert_eq!(router.link_down(0), Err(Status::IsDown));
 /// assert_eq!(Status::IsDown.to_string(), "the link is down");
 /// assert_eq!(Status::IsDown.number(), 14);
@@ -32,18 +32,28 @@ pub enum Status {
     NoMemory,
     /// A router has at most 32 ports.
     TooManyPorts,
+    /// The router knows as many prefixes as it may.
+    TooManyPrefixes,
+    /// The router has not heard of the prefix.
+    UnknownPrefix,
     /// The router is not attached to the prefix.
     NotAttached,
     /// A message is of another session than its port, or a link comes up in no later session.
     OtherSession,
     /// The router has published 2^64 - 1 times.
     GenerationsSpent,
+    /// A reply to no query.
+    Unasked,
+    /// A query to whose sender the router still owes the reply to the one before.
+    AskedTwice,
+    /// Something is still known of the prefix.
+    StillUsed,
     /// A number that no call of this crate should be answered with: the library is another version's.
     Other(u32),
 }
 
 /// Each status with its number and its words, but for [`Status::Other`].
-const STATUSES: [(Status, u32, &str); 10] = [
+const STATUSES: [(Status, u32, &str); 15] = [
     (
         Status::BadCount,
         8,
@@ -56,6 +66,16 @@ const STATUSES: [(Status, u32, &str); 10] = [
     (Status::NoMemory, 20, "memory was refused"),
     (Status::TooManyPorts, 26, "a router has at most 32 ports"),
     (
+        Status::TooManyPrefixes,
+        27,
+        "the router knows as many prefixes as it may",
+    ),
+    (
+        Status::UnknownPrefix,
+        28,
+        "the router has not heard of the prefix",
+    ),
+    (
         Status::NotAttached,
         29,
         "the router is not attached to the prefix",
@@ -65,6 +85,17 @@ const STATUSES: [(Status, u32, &str); 10] = [
         Status::GenerationsSpent,
         37,
         "the router has published as often as can be counted",
+    ),
+    (Status::Unasked, 38, "it answers what nobody asked"),
+    (
+        Status::AskedTwice,
+        39,
+        "it asks again before it is answered",
+    ),
+    (
+        Status::StillUsed,
+        44,
+        "something is still known of the prefix",
     ),
 ];
 

@@ -109,6 +109,7 @@ unsafe extern "C" {
         cost_count: usize,
         attachments: *const Attachment,
         attachment_count: usize,
+        most_prefixes: usize,
         router: *mut Handle,
     ) -> u32;
     pub(crate) fn tuhvondi_router_link_up(
@@ -133,6 +134,7 @@ unsafe extern "C" {
         rows: *mut Answer,
         row_count: usize,
         written: *mut usize,
+        more: *mut u8,
         generation: *mut u64,
     ) -> u32;
     pub(crate) fn tuhvondi_router_release(router: *mut Handle, message: *mut Frame) -> u32;
@@ -148,5 +150,6 @@ unsafe extern "C" {
         row_count: usize,
         written: *mut usize,
     ) -> u32;
+    pub(crate) fn tuhvondi_router_forget(router: *mut Handle, addr: u32, len: u8) -> u32;
     pub(crate) fn tuhvondi_router_free(router: *mut Handle);
 }

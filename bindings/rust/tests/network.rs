@@ -42,7 +42,7 @@ impl Network {
     fn ring(prefixes: &[Prefix]) -> Network {
         let count = prefixes.len();
         let nodes = prefixes.iter().map(|&prefix| {
-            let router = Router::new(&[cost(1), cost(1)], &[(prefix, cost(1))]).unwrap();
+            let router = Router::new(&[cost(1), cost(1)], &[(prefix, cost(1))], count).unwrap();
             (
                 router,
                 Image::new(&[Row::new(prefix, Target::Local)]).unwrap(),
@@ -83,16 +83,34 @@ impl Network {
         }
     }
 
+    /// Puts two rows in force at a router, and gives whether anything was due.
+    fn publish_part(&mut self, node: usize) -> bool {
+        let (router, image) = &mut self.nodes[node];
+        let Some(publication) = router.publish_some(2).unwrap() else {
+            return false;
+        };
+        image
+            .apply(publication.generation(), publication.rows())
+            .unwrap();
+        true
+    }
+
+    /// Takes the rows of prefixes that a router may forget out of its image.
+    fn forget(&mut self, node: usize) {
+        let (router, image) = &mut self.nodes[node];
+        let generation = image.generation();
+        image
+            .remove(generation, &router.forget_all().unwrap())
+            .unwrap();
+    }
+
     /// Publishes and releases at a router, and gives whether there was anything.
     fn publish(&mut self, node: usize) -> bool {
-        let (router, image) = &mut self.nodes[node];
         let mut any = false;
-        if let Some(publication) = router.publish().unwrap() {
-            image
-                .apply(publication.generation(), publication.rows())
-                .unwrap();
+        while self.publish_part(node) {
             any = true;
         }
+        let router = &mut self.nodes[node].0;
         while let Some(message) = router.release() {
             for link in &mut self.links {
                 for end in 0..2 {
@@ -166,8 +184,9 @@ impl Network {
 
 #[test]
 fn packets_meet_no_router_twice() {
+    // 10.0.0.0/8, and five prefixes in it.
     let prefixes: Vec<Prefix> = (0..6)
-        .map(|i| Prefix::new([10, i, 0, 0].into(), 16).unwrap())
+        .map(|i| Prefix::new([10, i, 0, 0].into(), if i == 0 { 8 } else { 16 }).unwrap())
         .collect();
     let mut network = Network::ring(&prefixes);
     let mut draws = Draws(1993);
@@ -176,11 +195,21 @@ fn packets_meet_no_router_twice() {
     }
     for _ in 0..4000 {
         let link = draws.below(network.links.len());
-        match draws.below(12) {
+        let node = draws.below(network.nodes.len());
+        match draws.below(16) {
             0 if network.links[link].is_up => network.set_down(link),
             0 => network.set_up(link),
-            1..5 => {
-                let node = draws.below(network.nodes.len());
+            1 => {
+                let router = &mut network.nodes[node].0;
+                if router.detach(prefixes[node]).is_err() {
+                    router.attach(prefixes[node], cost(1)).unwrap();
+                }
+            }
+            2 => network.forget(node),
+            3 => {
+                network.publish_part(node);
+            }
+            4..8 => {
                 network.publish(node);
             }
             _ => {
@@ -195,6 +224,9 @@ fn packets_meet_no_router_twice() {
         if !network.links[link].is_up {
             network.set_up(link);
         }
+    }
+    for (&prefix, (router, _)) in prefixes.iter().zip(&mut network.nodes) {
+        router.attach(prefix, cost(1)).unwrap();
     }
     network.settle();
     // Router 0 is one link of cost 1 from router 1, which is attached at cost 1; the way round is longer.
@@ -215,7 +247,7 @@ fn packets_meet_no_router_twice() {
 #[test]
 fn a_refused_call_leaves_the_router_as_it_was() {
     let net: Prefix = "10.0.0.0/8".parse().unwrap();
-    let mut router = Router::new(&[cost(5)], &[]).unwrap();
+    let mut router = Router::new(&[cost(5)], &[], 1).unwrap();
     assert_eq!(router.link_up(1, 1, cost(1)), Err(Status::UnknownPort));
     assert_eq!(router.link_up(0, 0, cost(1)), Err(Status::OtherSession));
     assert_eq!(router.link_down(0), Err(Status::IsDown));
@@ -229,20 +261,79 @@ fn a_refused_call_leaves_the_router_as_it_was() {
     router.detach(net).unwrap();
     assert_eq!(router.state(net).unwrap().distance, Distance::INFINITY);
     assert_eq!(
-        Router::new(&[cost(1); 33], &[]).unwrap_err(),
+        Router::new(&[cost(1); 33], &[], 1).unwrap_err(),
         Status::TooManyPorts
     );
+    let other = "192.0.2.0/24".parse().unwrap();
+    assert_eq!(router.attach(other, cost(1)), Err(Status::TooManyPrefixes));
+    assert_eq!(router.forget(other), Err(Status::UnknownPrefix));
+    // The row is not in force yet.
+    assert_eq!(router.forget(net), Err(Status::StillUsed));
+    assert_eq!(router.publish_some(0).unwrap_err(), Status::BadCount);
+    assert_eq!(router.counts().changed, 1);
 }
 
 #[test]
 fn a_router_goes_to_another_thread() {
-    let mut router = Router::new(&[cost(1)], &[("0.0.0.0/0".parse().unwrap(), cost(1))]).unwrap();
+    let default = "0.0.0.0/0".parse().unwrap();
+    let mut router = Router::new(&[cost(1)], &[(default, cost(1))], 1).unwrap();
     let rows = std::thread::spawn(move || router.rows())
         .join()
         .unwrap()
         .unwrap();
-    assert_eq!(
-        rows,
-        [Row::new("0.0.0.0/0".parse().unwrap(), Target::Local)]
-    );
+    assert_eq!(rows, [Row::new(default, Target::Local)]);
+}
+
+#[test]
+fn a_prefix_that_nobody_is_attached_to_is_forgotten() {
+    let net: Prefix = "10.0.0.0/8".parse().unwrap();
+    let inner: Prefix = "10.1.0.0/16".parse().unwrap();
+    let other = "192.0.2.0/24".parse().unwrap();
+    let mut network = Network::ring(&[net, inner, other]);
+    for link in 0..network.links.len() {
+        network.set_up(link);
+    }
+    network.settle();
+    network.nodes[1].0.detach(inner).unwrap();
+    network.settle();
+    for node in 0..3 {
+        let found = network.nodes[node].1.lookup(inner.addr());
+        assert_eq!(found, Some(Row::new(inner, Target::Unreachable)));
+        network.forget(node);
+        let (router, image) = &mut network.nodes[node];
+        assert!(router.state(inner).is_none() && router.forget_all().unwrap().is_empty());
+        assert_eq!(image.lookup(inner.addr()).unwrap().prefix(), net);
+        assert_eq!(image.row_count(), 2);
+    }
+    // There is room for it again, and all learn of it.
+    network.nodes[2].0.attach(inner, cost(1)).unwrap();
+    network.settle();
+    for (router, image) in &mut network.nodes {
+        assert_eq!(image.lookup(inner.addr()).unwrap().prefix(), inner);
+        assert_eq!(router.counts().prefixes, 3);
+    }
+}
+
+#[test]
+fn rows_come_in_parts_before_messages_leave() {
+    let mut router = Router::new(&[cost(1)], &[], 8).unwrap();
+    router.link_up(0, 1, cost(1)).unwrap();
+    drop(router.publish().unwrap());
+    let prefixes: Vec<Prefix> = (0..5)
+        .map(|i| Prefix::new([10, i, 0, 0].into(), 16).unwrap())
+        .collect();
+    for &prefix in &prefixes {
+        router.attach(prefix, cost(1)).unwrap();
+    }
+    let mut given = Vec::new();
+    for left in [3, 1, 0] {
+        let publication = router.publish_some(2).unwrap().unwrap();
+        assert_eq!(publication.more(), left > 0);
+        given.extend(publication.rows().iter().map(|row| row.prefix()));
+        drop(publication);
+        assert_eq!(router.counts().changed, left);
+        assert_eq!(router.counts().ripe, if left > 0 { 0 } else { 5 });
+    }
+    assert_eq!(given, prefixes);
+    assert!(router.publish_some(2).unwrap().is_none());
 }

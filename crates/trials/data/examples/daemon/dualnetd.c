@@ -17,8 +17,9 @@
  *
  * A connection is a session of a link: both ends say which session they had last, and the new one is the next
  * after both. Frames have 16 bytes, and each field is tested: a neighbour that sends what it must not loses its
- * connection, with one line on standard error, and nothing else happens. With --install published rows are
- * routes of the kernel too (Linux, by netlink).
+ * connection, with one line on standard error, and nothing else happens. A prefix of which nothing is known any
+ * more is forgotten within a second. With --install published rows are routes of the kernel too (Linux, by
+ * netlink).
  */
 #define _GNU_SOURCE
 #include "tuhvondi_router.h"
@@ -44,11 +45,13 @@ enum {
     VERSION = 1,          /* of the frames */
     TRACES = 64,          /* traces on their way at a time */
     HOPS = 64,            /* routers that a trace passes at most */
-    MOST_PREFIXES = 4096, /* that may become known */
+    MOST_PREFIXES = 4096, /* that are known at a time */
+    PART = 256,           /* rows that are put in force at a time */
     QUEUE = 1 << 20,      /* bytes that wait for a neighbour at most */
     ALIVE_MS = 1000,      /* between signs of life */
     DEAD_MS = 3500,       /* of silence after which a link is down */
     RETRY_MS = 250,       /* between attempts to connect */
+    FORGET_MS = 1000,     /* between looks for prefixes to forget */
     ROUTE_PROTOCOL = 187, /* by which the kernel's routes are known as ours */
 };
 
@@ -97,11 +100,12 @@ static bool is_well_formed(const struct frame *frame)
 enum peer_state { IDLE, CONNECTING, GREETING, UP };
 
 /* A neighbour: the port of its number. `last` is the session that the link had last. `leaving`: the link
- * went down, and the router could not be told for want of memory. */
+ * went down, and the router could not be told for want of memory. `lets_in`: a message of the session was
+ * taken, and so packets that come from the neighbour may be forwarded. */
 struct peer {
     struct in_addr address;
     uint32_t cost;
-    bool passive, shut, leaving;
+    bool passive, shut, leaving, lets_in;
     enum peer_state state;
     int fd;
     uint16_t last;
@@ -125,12 +129,11 @@ static struct peer peers[TUHVONDI_PORTS];
 static size_t peer_count;
 static struct trace traces[TRACES];
 
-
 static struct tuhvondi_router router = TUHVONDI_NO_ROUTER;
 /* What forwards, and a handle of it for look-ups, which is let go of while it changes. */
 static struct tuhvondi_image image = TUHVONDI_NO_IMAGE, reader = TUHVONDI_NO_IMAGE;
 /* Rows that were published and do not forward yet: until they do, nothing is released. */
-static struct tuhvondi_row rows[MOST_PREFIXES];
+static struct tuhvondi_row rows[PART];
 static size_t row_count;
 static uint64_t generation;
 static int route_socket = -1;
@@ -156,9 +159,11 @@ static struct peer *peer_of(struct in_addr address)
 
 /* ---- kernel routes */
 
-/* Sets the kernel's route of a row, or takes it away. The kernel has done it when this returns. */
+/* With --install, sets the kernel's route of a row, or takes it away. Whether that is done when this returns. */
 static bool install(const struct tuhvondi_row *row, bool stays)
 {
+    if (route_socket < 0)
+        return true;
     bool via = row->kind == TUHVONDI_VIA;
     stays = stays && row->kind != TUHVONDI_LOCAL;
     struct {
@@ -185,9 +190,10 @@ static bool install(const struct tuhvondi_row *row, bool stays)
     request.head.nlmsg_len = sizeof request - (stays && via ? 0 : sizeof request.by);
     if (send(route_socket, &request, request.head.nlmsg_len, 0) > 0)
         recv(route_socket, &answer, sizeof answer, 0);
-    if (stays && answer.done.error)
-        SAY("a route is not set: %s", strerror(-answer.done.error));
-    return !stays || answer.done.error == 0;
+    if (answer.done.error == 0 || (!stays && answer.done.error == -ESRCH))
+        return true;
+    SAY("a route is not %s: %s", stays ? "set" : "taken away", strerror(-answer.done.error));
+    return false;
 }
 
 /* ---- connections of neighbours */
@@ -293,6 +299,7 @@ static void begin_session(struct peer *peer, uint16_t theirs)
         return;
     }
     peer->state = UP;
+    peer->lets_in = false;
     SAY("%s: session %u", inet_ntoa(peer->address), peer->last);
 }
 
@@ -338,30 +345,14 @@ static void begin_trace(struct trace asked, uint32_t addr, uint8_t hops)
 
 /* ---- what neighbours send */
 
-/* Whether a prefix would be one too many. */
-static bool is_one_too_many(uint32_t addr, uint8_t len)
-{
-    struct tuhvondi_prefix_state state;
-    struct tuhvondi_counts counts;
-    return tuhvondi_router_state(&router, addr, len, &state) == TUHVONDI_UNKNOWN_PREFIX
-           && tuhvondi_router_counts(&router, &counts) == TUHVONDI_DONE && counts.prefixes >= MOST_PREFIXES;
-}
-
-/* Gives a message to the router, where its sender keeps to the protocol. What is wrong with it, if
- * anything; an empty answer: there was no memory for it. */
-static const char *take_message(uint8_t port, const struct frame *frame)
+/* Gives a message to the router. Why it is refused, if it is; an empty answer: there was no memory for it. */
+static const char *take_message(struct peer *peer, const struct frame *frame)
 {
     struct tuhvondi_message message = {.addr = frame->addr, .value = frame->value, .len = frame->len,
-                                       .session = frame->number, .kind = frame->kind, .port = port};
-    struct tuhvondi_prefix_state state = {0};
-    tuhvondi_router_state(&router, frame->addr, frame->len, &state);
-    if (is_one_too_many(frame->addr, frame->len))
-        return "it names too many prefixes";
-    if (frame->kind == TUHVONDI_REPLY && !state.awaited[port])
-        return "it answers what nobody asked";
-    if (frame->kind == TUHVONDI_QUERY && state.active && state.owed == port)
-        return "it asks again before it is answered";
+                                       .session = frame->number, .kind = frame->kind,
+                                       .port = (uint8_t)(peer - peers)};
     uint32_t status = tuhvondi_router_message(&router, &message);
+    peer->lets_in |= status == TUHVONDI_DONE;
     return status == TUHVONDI_DONE ? NULL : status == TUHVONDI_NO_MEMORY ? "" : tuhvondi_status_text(status);
 }
 
@@ -376,7 +367,7 @@ static const char *take_frame(struct peer *peer, const unsigned char bytes[sizeo
     if ((frame.type == 'H') != (peer->state == GREETING))
         return "a frame is not due";
     if (frame.type == 'M')
-        return take_message((uint8_t)(peer - peers), &frame);
+        return take_message(peer, &frame);
     if (frame.type == 'H')
         begin_session(peer, frame.number);
     if (frame.type == 'T')
@@ -421,30 +412,50 @@ static bool forward_rows(void)
         tuhvondi_image_free(&reader);
         done = tuhvondi_image_apply(&image, generation, rows, row_count) == TUHVONDI_DONE;
         for (size_t i = 0; done && i < row_count; i++)
-            done = route_socket < 0 || install(&rows[i], true);
+            done = install(&rows[i], true);
         row_count = done ? 0 : row_count;
     }
     return tuhvondi_image_share(&image, &reader) == TUHVONDI_DONE && done;
 }
 
-/* Publishes what is due, and only then puts on the links what the router releases. Where something is
- * refused it is tried again at the next turn, and nothing is lost. */
-static void publish_and_release(void)
+/* Publishes until nothing is due, a part at a time, and only then puts on the links what the router releases. Whether
+ * all is done: where something is refused it is tried again at the next turn, and nothing is lost. */
+static bool publish_and_release(void)
 {
-    struct tuhvondi_counts counts;
-    if (!forward_rows() || tuhvondi_router_counts(&router, &counts))
-        return;
-    if (counts.due
-        && (tuhvondi_router_publish(&router, rows, MOST_PREFIXES, &row_count, &generation) != TUHVONDI_DONE
-            || !forward_rows()))
-        return;
+    uint32_t status;
+    uint8_t more;
+    do {
+        if (!forward_rows())
+            return false;
+        status = tuhvondi_router_publish(&router, rows, PART, &row_count, &more, &generation);
+    } while (status == TUHVONDI_DONE);
     struct tuhvondi_message message;
-    while (tuhvondi_router_release(&router, &message) == TUHVONDI_DONE) {
+    while (status == TUHVONDI_NOTHING_DUE && tuhvondi_router_release(&router, &message) == TUHVONDI_DONE) {
         struct peer *peer = &peers[message.port];
         if (peer->state == UP && peer->last == message.session)
             put_frame(peer, (struct frame){'M', message.kind, message.session, message.addr, message.value,
                                            message.len, {0}});
     }
+    return status == TUHVONDI_NOTHING_DUE;
+}
+
+/* Forgets each prefix of which nothing is known any more, and takes its row out of the kernel, and then out of the
+ * image; at the end, each row. What the kernel keeps stays in the image, and is found there the next time. */
+static void take_rows_out(bool ends)
+{
+    struct tuhvondi_prefix from = TUHVONDI_FIRST_PREFIX;
+    struct tuhvondi_row row;
+    size_t count;
+    while (tuhvondi_image_rows(&image, &from, &row, 1, &count) == TUHVONDI_DONE && count > 0) {
+        struct tuhvondi_prefix prefix = {row.addr, row.len};
+        bool goes = row.kind == TUHVONDI_UNREACHABLE
+                    && tuhvondi_router_forget(&router, row.addr, row.len) != TUHVONDI_STILL_USED;
+        if ((ends || goes) && install(&row, false)) {
+            tuhvondi_image_free(&reader);
+            tuhvondi_image_remove(&image, generation, &prefix, 1);
+        }
+    }
+    tuhvondi_image_share(&image, &reader);
 }
 
 /* ---- what it is asked and told */
@@ -473,8 +484,7 @@ static int64_t change(const char *line, bool starts)
     struct peer *peer = is_address ? peer_of(address) : NULL;
 #define IS(text, count) (words == (count) && strcmp(verb, text) == 0)
     if (IS("attach", 3) && is_prefix)
-        return is_one_too_many(addr, len) ? TUHVONDI_BAD_COUNT
-                                          : tuhvondi_router_attached(&router, addr, len, cost);
+        return tuhvondi_router_attached(&router, addr, len, cost);
     if (IS("detach", 2) && is_prefix)
         return tuhvondi_router_detached(&router, addr, len);
     if (IS("cost", 3) && peer && is_cost) {
@@ -527,23 +537,26 @@ static void tell_row(int fd, const struct tuhvondi_row *row, const struct tuhvon
     dprintf(fd, "\n");
 }
 
-/* Tells the neighbours, and of each prefix the published row, or what the router knows of it. */
+/* Tells the neighbours, and the rows in force, or what the router knows of each prefix. A neighbour whose packets
+ * are let in is `heard`. */
 static void tell_prefixes(int fd, bool all)
 {
     static struct tuhvondi_row known[MOST_PREFIXES];
+    struct tuhvondi_prefix from = TUHVONDI_FIRST_PREFIX;
     struct tuhvondi_prefix_state state;
     size_t count = 0;
     uint64_t in_force = 0;
     tuhvondi_image_generation(&image, &in_force);
-    if (tuhvondi_router_rows(&router, known, MOST_PREFIXES, &count) != TUHVONDI_DONE)
+    if (all ? tuhvondi_router_rows(&router, known, MOST_PREFIXES, &count)
+            : tuhvondi_image_rows(&image, &from, known, MOST_PREFIXES, &count))
         dprintf(fd, "no memory\n");
     dprintf(fd, "generation %" PRIu64 "\n", in_force);
     for (struct peer *peer = peers; peer < peers + peer_count; peer++)
-        dprintf(fd, "neighbour %s %s %u\n", inet_ntoa(peer->address), peer->state == UP ? "up" : "down", peer->last);
+        dprintf(fd, "neighbour %s %s %u%s\n", inet_ntoa(peer->address), peer->state == UP ? "up" : "down", peer->last,
+                peer->state == UP && peer->lets_in ? " heard" : "");
     for (size_t i = 0; i < count; i++) {
-        tuhvondi_router_state(&router, known[i].addr, known[i].len, &state);
-        if (all || state.published.kind != TUHVONDI_NO_ROW)
-            tell_row(fd, all ? &known[i] : &state.published, all ? &state : NULL);
+        bool has_state = all && tuhvondi_router_state(&router, known[i].addr, known[i].len, &state) == TUHVONDI_DONE;
+        tell_row(fd, &known[i], has_state ? &state : NULL);
     }
 }
 
@@ -561,8 +574,10 @@ static void answer_client(int listener)
     line[got > 0 ? got : 0] = '\0';
     int words = sscanf(line, "%15s %31s %c", verb, operand, &rest);
     bool asks = words == 2 && inet_pton(AF_INET, operand, &address) == 1;
-    if (asks && strcmp(verb, "trace") == 0)
-        return begin_trace((struct trace){.from = -1, .fd = fd}, ntohl(address.s_addr), HOPS - 1);
+    if (asks && strcmp(verb, "trace") == 0) {
+        begin_trace((struct trace){.from = -1, .fd = fd}, ntohl(address.s_addr), HOPS - 1);
+        return;
+    }
     uint32_t addr = asks ? ntohl(address.s_addr) : 0;
     if (asks && strcmp(verb, "lookup") == 0
         && tuhvondi_image_lookup(&reader, &addr, 1, &row, 1) == TUHVONDI_DONE) {
@@ -599,8 +614,8 @@ static void open_router(void)
     uint32_t costs[TUHVONDI_PORTS];
     for (size_t i = 0; i < TUHVONDI_PORTS; i++)
         costs[i] = 1;
-    if (tuhvondi_router_new(costs, TUHVONDI_PORTS, &none, 0, &router) || tuhvondi_image_new(rows, 0, &image)
-        || tuhvondi_image_share(&image, &reader))
+    if (tuhvondi_router_new(costs, TUHVONDI_PORTS, &none, 0, MOST_PREFIXES, &router)
+        || tuhvondi_image_new(rows, 0, &image) || tuhvondi_image_share(&image, &reader))
         FAIL("no memory");
 }
 
@@ -626,8 +641,14 @@ static void tick(int64_t now)
 
 static void turn(int listener, int control)
 {
+    static int64_t next_forget;
     struct pollfd polls[2 + TUHVONDI_PORTS] = {{listener, POLLIN, 0}, {control, POLLIN, 0}};
     struct pollfd *at = polls + 2;
+    /* While published rows do not forward, the router is told nothing, and so nothing is read. */
+    if (!forward_rows()) {
+        poll(NULL, 0, 50);
+        return;
+    }
     for (struct peer *peer = peers; peer < peers + peer_count; peer++)
         *at++ = (struct pollfd){peer->fd, POLLIN | (peer->state == CONNECTING || peer->out_count ? POLLOUT : 0), 0};
     if (poll(polls, (nfds_t)(at - polls), 50) < 0)
@@ -646,8 +667,12 @@ static void turn(int listener, int control)
         accept_peer(listener);
     if (polls[1].revents)
         answer_client(control);
-    tick(now_ms());
-    publish_and_release();
+    int64_t now = now_ms();
+    tick(now);
+    if (publish_and_release() && now >= next_forget) {
+        take_rows_out(false);
+        next_forget = now + FORGET_MS;
+    }
     for (struct peer *peer = peers; peer < peers + peer_count; peer++)
         if (peer->fd >= 0 && peer->state != CONNECTING && peer->out_count > 0)
             flush(peer);
@@ -686,9 +711,7 @@ int main(int count, char **words)
     int listener = listening(AF_INET, &here, sizeof here, "listen");
     while (!stopping)
         turn(listener, control);
-    if (tuhvondi_router_rows(&router, rows, MOST_PREFIXES, &row_count) == TUHVONDI_DONE)
-        for (size_t i = 0; route_socket >= 0 && i < row_count; i++)
-            install(&rows[i], false);
+    take_rows_out(true);
     unlink(control_path.sun_path);
     tuhvondi_image_free(&reader);
     tuhvondi_image_free(&image);
