@@ -6,7 +6,7 @@ use Rattle.single_router.specs.declared.opening.Attachment.{Attachment}
 use Rattle.single_router.specs.Openings.{made_router}
 use Rattle.single_router.specs.declared.input.Input.TheVariants as input
 use Rattle.daemon_laws.specs.Processes.{Processes}
-use Rattle.daemon_laws.specs.Happenings.{Happening, Tells, Takes, Publishes, Releases, IsMade}
+use Rattle.daemon_laws.specs.Happenings.{Happening, Begins, Tells, Takes, Publishes, Releases, IsMade}
 use Rattle.daemon_laws.specs.Reached.{SomeForgets, SomePacketGoes}
 
 -- all addresses, at cost 1
@@ -23,12 +23,16 @@ abbrev pub first : Processes
 first = record { routers = λ i. made_router (7 ∷ []) (homes (i == 0)); coming = λ e. []; last = λ e. 0; heard = λ e. 0; lost = false }
 
 -- so each is made
-pub made_one : (b : Bool) → IsMade (made_router (7 ∷ []) (homes b))
+made_one : (b : Bool) → IsMade (made_router (7 ∷ []) (homes b))
 made_one true = record { costs = 7 ∷ []; attachments = homes true; good = refl; made = refl }
 made_one false = record { costs = 7 ∷ []; attachments = homes false; good = refl; made = refl }
 
+-- so they begin
+pub begins : Begins first
+begins = record { routers_made = λ i. made_one (i == 0); nothing_comes = λ e. refl; never_up = λ e. refl; never_heard = λ e. refl; nothing_lost = refl }
+
 -- each end comes up by itself; the first router tells the other, which takes that and publishes
-abbrev happenings : List Happening
+abbrev pub happenings : List Happening
 happenings =
     Tells 1 (input.Up 0 1 7)
     ∷ Tells 0 (input.Up 0 1 7)
@@ -48,7 +52,7 @@ some_packet = record {
   topology = pair;
   first = first;
   happenings = happenings;
-  begins = record { routers_made = λ i. made_one (i == 0); nothing_comes = λ e. refl; never_up = λ e. refl; never_heard = λ e. refl; nothing_lost = refl };
+  begins = begins;
   can = ((omega arith, seven), ((omega arith, seven), (tt, (tt, (tt, (tt, tt))))));
   addr = 5;
   prefix = record { addr = 0; len = 0 };
@@ -63,7 +67,7 @@ some_forgets = record {
   topology = pair;
   first = first;
   happenings = Tells 0 (input.Detached (record { addr = 0; len = 0 })) ∷ Publishes 0 ∷ [];
-  begins = record { routers_made = λ i. made_one (i == 0); nothing_comes = λ e. refl; never_up = λ e. refl; never_heard = λ e. refl; nothing_lost = refl };
+  begins = begins;
   can = (tt, (tt, tt));
   prefix = record { addr = 0; len = 0 };
   router = 0;

@@ -19,7 +19,7 @@ use Rattle.daemon_laws.proofs.Items.{up_is}
 use Rattle.daemon_laws.proofs.Telling.{none_up}
 use Rattle.daemon_laws.proofs.Cheap.{IsCheap}
 use Rattle.daemon_laws.proofs.SomeRows.{row_forgotten, row_beside, chosen_without}
-use Rattle.daemon_laws.proofs.Shows.{ShownAs}
+use Rattle.loop_freedom.proofs.Published.{ShownAs}
 use Rattle.daemon_laws.proofs.InForce.{AsChosen, PutsInForce, puts_held, puts_nothing}
 
 -- ---- a machine that knows nothing

@@ -6,14 +6,16 @@ use Rattle.network_model.specs.World.{Gate}
 use Rattle.std.specs.FinMap.{find as row_of}
 use Rattle.loop_freedom.specs.Facts.{End, end_of}
 use Rattle.loop_freedom.proofs.Link.{EndInvariant}
+use Rattle.loop_freedom.proofs.Published.{ShownAs, invariant_here, invariant_there}
 use Rattle.loop_freedom.proofs.Notices.{IsLawfullyHeld}
 use Rattle.daemon_laws.specs.Processes.{Carried, Processes}
+use Rattle.daemon_laws.proofs.Cases.{each_but}
 use Rattle.daemon_laws.proofs.Seen.{carried, arriving, end_in, is_in}
 use Rattle.daemon_laws.proofs.Routers.{RouterKept}
 use Rattle.daemon_laws.proofs.Cheap.{IsCheap}
 use Rattle.daemon_laws.proofs.Told.{Told}
 use Rattle.daemon_laws.proofs.Gone.{Gone}
-use Rattle.daemon_laws.proofs.Shows.{ShownAs, invariant_here, invariant_there, told_here, told_there, gone_here, gone_there}
+use Rattle.daemon_laws.proofs.Shows.{told_here, told_there, gone_here, gone_there}
 use Rattle.daemon_laws.proofs.Invariant.{router_at, session_of, end_from, MayBe, Left, Invariant}
 
 -- ---- a router
@@ -94,12 +96,17 @@ module _ (t : Topology) (p : Prefix) (pfd pfd' : ℕ → ℕ) (w w' : Processes)
           subst (λ (j : ℕ). end_in p n (pfd' j) (w'.routers j) e.port (w'.coming (t.far e)) ≡ end_in p n (pfd j) (w.routers j) e.port (w.coming (t.far e))) (sym r)
           (ap (end_in p n (pfd' P.i) (w'.routers P.i) e.port) (P.coming_is (t.far e)) ∙ same n e.port (w.coming (t.far e))))
 
+  -- what holds of an end before the step, and then of one whose row is in force, holds of it after the step
+  along : (Q : End → Type 0) (n : ℕ) (e : LinkEnd) → (ShownAs (end_from t p n pfd w e) (end_from t p n pfd' w' e) → Q (end_from t p n pfd' w' e)) → Q (end_from t p n pfd w e) → Q (end_from t p n pfd' w' e)
+  along Q n e shown h = by_either (either n e)
+    where
+      by_either : Either n e → Q (end_from t p n pfd' w' e)
+      by_either (Here S) = shown S
+      by_either (Away a) = subst Q (sym a) h
+
   -- what holds of each router as it was and of router i after the step, holds of each router after it
   each_router : (Q : Router → Type 0) → Q (w'.routers P.i) → ((j : ℕ) → Q (w.routers j)) → (j : ℕ) → Q (w'.routers j)
-  each_router Q here away j = elim (cases_eq j P.i) [
-    | inl e ↦ subst (λ (k : ℕ). Q (w'.routers k)) (sym e) here
-    | inr d ↦ subst Q (sym (P.routers_elsewhere j d)) (away j)
-  ]
+  each_router Q = each_but P.routers_elsewhere (λ j. Q)
 
   -- a router is in the sessions that it was in, and was last in the same session
   record SameAt (e : LinkEnd) : Type 0 where
@@ -127,53 +134,33 @@ module _ (t : Topology) (p : Prefix) (pfd pfd' : ℕ → ℕ) (w w' : Processes)
 
   -- in a session that neither router has left
   links' : (e : LinkEnd) → t.valid e ≡ true → (n : ℕ) → MayBe p n w' e → MayBe p n w' (t.far e) → EndInvariant (end_from t p n pfd' w' e) (end_from t p n pfd' w' (t.far e))
-  links' e v n one two = far_now (either n (t.far e)) (near (either n e))
-    where
-      first : EndInvariant (end_from t p n pfd w e) (end_from t p n pfd w (t.far e))
-      first = I.links e v n (may_before n e one) (may_before n (t.far e) two)
-
-      near : Either n e → EndInvariant (end_from t p n pfd' w' e) (end_from t p n pfd w (t.far e))
-      near (Here S) =
-          let m = machine_of (router_at w e) p in
-          let x = end_from t p n pfd w e in
-          let cur : x.chosen ≡ true → x.current ≡ true = λ c. (and_parts (is_current m e.port (session_of w e) n) (is_port e.port m.successor) c).0 in
-          let low : x.fd ≤ infinity = let a = (I.sound e.router).fd_below in let b = (I.sound e.router).rd_bounded in omega (arith, a, b) in
-          invariant_here S cur low first
-      near (Away a) = subst (λ (z : End). EndInvariant z (end_from t p n pfd w (t.far e))) (sym a) first
-
-      far_now : Either n (t.far e) → EndInvariant (end_from t p n pfd' w' e) (end_from t p n pfd w (t.far e)) → EndInvariant (end_from t p n pfd' w' e) (end_from t p n pfd' w' (t.far e))
-      far_now (Here S) h = invariant_there S h
-      far_now (Away a) h = subst (λ (z : End). EndInvariant (end_from t p n pfd' w' e) z) (sym a) h
+  links' e v n one two =
+      let f = t.far e in
+      let m = machine_of (router_at w e) p in
+      let x = end_from t p n pfd w e in
+      let first : EndInvariant x (end_from t p n pfd w f) = I.links e v n (may_before n e one) (may_before n f two) in
+      let cur : x.chosen ≡ true → x.current ≡ true = λ c. (and_parts (is_current m e.port (session_of w e) n) (is_port e.port m.successor) c).0 in
+      let low : x.fd ≤ infinity = let a = (I.sound e.router).fd_below in let b = (I.sound e.router).rd_bounded in omega (arith, a, b) in
+      let near = along (λ z. EndInvariant z (end_from t p n pfd w f)) n e (λ S. invariant_here S cur low first) first in
+      along (λ z. EndInvariant (end_from t p n pfd' w' e) z) n f (λ S. invariant_there S near) near
 
   -- what the one was told of the other
   told' : w'.lost ≡ false → (e : LinkEnd) → t.valid e ≡ true → (n : ℕ) → MayBe p n w' e → MayBe p n w' (t.far e) → Told (end_from t p n pfd' w' e) (end_from t p n pfd' w' (t.far e))
-  told' whole e v n one two = far_now (either n (t.far e)) (near (either n e))
-    where
-      near : Either n e → Told (end_from t p n pfd' w' e) (end_from t p n pfd w (t.far e))
-      near (Here S) = told_here S (I.told (sym P.lost_same ∙ whole) e v n (may_before n e one) (may_before n (t.far e) two))
-      near (Away a) = subst (λ (z : End). Told z (end_from t p n pfd w (t.far e))) (sym a) (I.told (sym P.lost_same ∙ whole) e v n (may_before n e one) (may_before n (t.far e) two))
-
-      far_now : Either n (t.far e) → Told (end_from t p n pfd' w' e) (end_from t p n pfd w (t.far e)) → Told (end_from t p n pfd' w' e) (end_from t p n pfd' w' (t.far e))
-      far_now (Here S) h = told_there S h
-      far_now (Away a) h = subst (λ (z : End). Told (end_from t p n pfd' w' e) z) (sym a) h
+  told' whole e v n one two =
+      let f = t.far e in
+      let first : Told (end_from t p n pfd w e) (end_from t p n pfd w f) = I.told (sym P.lost_same ∙ whole) e v n (may_before n e one) (may_before n f two) in
+      let near = along (λ z. Told z (end_from t p n pfd w f)) n e (λ S. told_here S first) first in
+      along (λ z. Told (end_from t p n pfd' w' e) z) n f (λ S. told_there S near) near
 
   -- in a session that the one has left, and the other has not
   alone' : (e : LinkEnd) → t.valid e ≡ true → (n : ℕ) → Left p n w' e → MayBe p n w' (t.far e) → Gone (end_from t p n pfd' w' e) (end_from t p n pfd' w' (t.far e))
-  alone' e v n left two = far_now (either n (t.far e)) (near (either n e))
-    where
-      was : Left p n w e
-      was = left_before n e left
-
-      first : Gone (end_from t p n pfd w e) (end_from t p n pfd w (t.far e))
-      first = I.alone e v n was (may_before n (t.far e) two)
-
-      near : Either n e → Gone (end_from t p n pfd' w' e) (end_from t p n pfd w (t.far e))
-      near (Here S) = let m = machine_of (router_at w e) p in gone_here S (and_left (is_current m e.port (session_of w e) n) (is_port e.port m.successor) was.off) first
-      near (Away a) = subst (λ (z : End). Gone z (end_from t p n pfd w (t.far e))) (sym a) first
-
-      far_now : Either n (t.far e) → Gone (end_from t p n pfd' w' e) (end_from t p n pfd w (t.far e)) → Gone (end_from t p n pfd' w' e) (end_from t p n pfd' w' (t.far e))
-      far_now (Here S) h = gone_there S h
-      far_now (Away a) h = subst (λ (z : End). Gone (end_from t p n pfd' w' e) z) (sym a) h
+  alone' e v n left two =
+      let f = t.far e in
+      let m = machine_of (router_at w e) p in
+      let was : Left p n w e = left_before n e left in
+      let first : Gone (end_from t p n pfd w e) (end_from t p n pfd w f) = I.alone e v n was (may_before n f two) in
+      let near = along (λ z. Gone z (end_from t p n pfd w f)) n e (λ S. gone_here S (and_left (is_current m e.port (session_of w e) n) (is_port e.port m.successor) was.off) first) first in
+      along (λ z. Gone (end_from t p n pfd' w' e) z) n f (λ S. gone_there S near) near
 
   -- published feasible distances are at most infinity
   bounded : (j : ℕ) → pfd' j ≤ infinity

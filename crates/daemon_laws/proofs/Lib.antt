@@ -1,3 +1,4 @@
+pub mod Cases
 pub mod Away
 pub mod Seen
 pub mod Routers

@@ -141,34 +141,26 @@ module _ (t : Topology) (p : Prefix) (pfd : ℕ → ℕ) (w : Processes) (I : In
       by_same true is = as_out (drop 1 (w.coming (t.far e))) (ap (λ b. if b then drop 1 (w.coming (t.far e)) else w.coming (t.far e)) is) (drop_one n (w.coming (t.far e)))
       by_same false is = as_out (w.coming (t.far e)) (ap (λ b. if b then drop 1 (w.coming (t.far e)) else w.coming (t.far e)) is) (inl refl)
 
+  -- what holds of an end before, and then of one of whose messages the first is lost, holds of it after
+  along : (P : End → Type 0) (n : ℕ) (e : LinkEnd) → ((m : Report) → (old n e).out ≡ m ∷ (new n e).out → P (new n e)) → P (old n e) → P (new n e)
+  along P n e lost h = by_out (out n e)
+    where
+      by_out : Out n e → P (new n e)
+      by_out (Same same) = subst P (sym same) h
+      by_out (First m is) = lost m is
+
   -- what is kept of an end and another is kept after
   here_after : (n : ℕ) (e : LinkEnd) (y : End) → EndInvariant (old n e) y → EndInvariant (new n e) y
-  here_after n e y h = by_out (out n e)
-    where
-      by_out : Out n e → EndInvariant (new n e) y
-      by_out (Same same) = subst (λ (x : End). EndInvariant x y) (sym same) h
-      by_out (First m is) = lost_here (old n e) y m (new n e).out is h
+  here_after n e y h = along (λ x. EndInvariant x y) n e (λ m is. lost_here (old n e) y m (new n e).out is h) h
 
   there_after : (n : ℕ) (e : LinkEnd) (y : End) → EndInvariant y (old n e) → EndInvariant y (new n e)
-  there_after n e y h = by_out (out n e)
-    where
-      by_out : Out n e → EndInvariant y (new n e)
-      by_out (Same same) = subst (λ (x : End). EndInvariant y x) (sym same) h
-      by_out (First m is) = lost_there (old n e) y m (new n e).out is h
+  there_after n e y h = along (EndInvariant y) n e (λ m is. lost_there (old n e) y m (new n e).out is h) h
 
   gone_here_after : (n : ℕ) (e : LinkEnd) (y : End) → Gone (old n e) y → Gone (new n e) y
-  gone_here_after n e y h = by_out (out n e)
-    where
-      by_out : Out n e → Gone (new n e) y
-      by_out (Same same) = subst (λ (x : End). Gone x y) (sym same) h
-      by_out (First m is) = lost_gone (old n e) y m (new n e).out is h
+  gone_here_after n e y h = along (λ x. Gone x y) n e (λ m is. lost_gone (old n e) y m (new n e).out is h) h
 
   gone_there_after : (n : ℕ) (e : LinkEnd) (y : End) → Gone y (old n e) → Gone y (new n e)
-  gone_there_after n e y h = by_out (out n e)
-    where
-      by_out : Out n e → Gone y (new n e)
-      by_out (Same same) = subst (λ (x : End). Gone y x) (sym same) h
-      by_out (First m is) = lost_gone_there (old n e) y m (new n e).out is h
+  gone_there_after n e y h = along (Gone y) n e (λ m is. lost_gone_there (old n e) y m (new n e).out is h) h
 
   -- what comes without the first is lawful
   coming' : (e : LinkEnd) → IsLawfullyHeld (w.last (t.far e)) (carried p (w'.coming e))

@@ -8,6 +8,7 @@ use Rattle.loop_freedom.proofs.Link.{EndInvariant}
 use Rattle.loop_freedom.proofs.LinkSteps.{LinkStep, step_keeps}
 use Rattle.loop_freedom.proofs.Notices.{IsLawfullyHeld, lawfully_held_later}
 use Rattle.daemon_laws.specs.Processes.{Processes}
+use Rattle.daemon_laws.proofs.Cases.{each_but}
 use Rattle.daemon_laws.proofs.Seen.{carried, messages_arriving, is_in, MayBeIn}
 use Rattle.daemon_laws.proofs.Routers.{RouterKept, Unmoved}
 use Rattle.daemon_laws.proofs.Moving.{in_session, hop_same, Moved, moved_unmoved}
@@ -48,10 +49,7 @@ module _ (t : Topology) (p : Prefix) (pfd : ℕ → ℕ) (w w' : Processes) (I :
 
   -- what holds of each router as it was and of router i after its step, holds of each router after the step
   each_router : (P : ℕ → Router → Type 0) → P G.i (w'.routers G.i) → ((j : ℕ) → P j (w.routers j)) → (j : ℕ) → P j (w'.routers j)
-  each_router P here away j = elim (cases_eq j G.i) [
-    | inl e ↦ subst (λ (k : ℕ). P k (w'.routers k)) (sym e) here
-    | inr d ↦ subst (P j) (sym (G.routers_elsewhere j d)) (away j)
-  ]
+  each_router = each_but G.routers_elsewhere
 
   -- a router that makes no step
   still : (r : Router) → RouterKept p r → Unmoved p r r

@@ -1,6 +1,6 @@
 -- Whatever happens keeps the order of sessions.
-use Rattle.std.proofs.Common.{refl, sym, ap, subst, ◌∙◌, arith, inl, inr, ◌≡◌, ◌⊎◌, ℕ, ◌≤◌, max, Bool, true, false, ◌&&◌, ◌==◌, nat_lt, is_none, if◌then◌else◌, List, [], ◌∷◌, take, drop, Option, Some, None, slice_get, eq-eqb, ltb-false}
-use Rattle.packet_loops.proofs.Common.{option_map_or, and_parts, and_from, false≢true, take-append-le, Prefix, Held, Router, machine_of, session_at, router_publishing, router_releasing, ripe_front, next_hop_at, ripe_of, is_up_at, is_port, is_next_hop, Topology, LinkEnd, at_port, place_cases}
+use Rattle.std.proofs.Common.{refl, sym, ap, subst, ◌∙◌, arith, inl, inr, ◌≡◌, ◌⊎◌, ℕ, ◌≤◌, max, Bool, true, false, ◌&&◌, ◌==◌, is_none, if◌then◌else◌, List, [], ◌∷◌, take, drop, Some, None, slice_get, eq-eqb}
+use Rattle.packet_loops.proofs.Common.{and_parts, and_from, false≢true, take-append-le, Prefix, Held, Router, machine_of, session_at, router_publishing, router_releasing, ripe_front, next_hop_at, ripe_of, is_up_at, is_port, is_next_hop, Topology, LinkEnd, at_port, place_cases}
 use Rattle.network_model.proofs.Common.{cases_eq, both_ways}
 use Rattle.loop_freedom.specs.Facts.{End}
 use Rattle.router_core.specs.Alone.{router_publishing_some}
@@ -10,14 +10,16 @@ use Rattle.single_router.specs.declared.opening.Attachment.{Attachment}
 use Rattle.single_router.specs.Inputs.{told_fault}
 use Rattle.single_router.specs.Openings.{make_fault, made_router}
 use Rattle.daemon_laws.specs.Processes.{Carried, Processes}
-use Rattle.daemon_laws.specs.Happenings.{Happening, Tells, Takes, Loses, Publishes, PublishesSome, Forgets, Releases, BeginsAnew, IsOwn, CanHappen, with_router, is_same_end, with_coming, with_heard, told, forgotten, with_taken, with_released, next, after, Begins, AllCanHappen}
+use Rattle.daemon_laws.specs.Happenings.{Happening, Tells, Takes, Loses, Publishes, PublishesSome, Forgets, Releases, BeginsAnew, IsOwn, CanHappen, with_router, is_same_end, with_coming, told, forgotten, with_released, next, after, Begins, AllCanHappen}
 use Rattle.daemon_laws.specs.Facts.{fds_next}
+use Rattle.daemon_laws.proofs.Cases.{after_message, by_take, by_release}
 use Rattle.daemon_laws.proofs.Seen.{is_in}
 use Rattle.daemon_laws.proofs.Moving.{in_session}
 use Rattle.daemon_laws.proofs.Invariant.{router_at, session_of, Invariant}
 use Rattle.daemon_laws.proofs.Meeting.{GoesAt, may_before}
 use Rattle.daemon_laws.proofs.InForce.{Ends, AsChosen, AsBefore, PutsInForce}
-use Rattle.daemon_laws.proofs.Releasing.{as_carried, Sent, OnItsWay, Lost, front_of, ripe_front_is}
+use Rattle.daemon_laws.proofs.Releasing.{as_carried, Sent, OnItsWay, Lost}
+use Rattle.packet_loops.proofs.Releasing.{front_of, ripe_front_is}
 use Rattle.daemon_laws.proofs.Beginning.{Made, made}
 use Rattle.daemon_laws.proofs.Orderly.{CarriedPast, HeldPast, carried_later, carried_append, carried_drop, carried_first, held_later, held_append, held_drop, held_take, stamped_past, HoldsMore, told_more, Shows, Orderly, hop_from}
 use Rattle.daemon_laws.proofs.Steps.{router_here, router_away, end_same, tells_at, taken_at, publishes_puts, publishes_some_puts, forgets_puts, sent_is, next_keeps}
@@ -239,9 +241,25 @@ module _ (t : Topology) (p : Prefix) (pfd : ℕ → ℕ) (w : Processes) (I : In
     hears = λ d. Before refl;
   })
 
+  -- without the first message at an end, what comes to each is past what it was past
+  fewer : (e d : LinkEnd) (n : ℕ) → CarriedPast n (w.coming d) → CarriedPast n (with_coming e (drop 1) w.coming d)
+  fewer e d n h = by_same (is_same_end d e)
+    where
+      by_same : (b : Bool) → CarriedPast n (if b then drop 1 (w.coming d) else w.coming d)
+      by_same true = carried_drop n (w.coming d) h
+      by_same false = h
+
   -- a process takes a message
   takes_orderly : (e : LinkEnd) → Orderly t p (next t w (Takes e))
-  takes_orderly e = by_front (slice_get (w.coming e) 0) refl
+  takes_orderly e = by_take t w (Orderly t p) O e (λ c at le.
+      let m = input.Message e.port c.session c.message in
+      grows_orderly t p pfd w (after_message e w c) I O (record {
+        at = taken_at t p pfd w I e c at le;
+        more = subst (HoldsMore (w.routers e.router)) (sym (router_here e.router (told m) w.routers)) (told_more m (w.routers e.router));
+        last_most = λ d. omega arith;
+        coming_fewer = fewer e;
+        hears = λ d. as_hears (after_message e w c) c d (hears c at le d (is_same_end d e) refl (is_none (told_fault m (w.routers e.router))));
+      }))
     where
       hears : (c : Carried) → slice_get (w.coming e) 0 ≡ Some c → (le : c.session ≤ w.last e) (d : LinkEnd) → (b : Bool) → is_same_end d e ≡ b → (f : Bool)
           → (if b && f then c.session else w.heard d) ≡ w.heard d ⊎ ((slice_get (w.coming d) 0 ≡ Some c) × ((if b && f then c.session else w.heard d) ≡ c.session))
@@ -253,62 +271,17 @@ module _ (t : Topology) (p : Prefix) (pfd : ℕ → ℕ) (w : Processes) (I : In
       as_hears v c d (inl same) = Before same
       as_hears v c d (inr now) = Now c now.0 now.1
 
-      fewer : (d : LinkEnd) (n : ℕ) → CarriedPast n (w.coming d) → CarriedPast n (with_coming e (drop 1) w.coming d)
-      fewer d n h = by_same (is_same_end d e)
-        where
-          by_same : (b : Bool) → CarriedPast n (if b then drop 1 (w.coming d) else w.coming d)
-          by_same true = carried_drop n (w.coming d) h
-          by_same false = h
-
-      by_session : (c : Carried) → slice_get (w.coming e) 0 ≡ Some c → (b : Bool) → nat_lt (w.last e) c.session ≡ b
-          → Orderly t p (if b then w else record {
-            routers = with_router e.router (told (input.Message e.port c.session c.message)) w.routers;
-            coming = with_coming e (drop 1) w.coming;
-            last = w.last;
-            heard = with_heard e (told_fault (input.Message e.port c.session c.message) (w.routers e.router)) c.session w.heard;
-            lost = w.lost;
-          })
-      by_session c at true is = O
-      by_session c at false is =
-          let le : c.session ≤ w.last e = ltb-false (w.last e) c.session is in
-          let m = input.Message e.port c.session c.message in
-          let v : Processes = record {
-            routers = with_router e.router (told m) w.routers;
-            coming = with_coming e (drop 1) w.coming;
-            last = w.last;
-            heard = with_heard e (told_fault m (w.routers e.router)) c.session w.heard;
-            lost = w.lost;
-          } in
-          grows_orderly t p pfd w v I O (record {
-            at = taken_at t p pfd w I e c at le;
-            more = subst (HoldsMore (w.routers e.router)) (sym (router_here e.router (told m) w.routers)) (told_more m (w.routers e.router));
-            last_most = λ d. omega arith;
-            coming_fewer = fewer;
-            hears = λ d. as_hears v c d (hears c at le d (is_same_end d e) refl (is_none (told_fault m (w.routers e.router))));
-          })
-
-      by_front : (o : Option Carried) → slice_get (w.coming e) 0 ≡ o → Orderly t p (option_map_or (with_taken e w) o w)
-      by_front None at = O
-      by_front (Some c) at = by_session c at (nat_lt (w.last e) c.session) refl
-
   -- a message is lost
   loses_orderly : (e : LinkEnd) → Orderly t p (next t w (Loses e))
   loses_orderly e = record {
     up_last = O.up_last;
     held_past = O.held_past;
-    coming_past = λ f v. fewer (t.far f) (w.last f) (O.coming_past f v);
+    coming_past = λ f v. fewer e (t.far f) (w.last f) (O.coming_past f v);
     heard_past = O.heard_past;
     row_held = O.row_held;
-    row_coming = λ f v k h. fewer (t.far f) k (O.row_coming f v k h);
+    row_coming = λ f v k h. fewer e (t.far f) k (O.row_coming f v k h);
     row_heard = O.row_heard;
   }
-    where
-      fewer : (d : LinkEnd) (n : ℕ) → CarriedPast n (w.coming d) → CarriedPast n (with_coming e (drop 1) w.coming d)
-      fewer d n h = by_same (is_same_end d e)
-        where
-          by_same : (b : Bool) → CarriedPast n (if b then drop 1 (w.coming d) else w.coming d)
-          by_same true = carried_drop n (w.coming d) h
-          by_same false = h
 
   -- a router puts rows in force, or forgets a prefix
   puts_orderly : (i : ℕ) (f : Router → Router) (fd fd' : ℕ) → PutsInForce p (w.routers i) (f (w.routers i)) fd fd'
@@ -381,11 +354,7 @@ module _ (t : Topology) (p : Prefix) (pfd : ℕ → ℕ) (w : Processes) (I : In
 
   -- a router releases a message
   releases_orderly : (i : ℕ) → Orderly t p (next t w (Releases i))
-  releases_orderly i = by_front (ripe_front (w.routers i)) refl
-    where
-      by_front : (o : Option Held) → ripe_front (w.routers i) ≡ o → Orderly t p (option_map_or (with_released t i w) o w)
-      by_front None at = O
-      by_front (Some h) at = released_orderly t p pfd w I O i h at
+  releases_orderly i = by_release t w (Orderly t p) O i (λ h at. released_orderly t p pfd w I O i h at)
 
   -- a process ends, and another begins in its place
   anew_orderly : (i : ℕ) (costs : List ℕ) (attachments : List Attachment) → make_fault costs attachments ≡ None → Orderly t p (next t w (BeginsAnew i costs attachments))

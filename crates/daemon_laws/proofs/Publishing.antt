@@ -1,34 +1,22 @@
 -- A router that publishes puts its rows in force.
-use Rattle.std.proofs.Common.{refl, sym, ap, subst, ◌∙◌, arith, append_assoc, take_all, take-append-drop, inl, inr, ◌≡◌, ℕ, ◌<◌, ◌≤◌, true, false, ◌&&◌, ◌==◌, List, [], ◌++◌, length, Option, Some, None, option_map, eqb-true, eq-eqb, ne_eqb}
-use Rattle.packet_loops.proofs.Common.{and_parts, drop_all, slice_get_past, Prefix, prefix_cmp, Machine, port_count, port_successor, is_port, Neighbour, Router, machine_of, entry_of, session_at, router_publishing, next_hop_at, next_hop_of, kept, ripe_of, unripe_of, IsSound, is_up_at, test_at, is_current, is_next_hop, port_successor_from, sorted-map, find-map, SeenItem, NextHop}
-use Rattle.network_model.proofs.Common.{cases_eq, cases_lt, and-true, and-false, and_left, false≢true, false_from_ne_true, none-some, SeenHeld}
-use Rattle.std.specs.FinMap.{find as row_of}
-use Rattle.std.specs.FinMap.Entries.{is_sorted}
+use Rattle.std.proofs.Common.{refl, sym, ap, subst, ◌∙◌, arith, append_assoc, take_all, take-append-drop, inl, inr, ◌≡◌, ℕ, ◌<◌, ◌≤◌, true, false, ◌&&◌, ◌==◌, List, [], ◌++◌, length, Option, Some, None, option_map, eqb-true}
+use Rattle.packet_loops.proofs.Common.{and_parts, drop_all, slice_get_past, Prefix, Machine, port_count, port_successor, is_port, Neighbour, Router, machine_of, entry_of, session_at, router_publishing, next_hop_at, next_hop_of, kept, ripe_of, unripe_of, IsSound, is_up_at, test_at, is_current, is_next_hop, port_successor_from}
+use Rattle.network_model.proofs.Common.{cases_lt, and_left, false≢true, false_from_ne_true, none-some}
 use Rattle.machine_laws.proofs.Successors.{is_port_successor, port_successor_home}
-use Rattle.loop_freedom.specs.Facts.{live, messages, end_of}
-use Rattle.loop_freedom.proofs.Published.{shown_as_chosen}
+use Rattle.loop_freedom.specs.Facts.{live, messages}
+use Rattle.loop_freedom.proofs.Published.{ShownAs, shown_as_chosen, shown_published}
+use Rattle.loop_freedom.proofs.Publishing.{next_hop_seen, published_end}
 use Rattle.loop_freedom.proofs.OnTheWay.{live-append}
 use Rattle.loop_freedom.proofs.Notices.{IsLawfullyHeld, lawfully_held_append}
-use Rattle.packet_loops.proofs.Publishing.{control_hop}
+use Rattle.packet_loops.proofs.Publishing.{control_row, control_hop, control_sorted}
 use Rattle.packet_loops.proofs.View.{kept-append}
 use Rattle.daemon_laws.specs.Processes.{Carried}
 use Rattle.daemon_laws.proofs.Seen.{carried, arriving, end_in}
 use Rattle.daemon_laws.proofs.Routers.{RouterKept}
 use Rattle.daemon_laws.proofs.Cheap.{IsCheap}
-use Rattle.daemon_laws.proofs.Shows.{ShownAs, shown_published}
 use Rattle.daemon_laws.proofs.InForce.{AsChosen, PutsInForce}
 
 -- ---- the next hop that is published
-
--- a published successor is port q in session n exactly where q is the machine's successor and knows of session n
-next_hop_seen : (m : Machine) (q n : ℕ) (seen : ℕ → ℕ) (s : Option ℕ) → (s ≡ Some q → is_up_at m q ≡ true)
-    → is_next_hop q n (next_hop_of seen s) ≡ (is_current m q (seen q) n && is_port q s)
-next_hop_seen m q n seen None f = sym (and-false (is_current m q (seen q) n))
-next_hop_seen m q n seen (Some p) f = elim (cases_eq p q) [
-  | inl e ↦ subst (λ (x : ℕ). ((x == q) && (seen x == n)) ≡ (is_current m q (seen q) n && (q == x))) (sym e)
-      (rw (eq-eqb q q refl, f (ap (λ (x : ℕ). Some x) e)) (sym (and-true (seen q == n))))
-  | inr d ↦ rw (ne_eqb p q d, ne_eqb q p (λ e. d (sym e))) (sym (and-false (is_current m q (seen q) n)))
-]
 
 -- a next hop at a port is of that port
 hop_port : (q n : ℕ) (seen : ℕ → ℕ) (s : Option ℕ) → is_next_hop q n (next_hop_of seen s) ≡ true → s ≡ Some q
@@ -60,14 +48,6 @@ published_as m sound q n seen = elim (cases_lt q (port_count m)) [
       none ∙ sym (and_left (is_current m q (seen q) n) (is_port q m.successor) (and_left (is_up_at m q) (seen q == n) (none_past m q le)))
 ]
 
--- an end with the parts that a publication makes is the old end, as published
-published_end : {m m' : Machine} {seen seen' pfd' : ℕ} (q n : ℕ) (o o' : Option NextHop) (pfd : ℕ) (items : List SeenItem) (ripe ripe' unripe unripe' : List SeenHeld)
-    → m' ≡ m → seen' ≡ seen → is_next_hop q n o' ≡ (is_current m q seen n && is_port q m.successor) → pfd' ≡ m.fd
-    → live n ripe' ≡ live n ripe ++ live n unripe → live n unripe' ≡ []
-    → messages items ++ live n ripe' ≡ (messages items ++ live n ripe) ++ live n unripe
-    → end_of m' q seen' n o' pfd' items ripe' unripe' ≡ shown_as_chosen (end_of m q seen n o pfd items ripe unripe)
-published_end q n o o' pfd items ripe ripe' unripe unripe' a b d e f g h = cc
-
 module _ (p : Prefix) (r : Router) (R : RouterKept p r) (sound : IsSound (machine_of r p)) where
   -- the router that published
   abbrev r' : Router
@@ -88,9 +68,9 @@ module _ (p : Prefix) (r : Router) (R : RouterKept p r) (sound : IsSound (machin
   kept_published = record {
     ripe_within = omega arith;
     sorted = R.sorted;
-    published_sorted = ap (is_sorted prefix_cmp) R.control_is ∙ sorted-map prefix_cmp (λ (m : Machine). entry_of r.ports m) r.machines ∙ R.sorted;
+    published_sorted = control_sorted r R.control_is R.sorted;
     control_is = R.control_is;
-    published_heard = λ none. ap (row_of prefix_cmp p) R.control_is ∙ find-map prefix_cmp (λ (m : Machine). entry_of r.ports m) p r.machines ∙ ap (option_map (λ m. entry_of r.ports m)) none;
+    published_heard = λ none. control_row p r R.control_is ∙ ap (option_map (λ m. entry_of r.ports m)) none;
     faces_are = R.faces_are;
   }
 
@@ -102,9 +82,10 @@ module _ (p : Prefix) (r : Router) (R : RouterKept p r) (sound : IsSound (machin
       let hop : next_hop_at p r' ≡ next_hop_of (λ q. session_at r.ports q) (port_successor m) = control_hop p r (λ q. session_at r.ports q) R.control_is (λ q. refl) in
       let shown : is_next_hop q n (next_hop_at p r') ≡ (is_current m q (session_at r.ports q) n && is_port q m.successor) = ap (λ o. is_next_hop q n o) hop ∙ published_as m sound q n (λ q. session_at r.ports q) in
       let ripe : live n (kept p q (ripe_of r')) ≡ live n (kept p q (ripe_of r)) ++ live n (kept p q (unripe_of r)) = ap (live n) (ripe_all q) ∙ live-append n (kept p q (ripe_of r)) (kept p q (unripe_of r)) in
-      published_end {m = m} {m' = machine_of r' p} {seen = session_at r.ports q} {seen' = session_at r'.ports q} {pfd' = m.fd} q n (next_hop_at p r) (next_hop_at p r') pfd items (kept p q (ripe_of r)) (kept p q (ripe_of r')) (kept p q (unripe_of r)) (kept p q (unripe_of r'))
-      refl refl shown refl ripe (ap (live n) (unripe_none q))
+      published_end {m = m} {m' = machine_of r' p} {seen = session_at r.ports q} {seen' = session_at r'.ports q} {n = n} {n' = n} {pfd' = m.fd} q (next_hop_at p r) (next_hop_at p r') pfd items items (kept p q (ripe_of r)) (kept p q (ripe_of r')) (kept p q (unripe_of r)) (kept p q (unripe_of r'))
+      refl refl refl shown refl
       (ap (λ ms. messages items ++ ms) ripe ∙ sym (append_assoc (messages items) (live n (kept p q (ripe_of r))) (live n (kept p q (unripe_of r)))))
+      (ap (live n) (unripe_none q))
 
   -- it puts its row in force
   pub puts_published : (fd : ℕ) → IsCheap (machine_of r p) → PutsInForce p r r' fd (machine_of r p).fd

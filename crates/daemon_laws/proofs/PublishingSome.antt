@@ -1,10 +1,9 @@
 -- A router that publishes some of its rows puts those in force, and leaves the others.
 use Rattle.std.proofs.Common.{refl, ap, ◌∙◌, arith, ◌≡◌, ℕ, ◌≤◌, Bool, true, false, not, ◌&&◌, if◌then◌else◌, List, take, None, is_some, option_map, option_and_then}
-use Rattle.packet_loops.proofs.Common.{Prefix, prefix_cmp, Machine, port_successor, is_port, Entry, Router, machine_of, entry_of, session_at, changed_rows, has_row, next_hop, next_hop_at, next_hop_of, IsSound, is_current, is_next_hop, sorted-map, find-map}
+use Rattle.packet_loops.proofs.Common.{Prefix, prefix_cmp, port_successor, is_port, Entry, Router, machine_of, entry_of, session_at, changed_rows, has_row, next_hop, next_hop_at, next_hop_of, IsSound, is_current, is_next_hop}
 use Rattle.network_model.proofs.Common.{infinity}
 use Rattle.std.specs.FinMap.{find as row_of}
-use Rattle.std.specs.FinMap.Entries.{is_sorted}
-use Rattle.packet_loops.proofs.Publishing.{control_hop}
+use Rattle.packet_loops.proofs.Publishing.{control_row, control_hop, control_sorted}
 use Rattle.router_core.specs.Alone.{router_publishing_some}
 use Rattle.daemon_laws.specs.Processes.{Carried}
 use Rattle.daemon_laws.specs.Facts.{fd_then}
@@ -12,7 +11,7 @@ use Rattle.daemon_laws.proofs.Seen.{end_in}
 use Rattle.daemon_laws.proofs.Routers.{RouterKept}
 use Rattle.daemon_laws.proofs.Cheap.{IsCheap}
 use Rattle.daemon_laws.proofs.SomeRows.{all_in_self, all_in_filter, all_in_take, row_in_force, sorted_in_force}
-use Rattle.daemon_laws.proofs.Shows.{ShownAs}
+use Rattle.loop_freedom.proofs.Published.{ShownAs}
 use Rattle.daemon_laws.proofs.InForce.{AsChosen, PutsInForce, puts_held, puts_nothing}
 use Rattle.daemon_laws.proofs.Publishing.{published_as}
 
@@ -25,20 +24,16 @@ module _ (p : Prefix) (r : Router) (R : RouterKept p r) (sound : IsSound (machin
   abbrev r' : Router
   r' = router_publishing_some n r
 
-  -- what it has chosen is in the order of the prefixes
-  control_sorted : is_sorted prefix_cmp (r.table).control ≡ true
-  control_sorted = ap (is_sorted prefix_cmp) R.control_is ∙ sorted-map prefix_cmp (λ (m : Machine). entry_of r.ports m) r.machines ∙ R.sorted
-
   -- the row of the prefix is the chosen one, where it is among the rows, and else as before
   row_now : row_of prefix_cmp p (r'.table).published ≡ (if is_some (row_of prefix_cmp p rows) then row_of prefix_cmp p (r.table).control else row_of prefix_cmp p (r.table).published)
-  row_now = row_in_force p rows (r.table).control (r.table).published (all_in_take n (changed_rows r.table) (r.table).control (all_in_filter (λ x. not (has_row (r.table).published x)) (r.table).control (r.table).control (all_in_self (r.table).control control_sorted)))
+  row_now = row_in_force p rows (r.table).control (r.table).published (all_in_take n (changed_rows r.table) (r.table).control (all_in_filter (λ x. not (has_row (r.table).published x)) (r.table).control (r.table).control (all_in_self (r.table).control (control_sorted r R.control_is R.sorted))))
 
   -- a prefix without a machine has no row
   unheard_row : row_of prefix_cmp p r.machines ≡ None → row_of prefix_cmp p (r'.table).published ≡ None
   unheard_row none = row_now ∙ by_test (is_some (row_of prefix_cmp p rows))
     where
       by_test : (b : Bool) → (if b then row_of prefix_cmp p (r.table).control else row_of prefix_cmp p (r.table).published) ≡ None
-      by_test true = ap (row_of prefix_cmp p) R.control_is ∙ find-map prefix_cmp (λ (m : Machine). entry_of r.ports m) p r.machines ∙ ap (option_map (λ m. entry_of r.ports m)) none
+      by_test true = control_row p r R.control_is ∙ ap (option_map (λ m. entry_of r.ports m)) none
       by_test false = R.published_heard none
 
   -- it keeps what a router keeps

@@ -1,6 +1,6 @@
 -- A router that releases a message keeps the invariant.
-use Rattle.std.proofs.Common.{refl, sym, ap, subst, ◌∙◌, arith, append_assoc, inl, inr, ◌≡◌, ◌≢◌, ℕ, zero, suc, nat_lt, slice_get, ◌-◌, ◌+◌, ◌≤◌, Bool, true, false, ◌==◌, if◌then◌else◌, List, [], ◌∷◌, ◌++◌, take, drop, Some, None, append-nil, length-drop, eq-eqb, ne_eqb}
-use Rattle.packet_loops.proofs.Common.{and_from, and_right, None_not_Some, Some_injective, is_next_hop, Prefix, prefix_eq, Held, Router, machine_of, session_at, router_releasing, ripe_front, next_hop_at, kept, is_kept, held_as, ripe_of, unripe_of, IsSound, Topology, LinkEnd, at_port, place_cases}
+use Rattle.std.proofs.Common.{refl, sym, ap, subst, ◌∙◌, arith, append_assoc, inl, inr, ◌≡◌, ◌≢◌, ℕ, ◌-◌, ◌+◌, ◌≤◌, Bool, true, false, ◌==◌, if◌then◌else◌, List, [], ◌∷◌, ◌++◌, Some, append-nil, length-drop, eq-eqb, ne_eqb}
+use Rattle.packet_loops.proofs.Common.{and_from, and_right, is_next_hop, Prefix, prefix_eq, Held, Router, machine_of, session_at, router_releasing, ripe_front, next_hop_at, kept, is_kept, held_as, ripe_of, unripe_of, IsSound, Topology, LinkEnd, at_port, place_cases}
 use Rattle.network_model.proofs.Common.{cases_eq, cases_Bool, both_ways, and_left, Kind, Reply, Report, SeenHeld}
 use Rattle.loop_freedom.specs.Facts.{End, live, count, pipe}
 use Rattle.loop_freedom.proofs.Lists.{count-append}
@@ -8,7 +8,9 @@ use Rattle.loop_freedom.proofs.Link.{EndInvariant}
 use Rattle.loop_freedom.proofs.OnTheWay.{live-append}
 use Rattle.loop_freedom.proofs.Notices.{IsLawfullyHeld, lawfully_held_append}
 use Rattle.loop_freedom.proofs.Invariant.{end_cong, end_invariant_same}
+use Rattle.packet_loops.proofs.Releasing.{Front, front_of, ripe_front_is, unripe_left}
 use Rattle.daemon_laws.specs.Processes.{Carried, Processes}
+use Rattle.daemon_laws.proofs.Cases.{each_but}
 use Rattle.daemon_laws.proofs.Seen.{carried, carried-append, arriving, messages_arriving, is_in}
 use Rattle.daemon_laws.proofs.Routers.{RouterKept}
 use Rattle.daemon_laws.proofs.Cheap.{IsCheap}
@@ -17,47 +19,6 @@ use Rattle.daemon_laws.proofs.Gone.{Gone, gone_less}
 use Rattle.daemon_laws.proofs.Invariant.{router_at, session_of, end_from, MayBe, Left, Invariant}
 
 -- ---- the router
-
--- the oldest message that the router holds is h, and it is ripe
-pub record Front (r : Router) (h : Held) : Type 0 where
-  pub count : ℕ
-  pub rest : List Held
-  pub ripe_is : (r.gate).ripe ≡ suc count
-  pub held_is : (r.gate).held ≡ h ∷ rest
-
--- a message that the router releases next is the oldest that it holds, and ripe
-pub front_of : (r : Router) (h : Held) → ripe_front r ≡ Some h → Front r h
-front_of r h e = by_ripe (r.gate).ripe (r.gate).held refl refl e
-  where
-    by_ripe : (m : ℕ) (xs : List Held) → (r.gate).ripe ≡ m → (r.gate).held ≡ xs → (if nat_lt 0 m then slice_get xs 0 else None) ≡ Some h → Front r h
-    by_ripe zero xs a b f = absurd (None_not_Some f)
-    by_ripe (suc m) [] a b f = absurd (None_not_Some (by_none (nat_lt 0 (suc m)) f))
-      where
-        by_none : (b : Bool) → (if b then None else None) ≡ Some h → None ≡ Some h
-        by_none true f = f
-        by_none false f = f
-    by_ripe (suc m) (x ∷ xs) a b f = record { count = m; rest = xs; ripe_is = a; held_is = b ∙ ap (λ (y : Held). y ∷ xs) (by_test (nat_lt 0 (suc m)) f) }
-      where
-        by_test : (b : Bool) → (if b then Some x else None) ≡ Some h → x ≡ h
-        by_test true f = Some_injective f
-        by_test false f = absurd (None_not_Some f)
-
-module _ (r : Router) (h : Held) (F : Front r h) where
-  -- the router without its oldest message
-  abbrev left : Router
-  left = router_releasing r
-
-  -- one fewer may be released
-  fewer : (r.gate).ripe - 1 ≡ F.count
-  fewer = (let e = F.ripe_is in omega (arith, e))
-
-  -- what might be released is the oldest message, and then what may be released after
-  pub ripe_front_is : ripe_of r ≡ h ∷ ripe_of left
-  ripe_front_is = (λ z. take (F.ripe_is z) (F.held_is z)) ∙ ap (λ xs. h ∷ xs) (sym (λ z. take (fewer z) (drop 1 (F.held_is z))))
-
-  -- what may not be released yet stays
-  pub unripe_left : unripe_of left ≡ unripe_of r
-  unripe_left = (λ z. drop (fewer z) (drop 1 (F.held_is z))) ∙ sym (λ z. drop (F.ripe_is z) (F.held_is z))
 
 -- a router that releases keeps what a router keeps
 released_kept : (p : Prefix) (r : Router) → RouterKept p r → RouterKept p (router_releasing r)
@@ -116,10 +77,7 @@ module _ (t : Topology) (p : Prefix) (pfd : ℕ → ℕ) (w w' : Processes) (I :
 
   -- each router is as it was, or released a message
   each_router : (Q : Router → Type 0) → Q (router_releasing r) → ((j : ℕ) → Q (w.routers j)) → (j : ℕ) → Q (w'.routers j)
-  each_router Q here away j = elim (cases_eq j L.i) [
-    | inl e ↦ subst Q (sym (ap w'.routers e ∙ L.router_is)) here
-    | inr d ↦ subst Q (sym (L.routers_elsewhere j d)) (away j)
-  ]
+  each_router Q here = each_but L.routers_elsewhere (λ j. Q) (subst Q (sym L.router_is) here)
 
   -- what a release leaves of the router at an end
   record SameAt (e : LinkEnd) : Type 0 where

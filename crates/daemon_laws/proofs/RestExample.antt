@@ -1,37 +1,35 @@
 -- The two routers once more: router 1 takes the route, begins anew, and takes it again in a second session; then both are at rest.
-use Rattle.std.proofs.Common.{refl, sym, ap, subst, ◌∙◌, inl, inr, arith, ◌≡◌, ℕ, zero, suc, ◌<◌, Bool, true, false, ◌&&◌, ◌||◌, ◌==◌, nat_lt, if◌then◌else◌, List, [], ◌∷◌, drop, slice_get, eqb-true, ne_eqb}
-use Rattle.packet_loops.proofs.Common.{option_map_or, option_map_or-ind, list_any, and_parts, Port, Router, ripe_front, is_quiet_router, LinkEnd, at_port}
-use Rattle.network_model.proofs.Common.{cases_eq, both_ways, false_from_ne_true, or_cases, or_left, or_right}
-use Rattle.loop_freedom.proofs.Example.{pair, port_zero}
-use Rattle.single_router.specs.Inputs.{told_fault}
+use Rattle.std.proofs.Common.{refl, sym, ap, subst, ◌∙◌, inl, inr, arith, ◌≡◌, ℕ, zero, suc, ◌<◌, Bool, true, false, ◌&&◌, ◌==◌, if◌then◌else◌, List, [], ◌∷◌, ◌++◌, slice_get, ne_eqb}
+use Rattle.packet_loops.proofs.Common.{option_map_or, list_any, Port, Router, is_quiet_router, LinkEnd, at_port}
+use Rattle.network_model.proofs.Common.{cases_eq, both_ways, false_from_ne_true, or_left, or_right}
+use Rattle.loop_freedom.proofs.Example.{pair}
+use Rattle.least_cost.proofs.Reached.{each_place, each_router}
 use Rattle.single_router.specs.declared.input.Input.TheVariants as input
-use Rattle.daemon_laws.specs.Processes.{Carried, Processes}
+use Rattle.daemon_laws.specs.Processes.{Processes}
 use Rattle.daemon_laws.specs.Packets.{is_in_session}
-use Rattle.daemon_laws.specs.Happenings.{Happening, Tells, Takes, Loses, Publishes, PublishesSome, Forgets, Releases, BeginsAnew, with_router, with_coming, with_heard, told, with_taken, with_released, next, after}
+use Rattle.daemon_laws.specs.Happenings.{Happening, Tells, Takes, Loses, Publishes, PublishesSome, Forgets, Releases, BeginsAnew, next, after}
 use Rattle.daemon_laws.specs.Rest.{IsUpIn}
 use Rattle.daemon_laws.specs.Reached.{SomeRest}
-use Rattle.daemon_laws.proofs.Example.{first, made_one, seven}
+use Rattle.daemon_laws.proofs.Cases.{by_take, by_release}
+use Rattle.daemon_laws.proofs.Example.{first, begins, happenings, seven}
 
--- router 1 takes the route and begins anew, and both ends come up in a second session, in which it takes the route again
-abbrev pub until_rest : List Happening
-until_rest =
-    Tells 1 (input.Up 0 1 7)
-    ∷ Tells 0 (input.Up 0 1 7)
-    ∷ Publishes 0
-    ∷ Releases 0
-    ∷ Takes (at_port 1 0)
-    ∷ Publishes 1
-    ∷ BeginsAnew 1 (7 ∷ []) []
+-- router 1 takes the route and begins anew, and both ends come up in a second session
+abbrev pub until_up : List Happening
+until_up =
+    happenings
+    ++ BeginsAnew 1 (7 ∷ []) []
     ∷ Tells 1 (input.Up 0 2 7)
     ∷ Tells 0 (input.Down 0)
     ∷ Tells 0 (input.Up 0 2 7)
-    ∷ Publishes 0
-    ∷ Releases 0
-    ∷ Takes (at_port 1 0)
-    ∷ Publishes 1
-    ∷ Releases 1
-    ∷ Takes (at_port 0 0)
     ∷ []
+
+-- router 0 tells of the route, and router 1 answers
+abbrev pub onward : List Happening
+onward = Publishes 0 ∷ Releases 0 ∷ Takes (at_port 1 0) ∷ Publishes 1 ∷ Releases 1 ∷ Takes (at_port 0 0) ∷ []
+
+-- all of it
+abbrev until_rest : List Happening
+until_rest = until_up ++ onward
 
 -- the processes then
 abbrev pub rest : Processes
@@ -56,19 +54,8 @@ untouched w (Publishes i) j off = rw off refl
 untouched w (PublishesSome i n) j off = rw off refl
 untouched w (Forgets i p) j off = rw off refl
 untouched w (BeginsAnew i costs attachments) j off = rw off refl
-untouched w (Releases i) j off = option_map_or-ind (λ (v : Processes). v.routers j ≡ w.routers j) (with_released pair i w) (ripe_front (w.routers i)) w refl (λ h e. rw off refl)
-untouched w (Takes e) j off = option_map_or-ind (λ (v : Processes). v.routers j ≡ w.routers j) (with_taken e w) (slice_get (w.coming e) 0) w refl
-    (λ c at. by_session c (nat_lt (w.last e) c.session))
-  where
-    by_session : (c : Carried) (b : Bool) → (if b then w else record {
-      routers = with_router e.router (told (input.Message e.port c.session c.message)) w.routers;
-      coming = with_coming e (drop 1) w.coming;
-      last = w.last;
-      heard = with_heard e (told_fault (input.Message e.port c.session c.message) (w.routers e.router)) c.session w.heard;
-      lost = w.lost;
-    }).routers j ≡ w.routers j
-    by_session c true = refl
-    by_session c false = rw off refl
+untouched w (Releases i) j off = by_release pair w (λ v. v.routers j ≡ w.routers j) refl i (λ h at. rw off refl)
+untouched w (Takes e) j off = by_take pair w (λ v. v.routers j ≡ w.routers j) refl e (λ c at le. rw off refl)
 
 -- nor after many
 untouched_all : (w : Processes) (hs : List Happening) (j : ℕ) → list_any (λ h. speaks_of h j) hs ≡ false → (after pair w hs).routers j ≡ w.routers j
@@ -96,22 +83,6 @@ past_out false q session = refl
 
 -- ---- the two ends
 
--- what holds of both ends holds of each that is there
-pub each_end : (P : LinkEnd → Type 0) → P (at_port 0 0) → P (at_port 1 0) → (e : LinkEnd) → pair.valid e ≡ true → P e
-each_end P f g e v =
-    let port : e.port ≡ 0 = port_zero e v in
-    let is : (r : ℕ) → e.router ≡ r → e ≡ at_port r 0 = λ r router. ap (λ (n : ℕ). at_port n e.port) router ∙ ap (λ (n : ℕ). at_port r n) port in
-    elim (or_cases (e.router == 0) (e.router == 1) ((and_parts ((e.router == 0) || (e.router == 1)) (e.port == 0) v).0)) [
-      | inl b ↦ subst P (sym (is 0 (eqb-true e.router 0 b))) f
-      | inr b ↦ subst P (sym (is 1 (eqb-true e.router 1 b))) g
-    ]
-
--- what holds of both routers holds of each
-pub each_router : (P : ℕ → Type 0) → P 0 → P 1 → (i : ℕ) → i < 2 → P i
-each_router P f g zero l = f
-each_router P f g (suc zero) l = g
-each_router P f g (suc (suc i)) l = absurd (omega (arith, l))
-
 -- an end that is in a session is in the second, and so is the other
 agree_at : (b : Bool) (q session : ℕ) → is_in_session rest (at_port (if b then 0 else 1) q) session ≡ true → IsUpIn pair rest (at_port (if b then 0 else 1) q) session
 agree_at b (suc q) session h = absurd (both_ways (is_in_session rest (at_port (if b then 0 else 1) (suc q)) session) (past_out b q session) h)
@@ -134,13 +105,13 @@ some_rest = record {
   topology = pair;
   first = first;
   happenings = until_rest;
-  begins = record { routers_made = λ i. made_one (i == 0); nothing_comes = λ e. refl; never_up = λ e. refl; never_heard = λ e. refl; nothing_lost = refl };
+  begins = begins;
   can = ((omega arith, seven), ((omega arith, seven), (tt, (tt, (tt, (tt, (refl, ((omega arith, seven), (tt, ((omega arith, seven), (tt, (tt, (tt, (tt, (tt, (tt, tt))))))))))))))));
   prefix = record { addr = 0; len = 0 };
   rests = record {
     quiet = each_router (λ i. is_quiet_router (rest.routers i) ≡ true) refl refl;
-    placed = each_end (λ e. e.router < 2) (omega arith) (omega arith);
-    nothing_comes = λ e session is. each_end (λ e. rest.coming e ≡ []) refl refl e is.valid;
+    placed = each_place (λ e. e.router < 2) (omega arith) (omega arith);
+    nothing_comes = λ e session is. each_place (λ e. rest.coming e ≡ []) refl refl e is.valid;
     nothing_lost = refl;
     agree = agree;
   };

@@ -5,10 +5,11 @@ use Rattle.network_model.proofs.Common.{cases_eq, both_ways, and_left, Kind, Que
 use Rattle.machine_laws.specs.Laws.{awaits, owes}
 use Rattle.loop_freedom.specs.Facts.{End, pipe, count, messages, live, AtLeast}
 use Rattle.loop_freedom.proofs.Lists.{at_least_left, count-append}
-use Rattle.loop_freedom.proofs.Link.{EndInvariant}
+use Rattle.loop_freedom.proofs.Link.{Answered, EndInvariant}
 use Rattle.loop_freedom.proofs.Notices.{IsLawfullyHeld}
 use Rattle.loop_freedom.proofs.Invariant.{end_invariant_new, end_invariant_same}
 use Rattle.daemon_laws.specs.Processes.{Processes}
+use Rattle.daemon_laws.proofs.Cases.{each_but}
 use Rattle.daemon_laws.proofs.Seen.{carried, arriving, end_in, is_in}
 use Rattle.daemon_laws.proofs.Routers.{RouterKept}
 use Rattle.daemon_laws.proofs.Moving.{not_yet}
@@ -246,26 +247,25 @@ module _ (t : Topology) (p : Prefix) (pfd pfd' : ℕ → ℕ) (w w' : Processes)
       let f = t.far e in
       let h : Told (old n e) (old n f) = I.told (sym R.lost_same ∙ whole) e v n (may_before n e one) (may_before n f two) in
       elim (cases_eq f.router R.i) [
-        | inl gf ↦ record { last_is = λ on. absurd (both_ways (new n f).current (fresh n f gf).off on); answered = asks_new e v n one two gf }
+        | inl gf ↦ record { last_is = λ on. absurd (both_ways (new n f).current (fresh n f gf).off on); answers = asks_new e v n one two gf }
         | inr df ↦
             let far_same : new n f ≡ old n f = away n f df in
             subst (λ (y : End). Told (new n e) y) (sym far_same) (elim (cases_eq e.router R.i) [
               | inl g ↦ record {
                 last_is = λ on.
                     ap (λ v. last_value v (pipe (old n f))) (listens_none (new n e) (fresh n e g).off ∙ sym (listens_none (old n e) (absent n e (not_in n e g one)).off)) ∙ h.last_is on;
-                answered = awaits_none n e g (old n f);
+                answers = awaits_none n e g (old n f);
               }
               | inr d ↦ subst (λ (x : End). Told x (old n f)) (sym (away n e d)) h
             ])
       ]
     where
       -- an end of the router that is made awaits nothing
-      awaits_none : (n : ℕ) (e : LinkEnd) → e.router ≡ R.i → (y : End) → one_if (new n e).awaits ≤ count Query (pipe (new n e)) + one_if y.owes + count Reply (pipe y)
-      awaits_none n e g y = let a : one_if (new n e).awaits ≡ 0 = ap one_if (fresh n e g).awaits in omega (arith, a)
+      awaits_none : (n : ℕ) (e : LinkEnd) → e.router ≡ R.i → (y : End) → Answered (new n e) y
+      awaits_none n e g y = record { answered = (let a : one_if (new n e).awaits ≡ 0 = ap one_if (fresh n e g).awaits in omega (arith, a)) }
 
       -- what another awaits of the router that is made is on its way still
-      asks_new : (e : LinkEnd) → t.valid e ≡ true → (n : ℕ) → MayBe p n w' e → MayBe p n w' (t.far e) → (t.far e).router ≡ R.i
-          → one_if (new n e).awaits ≤ count Query (pipe (new n e)) + one_if (new n (t.far e)).owes + count Reply (pipe (new n (t.far e)))
+      asks_new : (e : LinkEnd) → t.valid e ≡ true → (n : ℕ) → MayBe p n w' e → MayBe p n w' (t.far e) → (t.far e).router ≡ R.i → Answered (new n e) (new n (t.far e))
       asks_new e v n one two gf = elim (cases_eq e.router R.i) [
         | inl g ↦ awaits_none n e g (new n (t.far e))
         | inr d ↦
@@ -277,8 +277,8 @@ module _ (t : Topology) (p : Prefix) (pfd pfd' : ℕ → ℕ) (w w' : Processes)
             let o : one_if (old n f).owes ≡ 0 = ap one_if A.owes in
             let a : one_if (new n e).awaits ≡ one_if (old n e).awaits = ap (λ (x : End). one_if x.awaits) (away n e d) in
             let q : count Query (pipe (new n e)) ≡ count Query (pipe (old n e)) = ap (λ (x : End). count Query (pipe x)) (away n e d) in
-            let u = h.answered in
-            omega (arith, r, o, a, q, u)
+            let u = (h.answers).answered in
+            record { answered = omega (arith, r, o, a, q, u) }
       ]
 
   -- in a session that the one has left, and the other has not
@@ -304,10 +304,7 @@ module _ (t : Topology) (p : Prefix) (pfd pfd' : ℕ → ℕ) (w w' : Processes)
 
   -- each router is as it was, or made
   each_router : (Q : ℕ → Router → Type 0) → Q R.i (w'.routers R.i) → ((j : ℕ) → Q j (w.routers j)) → (j : ℕ) → Q j (w'.routers j)
-  each_router Q here beside j = elim (cases_eq j R.i) [
-    | inl e ↦ subst (λ (k : ℕ). Q k (w'.routers k)) (sym e) here
-    | inr d ↦ subst (Q j) (sym (R.routers_elsewhere j d)) (beside j)
-  ]
+  each_router = each_but R.routers_elsewhere
 
   -- a process that begins in the place of another keeps the invariant
   pub restart_keeps : Invariant t p pfd' w'

@@ -1,7 +1,7 @@
 -- Where routers in processes of their own are at rest, each has its best row.
-use Rattle.std.proofs.Common.{refl, sym, ap, subst, ◌∙◌, inl, arith, ◌≡◌, ℕ, ◌+◌, ◌<◌, ◌≤◌, Bool, true, false, ◌&&◌, ◌==◌, if◌then◌else◌, List, [], ◌∷◌, ◌++◌, Option, Some, None, slice_get, eq-eqb}
+use Rattle.std.proofs.Common.{refl, sym, ap, subst, ◌∙◌, inl, arith, ◌≡◌, ℕ, ◌+◌, ◌<◌, ◌≤◌, Bool, true, ◌==◌, if◌then◌else◌, List, [], ◌∷◌, ◌++◌, Option, Some, None, slice_get, eq-eqb}
 use Rattle.packet_loops.proofs.Common.{option_map_or, and_parts, and_from, false≢true, Prefix, test_at, Machine, Neighbour, Local, Via, Port, machine_of, is_up_at, Topology, IsEdgeWalk, walk_map, LinkEnd, State, next_hop_at}
-use Rattle.network_model.proofs.Common.{both_ways, infinity}
+use Rattle.network_model.proofs.Common.{infinity}
 use Rattle.network_model.specs.Network.{most_routers}
 use Rattle.machine_laws.specs.Laws.{reported_at}
 use Rattle.loop_freedom.specs.Facts.{pipe, messages, live}
@@ -15,11 +15,10 @@ use Rattle.daemon_laws.specs.Rest.{IsUpIn, cost_from, IsWay, way_cost, IsWayHome
 use Rattle.daemon_laws.proofs.Seen.{carried, arriving, is_in}
 use Rattle.daemon_laws.proofs.Told.{Told, listens, last_value}
 use Rattle.daemon_laws.proofs.Moving.{port_within, in_session}
-use Rattle.daemon_laws.proofs.Items.{up_is, cost_is, session_is}
-use Rattle.daemon_laws.proofs.Telling.{none_up}
+use Rattle.daemon_laws.proofs.Items.{cost_is}
 use Rattle.daemon_laws.proofs.Invariant.{router_at, session_of, end_from, MayBe, Invariant}
-use Rattle.daemon_laws.proofs.Walks.{in_it}
-use Rattle.daemon_laws.proofs.Quiet.{passive_quiet, ripe_quiet, unripe_quiet, hop_quiet, local_quiet, lost_quiet, attachment_is, via_row}
+use Rattle.daemon_laws.proofs.Walks.{opened, in_it}
+use Rattle.daemon_laws.proofs.Quiet.{still, ripe_quiet, unripe_quiet, hop_quiet, local_quiet, lost_quiet, attachment_is, via_row}
 
 module _ (t : Topology) (p : Prefix) (pfd : ℕ → ℕ) (w : Processes) (I : Invariant t p pfd w) (n : ℕ) (few : n ≤ most_routers) (A : IsAtRest t n w) where
   -- the machine of the prefix at each router
@@ -51,30 +50,9 @@ module _ (t : Topology) (p : Prefix) (pfd : ℕ → ℕ) (w : Processes) (I : In
 
   -- ---- links that are up
 
-  -- the port at an end that is up is there
-  record Open (e : LinkEnd) : Type 0 where
-    port : Port
-    at : slice_get (router_at w e).ports e.port ≡ Some port
-    in_it_is : is_in_session w e (session_of w e) ≡ true
-
-  -- so it is at each end that is up
-  opened : (e : LinkEnd) → up e ≡ true → Open e
-  opened e u = by_port (slice_get (router_at w e).ports e.port) refl
-    where
-      by_port : (o : Option Port) → slice_get (router_at w e).ports e.port ≡ o → Open e
-      by_port None at = absurd (both_ways (up e) (none_up p (router_at w e) (I.keeps e.router) e.port at) u)
-      by_port (Some x) at =
-          let on : x.up ≡ true = sym (up_is p (router_at w e) (I.keeps e.router) e.port x at) ∙ u in
-          let same : session_of w e ≡ x.session = session_is (router_at w e) e.port x at in
-          record {
-            port = x;
-            at = at;
-            in_it_is = ap (λ o. option_map_or (λ (y : Port). y.up && (y.session == session_of w e)) o false) at ∙ and_from x.up (x.session == session_of w e) on (eq-eqb x.session (session_of w e) (sym same));
-          }
-
   -- a link that one end has up is up in its session
   up_in : (e : LinkEnd) → up e ≡ true → IsUpIn t w e (session_of w e)
-  up_in e u = A.agree e (session_of w e) (opened e u).in_it_is
+  up_in e u = A.agree e (session_of w e) (opened t p pfd w I e u).in_own
 
   -- an end in a session is up, and was last in that session
   record InIt (e : LinkEnd) (session : ℕ) : Type 0 where
@@ -152,7 +130,7 @@ module _ (t : Topology) (p : Prefix) (pfd : ℕ → ℕ) (w : Processes) (I : In
   -- it is quiet
   quiet_state : IsQuiet t' n s
   quiet_state = record {
-    passive = λ i l. passive_quiet p (w.routers i) (I.keeps i) (A.quiet i l);
+    passive = λ i l. (still p (w.routers i) (I.keeps i) (A.quiet i l)).passive;
     inbox_empty = λ e u. refl;
     ripe_empty = λ e u. refl;
     unripe_empty = λ e u. refl;
@@ -176,7 +154,7 @@ module _ (t : Topology) (p : Prefix) (pfd : ℕ → ℕ) (w : Processes) (I : In
   -- a cost is that which the router was told
   cost_now : (e : LinkEnd) → up e ≡ true → cost e ≡ cost_from w e
   cost_now e u =
-      let O = opened e u in
+      let O = opened t p pfd w I e u in
       cost_is p (router_at w e) (I.keeps e.router) e.port O.port O.at ∙ sym (ap (λ o. option_map_or (λ (x : Port). x.cost) o 0) O.at)
 
   -- a way is a walk of links that are up, to the same router

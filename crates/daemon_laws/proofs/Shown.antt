@@ -1,6 +1,6 @@
 -- A prefix for which a router has published no row was unheard there when it published last, whatever has happened.
-use Rattle.std.proofs.Common.{refl, sym, ap, subst, ◌∙◌, inl, inr, ◌≡◌, ◌≢◌, ℕ, Bool, true, false, nat_lt, if◌then◌else◌, List, [], ◌∷◌, take, None, is_some, is_none, slice_get, ◌&&◌, eq-eqb, ne_eqb}
-use Rattle.packet_loops.proofs.Common.{option_map_or-ind, Prefix, prefix_cmp, prefix_eq, Entry, infinity, Router, machine_of, router_publishing, router_releasing, ripe_front, Topology}
+use Rattle.std.proofs.Common.{refl, sym, ap, subst, ◌∙◌, inl, inr, ◌≡◌, ◌≢◌, ℕ, Bool, true, false, if◌then◌else◌, List, [], ◌∷◌, take, None, is_some, is_none, ◌&&◌, eq-eqb, ne_eqb}
+use Rattle.packet_loops.proofs.Common.{Prefix, prefix_cmp, prefix_eq, Entry, infinity, Router, machine_of, router_publishing, router_releasing, Topology}
 use Rattle.network_model.proofs.Common.{cases_eq}
 use Rattle.std.specs.FinMap.{find as row_of}
 use Rattle.all_packets.proofs.Known.{Follows, unheard}
@@ -12,9 +12,10 @@ use Rattle.single_router.specs.declared.input.Input.{Input}
 use Rattle.single_router.specs.declared.input.Input.TheVariants as input
 use Rattle.single_router.specs.Inputs.{told_fault, router_after}
 use Rattle.single_router.specs.Openings.{made_router}
-use Rattle.daemon_laws.specs.Processes.{Carried, Processes}
-use Rattle.daemon_laws.specs.Happenings.{Happening, Tells, Takes, Loses, Publishes, PublishesSome, Forgets, Releases, BeginsAnew, CanHappen, IsMade, Begins, with_router, told, forgotten, with_taken, with_released, next, after, AllCanHappen}
+use Rattle.daemon_laws.specs.Processes.{Processes}
+use Rattle.daemon_laws.specs.Happenings.{Happening, Tells, Takes, Loses, Publishes, PublishesSome, Forgets, Releases, BeginsAnew, CanHappen, IsMade, Begins, with_router, told, forgotten, next, after, AllCanHappen}
 use Rattle.daemon_laws.specs.Facts.{fd_then, fds_next, fds_after, first_fds}
+use Rattle.daemon_laws.proofs.Cases.{by_take, by_release}
 use Rattle.daemon_laws.proofs.SomeRows.{none_in_force, row_beside, chosen_without}
 use Rattle.daemon_laws.proofs.Beginning.{made}
 use Rattle.daemon_laws.proofs.Steps.{router_here, router_away}
@@ -69,11 +70,8 @@ module _ (p : Prefix) where
   -- so it is after what happens
   next_shown : (t : Topology) (w : Processes) (h : Happening) (fds : ℕ → ℕ) → CanHappen w h → AllShown w.routers fds → AllShown (next t w h).routers (fds_next p w h fds)
   next_shown t w (Tells i x) fds can A = changed_shown i (told x) w.routers fds fds (λ j d. refl) A (told_shown x (w.routers i) (fds i) (A i))
-  next_shown t w (Takes e) fds can A = option_map_or-ind (λ (v : Processes). AllShown v.routers fds) (with_taken e w) (slice_get (w.coming e) 0) w A (λ c is. by_wait c (nat_lt (w.last e) c.session) refl)
-    where
-      by_wait : (c : Carried) (b : Bool) → nat_lt (w.last e) c.session ≡ b → AllShown (with_taken e w c).routers fds
-      by_wait c true is = rw is A
-      by_wait c false is = rw is (changed_shown e.router (told (input.Message e.port c.session c.message)) w.routers fds fds (λ j d. refl) A (told_shown (input.Message e.port c.session c.message) (w.routers e.router) (fds e.router) (A e.router)))
+  next_shown t w (Takes e) fds can A = by_take t w (λ v. AllShown v.routers fds) A e (λ c at le.
+      let m = input.Message e.port c.session c.message in changed_shown e.router (told m) w.routers fds fds (λ j d. refl) A (told_shown m (w.routers e.router) (fds e.router) (A e.router)))
   next_shown t w (Loses e) fds can A = A
   next_shown t w (Publishes i) fds can A = changed_shown i router_publishing w.routers fds (fds_next p w (Publishes i) fds) (λ j d. rw (ne_eqb j i d) refl) A here
     where
@@ -101,7 +99,7 @@ module _ (p : Prefix) where
       by_test false apart true = record { follows = follows_without k (w.routers i) (A i).follows; unheard_then = λ none. (A i).unheard_then (sym (row_beside p k ((w.routers i).table).published apart) ∙ none) }
       by_test true same false = A i
       by_test false apart false = A i
-  next_shown t w (Releases i) fds can A = option_map_or-ind (λ (v : Processes). AllShown v.routers fds) (with_released t i w) (ripe_front (w.routers i)) w A
+  next_shown t w (Releases i) fds can A = by_release t w (λ v. AllShown v.routers fds) A i
       (λ h is. changed_shown i router_releasing w.routers fds fds (λ j d. refl) A (record { follows = (A i).follows; unheard_then = (A i).unheard_then }))
   next_shown t w (BeginsAnew i costs attachments) fds can A = changed_shown i (λ r. made_router costs attachments) w.routers fds (fds_next p w (BeginsAnew i costs attachments) fds) (λ j d. rw (ne_eqb j i d) refl) A
       (rw (eq-eqb i i refl) (made_shown (made_router costs attachments) (record { costs = costs; attachments = attachments; good = can; made = refl })))

@@ -1,138 +1,44 @@
--- What a row that is put in force does to an end of a link, and to what is kept between it and the other end.
-use Rattle.std.proofs.Common.{refl, sym, ap, subst, ◌∙◌, arith, inl, inr, ◌≡◌, ℕ, ◌≤◌, true, false, if◌then◌else◌, List, [], ◌++◌, append-nil}
-use Rattle.network_model.proofs.Common.{cases_Bool, both_ways, Query, Reply, Report, infinity}
-use Rattle.loop_freedom.specs.Facts.{count, AtLeast, AtLeastFromLastQuery, End, pipe}
-use Rattle.loop_freedom.proofs.Lists.{count-append, at_least_left}
-use Rattle.loop_freedom.proofs.Link.{EndInvariant}
-use Rattle.loop_freedom.proofs.Published.{shown_as_chosen}
+-- What a row that is put in force does to what one end was told of the other, and to what is kept where one has left the session.
+use Rattle.std.proofs.Common.{sym, ap, subst, ◌∙◌, arith, inl, inr, ◌≡◌, true, false, if◌then◌else◌}
+use Rattle.network_model.proofs.Common.{cases_Bool, both_ways, Query, Reply, infinity}
+use Rattle.loop_freedom.specs.Facts.{count, End, pipe}
+use Rattle.loop_freedom.proofs.Published.{ShownAs, answered_here, answered_there}
 use Rattle.daemon_laws.proofs.Told.{Told, listens, last_value}
 use Rattle.daemon_laws.proofs.Gone.{Gone}
 
--- the end once its router has put the row that it chose in force: what is on its way stays, and may be released or not. What the end
--- keeps of the other may change where it is not in the session
-abbrev pub in_force : ℕ → List Report → List Report → End → End
-in_force reported out kept x = record x { reported = reported; shown = x.chosen; pfd = x.fd; out = out; kept = kept }
-
--- one end is the other, once its row is in force
-pub record ShownAs (x x' : End) : Type 0 where
-  pub reported : ℕ
-  pub out : List Report
-  pub kept : List Report
-  pub is : x' ≡ in_force reported out kept x
-  pub reported_is : x.current ≡ true → reported ≡ x.reported
-  pub pipe_is : out ++ kept ≡ pipe x
-
--- an end that is published is
-pub shown_published : (x : End) → ShownAs x (shown_as_chosen x)
-shown_published x = record { reported = x.reported; out = x.out ++ x.kept; kept = []; is = refl; reported_is = λ on. refl; pipe_is = append-nil (x.out ++ x.kept) }
-
-module _ (x y : End) (reported : ℕ) (out kept : List Report) (reported_is : x.current ≡ true → reported ≡ x.reported) (pipe_is : out ++ kept ≡ pipe x) where
-  -- the end with its row in force
-  abbrev x' : End
-  x' = in_force reported out kept x
-
-  -- no more replies are released than are on their way
-  fewer_out : count Reply out ≤ count Reply (pipe x)
-  fewer_out = let a = count-append Reply out kept in let b = ap (count Reply) pipe_is in omega (arith, a, b)
-
-  -- what is kept between the ends, seen from this one, is kept, where a chosen end knows of the session
-  force_here : (x.chosen ≡ true → x.current ≡ true) → x.fd ≤ infinity → EndInvariant x y → EndInvariant x' y
-  force_here c b h = record {
-    nothing_sent = λ e. pipe_is ∙ h.nothing_sent e;
-    unheard = h.unheard;
-    chosen_current = h.chosen_current;
-    shown_current = λ e. (c e, h.chosen_current e);
-    pfd_bounded = b;
-    feasible_below_sent = subst (AtLeast x.fd) (sym pipe_is) h.feasible_below_sent;
-    feasible_below_kept = h.feasible_below_kept;
-    published_below_sent = at_least_left x.fd out kept (subst (AtLeast x.fd) (sym pipe_is) h.feasible_below_sent);
-    published_below_kept = h.feasible_below_kept;
-    control_edge_falls = h.control_edge_falls;
-    published_edge_falls = h.control_edge_falls;
-    awaited_once = (let a = h.awaited_once in let s = ap (count Query) pipe_is in omega (arith, a, s));
-    computation_below_sent = h.computation_below_sent;
-    computation_below_kept = λ a on le. (let r = reported_is on in let s = ap (count Reply) pipe_is in let v = h.computation_below_kept a on (omega (arith, le, s)) in omega (arith, v, r));
-    control_edge_waits = λ a e le. h.control_edge_waits a e (let s = ap (count Reply) pipe_is in omega (arith, le, s));
-    published_edge_waits = λ a e le. h.control_edge_waits a e (omega (arith, le, fewer_out));
-  }
-
-  -- so it is seen from the end across
-  force_there : EndInvariant y x → EndInvariant y x'
-  force_there h = record {
-    nothing_sent = h.nothing_sent;
-    unheard = λ off on. reported_is on ∙ h.unheard off on;
-    chosen_current = h.chosen_current;
-    shown_current = h.shown_current;
-    pfd_bounded = h.pfd_bounded;
-    feasible_below_sent = h.feasible_below_sent;
-    feasible_below_kept = λ on. (let r = reported_is on in let v = h.feasible_below_kept on in omega (arith, v, r));
-    published_below_sent = h.published_below_sent;
-    published_below_kept = λ on. (let r = reported_is on in let v = h.published_below_kept on in omega (arith, v, r));
-    control_edge_falls = λ e. ((h.control_edge_falls e).0, (h.control_edge_falls e).0);
-    published_edge_falls = λ e. ((h.published_edge_falls e).0, (h.published_edge_falls e).0);
-    awaited_once = (let a = h.awaited_once in let s = ap (count Reply) pipe_is in omega (arith, a, s));
-    computation_below_sent = λ a. subst (AtLeastFromLastQuery x.rd) (sym pipe_is) (h.computation_below_sent a);
-    computation_below_kept = h.computation_below_kept;
-    control_edge_waits = h.control_edge_waits;
-    published_edge_waits = h.published_edge_waits;
-  }
-
-  -- what this end was told stays
-  force_told_here : Told x y → Told x' y
-  force_told_here T = record {
-    last_is = λ on. ap (λ v. last_value v (pipe y)) listens_same ∙ T.last_is on;
-    answered = (let u = T.answered in let s = ap (count Query) pipe_is in omega (arith, u, s));
-  }
-    where
-      listens_same : listens x' ≡ listens x
-      listens_same = elim (cases_Bool x.current) [
-        | inl on ↦ ap (λ b. if b then reported else infinity) on ∙ reported_is on ∙ sym (ap (λ b. if b then x.reported else infinity) on)
-        | inr off ↦ ap (λ b. if b then reported else infinity) off ∙ sym (ap (λ b. if b then x.reported else infinity) off)
-      ]
-
-  -- and what the other was told of it
-  force_told_there : Told y x → Told y x'
-  force_told_there T = record {
-    last_is = λ on. ap (last_value (listens y)) pipe_is ∙ T.last_is on;
-    answered = (let u = T.answered in let s = ap (count Reply) pipe_is in omega (arith, u, s));
-  }
-
-  -- where this end has left the session, its published edge there is gone
-  force_gone_here : x.chosen ≡ false → Gone x y → Gone x' y
-  force_gone_here off G = record {
-    shown_current = λ e. absurd (both_ways x.chosen off e);
-    published_edge_falls = λ e. absurd (both_ways x.chosen off e);
-    replies_awaited = (let a = G.replies_awaited in let s = ap (count Reply) pipe_is in omega (arith, a, s));
-    queries_once = (let a = G.queries_once in let s = ap (count Query) pipe_is in omega (arith, a, s));
-    published_edge_waits = λ a e. absurd (both_ways x.chosen off e);
-  }
-
-  -- where the other has, what is kept of its edge is kept
-  force_gone_there : Gone y x → Gone y x'
-  force_gone_there G = record {
-    shown_current = G.shown_current;
-    published_edge_falls = λ e. ((G.published_edge_falls e).0, (G.published_edge_falls e).0);
-    replies_awaited = G.replies_awaited;
-    queries_once = G.queries_once;
-    published_edge_waits = G.published_edge_waits;
-  }
-
--- ---- so it is of any end that is as its row in force makes it
-
-pub invariant_here : {x x' y : End} → ShownAs x x' → (x.chosen ≡ true → x.current ≡ true) → x.fd ≤ infinity → EndInvariant x y → EndInvariant x' y
-invariant_here {x} {x'} {y} S c b h = subst (λ (z : End). EndInvariant z y) (sym S.is) (force_here x y S.reported S.out S.kept S.reported_is S.pipe_is c b h)
-
-pub invariant_there : {x y y' : End} → ShownAs y y' → EndInvariant x y → EndInvariant x y'
-invariant_there {x} {y} {y'} S h = subst (λ (z : End). EndInvariant x z) (sym S.is) (force_there y x S.reported S.out S.kept S.reported_is S.pipe_is h)
-
+-- what this end was told stays
 pub told_here : {x x' y : End} → ShownAs x x' → Told x y → Told x' y
-told_here {x} {x'} {y} S h = subst (λ (z : End). Told z y) (sym S.is) (force_told_here x y S.reported S.out S.kept S.reported_is S.pipe_is h)
+told_here {x} {x'} {y} S T = record { last_is = λ on. ap (λ v. last_value v (pipe y)) (ap listens S.is ∙ listens_same) ∙ T.last_is on; answers = answered_here S T.answers }
+  where
+    listens_same : (if x.current then S.reported else infinity) ≡ listens x
+    listens_same = elim (cases_Bool x.current) [
+      | inl on ↦ ap (λ b. if b then S.reported else infinity) on ∙ S.reported_is on ∙ sym (ap (λ b. if b then x.reported else infinity) on)
+      | inr off ↦ ap (λ b. if b then S.reported else infinity) off ∙ sym (ap (λ b. if b then x.reported else infinity) off)
+    ]
 
+-- and what the other was told of it
 pub told_there : {x y y' : End} → ShownAs y y' → Told x y → Told x y'
-told_there {x} {y} {y'} S h = subst (λ (z : End). Told x z) (sym S.is) (force_told_there y x S.reported S.out S.kept S.reported_is S.pipe_is h)
+told_there {x} {y} {y'} S T = record {
+  last_is = subst (λ (z : End). z.current ≡ true → last_value (listens x) (pipe z) ≡ z.rd) (sym S.is) (λ on. ap (last_value (listens x)) S.pipe_is ∙ T.last_is on);
+  answers = answered_there S T.answers;
+}
 
+-- where this end has left the session, its published edge there is gone
 pub gone_here : {x x' y : End} → ShownAs x x' → x.chosen ≡ false → Gone x y → Gone x' y
-gone_here {x} {x'} {y} S off h = subst (λ (z : End). Gone z y) (sym S.is) (force_gone_here x y S.reported S.out S.kept S.reported_is S.pipe_is off h)
+gone_here {x} {x'} {y} S off G = subst (λ (z : End). Gone z y) (sym S.is) (record {
+  shown_current = λ e. absurd (both_ways x.chosen off e);
+  published_edge_falls = λ e. absurd (both_ways x.chosen off e);
+  replies_awaited = (let a = G.replies_awaited in let s = ap (count Reply) S.pipe_is in omega (arith, a, s));
+  queries_once = (let a = G.queries_once in let s = ap (count Query) S.pipe_is in omega (arith, a, s));
+  published_edge_waits = λ a e. absurd (both_ways x.chosen off e);
+})
 
+-- where the other has, what is kept of its edge is kept
 pub gone_there : {x y y' : End} → ShownAs y y' → Gone x y → Gone x y'
-gone_there {x} {y} {y'} S h = subst (λ (z : End). Gone x z) (sym S.is) (force_gone_there y x S.reported S.out S.kept S.reported_is S.pipe_is h)
+gone_there {x} {y} {y'} S G = subst (λ (z : End). Gone x z) (sym S.is) (record {
+  shown_current = G.shown_current;
+  published_edge_falls = λ e. ((G.published_edge_falls e).0, (G.published_edge_falls e).0);
+  replies_awaited = G.replies_awaited;
+  queries_once = G.queries_once;
+  published_edge_waits = G.published_edge_waits;
+})

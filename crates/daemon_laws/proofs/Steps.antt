@@ -1,7 +1,7 @@
 -- Whatever happens keeps the invariant.
-use Rattle.std.proofs.Common.{refl, sym, ap, subst, ◌∙◌, arith, inl, inr, ◌≡◌, ◌≢◌, ◌⊎◌, ℕ, ◌<◌, ◌≤◌, Bool, true, false, ◌&&◌, ◌==◌, nat_lt, if◌then◌else◌, List, [], ◌∷◌, ◌++◌, take, drop, Option, Some, None, slice_get, eqb-true, eq-eqb, ne_eqb, ltb-false}
-use Rattle.packet_loops.proofs.Common.{option_map_or, and_parts, and_from, Prefix, prefix_eq, Held, Port, Router, machine_of, session_at, router_publishing, router_releasing, ripe_front, is_up_at, msg_of, Topology, LinkEnd, at_port}
-use Rattle.network_model.proofs.Common.{cases_eq, both_ways, and_left, false_from_ne_true, SeenHeld, infinity}
+use Rattle.std.proofs.Common.{refl, sym, ap, subst, ◌∙◌, arith, inl, inr, ◌≡◌, ◌≢◌, ◌⊎◌, ℕ, ◌<◌, ◌≤◌, Bool, true, false, ◌&&◌, ◌==◌, if◌then◌else◌, List, [], ◌∷◌, ◌++◌, take, drop, Some, None, slice_get, eqb-true, eq-eqb, ne_eqb}
+use Rattle.packet_loops.proofs.Common.{and_parts, and_from, Prefix, prefix_eq, Held, Router, machine_of, session_at, router_publishing, router_releasing, msg_of, Topology, LinkEnd, at_port}
+use Rattle.network_model.proofs.Common.{cases_eq, both_ways, false_from_ne_true, SeenHeld, infinity}
 use Rattle.loop_freedom.specs.Facts.{live}
 use Rattle.loop_freedom.proofs.Lists.{front}
 use Rattle.loop_freedom.proofs.Notices.{IsLawfullyHeld}
@@ -11,13 +11,13 @@ use Rattle.single_router.specs.declared.input.Input.{Input}
 use Rattle.single_router.specs.declared.input.Input.TheVariants as input
 use Rattle.daemon_laws.specs.Processes.{Carried, Processes}
 use Rattle.daemon_laws.specs.Packets.{is_in_session}
-use Rattle.daemon_laws.specs.Happenings.{Happening, Tells, Takes, Loses, Publishes, PublishesSome, Forgets, Releases, BeginsAnew, IsOwn, CanHappen, with_router, is_same_end, with_coming, with_heard, told, forgotten, with_taken, sent_from, with_released, next, after, AllCanHappen}
+use Rattle.daemon_laws.specs.Happenings.{Happening, Tells, Takes, Loses, Publishes, PublishesSome, Forgets, Releases, BeginsAnew, IsOwn, CanHappen, with_router, is_same_end, with_coming, told, forgotten, sent_from, with_released, next, after, AllCanHappen}
 use Rattle.daemon_laws.specs.Facts.{fd_then, fds_next, fds_after}
+use Rattle.daemon_laws.proofs.Cases.{after_message, by_take, by_release}
 use Rattle.daemon_laws.proofs.Seen.{carried, is_in}
-use Rattle.daemon_laws.proofs.Items.{up_is, session_is}
 use Rattle.daemon_laws.proofs.Goes.{Goes}
-use Rattle.daemon_laws.proofs.Telling.{none_up, GoesAlone, goes_told, GoesWith, goes_with}
-use Rattle.daemon_laws.proofs.Invariant.{router_at, session_of, Invariant}
+use Rattle.daemon_laws.proofs.Telling.{in_session_is, GoesAlone, goes_told, GoesWith, goes_with}
+use Rattle.daemon_laws.proofs.Invariant.{router_at, Invariant}
 use Rattle.daemon_laws.proofs.Meeting.{GoesAt, goes_keeps}
 use Rattle.daemon_laws.proofs.Polite.{first_is, polite}
 use Rattle.daemon_laws.proofs.InForce.{PutsInForce, puts_keeps}
@@ -25,7 +25,6 @@ use Rattle.daemon_laws.proofs.Publishing.{puts_published}
 use Rattle.daemon_laws.proofs.PublishingSome.{puts_some}
 use Rattle.daemon_laws.proofs.Forgetting.{puts_forgetting}
 use Rattle.single_router.specs.declared.opening.Attachment.{Attachment}
-use Rattle.single_router.specs.Inputs.{told_fault}
 use Rattle.single_router.specs.Openings.{make_fault, made_router}
 use Rattle.daemon_laws.proofs.Beginning.{Made, made}
 use Rattle.daemon_laws.proofs.Losing.{loses_keeps}
@@ -99,7 +98,7 @@ module _ (t : Topology) (p : Prefix) (pfd : ℕ → ℕ) (w : Processes) (I : In
   module _ (e : LinkEnd) (c : Carried) (at : slice_get (w.coming e) 0 ≡ Some c) (le : c.session ≤ w.last e) where
     -- the processes after the message is taken
     abbrev w' : Processes
-    w' = record { routers = with_router e.router (told (input.Message e.port c.session c.message)) w.routers; coming = with_coming e (drop 1) w.coming; last = w.last; heard = with_heard e (told_fault (input.Message e.port c.session c.message) (w.routers e.router)) c.session w.heard; lost = w.lost }
+    w' = after_message e w c
 
     -- what the prefix sees of the rest
     abbrev rest : List SeenHeld
@@ -185,16 +184,7 @@ module _ (t : Topology) (p : Prefix) (pfd : ℕ → ℕ) (w : Processes) (I : In
 
   -- a process takes the oldest message that is on its way to an end of a link
   takes_keeps : (e : LinkEnd) → Invariant t p pfd (next t w (Takes e))
-  takes_keeps e = by_front (slice_get (w.coming e) 0) refl
-    where
-      by_session : (c : Carried) → slice_get (w.coming e) 0 ≡ Some c → (b : Bool) → nat_lt (w.last e) c.session ≡ b
-          → Invariant t p pfd (if b then w else record { routers = with_router e.router (told (input.Message e.port c.session c.message)) w.routers; coming = with_coming e (drop 1) w.coming; last = w.last; heard = with_heard e (told_fault (input.Message e.port c.session c.message) (w.routers e.router)) c.session w.heard; lost = w.lost })
-      by_session c at true is = I
-      by_session c at false is = taken_keeps e c at (ltb-false (w.last e) c.session is)
-
-      by_front : (o : Option Carried) → slice_get (w.coming e) 0 ≡ o → Invariant t p pfd (option_map_or (with_taken e w) o w)
-      by_front None at = I
-      by_front (Some c) at = by_session c at (nat_lt (w.last e) c.session) refl
+  takes_keeps e = by_take t w (Invariant t p pfd) I e (taken_keeps e)
 
   -- router i puts rows in force, or forgets a prefix
   puts_at : (i : ℕ) (f : Router → Router) (pfd' : ℕ → ℕ) → ((j : ℕ) → j ≢ i → pfd' j ≡ pfd j) → PutsInForce p (w.routers i) (f (w.routers i)) (pfd i) (pfd' i)
@@ -231,11 +221,7 @@ module _ (t : Topology) (p : Prefix) (pfd : ℕ → ℕ) (w : Processes) (I : In
 
   -- a router that is not in a session by its port is not in it by its machine
   not_in_it : (e : LinkEnd) (session : ℕ) → is_in_session w e session ≡ false → is_in p (router_at w e) e.port session ≡ false
-  not_in_it e session h = by_port (slice_get (router_at w e).ports e.port) refl h
-    where
-      by_port : (o : Option Port) → slice_get (router_at w e).ports e.port ≡ o → option_map_or (λ (x : Port). x.up && (x.session == session)) o false ≡ false → is_in p (router_at w e) e.port session ≡ false
-      by_port None at g = and_left (is_up_at (machine_of (router_at w e) p) e.port) (session_of w e == session) (none_up p (router_at w e) (I.keeps e.router) e.port at)
-      by_port (Some x) at g = ap (λ b. b && (session_of w e == session)) (up_is p (router_at w e) (I.keeps e.router) e.port x at) ∙ ap (λ (s : ℕ). x.up && (s == session)) (session_is (router_at w e) e.port x at) ∙ g
+  not_in_it e session h = sym (in_session_is p w e (I.keeps e.router) session) ∙ h
 
   -- the message that is released is on its way then, or lost
   pub sent_is : (i : ℕ) (h : Held) (v : Processes) → ((e : LinkEnd) → v.coming e ≡ sent_from t w (at_port i h.port) h e) → Sent t p i h w v
@@ -254,20 +240,16 @@ module _ (t : Topology) (p : Prefix) (pfd : ℕ → ℕ) (w : Processes) (I : In
 
   -- a router releases a message
   releases_keeps : (i : ℕ) → Invariant t p pfd (next t w (Releases i))
-  releases_keeps i = by_front (ripe_front (w.routers i)) refl
-    where
-      by_front : (o : Option Held) → ripe_front (w.routers i) ≡ o → Invariant t p pfd (option_map_or (with_released t i w) o w)
-      by_front None at = I
-      by_front (Some h) at = release_keeps t p pfd w (with_released t i w h) I (record {
-        i = i;
-        h = h;
-        front = at;
-        router_is = router_here i router_releasing w.routers;
-        routers_elsewhere = λ j d. router_away i router_releasing w.routers j d;
-        last_same = λ e. refl;
-        lost_same = refl;
-        sent = sent_is i h (with_released t i w h) (λ e. refl);
-      })
+  releases_keeps i = by_release t w (Invariant t p pfd) I i (λ h at. release_keeps t p pfd w (with_released t i w h) I (record {
+    i = i;
+    h = h;
+    front = at;
+    router_is = router_here i router_releasing w.routers;
+    routers_elsewhere = λ j d. router_away i router_releasing w.routers j d;
+    last_same = λ e. refl;
+    lost_same = refl;
+    sent = sent_is i h (with_released t i w h) (λ e. refl);
+  }))
 
   -- a process ends, and another begins in its place
   anew_keeps : (i : ℕ) (costs : List ℕ) (attachments : List Attachment) → make_fault costs attachments ≡ None → Invariant t p (fds_next p w (BeginsAnew i costs attachments) pfd) (next t w (BeginsAnew i costs attachments))

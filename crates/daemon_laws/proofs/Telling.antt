@@ -1,7 +1,7 @@
 -- What a router is told, it takes or refuses: either is a step of the router.
-use Rattle.std.proofs.Common.{refl, sym, ap, subst, ◌∙◌, arith, inl, inr, ◌≡◌, ◌≢◌, ℕ, zero, suc, List, [], ◌∷◌, ◌<◌, ◌≤◌, Bool, true, false, ◌==◌, nat_lt, is_none, if◌then◌else◌, Option, Some, None, slice_get, length, eqb-true, eq-eqb, ltb-true}
-use Rattle.packet_loops.proofs.Common.{None_not_Some, Some_injective, and_parts, and_from, false≢true, is_up_at, Event, Prefix, prefix_eq, Message, Port, Router, machine_of, session_at, router_accepting, IsSound, UpNotice, DownNotice, CostNotice, Reported, msg_of, Item}
-use Rattle.network_model.proofs.Common.{both_ways, cases_eq, false_from_ne_true, Report, infinity}
+use Rattle.std.proofs.Common.{refl, sym, ap, subst, ◌∙◌, arith, inl, inr, ◌≡◌, ◌≢◌, ℕ, zero, suc, List, [], ◌∷◌, ◌<◌, ◌≤◌, Bool, true, false, ◌&&◌, ◌==◌, nat_lt, is_none, if◌then◌else◌, Option, Some, None, slice_get, length, eqb-true, eq-eqb, ltb-true}
+use Rattle.packet_loops.proofs.Common.{option_map_or, LinkEnd, None_not_Some, Some_injective, and_parts, and_from, false≢true, is_up_at, Event, Prefix, prefix_eq, Message, Port, Router, machine_of, session_at, router_accepting, IsSound, UpNotice, DownNotice, CostNotice, Reported, msg_of, Item}
+use Rattle.network_model.proofs.Common.{both_ways, cases_eq, and_left, false_from_ne_true, Report, infinity}
 use Rattle.single_router.specs.declared.input.Input.{Input}
 use Rattle.c_interface.specs.Faults.{first_of}
 use Rattle.c_interface.specs.declared.fault.Fault.{Fault}
@@ -10,6 +10,7 @@ use Rattle.single_router.specs.Inputs.{told_fault, router_after, port_fault, up_
 use Rattle.single_router.specs.declared.input.Input.TheVariants as input
 use Rattle.packet_loops.proofs.Machines.{prefix_same}
 use Rattle.daemon_laws.specs.Processes.{Processes}
+use Rattle.daemon_laws.specs.Packets.{is_in_session}
 use Rattle.daemon_laws.specs.Happenings.{IsOwn, told}
 use Rattle.daemon_laws.proofs.Seen.{is_in}
 use Rattle.daemon_laws.proofs.Routers.{RouterKept, Unmoved, unmoved_elsewhere}
@@ -80,6 +81,16 @@ none_up p r R q e = false_from_ne_true (is_up_at (machine_of r p) q) (λ up. (
     let same = as_many p r R in
     let past : length r.ports ≤ q = past_from_none r.ports q e in
     omega (arith, within, same, past)))
+
+-- a router is in a session by its port where it is by its machine
+pub in_session_is : (p : Prefix) (w : Processes) (e : LinkEnd) → RouterKept p (w.routers e.router) → (session : ℕ) → is_in_session w e session ≡ is_in p (w.routers e.router) e.port session
+in_session_is p w e R session = by_port (slice_get (w.routers e.router).ports e.port) refl
+  where
+    by_port : (o : Option Port) → slice_get (w.routers e.router).ports e.port ≡ o → option_map_or (λ (x : Port). x.up && (x.session == session)) o false ≡ is_in p (w.routers e.router) e.port session
+    by_port None at = sym (and_left (is_up_at (machine_of (w.routers e.router) p) e.port) (session_at (w.routers e.router).ports e.port == session) (none_up p (w.routers e.router) R e.port at))
+    by_port (Some x) at =
+        ap (λ b. b && (x.session == session)) (sym (up_is p (w.routers e.router) R e.port x at))
+        ∙ ap (λ (s : ℕ). is_up_at (machine_of (w.routers e.router) p) e.port && (s == session)) (sym (session_is (w.routers e.router) e.port x at))
 
 -- ---- an input of a process's own
 

@@ -1,11 +1,11 @@
 -- What one end was told last: once it has taken all that is on its way to it, the distance of the other.
-use Rattle.std.proofs.Common.{refl, sym, ◌∙◌, ap, arith, inl, inr, ◌≡◌, ℕ, ◌+◌, ◌≤◌, true, false, if◌then◌else◌, List, [], ◌∷◌, ◌++◌, Option, Some, None}
-use Rattle.network_model.proofs.Common.{cases_Bool, Query, Reply, Report, infinity, one_if}
+use Rattle.std.proofs.Common.{refl, sym, ◌∙◌, ap, inl, inr, ◌≡◌, ℕ, true, false, if◌then◌else◌, List, [], ◌∷◌, ◌++◌, Option, Some, None}
+use Rattle.network_model.proofs.Common.{cases_Bool, Report, infinity}
 use Rattle.network_model.specs.declared.machine.Outgoing.{Outgoing}
-use Rattle.loop_freedom.specs.Facts.{End, pipe, count}
-use Rattle.loop_freedom.proofs.Lists.{front, one_if_at_most_one}
-use Rattle.loop_freedom.proofs.Link.{heard, EndStep}
-use Rattle.loop_freedom.proofs.LinkSteps.{LinkStep, swapped, pipe_old, pipe_new, count_old, count_new}
+use Rattle.loop_freedom.specs.Facts.{End, pipe}
+use Rattle.loop_freedom.proofs.Lists.{front}
+use Rattle.loop_freedom.proofs.Link.{Answered, heard, EndStep}
+use Rattle.loop_freedom.proofs.LinkSteps.{LinkStep, swapped, pipe_old, pipe_new, step_answered}
 use Rattle.loop_freedom.proofs.OnTheWay.{reports_of}
 use Rattle.least_cost.proofs.Told.{last_sent}
 
@@ -36,8 +36,7 @@ listens x = if x.current then x.reported else infinity
 -- once the end x has taken all that is on its way, it knows the distance of y, if that is in the session
 pub record Told (x y : End) : Type 0 where
   pub last_is : y.current ≡ true → last_value (listens x) (pipe y) ≡ y.rd
-  -- where x awaits y, its query is on its way, or y owes the reply, or that is on its way
-  pub answered : one_if x.awaits ≤ count Query (pipe x) + one_if y.owes + count Reply (pipe y)
+  pub answers : Answered x y
 
 -- what a step adds ends in the distance after it
 pub record Speaks (y y' : End) (added : List Report) : Type 0 where
@@ -62,22 +61,8 @@ listens_after {x} {x'} {taken} S = elim (cases_Bool x.current) [
 
 -- a step at either end keeps it
 pub told_keeps : {x y x' y' : End} {tx ty : Option Report} {ax ay : List Report} → LinkStep x y x' y' tx ty ax ay → Speaks y y' ay → Told x y → Told x' y'
-told_keeps {x} {y} {x'} {y'} {tx} {ty} {ax} {ay} J P T = record { last_is = told; answered = answers }
+told_keeps {x} {y} {x'} {y'} {tx} {ty} {ax} {ay} J P T = record { last_is = told; answers = step_answered J T.answers }
   where
-    answers : one_if x'.awaits ≤ count Query (pipe x') + one_if y'.owes + count Reply (pipe y')
-    answers =
-        let S : LinkStep y x y' x' ty tx ay ax = swapped J in
-        let a = count_old J Query in
-        let b = count_new J Query in
-        let c = count_old S Reply in
-        let d = count_new S Reply in
-        let s = J.one.awaited_once in
-        let l = one_if_at_most_one x.awaits in
-        let q = J.here.queries (omega (arith, a, c, s)) in
-        let r = J.there.replies (omega (arith, a, c, s, l)) in
-        let u = T.answered in
-        omega (arith, a, b, c, d, u, q, r)
-
     after : last_value (listens x') (pipe y') ≡ last_value (last_value (listens x) (pipe y)) ay
     after =
         ap (last_value (listens x')) (pipe_new (swapped J))

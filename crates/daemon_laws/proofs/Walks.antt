@@ -1,15 +1,15 @@
 -- Along the rows of routers in processes of their own the feasible distances fall, so no packet meets a router twice.
-use Rattle.std.proofs.Common.{refl, sym, ap, subst, ◌∙◌, arith, inl, inr, ◌≡◌, ◌⊎◌, ℕ, ◌<◌, ◌≤◌, max, Bool, true, false, ◌&&◌, ◌==◌, if◌then◌else◌, List, [], ◌∷◌, Option, Some, None, slice_get, option_and_then, eq-eqb, ne_eqb}
-use Rattle.packet_loops.proofs.Common.{⊤, option_map_or, and_parts, and_from, false≢true, Prefix, prefix_cmp, longest_match, Machine, port_successor, is_port, port_successor_from, Entry, Local, Via, Unreachable, Port, machine_of, session_at, entry_of, Some_injective, None_not_Some, is_up_at, is_next_hop, Topology, meets_twice, is_met, next_hop_of, sorted-map, LinkEnd, NextHop, at_port, next_hop, next_hop_at}
-use Rattle.network_model.proofs.Common.{or_from, cases_lt}
+use Rattle.std.proofs.Common.{refl, sym, ap, subst, ◌∙◌, arith, inl, inr, ◌≡◌, ◌⊎◌, ℕ, ◌<◌, ◌≤◌, max, Bool, true, false, ◌&&◌, ◌==◌, if◌then◌else◌, List, [], ◌∷◌, Option, Some, None, slice_get, option_and_then, eq-eqb}
+use Rattle.packet_loops.proofs.Common.{and_parts, and_from, Prefix, prefix_cmp, longest_match, is_port, port_successor_from, Entry, Local, Via, Unreachable, Port, machine_of, session_at, Some_injective, None_not_Some, is_up_at, is_next_hop, Topology, meets_twice, LinkEnd, at_port, next_hop, next_hop_at}
+use Rattle.network_model.proofs.Common.{cases_lt, both_ways}
 use Rattle.std.specs.FinMap.{find as row_of}
-use Rattle.std.specs.FinMap.Entries.{is_sorted}
+use Rattle.loop_freedom.proofs.Walks.{FallsAlong, falls_distinct}
 use Rattle.packet_loops.proofs.Walks.{match_is_row}
-use Rattle.packet_loops.proofs.Publishing.{control_hop}
+use Rattle.packet_loops.proofs.Publishing.{control_hop, control_sorted, hop_chosen}
 use Rattle.daemon_laws.specs.Processes.{Processes}
 use Rattle.daemon_laws.specs.Packets.{is_in_session, entry_leads, lets_in, unmarked_leads, published_rows, mixture_rows, IsPacketWalk}
 use Rattle.daemon_laws.proofs.Seen.{is_in}
-use Rattle.daemon_laws.proofs.Items.{up_is, session_is}
+use Rattle.daemon_laws.proofs.Telling.{none_up, in_session_is}
 use Rattle.daemon_laws.proofs.Publishing.{successor_there}
 use Rattle.daemon_laws.proofs.Invariant.{may_or_left, router_at, session_of, Invariant}
 use Rattle.daemon_laws.proofs.Moving.{in_session}
@@ -41,14 +41,25 @@ module _ (t : Topology) (p : Prefix) (pfd : ℕ → ℕ) (w : Processes) (I : In
 
   -- a router whose port is up in the session is in it
   pub in_it : (e : LinkEnd) (session : ℕ) → is_in_session w e session ≡ true → is_in p (router_at w e) e.port session ≡ true
-  in_it e session h = by_port (slice_get (router_at w e).ports e.port) refl h
+  in_it e session h = sym (in_session_is p w e (I.keeps e.router) session) ∙ h
+
+  -- the port of an end is there, and in the session in which it was last
+  pub record Open (e : LinkEnd) : Type 0 where
+    pub port : Port
+    pub at : slice_get (router_at w e).ports e.port ≡ Some port
+    pub in_own : is_in_session w e (session_of w e) ≡ true
+
+  -- so it is where its machine has it up
+  pub opened : (e : LinkEnd) → is_up_at (machine_of (router_at w e) p) e.port ≡ true → Open e
+  opened e u = by_port (slice_get (router_at w e).ports e.port) refl
     where
-      by_port : (o : Option Port) → slice_get (router_at w e).ports e.port ≡ o → option_map_or (λ (x : Port). x.up && (x.session == session)) o false ≡ true → is_in p (router_at w e) e.port session ≡ true
-      by_port None at g = absurd (false≢true g)
-      by_port (Some x) at g =
-          let parts = and_parts x.up (x.session == session) g in
-          and_from (is_up_at (machine_of (router_at w e) p) e.port) (session_at (router_at w e).ports e.port == session)
-          (up_is p (router_at w e) (I.keeps e.router) e.port x at ∙ parts.0) (ap (λ (s : ℕ). s == session) (session_is (router_at w e) e.port x at) ∙ parts.1)
+      by_port : (o : Option Port) → slice_get (router_at w e).ports e.port ≡ o → Open e
+      by_port None at = absurd (both_ways (is_up_at (machine_of (router_at w e) p) e.port) (none_up p (router_at w e) (I.keeps e.router) e.port at) u)
+      by_port (Some x) at = record {
+        port = x;
+        at = at;
+        in_own = in_session_is p w e (I.keeps e.router) (session_of w e) ∙ and_from (is_up_at (machine_of (router_at w e) p) e.port) (session_of w e == session_of w e) u (eq-eqb (session_of w e) (session_of w e) refl);
+      }
 
   -- an entry that leads to router k is such an entry
   pub leads : (i : ℕ) (entry : Entry) (k : ℕ) → entry_leads t w i entry ≡ Some k → Leads i entry k
@@ -87,32 +98,30 @@ module _ (t : Topology) (p : Prefix) (pfd : ℕ → ℕ) (w : Processes) (I : In
   published_falls : (i : ℕ) (entry : Entry) (k : ℕ) → published_entry i ≡ Some entry → Leads i entry k → height k < height i
   published_falls i entry k row L = let h = published_both i entry k row L in omega (arith, h.0, h.1)
 
+  -- port q is the successor of router i, which is in the session there
+  record ChosenAt (i q session : ℕ) : Type 0 where
+    up : is_up_at (machine_of (w.routers i) p) q ≡ true
+    seen : session_at (w.routers i).ports q ≡ session
+    current : is_in p (w.routers i) q session ≡ true
+    chosen : (is_in p (w.routers i) q session && is_port q (machine_of (w.routers i) p).successor) ≡ true
+
+  -- so it is where the router has chosen that row
+  chosen_at : (i q session : ℕ) → control_entry i ≡ Some (Via q session) → ChosenAt i q session
+  chosen_at i q session row =
+      let r = w.routers i in
+      let m = machine_of r p in
+      let H = hop_chosen m (λ j. session_at r.ports j) q session (sym (control_hop p r (λ j. session_at r.ports j) (I.keeps i).control_is (λ j. refl)) ∙ ap (option_and_then next_hop) row) in
+      let s : m.successor ≡ Some q = port_successor_from m q H.0 in
+      let up : is_up_at m q ≡ true = (I.sound i).successor_up q s (successor_there m (I.sound i) q H.0) in
+      let cur : is_in p r q session ≡ true = and_from (is_up_at m q) (session_at r.ports q == session) up (eq-eqb (session_at r.ports q) session H.1) in
+      record { up = up; seen = H.1; current = cur; chosen = and_from (is_in p r q session) (is_port q m.successor) cur (ap (is_port q) s ∙ eq-eqb q q refl) }
+
   -- so they do along a chosen row
   pub control_both : (i : ℕ) (entry : Entry) (k : ℕ) → control_entry i ≡ Some entry → Leads i entry k → ((machine_of (w.routers k) p).fd < (machine_of (w.routers i) p).fd) × (pfd k < (machine_of (w.routers i) p).fd)
   control_both i entry k row L =
-      let e = at_port i L.port in
-      let r = w.routers i in
-      let m = machine_of r p in
-      let hop : next_hop_of (λ q. session_at r.ports q) (port_successor m) ≡ Some (record { port = L.port; session = L.session }) =
-      sym (control_hop p r (λ q. session_at r.ports q) (I.keeps i).control_is (λ q. refl)) ∙ ap (option_and_then next_hop) (row ∙ ap Some L.is_via) in
-      by_successor (port_successor m) refl hop
-    where
-      by_successor : (o : Option ℕ) → port_successor (machine_of (w.routers i) p) ≡ o → next_hop_of (λ q. session_at (w.routers i).ports q) o ≡ Some (record { port = L.port; session = L.session }) → ((machine_of (w.routers k) p).fd < (machine_of (w.routers i) p).fd) × (pfd k < (machine_of (w.routers i) p).fd)
-      by_successor None is g = absurd (None_not_Some g)
-      by_successor (Some q) is g =
-          let e = at_port i L.port in
-          let r = w.routers i in
-          let m = machine_of r p in
-          let h = Some_injective g in
-          let port : q ≡ L.port = ap (λ (o : NextHop). o.port) h in
-          let ps : port_successor m ≡ Some L.port = is ∙ ap (λ (x : ℕ). Some x) port in
-          let s : m.successor ≡ Some L.port = port_successor_from m L.port ps in
-          let up : is_up_at m L.port ≡ true = (I.sound i).successor_up L.port s (successor_there m (I.sound i) L.port ps) in
-          let seen : session_at r.ports L.port ≡ L.session = ap (λ (x : ℕ). session_at r.ports x) (sym port) ∙ ap (λ (o : NextHop). o.session) h in
-          let cur : is_in p r L.port L.session ≡ true = and_from (is_up_at m L.port) (session_at r.ports L.port == L.session) up (eq-eqb (session_at r.ports L.port) L.session seen) in
-          let own : is_port L.port m.successor ≡ true = ap (is_port L.port) s ∙ eq-eqb L.port L.port refl in
-          let f = (I.links e L.valid L.session (inl cur) (inl L.there)).control_edge_falls (and_from (is_in p r L.port L.session) (is_port L.port m.successor) cur own) in
-          subst (λ (x : ℕ). ((machine_of (w.routers x) p).fd < (machine_of (w.routers i) p).fd) × (pfd x < (machine_of (w.routers i) p).fd)) L.far_router f
+      let C = chosen_at i L.port L.session (row ∙ ap Some L.is_via) in
+      subst (λ (x : ℕ). ((machine_of (w.routers x) p).fd < (machine_of (w.routers i) p).fd) × (pfd x < (machine_of (w.routers i) p).fd)) L.far_router
+      ((I.links (at_port i L.port) L.valid L.session (inl C.current) (inl L.there)).control_edge_falls C.chosen)
 
   -- and the height
   control_falls : (i : ℕ) (entry : Entry) (k : ℕ) → control_entry i ≡ Some entry → Leads i entry k → height k < height i
@@ -133,39 +142,16 @@ module _ (t : Topology) (p : Prefix) (pfd : ℕ → ℕ) (w : Processes) (I : In
     | inr row ↦ control_falls i M.entry k row (leads i M.entry k M.goes)
   ]
 
-  -- a list of routers each of which may send a packet of the prefix to the next
-  IsMixedWalk : List ℕ → Type 0
-  IsMixedWalk [] = ⊤
-  IsMixedWalk (i ∷ []) = ⊤
-  IsMixedWalk (i ∷ k ∷ ks) = MayGo i k × IsMixedWalk (k ∷ ks)
-
-  -- a walk from a router lower than j does not meet j
-  not_met : (j i : ℕ) (ks : List ℕ) → height i < height j → IsMixedWalk (i ∷ ks) → is_met j (i ∷ ks) ≡ false
-  unfolding IsMixedWalk
-  not_met j i [] lt h = or_from (j == i) false (ne_eqb j i (λ e. (let q : height j ≡ height i = ap height e in omega (arith, lt, q)))) refl
-  not_met j i (k ∷ ks) lt h =
-      let less : height k < height i = falls i k h.0 in
-      or_from (j == i) (is_met j (k ∷ ks)) (ne_eqb j i (λ e. (let q : height j ≡ height i = ap height e in omega (arith, lt, q))))
-      (not_met j k ks (omega (arith, lt, less)) h.1)
-
-  -- no walk meets a router twice
-  none_twice : (walk : List ℕ) → IsMixedWalk walk → meets_twice walk ≡ false
-  unfolding IsMixedWalk
-  none_twice [] h = refl
-  none_twice (i ∷ []) h = refl
-  none_twice (i ∷ k ∷ ks) h = or_from (is_met i (k ∷ ks)) (meets_twice (k ∷ ks)) (not_met i k ks (falls i k h.0) h.1) (none_twice (k ∷ ks) h.1)
-
-  -- a packet's way by rows that are published or chosen, where entries lead as given, is such a walk
+  -- a packet's way by rows that are published or chosen, where entries lead as given: the height falls along it
   packet_walk : (entry_goes : ℕ → Entry → Option ℕ) (rows : ℕ → List (Prefix × Entry))
       → ((i : ℕ) (addr : ℕ) (entry : Entry) → longest_match addr (rows i) ≡ Some (p, entry) → (published_entry i ≡ Some entry) ⊎ (control_entry i ≡ Some entry))
       → ((i k : ℕ) (entry : Entry) → (published_entry i ≡ Some entry) ⊎ (control_entry i ≡ Some entry) → entry_goes i entry ≡ Some k → entry_leads t w i entry ≡ Some k)
-      → (addr : ℕ) (walk : List ℕ) → IsPacketWalk entry_goes rows addr p walk → IsMixedWalk walk
-  unfolding IsMixedWalk
+      → (addr : ℕ) (walk : List ℕ) → IsPacketWalk entry_goes rows addr p walk → FallsAlong height walk
   packet_walk entry_goes rows is goes addr [] h = tt
   packet_walk entry_goes rows is goes addr (i ∷ []) h = tt
   packet_walk entry_goes rows is goes addr (i ∷ k ∷ ks) h =
       let row = is i addr (h.0).entry (h.0).matched in
-      (record { entry = (h.0).entry; is_row = row; goes = goes i k (h.0).entry row (h.0).leads }, packet_walk entry_goes rows is goes addr (k ∷ ks) h.1)
+      (falls i k (record { entry = (h.0).entry; is_row = row; goes = goes i k (h.0).entry row (h.0).leads }), packet_walk entry_goes rows is goes addr (k ∷ ks) h.1)
 
   -- a match among published rows is the row of its prefix
   match_published : (i addr : ℕ) (entry : Entry) → longest_match addr ((w.routers i).table).published ≡ Some (p, entry) → published_entry i ≡ Some entry
@@ -174,7 +160,7 @@ module _ (t : Topology) (p : Prefix) (pfd : ℕ → ℕ) (w : Processes) (I : In
   -- so is one among chosen rows
   match_control : (i addr : ℕ) (entry : Entry) → longest_match addr ((w.routers i).table).control ≡ Some (p, entry) → control_entry i ≡ Some entry
   match_control i addr entry g = match_is_row addr p entry ((w.routers i).table).control
-      (ap (is_sorted prefix_cmp) (I.keeps i).control_is ∙ sorted-map prefix_cmp (λ (m : Machine). entry_of (w.routers i).ports m) (w.routers i).machines ∙ (I.keeps i).sorted) g
+      (control_sorted (w.routers i) (I.keeps i).control_is (I.keeps i).sorted) g
 
   -- a match in a mixture is a published or a chosen row
   match_mixed : (by_control : ℕ → Bool) (i addr : ℕ) (entry : Entry) → longest_match addr (mixture_rows by_control w i) ≡ Some (p, entry) → (published_entry i ≡ Some entry) ⊎ (control_entry i ≡ Some entry)
@@ -186,11 +172,11 @@ module _ (t : Topology) (p : Prefix) (pfd : ℕ → ℕ) (w : Processes) (I : In
 
   -- by published rows no packet meets a router twice
   pub published_free : (addr : ℕ) (walk : List ℕ) → IsPacketWalk (entry_leads t w) (published_rows w) addr p walk → meets_twice walk ≡ false
-  published_free addr walk h = none_twice walk (packet_walk (entry_leads t w) (published_rows w) (λ i a entry g. inl (match_published i a entry g)) (λ i k entry row g. g) addr walk h)
+  published_free addr walk h = falls_distinct height walk (packet_walk (entry_leads t w) (published_rows w) (λ i a entry g. inl (match_published i a entry g)) (λ i k entry row g. g) addr walk h)
 
   -- nor in a mixture of published and chosen rows
   pub mixture_free : (by_control : ℕ → Bool) (addr : ℕ) (walk : List ℕ) → IsPacketWalk (entry_leads t w) (mixture_rows by_control w) addr p walk → meets_twice walk ≡ false
-  mixture_free by_control addr walk h = none_twice walk (packet_walk (entry_leads t w) (mixture_rows by_control w) (match_mixed by_control) (λ i k entry row g. g) addr walk h)
+  mixture_free by_control addr walk h = falls_distinct height walk (packet_walk (entry_leads t w) (mixture_rows by_control w) (match_mixed by_control) (λ i k entry row g. g) addr walk h)
 
   -- ---- where packets carry no session
 
@@ -234,34 +220,20 @@ module _ (t : Topology) (p : Prefix) (pfd : ℕ → ℕ) (w : Processes) (I : In
     -- so is a chosen one
     control_session : (i q session : ℕ) → control_entry i ≡ Some (Via q session) → t.valid (at_port i q) ≡ true → lets_in w (t.far (at_port i q)) ≡ true → session ≡ w.heard (t.far (at_port i q))
     control_session i q session row v h =
-        by_successor (port_successor (machine_of (w.routers i) p)) refl
-        (sym (control_hop p (w.routers i) (λ j. session_at (w.routers i).ports j) (I.keeps i).control_is (λ j. refl)) ∙ ap (option_and_then next_hop) row)
-      where
-        by_successor : (o : Option ℕ) → port_successor (machine_of (w.routers i) p) ≡ o → next_hop_of (λ j. session_at (w.routers i).ports j) o ≡ Some (record { port = q; session = session }) → session ≡ w.heard (t.far (at_port i q))
-        by_successor None is g = absurd (None_not_Some g)
-        by_successor (Some j) is g =
-            let e = at_port i q in
-            let f = t.far e in
-            let r = w.routers i in
-            let m = machine_of r p in
-            let hop = Some_injective g in
-            let port : j ≡ q = ap (λ (o : NextHop). o.port) hop in
-            let ps : port_successor m ≡ Some q = is ∙ ap (λ (x : ℕ). Some x) port in
-            let s : m.successor ≡ Some q = port_successor_from m q ps in
-            let up : is_up_at m q ≡ true = (I.sound i).successor_up q s (successor_there m (I.sound i) q ps) in
-            let seen : session_at r.ports q ≡ session = ap (λ (x : ℕ). session_at r.ports x) (sym port) ∙ ap (λ (o : NextHop). o.session) hop in
-            let cur : is_in p r q session ≡ true = and_from (is_up_at m q) (session_at r.ports q == session) up (eq-eqb (session_at r.ports q) session seen) in
-            let own : is_port q m.successor ≡ true = ap (is_port q) s ∙ eq-eqb q q refl in
-            let last_here = O.up_last e up in
-            let heard_here = O.heard_past e v in
-            let last_there = (let_in f h).last_is in
-            let reached : session ≤ w.last f = elim (cases_lt (w.last f) session) [
-              | inr le ↦ le
-              | inl lt ↦
-                  let there : is_in p (router_at w f) f.port session ≡ true = (I.links e v session (inl cur) (inr lt)).chosen_current (and_from (is_in p r q session) (is_port q m.successor) cur own) in
-                  absurd (let a = in_session p (router_at w f) f.port session there in let l = I.last_is f in omega (arith, lt, a, l))
-            ] in
-            omega (arith, last_here, heard_here, last_there, reached, seen)
+        let e = at_port i q in
+        let f = t.far e in
+        let C = chosen_at i q session row in
+        let last_here = O.up_last e C.up in
+        let heard_here = O.heard_past e v in
+        let last_there = (let_in f h).last_is in
+        let reached : session ≤ w.last f = elim (cases_lt (w.last f) session) [
+          | inr le ↦ le
+          | inl lt ↦
+              let there : is_in p (router_at w f) f.port session ≡ true = (I.links e v session (inl C.current) (inr lt)).chosen_current C.chosen in
+              absurd (let a = in_session p (router_at w f) f.port session there in let l = I.last_is f in omega (arith, lt, a, l))
+        ] in
+        let seen = C.seen in
+        omega (arith, last_here, heard_here, last_there, reached, seen)
 
     -- where a packet is let in, the row leads in its session
     pub unmarked : (i k : ℕ) (entry : Entry) → (published_entry i ≡ Some entry) ⊎ (control_entry i ≡ Some entry) → unmarked_leads t w i entry ≡ Some k → entry_leads t w i entry ≡ Some k
@@ -280,8 +252,8 @@ module _ (t : Topology) (p : Prefix) (pfd : ℕ → ℕ) (w : Processes) (I : In
 
     -- by published rows no packet meets a router twice
     pub unmarked_published_free : (addr : ℕ) (walk : List ℕ) → IsPacketWalk (unmarked_leads t w) (published_rows w) addr p walk → meets_twice walk ≡ false
-    unmarked_published_free addr walk h = none_twice walk (packet_walk (unmarked_leads t w) (published_rows w) (λ i a entry g. inl (match_published i a entry g)) unmarked addr walk h)
+    unmarked_published_free addr walk h = falls_distinct height walk (packet_walk (unmarked_leads t w) (published_rows w) (λ i a entry g. inl (match_published i a entry g)) unmarked addr walk h)
 
     -- nor in a mixture
     pub unmarked_mixture_free : (by_control : ℕ → Bool) (addr : ℕ) (walk : List ℕ) → IsPacketWalk (unmarked_leads t w) (mixture_rows by_control w) addr p walk → meets_twice walk ≡ false
-    unmarked_mixture_free by_control addr walk h = none_twice walk (packet_walk (unmarked_leads t w) (mixture_rows by_control w) (match_mixed by_control) unmarked addr walk h)
+    unmarked_mixture_free by_control addr walk h = falls_distinct height walk (packet_walk (unmarked_leads t w) (mixture_rows by_control w) (match_mixed by_control) unmarked addr walk h)

@@ -1,6 +1,7 @@
 -- No packet meets a router twice, whichever prefixes match it on its way between routers in processes of their own.
 use Rattle.std.proofs.Common.{refl, sym, ap, subst, ◌∙◌, inl, inr, arith, ◌≡◌, ℕ, ◌<◌, ◌≤◌, Bool, true, false, if◌then◌else◌, List, Option, Some, None, IsSome, option_and_then}
-use Rattle.packet_loops.proofs.Common.{Prefix, prefix_cmp, covers, longest_match, infinity, Machine, machine_of, Entry, entry_of, None_not_Some, Some_injective, false≢true, sorted-map, Topology, meets_twice}
+use Rattle.packet_loops.proofs.Common.{Prefix, prefix_cmp, covers, longest_match, infinity, machine_of, Entry, None_not_Some, Some_injective, false≢true, Topology, meets_twice}
+use Rattle.packet_loops.proofs.Publishing.{control_sorted}
 use Rattle.network_model.specs.declared.route.Entry.TheVariants.{Unreachable}
 use Rattle.std.specs.FinMap.{find as row_of}
 use Rattle.std.specs.FinMap.Entries.{is_sorted}
@@ -30,7 +31,7 @@ module _ (t : Topology) (w : Processes) (fds : Prefix → ℕ → ℕ) (I : (p :
   in_order : (b : Bool) (i : ℕ) → is_sorted prefix_cmp (rows b i) ≡ true
   in_order true i =
       let K = (I (record { addr = 0; len = 0 })).keeps i in
-      ap (is_sorted prefix_cmp) K.control_is ∙ sorted-map prefix_cmp (λ (m : Machine). entry_of (w.routers i).ports m) (w.routers i).machines ∙ K.sorted
+      control_sorted (w.routers i) K.control_is K.sorted
   in_order false i = ((I (record { addr = 0; len = 0 })).keeps i).published_sorted
 
   -- along a row that leads to a router both its feasible distances fall

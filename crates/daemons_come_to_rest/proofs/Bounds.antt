@@ -1,5 +1,5 @@
 -- What comes to rest has a bound: at each moment only finitely much may still happen.
-use Rattle.std.proofs.Common.{refl, sym, ap, subst, arith, inl, inr, ◌∙◌, ◌≡◌, ◌⊎◌, ℕ, zero, suc, ◌<◌, ◌≤◌, max, Bool, true, false, cond, List, [], ◌∷◌, ◌++◌, map, length, Option, Some, None, slice_get}
+use Rattle.std.proofs.Common.{refl, sym, ap, subst, arith, inl, inr, ◌∙◌, ◌≡◌, ◌⊎◌, ℕ, zero, suc, ◌<◌, Bool, true, false, cond, List, [], ◌∷◌, ◌++◌, map, length, Option, Some, None, slice_get}
 use Rattle.packet_loops.proofs.Common.{None_not_Some, Some_injective, Prefix, prefix_cmp, prefix_eq, Machine, changed_rows, Held, is_due, ripe_front, Topology, LinkEnd, at_port}
 use Rattle.network_model.proofs.Common.{cases_lt, cases_Bool, both_ways}
 use Rattle.std.specs.FinMap.{find as row_of}
@@ -7,7 +7,7 @@ use Rattle.packet_loops.proofs.Machines.{prefix_same}
 use Rattle.router_core.specs.Alone.{may_forget}
 use Rattle.coming_to_rest.specs.Rest.{IsFinite}
 use Rattle.coming_to_rest.proofs.Order.{lower_cases}
-use Rattle.coming_to_rest.proofs.Bounds.{IsIn, in_left, in_right}
+use Rattle.coming_to_rest.proofs.Bounds.{IsIn, in_left, in_right, bound_of_all}
 use Rattle.daemon_laws.specs.Processes.{Carried, Processes}
 use Rattle.daemon_laws.specs.Happenings.{Happening, Tells, Takes, Loses, Publishes, PublishesSome, Forgets, Releases, BeginsAnew, CanHappen, next}
 use Rattle.daemons_come_to_rest.specs.Rest.{HappensAlone, ComesToRest, rests, AllAlone, HasBound}
@@ -149,39 +149,11 @@ alone_can n w (BeginsAnew i costs attachments) alone = absurd alone
 
 -- ---- bounds
 
-module _ (t : Topology) (F : IsFinite t) (w : Processes) (K : Kept t w) (then : (h : Happening) → HappensAlone F.routers w h → HasBound t F.routers (next t w h)) where
-  -- no list after one of these has more than so many
-  abbrev BoundAfter : List Happening → ℕ → Type 0
-  BoundAfter cs most = (h : Happening) → IsIn h cs → HappensAlone F.routers w h → (hs : List Happening) → AllAlone t F.routers (next t w h) hs → length hs ≤ most
-
-  -- a bound after one, if it may still happen
-  bound_of : (c : Happening) → (most : ℕ) × ((h : Happening) → c ≡ h → HappensAlone F.routers w h → (hs : List Happening) → AllAlone t F.routers (next t w h) hs → length hs ≤ most)
-  bound_of c = elim (either F.routers w c) [
-    | inl alone ↦ ((then c alone).0, λ h e a hs all. (then c alone).1 hs (subst (λ x. AllAlone t F.routers (next t w x) hs) (sym e) all))
-    | inr not ↦ (0, λ h e a hs all. absurd (not (subst (λ x. HappensAlone F.routers w x) (sym e) a)))
-  ]
-
-  -- a bound after each of some
-  bounds_of : (cs : List Happening) → (most : ℕ) × BoundAfter cs most
-  bounds_of [] = (0, λ h here. absurd here)
-  bounds_of (c ∷ cs) =
-      let (a, A) = bound_of c in
-      let (b, B) = bounds_of cs in (
-        max a b,
-        λ h here alone hs all. elim here [
-          | inl e ↦ omega (arith, A h e alone hs all)
-          | inr g ↦ omega (arith, B h g alone hs all)
-        ],
-      )
-
-  -- a bound
-  bound_here : HasBound t F.routers w
-  bound_here = let (most, B) = bounds_of (candidates t F w K) in (suc most, λ hs all. by_list most B hs all)
-    where
-      by_list : (most : ℕ) → BoundAfter (candidates t F w K) most → (hs : List Happening) → AllAlone t F.routers w hs → length hs ≤ suc most
-      by_list most B [] all = omega arith
-      by_list most B (h ∷ hs) all = omega (arith, B h (candidate t F w K h all.0) all.0 hs all.1)
-
 -- what comes to rest has a bound
 pub has_bound : (t : Topology) (F : IsFinite t) (w : Processes) → Kept t w → ComesToRest t F.routers w → HasBound t F.routers w
-has_bound t F w K (rests _ close) = bound_here t F w K (λ h alone. has_bound t F (next t w h) (kept_next t w h K (alone_can F.routers w h alone)) (close h alone))
+has_bound t F w K (rests _ close) = bound_here (λ h alone. has_bound t F (next t w h) (kept_next t w h K (alone_can F.routers w h alone)) (close h alone))
+  where
+    bound_here : ((h : Happening) → HappensAlone F.routers w h → HasBound t F.routers (next t w h)) → HasBound t F.routers w
+    bound_here then = bound_of_all (HappensAlone F.routers w) (λ h hs. AllAlone t F.routers (next t w h) hs)
+        (λ h. elim (either F.routers w h) [ inl alone ↦ inl (then h alone) | inr not ↦ inr not ])
+        (AllAlone t F.routers w) (λ h hs all. all) (candidates t F w K) (candidate t F w K)

@@ -1,14 +1,14 @@
 -- Once nothing happens any more but what happens alone, processes that lose nothing end where each router has its best row.
-use Rattle.std.proofs.Common.{refl, sym, ap, subst, ◌∙◌, inl, inr, ◌≡◌, ◌⊎◌, ℕ, Bool, true, false, ◌&&◌, ◌||◌, ◌==◌, nat_lt, if◌then◌else◌, List, [], ◌∷◌, drop, Option, Some, None, slice_get}
-use Rattle.packet_loops.proofs.Common.{option_map_or, false≢true, Held, Port, ripe_front, Topology, LinkEnd}
-use Rattle.network_model.proofs.Common.{cases_Bool}
-use Rattle.single_router.specs.Inputs.{told_fault}
+use Rattle.std.proofs.Common.{refl, sym, ap, ◌∙◌, inl, inr, ◌≡◌, ◌⊎◌, ℕ, Bool, true, false, ◌&&◌, ◌||◌, ◌==◌, List, [], ◌∷◌, slice_get}
+use Rattle.packet_loops.proofs.Common.{option_map_or, false≢true, Port, Topology, LinkEnd}
+use Rattle.network_model.proofs.Common.{both_ways, cases_Bool, true_from_ne_false}
 use Rattle.single_router.specs.declared.input.Input.TheVariants as input
 use Rattle.coming_to_rest.specs.Rest.{IsFinite}
-use Rattle.coming_to_rest.proofs.Bounds.{IsIn}
-use Rattle.daemon_laws.specs.Processes.{Carried, Processes}
+use Rattle.coming_to_rest.proofs.Bounds.{IsIn, find_one}
+use Rattle.daemon_laws.specs.Processes.{Processes}
 use Rattle.daemon_laws.specs.Packets.{is_in_session}
-use Rattle.daemon_laws.specs.Happenings.{Happening, Tells, Takes, Loses, Publishes, PublishesSome, Forgets, Releases, BeginsAnew, with_router, with_coming, with_heard, told, with_taken, with_released, next, after}
+use Rattle.daemon_laws.specs.Happenings.{Happening, Tells, Takes, Loses, Publishes, PublishesSome, Forgets, Releases, BeginsAnew, next, after}
+use Rattle.daemon_laws.proofs.Cases.{by_take, by_release}
 use Rattle.daemons_come_to_rest.specs.Rest.{HappensAlone, ComesToRest, rests, AllAlone}
 use Rattle.daemons_come_to_rest.specs.Settled.{is_loss, forgets, NothingLeft, EndsAgree, LosesNone, SameGround, Converges, AlwaysConverges}
 use Rattle.daemons_come_to_rest.proofs.Gathered.{prefixes_in, all_known}
@@ -37,25 +37,12 @@ module _ (t : Topology) (F : IsFinite t) where
 -- what is no loss loses nothing
 lost_next : (t : Topology) (w : Processes) (h : Happening) → is_loss h ≡ false → (next t w h).lost ≡ w.lost
 lost_next t w (Tells i x) quiet = refl
-lost_next t w (Takes e) quiet = by_front (slice_get (w.coming e) 0)
-  where
-    by_session : (c : Carried) (b : Bool)
-        → (if b then w else record { routers = with_router e.router (told (input.Message e.port c.session c.message)) w.routers; coming = with_coming e (drop 1) w.coming; last = w.last; heard = with_heard e (told_fault (input.Message e.port c.session c.message) (w.routers e.router)) c.session w.heard; lost = w.lost }).lost ≡ w.lost
-    by_session c true = refl
-    by_session c false = refl
-
-    by_front : (o : Option Carried) → (option_map_or (with_taken e w) o w).lost ≡ w.lost
-    by_front None = refl
-    by_front (Some c) = by_session c (nat_lt (w.last e) c.session)
+lost_next t w (Takes e) quiet = by_take t w (λ v. v.lost ≡ w.lost) refl e (λ c at le. refl)
 lost_next t w (Loses e) quiet = absurd (false≢true (sym quiet))
 lost_next t w (Publishes i) quiet = refl
 lost_next t w (PublishesSome i n) quiet = refl
 lost_next t w (Forgets i p) quiet = refl
-lost_next t w (Releases i) quiet = by_front (ripe_front (w.routers i))
-  where
-    by_front : (o : Option Held) → (option_map_or (with_released t i w) o w).lost ≡ w.lost
-    by_front None = refl
-    by_front (Some h) = refl
+lost_next t w (Releases i) quiet = by_release t w (λ v. v.lost ≡ w.lost) refl i (λ h at. refl)
 lost_next t w (BeginsAnew i costs attachments) quiet = refl
 
 -- nor do any of them
@@ -79,23 +66,16 @@ still_agree t w v G A e session on =
 Leads : Topology → ℕ → Processes → Type 0
 Leads t n w = (hs : List Happening) × AllAlone t n w hs × LosesNone hs × NothingLeft n (after t w hs)
 
--- something that is no loss, and forgets no prefix, still happens
-record Left (n : ℕ) (w : Processes) : Type 0 where
-  happening : Happening
-  alone : HappensAlone n w happening
-  no_loss : (is_loss happening || forgets happening) ≡ false
+-- something still happens that is no loss, and forgets no prefix
+abbrev IsLeft : ℕ → Processes → Happening → Type 0
+IsLeft n w h = HappensAlone n w h × ((is_loss h || forgets h) ≡ false)
 
--- of these one still happens that is no loss and forgets no prefix, or none does
-search : (n : ℕ) (w : Processes) (cs : List Happening) → Left n w ⊎ ((h : Happening) → IsIn h cs → HappensAlone n w h → (is_loss h || forgets h) ≡ true)
-search n w [] = inr (λ h here. absurd here)
-search n w (c ∷ cs) = by_first (either n w c) (cases_Bool (is_loss c || forgets c)) (search n w cs)
-  where
-    by_first : HappensAlone n w c ⊎ (HappensAlone n w c → ⊥) → ((is_loss c || forgets c) ≡ true) ⊎ ((is_loss c || forgets c) ≡ false) → Left n w ⊎ ((h : Happening) → IsIn h cs → HappensAlone n w h → (is_loss h || forgets h) ≡ true)
-        → Left n w ⊎ ((h : Happening) → IsIn h (c ∷ cs) → HappensAlone n w h → (is_loss h || forgets h) ≡ true)
-    by_first a b (inl left) = inl left
-    by_first (inl alone) (inr keeps) (inr rest) = inl (record { happening = c; alone = alone; no_loss = keeps })
-    by_first (inl alone) (inl loss) (inr rest) = inr (λ h here a. elim here [ inl e ↦ subst (λ x. (is_loss x || forgets x) ≡ true) e loss | inr g ↦ rest h g a ])
-    by_first (inr not) b (inr rest) = inr (λ h here a. elim here [ inl e ↦ absurd (not (subst (λ x. HappensAlone n w x) (sym e) a)) | inr g ↦ rest h g a ])
+-- a happening is such a one, or not
+left : (n : ℕ) (w : Processes) (h : Happening) → IsLeft n w h ⊎ (IsLeft n w h → ⊥)
+left n w h = elim (either n w h) [
+  | inl alone ↦ elim (cases_Bool (is_loss h || forgets h)) [ inl loss ↦ inr (λ (a, keeps). both_ways (is_loss h || forgets h) keeps loss) | inr keeps ↦ inl (alone, keeps) ]
+  | inr not ↦ inr (λ (a, keeps). not a)
+]
 
 -- where neither of two is true the first is not
 loses_none : (a b : Bool) → (a || b) ≡ false → a ≡ false
@@ -105,13 +85,13 @@ loses_none false b h = refl
 -- what comes to rest leads to where nothing is left
 leads : (t : Topology) (F : IsFinite t) (w : Processes) → Kept t w → ComesToRest t F.routers w → Leads t F.routers w
 unfolding Leads
-leads t F w K (rests _ close) = by_search (λ h alone. leads t F (next t w h) (kept_next t w h K (alone_can F.routers w h alone)) (close h alone)) (search F.routers w (candidates t F w K))
+leads t F w K (rests _ close) = by_search (λ h alone. leads t F (next t w h) (kept_next t w h K (alone_can F.routers w h alone)) (close h alone)) (find_one (IsLeft F.routers w) (left F.routers w) (candidates t F w K))
   where
     by_search : ((h : Happening) → HappensAlone F.routers w h → (hs : List Happening) × AllAlone t F.routers (next t w h) hs × LosesNone hs × NothingLeft F.routers (after t (next t w h) hs))
-        → Left F.routers w ⊎ ((h : Happening) → IsIn h (candidates t F w K) → HappensAlone F.routers w h → (is_loss h || forgets h) ≡ true)
+        → ((h : Happening) × IsLeft F.routers w h) ⊎ ((h : Happening) → IsIn h (candidates t F w K) → IsLeft F.routers w h → ⊥)
         → (hs : List Happening) × AllAlone t F.routers w hs × LosesNone hs × NothingLeft F.routers (after t w hs)
-    by_search onward (inl L) = let (hs, all, none, done) = onward L.happening L.alone in (L.happening ∷ hs, (L.alone, all), (loses_none (is_loss L.happening) (forgets L.happening) L.no_loss, none), done)
-    by_search onward (inr none) = ([], tt, tt, λ h alone. none h (candidate t F w K h alone) alone)
+    by_search onward (inl (h, (alone, keeps))) = let (hs, all, none, done) = onward h alone in (h ∷ hs, (alone, all), (loses_none (is_loss h) (forgets h) keeps, none), done)
+    by_search onward (inr none) = ([], tt, tt, λ h alone. true_from_ne_false (is_loss h || forgets h) (λ keeps. none h (candidate t F w K h alone) (alone, keeps)))
 
 -- ---- all
 

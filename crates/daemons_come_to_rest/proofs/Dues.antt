@@ -1,6 +1,6 @@
 -- What a router has to publish, to release and may have to forget: whatever it does of that leaves less.
-use Rattle.std.proofs.Common.{refl, sym, ap, subst, ◌∙◌, arith, inl, inr, ◌≡◌, ◌⊎◌, ℕ, zero, suc, ◌+◌, ◌-◌, ◌<◌, ◌≤◌, Bool, true, false, not, cond, nat_lt, if◌then◌else◌, List, [], ◌∷◌, length, take, drop, filter, Some, None, is_some, slice_get, length-drop, ltb-true}
-use Rattle.packet_loops.proofs.Common.{option_map_or, or_cases, false≢true, None_not_Some, Some_injective, Prefix, prefix_cmp, prefix_eq, prefix_cmp_total, Machine, Entry, entry_of, entry_eq, entry_eq-refl, Held, Router, Table, has_row, changed_rows, with_rows, is_due, router_publishing, router_releasing, ripe_front, unripe_of, sorted-map}
+use Rattle.std.proofs.Common.{refl, sym, ap, subst, ◌∙◌, arith, inl, inr, ◌≡◌, ◌⊎◌, ℕ, zero, suc, ◌+◌, ◌-◌, ◌<◌, ◌≤◌, Bool, true, false, not, cond, if◌then◌else◌, List, [], ◌∷◌, length, take, filter, Some, is_some, slice_get}
+use Rattle.packet_loops.proofs.Common.{option_map_or, false≢true, None_not_Some, Some_injective, Prefix, prefix_cmp, prefix_eq, prefix_cmp_total, Machine, Entry, entry_eq, entry_eq-refl, Router, Table, has_row, changed_rows, with_rows}
 use Rattle.network_model.proofs.Common.{both_ways}
 use Rattle.std.specs.FinMap.{find as row_of}
 use Rattle.std.specs.FinMap.Entries.{is_sorted, length_without}
@@ -8,42 +8,14 @@ use Rattle.ipv4_prefix.proofs.SortedRows.{to_T}
 use Rattle.packet_loops.proofs.Machines.{prefix_itself}
 use Rattle.route_table.specs.Place.{without}
 use Rattle.router_core.specs.Alone.{with_some_published, router_publishing_some, router_forgetting}
-use Rattle.coming_to_rest.proofs.WorldMeasure.{none_changed}
+use Rattle.packet_loops.proofs.Publishing.{control_sorted}
+use Rattle.coming_to_rest.proofs.Dues.{router_dues}
 use Rattle.daemon_laws.proofs.Routers.{RouterKept}
 use Rattle.daemon_laws.proofs.SomeRows.{AllIn, all_in_self, all_in_filter, all_in_take, row_in_force, apart_back, row_beside}
 
--- what a router has chosen is in the order of the prefixes
-control_sorted : (p : Prefix) (r : Router) → RouterKept p r → is_sorted prefix_cmp (r.table).control ≡ true
-control_sorted p r R = ap (is_sorted prefix_cmp) R.control_is ∙ sorted-map prefix_cmp (λ (m : Machine). entry_of r.ports m) r.machines ∙ R.sorted
-
 -- what a router has to publish and release, and may have to forget
 abbrev pub dues_of : Router → ℕ
-dues_of r = length (r.gate).held + length (unripe_of r) + length (changed_rows r.table) + length r.machines
-
--- a router that publishes what is due has less
-pub published_less : (p : Prefix) (r : Router) → RouterKept p r → is_due r ≡ true → dues_of (router_publishing r) < dues_of r
-published_less p r R due = go (or_cases (nat_lt 0 (length (changed_rows r.table))) (nat_lt (r.gate).ripe (length (r.gate).held)) due)
-  where
-    -- its rows in force are those that it chose
-    rows : length (changed_rows (router_publishing r).table) ≡ 0
-    rows = ap length (none_changed (r.table).control (control_sorted p r R))
-
-    -- something was due
-    go : (nat_lt 0 (length (changed_rows r.table)) ≡ true) ⊎ (nat_lt (r.gate).ripe (length (r.gate).held) ≡ true) → dues_of (router_publishing r) < dues_of r
-    go (inl t) = omega (arith, rows, ltb-true 0 (length (changed_rows r.table)) t, length-drop (length (r.gate).held) (r.gate).held)
-    go (inr t) = omega (arith, rows, ltb-true (r.gate).ripe (length (r.gate).held) t, length-drop (length (r.gate).held) (r.gate).held, length-drop (r.gate).ripe (r.gate).held)
-
--- and a router that releases a message
-pub released_less : (r : Router) (h : Held) → ripe_front r ≡ Some h → dues_of (router_releasing r) < dues_of r
-released_less r h first = go (nat_lt 0 (r.gate).ripe) refl first
-  where
-    some_held : (xs : List Held) → slice_get xs 0 ≡ Some h → 0 < length xs
-    some_held [] f = absurd (None_not_Some f)
-    some_held (y ∷ xs) f = omega arith
-
-    go : (b : Bool) → nat_lt 0 (r.gate).ripe ≡ b → (if b then slice_get (r.gate).held 0 else None) ≡ Some h → dues_of (router_releasing r) < dues_of r
-    go false t f = absurd (None_not_Some f)
-    go true t f = omega (arith, ltb-true 0 (r.gate).ripe t, some_held (r.gate).held f, length-drop 1 (r.gate).held, length-drop ((r.gate).ripe - 1) (drop 1 (r.gate).held), length-drop (r.gate).ripe (r.gate).held)
+dues_of r = router_dues r + length r.machines
 
 -- ---- rows that pass a test, and rows that pass another
 
@@ -148,7 +120,7 @@ module _ (n : ℕ) (t : Table) (some : 0 < n) (there : 0 < length (changed_rows 
 
 -- a router that publishes some of its rows has less
 pub some_published_less : (p : Prefix) (r : Router) → RouterKept p r → (n : ℕ) → 0 < n → n < length (changed_rows r.table) → dues_of (router_publishing_some n r) < dues_of r
-some_published_less p r R n some fewer = (let less = some_less n r.table some (omega (arith, some, fewer)) (control_sorted p r R) in omega (arith, less))
+some_published_less p r R n some fewer = (let less = some_less n r.table some (omega (arith, some, fewer)) (control_sorted r R.control_is R.sorted) in omega (arith, less))
 
 -- ---- a prefix is forgotten
 

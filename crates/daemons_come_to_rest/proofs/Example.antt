@@ -1,52 +1,30 @@
 -- The two routers whose second session has begun: what still happens leads to where nothing is left.
-use Rattle.std.proofs.Common.{refl, sym, ap, ◌∙◌, arith, ◌≡◌, ◌<◌, Bool, true, false, ◌==◌, List, [], ◌∷◌, length, None, slice_get}
-use Rattle.packet_loops.proofs.Common.{None_not_Some, false≢true, changed_rows, is_due, ripe_front, LinkEnd, at_port}
+use Rattle.std.proofs.Common.{refl, sym, ap, ◌∙◌, arith, ◌≡◌, ◌<◌, Bool, true, false, List, [], length, None, slice_get}
+use Rattle.packet_loops.proofs.Common.{None_not_Some, false≢true, changed_rows, is_due, ripe_front, LinkEnd}
 use Rattle.loop_freedom.proofs.Example.{pair}
 use Rattle.single_router.specs.declared.input.Input.TheVariants as input
 use Rattle.coming_to_rest.specs.Rest.{IsFinite}
 use Rattle.daemon_laws.specs.Processes.{Carried, Processes}
-use Rattle.daemon_laws.specs.Happenings.{Happening, Tells, Takes, Loses, Publishes, PublishesSome, Forgets, Releases, BeginsAnew, after, AllCanHappen, Begins}
-use Rattle.daemon_laws.proofs.Example.{first, made_one, seven}
-use Rattle.daemon_laws.proofs.RestExample.{rest, agree, each_end, each_router}
+use Rattle.daemon_laws.specs.Happenings.{Tells, Takes, Loses, Publishes, PublishesSome, Forgets, Releases, BeginsAnew, after, AllCanHappen}
+use Rattle.daemon_laws.proofs.Example.{first, begins, seven}
+use Rattle.least_cost.proofs.Reached.{each_place, each_router}
+use Rattle.daemon_laws.proofs.RestExample.{until_up, onward, rest, agree}
 use Rattle.daemons_come_to_rest.specs.Rest.{AllAlone}
 use Rattle.daemons_come_to_rest.specs.Settled.{NothingLeft, SameGround, SomeConverges}
 use Rattle.daemons_come_to_rest.proofs.Kept.{Kept, kept_first, kept_after}
 use Rattle.daemons_come_to_rest.proofs.Converging.{kept_alone, ground_after, still_agree}
 
--- router 1 takes the route and begins anew, and both ends come up in a second session
-abbrev until_up : List Happening
-until_up =
-    Tells 1 (input.Up 0 1 7)
-    ∷ Tells 0 (input.Up 0 1 7)
-    ∷ Publishes 0
-    ∷ Releases 0
-    ∷ Takes (at_port 1 0)
-    ∷ Publishes 1
-    ∷ BeginsAnew 1 (7 ∷ []) []
-    ∷ Tells 1 (input.Up 0 2 7)
-    ∷ Tells 0 (input.Down 0)
-    ∷ Tells 0 (input.Up 0 2 7)
-    ∷ []
-
 -- the processes then
 abbrev now : Processes
 now = after pair first until_up
 
--- router 0 tells of the route, and router 1 answers
-abbrev onward : List Happening
-onward = Publishes 0 ∷ Releases 0 ∷ Takes (at_port 1 0) ∷ Publishes 1 ∷ Releases 1 ∷ Takes (at_port 0 0) ∷ []
-
 -- there are two link ends
 abbrev two : IsFinite pair
-two = record { routers = 2; ports = 1; within = each_end (λ e. (e.router < 2) × (e.port < 1)) (omega arith, omega arith) (omega arith, omega arith) }
+two = record { routers = 2; ports = 1; within = each_place (λ e. (e.router < 2) × (e.port < 1)) (omega arith, omega arith) (omega arith, omega arith) }
 
 -- the first of it may happen
 can_up : AllCanHappen pair first until_up
 can_up = ((omega arith, seven), ((omega arith, seven), (tt, (tt, (tt, (tt, (refl, ((omega arith, seven), (tt, ((omega arith, seven), tt))))))))))
-
--- the two routers begin
-begins : Begins first
-begins = record { routers_made = λ i. made_one (i == 0); nothing_comes = λ e. refl; never_up = λ e. refl; never_heard = λ e. refl; nothing_lost = refl }
 
 -- what is kept then
 kept_now : Kept pair now
@@ -61,7 +39,7 @@ none_comes : (e : LinkEnd) → rest.coming e ≡ []
 none_comes e = by_valid (pair.valid e) refl
   where
     by_valid : (b : Bool) → pair.valid e ≡ b → rest.coming e ≡ []
-    by_valid true v = each_end (λ d. rest.coming d ≡ []) refl refl e v
+    by_valid true v = each_place (λ d. rest.coming d ≡ []) refl refl e v
     by_valid false out = (kept_alone pair two now onward kept_now alone).placed e out
 
 -- and nothing is left

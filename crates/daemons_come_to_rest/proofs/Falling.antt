@@ -1,6 +1,7 @@
 -- Whatever still happens makes the measure of the processes fall: at how many ports that are down a report is left that is forgotten with
 -- its prefix, then what counts for all prefixes together, place by place, then the loads of all prefixes, then what is to be done.
-use Rattle.std.proofs.Common.{refl, sym, ap, subst, ◌∙◌, arith, inl, inr, ◌≡◌, ◌≢◌, ◌⊎◌, ℕ, zero, suc, ◌+◌, ◌<◌, ◌≤◌, Bool, true, false, nat_lt, if◌then◌else◌, List, [], ◌∷◌, length, drop, Option, Some, None, is_none, slice_get, ltb-true}
+use Rattle.std.proofs.Common.{refl, sym, ap, subst, ◌∙◌, arith, inl, inr, ◌≡◌, ◌≢◌, ◌⊎◌, ℕ, ◌<◌, ◌≤◌, Bool, true, false, if◌then◌else◌, List, [], ◌∷◌, length, drop, Option, Some, None, is_none, slice_get}
+use Rattle.std.proofs.lemmas.Bool.{le-ltb}
 use Rattle.packet_loops.proofs.Common.{option_map_or, list_any, None_not_Some, Some_injective, Prefix, prefix_eq, Held, Item, Router, machine_of, kept, ripe_of, unripe_of, changed_rows, is_due, router_accepting, router_publishing, router_releasing, ripe_front, Topology, LinkEnd}
 use Rattle.network_model.proofs.Common.{cases_eq, both_ways, false_from_ne_true, infinity}
 use Rattle.router_core.specs.Alone.{router_publishing_some, may_forget, router_forgetting}
@@ -9,51 +10,40 @@ use Rattle.single_router.specs.Inputs.{told_fault, attachment_of}
 use Rattle.single_router.specs.declared.input.Input.TheVariants as input
 use Rattle.packet_loops.proofs.Machines.{prefix_same, prefix_itself}
 use Rattle.coming_to_rest.specs.Rest.{IsFinite}
-use Rattle.coming_to_rest.proofs.Order.{Falls, NoRise, at_place, at_first, at_second}
-use Rattle.coming_to_rest.proofs.Sums.{sum_below, sum_but_one}
-use Rattle.coming_to_rest.proofs.Measure.{weight, loads, le_same}
-use Rattle.coming_to_rest.proofs.Takes.{MessageEffect, falls_at, load_falls}
+use Rattle.coming_to_rest.proofs.Order.{Falls, at_place}
+use Rattle.coming_to_rest.proofs.Sums.{sum_list, list_less, sum_below, sum_but_one}
+use Rattle.coming_to_rest.proofs.Measure.{top, le_same}
+use Rattle.coming_to_rest.proofs.Takes.{MessageEffect, load_falls}
 use Rattle.coming_to_rest.proofs.Known.{IsOf}
-use Rattle.coming_to_rest.proofs.WorldMeasure.{sum_list, list_less, list_strict}
+use Rattle.coming_to_rest.proofs.Prefixes.{CountsLess, each, prefixes_less, prefixes_fall, sum_places, sum_loads, dues_fall, effect_falls}
 use Rattle.daemon_laws.specs.Processes.{Carried, Processes}
-use Rattle.daemon_laws.specs.Happenings.{Happening, Tells, Takes, Loses, Publishes, PublishesSome, Forgets, Releases, BeginsAnew, with_router, with_coming, with_heard, told, forgotten, with_taken, with_released, next}
+use Rattle.daemon_laws.specs.Happenings.{Happening, Tells, Takes, Loses, Publishes, PublishesSome, Forgets, Releases, BeginsAnew, with_router, with_coming, told, forgotten, with_taken, with_released, next}
+use Rattle.daemon_laws.proofs.Cases.{after_message}
 use Rattle.daemon_laws.proofs.Seen.{carried}
 use Rattle.daemon_laws.proofs.Steps.{router_here, router_away, coming_here, coming_away, bounded}
 use Rattle.daemons_come_to_rest.specs.Rest.{HappensAlone}
 use Rattle.daemons_come_to_rest.specs.Settled.{SameGround}
 use Rattle.daemons_come_to_rest.proofs.Shown.{reported, shown, stales}
 use Rattle.daemons_come_to_rest.proofs.Moves.{Less, alike_less, Drops, drop_less, drop_load, stays_of, TakesOne, taken_effect, taken_stale, taken_attachment, taken_other, PublishesOne, publish_less, ReleasesOne, release_less}
-use Rattle.daemons_come_to_rest.proofs.Gathered.{of_first, of_more, KnownIn, known_drop, known_first, known_dropped, known_take, known_publish, known_held, known_release}
+use Rattle.daemons_come_to_rest.proofs.Gathered.{KnownIn, known_drop, known_first, known_dropped, known_take, known_publish, known_held, known_release}
 use Rattle.daemons_come_to_rest.proofs.Forgets.{ForgetsOne, forget_other, forget_own, may_machine, forget_attachment}
-use Rattle.daemons_come_to_rest.proofs.Dues.{dues_of, published_less, some_published_less, forgotten_less, released_less}
+use Rattle.coming_to_rest.proofs.Dues.{published_less, released_less}
+use Rattle.daemons_come_to_rest.proofs.Dues.{dues_of, some_published_less, forgotten_less}
 use Rattle.daemons_come_to_rest.proofs.Kept.{Kept, link_there}
 
 -- ---- the measure
 
--- a sum over prefixes of parts that are no greater is no greater
-list_less_in : (ps : List Prefix) (g f : Prefix → ℕ) → ((p : Prefix) → IsOf ps p → g p ≤ f p) → sum_list ps g ≤ sum_list ps f
-list_less_in [] g f h = omega arith
-list_less_in (x ∷ xs) g f h = omega (arith, h x (of_first x xs), list_less_in xs g f (λ p there. h p (of_more p x xs there)))
-
 module _ (t : Topology) (F : IsFinite t) (ps : List Prefix) where
-  -- what counts of a prefix, and its load
-  abbrev counts_of : Processes → ℕ → Prefix → ℕ
-  counts_of w u p = weight t F.routers F.ports (shown p w) u
-
-  abbrev load_of : Processes → Prefix → ℕ
-  load_of w p = loads t F.routers F.ports (shown p w)
-
-  -- and at how many ends that are down a report is stale
+  -- at how many ends that are down a report of the prefix is stale
   abbrev stales_of : Processes → Prefix → ℕ
   stales_of w p = stales t F.routers F.ports (shown p w)
 
-  -- of all prefixes
+  -- the places, the stale ends of all prefixes first
   abbrev pub all_places : Processes → ℕ → ℕ
-  all_places w zero = sum_list ps (stales_of w)
-  all_places w (suc u) = sum_list ps (counts_of w u)
+  all_places w = sum_places t F.routers F.ports ps (sum_list ps (stales_of w)) (λ p. shown p w)
 
   abbrev pub all_loads : Processes → ℕ
-  all_loads w = sum_list ps (load_of w)
+  all_loads w = sum_loads t F.routers F.ports ps (λ p. shown p w)
 
   -- what all routers have to publish and release
   abbrev pub all_dues : Processes → ℕ
@@ -61,69 +51,32 @@ module _ (t : Topology) (F : IsFinite t) (ps : List Prefix) where
 
   -- the measure falls from w to v
   abbrev pub ProcessesFall : Processes → Processes → Type 0
-  ProcessesFall w v = Falls (infinity + 2) (all_places w) (all_loads w) (all_dues w) (all_places v) (all_loads v) (all_dues v)
+  ProcessesFall w v = Falls top (all_places w) (all_loads w) (all_dues w) (all_places v) (all_loads v) (all_dues v)
 
   module _ (w v : Processes) where
     -- no more counts of the prefix
     abbrev IsLess : Prefix → Type 0
     IsLess p = Less t F.routers F.ports p w v
 
-    -- nothing rises, where no more counts of any of the prefixes
-    no_rise : ((p : Prefix) → IsOf ps p → IsLess p) → NoRise (all_places v) (all_places w)
-    no_rise less zero = list_less_in ps (stales_of v) (stales_of w) (λ p there. (less p there).stale_less)
-    no_rise less (suc u) = list_less_in ps (counts_of v u) (counts_of w u) (λ p there. (less p there).weights u)
+    -- of a prefix that counts no more
+    counts : (p : Prefix) → IsLess p → CountsLess t F.routers F.ports (shown p w) (shown p v)
+    counts p less = (less.weights, less.load_less)
 
     -- where no more counts, the dues decide
     by_dues : ((p : Prefix) → IsOf ps p → IsLess p) → all_dues v < all_dues w → ProcessesFall w v
-    by_dues less fewer = at_second (no_rise less) (list_less_in ps (load_of v) (load_of w) (λ p there. (less p there).load_less)) fewer
-
-    -- what holds of the prefix holds of each that passes the test
-    same : (P : Prefix → Type 0) (k : Prefix) → P k → (p : Prefix) → prefix_eq k p ≡ true → P p
-    same P k here p is = subst P (prefix_same k p is) here
-
-    -- what holds of the prefix and of all others holds of each
-    each : (P : Prefix → Type 0) (k : Prefix) → P k → ((p : Prefix) → prefix_eq p k ≡ false → P p) → (p : Prefix) → P p
-    each P k here beside p = by_prefix (prefix_eq p k) refl
-      where
-        by_prefix : (b : Bool) → prefix_eq p k ≡ b → P p
-        by_prefix true is = subst P (sym (prefix_same p k is)) here
-        by_prefix false is = beside p is
-
-    -- where no more counts, and the load of one prefix is less
-    by_load : (k : Prefix) → IsOf ps k → ((p : Prefix) → IsLess p) → load_of v k < load_of w k → ProcessesFall w v
-    by_load k there less fewer = at_first (no_rise (λ p is. less p)) (list_strict (prefix_eq k) ps (load_of v) (load_of w) (λ p. (less p).load_less) (same (λ p. load_of v p < load_of w p) k fewer) there)
+    by_dues less = dues_fall t F.routers F.ports ps (sum_list ps (stales_of w)) (all_dues w) (sum_list ps (stales_of v)) (all_dues v) (λ p. shown p w) (λ p. shown p v)
+        (prefixes_less ps (stales_of v) (stales_of w) (λ p there. (less p there).stale_less)) (λ p there. counts p (less p there))
 
     -- where what counts of one prefix falls, and no more of the others
     by_effect : (k : Prefix) → IsOf ps k → MessageEffect t F.routers F.ports (shown k w) (shown k v) → stales_of v k ≤ stales_of w k → ((p : Prefix) → prefix_eq p k ≡ false → IsLess p) → ProcessesFall w v
-    by_effect k there E stale others = go E
-      where
-        at_most : (u : ℕ) → counts_of v u k ≤ counts_of w u k → (p : Prefix) → counts_of v u p ≤ counts_of w u p
-        at_most u here = each (λ p. counts_of v u p ≤ counts_of w u p) k here (λ p is. (others p is).weights u)
-
-        stale_most : sum_list ps (stales_of v) ≤ sum_list ps (stales_of w)
-        stale_most = list_less ps (stales_of v) (stales_of w) (each (λ p. stales_of v p ≤ stales_of w p) k stale (λ p is. (others p is).stale_less))
-
-        lower : (u : ℕ) → ((j : ℕ) → j < u → counts_of v j k ≤ counts_of w j k) → (j : ℕ) → j < suc u → all_places v j ≤ all_places w j
-        lower u less zero l = stale_most
-        lower u less (suc j) l = list_less ps (counts_of v j) (counts_of w j) (at_most j (less j (omega (arith, l))))
-
-        nowhere : ((j : ℕ) → counts_of v j k ≤ counts_of w j k) → (j : ℕ) → all_places v j ≤ all_places w j
-        nowhere less zero = stale_most
-        nowhere less (suc j) = list_less ps (counts_of v j) (counts_of w j) (at_most j (less j))
-
-        go : MessageEffect t F.routers F.ports (shown k w) (shown k v) → ProcessesFall w v
-        go (falls_at u bound less here) = at_place (suc u) (omega (arith, bound)) (
-          lower u less,
-          list_strict (prefix_eq k) ps (counts_of v u) (counts_of w u) (at_most u (omega (arith, here))) (same (λ p. counts_of v u p < counts_of w u p) k here) there,
-        )
-        go (load_falls less here) = at_first (nowhere less)
-            (list_strict (prefix_eq k) ps (load_of v) (load_of w) (each (λ p. load_of v p ≤ load_of w p) k (omega (arith, here)) (λ p is. (others p is).load_less)) (same (λ p. load_of v p < load_of w p) k here) there)
+    by_effect k there E stale others = effect_falls t F.routers F.ports ps (sum_list ps (stales_of w)) (all_dues w) (sum_list ps (stales_of v)) (all_dues v) (λ p. shown p w) (λ p. shown p v)
+        (list_less ps (stales_of v) (stales_of w) (each (λ p. stales_of v p ≤ stales_of w p) k stale (λ p is. (others p is).stale_less))) k there (λ p is. counts p (others p is)) E
 
     -- where of one prefix something is stale at fewer ends, and no more counts of the others
     by_stale : (k : Prefix) → IsOf ps k → stales_of v k < stales_of w k → ((p : Prefix) → prefix_eq p k ≡ false → IsLess p) → ProcessesFall w v
     by_stale k there fewer others = at_place 0 (omega arith) (
       (λ j l. absurd (omega (arith, l))),
-      list_strict (prefix_eq k) ps (stales_of v) (stales_of w) (each (λ p. stales_of v p ≤ stales_of w p) k (omega (arith, fewer)) (λ p is. (others p is).stale_less)) (same (λ p. stales_of v p < stales_of w p) k fewer) there,
+      prefixes_fall ps (stales_of v) (stales_of w) k there fewer (λ p is. (others p is).stale_less),
     )
 
     -- ---- each move
@@ -131,7 +84,10 @@ module _ (t : Topology) (F : IsFinite t) (ps : List Prefix) where
     module _ (K : Kept t w) (G : KnownIn t F.routers ps w) where
       -- a message is dropped
       drop_falls : Drops t w v → ProcessesFall w v
-      drop_falls D = by_load ((D.c).message).prefix (known_dropped t F.routers ps w v G D) (λ p. drop_less t F p w v D) (drop_load t F ((D.c).message).prefix w v D (prefix_itself ((D.c).message).prefix))
+      drop_falls D =
+          let k = ((D.c).message).prefix in
+          let less = drop_less t F k w v D in
+          by_effect k (known_dropped t F.routers ps w v G D) (load_falls less.weights (drop_load t F k w v D (prefix_itself k))) less.stale_less (λ p apart. drop_less t F p w v D)
 
       -- a message is taken
       take_falls : (T : TakesOne t w v) → ((T.c).message).value ≤ infinity → ProcessesFall w v
@@ -156,13 +112,13 @@ module _ (t : Topology) (F : IsFinite t) (ps : List Prefix) where
       publish_falls : (P : PublishesOne w v) → P.i < F.routers → is_due (w.routers P.i) ≡ true → ProcessesFall w v
       publish_falls P within due =
           by_dues (λ p there. publish_less t F.routers F.ports p w v P ((K.invariant p).keeps P.i) ((K.invariant p).sound P.i))
-          (router_less P.i (router_publishing (w.routers P.i)) within P.router_is P.routers_elsewhere (published_less some (w.routers P.i) ((K.invariant some).keeps P.i) due))
+          (router_less P.i (router_publishing (w.routers P.i)) within P.router_is P.routers_elsewhere (let R = (K.invariant some).keeps P.i in omega (arith, published_less (w.routers P.i) R.control_is R.sorted due)))
 
       -- a router releases a message
       release_falls : (R : ReleasesOne t w v) → R.i < F.routers → ProcessesFall w v
       release_falls R within =
           by_dues (λ p there. release_less t F p w v R)
-          (router_less R.i (router_releasing (w.routers R.i)) within R.router_is R.routers_elsewhere (released_less (w.routers R.i) R.h R.front))
+          (router_less R.i (router_releasing (w.routers R.i)) within R.router_is R.routers_elsewhere (omega (arith, released_less (w.routers R.i) R.h R.front)))
 
       -- a router publishes some of its rows
       publish_some_falls : (i n : ℕ) → v.routers i ≡ router_publishing_some n (w.routers i) → ((j : ℕ) → j ≢ i → v.routers j ≡ w.routers j) → ((e : LinkEnd) → v.coming e ≡ w.coming e)
@@ -224,13 +180,7 @@ module _ (t : Topology) (F : IsFinite t) (ps : List Prefix) where
     module _ (e : LinkEnd) (c : Carried) (at : slice_get (w.coming e) 0 ≡ Some c) (le : c.session ≤ w.last e) where
       -- the processes after the message is taken or refused
       abbrev taken : Processes
-      taken = record {
-        routers = with_router e.router (told (input.Message e.port c.session c.message)) w.routers;
-        coming = with_coming e (drop 1) w.coming;
-        last = w.last;
-        heard = with_heard e (told_fault (input.Message e.port c.session c.message) (w.routers e.router)) c.session w.heard;
-        lost = w.lost;
-      }
+      taken = after_message e w c
 
       -- the router after
       router_then : (o : Option Fault) → told_fault (input.Message e.port c.session c.message) (w.routers e.router) ≡ o
@@ -280,17 +230,8 @@ module _ (t : Topology) (F : IsFinite t) (ps : List Prefix) where
 
       -- an end takes a message that does not wait
       goes_takes : Goes (next t w (Takes e))
-      goes_takes = subst Goes (sym (ap (λ o. option_map_or (with_taken e w) o w) at)) (by_session (nat_lt (w.last e) c.session) refl)
-        where
-          by_session : (b : Bool) → nat_lt (w.last e) c.session ≡ b → Goes (if b then w else record {
-            routers = with_router e.router (told (input.Message e.port c.session c.message)) w.routers;
-            coming = with_coming e (drop 1) w.coming;
-            last = w.last;
-            heard = with_heard e (told_fault (input.Message e.port c.session c.message) (w.routers e.router)) c.session w.heard;
-            lost = w.lost;
-          })
-          by_session true is = absurd (omega (arith, le, ltb-true (w.last e) c.session is))
-          by_session false is = goes_either (told_fault (input.Message e.port c.session c.message) (w.routers e.router)) refl
+      goes_takes = subst Goes (sym (ap (λ o. option_map_or (with_taken e w) o w) at ∙ ap (λ b. if b then w else taken) (le-ltb (w.last e) c.session le)))
+          (goes_either (told_fault (input.Message e.port c.session c.message) (w.routers e.router)) refl)
 
     -- a message is lost
     goes_loses : (e : LinkEnd) (c : Carried) → slice_get (w.coming e) 0 ≡ Some c → Goes (next t w (Loses e))

@@ -2,14 +2,15 @@
 use Rattle.std.proofs.Common.{refl, sym, ap, subst, ◌∙◌, arith, inl, inr, ◌≡◌, ◌≢◌, ℕ, zero, suc, ◌<◌, Bool, true, false, ◌||◌, ◌&&◌, if◌then◌else◌, List, [], ◌∷◌, ◌++◌, map}
 use Rattle.packet_loops.proofs.Common.{list_any, false≢true, Prefix, prefix_eq, Item, Held, Router, router_accepting, router_releasing, Topology, LinkEnd, at_port, place_cases}
 use Rattle.network_model.proofs.Common.{cases_eq}
-use Rattle.packet_loops.proofs.Machines.{prefix_itself}
 use Rattle.coming_to_rest.specs.Rest.{IsFinite}
 use Rattle.coming_to_rest.proofs.Known.{Each, each_append, each_front_off, IsOf, HeldKnown, known_sends}
 use Rattle.coming_to_rest.proofs.Order.{lower_cases}
+use Rattle.coming_to_rest.proofs.Prefixes.{of_first, of_more}
 use Rattle.daemon_laws.specs.Processes.{Carried, Processes}
 use Rattle.daemon_laws.specs.Packets.{is_in_session}
 use Rattle.daemon_laws.specs.Happenings.{with_coming}
-use Rattle.daemon_laws.proofs.Releasing.{as_carried, front_of}
+use Rattle.daemon_laws.proofs.Releasing.{as_carried}
+use Rattle.packet_loops.proofs.Releasing.{front_of}
 use Rattle.daemon_laws.proofs.Steps.{coming_here, coming_away}
 use Rattle.daemons_come_to_rest.proofs.Moves.{Drops, TakesOne, PublishesOne, ReleasesOne}
 
@@ -102,18 +103,6 @@ module _ (t : Topology) (n : ℕ) (ps : List Prefix) (w v : Processes) (K : Know
       ]
 
 -- ---- there is such a list
-
--- one prefix more
-pub of_more : (p q : Prefix) (ps : List Prefix) → IsOf ps p → IsOf (q ∷ ps) p
-of_more p q ps h = go (prefix_eq p q)
-  where
-    go : (b : Bool) → (b || list_any (prefix_eq p) ps) ≡ true
-    go true = refl
-    go false = h
-
--- the first
-pub of_first : (p : Prefix) (ps : List Prefix) → IsOf (p ∷ ps) p
-of_first p ps = ap (λ b. b || list_any (prefix_eq p) ps) (prefix_itself p)
 
 -- of the second of two lists
 of_right : (p : Prefix) (xs ys : List Prefix) → IsOf ys p → IsOf (xs ++ ys) p

@@ -1,18 +1,18 @@
 -- What is kept at every moment, whatever happens: the invariant of each prefix, that passive machines without a route have no
 -- feasible distance, and that nothing is on its way where no link is.
-use Rattle.std.proofs.Common.{refl, sym, ap, subst, ◌∙◌, arith, inl, inr, ◌≡◌, ◌≢◌, ℕ, ◌≤◌, Bool, true, false, ◌&&◌, ◌==◌, nat_lt, if◌then◌else◌, List, [], ◌∷◌, ◌++◌, drop, Option, Some, None, unwrap_or, slice_get, ltb-false}
-use Rattle.packet_loops.proofs.Common.{option_map_or, and_parts, None_not_Some, Prefix, prefix_eq, opening_machine, neighbours, Held, Router, machine_of, session_at, is_up_at, router_publishing, router_releasing, ripe_front, IsSound, Topology, LinkEnd, at_port}
+use Rattle.std.proofs.Common.{refl, sym, ap, subst, ◌∙◌, arith, inl, inr, ◌≡◌, ◌≢◌, ℕ, ◌≤◌, Bool, true, false, ◌&&◌, ◌==◌, if◌then◌else◌, List, [], ◌∷◌, ◌++◌, drop, Option, Some, None, unwrap_or, slice_get}
+use Rattle.packet_loops.proofs.Common.{and_parts, None_not_Some, Prefix, prefix_eq, opening_machine, neighbours, Held, Router, machine_of, session_at, is_up_at, router_publishing, router_releasing, IsSound, Topology, LinkEnd, at_port}
 use Rattle.network_model.proofs.Common.{cases_eq, both_ways, Report}
 use Rattle.packet_loops.proofs.Machines.{prefix_same}
 use Rattle.router_core.specs.Alone.{router_publishing_some, may_forget, router_forgetting}
 use Rattle.single_router.specs.declared.input.Input.TheVariants as input
-use Rattle.single_router.specs.Inputs.{told_fault}
 use Rattle.single_router.specs.Openings.{made_router}
 use Rattle.coming_to_rest.proofs.Calm.{IsCalm, stays_calm, opens_calm}
 use Rattle.daemon_laws.specs.Processes.{Carried, Processes}
 use Rattle.daemon_laws.specs.Packets.{is_in_session}
-use Rattle.daemon_laws.specs.Happenings.{Happening, Tells, Takes, Loses, Publishes, PublishesSome, Forgets, Releases, BeginsAnew, IsOwn, CanHappen, with_router, is_same_end, with_coming, with_heard, told, forgotten, with_taken, with_released, next, after, AllCanHappen, Begins}
+use Rattle.daemon_laws.specs.Happenings.{Happening, Tells, Takes, Loses, Publishes, PublishesSome, Forgets, Releases, BeginsAnew, IsOwn, CanHappen, with_router, is_same_end, with_coming, told, forgotten, next, after, AllCanHappen, Begins}
 use Rattle.daemon_laws.specs.Facts.{fds_next, first_fds}
+use Rattle.daemon_laws.proofs.Cases.{each_but, by_take, by_release}
 use Rattle.daemon_laws.proofs.Goes.{Goes, Reacted, stays, meets_one}
 use Rattle.daemon_laws.proofs.Telling.{goes_told}
 use Rattle.daemon_laws.proofs.Beginning.{made, begins_kept}
@@ -47,28 +47,15 @@ module _ (t : Topology) (w : Processes) (K : Kept t w) (p : Prefix) where
 
   -- one router changed that stays calm
   calm_with : (i : ℕ) (f : Router → Router) → IsCalm (machine_of (f (w.routers i)) p) → (j : ℕ) → IsCalm (machine_of (with_router i f w.routers j) p)
-  calm_with i f here j = elim (cases_eq j i) [
-    | inl is ↦ subst (λ k. IsCalm (machine_of (with_router i f w.routers k) p)) (sym is) (subst (λ (y : Router). IsCalm (machine_of y p)) (sym (router_here i f w.routers)) here)
-    | inr ne ↦ subst (λ (y : Router). IsCalm (machine_of y p)) (sym (router_away i f w.routers j ne)) (K.calm p j)
-  ]
+  calm_with i f here = each_but (router_away i f w.routers) (λ j y. IsCalm (machine_of y p)) (subst (λ (y : Router). IsCalm (machine_of y p)) (sym (router_here i f w.routers)) here) (K.calm p)
 
   -- whatever happens
   calm_next : (h : Happening) → CanHappen w h → (j : ℕ) → IsCalm (machine_of ((next t w h).routers j) p)
   calm_next (Tells i x) can =
       calm_with i (told x) (calm_reacted p (w.routers i) (told x (w.routers i)) (I.sound i) (K.calm p i) (goes_told p (w.routers i) (I.keeps i) (I.sound i) w i x can).goes.reacted)
-  calm_next (Takes e) can = by_front (slice_get (w.coming e) 0) refl
-    where
-      by_session : (c : Carried) → slice_get (w.coming e) 0 ≡ Some c → (b : Bool) → nat_lt (w.last e) c.session ≡ b
-          → (j : ℕ) → IsCalm (machine_of ((if b then w else record { routers = with_router e.router (told (input.Message e.port c.session c.message)) w.routers; coming = with_coming e (drop 1) w.coming; last = w.last; heard = with_heard e (told_fault (input.Message e.port c.session c.message) (w.routers e.router)) c.session w.heard; lost = w.lost }).routers j) p)
-      by_session c at true is = K.calm p
-      by_session c at false is =
-          let G = goes_here t p (K.pfd p) w (K.invariant p) e c at (ltb-false (w.last e) c.session is) in
-          calm_with e.router (told (input.Message e.port c.session c.message))
-          (calm_reacted p (w.routers e.router) (told (input.Message e.port c.session c.message) (w.routers e.router)) ((K.invariant p).sound e.router) (K.calm p e.router) G.goes.reacted)
-
-      by_front : (o : Option Carried) → slice_get (w.coming e) 0 ≡ o → (j : ℕ) → IsCalm (machine_of ((option_map_or (with_taken e w) o w).routers j) p)
-      by_front None at = K.calm p
-      by_front (Some c) at = by_session c at (nat_lt (w.last e) c.session) refl
+  calm_next (Takes e) can = by_take t w (λ v. (j : ℕ) → IsCalm (machine_of (v.routers j) p)) (K.calm p) e (λ c at le.
+      calm_with e.router (told (input.Message e.port c.session c.message))
+      (calm_reacted p (w.routers e.router) (told (input.Message e.port c.session c.message) (w.routers e.router)) (I.sound e.router) (K.calm p e.router) (goes_here t p (K.pfd p) w I e c at le).goes.reacted))
   calm_next (Loses e) can = K.calm p
   calm_next (Publishes i) can = calm_with i router_publishing (K.calm p i)
   calm_next (PublishesSome i n) can = calm_with i (router_publishing_some n) (K.calm p i)
@@ -84,11 +71,7 @@ module _ (t : Topology) (w : Processes) (K : Kept t w) (p : Prefix) where
       by_may : (a : Bool) → IsCalm (machine_of (if a then router_forgetting k (w.routers i) else w.routers i) p)
       by_may true = by_prefix (prefix_eq p k) refl
       by_may false = K.calm p i
-  calm_next (Releases i) can = by_front (ripe_front (w.routers i))
-    where
-      by_front : (o : Option Held) → (j : ℕ) → IsCalm (machine_of ((option_map_or (with_released t i w) o w).routers j) p)
-      by_front None = K.calm p
-      by_front (Some h) = calm_with i router_releasing (K.calm p i)
+  calm_next (Releases i) can = by_release t w (λ v. (j : ℕ) → IsCalm (machine_of (v.routers j) p)) (K.calm p) i (λ h at. calm_with i router_releasing (K.calm p i))
   calm_next (BeginsAnew i costs attachments) can =
       let M = made p (made_router costs attachments) (record { costs = costs; attachments = attachments; good = can; made = refl }) in
       calm_with i (λ r. made_router costs attachments) (subst IsCalm (sym M.opened) (opens_calm M.home M.neighbours_are))
@@ -107,21 +90,12 @@ module _ (t : Topology) (w : Processes) (placed : (e : LinkEnd) → t.valid e �
   -- whatever happens
   placed_next : (h : Happening) → (d : LinkEnd) → t.valid d ≡ false → (next t w h).coming d ≡ []
   placed_next (Tells i x) d out = placed d out
-  placed_next (Takes e) d out = by_front (slice_get (w.coming e) 0)
-    where
-      by_session : (c : Carried) (b : Bool)
-          → (if b then w else record { routers = with_router e.router (told (input.Message e.port c.session c.message)) w.routers; coming = with_coming e (drop 1) w.coming; last = w.last; heard = with_heard e (told_fault (input.Message e.port c.session c.message) (w.routers e.router)) c.session w.heard; lost = w.lost }).coming d ≡ []
-      by_session c true = placed d out
-      by_session c false = none_off e d out
-
-      by_front : (o : Option Carried) → (option_map_or (with_taken e w) o w).coming d ≡ []
-      by_front None = placed d out
-      by_front (Some c) = by_session c (nat_lt (w.last e) c.session)
+  placed_next (Takes e) d out = by_take t w (λ v. v.coming d ≡ []) (placed d out) e (λ c at le. none_off e d out)
   placed_next (Loses e) d out = none_off e d out
   placed_next (Publishes i) d out = placed d out
   placed_next (PublishesSome i n) d out = placed d out
   placed_next (Forgets i k) d out = placed d out
-  placed_next (Releases i) d out = by_front (ripe_front (w.routers i))
+  placed_next (Releases i) d out = by_release t w (λ v. v.coming d ≡ []) (placed d out) i (λ h at. by_test h (t.valid (at_port i h.port)) (is_in_session w (at_port i h.port) h.session) refl)
     where
       by_test : (h : Held) (b c : Bool) → t.valid (at_port i h.port) ≡ b → (if b && c then with_coming (t.far (at_port i h.port)) (λ cs. cs ++ as_carried h ∷ []) w.coming else w.coming) d ≡ []
       by_test h true true v =
@@ -130,10 +104,6 @@ module _ (t : Topology) (w : Processes) (placed : (e : LinkEnd) → t.valid e �
           ∙ placed d out
       by_test h true false v = placed d out
       by_test h false c v = placed d out
-
-      by_front : (o : Option Held) → (option_map_or (with_released t i w) o w).coming d ≡ []
-      by_front None = placed d out
-      by_front (Some h) = by_test h (t.valid (at_port i h.port)) (is_in_session w (at_port i h.port) h.session) refl
   placed_next (BeginsAnew i costs attachments) d out = placed d out
 
 -- ---- no later session
@@ -177,7 +147,7 @@ module _ (t : Topology) (w : Processes) (K : Kept t w) (p : Prefix) where
                 let later = own.0 in
                 omega (arith, later, now)
           ]
-  latest_next (Takes e) can d n on = by_front (slice_get (w.coming e) 0) refl on
+  latest_next (Takes e) can d n on = by_take t w (λ v. is_in p (router_at v d) d.port n ≡ true → v.last d ≤ n) (K.latest p d n) e (λ c at le. latest_with e.router (told (input.Message e.port c.session c.message)) (here c at le) d n) on
     where
       here : (c : Carried) → slice_get (w.coming e) 0 ≡ Some c → c.session ≤ w.last e → (j n : ℕ) → is_in p (told (input.Message e.port c.session c.message) (w.routers e.router)) j n ≡ true → w.last (at_port e.router j) ≤ n
       here c at le j n on =
@@ -188,16 +158,6 @@ module _ (t : Topology) (w : Processes) (K : Kept t w) (p : Prefix) where
             | inl was ↦ K.latest p (at_port e.router j) n was
             | inr lt ↦ absurd (let s = G.same j in omega (arith, lt, now, s))
           ]
-
-      by_session : (c : Carried) → slice_get (w.coming e) 0 ≡ Some c → (b : Bool) → nat_lt (w.last e) c.session ≡ b
-          → is_in p ((if b then w else record { routers = with_router e.router (told (input.Message e.port c.session c.message)) w.routers; coming = with_coming e (drop 1) w.coming; last = w.last; heard = with_heard e (told_fault (input.Message e.port c.session c.message) (w.routers e.router)) c.session w.heard; lost = w.lost }).routers d.router) d.port n ≡ true
-          → (if b then w else record { routers = with_router e.router (told (input.Message e.port c.session c.message)) w.routers; coming = with_coming e (drop 1) w.coming; last = w.last; heard = with_heard e (told_fault (input.Message e.port c.session c.message) (w.routers e.router)) c.session w.heard; lost = w.lost }).last d ≤ n
-      by_session c at true is o = K.latest p d n o
-      by_session c at false is o = latest_with e.router (told (input.Message e.port c.session c.message)) (here c at (ltb-false (w.last e) c.session is)) d n o
-
-      by_front : (o : Option Carried) → slice_get (w.coming e) 0 ≡ o → is_in p ((option_map_or (with_taken e w) o w).routers d.router) d.port n ≡ true → (option_map_or (with_taken e w) o w).last d ≤ n
-      by_front None at o = K.latest p d n o
-      by_front (Some c) at o = by_session c at (nat_lt (w.last e) c.session) refl o
   latest_next (Loses e) can d n on = K.latest p d n on
   latest_next (Publishes i) can d n on = latest_with i router_publishing (λ j k o. K.latest p (at_port i j) k o) d n on
   latest_next (PublishesSome i m) can d n on = latest_with i (router_publishing_some m) (λ j k o. K.latest p (at_port i j) k o) d n on
@@ -208,11 +168,7 @@ module _ (t : Topology) (w : Processes) (K : Kept t w) (p : Prefix) where
 
       here : (j m : ℕ) → is_in p (forgotten k (w.routers i)) j m ≡ true → w.last (at_port i j) ≤ m
       here j m o = K.latest p (at_port i j) m (sym (λ z. P.up_is j z && (session_at (P.ports_are z) j == m)) ∙ o)
-  latest_next (Releases i) can d n on = by_front (ripe_front (w.routers i)) on
-    where
-      by_front : (o : Option Held) → is_in p ((option_map_or (with_released t i w) o w).routers d.router) d.port n ≡ true → (option_map_or (with_released t i w) o w).last d ≤ n
-      by_front None o = K.latest p d n o
-      by_front (Some h) o = latest_with i router_releasing (λ j k o. K.latest p (at_port i j) k o) d n o
+  latest_next (Releases i) can d n on = by_release t w (λ v. is_in p (router_at v d) d.port n ≡ true → v.last d ≤ n) (K.latest p d n) i (λ h at. latest_with i router_releasing (λ j k o. K.latest p (at_port i j) k o) d n) on
   latest_next (BeginsAnew i costs attachments) can d n on =
       let M = made p (made_router costs attachments) (record { costs = costs; attachments = attachments; good = can; made = refl }) in
       latest_with i (λ r. made_router costs attachments) (λ j k o. absurd (both_ways (is_up_at (machine_of (made_router costs attachments) p) j) (M.none_up j)

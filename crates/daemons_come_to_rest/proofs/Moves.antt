@@ -27,7 +27,8 @@ use Rattle.daemon_laws.proofs.Items.{took_message}
 use Rattle.daemon_laws.proofs.Telling.{passed, neither, message_passes}
 use Rattle.daemon_laws.proofs.Moving.{Took}
 use Rattle.daemon_laws.proofs.Publishing.{ripe_all, unripe_none}
-use Rattle.daemon_laws.proofs.Releasing.{as_carried, Front, front_of, ripe_front_is, unripe_left}
+use Rattle.daemon_laws.proofs.Releasing.{as_carried}
+use Rattle.packet_loops.proofs.Releasing.{Front, front_of, ripe_front_is, unripe_left}
 use Rattle.daemon_laws.proofs.Steps.{coming_here, coming_away}
 use Rattle.daemons_come_to_rest.proofs.Shown.{reported, reported-append, shown, stale_of, stale, stales, stales_same, NoMore, no_more_weight, no_more_load, Alike, alike_weight, alike_loads}
 

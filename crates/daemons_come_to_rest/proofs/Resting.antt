@@ -1,9 +1,9 @@
 -- Every moment comes to rest.
-use Rattle.std.proofs.Common.{refl, subst, ◌≡◌, ◌+◌, List}
+use Rattle.std.proofs.Common.{refl, subst, ◌≡◌, List}
 use Rattle.packet_loops.proofs.Common.{Prefix, Topology}
-use Rattle.network_model.proofs.Common.{infinity}
 use Rattle.coming_to_rest.specs.Rest.{IsFinite}
 use Rattle.coming_to_rest.proofs.Order.{every}
+use Rattle.coming_to_rest.proofs.Measure.{top}
 use Rattle.daemon_laws.specs.Processes.{Processes}
 use Rattle.daemon_laws.specs.Happenings.{Happening, next, after}
 use Rattle.daemons_come_to_rest.specs.Rest.{HappensAlone, ComesToRest, rests, AlwaysComesToRest, AlwaysHasBound}
@@ -34,7 +34,7 @@ module _ (t : Topology) (F : IsFinite t) (ps : List Prefix) where
 
   -- so all that is good comes to rest
   good_rests : (w : Processes) → Good w → ComesToRest t F.routers w
-  good_rests = every Leads Good (ComesToRest t F.routers) (all_places t F ps) (all_loads t F ps) (all_dues t F ps) (infinity + 2)
+  good_rests = every Leads Good (ComesToRest t F.routers) (all_places t F ps) (all_loads t F ps) (all_dues t F ps) top
       (λ w close. rests w (λ h alone. close (next t w h) (record { happening = h; alone = alone; to = refl }))) keeps falls
 
 -- what is kept comes to rest

@@ -2,7 +2,7 @@
 use Rattle.std.proofs.Common.{◌≡◌, ◌⊎◌, ℕ, suc, ◌<◌, Bool, true, false, List, [], ◌∷◌, refl, ap, sym, inl, inr, arith, subst, ◌∙◌, ne_eqb, if◌then◌else◌}
 use Rattle.network_model.proofs.Common.{both_ways, infinity, LinkEnd, UpNotice, DownNotice, CostNotice, SeenHeld, State}
 use Rattle.loop_freedom.specs.Network.{Topology, LinkUp, LinkDown, SetCost, IsEnd, notices}
-use Rattle.loop_freedom.proofs.Ends.{place_cases, end_cases, end_far, end_near, end_valid}
+use Rattle.loop_freedom.proofs.Ends.{place_cases, end_cases, end_far, end_near, end_valid, ends_agree}
 use Rattle.least_cost.proofs.Replay.{Fits, Alike, replay, port_after, replay_append, fits_append, notices_alike, notices_fit}
 use Rattle.least_cost.proofs.Told.{last_held, expected_past}
 use Rattle.least_cost.proofs.Kept.{LineKept, pending, line, held, AllRecent, recent_more, Sees, Kept, seen_past, line_same, sees_same, port_same, held_same, kept_links, ends_up_same, ends_session_same}
@@ -47,22 +47,6 @@ module _ (t : Topology) (old new : State) (k : Kept t old) (s : LinkUp t old new
       }
       go (inr d) = rw (same_line_up e d) (k.lines e v)
 
-  -- the ends of each link agree on whether it is up
-  ends_up_up : (e : LinkEnd) → t.valid e ≡ true → new.up (t.far e) ≡ new.up e
-  ends_up_up e v = go (end_cases t s.a e)
-    where
-      go : IsEnd t s.a e ⊎ (IsEnd t s.a e → ⊥) → new.up (t.far e) ≡ new.up e
-      go (inl h) = s.up_at (t.far e) (end_far t s.a e s.valid_place h) ∙ sym (s.up_at e h)
-      go (inr d) = s.up_elsewhere (t.far e) (λ h. d (end_near t s.a e s.valid_place v h)) ∙ k.ends_up e v ∙ sym (s.up_elsewhere e d)
-
-  -- the ends of each link agree on its session
-  ends_session_up : (e : LinkEnd) → t.valid e ≡ true → new.session (t.far e) ≡ new.session e
-  ends_session_up e v = go (end_cases t s.a e)
-    where
-      go : IsEnd t s.a e ⊎ (IsEnd t s.a e → ⊥) → new.session (t.far e) ≡ new.session e
-      go (inl h) = s.session_at (t.far e) (end_far t s.a e s.valid_place h) ∙ ap suc (k.ends_session e v) ∙ sym (s.session_at e h)
-      go (inr d) = s.session_elsewhere (t.far e) (λ h. d (end_near t s.a e s.valid_place v h)) ∙ k.ends_session e v ∙ sym (s.session_elsewhere e d)
-
   -- what is held is for no later session, with no value above infinity
   recent_up : (e : LinkEnd) → t.valid e ≡ true → AllRecent (new.session e) (held new e)
   recent_up e v = go (end_cases t s.a e)
@@ -89,8 +73,8 @@ module _ (t : Topology) (old new : State) (k : Kept t old) (s : LinkUp t old new
   pub kept_up : Kept t new
   kept_up = kept_links t old new k s.machines (record {
     lines = lines_up;
-    ends_up = ends_up_up;
-    ends_session = ends_session_up;
+    ends_up = λ e v. ends_agree t s.a old.up new.up (λ b. true) s.valid_place s.up_at s.up_elsewhere e v (k.ends_up e v);
+    ends_session = λ e v. ends_agree t s.a old.session new.session (λ n. suc n) s.valid_place s.session_at s.session_elsewhere e v (k.ends_session e v);
     recent = recent_up;
     sight = sight_up;
   })
@@ -130,14 +114,6 @@ module _ (t : Topology) (old new : State) (k : Kept t old) (s : LinkDown t old n
       }
       go (inr d) = rw (same_line_down e d) (k.lines e v)
 
-  -- the ends of each link agree on whether it is up
-  ends_up_down : (e : LinkEnd) → t.valid e ≡ true → new.up (t.far e) ≡ new.up e
-  ends_up_down e v = go (end_cases t s.a e)
-    where
-      go : IsEnd t s.a e ⊎ (IsEnd t s.a e → ⊥) → new.up (t.far e) ≡ new.up e
-      go (inl h) = s.up_at (t.far e) (end_far t s.a e s.valid_place h) ∙ sym (s.up_at e h)
-      go (inr d) = s.up_elsewhere (t.far e) (λ h. d (end_near t s.a e s.valid_place v h)) ∙ k.ends_up e v ∙ sym (s.up_elsewhere e d)
-
   -- each far end of a link that is up is told the distance
   sight_down : (e : LinkEnd) → t.valid e ≡ true → Sees t new e
   sight_down e v = go (end_cases t s.a e)
@@ -152,7 +128,7 @@ module _ (t : Topology) (old new : State) (k : Kept t old) (s : LinkDown t old n
   pub kept_down : Kept t new
   kept_down = kept_links t old new k s.machines (record {
     lines = lines_down;
-    ends_up = ends_up_down;
+    ends_up = λ e v. ends_agree t s.a old.up new.up (λ b. false) s.valid_place s.up_at s.up_elsewhere e v (k.ends_up e v);
     ends_session = ends_session_same t old new k s.session_same;
     recent = λ e v. rw (s.session_same e, held_same old new s.holdings e) (k.recent e v);
     sight = sight_down;

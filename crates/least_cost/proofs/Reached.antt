@@ -34,13 +34,13 @@ runs = Then (Then reaches
     (Takes (takes pair s8 here (Reported eight_away) [] refl refl))
 
 -- what holds of both routers holds of each
-each_router : (P : ℕ → Type 0) → P 0 → P 1 → (i : ℕ) → i < 2 → P i
+pub each_router : (P : ℕ → Type 0) → P 0 → P 1 → (i : ℕ) → i < 2 → P i
 each_router P f g zero l = f
 each_router P f g (suc zero) l = g
 each_router P f g (suc (suc i)) l = absurd (omega (arith, l))
 
 -- what holds of both places holds of each
-each_place : (P : LinkEnd → Type 0) → P here → P beyond → (e : LinkEnd) → pair.valid e ≡ true → P e
+pub each_place : (P : LinkEnd → Type 0) → P here → P beyond → (e : LinkEnd) → pair.valid e ≡ true → P e
 each_place P f g e v =
     let port : e.port ≡ 0 = port_zero e v in
     let is : (r : ℕ) → e.router ≡ r → e ≡ at_port r 0 = λ r router. ap (λ (n : ℕ). at_port n e.port) router ∙ ap (λ (n : ℕ). at_port r n) port in

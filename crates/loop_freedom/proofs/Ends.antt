@@ -39,3 +39,11 @@ end_near t a e v w x = subst (λ (z : LinkEnd). IsEnd t a z) (t.far_far e w) (en
 pub end_valid : (t : Topology) (a e : LinkEnd) → t.valid a ≡ true → IsEnd t a e → t.valid e ≡ true
 end_valid t a e v (inl p) = subst (λ (z : LinkEnd). t.valid z ≡ true) (sym p) v
 end_valid t a e v (inr p) = subst (λ (z : LinkEnd). t.valid z ≡ true) (sym p) (t.far_valid a v)
+
+-- where the two ends of each link agree on a value, and both ends of one link change it alike, they agree still
+pub ends_agree : {X : Type 0} (t : Topology) (a : LinkEnd) (f g : LinkEnd → X) (change : X → X) → t.valid a ≡ true → ((e : LinkEnd) → IsEnd t a e → g e ≡ change (f e)) → ((e : LinkEnd) → (IsEnd t a e → ⊥) → g e ≡ f e)
+    → (e : LinkEnd) → t.valid e ≡ true → f (t.far e) ≡ f e → g (t.far e) ≡ g e
+ends_agree t a f g change there here away e v same = elim (end_cases t a e) [
+  | inl x ↦ here (t.far e) (end_far t a e there x) ∙ ap change same ∙ sym (here e x)
+  | inr d ↦ away (t.far e) (λ y. d (end_near t a e there v y)) ∙ same ∙ sym (away e d)
+]

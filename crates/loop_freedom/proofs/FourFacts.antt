@@ -1,5 +1,5 @@
 -- The four facts, from what every state keeps.
-use Rattle.std.proofs.Common.{ap, subst, ◌∙◌, arith, inl, inr, ◌≡◌, ◌⊎◌, ◌<◌, ◌≤◌, false}
+use Rattle.std.proofs.Common.{ap, subst, ◌∙◌, arith, inl, inr, ◌≡◌, ◌⊎◌, ℕ, ◌<◌, ◌≤◌, Bool, false}
 use Rattle.network_model.proofs.Common.{Reply, LinkEnd, State, one_if}
 use Rattle.machine_laws.proofs.MachineLaws.{machine_laws}
 use Rattle.loop_freedom.specs.Network.{HoldsInEveryState, Topology}
@@ -10,23 +10,10 @@ use Rattle.loop_freedom.proofs.Invariant.{Invariant}
 use Rattle.loop_freedom.proofs.Opened.{opening_keeps}
 use Rattle.loop_freedom.proofs.Walks.{run_keeps}
 
--- where y does not await x, or x's reply is on its way, as many replies are on their way as y awaits
-answer_sent : (x y : End) → (y.awaits ≡ false) ⊎ (0 < count Reply (pipe x)) → one_if y.awaits ≤ count Reply (pipe x)
-answer_sent x y (inl not) =
-    let none : one_if y.awaits ≡ 0 = ap one_if not in
-    omega (arith, none)
-answer_sent x y (inr answered) =
-    let few : one_if y.awaits ≤ 1 = one_if_at_most_one y.awaits in
-    omega (arith, few, answered)
-
--- where y does not await x, or x has released its reply, x has released at least what y awaits
-answer_out : (x y : End) → (y.awaits ≡ false) ⊎ (0 < count Reply x.out) → one_if y.awaits ≤ count Reply x.out
-answer_out x y (inl not) =
-    let none : one_if y.awaits ≡ 0 = ap one_if not in
-    omega (arith, none)
-answer_out x y (inr answered) =
-    let few : one_if y.awaits ≤ 1 = one_if_at_most_one y.awaits in
-    omega (arith, few, answered)
+-- where nothing is awaited, or there is a reply, there are as many replies as are awaited
+answer : (awaits : Bool) (replies : ℕ) → (awaits ≡ false) ⊎ (0 < replies) → one_if awaits ≤ replies
+answer awaits replies (inl not) = let none : one_if awaits ≡ 0 = ap one_if not in omega (arith, none)
+answer awaits replies (inr some) = omega (arith, one_if_at_most_one awaits, some)
 
 -- the facts hold between two ends that keep the invariant both ways
 pub link_facts : (x y : End) → EndInvariant x y → EndInvariant y x → LinkFacts x y
@@ -37,8 +24,8 @@ link_facts x y h g = record {
   published_below_kept = h.published_below_kept;
   control_edge_falls = h.control_edge_falls;
   published_edge_falls = h.published_edge_falls;
-  control_edge_waits = λ active chosen answered. h.control_edge_waits active chosen (answer_sent x y answered);
-  published_edge_waits = λ active shown answered. h.published_edge_waits active shown (answer_out x y answered);
+  control_edge_waits = λ active chosen answered. h.control_edge_waits active chosen (answer y.awaits (count Reply (pipe x)) answered);
+  published_edge_waits = λ active shown answered. h.published_edge_waits active shown (answer y.awaits (count Reply x.out) answered);
 }
 
 -- the facts hold in a state that keeps the invariant

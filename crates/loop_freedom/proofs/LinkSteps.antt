@@ -87,9 +87,10 @@ shown_current' {x} {y} {x'} {y'} J e =
     let was : x.shown ≡ true = sym J.here.shown_is ∙ e in
     (J.here.current_stays (J.one.shown_current was).0, J.there.current_stays (J.one.shown_current was).1)
 
--- where one query to y or one reply from y is on its way, or y owes the reply, x awaits y, and there is one of these alone
-pub awaited_once' : {x y x' y' : End} {tx ty : Option Report} {ax ay : List Report} → LinkStep x y x' y' tx ty ax ay → count Query (pipe x') + one_if y'.owes + count Reply (pipe y') ≤ one_if x'.awaits
-awaited_once' {x} {y} {x'} {y'} {tx} {ty} {ax} {ay} J =
+-- the queries of x and replies of y on their way, the reply that y owes, and what x awaits, change alike
+balance : {x y x' y' : End} {tx ty : Option Report} {ax ay : List Report} → LinkStep x y x' y' tx ty ax ay
+    → (count Query (pipe x') + one_if y'.owes + count Reply (pipe y')) + one_if x.awaits ≡ (count Query (pipe x) + one_if y.owes + count Reply (pipe y)) + one_if x'.awaits
+balance {x} {y} {x'} {y'} {tx} {ty} {ax} {ay} J =
     let S : LinkStep y x y' x' ty tx ay ax = swapped J in
     let a = count_old J Query in
     let b = count_new J Query in
@@ -99,7 +100,11 @@ awaited_once' {x} {y} {x'} {y'} {tx} {ty} {ax} {ay} J =
     let l = one_if_at_most_one x.awaits in
     let q = J.here.queries (omega (arith, a, c, t)) in
     let r = J.there.replies (omega (arith, a, c, t, l)) in
-    omega (arith, a, b, c, d, t, q, r)
+    omega (arith, a, b, c, d, q, r)
+
+-- where one query to y or one reply from y is on its way, or y owes the reply, x awaits y, and there is one of these alone
+pub awaited_once' : {x y x' y' : End} {tx ty : Option Report} {ax ay : List Report} → LinkStep x y x' y' tx ty ax ay → count Query (pipe x') + one_if y'.owes + count Reply (pipe y') ≤ one_if x'.awaits
+awaited_once' J = omega (arith, balance J, J.one.awaited_once)
 
 -- where the feasible distance of x rises, the new one is at most what y keeps of x, and all that was on its way to y
 pub risen : {x y x' y' : End} {tx ty : Option Report} {ax ay : List Report} → LinkStep x y x' y' tx ty ax ay → x'.current ≡ true → x.fd < x'.fd → AtLeast x'.fd (pipe x) × (y.current ≡ true → x'.fd ≤ y.reported)
@@ -300,15 +305,4 @@ step_keeps J = record {
 
 -- a step at either end keeps that who is awaited has the query, owes the reply, or has sent it
 pub step_answered : {x y x' y' : End} {tx ty : Option Report} {ax ay : List Report} → LinkStep x y x' y' tx ty ax ay → Answered x y → Answered x' y'
-step_answered {x} {y} {x'} {y'} {tx} {ty} {ax} {ay} J T =
-    let S : LinkStep y x y' x' ty tx ay ax = swapped J in
-    let a = count_old J Query in
-    let b = count_new J Query in
-    let c = count_old S Reply in
-    let d = count_new S Reply in
-    let s = J.one.awaited_once in
-    let l = one_if_at_most_one x.awaits in
-    let q = J.here.queries (omega (arith, a, c, s)) in
-    let r = J.there.replies (omega (arith, a, c, s, l)) in
-    let u = T.answered in
-    record { answered = omega (arith, a, b, c, d, u, q, r) }
+step_answered J T = record { answered = omega (arith, balance J, T.answered) }

@@ -3,7 +3,7 @@ use Rattle.std.proofs.Common.{refl, sym, ◌∙◌, ap, subst, arith, inl, inr, 
 use Rattle.network_model.proofs.Common.{both_ways, and_left, and_right, false_from_ne_true, Machine, is_port, UpNotice, LinkEnd, State, infinity, one_if}
 use Rattle.machine_laws.specs.Laws.{is_up_at, awaits, owes}
 use Rattle.loop_freedom.specs.Network.{Topology, LinkUp, LinkDown, IsEnd}
-use Rattle.loop_freedom.proofs.Ends.{end_cases, end_far, end_near, end_valid}
+use Rattle.loop_freedom.proofs.Ends.{end_cases, end_far, end_near, end_valid, ends_agree}
 use Rattle.loop_freedom.proofs.Link.{EndInvariant, Answered}
 use Rattle.loop_freedom.specs.Facts.{pipe, messages, live, is_current, is_next_hop, end_at}
 use Rattle.loop_freedom.proofs.OnTheWay.{messages-append}
@@ -120,29 +120,14 @@ module _ (t : Topology) (old new : State) (I : Invariant t old) (L : LinkUp t ol
     | inr d ↦ (let s = L.session_elsewhere e d in omega (arith, s))
   ]
 
-  -- both ends of each link have one state and one session after a link came up
-  up_pair : (e : LinkEnd) → t.valid e ≡ true → (new.up (t.far e) ≡ new.up e) × (new.session (t.far e) ≡ new.session e)
-  up_pair e v = elim (end_cases t L.a e) [
-    | inl x ↦
-        let xf = end_far t L.a e L.valid_place x in (
-          L.up_at (t.far e) xf ∙ sym (L.up_at e x),
-          L.session_at (t.far e) xf ∙ ap (λ (n : ℕ). suc n) (I.session_far e v) ∙ sym (L.session_at e x),
-        )
-    | inr d ↦
-        let df : IsEnd t L.a (t.far e) → ⊥ = λ y. d (end_near t L.a e L.valid_place v y) in (
-          L.up_elsewhere (t.far e) df ∙ I.up_far e v ∙ sym (L.up_elsewhere e d),
-          L.session_elsewhere (t.far e) df ∙ I.session_far e v ∙ sym (L.session_elsewhere e d),
-        )
-  ]
-
   -- a link that comes up keeps the invariant
   pub link_up_keeps : Invariant t new
   link_up_keeps = record {
     sound = λ i. rw (L.machines.machine_same i) (I.sound i);
     pfd_bounded = λ i. rw (L.publications.published_fd_same i) (I.pfd_bounded i);
     there = λ e v. rw (L.machines.machine_same e.router) (I.there e v);
-    up_far = λ e v. (up_pair e v).0;
-    session_far = λ e v. (up_pair e v).1;
+    up_far = λ e v. ends_agree t L.a old.up new.up (λ b. true) L.valid_place L.up_at L.up_elsewhere e v (I.up_far e v);
+    session_far = λ e v. ends_agree t L.a old.session new.session (λ n. suc n) L.valid_place L.session_at L.session_elsewhere e v (I.session_far e v);
     cost_positive = λ e v. rw (L.costs.cost_same e) (I.cost_positive e v);
     lawful = up_lawful;
     ripe_lawful = λ e v. rw (L.holdings.ripe_same e) (lawfully_held_later (old.session e) (new.session e) (old.ripe e) (grows e) (I.ripe_lawful e v));
@@ -197,22 +182,13 @@ module _ (t : Topology) (old new : State) (I : Invariant t old) (L : LinkDown t 
     | inr d ↦ rw (L.machines.machine_same e.router, L.machines.seen_same e, L.up_elsewhere e d, L.session_same e, L.inbox_elsewhere e d) (I.lawful e v)
   ]
 
-  -- both ends of each link are up or both are down after a link went down
-  down_pair : (e : LinkEnd) → t.valid e ≡ true → new.up (t.far e) ≡ new.up e
-  down_pair e v = elim (end_cases t L.a e) [
-    | inl x ↦ L.up_at (t.far e) (end_far t L.a e L.valid_place x) ∙ sym (L.up_at e x)
-    | inr d ↦
-        let df : IsEnd t L.a (t.far e) → ⊥ = λ y. d (end_near t L.a e L.valid_place v y) in
-        L.up_elsewhere (t.far e) df ∙ I.up_far e v ∙ sym (L.up_elsewhere e d)
-  ]
-
   -- a link that goes down keeps the invariant
   pub link_down_keeps : Invariant t new
   link_down_keeps = record {
     sound = λ i. rw (L.machines.machine_same i) (I.sound i);
     pfd_bounded = λ i. rw (L.publications.published_fd_same i) (I.pfd_bounded i);
     there = λ e v. rw (L.machines.machine_same e.router) (I.there e v);
-    up_far = down_pair;
+    up_far = λ e v. ends_agree t L.a old.up new.up (λ b. false) L.valid_place L.up_at L.up_elsewhere e v (I.up_far e v);
     session_far = λ e v. L.session_same (t.far e) ∙ I.session_far e v ∙ sym (L.session_same e);
     cost_positive = λ e v. rw (L.costs.cost_same e) (I.cost_positive e v);
     lawful = down_lawful;

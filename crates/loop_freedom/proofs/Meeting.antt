@@ -164,35 +164,25 @@ module _ (laws : MachineLaws) (t : Topology) (old new : State) (I : Invariant t 
       let lives : live (new.session e) (new.ripe e) ≡ live (old.session e) (old.ripe e) = cc in
       rw (h, lives) (append_assoc (front taken) (messages (new.inbox (t.far e))) (live (old.session e) (old.ripe e)))
 
+  -- the two ends of a live link make a step together
+  link_step : (e : LinkEnd) (v : t.valid e ≡ true) (u : old.up e ≡ true) (u' : old.up (t.far e) ≡ true)
+      → LinkStep (end_at t old e) (end_at t old (t.far e)) (end_at t new e) (end_at t new (t.far e)) (stepped e v u).taken (stepped (t.far e) (t.far_valid e v) u').taken (stepped e v u).added (stepped (t.far e) (t.far_valid e v) u').added
+  link_step e v u u' =
+      let f = t.far e in
+      let back : t.far f ≡ e = t.far_far e v in
+      let A = stepped e v u in
+      let B = stepped f (t.far_valid e v) u' in
+      let two : EndInvariant (end_at t old f) (end_at t old e) = subst (λ (w : LinkEnd). EndInvariant (end_at t old f) (end_at t old w)) back (I.links f (t.far_valid e v) u') in
+      let took_e : messages (old.inbox (t.far f)) ≡ front A.taken ++ messages (new.inbox (t.far f)) = subst (λ (w : LinkEnd). messages (old.inbox w) ≡ front A.taken ++ messages (new.inbox w)) (sym back) A.took in
+      record { one = I.links e v u; two = two; here = A.step; there = B.step; out_here = outs e B.taken B.took; out_there = outs f A.taken took_e }
+
   -- the invariant holds on every live link after the step
   links' : (e : LinkEnd) → t.valid e ≡ true → new.up e ≡ true → EndInvariant (end_at t new e) (end_at t new (t.far e))
-  links' e v u =
-      let up_e : old.up e ≡ true = sym (M.links.up_same e) ∙ u in
-      let f = t.far e in
-      let up_f : old.up f ≡ true = I.up_far e v ∙ up_e in
-      let back : t.far f ≡ e = t.far_far e v in
-      let A = stepped e v up_e in
-      let B = stepped f (t.far_valid e v) up_f in
-      let two : EndInvariant (end_at t old f) (end_at t old e) = subst (λ (w : LinkEnd). EndInvariant (end_at t old f) (end_at t old w)) back (I.links f (t.far_valid e v) up_f) in
-      let took_e : messages (old.inbox (t.far f)) ≡ front A.taken ++ messages (new.inbox (t.far f)) = subst (λ (w : LinkEnd). messages (old.inbox w) ≡ front A.taken ++ messages (new.inbox w)) (sym back) A.took in
-      let J : LinkStep (end_at t old e) (end_at t old f) (end_at t new e) (end_at t new f) A.taken B.taken A.added B.added =
-      record { one = I.links e v up_e; two = two; here = A.step; there = B.step; out_here = outs e B.taken B.took; out_there = outs f A.taken took_e } in
-      step_keeps J
+  links' e v u = let up_e : old.up e ≡ true = sym (M.links.up_same e) ∙ u in step_keeps (link_step e v up_e (I.up_far e v ∙ up_e))
 
   -- and who is awaited is so
   answers' : (e : LinkEnd) → t.valid e ≡ true → new.up e ≡ true → Answered (end_at t new e) (end_at t new (t.far e))
-  answers' e v u =
-      let up_e : old.up e ≡ true = sym (M.links.up_same e) ∙ u in
-      let f = t.far e in
-      let up_f : old.up f ≡ true = I.up_far e v ∙ up_e in
-      let back : t.far f ≡ e = t.far_far e v in
-      let A = stepped e v up_e in
-      let B = stepped f (t.far_valid e v) up_f in
-      let two : EndInvariant (end_at t old f) (end_at t old e) = subst (λ (w : LinkEnd). EndInvariant (end_at t old f) (end_at t old w)) back (I.links f (t.far_valid e v) up_f) in
-      let took_e : messages (old.inbox (t.far f)) ≡ front A.taken ++ messages (new.inbox (t.far f)) = subst (λ (w : LinkEnd). messages (old.inbox w) ≡ front A.taken ++ messages (new.inbox w)) (sym back) A.took in
-      let J : LinkStep (end_at t old e) (end_at t old f) (end_at t new e) (end_at t new f) A.taken B.taken A.added B.added =
-      record { one = I.links e v up_e; two = two; here = A.step; there = B.step; out_here = outs e B.taken B.took; out_there = outs f A.taken took_e } in
-      step_answered J (I.answers e v up_e)
+  answers' e v u = let up_e : old.up e ≡ true = sym (M.links.up_same e) ∙ u in step_answered (link_step e v up_e (I.up_far e v ∙ up_e)) (I.answers e v up_e)
 
   -- every machine is sound after the step
   machines' : (k : ℕ) → IsSound (new.machine k)

@@ -5,14 +5,14 @@ use Rattle.machine_laws.specs.Laws.{is_up_at}
 use Rattle.machine_laws.proofs.Successors.{port_successor_from, is_port_successor}
 use Rattle.loop_freedom.specs.Network.{Topology, Publish, next_hop_of}
 use Rattle.loop_freedom.proofs.Link.{EndInvariant, Answered}
-use Rattle.loop_freedom.proofs.Published.{shown_as_chosen, publish_here, publish_there, answered_here, answered_there}
+use Rattle.loop_freedom.proofs.Published.{shown_as_chosen, shown_published, invariant_here, invariant_there, answered_here, answered_there}
 use Rattle.loop_freedom.specs.Facts.{messages, live, is_current, is_next_hop, end_of, end_at}
 use Rattle.loop_freedom.proofs.OnTheWay.{live-append}
 use Rattle.loop_freedom.proofs.Notices.{lawful_seen, lawfully_held_append}
 use Rattle.loop_freedom.proofs.Invariant.{Invariant, end_at_cong, end_invariant_same, answered_same, answered_same}
 
 -- a published successor is port q in session n exactly where q is the machine's successor and knows of session n
-next_hop_seen : (m : Machine) (q n : ℕ) (seen : ℕ → ℕ) (s : Option ℕ) → (s ≡ Some q → is_up_at m q ≡ true)
+pub next_hop_seen : (m : Machine) (q n : ℕ) (seen : ℕ → ℕ) (s : Option ℕ) → (s ≡ Some q → is_up_at m q ≡ true)
     → is_next_hop q n (next_hop_of seen s) ≡ (is_current m q (seen q) n && is_port q s)
 next_hop_seen m q n seen None f = sym (and-false (is_current m q (seen q) n))
 next_hop_seen m q n seen (Some p) f = elim (cases_eq p q) [
@@ -31,7 +31,7 @@ next_hop_session q k seen (Some p) e =
     sym k_is ∙ ap seen p_is
 
 -- an end with the parts that a publication makes is the old end, as published
-published_end : {m m' : Machine} {seen seen' n n' : ℕ} {pfd' : ℕ} (q : ℕ) (o o' : Option NextHop) (pfd : ℕ) (items items' : List SeenItem) (ripe ripe' unripe unripe' : List SeenHeld)
+pub published_end : {m m' : Machine} {seen seen' n n' : ℕ} {pfd' : ℕ} (q : ℕ) (o o' : Option NextHop) (pfd : ℕ) (items items' : List SeenItem) (ripe ripe' unripe unripe' : List SeenHeld)
     → m' ≡ m → seen' ≡ seen → n' ≡ n → is_next_hop q n' o' ≡ (is_current m q seen n && is_port q m.successor) → pfd' ≡ m.fd
     → messages items' ++ live n' ripe' ≡ (messages items ++ live n ripe) ++ live n unripe → live n' unripe' ≡ []
     → end_of m' q seen' n' o' pfd' items' ripe' unripe' ≡ shown_as_chosen (end_of m q seen n o pfd items ripe unripe)
@@ -71,14 +71,12 @@ module _ (t : Topology) (old new : State) (I : Invariant t old) (P : Publish t o
       let x = end_at t old e in
       let y = end_at t old f in
       let up_e : old.up e ≡ true = sym (P.links.up_same e) ∙ u in
-      let up_f : old.up f ≡ true = I.up_far e v ∙ up_e in
       let one : EndInvariant x y = I.links e v up_e in
-      let two : EndInvariant y x = subst (λ (w : LinkEnd). EndInvariant (end_at t old f) (end_at t old w)) (t.far_far e v) (I.links f (t.far_valid e v) up_f) in
       let cur : x.chosen ≡ true → x.current ≡ true = λ c. (and_parts (is_current (old.machine e.router) e.port (old.seen e) (old.session e)) (is_port e.port (old.machine e.router).successor) c).0 in
       let low : x.fd ≤ infinity = let a = (I.sound e.router).fd_below in let b = (I.sound e.router).rd_bounded in omega (arith, a, b) in
-      let only_x : EndInvariant (shown_as_chosen x) y = publish_here x y cur low one two in
-      let only_y : EndInvariant x (shown_as_chosen y) = publish_there x y one in
-      let both : EndInvariant (shown_as_chosen x) (shown_as_chosen y) = publish_there (shown_as_chosen x) y only_x in
+      let only_x : EndInvariant (shown_as_chosen x) y = invariant_here (shown_published x) cur low one in
+      let only_y : EndInvariant x (shown_as_chosen y) = invariant_there (shown_published y) one in
+      let both : EndInvariant (shown_as_chosen x) (shown_as_chosen y) = invariant_there (shown_published y) only_x in
       elim (cases_eq e.router P.j) [
         | inl re ↦ elim (cases_eq f.router P.j) [
           | inl rf ↦ end_invariant_same (here e v re) (here f (t.far_valid e v) rf) both
@@ -99,11 +97,11 @@ module _ (t : Topology) (old new : State) (I : Invariant t old) (P : Publish t o
       let one : Answered x y = I.answers e v (sym (P.links.up_same e) ∙ u) in
       elim (cases_eq e.router P.j) [
         | inl re ↦ elim (cases_eq f.router P.j) [
-          | inl rf ↦ answered_same (here e v re) (here f (t.far_valid e v) rf) (answered_there (shown_as_chosen x) y (answered_here x y one))
-          | inr df ↦ answered_same (here e v re) (elsewhere f df) (answered_here x y one)
+          | inl rf ↦ answered_same (here e v re) (here f (t.far_valid e v) rf) (answered_there (shown_published y) (answered_here (shown_published x) one))
+          | inr df ↦ answered_same (here e v re) (elsewhere f df) (answered_here (shown_published x) one)
         ]
         | inr de ↦ elim (cases_eq f.router P.j) [
-          | inl rf ↦ answered_same (elsewhere e de) (here f (t.far_valid e v) rf) (answered_there x y one)
+          | inl rf ↦ answered_same (elsewhere e de) (here f (t.far_valid e v) rf) (answered_there (shown_published y) one)
           | inr df ↦ answered_same (elsewhere e de) (elsewhere f df) one
         ]
       ]

@@ -25,7 +25,7 @@ module _ (laws : MachineLaws) (m : Machine) where
   up_home o q = ap (λ (ns : List Neighbour). test_at (λ (x : Neighbour). x.up) (slice_get ns q)) (ports_home o)
 
   -- a notice of the attachment leaves every port as it was
-  port_step_home : (o : Option ℕ) (q seen n : ℕ) → PortStep m (event_at_home o) q seen seen n None
+  pub port_step_home : (o : Option ℕ) (q seen n : ℕ) → PortStep m (event_at_home o) q seen seen n None
   port_step_home None q seen n =
       let cur : is_current (reaction m (event_at_home None)).machine q seen n ≡ is_current m q seen n = ap (λ (b : Bool). b && (seen == n)) (up_home None q) in
       record {

@@ -1,5 +1,6 @@
 -- Every run keeps the invariant, and so no walk along its edges meets a router twice.
-use Rattle.std.proofs.Common.{refl, ap, arith, inl, inr, ◌≡◌, ◌⊎◌, ℕ, ◌<◌, max, true, false, ◌==◌, List, [], ◌∷◌, ne_eqb, eq-eqb}
+use Rattle.std.specs.Prelude.{⊤}
+use Rattle.std.proofs.Common.{refl, ap, subst, arith, inl, inr, ◌≡◌, ◌⊎◌, ℕ, ◌<◌, max, true, false, ◌==◌, List, [], ◌∷◌, ne_eqb, eq-eqb}
 use Rattle.network_model.proofs.Common.{and_from, or_from, is_port, LinkEnd, State}
 use Rattle.machine_laws.specs.Laws.{MachineLaws, is_up_at}
 use Rattle.loop_freedom.specs.Network.{Topology, Step, Takes, TakesAtHome, Publishes, Releases, LinkComes, LinkGoes, CostChanges, Skips, Run, Start, Then, PublishedEdge, ControlEdge, IsEdgeWalk, met, is_met, meets_twice, HoldsInEveryState, PublishedLoopFree, MixedLoopFree}
@@ -53,33 +54,34 @@ control_falls t s I e v E =
     let h = (I.links e v E.linked).control_edge_falls (and_from (is_current m e.port (s.seen e) (s.session e)) (is_port e.port m.successor) cur port) in
     omega (arith, h.0, h.1)
 
--- a walk along edges that fall, from a router lower than j, does not meet j
-meets_lower : (t : Topology) (edge : LinkEnd → Type 0) (h : ℕ → ℕ) → ((e : LinkEnd) → t.valid e ≡ true → edge e → h (t.far e).router < h e.router)
-    → (i j : ℕ) (es : List LinkEnd) → IsEdgeWalk t edge i es → h i < h j → is_met j (met t es) ≡ false
-meets_lower t edge h f i j [] w lt = refl
-meets_lower t edge h f i j (e ∷ es) w lt =
-    let k = (t.far e).router in
-    let at_e : h e.router ≡ h i = ap h w.0 in
-    let falls : h k < h e.router = f e w.1 w.2 in
-    let lower : h k < h j = omega (arith, lt, at_e, falls) in
-    or_from (j == k) (is_met j (met t es))
-    (ne_eqb j k (λ p. (let q : h j ≡ h k = ap h p in omega (arith, lower, q))))
-    (meets_lower t edge h f k j es w.3 lower)
+-- along a list of routers the height falls from each to the next
+abbrev pub FallsAlong : (ℕ → ℕ) → List ℕ → Type 0
+FallsAlong h [] = ⊤
+FallsAlong h (i ∷ []) = ⊤
+FallsAlong h (i ∷ k ∷ ks) = (h k < h i) × FallsAlong h (k ∷ ks)
 
--- a walk along edges that fall meets no router twice
+-- such a list does not meet a router that is higher than its first
+not_met : (h : ℕ → ℕ) (j i : ℕ) (ks : List ℕ) → h i < h j → FallsAlong h (i ∷ ks) → is_met j (i ∷ ks) ≡ false
+not_met h j i [] lt f = or_from (j == i) false (ne_eqb j i (λ p. (let q : h j ≡ h i = ap h p in omega (arith, lt, q)))) refl
+not_met h j i (k ∷ ks) lt f =
+    or_from (j == i) (is_met j (k ∷ ks)) (ne_eqb j i (λ p. (let q : h j ≡ h i = ap h p in omega (arith, lt, q)))) (not_met h j k ks (omega (arith, lt, f.0)) f.1)
+
+-- it meets no router twice
+pub falls_distinct : (h : ℕ → ℕ) (ks : List ℕ) → FallsAlong h ks → meets_twice ks ≡ false
+falls_distinct h [] f = refl
+falls_distinct h (i ∷ []) f = refl
+falls_distinct h (i ∷ k ∷ ks) f = or_from (is_met i (k ∷ ks)) (meets_twice (k ∷ ks)) (not_met h i k ks f.0 f.1) (falls_distinct h (k ∷ ks) f.1)
+
+-- a walk along edges that fall meets such a list
+edges_fall : (t : Topology) (edge : LinkEnd → Type 0) (h : ℕ → ℕ) → ((e : LinkEnd) → t.valid e ≡ true → edge e → h (t.far e).router < h e.router)
+    → (i : ℕ) (es : List LinkEnd) → IsEdgeWalk t edge i es → FallsAlong h (i ∷ met t es)
+edges_fall t edge h f i [] w = tt
+edges_fall t edge h f i (e ∷ es) w = (subst (λ (n : ℕ). h (t.far e).router < h n) w.0 (f e w.1 w.2), edges_fall t edge h f (t.far e).router es w.3)
+
+-- so it meets no router twice
 walk_distinct : (t : Topology) (edge : LinkEnd → Type 0) (h : ℕ → ℕ) → ((e : LinkEnd) → t.valid e ≡ true → edge e → h (t.far e).router < h e.router)
     → (i : ℕ) (es : List LinkEnd) → IsEdgeWalk t edge i es → meets_twice (i ∷ met t es) ≡ false
-walk_distinct t edge h f i [] w = refl
-walk_distinct t edge h f i (e ∷ es) w =
-    let k = (t.far e).router in
-    let at_e : h e.router ≡ h i = ap h w.0 in
-    let falls : h k < h e.router = f e w.1 w.2 in
-    let lower : h k < h i = omega (arith, at_e, falls) in
-    or_from (is_met i (k ∷ met t es)) (meets_twice (k ∷ met t es))
-    (or_from (i == k) (is_met i (met t es))
-    (ne_eqb i k (λ p. (let q : h i ≡ h k = ap h p in omega (arith, lower, q))))
-    (meets_lower t edge h f k i es w.3 lower))
-    (walk_distinct t edge h f k es w.3)
+walk_distinct t edge h f i es w = falls_distinct h (i ∷ met t es) (edges_fall t edge h f i es w)
 
 -- the invariant rules out loops along published and chosen edges
 pub mixed_loop_free : (t : Topology) (s : State) → Invariant t s → MixedLoopFree t s

@@ -6,12 +6,14 @@ pub mod View
 pub mod Machines
 pub mod Kept
 pub mod Linking
+pub mod Reacting
 pub mod Accepting
 pub mod Taking
 pub mod TakingAtHome
 pub mod Attaching
 pub mod Publishing
 pub mod Releasing
+pub mod Quiet
 pub mod Opened
 pub mod Runs
 pub mod Walks

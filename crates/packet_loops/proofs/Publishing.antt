@@ -1,6 +1,6 @@
 -- A router that publishes does so in the view.
 use Rattle.std.proofs.Common.{refl, sym, ap, subst, ◌∙◌, arith, take_all, take-append-drop, ◌≡◌, ℕ, Bool, true, false, ◌==◌, if◌then◌else◌, List, [], ◌++◌, length, Option, Some, None, slice_get, option_map, option_and_then, unwrap_or, eq-eqb, ne_eqb}
-use Rattle.packet_loops.proofs.Common.{option_map_or, drop_all, Prefix, prefix_cmp, Machine, opening_machine, port_count, port_successor, Entry, Port, Router, World, Network, machine_of, neighbours, next, router_publishing, entry_of, session_at, chosen_rows, Some_injective, slice_get-changed_at, Invariant, find-map, sorted-map, LinkEnd, State, at_port, next_hop, kept, ripe_of, unripe_of, next_hop_at, view}
+use Rattle.packet_loops.proofs.Common.{option_map_or, drop_all, Prefix, prefix_cmp, Machine, opening_machine, port_count, port_successor, Entry, Port, Router, World, Network, machine_of, neighbours, next, router_publishing, entry_of, session_at, chosen_rows, Some_injective, None_not_Some, NextHop, slice_get-changed_at, Invariant, find-map, sorted-map, LinkEnd, State, at_port, next_hop, kept, ripe_of, unripe_of, next_hop_at, view}
 use Rattle.std.specs.FinMap.{find as row_of}
 use Rattle.std.specs.FinMap.Entries.{is_sorted}
 use Rattle.network_model.specs.declared.step.Step.TheVariants.{Publish}
@@ -22,17 +22,35 @@ next_hop_entry ports m seen same = by_successor m.successor
     by_successor None = refl
     by_successor (Some q) = by_port (q == port_count m) q
 
+-- the row that a router has chosen is the entry of its machine, if it has one
+pub control_row : (p : Prefix) (r : Router) → (r.table).control ≡ chosen_rows r.ports r.machines → row_of prefix_cmp p (r.table).control ≡ option_map (λ m. entry_of r.ports m) (row_of prefix_cmp p r.machines)
+control_row p r is = ap (row_of prefix_cmp p) is ∙ find-map prefix_cmp (λ (m : Machine). entry_of r.ports m) p r.machines
+
 -- the next hop of the row that a router has chosen is its machine's successor, where that is a port, in the session seen there
 pub control_hop : (p : Prefix) (r : Router) (seen : ℕ → ℕ) → (r.table).control ≡ chosen_rows r.ports r.machines → ((q : ℕ) → seen q ≡ session_at r.ports q)
     → option_and_then next_hop (row_of prefix_cmp p (r.table).control) ≡ next_hop_of seen (port_successor (machine_of r p))
 control_hop p r seen is same =
-    ap (λ (rows : List (Prefix × Entry)). option_and_then next_hop (row_of prefix_cmp p rows)) is
-    ∙ ap (option_and_then next_hop) (find-map prefix_cmp (λ (m : Machine). entry_of r.ports m) p r.machines)
+    ap (option_and_then next_hop) (control_row p r is)
     ∙ by_row (row_of prefix_cmp p r.machines)
   where
     by_row : (o : Option Machine) → option_and_then next_hop (option_map (λ m. entry_of r.ports m) o) ≡ next_hop_of seen (port_successor (unwrap_or o (opening_machine None (neighbours r.ports))))
     by_row None = refl
     by_row (Some m) = next_hop_entry r.ports m seen same
+
+-- the chosen rows stay in the order of their prefixes
+pub control_sorted : (r : Router) → (r.table).control ≡ chosen_rows r.ports r.machines → is_sorted prefix_cmp r.machines ≡ true → is_sorted prefix_cmp (r.table).control ≡ true
+control_sorted r is sorted = ap (is_sorted prefix_cmp) is ∙ sorted-map prefix_cmp (λ (m : Machine). entry_of r.ports m) r.machines ∙ sorted
+
+-- a port that is the next hop of a machine is its successor, in the session seen there
+pub hop_chosen : (m : Machine) (seen : ℕ → ℕ) (q session : ℕ) → next_hop_of seen (port_successor m) ≡ Some (record { port = q; session = session }) → (port_successor m ≡ Some q) × (seen q ≡ session)
+hop_chosen m seen q session h = by_successor (port_successor m) refl h
+  where
+    by_successor : (o : Option ℕ) → port_successor m ≡ o → next_hop_of seen o ≡ Some (record { port = q; session = session }) → (port_successor m ≡ Some q) × (seen q ≡ session)
+    by_successor None is g = absurd (None_not_Some g)
+    by_successor (Some j) is g =
+        let e = Some_injective g in
+        let port : j ≡ q = ap (λ (o : NextHop). o.port) e in
+        (is ∙ ap Some port, ap seen (sym port) ∙ ap (λ (o : NextHop). o.session) e)
 
 module _ (n : Network) (N : IsWired n) (p : Prefix) (w : World) (pfd : ℕ → ℕ) (K : WorldKept n p w) (I : Invariant (topology n N) (view n p w pfd)) (i : ℕ) (r : Router) (router_at : slice_get w.routers i ≡ Some r) where
   -- the view before
@@ -72,7 +90,7 @@ module _ (n : Network) (N : IsWired n) (p : Prefix) (w : World) (pfd : ℕ → �
   router_kept = record {
     ripe_within = omega arith;
     sorted = R.sorted;
-    published_sorted = ap (is_sorted prefix_cmp) R.control_is ∙ sorted-map prefix_cmp (λ (m : Machine). entry_of r.ports m) r.machines ∙ R.sorted;
+    published_sorted = control_sorted r R.control_is R.sorted;
     control_is = R.control_is;
     port_count = R.port_count;
     machine_ports = R.machine_ports;

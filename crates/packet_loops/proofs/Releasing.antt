@@ -12,10 +12,10 @@ use Rattle.packet_loops.proofs.Kept.{ends, RouterKept, WorldKept, StepKept, with
 
 -- the oldest message that the router holds is h, and it is ripe
 pub record Front (r : Router) (h : Held) : Type 0 where
-  count : ℕ
-  rest : List Held
-  ripe_is : (r.gate).ripe ≡ suc count
-  held_is : (r.gate).held ≡ h ∷ rest
+  pub count : ℕ
+  pub rest : List Held
+  pub ripe_is : (r.gate).ripe ≡ suc count
+  pub held_is : (r.gate).held ≡ h ∷ rest
 
 -- a message that the router releases next is the oldest that it holds, and ripe
 pub front_of : (r : Router) (h : Held) → ripe_front r ≡ Some h → Front r h
@@ -39,22 +39,17 @@ module _ (r : Router) (h : Held) (F : Front r h) where
   abbrev left : Router
   left = router_releasing r
 
-  -- before, h is the first message that may be released
-  ripe_was : ripe_of r ≡ h ∷ take F.count F.rest
-  ripe_was = λ z. take (F.ripe_is z) (F.held_is z)
+  -- one fewer may be released
+  fewer : (r.gate).ripe - 1 ≡ F.count
+  fewer = (let e = F.ripe_is in omega (arith, e))
 
-  -- after, the others that might be released still may
-  ripe_left : ripe_of left ≡ take F.count F.rest
-  ripe_left = let c : (r.gate).ripe - 1 ≡ F.count = (let e = F.ripe_is in omega (arith, e)) in λ z. take (c z) (drop 1 (F.held_is z))
+  -- what might be released is the oldest message, and then what may be released after
+  pub ripe_front_is : ripe_of r ≡ h ∷ ripe_of left
+  ripe_front_is = (λ z. take (F.ripe_is z) (F.held_is z)) ∙ ap (λ xs. h ∷ xs) (sym (λ z. take (fewer z) (drop 1 (F.held_is z))))
 
   -- what may not be released yet stays
-  unripe_left : unripe_of left ≡ unripe_of r
-  unripe_left = let c : (r.gate).ripe - 1 ≡ F.count = (let e = F.ripe_is in omega (arith, e)) in
-      (λ z. drop (c z) (drop 1 (F.held_is z))) ∙ sym (λ z. drop (F.ripe_is z) (F.held_is z))
-
-  -- what might be released is h, and then what may be released after
-  ripe_front_is : ripe_of r ≡ h ∷ ripe_of left
-  ripe_front_is = ripe_was ∙ ap (λ xs. h ∷ xs) (sym ripe_left)
+  pub unripe_left : unripe_of left ≡ unripe_of r
+  unripe_left = (λ z. drop (fewer z) (drop 1 (F.held_is z))) ∙ sym (λ z. drop (F.ripe_is z) (F.held_is z))
 
 -- where nothing is kept of a list, nothing is kept of it without its first message
 kept_tail : (p : Prefix) (j : ℕ) (xs : List Held) → kept p j xs ≡ [] → kept p j (drop 1 xs) ≡ []
@@ -91,48 +86,39 @@ kept_not p j h hs is = rw is refl
 abbrev goes : Held → Link → Bool
 goes h k = k.up && (k.session == h.session)
 
+-- what holds of a link, with the message added at the other end or not, holds of it once the message is put there
+pub by_message : (P : Link → Type 0) (h : Held) (e : End) (k : Link) → P k → P (changed_side (other e) (with_item (Item.Message h.message)) k) → P (with_message h e k)
+by_message P h e k stays added = by_test (goes h k)
+  where
+    by_test : (b : Bool) → P (if b then changed_side (other e) (with_item (Item.Message h.message)) k else k)
+    by_test true = added
+    by_test false = stays
+
 -- a message that is put on a link leaves its two routers
 message_ends : (h : Held) (e : End) (k : Link) → ends (with_message h e k) ≡ ends k
-message_ends h e k = by_test (goes h k)
-  where
-    by_test : (b : Bool) → ends (if b then changed_side (other e) (with_item (Item.Message h.message)) k else k) ≡ ends k
-    by_test true = changed_side-ends (other e) (with_item (Item.Message h.message)) k (λ s. refl)
-    by_test false = refl
+message_ends h e k = by_message (λ z. ends z ≡ ends k) h e k refl (changed_side-ends (other e) (with_item (Item.Message h.message)) k (λ s. refl))
 
 -- a message that is put on a link leaves it up or down as it was
 message_up : (h : Held) (e : End) (k : Link) → (with_message h e k).up ≡ k.up
-message_up h e k = by_test (goes h k)
-  where
-    by_test : (b : Bool) → (if b then changed_side (other e) (with_item (Item.Message h.message)) k else k).up ≡ k.up
-    by_test true = up_beside (other e) (with_item (Item.Message h.message)) k
-    by_test false = refl
+message_up h e k = by_message (λ z. z.up ≡ k.up) h e k refl (up_beside (other e) (with_item (Item.Message h.message)) k)
 
 -- a message that is put on a link leaves its session
 message_session : (h : Held) (e : End) (k : Link) → (with_message h e k).session ≡ k.session
-message_session h e k = by_test (goes h k)
-  where
-    by_test : (b : Bool) → (if b then changed_side (other e) (with_item (Item.Message h.message)) k else k).session ≡ k.session
-    by_test true = session_beside (other e) (with_item (Item.Message h.message)) k
-    by_test false = refl
+message_session h e k = by_message (λ z. z.session ≡ k.session) h e k refl (session_beside (other e) (with_item (Item.Message h.message)) k)
 
 -- a message that is put on a link leaves the cost from each end
 message_cost : (h : Held) (d e : End) (k : Link) → (side d (with_message h e k)).cost ≡ (side d k).cost
-message_cost h d e k = by_test (goes h k) d e
+message_cost h d e k = by_message (λ z. (side d z).cost ≡ (side d k).cost) h e k refl (by_ends d e)
   where
-    by_test : (b : Bool) (d e : End) → (side d (if b then changed_side (other e) (with_item (Item.Message h.message)) k else k)).cost ≡ (side d k).cost
-    by_test false d e = refl
-    by_test true A A = refl
-    by_test true A B = refl
-    by_test true B A = refl
-    by_test true B B = refl
+    by_ends : (d e : End) → (side d (changed_side (other e) (with_item (Item.Message h.message)) k)).cost ≡ (side d k).cost
+    by_ends A A = refl
+    by_ends A B = refl
+    by_ends B A = refl
+    by_ends B B = refl
 
 -- a message that is put on a link leaves the end that sends it
 message_near : (h : Held) (d e : End) (k : Link) → d ≡ other (other e) → side d (with_message h e k) ≡ side d k
-message_near h d e k is = by_test (goes h k)
-  where
-    by_test : (b : Bool) → side d (if b then changed_side (other e) (with_item (Item.Message h.message)) k else k) ≡ side d k
-    by_test true = changed_beside (other e) d (with_item (Item.Message h.message)) k is
-    by_test false = refl
+message_near h d e k is = by_message (λ z. side d z ≡ side d k) h e k refl (changed_beside (other e) d (with_item (Item.Message h.message)) k is)
 
 -- the far end has the message to take at the back, where it goes
 message_far : (p : Prefix) (h : Held) (e : End) (k : Link) → prefix_eq p (h.message).prefix ≡ true → inbox_of p (other e) (with_message h e k) ≡ inbox_of p (other e) k ++ (if goes h k then Reported (msg_of h.message) ∷ [] else [])
@@ -147,17 +133,16 @@ message_far p h e k same = by_test (goes h k)
 
 -- a message of another prefix leaves what this one hears at each end
 message_unheard : (p : Prefix) (h : Held) (d e : End) (k : Link) → prefix_eq p (h.message).prefix ≡ false → inbox_of p d (with_message h e k) ≡ inbox_of p d k
-message_unheard p h d e k apart = by_test (goes h k) d e
+message_unheard p h d e k apart = by_message (λ z. inbox_of p d z ≡ inbox_of p d k) h e k refl (by_ends d e)
   where
     none : (xs : List Item) → heard p (xs ++ Item.Message h.message ∷ []) ≡ heard p xs
     none xs = heard-append p xs (Item.Message h.message ∷ []) ∙ (let e : heard p (Item.Message h.message ∷ []) ≡ [] = rw apart refl in ap (λ ys. heard p xs ++ ys) e) ∙ append-nil (heard p xs)
 
-    by_test : (b : Bool) (d e : End) → inbox_of p d (if b then changed_side (other e) (with_item (Item.Message h.message)) k else k) ≡ inbox_of p d k
-    by_test false d e = refl
-    by_test true A A = refl
-    by_test true A B = none (k.a).inbox
-    by_test true B A = none (k.b).inbox
-    by_test true B B = refl
+    by_ends : (d e : End) → inbox_of p d (changed_side (other e) (with_item (Item.Message h.message)) k) ≡ inbox_of p d k
+    by_ends A A = refl
+    by_ends A B = none (k.a).inbox
+    by_ends B A = none (k.b).inbox
+    by_ends B B = refl
 
 -- ---- routers
 

@@ -20,6 +20,66 @@ use Rattle.packet_loops.proofs.Opened.{first_fd, opening_kept, opening_view}
 pub place_is : (n : Network) (p : Prefix) (w : World) → WorldKept n p w → (i q : ℕ) → place_at w i q ≡ lay n (at_port i q)
 place_is n p w K i q = ap (λ (ps : List (List Place)). option_and_then (λ (xs : List Place). slice_get xs q) (slice_get ps i)) K.places_same
 
+-- ---- what a step of a world comes to
+
+module _ (n : Network) (p : Prefix) (w : World) (K : WorldKept n p w) (P : World → Type 0) where
+  -- a router takes an item of a link
+  pub by_deliver : (i q : ℕ) (item : Item) → front_at w i q ≡ Some item
+      → ((x : Place) → lay n (at_port i q) ≡ Some x → (k : Link) → slice_get w.links x.link ≡ Some k → slice_get (side x.end k).inbox 0 ≡ Some item
+      → P (record w { links = changed_at x.link (with_front_taken x.end) w.links; routers = changed_at i (router_accepting q item) w.routers })) → P (next w (Deliver i q))
+  by_deliver i q item front taken = by_place (lay n (at_port i q)) refl
+      (sym (ap (λ o. option_and_then (λ s. slice_get s.inbox 0) (option_and_then (λ (x : Place). option_map (side x.end) (slice_get w.links x.link)) o)) (place_is n p w K i q)) ∙ front)
+    where
+      by_link : (x : Place) → lay n (at_port i q) ≡ Some x → (o : Option Link) → slice_get w.links x.link ≡ o → option_and_then (λ s. slice_get s.inbox 0) (option_map (side x.end) o) ≡ Some item → P (next w (Deliver i q))
+      by_link x is None at h = absurd (None_not_Some h)
+      by_link x is (Some k) at h = subst P
+          (sym (ap (λ o. option_map_or (with_delivered i q w) o (option_map_or (with_noticed i w) (notice_at w i q) w)) front
+          ∙ ap (λ o. changed_router i (router_accepting q item) (option_map_or (λ (y : Place). record w { links = changed_at y.link (with_front_taken y.end) w.links }) o w)) (place_is n p w K i q ∙ is)))
+          (taken x is k at h)
+
+      by_place : (o : Option Place) → lay n (at_port i q) ≡ o → option_and_then (λ s. slice_get s.inbox 0) (option_and_then (λ (x : Place). option_map (side x.end) (slice_get w.links x.link)) o) ≡ Some item → P (next w (Deliver i q))
+      by_place None is h = absurd (None_not_Some h)
+      by_place (Some x) is h = by_link x is (slice_get w.links x.link) refl h
+
+  -- a router takes a notice of its attachment
+  pub by_notice : (i q : ℕ) (x : Notice) → front_at w i q ≡ None → notice_at w i q ≡ Some x
+      → ((a : Attachments) → slice_get w.attachments i ≡ Some a → slice_get a.notices 0 ≡ Some x → P (with_noticed i w x)) → P (next w (Deliver i q))
+  by_notice i q x none at noticed = by_attachments (slice_get w.attachments i) refl front
+    where
+      front : option_and_then (λ (a : Attachments). slice_get a.notices 0) (slice_get w.attachments i) ≡ Some x
+      front = sym (ap (λ b. if b then option_and_then (λ (a : Attachments). slice_get a.notices 0) (slice_get w.attachments i) else None) (at_home_there (is_at_home w i q) _ at)) ∙ at
+
+      world_is : next w (Deliver i q) ≡ with_noticed i w x
+      world_is = ap (λ o. option_map_or (with_delivered i q w) o (option_map_or (with_noticed i w) (notice_at w i q) w)) none ∙ ap (λ o. option_map_or (with_noticed i w) o w) at
+
+      by_attachments : (o : Option Attachments) → slice_get w.attachments i ≡ o → option_and_then (λ (a : Attachments). slice_get a.notices 0) o ≡ Some x → P (next w (Deliver i q))
+      by_attachments None owns h = absurd (None_not_Some h)
+      by_attachments (Some a) owns h = subst P (sym world_is) (noticed a owns h)
+
+  -- a router releases a message, to a port that is not there or to one that is
+  pub by_release : (i : ℕ) (h : Held) → release_at w i ≡ Some h
+      → ((r : Router) → slice_get w.routers i ≡ Some r → ripe_front r ≡ Some h → lay n (at_port i h.port) ≡ None → P (record w { links = w.links; routers = changed_at i router_releasing w.routers }))
+      → ((r : Router) → slice_get w.routers i ≡ Some r → ripe_front r ≡ Some h → (x : Place) → lay n (at_port i h.port) ≡ Some x → (k : Link) → slice_get w.links x.link ≡ Some k
+      → P (record w { links = changed_at x.link (with_message h x.end) w.links; routers = changed_at i router_releasing w.routers })) → P (next w (Release i))
+  by_release i h at nowhere there = by_router (slice_get w.routers i) refl at
+    where
+      world_is : (o : Option Place) → lay n (at_port i h.port) ≡ o → next w (Release i) ≡ changed_router i router_releasing (option_map_or (λ (y : Place). record w { links = changed_at y.link (with_message h y.end) w.links }) o w)
+      world_is o is = ap (λ o. option_map_or (with_released i w) o w) at
+          ∙ ap (λ o. changed_router i router_releasing (option_map_or (λ (y : Place). record w { links = changed_at y.link (with_message h y.end) w.links }) o w)) (place_is n p w K i h.port ∙ is)
+
+      by_place : (r : Router) → slice_get w.routers i ≡ Some r → ripe_front r ≡ Some h → (o : Option Place) → lay n (at_port i h.port) ≡ o → P (next w (Release i))
+      by_place r router_at first None is = subst P (sym (world_is None is)) (nowhere r router_at first is)
+      by_place r router_at first (Some x) is =
+          let L = laid n (at_port i h.port) x is in
+          let k = linked n p w K x.link L.spec L.is_link in
+          subst P (sym (world_is (Some x) is)) (there r router_at first x is k.0 k.1)
+
+      by_router : (o : Option Router) → slice_get w.routers i ≡ o → option_and_then ripe_front o ≡ Some h → P (next w (Release i))
+      by_router None router_at f = absurd (None_not_Some f)
+      by_router (Some r) router_at f = by_place r router_at f (lay n (at_port i h.port)) refl
+
+-- ---- the view
+
 -- the element that is set is found at its position
 set_here : (rs : List Router) (i : ℕ) (r : Router) → i < length rs → slice_get (slice_set rs i r) i ≡ Some r
 set_here [] i r lt = absurd (omega arith)
@@ -27,7 +87,7 @@ set_here (x ∷ xs) zero r lt = refl
 set_here (x ∷ xs) (suc i) r lt = set_here xs i r (omega (arith, lt))
 
 -- the elements at other positions stay
-set_beside : (rs : List Router) (i j : ℕ) (r : Router) → (j ≡ i → ⊥) → slice_get (slice_set rs i r) j ≡ slice_get rs j
+pub set_beside : (rs : List Router) (i j : ℕ) (r : Router) → (j ≡ i → ⊥) → slice_get (slice_set rs i r) j ≡ slice_get rs j
 set_beside [] i j r d = refl
 set_beside (x ∷ xs) zero zero r d = absurd (d refl)
 set_beside (x ∷ xs) zero (suc j) r d = refl
@@ -51,19 +111,7 @@ module _ (n : Network) (N : IsWired n) (p : Prefix) (w : World) (pfd : ℕ → �
 
   -- the step Deliver is one of the view
   deliver : (i q : ℕ) (r : Router) (item : Item) → slice_get w.routers i ≡ Some r → front_at w i q ≡ Some item → Kept (next w (Deliver i q))
-  deliver i q r item router_at front = by_place (lay n (at_port i q)) refl
-      (sym (ap (λ o. option_and_then (λ s. slice_get s.inbox 0) (option_and_then (λ (x : Place). option_map (side x.end) (slice_get w.links x.link)) o)) (place_is n p w K i q)) ∙ front)
-    where
-      by_link : (x : Place) → lay n (at_port i q) ≡ Some x → (o : Option Link) → slice_get w.links x.link ≡ o → option_and_then (λ s. slice_get s.inbox 0) (option_map (side x.end) o) ≡ Some item → Kept (next w (Deliver i q))
-      by_link x is None at h = absurd (None_not_Some h)
-      by_link x is (Some k) at h = subst Kept
-          (sym (ap (λ o. option_map_or (with_delivered i q w) o (option_map_or (with_noticed i w) (notice_at w i q) w)) front
-          ∙ ap (λ o. changed_router i (router_accepting q item) (option_map_or (λ (y : Place). record w { links = changed_at y.link (with_front_taken y.end) w.links }) o w)) (place_is n p w K i q ∙ is)))
-          (takes_item n N p w pfd K I i q x is k at r router_at item h)
-
-      by_place : (o : Option Place) → lay n (at_port i q) ≡ o → option_and_then (λ s. slice_get s.inbox 0) (option_and_then (λ (x : Place). option_map (side x.end) (slice_get w.links x.link)) o) ≡ Some item → Kept (next w (Deliver i q))
-      by_place None is h = absurd (None_not_Some h)
-      by_place (Some x) is h = by_link x is (slice_get w.links x.link) refl h
+  deliver i q r item router_at front = by_deliver n p w K Kept i q item front (λ x is k at h. takes_item n N p w pfd K I i q x is k at r router_at item h)
 
   -- a notice is taken at the port numbered by the degree, where no item of a link is
   home_port : (i q : ℕ) (x : Notice) → notice_at w i q ≡ Some x → (i < n.routers) × (front_at w i q ≡ None)
@@ -86,39 +134,13 @@ module _ (n : Network) (N : IsWired n) (p : Prefix) (w : World) (pfd : ℕ → �
 
   -- the step Deliver at the attachments is one of the view
   deliver_home : (i q : ℕ) (r : Router) (x : Notice) → slice_get w.routers i ≡ Some r → notice_at w i q ≡ Some x → Kept (next w (Deliver i q))
-  deliver_home i q r x router_at at = by_attachments (slice_get w.attachments i) refl front
-    where
-      there : is_at_home w i q ≡ true
-      there = at_home_there (is_at_home w i q) _ at
-
-      front : option_and_then (λ (a : Attachments). slice_get a.notices 0) (slice_get w.attachments i) ≡ Some x
-      front = sym (ap (λ b. if b then option_and_then (λ (a : Attachments). slice_get a.notices 0) (slice_get w.attachments i) else None) there) ∙ at
-
-      world_is : next w (Deliver i q) ≡ with_noticed i w x
-      world_is = ap (λ o. option_map_or (with_delivered i q w) o (option_map_or (with_noticed i w) (notice_at w i q) w)) (home_port i q x at).1 ∙ ap (λ o. option_map_or (with_noticed i w) o w) at
-
-      by_attachments : (o : Option Attachments) → slice_get w.attachments i ≡ o → option_and_then (λ (a : Attachments). slice_get a.notices 0) o ≡ Some x → Kept (next w (Deliver i q))
-      by_attachments None owns h = absurd (None_not_Some h)
-      by_attachments (Some a) owns h = subst Kept (sym world_is) (takes_notice n N p w pfd K I i (home_port i q x at).0 r router_at a owns x h)
+  deliver_home i q r x router_at at = let port = home_port i q x at in by_notice n p w K Kept i q x port.1 at (λ a owns h. takes_notice n N p w pfd K I i port.0 r router_at a owns x h)
 
   -- the step Release is one of the view
   release : (i : ℕ) (h : Held) → release_at w i ≡ Some h → Kept (next w (Release i))
-  release i h at = by_router (slice_get w.routers i) refl at
-    where
-      world_is : (o : Option Place) → lay n (at_port i h.port) ≡ o → next w (Release i) ≡ changed_router i router_releasing (option_map_or (λ (y : Place). record w { links = changed_at y.link (with_message h y.end) w.links }) o w)
-      world_is o is = ap (λ o. option_map_or (with_released i w) o w) at
-          ∙ ap (λ o. changed_router i router_releasing (option_map_or (λ (y : Place). record w { links = changed_at y.link (with_message h y.end) w.links }) o w)) (place_is n p w K i h.port ∙ is)
-
-      by_place : (r : Router) → slice_get w.routers i ≡ Some r → ripe_front r ≡ Some h → (o : Option Place) → lay n (at_port i h.port) ≡ o → Kept (next w (Release i))
-      by_place r router_at first None is = subst Kept (sym (world_is None is)) (releases_nowhere n N p w pfd K i r router_at h (front_of r h first) is)
-      by_place r router_at first (Some x) is =
-          let L = laid n (at_port i h.port) x is in
-          let k = linked n p w K x.link L.spec L.is_link in
-          subst Kept (sym (world_is (Some x) is)) (releases_there n N p w pfd K i r router_at h (front_of r h first) x is k.0 k.1)
-
-      by_router : (o : Option Router) → slice_get w.routers i ≡ o → option_and_then ripe_front o ≡ Some h → Kept (next w (Release i))
-      by_router None router_at f = absurd (None_not_Some f)
-      by_router (Some r) router_at f = by_place r router_at f (lay n (at_port i h.port)) refl
+  release i h at = by_release n p w K Kept i h at
+      (λ r router_at first is. releases_nowhere n N p w pfd K i r router_at h (front_of r h first) is)
+      (λ r router_at first x is k there. releases_there n N p w pfd K i r router_at h (front_of r h first) x is k there)
 
   -- a step is one of the view, which goes on showing the feasible distance that each router had when it published last
   record Stepped (s : Step) : Type 0 where

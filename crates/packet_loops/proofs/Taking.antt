@@ -208,16 +208,16 @@ module _ (n : Network) (N : IsWired n) (p : Prefix) (w : World) (pfd : ℕ → �
       valid_place = ap is_some laid_a;
       inbox_at = inbox_front;
       inbox_elsewhere = inbox_elsewhere;
-      machine_at = on_router-there (λ y. machine_of y p) (opening_machine None []) v.routers i r' (new_at i refl) ∙ Q.machine_is ∙ ap (λ (m : Machine). (reaction m (event_of q hears)).machine) (sym machine_was);
+      machine_at = on_router-there (λ y. machine_of y p) (opening_machine None []) v.routers i r' (new_at i refl) ∙ Q.met.machine_is ∙ ap (λ (m : Machine). (reaction m (event_of q hears)).machine) (sym machine_was);
       machine_elsewhere = λ j apart. on_router-miss (λ y. machine_of y p) (opening_machine None []) w.routers (router_accepting q item) i j apart;
       seen_at = on_router-there (λ y. session_at y.ports q) 0 v.routers i r' (new_at i refl) ∙ Q.seen_here ∙ ap (seen_after hears) (sym seen_was);
       seen_elsewhere = seen_beside;
       unripe_at = unripe_here;
       unripe_elsewhere = λ e apart. on_router-miss (λ y. kept p e.port (unripe_of y)) [] w.routers (router_accepting q item) i e.router apart;
-      ripe_same = λ e. router_same (λ y. kept p e.port (ripe_of y)) [] (Q.ripe_is e.port) e.router;
+      ripe_same = λ e. router_same (λ y. kept p e.port (ripe_of y)) [] (Q.met.ripe_is e.port) e.router;
       links = links_same;
       costs = costs_same;
-      publications = record { published_same = published_as Q.published_is; published_fd_same = λ j. refl };
+      publications = record { published_same = published_as Q.met.published_is; published_fd_same = λ j. refl };
     }
       where
         seen_beside : (e : LinkEnd) → (e ≡ a → ⊥) → new.seen e ≡ old.seen e
@@ -234,7 +234,7 @@ module _ (n : Network) (N : IsWired n) (p : Prefix) (w : World) (pfd : ℕ → �
             let seen_is : session_at r'.ports e.port ≡ new.seen e = sym (on_router-there (λ y. session_at y.ports e.port) 0 v.routers e.router r' (new_at e.router h)) in
             let machine_is : machine_of r p ≡ old.machine i = sym machine_was in
             on_router-there (λ y. kept p e.port (unripe_of y)) [] v.routers e.router r' (new_at e.router h)
-            ∙ Q.unripe_is e.port
+            ∙ Q.met.unripe_is e.port
             ∙ (λ z. unripe_is z ++ held_for (seen_is z) (sent_to e.port (reaction (machine_is z) (event_of q hears)).sends))
 
     -- which is what the prefix hears
@@ -245,7 +245,7 @@ module _ (n : Network) (N : IsWired n) (p : Prefix) (w : World) (pfd : ℕ → �
     -- and so is a step of the view that keeps what a world keeps
     pub takes : Reacted n p i q hears r r' → StepKept n N p w pfd v pfd
     takes Q = record {
-      kept = world_kept (Q.keeps silent_beyond) (ap (λ (m : Machine). m.attachment) Q.machine_is ∙ machine_laws.keeps_attachment (machine_of r p) (event_of q hears) ∙ item_leaves q hears (machine_of r p).attachment);
+      kept = world_kept (Q.met.keeps silent_beyond) (ap (λ (m : Machine). m.attachment) Q.met.machine_is ∙ machine_laws.keeps_attachment (machine_of r p) (event_of q hears) ∙ item_leaves q hears (machine_of r p).attachment);
       step = Takes (taken Q);
     }
 

@@ -130,7 +130,7 @@ module _ (n : Network) (N : IsWired n) (p : Prefix) (w : World) (pfd : ℕ → �
       machine_elsewhere = λ j apart. on_router-miss (λ y. machine_of y p) (opening_machine None []) w.routers (router_at_home x) i j apart;
       unripe_at = unripe_here;
       unripe_elsewhere = λ e apart. on_router-miss (λ y. kept p e.port (unripe_of y)) [] w.routers (router_at_home x) i e.router apart;
-      seen_same = λ e. router_same (λ y. session_at y.ports e.port) 0 (Q.seen_is e.port) e.router;
+      seen_same = λ e. router_same (λ y. session_at y.ports e.port) 0 refl e.router;
       ripe_same = λ e. router_same (λ y. kept p e.port (ripe_of y)) [] (Q.ripe_is e.port) e.router;
       inboxes = record { inbox_same = λ e. refl };
       links = record { up_same = λ e. refl; session_same = λ e. refl };

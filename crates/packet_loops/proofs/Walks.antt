@@ -1,6 +1,6 @@
 -- Ways of packets are walks of the view, so they meet no router twice; along rows the feasible distances fall.
 use Rattle.std.proofs.Common.{refl, sym, ap, subst, ◌∙◌, inl, inr, arith, ◌<◌, ◌≡◌, ◌⊎◌, ℕ, Bool, true, false, cond, ◌&&◌, ◌==◌, nat_lt, if◌then◌else◌, List, [], ◌∷◌, Option, Some, None, is_some, slice_get, option_map, option_and_then, eqb-true, eq-eqb}
-use Rattle.packet_loops.proofs.Common.{⊤, option_map_or, and_parts, false≢true, and_from, Prefix, prefix_cmp, prefix_eq, covers, longer_row, longest_match, Machine, opening_machine, port_successor, is_port, port_successor_from, Entry, Local, Via, Unreachable, Link, Side, Router, World, Network, other, side, machine_of, opening, Place, session_at, entry_of, entry_leads, IsForwarded, IsPacketWalk, Some_injective, None_not_Some, is_up_at, machine_laws, Topology, PublishedEdge, ControlEdge, IsEdgeWalk, met, meets_twice, next_hop_of, always_mixed, router_end, find_below, sorted-map, history, LinkEnd, State, NextHop, at_port, next_hop, next_hop_at, view, lay, fd_in, is_next_hop, is_current}
+use Rattle.packet_loops.proofs.Common.{⊤, option_map_or, and_parts, false≢true, and_from, Prefix, prefix_cmp, covers, longer_row, longest_match, Machine, opening_machine, port_successor, is_port, port_successor_from, Entry, Local, Via, Unreachable, Link, Side, Router, World, Network, other, side, machine_of, opening, Place, session_at, entry_leads, IsForwarded, IsPacketWalk, Some_injective, None_not_Some, is_up_at, machine_laws, Topology, PublishedEdge, ControlEdge, IsEdgeWalk, met, meets_twice, next_hop_of, always_mixed, router_end, history, LinkEnd, State, NextHop, at_port, next_hop, next_hop_at, view, lay, fd_in, is_next_hop, is_current}
 use Rattle.std.specs.FinMap.{find as row_of}
 use Rattle.std.specs.FinMap.Entries.{is_sorted, below_all}
 use Rattle.packet_loops.specs.Packets.{HoldsInEveryWorld, NoPacketLoops, NoMixtureLoops, IsForwardedBy, IsMixtureWalk, published_entry, control_entry, DistancesAlwaysFall}
@@ -8,9 +8,10 @@ use Rattle.packet_loops.proofs.Wiring.{IsWired, wired}
 use Rattle.packet_loops.specs.LinkEnds.{across}
 use Rattle.packet_loops.proofs.Places.{laid, far, far_laid, spot_on, topology}
 use Rattle.packet_loops.proofs.View.{on_link-there, on_router-there}
-use Rattle.packet_loops.proofs.Machines.{prefix_same, prefix_itself}
+use Rattle.packet_loops.proofs.Machines.{prefix_itself}
 use Rattle.packet_loops.proofs.Kept.{specified, far_is}
-use Rattle.packet_loops.proofs.Publishing.{control_hop}
+use Rattle.packet_loops.proofs.Publishing.{control_hop, control_sorted, hop_chosen}
+use Rattle.packet_loops.proofs.Quiet.{found_later}
 use Rattle.packet_loops.proofs.Opened.{first_fd, opening_view}
 use Rattle.packet_loops.proofs.Runs.{Reached, reached, place_is, fd_is, history_world}
 
@@ -37,22 +38,14 @@ module _ {X : Type 0} (addr : ℕ) (p : Prefix) (x : X) where
       let own : row_of prefix_cmp r.0 (r ∷ rs) ≡ Some r.1 = ap (λ b. cond b (Some r.1) (row_of prefix_cmp r.0 rs)) (prefix_itself r.0) in
       subst (λ (y : Prefix × X). row_of prefix_cmp y.0 (r ∷ rs) ≡ Some y.1) e own
 
-  -- in sorted rows a row that is found behind the first is found among all
-  row_later : (r : Prefix × X) (rs : List (Prefix × X)) → is_sorted prefix_cmp (r ∷ rs) ≡ true → row_of prefix_cmp p rs ≡ Some x → row_of prefix_cmp p (r ∷ rs) ≡ Some x
-  row_later r rs sorted later = by_eq (prefix_eq p r.0) refl
-    where
-      by_eq : (b : Bool) → prefix_eq p r.0 ≡ b → cond b (Some r.1) (row_of prefix_cmp p rs) ≡ Some x
-      by_eq false is = later
-      by_eq true is =
-          let same : p ≡ r.0 = prefix_same p r.0 is in
-          let none : row_of prefix_cmp r.0 rs ≡ None = find_below prefix_cmp r.0 rs (and_parts (below_all prefix_cmp r.0 rs) (is_sorted prefix_cmp rs) sorted).0 in
-          absurd (None_not_Some (sym none ∙ ap (λ (k : Prefix). row_of prefix_cmp k rs) (sym same) ∙ later))
-
   -- the longest match in sorted rows is the row of its prefix
   pub match_is_row : (rows : List (Prefix × X)) → is_sorted prefix_cmp rows ≡ true → longest_match addr rows ≡ Some (p, x) → row_of prefix_cmp p rows ≡ Some x
   match_is_row [] sorted e = absurd (None_not_Some e)
-  match_is_row (r ∷ rs) sorted e = by_cover (covers r.0 addr) (λ f. row_later r rs sorted (match_is_row rs (and_parts (below_all prefix_cmp r.0 rs) (is_sorted prefix_cmp rs) sorted).1 f)) e
+  match_is_row (r ∷ rs) sorted e = by_cover (covers r.0 addr) (λ f. found_later r rs parts.0 p x (match_is_row rs parts.1 f)) e
     where
+      parts : (below_all prefix_cmp r.0 rs ≡ true) × (is_sorted prefix_cmp rs ≡ true)
+      parts = and_parts (below_all prefix_cmp r.0 rs) (is_sorted prefix_cmp rs) sorted
+
       by_length : (s : Prefix × X) (b : Bool) → longest_match addr rs ≡ Some s → (longest_match addr rs ≡ Some (p, x) → row_of prefix_cmp p (r ∷ rs) ≡ Some x) → (if b then Some s else Some r) ≡ Some (p, x) → row_of prefix_cmp p (r ∷ rs) ≡ Some x
       by_length s true is deeper f = deeper (is ∙ f)
       by_length s false is deeper f = row_first r rs (Some_injective f)
@@ -152,27 +145,15 @@ module _ (n : Network) (N : IsWired n) (p : Prefix) (w : World) (rs : List Route
   control_chosen : (i q session : ℕ) → control_entry w i p ≡ Some (Via q session) → Chosen i q session
   control_chosen i q session h = by_router (slice_get w.routers i) refl h
     where
-      see : ℕ → ℕ
-      see j = s.seen (at_port i j)
-
-      by_successor : (o : Option ℕ) → port_successor (s.machine i) ≡ o → next_hop_of (λ j. s.seen (at_port i j)) o ≡ Some (record { port = q; session = session }) → Chosen i q session
-      by_successor None is g = absurd (None_not_Some g)
-      by_successor (Some j) is g =
-          let e = Some_injective g in
-          let port : j ≡ q = ap (λ (o : NextHop). o.port) e in
-          record {
-            successor = port_successor_from (s.machine i) q (is ∙ ap Some port);
-            seen = ap (λ (m : ℕ). s.seen (at_port i m)) (sym port) ∙ ap (λ (o : NextHop). o.session) e;
-          }
-
       by_router : (o : Option Router) → slice_get w.routers i ≡ o → option_and_then (λ (r : Router). row_of prefix_cmp p (r.table).control) o ≡ Some (Via q session) → Chosen i q session
       by_router None at g = absurd (None_not_Some g)
       by_router (Some r) at g =
           let machine_is : s.machine i ≡ machine_of r p = on_router-there (λ y. machine_of y p) (opening_machine None []) w.routers i r at in
-          by_successor (port_successor (s.machine i)) refl
+          let H = hop_chosen (s.machine i) (λ j. s.seen (at_port i j)) q session
           (ap (λ (m : Machine). next_hop_of (λ j. s.seen (at_port i j)) (port_successor m)) machine_is
           ∙ sym (control_hop p r (λ j. s.seen (at_port i j)) (R.kept.routers_kept i r at).control_is (λ j. on_router-there (λ y. session_at y.ports j) 0 w.routers i r at))
-          ∙ ap (option_and_then next_hop) g)
+          ∙ ap (option_and_then next_hop) g) in
+          record { successor = port_successor_from (s.machine i) q H.0; seen = H.1 }
 
   -- an edge of the view leads from router i to router k
   record Hop (i k : ℕ) : Type 0 where
@@ -252,7 +233,7 @@ module _ (n : Network) (N : IsWired n) (p : Prefix) (w : World) (rs : List Route
           → (row_of prefix_cmp p (r.table).published ≡ Some F.entry) ⊎ (row_of prefix_cmp p (r.table).control ≡ Some F.entry)
       by_table r at true g =
           let Q = R.kept.routers_kept i r at in
-          inr (match_is_row addr p F.entry (r.table).control (ap (is_sorted prefix_cmp) Q.control_is ∙ sorted-map prefix_cmp (λ (m : Machine). entry_of r.ports m) r.machines ∙ Q.sorted) g)
+          inr (match_is_row addr p F.entry (r.table).control (control_sorted r Q.control_is Q.sorted) g)
       by_table r at false g = inl (match_is_row addr p F.entry (r.table).published (R.kept.routers_kept i r at).published_sorted g)
 
       by_router : (o : Option Router) → slice_get w.routers i ≡ o → longest_match addr (option_map_or (λ (r : Router). if by_control i then (r.table).control else (r.table).published) o []) ≡ Some (p, F.entry)

@@ -1,7 +1,7 @@
 -- Steps keep the shape of a world.
-use Rattle.std.proofs.Common.{refl, ap, subst, ◌∙◌, ◌≡◌, ℕ, false, cond, List, [], ◌∷◌, length, Some}
+use Rattle.std.proofs.Common.{refl, sym, ap, subst, ◌∙◌, ◌≡◌, ℕ, false, cond, List, [], ◌∷◌, ◌++◌, length, Some}
 use Rattle.std.specs.FinMap.{find as row_of, put}
-use Rattle.packet_loops.proofs.Common.{find-put, Prefix, prefix_cmp, prefix_eq, prefix_cmp_total, End, Link, Router, Attachments, World, place_at, next, changed_link, changed_router, changed_attachments, router_accepting, router_at_home, with_delivered, with_noticed, with_released, with_front_taken, with_notice_taken, with_cost, with_message, front_at, notice_at, Runs, length-changed_at, option_map_or-ind}
+use Rattle.packet_loops.proofs.Common.{find-put, Prefix, prefix_cmp, prefix_eq, prefix_cmp_total, End, Link, Router, Attachments, World, place_at, next, changed_link, changed_router, changed_attachments, router_accepting, router_at_home, with_delivered, with_noticed, with_released, with_front_taken, with_notice_taken, with_cost, with_message, front_at, notice_at, Runs, length-changed_at, option_map_or-ind, Lawful}
 use Rattle.network_model.specs.declared.step.Step.{Step}
 use Rattle.network_model.specs.declared.step.Step.TheVariants.{LinkUp, LinkDown, SetCost, Deliver, Publish, Release, Attach, Detach}
 
@@ -60,3 +60,8 @@ next-shape w (Detach i p) = changed_attachments-shape w i _
 pub Runs-shape : (w : World) (ss : List Step) (v : World) → Runs w ss v → SameShape w v
 Runs-shape w [] v e = subst (SameShape w) e (SameShape-itself w)
 Runs-shape w (s ∷ ss) v r = SameShape-trans (next-shape w s) (Runs-shape (next w s) ss v r.1)
+
+-- a run with one step more
+pub runs_more : (w : World) (ss : List Step) (v : World) (s : Step) → Runs w ss v → Lawful v s → Runs w (ss ++ s ∷ []) (next v s)
+runs_more w [] v s r L = subst (λ x. Lawful w s × (next w s ≡ next x s)) r (subst (λ x. Lawful x s) (sym r) L, refl)
+runs_more w (t ∷ ss) v s r L = (r.0, runs_more (next w t) ss v s r.1 L)

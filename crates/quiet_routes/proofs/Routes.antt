@@ -1,11 +1,13 @@
 -- At a quiet world each router has its best row.
-use Rattle.std.proofs.Common.{refl, sym, ap, ◌∙◌, inl, inr, arith, ◌≡◌, ◌⊎◌, ℕ, ◌+◌, ◌<◌, ◌≤◌, true, ◌==◌, if◌then◌else◌, List, [], map, length, Option, Some, None, is_some, slice_get, option_map, option_and_then, unwrap_or, eq-eqb}
-use Rattle.packet_loops.proofs.Common.{range_with_len, option_map_or, false≢true, length-map, Prefix, prefix_cmp, Machine, opening_machine, port_count, Local, Via, Unreachable, End, A, B, Link, Router, World, Network, side, machine_of, neighbours, costs_of, opening_router_of, opening, Place, Port, entry_of, session_at, IsWalkHome, walk_cost as way_cost, is_quiet, None_not_Some, Topology, IsEdgeWalk as NetWalk, IsNetwork, find-map, history, LinkEnd, State, on_link, view, lay, walk_map}
+use Rattle.std.proofs.Common.{refl, sym, ap, ◌∙◌, inl, inr, arith, ◌≡◌, ◌⊎◌, ℕ, ◌+◌, ◌<◌, ◌≤◌, true, List, [], map, length, Option, Some, None, is_some, slice_get, option_map, option_and_then, unwrap_or}
+use Rattle.packet_loops.proofs.Common.{range_with_len, option_map_or, false≢true, length-map, Prefix, prefix_cmp, Machine, opening_machine, port_count, Local, Unreachable, End, A, B, Link, Router, World, Network, side, machine_of, neighbours, costs_of, opening_router_of, opening, Place, Port, entry_of, IsWalkHome, walk_cost as way_cost, is_quiet, None_not_Some, Topology, IsEdgeWalk as NetWalk, IsNetwork, history, LinkEnd, State, on_link, view, lay, walk_map}
 use Rattle.std.specs.FinMap.{find as row_of}
 use Rattle.packet_loops.specs.Packets.{published_entry}
 use Rattle.packet_loops.proofs.Wiring.{IsWired, wired, few_routers}
 use Rattle.packet_loops.proofs.Places.{laid, spot, topology}
 use Rattle.packet_loops.proofs.Opened.{first_fd, opening_view}
+use Rattle.packet_loops.proofs.Publishing.{control_row}
+use Rattle.packet_loops.proofs.Quiet.{entry_local, entry_lost}
 use Rattle.packet_loops.proofs.Runs.{Reached, reached}
 use Rattle.packet_loops.proofs.WorldLaws.{SameShape, Runs-shape}
 use Rattle.least_cost.specs.Quiet.{LeadsHome, Follows, IsRouted as IsNetRouted, IsOptimal, walk_end, edges_cost}
@@ -74,8 +76,7 @@ module _ (n : Network) (V : IsNetwork n) (p : Prefix) (w : World) (rs : List Rou
             no_machine = ap (option_and_then (λ (y : Router). row_of prefix_cmp p y.machines)) at ∙ is;
             not_published = ap (option_and_then (λ (y : Router). row_of prefix_cmp p (y.table).published)) at ∙ row_now n N p w rs R G quiet i r at ∙ ap (option_map (λ m. entry_of r.ports m)) is;
             not_chosen = ap (option_and_then (λ (y : Router). row_of prefix_cmp p (y.table).control)) at
-                ∙ ap (row_of prefix_cmp p) (R.kept.routers_kept i r at).control_is
-                ∙ find-map prefix_cmp (λ (m : Machine). entry_of r.ports m) p r.machines
+                ∙ control_row p r (R.kept.routers_kept i r at).control_is
                 ∙ ap (option_map (λ m. entry_of r.ports m)) is;
           })
       by_row r at (Some m) is =
@@ -95,16 +96,6 @@ module _ (n : Network) (V : IsNetwork n) (p : Prefix) (w : World) (rs : List Rou
         not_chosen = ap (option_and_then (λ (y : Router). row_of prefix_cmp p (y.table).control)) at;
       })
       by_router (Some r) at = by_row r at (row_of prefix_cmp p r.machines) refl
-
-  -- the entry of a machine whose successor is its attachment is Local
-  entry_local : (ports : List Port) (m : Machine) → m.successor ≡ Some (port_count m) → entry_of ports m ≡ Local
-  entry_local ports m h =
-      ap (λ x. option_map_or (λ q. if q == port_count m then Local else Via q (session_at ports q)) x Unreachable) h
-      ∙ ap (λ b. if b then Local else Via (port_count m) (session_at ports (port_count m))) (eq-eqb (port_count m) (port_count m) refl)
-
-  -- the entry of a machine without a successor is Unreachable
-  entry_lost : (ports : List Port) (m : Machine) → m.successor ≡ None → entry_of ports m ≡ Unreachable
-  entry_lost ports m none = ap (λ x. option_map_or (λ q. if q == port_count m then Local else Via q (session_at ports q)) x Unreachable) none
 
   -- the row of a router whose successor is its attachment is Local
   local_row : (o : ℕ) → (s.machine o).successor ≡ Some (port_count (s.machine o)) → published_entry w o p ≡ Some Local

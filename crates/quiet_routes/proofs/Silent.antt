@@ -1,6 +1,7 @@
 -- What a prefix sees of a world with nothing on its links and nothing held: nothing is on the way.
-use Rattle.std.proofs.Common.{refl, sym, ap, ◌∙◌, ◌≡◌, ℕ, zero, suc, Bool, true, List, [], ◌∷◌, take, drop, Option, Some, None, slice_get}
-use Rattle.packet_loops.proofs.Common.{list_all, option_map_or, take-nil, drop-nil, and_from, and_parts, false≢true, Prefix, Held, End, A, B, Link, Router, World, side, Place, is_empty, is_quiet_link, Some_injective, None_not_Some, on_link, inbox_of, heard, kept, ripe_of, unripe_of}
+use Rattle.std.proofs.Common.{refl, sym, ap, ◌∙◌, ◌≡◌, ℕ, zero, suc, Bool, true, List, [], ◌∷◌, Option, Some, None, slice_get}
+use Rattle.packet_loops.proofs.Common.{list_all, option_map_or, and_from, and_parts, Prefix, Held, End, A, B, Link, Router, World, side, Place, is_empty, is_quiet_link, Some_injective, None_not_Some, on_link, inbox_of, heard, kept, ripe_of, unripe_of}
+use Rattle.packet_loops.proofs.Quiet.{empty_is, nothing_ripe, nothing_unripe}
 
 -- ---- lists
 
@@ -14,11 +15,6 @@ all_at f (y ∷ ys) h (suc k) x e = all_at f ys (and_parts (f y) (list_all f ys)
 pub all_hold : {A : Type 0} (f : A → Bool) (xs : List A) → ((k : ℕ) (x : A) → slice_get xs k ≡ Some x → f x ≡ true) → list_all f xs ≡ true
 all_hold f [] each = refl
 all_hold f (x ∷ xs) each = and_from (f x) (list_all f xs) (each 0 x refl) (all_hold f xs (λ k. each (suc k)))
-
--- a list that is empty by the test is the empty list
-pub empty_is : {A : Type 0} (xs : List A) → is_empty xs ≡ true → xs ≡ []
-empty_is [] h = refl
-empty_is (x ∷ xs) h = absurd (false≢true h)
 
 -- ---- what is on the way
 
@@ -47,8 +43,8 @@ module _ (p : Prefix) (w : World) where
 
     -- nothing is ripe
     pub ripe_none : (i q : ℕ) → option_map_or (λ r. kept p q (ripe_of r)) (slice_get w.routers i) [] ≡ []
-    ripe_none = kept_none ripe_of (λ r h. ap (take (r.gate).ripe) h ∙ take-nil (r.gate).ripe)
+    ripe_none = kept_none ripe_of nothing_ripe
 
     -- nothing is unripe
     pub unripe_none : (i q : ℕ) → option_map_or (λ r. kept p q (unripe_of r)) (slice_get w.routers i) [] ≡ []
-    unripe_none = kept_none unripe_of (λ r h. ap (drop (r.gate).ripe) h ∙ drop-nil (r.gate).ripe)
+    unripe_none = kept_none unripe_of nothing_unripe
