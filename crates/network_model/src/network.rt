@@ -3,11 +3,8 @@
 ghost use Rattle.std.specs.Prelude.{◌≡◌};
 ghost use Rattle.network_model.specs.Network as valid;
 ghost use Rattle.network_model.specs.World as model;
-ghost use Rattle.network_model.specs.declared.network.NetworkFault.TheVariants.{NoMemory as OutOfMemory};
 
-use crate::memory::NoMemory;
 use metric::Cost;
-use std::alloc::{AllocError, AllocFailed};
 use thiserror::Error;
 
 /// The most routers that a network can have.
@@ -113,31 +110,4 @@ pub enum NetworkFault {
     /// is the 4097th prefix, or this is the 16,385th attachment.
     #[error("27 BadOwner")]
     BadOwner { prefix: usize },
-    /// A growth was refused.
-    #[error("20 NoMemory")]
-    NoMemory,
-}
-
-impl From<NoMemory> for NetworkFault {
-    ghost from_gives = { λ _ e. e ≡ OutOfMemory };
-
-    fn from(_error: NoMemory) -> NetworkFault {
-        NetworkFault::NoMemory
-    }
-}
-
-impl From<AllocError> for NetworkFault {
-    ghost from_gives = { λ _ e. e ≡ OutOfMemory };
-
-    fn from(_error: AllocError) -> NetworkFault {
-        NetworkFault::NoMemory
-    }
-}
-
-impl<T: Drop> From<AllocFailed<T>> for NetworkFault {
-    ghost from_gives = { λ _ e. e ≡ OutOfMemory };
-
-    fn from(_error: AllocFailed<T>) -> NetworkFault {
-        NetworkFault::NoMemory
-    }
 }

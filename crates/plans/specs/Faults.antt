@@ -7,7 +7,7 @@ use Rattle.script.specs.declared.place.Key.{Key}
 use Rattle.script.specs.declared.place.Key.TheVariants.{Links, Prefixes}
 use Rattle.script.specs.declared.place.Located.{Located}
 use Rattle.network_model.specs.declared.network.NetworkFault.{NetworkFault}
-use Rattle.network_model.specs.declared.network.NetworkFault.TheVariants.{BadRouters, BadLink, TooManyLinks, BadOwner, NoMemory as NoMemoryForNetwork}
+use Rattle.network_model.specs.declared.network.NetworkFault.TheVariants.{BadRouters, BadLink, TooManyLinks, BadOwner}
 use Rattle.network_model.specs.declared.step.Refusal.TheVariants.{NoMemory as NoMemoryForStep, NoReaderPlace}
 use Rattle.journal.specs.declared.fault.JournalFault.TheVariants.{NoMemory as NoMemoryForJournal}
 use Rattle.network_model.specs.declared.step.Refusal.{Refusal}
@@ -28,7 +28,6 @@ is_memory (Document NoMemoryForLists) = true
 is_memory (Document _) = false
 is_memory (Lines NoMemoryForLines) = true
 is_memory (Lines _) = false
-is_memory (Network NoMemoryForNetwork) = true
 is_memory (Network _) = false
 is_memory (Refused NoMemoryForStep) = true
 is_memory (Refused _) = false
@@ -82,7 +81,6 @@ opening_fault BadRouters = unplaced (Network BadRouters)
 opening_fault (BadLink link) = at_line (Network (BadLink link)) Links link
 opening_fault (TooManyLinks link) = at_line (Network (TooManyLinks link)) Links link
 opening_fault (BadOwner prefix) = at_line (Network (BadOwner prefix)) Prefixes prefix
-opening_fault NoMemoryForNetwork = unplaced (Network NoMemoryForNetwork)
 
 -- the image of a router has no place for a reader
 abbrev pub IsWithoutReaders : Fault → Type 0

@@ -65,7 +65,6 @@ impl Fault {
             Cause::Memory(_)
             | Cause::Document(scenario::Fault::NoMemory)
             | Cause::Lines(script::Fault::NoMemory)
-            | Cause::Network(NetworkFault::NoMemory)
             | Cause::Journal(JournalFault::NoMemory)
             | Cause::Refused(_)
             | Cause::Unwritable
@@ -145,7 +144,7 @@ impl From<NetworkFault> for Fault {
                     position: prefix,
                 })
             }
-            NetworkFault::BadRouters | NetworkFault::NoMemory => None,
+            NetworkFault::BadRouters => None,
         };
         let cause = Cause::Network(fault);
         Fault { cause, place }

@@ -61,7 +61,6 @@ fn network_kind(fault: NetworkFault) -> Kind {
         NetworkFault::BadLink { link: _ } => Kind::BadLink,
         NetworkFault::TooManyLinks { link: _ } => Kind::TooManyLinks,
         NetworkFault::BadOwner { prefix: _ } => Kind::BadOwner,
-        NetworkFault::NoMemory => Kind::NoMemory,
     }
 }
 
