@@ -162,9 +162,9 @@ uint32_t tuhvondi_router_counts(struct tuhvondi_router *router, struct tuhvondi_
  * how many they are, and how often the router has published. All that it holds may then leave.
  * If there is no room for all rows, it writes the first row_count of them, and 1 to `more`, else 0. These
  * rows are in force from now on, but the router has not published yet, and nothing may leave for it: put
- * them into the table, and publish again.
+ * them into the table, and publish again. It takes no memory.
  * Refused, and then nothing is written: TUHVONDI_NO_ROUTER_HELD, TUHVONDI_BAD_COUNT where there are rows and
- * row_count is 0, TUHVONDI_NOTHING_DUE, TUHVONDI_GENERATIONS_SPENT, TUHVONDI_NO_MEMORY. */
+ * row_count is 0, TUHVONDI_NOTHING_DUE, TUHVONDI_GENERATIONS_SPENT. */
 uint32_t tuhvondi_router_publish(struct tuhvondi_router *router, struct tuhvondi_row *rows,
                                  size_t row_count, size_t *written, uint8_t *more, uint64_t *generation);
 
@@ -178,8 +178,8 @@ uint32_t tuhvondi_router_state(struct tuhvondi_router *router, uint32_t addr, ui
                                struct tuhvondi_prefix_state *state);
 
 /* Writes the row that the router chose for each prefix that it has heard of, in the order of the
- * prefixes, and how many they are. Refused, and then nothing is written: TUHVONDI_NO_ROUTER_HELD,
- * TUHVONDI_BAD_COUNT where `prefixes` of tuhvondi_router_counts is above row_count, TUHVONDI_NO_MEMORY. */
+ * prefixes, and how many they are. It takes no memory. Refused, and then nothing is written:
+ * TUHVONDI_NO_ROUTER_HELD, TUHVONDI_BAD_COUNT where `prefixes` of tuhvondi_router_counts is above row_count. */
 uint32_t tuhvondi_router_rows(struct tuhvondi_router *router, struct tuhvondi_row *rows,
                               size_t row_count, size_t *written);
 

@@ -198,29 +198,30 @@ fn publish(
     router: &mut RouterHandle,
     rows: &mut [Row],
 ) -> Result<(Published, u64), Fault>
-    ensures ok { IfOk result (λ _. IsStatusBy (held_fault
-        (λ b. publish_fault (length rows.old) b.router) (handle_router router.old)) 0) }
+    ensures ok { IfOk result (λ _. status_by (held_fault
+        (λ b. publish_fault (length rows.old) b.router) (handle_router router.old)) ≡ 0) }
     ensures rows { IfOk result (λ p. IfSome (handle_router router.old) (λ b. IsPublished
         b.router rows.old rows.new (p.0).count (flag (p.0).more) p.1)) }
     ensures published { OnOk result (handle_router router.new ≡ option_map
         (with_router (router_given (length rows.old))) (handle_router router.old)) }
     ensures unchanged { OnErr result ((handle_router router.new ≡ handle_router router.old)
         × (rows.new ≡ rows.old)) }
-    ensures err { IfErr result (λ f. IsStatusBy (held_fault
+    ensures err { IfErr result (λ f. status_by (held_fault
         (λ b. publish_fault (length rows.old) b.router) (handle_router router.old))
-        (fault_number f)) }
+        ≡ fault_number f) }
 {
     let Some(mut held) = router.take(alloc) else {
         return Err(Fault::Empty);
     };
-    let outcome = held.publish(alloc, rows);
+    let outcome = held.publish(rows);
     let generation = held.generation();
     router.put(held);
     Ok((outcome?, generation))
 }
 
 /// Publishes: writes the rows that are in force from now on and were not, how many they are, whether there
-/// are more, for which there was no room (1, else 0), and how often the router has published.
+/// are more, for which there was no room (1, else 0), and how often the router has published. It takes no
+/// memory.
 #[unsafe(no_mangle)]
 pub extern "C" fn tuhvondi_router_publish(
     alloc: Global,
@@ -230,8 +231,8 @@ pub extern "C" fn tuhvondi_router_publish(
     more: &mut u8,
     generation: &mut u64,
 ) -> u32
-    ensures status { IsStatusBy (held_fault
-        (λ b. publish_fault (length rows.old) b.router) (handle_router router.old)) result }
+    ensures status { result ≡ status_by (held_fault
+        (λ b. publish_fault (length rows.old) b.router) (handle_router router.old)) }
     ensures done { result ≡ 0 → IfSome (handle_router router.old) (λ b. IsPublished
         b.router rows.old rows.new written.new more.new generation.new) }
     ensures published { result ≡ 0 → handle_router router.new ≡ option_map
@@ -313,7 +314,8 @@ pub extern "C" fn tuhvondi_router_state(
     }
 }
 
-/// Writes the row that the router chose for each prefix that it has heard of, and how many they are.
+/// Writes the row that the router chose for each prefix that it has heard of, and how many they are. It
+/// takes no memory.
 #[unsafe(no_mangle)]
 pub extern "C" fn tuhvondi_router_rows(
     alloc: Global,
@@ -321,8 +323,8 @@ pub extern "C" fn tuhvondi_router_rows(
     rows: &mut [Row],
     written: &mut usize,
 ) -> u32
-    ensures status { IsStatusBy (held_fault (λ b.
-        room_fault (length ((b.router).table).control) (length rows.old)) (handle_router router.old)) result }
+    ensures status { result ≡ status_by (held_fault (λ b.
+        room_fault (length ((b.router).table).control) (length rows.old)) (handle_router router.old)) }
     ensures done { result ≡ 0 → IfSome (handle_router router.old) (λ b.
         IsListed b.router rows.old rows.new written.new) }
     ensures refused { result ≢ 0 → (rows.new ≡ rows.old) × (written.new ≡ written.old) }
@@ -331,7 +333,7 @@ pub extern "C" fn tuhvondi_router_rows(
     let Some(held) = router.take(alloc) else {
         return Fault::Empty.number();
     };
-    let outcome = held.rows(alloc, rows);
+    let outcome = held.rows(rows);
     router.put(held);
     match outcome {
         Ok(count) => {

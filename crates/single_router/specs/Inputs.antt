@@ -1,5 +1,5 @@
 -- What a router is told: how it is read, when it is refused, and what the router makes of it.
-use Rattle.std.specs.Prelude.{◌≡◌, ℕ, Bool, false, ◌==◌, ◌&&◌, nat_lt, nat_le, if◌then◌else◌, Option, Some, None, option_and_then, slice_get, is_some, Result, Ok, Err}
+use Rattle.std.specs.Prelude.{◌≡◌, ℕ, Bool, ◌==◌, ◌&&◌, nat_lt, nat_le, if◌then◌else◌, Option, Some, None, option_and_then, slice_get, is_some, Result, Ok, Err}
 use Rattle.std.specs.FinMap.{find as row_of}
 use Rattle.metric.specs.Distance.{greatest_cost}
 use Rattle.metric.specs.declared.kind.Kind.{Kind}

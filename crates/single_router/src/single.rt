@@ -1,6 +1,6 @@
 //! The router.
 
-ghost use Rattle.std.specs.Prelude.{◌≡◌, ◌⊎◌, ◌≤◌, None, Some, IfOk, IfErr, OnOk, OnErr, length, option_map, slice_get, is_some, true, IsTrue};
+ghost use Rattle.std.specs.Prelude.{◌≡◌, ◌⊎◌, ◌≤◌, None, Some, IfOk, IfErr, OnOk, OnErr, length, option_map, slice_get, take, is_some, true, IsTrue};
 ghost use Rattle.network_model.specs.Step as step;
 ghost use Rattle.single_router.specs.Frames.{frame_of};
 ghost use Rattle.dual_machine.specs.State.{awaits_at};
@@ -16,7 +16,8 @@ use crate::input::Input;
 use crate::opening::{Attachment, check_attachments, check_costs, read_attachments, read_ports};
 use crate::state::{Counts, State, debt_of};
 use c_interface::{Fault, Row};
-use network_model::{Cost, Entry, Item, Kind, Message, Port, Prefix};
+use network_model::{Cost, Item, Kind, Message, Port, Prefix};
+use route_table::{ChangedRows, ControlRows};
 use router_core::Router;
 use std::alloc::Global;
 use std::marker::Model;
@@ -275,9 +276,9 @@ impl SingleRouter {
     /// prefixes; all that the router holds may leave. Its messages are to be put on links only after these
     /// rows forward packets. Where there is no room for all rows, it writes the first ones, which are in
     /// force from now on, says that there are more, and nothing may leave yet: publish again. 8: there is no
-    /// room for any. 17: nothing is due. 37: it has published 2^64 - 1 times. 20: memory was refused.
-    /// Refused, it writes nothing.
-    pub fn publish(&mut self, alloc: Global, rows: &mut [Row]) -> Result<Published, Fault>
+    /// room for any. 17: nothing is due. 37: it has published 2^64 - 1 times. Refused, it writes nothing. It
+    /// takes no memory.
+    pub fn publish(&mut self, rows: &mut [Row]) -> Result<Published, Fault>
         ensures ok { IfOk result (λ p. (publish_fault (length rows.old) (self.old).router ≡ None)
             × (p.count ≡ length (rows_given (length rows.old) (self.old).router))
             × (p.more ≡ has_more (length rows.old) (self.old).router)
@@ -285,11 +286,11 @@ impl SingleRouter {
         ensures published { OnOk result
             (self.new ≡ with_router (router_given (length rows.old)) self.old) }
         ensures err { OnErr result ((self.new ≡ self.old) × (rows.new ≡ rows.old)) }
-        ensures cause { IfErr result
-            (IsRefusedBy (publish_fault (length rows.old) (self.old).router)) }
+        ensures cause { IfErr result (λ f. publish_fault (length rows.old) (self.old).router ≡ Some f) }
     {
-        if rows.len() < self.router.table().changed().count() {
-            return self.publish_some(alloc, rows);
+        let count = self.counts().changed;
+        if rows.len() < count {
+            return self.publish_some(rows);
         }
         if !self.router.due() {
             return Err(Fault::NothingDue);
@@ -297,17 +298,13 @@ impl SingleRouter {
         if self.router.generation() == u64::MAX {
             return Err(Fault::GenerationsSpent);
         }
-        let changed = self.router.patch_rows(alloc)?;
-        write_rows(&changed, rows);
+        write_changed(self.router.table().changed(), rows);
         self.router.mark_published();
-        Ok(Published {
-            count: changed.len(),
-            more: false,
-        })
+        Ok(Published { count, more: false })
     }
 
     // Puts the rows in force for which there is room.
-    fn publish_some(&mut self, alloc: Global, rows: &mut [Row]) -> Result<Published, Fault>
+    fn publish_some(&mut self, rows: &mut [Row]) -> Result<Published, Fault>
         requires { IsTrue (has_more (length rows.old) (self.old).router) }
         ensures ok { IfOk result (λ p. (publish_fault (length rows.old) (self.old).router ≡ None)
             × (p.count ≡ length (rows_given (length rows.old) (self.old).router))
@@ -316,15 +313,13 @@ impl SingleRouter {
         ensures published { OnOk result
             (self.new ≡ with_router (router_publishing_some (length rows.old)) self.old) }
         ensures err { OnErr result ((self.new ≡ self.old) × (rows.new ≡ rows.old)) }
-        ensures cause { IfErr result
-            (IsRefusedBy (publish_fault (length rows.old) (self.old).router)) }
+        ensures cause { IfErr result (λ f. publish_fault (length rows.old) (self.old).router ≡ Some f) }
     {
         if rows.is_empty() {
             return Err(Fault::BadCount);
         }
         let count = rows.len();
-        let first = self.router.first_patch_rows(alloc, count)?;
-        write_rows(&first, rows);
+        write_changed(self.router.table().changed(), rows);
         self.router.publish_some(count);
         Ok(Published { count, more: true })
     }
@@ -376,32 +371,48 @@ impl SingleRouter {
     }
 
     /// Writes the rows that the router has chosen, in the order of their prefixes, and gives how many. 8:
-    /// there is no room for them. 20: memory was refused. Refused, it writes nothing.
-    pub fn rows(&self, alloc: Global, rows: &mut [Row]) -> Result<usize, Fault>
+    /// there is no room for them. Refused, it writes nothing. It takes no memory.
+    pub fn rows(&self, rows: &mut [Row]) -> Result<usize, Fault>
         ensures ok { IfOk result (λ count. (count ≡ length ((self.now).router).table.control)
             × (count ≤ length rows.old)
             × IsWrittenOver ((self.now).router).table.control rows.old rows.new) }
         ensures err { OnErr result (rows.new ≡ rows.old) }
-        ensures cause { IfErr result (IsRefusedBy (room_fault
-            (length ((self.now).router).table.control) (length rows.old))) }
+        ensures cause { IfErr result (λ f. room_fault
+            (length ((self.now).router).table.control) (length rows.old) ≡ Some f) }
     {
         let table = self.router.table();
         if table.len() > rows.len() {
             return Err(Fault::BadCount);
         }
-        let chosen: Vec<(Prefix, Entry)> = table.rows().collect(alloc)?;
-        write_rows(&chosen, rows);
-        Ok(chosen.len())
+        write_chosen(table.rows(), rows);
+        Ok(table.len())
     }
 }
 
-// Writes rows over the first of those that are there.
-fn write_rows(list: &[(Prefix, Entry)], rows: &mut [Row])
-    requires { length list.now ≤ length rows.old }
-    ensures written { IsWrittenOver list.now rows.old rows.new }
+// Writes rows that a publication puts in force over the first of those that are there, as many as fit.
+fn write_changed(changed: ChangedRows<'_>, rows: &mut [Row])
+    ensures written { IsWrittenOver (take (length rows.old) changed.entry) rows.old rows.new }
     ensures count { length rows.new ≡ length rows.old }
 {
-    for i in 0..list.len() {
-        rows[i] = Row::answer(Some(list[i]));
+    let mut place = 0;
+    for row in changed {
+        if place == rows.len() {
+            return;
+        }
+        rows[place] = Row::answer(Some(row));
+        place += 1;
+    }
+}
+
+// Writes the rows that a router has chosen over the first of those that are there.
+fn write_chosen(chosen: ControlRows<'_>, rows: &mut [Row])
+    requires { length chosen ≤ length rows.old }
+    ensures written { IsWrittenOver chosen.entry rows.old rows.new }
+    ensures count { length rows.new ≡ length rows.old }
+{
+    let mut place = 0;
+    for (prefix, entry) in chosen {
+        rows[place] = Row::answer(Some((prefix, entry)));
+        place += 1;
     }
 }

@@ -547,9 +547,10 @@ static void tell_prefixes(int fd, bool all)
     size_t count = 0;
     uint64_t in_force = 0;
     tuhvondi_image_generation(&image, &in_force);
-    if (all ? tuhvondi_router_rows(&router, known, MOST_PREFIXES, &count)
-            : tuhvondi_image_rows(&image, &from, known, MOST_PREFIXES, &count))
-        dprintf(fd, "no memory\n");
+    if (all)
+        tuhvondi_router_rows(&router, known, MOST_PREFIXES, &count);
+    else
+        tuhvondi_image_rows(&image, &from, known, MOST_PREFIXES, &count);
     dprintf(fd, "generation %" PRIu64 "\n", in_force);
     for (struct peer *peer = peers; peer < peers + peer_count; peer++)
         dprintf(fd, "neighbour %s %s %u%s\n", inet_ntoa(peer->address), peer->state == UP ? "up" : "down", peer->last,
