@@ -144,7 +144,8 @@ uint32_t tuhvondi_router_link_cost(struct tuhvondi_router *router, uint8_t port,
 /* The message came to its port. One of another session than the port's is refused, which discards it.
  * Refused: TUHVONDI_BAD_LENGTH, TUHVONDI_HOST_BITS, TUHVONDI_BAD_KIND, TUHVONDI_NO_ROUTER_HELD,
  * TUHVONDI_UNKNOWN_PORT, TUHVONDI_IS_DOWN, TUHVONDI_OTHER_SESSION, TUHVONDI_UNASKED, TUHVONDI_ASKED_TWICE,
- * TUHVONDI_TOO_MANY_PREFIXES, TUHVONDI_NO_MEMORY, after which the message may be told again. */
+ * TUHVONDI_TOO_MANY_PREFIXES, TUHVONDI_NO_MEMORY, after which the message may be told again. If the router has
+ * heard of the prefix and `held` of tuhvondi_router_counts is 0, it takes no memory. */
 uint32_t tuhvondi_router_message(struct tuhvondi_router *router,
                                  const struct tuhvondi_message *message);
 

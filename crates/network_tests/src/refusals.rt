@@ -290,7 +290,11 @@ fn an_image_needs_room_for_its_nodes(rt: HostRuntime) {
 }
 
 #[test]
-fn a_router_needs_room_for_an_item(rt: HostRuntime) {
-    needs_room(&rt, rt.alloc(), Call::AcceptNotice);
+fn a_router_needs_room_for_a_new_prefix(rt: HostRuntime) {
     needs_room(&rt, rt.alloc(), Call::AcceptMessage);
+}
+
+#[test]
+fn a_router_without_prefixes_needs_no_room_for_a_notice(rt: HostRuntime) {
+    assert!(rt; !Call::AcceptNotice.is_refused(&rt, rt.alloc(), 0));
 }

@@ -91,6 +91,7 @@ impl<A: Allocator> Gate<A> {
         ensures some { OnSome result ((self.new).gate ≡ with_front_released (self.old).gate) }
         ensures none { IfNone result ((self.new).gate ≡ (self.old).gate) }
         ensures room { (self.old).room ≤ (self.new).room }
+        ensures freed { OnSome result ((self.old).room + 1 ≤ (self.new).room) }
     {
         if self.ripe == 0 {
             return None;

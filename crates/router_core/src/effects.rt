@@ -1,6 +1,6 @@
 //! What a router's machines do to its table and its gate.
 
-ghost use Rattle.std.specs.Prelude.{◌^◌, ◌≡◌, ◌≤◌, ◌<◌, ◌+◌, ◌*◌, ◌++◌, ◌⊎◌, map, length, IsSome, All, OnOk, OnErr};
+ghost use Rattle.std.specs.Prelude.{◌^◌, ◌≡◌, ◌≤◌, ◌<◌, ◌+◌, ◌*◌, ◌++◌, map, length, IsSome, All, IfOk, OnOk, OnErr};
 ghost use Rattle.std.specs.List.{flat_map};
 ghost use Rattle.std.specs.FinMap.{find as row_of, put};
 ghost use Rattle.ipv4_prefix.specs.Prefix.{prefix_cmp};
@@ -9,7 +9,8 @@ ghost use Rattle.network_model.specs.Step as step;
 ghost use Rattle.dual_machine.specs.Event.{IsKnown, IsTimely, is_neighbour_up};
 ghost use Rattle.dual_machine.specs.Outbox.{most_sent};
 ghost use Rattle.network_model.specs.Publication.{with_rows};
-ghost use Rattle.router_core.specs.Effects.{HasRoomFor, KeepsEffectsRoom};
+ghost use Rattle.release_gate.specs.GateState.{empty};
+ghost use Rattle.router_core.specs.Room.{kept_room};
 ghost use Rattle.router_core.specs.Parts.{machines_of};
 
 use dual_machine::{Machine, Sends};
@@ -20,13 +21,19 @@ use release_gate::Gate;
 use route_table::RouteTable;
 use std::alloc::Allocator;
 
-/// Where the reactions of a router's machines go: the rows that they choose, and what they send.
+// A machine sends at most one message more than it has ports, of which there are at most 32.
+const KEPT_ROOM: usize = 33;
+
+/// Where the reactions of a router's machines go: the rows that they choose, and what they send. There is
+/// always room for what one machine sends, and to hold as much where nothing is held.
 #[derive(Drop)]
 pub struct Effects<A: Allocator> {
     pub table: RouteTable<A>,
     pub gate: Gate<A>,
     // What the present machine sends; between calls its content is of no matter.
     pub sends: Sends<A>,
+    ghost sends_fit: { kept_room ≤ sends.capacity },
+    ghost gate_fits: { kept_room ≤ gate.room + length gate.gate.held },
 }
 
 // The session that the router's notices said last of a port.
@@ -84,19 +91,30 @@ fn hold_all<A: Allocator>(gate: &mut Gate<A>, ports: &[Port], prefix: Prefix, se
 }
 
 impl<A: SmallAllocator> Effects<A> {
-    /// Room for `each` messages of one reaction, and for `all` messages to be held.
-    pub fn reserve(&mut self, each: usize, all: usize) -> Result<(), NoMemory>
+    ghost use Rattle.router_core.specs.Effects.{HasRoomFor, KeepsEffectsRoom};
+
+    /// The effects of no reaction yet, with these rows.
+    pub fn new(alloc: A, table: RouteTable<A>) -> Result<Effects<A>, NoMemory>
+        ensures table { IfOk result (λ e. e.table ≡ table) }
+        ensures gate { IfOk result (λ e. e.gate.gate ≡ empty) }
+    {
+        let mut gate = Gate::new(alloc);
+        let mut sends = Sends::new(alloc);
+        gate.reserve(KEPT_ROOM)?;
+        sends.reserve(KEPT_ROOM)?;
+        Ok(Effects { table, gate, sends })
+    }
+
+    /// Room for this many messages more to be held.
+    pub fn reserve(&mut self, count: usize) -> Result<(), NoMemory>
         ensures table { self.new.table ≡ self.old.table }
         ensures gate { self.new.gate.gate ≡ self.old.gate.gate }
-        ensures sends { OnOk result (each ≤ self.new.sends.capacity) }
-        ensures room { OnOk result (all ≤ self.new.gate.room) }
+        ensures sends { kept_room ≤ self.new.sends.capacity }
+        ensures room { OnOk result (count ≤ self.new.gate.room) }
         ensures fits { OnOk result (self.new.gate.room < 2 ^ 63) }
-        ensures full { OnErr result ((self.old.sends.capacity < each)
-            ⊎ (self.old.gate.room < all)) }
+        ensures full { OnErr result (self.old.gate.room < count) }
     {
-        self.sends.clear();
-        self.sends.reserve(each)?;
-        self.gate.reserve(all)
+        self.gate.reserve(count)
     }
 
     /// A machine meets an event: its row is set, and what it sends is held.

@@ -1,6 +1,6 @@
 //! The router.
 
-ghost use Rattle.std.specs.Prelude.{◌≡◌, ◌+◌, ◌^◌, ◌<◌, ◌≤◌, ◌↔◌, map, length, take, true, Some, None, IsTrue, IfOk, IfSome, OnOk, OnErr, OnSome, IfNone, slice_get, slice_set, is_none, option_map};
+ghost use Rattle.std.specs.Prelude.{◌≡◌, ◌+◌, ◌^◌, ◌<◌, ◌≤◌, ◌↔◌, map, length, true, Some, None, IsTrue, IfOk, IfSome, OnOk, OnErr, OnSome, IfNone, slice_get, slice_set, is_none, option_map};
 ghost use Rattle.std.specs.List.{list_all};
 ghost use Rattle.std.specs.FinMap.{find as row_of, put, is_sorted};
 ghost use Rattle.std.specs.Option.{option_copied};
@@ -14,15 +14,15 @@ ghost use Rattle.dual_machine.specs.Event.{port_of, IsKnown, IsTimely};
 ghost use Rattle.route_table.specs.Place.{IsPlace, without};
 ghost use Rattle.router_core.specs.Alone.{router_publishing_some, may_forget, router_forgetting};
 ghost use Rattle.router_core.specs.Parts.{ups_after, port_ups, IsRouter};
+ghost use Rattle.router_core.specs.Room.{ItemNeedsMemory, MeetingNeedsMemory, NoticeNeedsMemory};
 ghost use Rattle.router_core.specs.Router.{CanTake, is_port_up};
 
 use crate::effects::{Effects, meet_all};
 use crate::knowledge::knows_nothing;
-use dual_machine::{Machine, Sends};
+use dual_machine::Machine;
 use network_model::{
     Cost, Entry, Event, Held, Item, NoMemory, Port, PortInfo, Prefix, SmallAllocator,
 };
-use release_gate::Gate;
 use route_table::RouteTable;
 use std::alloc::{AllocError, Allocator, Global};
 use std::marker::Model;
@@ -131,14 +131,11 @@ impl<A: SmallAllocator> Router<A> {
             table.set(attachment.0, Entry::Local)?;
         }
         table.mark_published();
+        let effects = Effects::new(alloc, table)?;
         Ok(Router {
             ports,
             machines,
-            effects: Effects {
-                table,
-                gate: Gate::new(alloc),
-                sends: Sends::new(alloc),
-            },
+            effects,
             generation: 0,
         })
     }
@@ -216,20 +213,6 @@ impl<A: SmallAllocator> Router<A> {
             return Ok(Vec::new(alloc));
         }
         let rows = changed.collect(alloc)?;
-        Ok(rows)
-    }
-
-    /// The rows that `publish_some` would put in force: the first `count` of those of `patch_rows`, and
-    /// all of them where there are no more.
-    pub fn first_patch_rows(
-        &self,
-        alloc: A,
-        count: usize,
-    ) -> Result<Vec<(Prefix, Entry), A>, NoMemory>
-        ensures { IfOk result (λ rows. rows.items
-            ≡ take count (step.changed_rows (self.now).table)) }
-    {
-        let rows = self.effects.table.changed().take(count).collect(alloc)?;
         Ok(rows)
     }
 
@@ -315,12 +298,14 @@ impl<A: SmallAllocator> Router<A> {
 
     /// Takes an item from a port. A notice changes the port, and each machine meets it, in the order of
     /// the prefixes; a message meets the machine of its prefix, which is opened over the ports where it
-    /// is the first to name that prefix. All growth is made first: refused, the router stays as it was.
+    /// is the first to name that prefix. All growth is made first: refused, the router stays as it was. A
+    /// message of a prefix that was heard of is never refused while nothing is held back.
     pub fn accept(&mut self, port: u8, item: &Item) -> Result<(), NoMemory>
         requires known { port < length (self.old).ports }
         requires timely { CanTake (self.old).ports port item.now }
         ensures ok { OnOk result (self.new ≡ step.router_accepting port item.now self.old) }
         ensures err { OnErr result (self.new ≡ self.old) }
+        ensures memory { OnErr result (ItemNeedsMemory item.now self.old) }
     {
         let was = self.ports[usize::from(port)];
         match *item {
@@ -358,6 +343,7 @@ impl<A: SmallAllocator> Router<A> {
         ensures ok { OnOk result (self.new
             ≡ step.router_at_home (record { prefix = prefix; cost = cost }) self.old) }
         ensures err { OnErr result (self.new ≡ self.old) }
+        ensures memory { OnErr result (MeetingNeedsMemory prefix self.old) }
     {
         let event = match cost {
             Some(cost) => Event::Attached { cost },
@@ -376,11 +362,12 @@ impl<A: SmallAllocator> Router<A> {
         ensures ok { OnOk result (self.new
             ≡ step.router_noticing event.now (slice_set (self.old).ports port changed) self.old) }
         ensures err { OnErr result (self.new ≡ self.old) }
+        ensures memory { OnErr result (NoticeNeedsMemory self.old) }
     {
         // A machine sends at most one message more than it has ports.
-        let each = self.ports.len() + 1;
+        let each = self.port_count() + 1;
         let all = self.machines.len().saturating_mul(each);
-        self.effects.reserve(each, all)?;
+        self.effects.reserve(all)?;
         self.ports[usize::from(port)] = changed;
         meet_all(
             &mut self.machines,
@@ -401,11 +388,12 @@ impl<A: SmallAllocator> Router<A> {
             ≡ port_ups (self.old).ports }
         ensures ok { OnOk result (self.new ≡ step.router_meeting prefix event.now self.old) }
         ensures err { OnErr result (self.new ≡ self.old) }
+        ensures memory { OnErr result (MeetingNeedsMemory prefix self.old) }
     {
-        let each = self.ports.len() + 1;
+        let each = self.port_count() + 1;
         match place_of(&self.machines, prefix) {
             Ok(place) => {
-                self.effects.reserve(each, each)?;
+                self.effects.reserve(each)?;
                 let row = &mut self.machines[place];
                 self.effects.meet(&mut row.1, event, prefix, &self.ports);
             }
@@ -413,7 +401,7 @@ impl<A: SmallAllocator> Router<A> {
                 let mut machine = self.open_machine()?;
                 self.machines.reserve(1)?;
                 self.effects.table.reserve(1)?;
-                self.effects.reserve(each, each)?;
+                self.effects.reserve(each)?;
                 self.effects.meet(&mut machine, event, prefix, &self.ports);
                 self.machines.insert(place, (prefix, machine)).unwrap();
             }

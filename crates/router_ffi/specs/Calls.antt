@@ -1,15 +1,15 @@
 -- What the calls answer, by the router that a handle holds, and what they leave.
-use Rattle.std.specs.Prelude.{◌≡◌, ◌≢◌, ℕ, List, length, if◌then◌else◌, is_some, Option, Some, None, option_map, Result, Ok, Err}
+use Rattle.std.specs.Prelude.{◌≡◌, ◌≢◌, ◌⊎◌, ℕ, List, length, if◌then◌else◌, is_some, Option, Some, None, option_map, Result, Ok, Err, IfOk, IfSome}
 use Rattle.ipv4_prefix.specs.Prefix.{Prefix}
 use Rattle.network_model.specs.Step.{ripe_front}
 use Rattle.network_model.specs.World.{Router}
-use Rattle.c_interface.specs.Faults.{first_of, IsStatusBy}
+use Rattle.c_interface.specs.Faults.{fault_number, first_of}
 use Rattle.c_interface.specs.Rows.{prefix_fault}
 use Rattle.c_interface.specs.declared.fault.Fault.{Fault}
-use Rattle.c_interface.specs.declared.fault.Fault.TheVariants.{Empty, NothingRipe, UnknownPrefix}
+use Rattle.c_interface.specs.declared.fault.Fault.TheVariants.{Empty, NoMemory, NothingRipe, UnknownPrefix}
 use Rattle.c_interface.specs.declared.row.Row.{Row}
 use Rattle.single_router.specs.Bounded.{BoundedRouter, bounded_fault, with_router}
-use Rattle.single_router.specs.Inputs.{router_after}
+use Rattle.single_router.specs.Inputs.{router_after, InputNeedsMemory}
 use Rattle.single_router.specs.Publishing.{IsWrittenOver, has_more, rows_given, router_given, forget_fault}
 use Rattle.single_router.specs.States.{flag, shown_state}
 use Rattle.single_router.specs.declared.input.Input.{Input}
@@ -29,9 +29,18 @@ abbrev pub told : Result Input Fault → Option BoundedRouter → Option Bounded
 told (Err f) held = held
 told (Ok input) held = option_map (with_router (router_after input)) held
 
+-- the router of a handle may need memory for what was read
+abbrev pub ReadNeedsMemory : Result Input Fault → Option BoundedRouter → Type 0
+ReadNeedsMemory read held = IfOk read (λ input. IfSome held (λ b. InputNeedsMemory input b.router))
+
+-- what a call answers, by what its tests find: that, or else done, or want of memory where it may need some
+abbrev pub IsStatusOnlyBy : Option Fault → Type 0 → ℕ → Type 0
+IsStatusOnlyBy (Some f) needs status = status ≡ fault_number f
+IsStatusOnlyBy None needs status = (status ≡ 0) ⊎ ((status ≡ fault_number NoMemory) × needs)
+
 -- a router is told what was read: the status, and what its handle holds before and after
 pub record IsTold (read : Result Input Fault) (old new : Option BoundedRouter) (status : ℕ) : Type 0 where
-  pub answers : IsStatusBy (tell_fault read old) status
+  pub answers : IsStatusOnlyBy (tell_fault read old) (ReadNeedsMemory read old) status
   pub done : status ≡ 0 → new ≡ told read old
   pub refused : status ≢ 0 → new ≡ old
 

@@ -14,7 +14,7 @@ ghost use Rattle.single_router.specs.Bounded.{bounded_make_fault, bounded_router
 ghost use Rattle.single_router.specs.Publishing.{publish_fault, router_given, room_fault};
 ghost use Rattle.single_router.specs.States.{counts_of, flag, shown_state};
 ghost use Rattle.router_ffi.specs.Handles.{handle_router};
-ghost use Rattle.router_ffi.specs.Calls.{held_fault, tell_fault, told, release_fault, state_fault, forget_call_fault, as_prefix, IsTold, IsPublished, IsListed};
+ghost use Rattle.router_ffi.specs.Calls.{IsStatusOnlyBy, ReadNeedsMemory, held_fault, tell_fault, told, release_fault, state_fault, forget_call_fault, as_prefix, IsTold, IsPublished, IsListed};
 
 use c_interface::{Fault, Row, read_prefix, status};
 use single_router::{Attachment, Counts, Frame, Input, Published, SingleRouter, State};
@@ -64,12 +64,13 @@ pub extern "C" fn tuhvondi_router_new(
 
 // Tells the router of a handle what was read.
 fn tell(alloc: Global, router: &mut RouterHandle, read: Result<Input, Fault>) -> Result<(), Fault>
-    ensures ok { OnOk result (IsStatusBy (tell_fault read (handle_router router.old)) 0) }
+    ensures ok { OnOk result (IsStatusOnlyBy (tell_fault read (handle_router router.old))
+        (ReadNeedsMemory read (handle_router router.old)) 0) }
     ensures told { OnOk result (handle_router router.new
         ≡ told read (handle_router router.old)) }
     ensures unchanged { OnErr result (handle_router router.new ≡ handle_router router.old) }
-    ensures err { IfErr result (λ f.
-        IsStatusBy (tell_fault read (handle_router router.old)) (fault_number f)) }
+    ensures err { IfErr result (λ f. IsStatusOnlyBy (tell_fault read (handle_router router.old))
+        (ReadNeedsMemory read (handle_router router.old)) (fault_number f)) }
 {
     let input = read?;
     let Some(mut held) = router.take(alloc) else {

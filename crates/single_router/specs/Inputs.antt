@@ -11,6 +11,7 @@ use Rattle.network_model.specs.World.{Router, machine_of}
 use Rattle.network_model.specs.Machine.{Computation, is_port}
 use Rattle.network_model.specs.Step.{router_accepting, router_at_home, session_at}
 use Rattle.dual_machine.specs.State.{awaits_at}
+use Rattle.router_core.specs.Room.{MeetingNeedsMemory, NoticeNeedsMemory}
 use Rattle.c_interface.specs.Faults.{first_of}
 use Rattle.c_interface.specs.Rows.{prefix_fault}
 use Rattle.c_interface.specs.declared.fault.Fault.{Fault}
@@ -123,3 +124,17 @@ router_after (input.Detached p) r = router_at_home (record { prefix = p; cost = 
 abbrev pub IsRefusedBy : Option Fault → Fault → Type 0
 IsRefusedBy (Some f) fault = fault ≡ f
 IsRefusedBy None fault = fault ≡ NoMemory
+
+-- the same of a call that may need memory only if this is so
+abbrev pub IsRefusedOnlyBy : Option Fault → Type 0 → Fault → Type 0
+IsRefusedOnlyBy (Some f) needs fault = fault ≡ f
+IsRefusedOnlyBy None needs fault = (fault ≡ NoMemory) × needs
+
+-- an input may need memory
+abbrev pub InputNeedsMemory : Input → Router → Type 0
+InputNeedsMemory (input.Up port session cost) r = NoticeNeedsMemory r
+InputNeedsMemory (input.Down port) r = NoticeNeedsMemory r
+InputNeedsMemory (input.Cost port cost) r = NoticeNeedsMemory r
+InputNeedsMemory (input.Message port session m) r = MeetingNeedsMemory m.prefix r
+InputNeedsMemory (input.Attached p cost) r = MeetingNeedsMemory p r
+InputNeedsMemory (input.Detached p) r = MeetingNeedsMemory p r

@@ -6,8 +6,9 @@ ghost use Rattle.single_router.specs.Frames.{frame_of};
 ghost use Rattle.dual_machine.specs.State.{awaits_at};
 ghost use Rattle.network_model.specs.World.{machine_of};
 ghost use Rattle.router_core.specs.Alone.{router_forgetting, router_publishing_some};
+ghost use Rattle.router_core.specs.Room.{MeetingNeedsMemory, NoticeNeedsMemory};
 ghost use Rattle.single_router.specs.Bounded.{bounded_fault, bounded_make_fault, bounded_router, crowd_fault, with_router};
-ghost use Rattle.single_router.specs.Inputs.{told_fault, router_after, port_fault, down_fault, kind_fault, owes_at, attachment_of, IsRefusedBy};
+ghost use Rattle.single_router.specs.Inputs.{told_fault, router_after, port_fault, down_fault, kind_fault, owes_at, attachment_of, IsRefusedBy, IsRefusedOnlyBy, InputNeedsMemory};
 ghost use Rattle.single_router.specs.Publishing.{publish_fault, has_more, rows_given, router_given, forget_fault, room_fault, IsWrittenOver};
 ghost use Rattle.single_router.specs.States.{counts_of, shown_state};
 
@@ -78,12 +79,14 @@ impl SingleRouter {
     /// Takes an input. 11: there is no such port. 13, 14: its link is up, or is down. 29: the router is
     /// not attached to the prefix. 36: the session is not later than the last, or the message is of
     /// another session. 38: a reply that the router does not await. 39: a query while it owes the reply to
-    /// the one before. 27: a prefix more than it may know. 20: memory was refused.
+    /// the one before. 27: a prefix more than it may know. 20: memory was refused; no message of a prefix that
+    /// it has heard of is refused for that while nothing is held.
     pub fn tell(&mut self, input: &Input) -> Result<(), Fault>
         ensures ok { OnOk result ((bounded_fault input.now self.old ≡ None)
             × (self.new ≡ with_router (router_after input.now) self.old)) }
         ensures err { OnErr result (self.new ≡ self.old) }
-        ensures cause { IfErr result (IsRefusedBy (bounded_fault input.now self.old)) }
+        ensures cause { IfErr result (IsRefusedOnlyBy (bounded_fault input.now self.old)
+            (InputNeedsMemory input.now (self.old).router)) }
     {
         match *input {
             Input::Up {
@@ -111,8 +114,9 @@ impl SingleRouter {
         ensures ok { OnOk result ((told_fault (Input.Up port session cost) (self.old).router ≡ None)
             × (self.new ≡ with_router (router_after (Input.Up port session cost)) self.old)) }
         ensures err { OnErr result (self.new ≡ self.old) }
-        ensures cause { IfErr result (IsRefusedBy
-            (told_fault (Input.Up port session cost) (self.old).router)) }
+        ensures cause { IfErr result (IsRefusedOnlyBy
+            (told_fault (Input.Up port session cost) (self.old).router)
+            (NoticeNeedsMemory (self.old).router)) }
     {
         let was = self.router.port(port).ok_or(Fault::UnknownPort)?;
         if was.up {
@@ -129,7 +133,9 @@ impl SingleRouter {
         ensures ok { OnOk result ((told_fault (Input.Down port) (self.old).router ≡ None)
             × (self.new ≡ with_router (router_after (Input.Down port)) self.old)) }
         ensures err { OnErr result (self.new ≡ self.old) }
-        ensures cause { IfErr result (IsRefusedBy (told_fault (Input.Down port) (self.old).router)) }
+        ensures cause { IfErr result (IsRefusedOnlyBy
+            (told_fault (Input.Down port) (self.old).router)
+            (NoticeNeedsMemory (self.old).router)) }
     {
         let was = self.port_that_is_up(port)?;
         let session = was.session;
@@ -141,7 +147,9 @@ impl SingleRouter {
         ensures ok { OnOk result ((told_fault (Input.Cost port cost) (self.old).router ≡ None)
             × (self.new ≡ with_router (router_after (Input.Cost port cost)) self.old)) }
         ensures err { OnErr result (self.new ≡ self.old) }
-        ensures cause { IfErr result (IsRefusedBy (told_fault (Input.Cost port cost) (self.old).router)) }
+        ensures cause { IfErr result (IsRefusedOnlyBy
+            (told_fault (Input.Cost port cost) (self.old).router)
+            (NoticeNeedsMemory (self.old).router)) }
     {
         let was = self.port_that_is_up(port)?;
         let session = was.session;
@@ -154,8 +162,9 @@ impl SingleRouter {
             × (self.new ≡ with_router
             (router_after (Input.Message port session message)) self.old)) }
         ensures err { OnErr result (self.new ≡ self.old) }
-        ensures cause { IfErr result (IsRefusedBy
-            (bounded_fault (Input.Message port session message) self.old)) }
+        ensures cause { IfErr result (IsRefusedOnlyBy
+            (bounded_fault (Input.Message port session message) self.old)
+            (MeetingNeedsMemory message.prefix (self.old).router)) }
     {
         let was = self.port_that_is_up(port)?;
         if was.session != session {
@@ -217,7 +226,9 @@ impl SingleRouter {
         ensures ok { OnOk result ((told_fault (Input.Detached prefix) (self.old).router ≡ None)
             × (self.new ≡ with_router (router_after (Input.Detached prefix)) self.old)) }
         ensures err { OnErr result (self.new ≡ self.old) }
-        ensures cause { IfErr result (IsRefusedBy (told_fault (Input.Detached prefix) (self.old).router)) }
+        ensures cause { IfErr result (IsRefusedOnlyBy
+            (told_fault (Input.Detached prefix) (self.old).router)
+            (MeetingNeedsMemory prefix (self.old).router)) }
     {
         if !self.is_attached(prefix) {
             return Err(Fault::NotAttached);

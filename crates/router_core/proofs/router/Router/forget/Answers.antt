@@ -12,7 +12,7 @@ use Rattle.router_core.proofs.router.Router.forget.Goals as goal
 pub remove_machine-requires : goal.remove_machine-requires
 remove_machine-requires g c = sym (sorted-map prefix_cmp (λ s. s.machine) c.self.inside.machines.items) ∙ c.self.invariant.sorted
 
-module _ (g : given.Over) (c : goal.After-forget g) where
+module _ (g : given.Over) (c : goal.After-self-1 g) where
   abbrev before : Router
   before = router_of c.self.inside.ports.items c.self.inside.machines.items c.self.inside.effects.table.table c.self.inside.effects.gate.gate c.self.inside.generation
 

@@ -46,7 +46,7 @@ invariant_of-result g c =
       few = c.requires;
       sorted = ap (is_sorted prefix_cmp) machines ∙ kept.sorted;
       same_ports = subst (AllByRecursion (HasPorts ports)) (sym machines) kept.same_ports;
-      rows = ap (λ t. t.control) c.mark_published.ensures.table ∙ control ∙ kept.rows ∙ ap (chosen_rows ports) (sym machines);
+      rows = ap (λ t. t.table.control) c.in_ok-effects.ensures.table ∙ ap (λ t. t.control) c.mark_published.ensures.table ∙ control ∙ kept.rows ∙ ap (chosen_rows ports) (sym machines);
     }
 
 pub returns : goal.returns
@@ -58,6 +58,6 @@ returns g c =
     let control : c.loop-i.table.table.control ≡ local_rows costs = c.loop-i.invariant.control ∙ ap (λ n. local_rows (rows_of (drop n c.args.attachments.now))) over in
     let parts : List (Prefix × Machine) → Table → Gate → Router = λ ms t g. record { ports = ports; machines = ms; table = t; gate = g; generation = 0 } in
     let in_force : List (Prefix × Entry) → Table = λ rows. record { control = rows; published = rows } in
-    ap (λ ms. parts ms c.mark_published.new.self.table c.new-2.result.gate) machines
-    ∙ ap (λ t. parts (opening_machines ports costs) t c.new-2.result.gate) (c.mark_published.ensures.table ∙ ap in_force control)
-    ∙ ap (parts (opening_machines ports costs) (in_force (local_rows costs))) c.new-2.ensures
+    ap (λ ms. parts ms c.in_ok-effects.effects.table.table c.in_ok-effects.effects.gate.gate) machines
+    ∙ ap (λ t. parts (opening_machines ports costs) t c.in_ok-effects.effects.gate.gate) (ap (λ t. t.table) c.in_ok-effects.ensures.table ∙ c.mark_published.ensures.table ∙ ap in_force control)
+    ∙ ap (parts (opening_machines ports costs) (in_force (local_rows costs))) c.in_ok-effects.ensures.gate

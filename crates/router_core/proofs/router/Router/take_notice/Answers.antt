@@ -28,8 +28,8 @@ meet_all-requires-clause-timely g c =
 
 pub meet_all-requires-clause-each : goal.meet_all-requires-clause-each
 meet_all-requires-clause-each g c =
-    let ports : c.len-each.result ≡ length c.self.inside.ports.items = c.len-each.ensures ∙ c.self.inside.ports.ok.0 in
-    subst (λ (ms : List (Prefix × MachineState)). (k : ℕ) → (d : Prefix × MachineState) → k < length ms → most_sent ((get_or ms k d).1).machine.ports ≤ c.len-each.result + 1) (sym c.deref_mut.ensures.value)
+    let ports : c.port_count-each.result ≡ length c.self.inside.ports.items = c.port_count-each.ensures.count ∙ sym (ap (λ (r : Router). length r.ports) c.self.view_is) in
+    subst (λ (ms : List (Prefix × MachineState)). (k : ℕ) → (d : Prefix × MachineState) → k < length ms → most_sent ((get_or ms k d).1).machine.ports ≤ c.port_count-each.result + 1) (sym c.deref_mut.ensures.value)
     (λ k d h.
     let few : most_sent ((get_or c.self.inside.machines.items k d).1).machine.ports ≤ length c.self.inside.ports.items + 1
     = most_sent_over _ c.self.inside.ports.items (has_ports_at c.self.inside.ports.items c.self.inside.machines.items c.self.invariant.same_ports k d h) in
@@ -94,5 +94,5 @@ bounded product all room is below few = grind arith
 pub meet_all-requires-clause-gate : goal.meet_all-requires-clause-gate
 meet_all-requires-clause-gate g c =
     let machines : length c.deref_mut.result.now ≡ c.len.result = ap length c.deref_mut.ensures.value ∙ sym (c.len.ensures ∙ c.self.inside.machines.ok.0) in
-    subst (λ n. n * (c.len-each.result + 1) ≤ c.reserve.new.self.gate.room) (sym machines)
+    subst (λ n. n * (c.port_count-each.result + 1) ≤ c.reserve.new.self.gate.room) (sym machines)
     (bounded _ c.saturating_mul-all.result c.reserve.new.self.gate.room c.saturating_mul-all.ensures c.in_ok-reserve.ensures.room c.in_ok-reserve.ensures.fits)

@@ -1,5 +1,5 @@
-use Rattle.std.proofs.Common.{◌≡◌, ◌+◌, ◌≤◌, ◌++◌, true, None, length, set, List, Ok, Err, Some, sym, ap, subst, ◌∙◌, arith, refl, false, Bool, ◌||◌, nat_lt, map, is_some}
-use Rattle.network_model.proofs.Common.{nat_tests, Prefix, prefix_cmp, reaction, opening_machine, Router, machine_of, neighbours, router_meeting, entry_of, held_of, sorted-map}
+use Rattle.std.proofs.Common.{◌≡◌, ℕ, inl, option_map, ◌+◌, ◌≤◌, ◌++◌, true, None, length, set, List, Ok, Err, Some, sym, ap, subst, ◌∙◌, arith, refl, false, Bool, ◌||◌, nat_lt, map, is_some}
+use Rattle.network_model.proofs.Common.{nat_tests, Prefix, prefix_cmp, reaction, opening_machine, Router, machine_of, neighbours, router_meeting, entry_of, held_of, sorted-map, find-map}
 use Rattle.std.specs.List.{insert}
 use Rattle.std.specs.FinMap.{find as row_of, put, is_sorted}
 use Rattle.network_model.specs.declared.network.Port.{Port}
@@ -54,11 +54,12 @@ meet-requires-clause-timely g c =
 pub meet-requires-clause-room : goal.meet-requires-clause-room
 meet-requires-clause-room g c =
     let few : most_sent ((row g c).1).machine.ports ≤ length c.self.inside.ports.items + 1 = most_sent_over _ c.self.inside.ports.items (same_ports g c) in
-    let ports : c.len-each.result ≡ length c.self.inside.ports.items = c.len-each.ensures ∙ c.self.inside.ports.ok.0 in
-    let sends : c.len-each.result + 1 ≤ c.reserve.new.self.sends.capacity = c.in_ok-reserve-in-Ok.ensures.sends in
-    let room : c.len-each.result + 1 ≤ c.reserve.new.self.gate.room = c.in_ok-reserve-in-Ok.ensures.room in
+    let ports : c.port_count-each.result ≡ length c.self.inside.ports.items = c.port_count-each.ensures.count ∙ sym (ap (λ (r : Router). length r.ports) c.self.view_is) in
+    let fit : c.port_count-each.result ≤ 32 = c.port_count-each.ensures.few in
+    let sends : 33 ≤ c.reserve.new.self.sends.capacity = c.reserve.ensures.sends in
+    let room : c.port_count-each.result + 1 ≤ c.reserve.new.self.gate.room = c.in_ok-reserve-in-Ok.ensures.room in
     record {
-      sends = omega (arith, few, ports, sends);
+      sends = omega (arith, few, ports, fit, sends);
       gate = omega (arith, few, ports, room);
       table = ap (λ b. b || nat_lt 0 c.reserve.new.self.table.room)
           (subst (λ rows. is_some (row_of prefix_cmp c.args.prefix rows) ≡ true) (sym (ap (λ t. t.table.control) c.reserve.ensures.table ∙ c.self.invariant.rows))
@@ -161,6 +162,10 @@ returns-in_ok-reserve-in-Err-3-clause-ok g c = told_first g c ∙ ap (router_mee
 
 -- ---- a machine that is opened, and finds no room
 
+-- a prefix whose place has no machine was not heard of
+unheard_of : (p : Prefix) (items : List (Prefix × MachineState)) (place : ℕ) (r : Router) → machines_of items ≡ r.machines → IsPlace p items (Err place) → row_of prefix_cmp p r.machines ≡ None
+unheard_of p items place r is at = ap (row_of prefix_cmp p) (sym is) ∙ find-map prefix_cmp (λ (s : MachineState). s.machine) p items ∙ ap (option_map (λ (s : MachineState). s.machine)) (missed_row items place p at)
+
 pub returns-in_err-reserve-in-Err-clause-err : goal.returns-in_err-reserve-in-Err-clause-err
 returns-in_err-reserve-in-Err-clause-err g c =
     let i = c.self.inside in
@@ -194,13 +199,38 @@ pub meet-requires-in-Err-clause-room : goal.meet-requires-in-Err-clause-room
 meet-requires-in-Err-clause-room g c =
     let few : most_sent c.in_ok-machine-in-Err.machine.machine.ports ≤ length c.args.self.now.ports + 1
     = most_sent_over c.in_ok-machine-in-Err.machine.machine.ports c.args.self.now.ports (ap (λ m. ups m.ports) c.in_ok-machine-in-Err.ensures ∙ ups-neighbours c.args.self.now.ports) in
-    let ports : c.len-each.result ≡ length c.args.self.now.ports = c.len-each.ensures ∙ c.self.inside.ports.ok.0 ∙ ap (λ (r : Router). length r.ports) c.self.view_is in
-    let sends : c.len-each.result + 1 ≤ c.reserve-in-Err-3.new.self.sends.capacity = c.in_ok-reserve-in-Err-3.ensures.sends in
-    let room : c.len-each.result + 1 ≤ c.reserve-in-Err-3.new.self.gate.room = c.in_ok-reserve-in-Err-3.ensures.room in
+    let ports : c.port_count-each.result ≡ length c.args.self.now.ports = c.port_count-each.ensures.count in
+    let fit : c.port_count-each.result ≤ 32 = c.port_count-each.ensures.few in
+    let sends : 33 ≤ c.reserve-in-Err-3.new.self.sends.capacity = c.reserve-in-Err-3.ensures.sends in
+    let room : c.port_count-each.result + 1 ≤ c.reserve-in-Err-3.new.self.gate.room = c.in_ok-reserve-in-Err-3.ensures.room in
     let one : 1 ≤ c.reserve-in-Err-3.new.self.table.room = subst (λ t. 1 ≤ t.room) (sym c.reserve-in-Err-3.ensures.table) c.in_ok-reserve-in-Err-2.ensures.ok in
     let some : nat_lt 0 c.reserve-in-Err-3.new.self.table.room ≡ true = grind (arith, nat_tests) in
     record {
-      sends = omega (arith, few, ports, sends);
+      sends = omega (arith, few, ports, fit, sends);
       gate = omega (arith, few, ports, room);
       table = ap (λ b. is_some (row_of prefix_cmp c.args.prefix c.reserve-in-Err-3.new.self.table.table.control) || b) some ∙ or_with_true _;
     }
+
+pub returns-in_err-machine-in-Err-clause-memory : goal.returns-in_err-machine-in-Err-clause-memory
+returns-in_err-machine-in-Err-clause-memory g c =
+    gave_up c.from_residual-in_err-machine-in-Err.result
+    (inl (unheard_of c.args.prefix c.self.inside.machines.items c.in-Err.place c.args.self.now (ap (λ (r : Router). r.machines) c.self.view_is)
+    (subst (λ xs. IsPlace c.args.prefix xs (Err c.in-Err.place)) c.deref.ensures.value c.in-Err.ensures)))
+
+pub returns-in_err-reserve-in-Err-clause-memory : goal.returns-in_err-reserve-in-Err-clause-memory
+returns-in_err-reserve-in-Err-clause-memory g c =
+    gave_up c.from_residual-in_err-reserve-in-Err.result
+    (inl (unheard_of c.args.prefix c.self.inside.machines.items c.in-Err.place c.args.self.now (ap (λ (r : Router). r.machines) c.self.view_is)
+    (subst (λ xs. IsPlace c.args.prefix xs (Err c.in-Err.place)) c.deref.ensures.value c.in-Err.ensures)))
+
+pub returns-in_err-reserve-in-Err-2-clause-memory : goal.returns-in_err-reserve-in-Err-2-clause-memory
+returns-in_err-reserve-in-Err-2-clause-memory g c =
+    gave_up c.from_residual-in_err-reserve-in-Err-2.result
+    (inl (unheard_of c.args.prefix c.self.inside.machines.items c.in-Err.place c.args.self.now (ap (λ (r : Router). r.machines) c.self.view_is)
+    (subst (λ xs. IsPlace c.args.prefix xs (Err c.in-Err.place)) c.deref.ensures.value c.in-Err.ensures)))
+
+pub returns-in_err-reserve-in-Err-3-clause-memory : goal.returns-in_err-reserve-in-Err-3-clause-memory
+returns-in_err-reserve-in-Err-3-clause-memory g c =
+    gave_up c.from_residual-in_err-reserve-in-Err-3.result
+    (inl (unheard_of c.args.prefix c.self.inside.machines.items c.in-Err.place c.args.self.now (ap (λ (r : Router). r.machines) c.self.view_is)
+    (subst (λ xs. IsPlace c.args.prefix xs (Err c.in-Err.place)) c.deref.ensures.value c.in-Err.ensures)))
