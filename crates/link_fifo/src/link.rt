@@ -29,7 +29,7 @@ pub(crate) struct Link<S: Allocator> {
 }
 
 impl<S: Allocator> Model for Link<S> {
-    ghost use Rattle.link_fifo.specs.Side.{LinkAndRoom, side_of, room_of};
+    ghost use Rattle.link_fifo.specs.Side.{CanGoDown, LinkAndRoom, side_of, room_of};
 
     ghost Value = { LinkAndRoom };
 
@@ -37,6 +37,8 @@ impl<S: Allocator> Model for Link<S> {
       link = record { up = k.up; session = k.session; a = side_of k.a; b = side_of k.b };
       room = record { to_a = room_of k.a; to_b = room_of k.b };
     } };
+
+    ghost invariant = { λ k. CanGoDown k.up (record { to_a = room_of k.a; to_b = room_of k.b }) };
 }
 
 fn is_notice(item: &Item) -> bool
@@ -84,24 +86,28 @@ impl<S: Allocator> Side<S> {
         self.queue(Item::Down { session });
     }
 
+    // Puts an item, and leaves room for one more: that the link went down.
     fn put(&mut self, item: Item) -> Result<(), AllocError>
         ensures ok { OnOk result (side_of self.new ≡ step.with_item item (side_of self.old)) }
         ensures err { OnErr result (side_of self.new ≡ side_of self.old) }
-        ensures full { OnErr result (room_of self.old ≡ 0) }
+        ensures full { OnErr result (room_of self.old ≤ 1) }
+        ensures spare { OnOk result (0 < room_of self.new) }
         ensures room { room_of self.old ≤ room_of self.new + 1 }
+        ensures kept { OnErr result (room_of self.old ≤ room_of self.new) }
     {
-        self.inbox.push_back(item)?;
+        self.reserve()?;
+        self.queue(item);
         Ok(())
     }
 
-    // Makes room for an item more.
+    // Makes room for an item, and for one more: that the link went down.
     fn reserve(&mut self) -> Result<(), AllocError>
         ensures side { side_of self.new ≡ side_of self.old }
-        ensures ok { OnOk result (0 < room_of self.new) }
-        ensures full { OnErr result (room_of self.old ≡ 0) }
+        ensures ok { OnOk result (1 < room_of self.new) }
+        ensures full { OnErr result (room_of self.old ≤ 1) }
         ensures room { room_of self.old ≤ room_of self.new }
     {
-        self.inbox.reserve(1)?;
+        self.inbox.reserve(2)?;
         Ok(())
     }
 
@@ -109,8 +115,10 @@ impl<S: Allocator> Side<S> {
         ensures ok { let changed = record (side_of self.old) { cost = cost } in
             OnOk result (side_of self.new ≡ step.with_item (Item.Cost session cost) changed) }
         ensures err { OnErr result (side_of self.new ≡ side_of self.old) }
-        ensures full { OnErr result (room_of self.old ≡ 0) }
+        ensures full { OnErr result (room_of self.old ≤ 1) }
+        ensures spare { OnOk result (0 < room_of self.new) }
         ensures room { room_of self.old ≤ room_of self.new + 1 }
+        ensures kept { OnErr result (room_of self.old ≤ room_of self.new) }
     {
         self.put(Item::Cost { session, cost })?;
         self.cost = cost;
@@ -189,11 +197,11 @@ impl<S: Allocator> Link<S> {
         self.side(to).inbox.get(place).copied()
     }
 
-    // Makes room for an item more towards each end.
+    // Makes room for an item towards each end, and for one more: that the link went down.
     fn reserve(&mut self) -> Result<(), AllocError>
         ensures link { self.new.link ≡ self.old.link }
-        ensures to_a { OnOk result (0 < self.new.room.to_a) }
-        ensures to_b { OnOk result (0 < self.new.room.to_b) }
+        ensures to_a { OnOk result (1 < self.new.room.to_a) }
+        ensures to_b { OnOk result (1 < self.new.room.to_b) }
         ensures full { OnErr result (IsFull self.old.room) }
         ensures room { KeepsRoom 0 self.old.room self.new.room }
     {
@@ -224,24 +232,22 @@ impl<S: Allocator> Link<S> {
         Ok(())
     }
 
-    pub(crate) fn go_down(&mut self) -> Result<(), AllocError>
-        ensures ok { OnOk result (self.new.link ≡ step.link_gone_down self.old.link) }
-        ensures err { OnErr result (self.new.link ≡ self.old.link) }
-        ensures full { OnErr result (IsFull self.old.room) }
+    // It takes no memory: there is room for that since the link came up.
+    pub(crate) fn go_down(&mut self)
+        requires { self.old.link.up ≡ true }
+        ensures link { self.new.link ≡ step.link_gone_down self.old.link }
         ensures room { KeepsRoom 1 self.old.room self.new.room }
     {
-        self.reserve()?;
         let session = self.session;
         self.a.cut(session);
         self.b.cut(session);
         self.up = false;
-        Ok(())
     }
 
     pub(crate) fn set_cost(&mut self, end: End, cost: Cost) -> Result<(), AllocError>
         ensures ok { OnOk result (self.new.link ≡ step.with_cost cost end self.old.link) }
         ensures err { OnErr result (self.new.link ≡ self.old.link) }
-        ensures full { OnErr result (room_to end self.old.room ≡ 0) }
+        ensures full { OnErr result (room_to end self.old.room ≤ 1) }
         ensures room { KeepsRoom 1 self.old.room self.new.room }
     {
         let session = self.session;
@@ -262,7 +268,7 @@ impl<S: Allocator> Link<S> {
         ensures ok { let held = sent_in session message in
             OnOk result (self.new.link ≡ step.with_message held from self.old.link) }
         ensures err { OnErr result (self.new.link ≡ self.old.link) }
-        ensures full { OnErr result (room_to (world.other from) self.old.room ≡ 0) }
+        ensures full { OnErr result (room_to (world.other from) self.old.room ≤ 1) }
         ensures room { KeepsRoom 1 self.old.room self.new.room }
     {
         let item = Item::Message(message);

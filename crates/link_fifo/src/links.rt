@@ -1,6 +1,6 @@
 //! The links of a network, by number.
 
-ghost use Rattle.std.specs.Prelude.{◌≡◌, ◌<◌, ◌↔◌, ◌⊎◌, [], IsTrue, map, length, slice_get, IfSome, IfOk, OnOk, OnErr, Err};
+ghost use Rattle.std.specs.Prelude.{◌≡◌, ◌<◌, ◌≤◌, ◌↔◌, ◌⊎◌, [], IsTrue, map, length, slice_get, IfSome, IfOk, IsOk, OnOk, OnErr, MatchOption, Err};
 ghost use Rattle.network_model.specs.Machine.{changed_at};
 ghost use Rattle.network_model.specs.World as world;
 ghost use Rattle.network_model.specs.Step as step;
@@ -111,15 +111,16 @@ impl<S: Allocator> Links<S> {
         self.links[usize::from(link)].item(to, place)
     }
 
-    /// The link comes up in its next session, and each end is told so with the cost from there. Refused
-    /// with `UnknownLink`, `AlreadyUp`, `SessionsSpent` and `NoMemory`, in this order.
+    /// The link comes up in its next session, and each end is told so with the cost from there. Room is made
+    /// to tell each end that it went down, too. Refused with `UnknownLink`, `AlreadyUp`, `SessionsSpent` and
+    /// `NoMemory`, in this order.
     pub fn up(&mut self, link: u16) -> Result<(), LinkRefusal>
         ensures ok { OnOk result (self.new.links
             ≡ changed_at link step.link_come_up self.old.links) }
         ensures err { OnErr result (self.new.links ≡ self.old.links) }
         ensures cause { IsDoneUnless (refusal_to_come_up self.old.links link) result }
-        ensures full { result ≡ Err OutOfMemory → (room_at self.old link A ≡ 0)
-            ⊎ (room_at self.old link B ≡ 0) }
+        ensures full { result ≡ Err OutOfMemory → (room_at self.old link A ≤ 1)
+            ⊎ (room_at self.old link B ≤ 1) }
         ensures room { KeepsRooms 1 self.old self.new }
     {
         if usize::from(link) >= self.len() {
@@ -135,15 +136,13 @@ impl<S: Allocator> Links<S> {
         Ok(())
     }
 
-    /// The link goes down: the messages on it are lost, the notices stay in order, and each end is told.
-    /// Refused with `UnknownLink`, `IsDown` and `NoMemory`, in this order.
+    /// The link goes down: the messages on it are lost, the notices stay in order, and each end is X
     pub fn down(&mut self, link: u16) -> Result<(), LinkRefusal>
         ensures ok { OnOk result (self.new.links
             ≡ changed_at link step.link_gone_down self.old.links) }
         ensures err { OnErr result (self.new.links ≡ self.old.links) }
-        ensures cause { IsDoneUnless (refusal_to_change self.old.links link) result }
-        ensures full { result ≡ Err OutOfMemory → (room_at self.old link A ≡ 0)
-            ⊎ (room_at self.old link B ≡ 0) }
+        ensures cause { MatchOption (refusal_to_change self.old.links link) (IsOk result)
+            (λ e. result ≡ Err e) }
         ensures room { KeepsRooms 1 self.old self.new }
     {
         if usize::from(link) >= self.len() {
@@ -152,7 +151,7 @@ impl<S: Allocator> Links<S> {
         if !self.is_up(link) {
             return Err(LinkRefusal::IsDown);
         }
-        self.links[usize::from(link)].go_down()?;
+        self.links[usize::from(link)].go_down();
         Ok(())
     }
 
@@ -163,7 +162,7 @@ impl<S: Allocator> Links<S> {
             ≡ changed_at link (step.with_cost cost end) self.old.links) }
         ensures err { OnErr result (self.new.links ≡ self.old.links) }
         ensures cause { IsDoneUnless (refusal_to_change self.old.links link) result }
-        ensures full { result ≡ Err OutOfMemory → room_at self.old link end ≡ 0 }
+        ensures full { result ≡ Err OutOfMemory → room_at self.old link end ≤ 1 }
         ensures room { KeepsRooms 1 self.old self.new }
     {
         if usize::from(link) >= self.len() {
@@ -200,7 +199,7 @@ impl<S: Allocator> Links<S> {
             (step.with_message held from) self.old.links) }
         ensures err { OnErr result (self.new.links ≡ self.old.links) }
         ensures answer { AnswersPut session (slice_get self.old.links link) result }
-        ensures full { result ≡ Err OutOfMemory → room_at self.old link (world.other from) ≡ 0 }
+        ensures full { result ≡ Err OutOfMemory → room_at self.old link (world.other from) ≤ 1 }
         ensures room { KeepsRooms 1 self.old self.new }
     {
         if usize::from(link) >= self.len() {

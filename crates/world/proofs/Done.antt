@@ -125,6 +125,19 @@ refused_by_link o e r is cause answer = subst (λ c. IsDoneOr c r) (sym is) (by_
     by_cause None full (Err x) answer = answer ∙ ap step_refusal full
     by_cause (Some d) same (Err x) answer = let inner : ◌≡◌ {A = Result (Unit {0}) LinkRefusal} (Err e) (Err d) = same in let is : e ≡ d = cc in ap (λ y. Err y) (answer ∙ ap step_refusal is)
 
+-- the same where the link takes no memory: what is not refused for a cause is done
+pub done_for_link : {c : Option Refusal} (o : Option LinkRefusal) (x : Unit {0}) → c ≡ option_map step_refusal o → o ≡ None → MatchOption c (true ≡ true) (λ (e : Refusal). ◌≡◌ {A = Result (Unit {0}) Refusal} (Ok x) (Err e))
+done_for_link o x is none = subst (λ c. MatchOption c (true ≡ true) (λ (e : Refusal). ◌≡◌ {A = Result (Unit {0}) Refusal} (Ok x) (Err e))) (sym (is ∙ ap (option_map step_refusal) none)) refl
+
+pub refused_for_link : {c : Option Refusal} (o : Option LinkRefusal) (e : LinkRefusal) (r : Result (Unit {0}) Refusal) → c ≡ option_map step_refusal o
+    → MatchOption o (false ≡ true) (λ (x : LinkRefusal). ◌≡◌ {A = Result (Unit {0}) LinkRefusal} (Err e) (Err x)) → IsErrAnd r (λ x. x ≡ step_refusal e)
+    → MatchOption c (is_ok r ≡ true) (λ (x : Refusal). r ≡ Err x)
+refused_for_link o e r is cause answer = subst (λ c. MatchOption c (is_ok r ≡ true) (λ (x : Refusal). r ≡ Err x)) (sym (is ∙ ap (option_map step_refusal) (only_cause (Unit {0}) o e cause))) (by_answer r answer)
+  where
+    by_answer : (r : Result (Unit {0}) Refusal) → IsErrAnd r (λ x. x ≡ step_refusal e) → r ≡ Err (step_refusal e)
+    by_answer (Ok x) none = absurd none
+    by_answer (Err x) same = ap (λ y. Err y) same
+
 -- and keeps what every world keeps
 pub up-keeps : (w : World) (l : ℕ) (links : List Link) → refusal_to_come_up w.links l ≡ None → links ≡ changed_at l link_come_up w.links → IsWorld w → IsWorld (record w { links = links })
 up-keeps w l links none is = step-keeps w (LinkUp l) tt (up_refusal w l ∙ ap (option_map step_refusal) none) (record w { links = links }) (ap (λ ks. record w { links = ks }) is)

@@ -70,6 +70,8 @@ impl<A: SmallAllocator> WatchedWorld<A> {
         ensures cause { IsDoneOr (steps.refusal self.old step) result }
         ensures publication { (i : ℕ) → step ≡ Step.Publish i
             → MatchOption (steps.refusal self.old step) (IsOk result) (λ e. result ≡ Err e) }
+        ensures down { (l : ℕ) → step ≡ Step.LinkDown l
+            → MatchOption (steps.refusal self.old step) (IsOk result) (λ e. result ≡ Err e) }
         ensures stale { DiscardsStale self.old step result }
     {
         let touched = Touched::by(&step, &self.world);

@@ -167,8 +167,8 @@ impl<A: SmallAllocator> World<A> {
     }
 
     /// Does one step. Refused, it leaves all as it was. The causes are tested in the order of the
-    /// definition; want of memory comes after them. A publication takes no memory, nor does the release
-    /// of a stale message, which is discarded.
+    /// definition; want of memory comes after them. A publication takes no memory, nor does a link that goes
+    /// down, nor the release of a stale message, which is discarded.
     pub fn step(&mut self, step: Step) -> Result<(), Refusal>
         requires { HasRoomForSteps 1 self.old }
         ensures ok { OnOk result (steps.Lawful self.old step
@@ -176,6 +176,8 @@ impl<A: SmallAllocator> World<A> {
         ensures err { OnErr result (self.new ≡ self.old) }
         ensures cause { IsDoneOr (steps.refusal self.old step) result }
         ensures publication { (i : ℕ) → step ≡ Step.Publish i
+            → MatchOption (steps.refusal self.old step) (IsOk result) (λ e. result ≡ Err e) }
+        ensures down { (l : ℕ) → step ≡ Step.LinkDown l
             → MatchOption (steps.refusal self.old step) (IsOk result) (λ e. result ≡ Err e) }
         ensures stale { DiscardsStale self.old step result }
     {
@@ -234,7 +236,8 @@ impl<A: SmallAllocator> World<A> {
     fn link_down(&mut self, link: u16) -> Result<(), Refusal>
         ensures ok { OnOk result (self.new ≡ steps.next self.old (Step.LinkDown link)) }
         ensures err { OnErr result (self.new ≡ self.old) }
-        ensures cause { IsDoneOr (steps.refusal self.old (Step.LinkDown link)) result }
+        ensures cause { MatchOption (steps.refusal self.old (Step.LinkDown link)) (IsOk result)
+            (λ e. result ≡ Err e) }
     {
         self.links.down(link)?;
         Ok(())

@@ -1,22 +1,12 @@
 use Rattle.std.proofs.Common.{ap}
 use Rattle.network_model.specs.Step as step
 use Rattle.link_fifo.specs.Side.{LinksAndRooms}
-use Rattle.link_fifo.proofs.Changes.{written_in, kept_in}
-use Rattle.link_fifo.proofs.Answers.{OnErr-always}
-use Rattle.link_fifo.proofs.Rooms.{rooms_written, no_room, no_room_for_both}
+use Rattle.link_fifo.proofs.Changes.{written_in}
+use Rattle.link_fifo.proofs.Rooms.{rooms_written}
 use Rattle.link_fifo.proofs.links.Links.down.Goals as goal
 
 pub returns-clause-ok : goal.returns-clause-ok
-returns-clause-ok g c = written_in (λ k. k.link) step.link_gone_down c.self.inside.links.items c.from-2.ensures c.index_mut.ensures.value c.in_ok-go_down.ensures.ok (ap (λ (s : LinksAndRooms). s.links) c.self.view_is)
+returns-clause-ok g c = written_in (λ k. k.link) step.link_gone_down c.self.inside.links.items c.from-2.ensures c.index_mut.ensures.value c.go_down.ensures.link (ap (λ (s : LinksAndRooms). s.links) c.self.view_is)
 
 pub returns-clause-room : goal.returns-clause-room
 returns-clause-room g c = rooms_written 1 c.self.inside.links.items c.from-2.result c.index_mut.result.now c.go_down.new.self c.index_mut.ensures.value c.self.view_is c.go_down.ensures.room
-
-pub returns-in_err-go_down-clause-err : goal.returns-in_err-go_down-clause-err
-returns-in_err-go_down-clause-err g c = OnErr-always c.from_residual.result (kept_in (λ k. k.link) c.self.inside.links.items c.from-2.result c.index_mut.ensures.value c.in_err-go_down.ensures.err (ap (λ (s : LinksAndRooms). s.links) c.self.view_is))
-
-pub returns-in_err-go_down-clause-room : goal.returns-in_err-go_down-clause-room
-returns-in_err-go_down-clause-room g c = rooms_written 1 c.self.inside.links.items c.from-2.result c.index_mut.result.now c.go_down.new.self c.index_mut.ensures.value c.self.view_is c.go_down.ensures.room
-
-pub returns-in_err-go_down-clause-full : goal.returns-in_err-go_down-clause-full
-returns-in_err-go_down-clause-full g c = λ _. no_room_for_both c.args.self.now c.args.link (λ to none. no_room to c.self.inside.links.items c.from-2.ensures c.index_mut.ensures.value c.self.view_is none) c.in_err-go_down.ensures.full
