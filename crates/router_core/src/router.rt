@@ -131,6 +131,7 @@ impl<A: SmallAllocator> Router<A> {
             table.set(attachment.0, Entry::Local)?;
         }
         table.mark_published();
+        drop(infos);
         let effects = Effects::new(alloc, table)?;
         Ok(Router {
             ports,
