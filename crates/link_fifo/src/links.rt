@@ -136,7 +136,9 @@ impl<S: Allocator> Links<S> {
         Ok(())
     }
 
-    /// The link goes down: the messages on it are lost, the notices stay in order, and each end is X
+    /// The link goes down: the messages on it are lost, the notices stay in order, and each end is told. It
+    /// takes no memory: room for that is kept while the link is up. Refused with `UnknownLink` and `IsDown`,
+    /// in this order.
     pub fn down(&mut self, link: u16) -> Result<(), LinkRefusal>
         ensures ok { OnOk result (self.new.links
             ≡ changed_at link step.link_gone_down self.old.links) }
