@@ -8,3 +8,5 @@ pub mod Followed
 pub mod Made
 pub mod Rooms
 pub mod Prefixes
+pub mod Plain
+pub mod Telling

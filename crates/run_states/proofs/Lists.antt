@@ -1,5 +1,5 @@
 -- Lists by place: what stands there after a write, and one more of their front.
-use Rattle.std.proofs.Common.{refl, ap, sym, ◌∙◌, ◌≡◌, ◌≢◌, ℕ, zero, suc, ◌+◌, ◌<◌, ◌≤◌, None, List, [], ◌∷◌, ◌++◌, Option, Some, option_map, length, set, take, slice_get, get_or, drop, subst, All, add-one, arith}
+use Rattle.std.proofs.Common.{refl, ap, sym, ◌∙◌, ◌≡◌, ◌≢◌, ℕ, zero, suc, ◌+◌, ◌<◌, ◌≤◌, None, List, [], ◌∷◌, ◌++◌, Option, Some, option_map, length, map, set, take, slice_get, get_or, drop, subst, All, add-one, arith}
 use Rattle.std.proofs.lemmas.Option.{get_or_from_slice_get, none-some, same_Some, slice_get-get_or, slice_get_past, slice_get_read, slice_get_within}
 use Rattle.std.proofs.lemmas.List.{set-get_or}
 use Rattle.std.proofs.Math.Seq.{take-append_seam}
@@ -46,6 +46,12 @@ module _ {A : Type 0} where
   -- all of a list was written over
   pub written_over : (xs old : List A) (n : ℕ) → n ≡ length xs → take n (xs ++ drop (length xs) old) ≡ xs
   written_over xs old n long = ap (λ k. take k (xs ++ drop (length xs) old)) long ∙ take-append_seam xs (drop (length xs) old)
+
+  -- an element written over by one of which the same is made
+  pub written_alike : {B : Type 0} (f : A → B) (xs : List A) (i : ℕ) (old new : A) → slice_get xs i ≡ Some old → f new ≡ f old → map f (set xs i new) ≡ map f xs
+  written_alike f [] i old new at same = refl
+  written_alike f (x ∷ xs) zero old new at same = ap (λ y. y ∷ map f xs) (same ∙ ap f (sym (same_Some x old at)))
+  written_alike f (x ∷ xs) (suc i) old new at same = ap (λ ys. f x ∷ ys) (written_alike f xs i old new at same)
 
   -- an element written over by itself
   pub written_same : (xs : List A) (n : ℕ) (x : A) → x ≡ get_or xs n x → set xs n x ≡ xs

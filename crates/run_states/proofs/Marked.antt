@@ -1,6 +1,6 @@
 -- Marks, one after another, and that what is current stays so by a step whose link, router and machines are marked.
-use Rattle.std.proofs.Common.{refl, sym, ap, subst, ◌∙◌, ◌≡◌, ◌≢◌, ◌⊎◌, inl, inr, ℕ, ◌<◌, ◌≤◌, false, List, All, length, get_or, Option, Some, None, slice_get, vec_len, Ok, Err, Result, arith}
-use Rattle.std.specs.Prelude.{OnErr, OnOk}
+use Rattle.std.proofs.Common.{refl, sym, ap, subst, ◌∙◌, ◌≡◌, ◌≢◌, ◌⊎◌, inl, inr, ℕ, ◌<◌, ◌≤◌, false, true, List, All, length, get_or, set, Option, Some, None, slice_get, vec_len, Ok, Err, Result, arith}
+use Rattle.std.specs.Prelude.{OnErr, OnOk, map}
 use Rattle.std.specs.FinMap.{find as row_of}
 use Rattle.std.specs.Vec.{with_item}
 use Rattle.std.proofs.lemmas.Bool.{cases_eq, false≢true}
@@ -15,13 +15,14 @@ use Rattle.packet_loops.proofs.Runs.{reached}
 use Rattle.packet_loops.proofs.Wiring.{wired}
 use Rattle.packet_loops.proofs.WorldLaws.{next-shape}
 use Rattle.world.specs.Headline.{IsReached}
+use Rattle.run_states.specs.declared.link_book.LinkBook.{LinkBook}
 use Rattle.run_states.specs.declared.router_book.RouterBook.{RouterBook}
 use Rattle.run_states.specs.declared.shown.MachineShown.{MachineShown}
 use Rattle.run_states.specs.declared.recorder.Recorder.{Recorder}
-use Rattle.run_states.specs.Books.{HasPlaces, MachinesMarked, ShowsPlace}
+use Rattle.run_states.specs.Books.{HasPlaces, MachinesMarked, ShowsPlace, link_shows, router_shows}
 use Rattle.run_states.specs.Recorders.{IsCurrent, IsRecorderOf, IsRouterCurrent}
 use Rattle.run_states.specs.Marks.{LinkMarked, Marks, RouterMarked, touched_link, touched_router, touches}
-use Rattle.run_states.proofs.Lists.{all_at, all_from, slice_get-set_other, slice_get-set_same}
+use Rattle.run_states.proofs.Lists.{all_at, all_from, slice_get-set_other, slice_get-set_same, written_alike}
 use Rattle.run_states.proofs.Unmet.{SameMachine, machine_untouched, stays}
 use Rattle.run_states.proofs.Untouched.{link_untouched, router_untouched}
 
@@ -60,12 +61,17 @@ router_of router Spared before after v marked of = record {
 abbrev pub with_router : Recorder → ℕ → RouterBook → Recorder
 with_router r k new = record { prefixes = r.prefixes; links = r.links; routers = with_item r.routers k new }
 
+-- books of which the same is shown
+alike : (one other : RouterBook) → one.shown ≡ other.shown → one.machines ≡ other.machines → router_shows one ≡ router_shows other
+alike one other shown machines = rw (shown, machines) refl
+
 -- one that is marked was written over its book
 pub router_written : (r : Recorder) (router k : ℕ) (old new : RouterBook) (Spared : Prefix → Type 0) → k ≡ router → k < vec_len r.routers → old ≡ get_or (r.routers).items k old
     → MachinesMarked Spared (r.prefixes).items old new → RouterMarked router Spared r (with_router r k new)
 router_written r router k old new Spared is within read marked = subst (λ i. RouterMarked i Spared r (with_router r k new)) is (record {
   prefixes = refl;
   links = refl;
+  shows = written_alike router_shows books k old new (slice_get_read books (length books) k old refl room read) (alike new old marked.shown marked.machines);
   many = refl;
   others = λ i d. slice_get-set_other books k i new d;
   book = λ b at. (old, slice_get_read books (length books) k old refl room read, subst (MachinesMarked Spared (r.prefixes).items old) (same_Some new b (sym (slice_get-set_same books k new room) ∙ at)) marked);
@@ -77,9 +83,46 @@ router_written r router k old new Spared is within read marked = subst (λ i. Ro
     room : k < length books
     room = let ok = (r.routers).ok in omega (arith, within, ok)
 
+-- a recorder with the book of one link written over
+abbrev pub with_link : Recorder → ℕ → LinkBook → Recorder
+with_link r k new = record { prefixes = r.prefixes; links = with_item r.links k new; routers = r.routers }
+
+-- one that is marked was written over its book
+pub link_written : (r : Recorder) (link k : ℕ) (old new : LinkBook) → k ≡ link → k < vec_len r.links → old ≡ get_or (r.links).items k old
+    → link_shows new ≡ link_shows old → new.is_marked ≡ true → LinkMarked (Some link) r (with_link r k new)
+link_written r link k old new is within read same marked = subst (λ i. LinkMarked (Some i) r (with_link r k new)) is (record {
+  prefixes = refl;
+  routers = refl;
+  shows = written_alike link_shows books k old new (slice_get_read books (length books) k old refl room read) same;
+  many = refl;
+  books = λ l b at unmarked. by_number l b at unmarked (cases_eq l k);
+})
+  where
+    books : List LinkBook
+    books = (r.links).items
+
+    room : k < length books
+    room = let ok = (r.links).ok in omega (arith, within, ok)
+
+    by_number : (l : ℕ) (b : LinkBook) → slice_get (set books k new) l ≡ Some b → b.is_marked ≡ false → (l ≡ k) ⊎ (l ≢ k) → (slice_get books l ≡ Some b) × (Some k ≢ Some l)
+    by_number l b at unmarked (inl e) =
+        let here : new ≡ b = same_Some new b (sym (slice_get-set_same books k new room) ∙ subst (λ i. slice_get (set books k new) i ≡ Some b) e at) in
+        absurd (false≢true (sym unmarked ∙ ap (λ (x : LinkBook). x.is_marked) (sym here) ∙ marked))
+    by_number l b at unmarked (inr d) = (sym (slice_get-set_other books k l new d) ∙ at, λ e. d (sym (same_Some k l e)))
+
+-- a recorder that has no such link
+pub link_missing : (r : Recorder) (link : ℕ) → length (r.links).items ≤ link → LinkMarked (Some link) r r
+link_missing r link past = record {
+  prefixes = refl;
+  routers = refl;
+  shows = refl;
+  many = refl;
+  books = λ l b at unmarked. (at, λ e. let within = slice_get_within (r.links).items l b at in let is = same_Some link l e in absurd (omega (arith, past, within, is)));
+}
+
 -- a recorder that has no such router
 pub no_router : (r : Recorder) (router : ℕ) (Spared : Prefix → Type 0) → length (r.routers).items ≤ router → RouterMarked router Spared r r
-no_router r router Spared past = record { prefixes = refl; links = refl; many = refl; others = λ i d. refl; book = λ b at. let within = slice_get_within (r.routers).items router b at in absurd (omega (arith, past, within)) }
+no_router r router Spared past = record { prefixes = refl; links = refl; shows = refl; many = refl; others = λ i d. refl; book = λ b at. let within = slice_get_within (r.routers).items router b at in absurd (omega (arith, past, within)) }
 
 -- ---- one after another
 
@@ -89,6 +132,7 @@ pub marked_twice : (router : ℕ) (One Other Both : Prefix → Type 0) (before m
 marked_twice router One Other Both before mid after first second both = record {
   prefixes = second.prefixes ∙ first.prefixes;
   links = second.links ∙ first.links;
+  shows = second.shows ∙ first.shows;
   many = second.many ∙ first.many;
   others = λ i d. second.others i d ∙ first.others i d;
   book = λ b at.
@@ -114,6 +158,7 @@ pub spares_also : (router : ℕ) (One Other : Prefix → Type 0) (before after :
 spares_also router One Other before after also marked = record {
   prefixes = marked.prefixes;
   links = marked.links;
+  shows = marked.shows;
   many = marked.many;
   others = marked.others;
   book = λ b at.
@@ -123,12 +168,13 @@ spares_also router One Other before after also marked = record {
 
 -- no link
 pub no_link : (r : Recorder) → LinkMarked None r r
-no_link r = record { prefixes = refl; routers = refl; many = refl; books = λ l b at unmarked. (at, λ e. none-some l e) }
+no_link r = record { prefixes = refl; routers = refl; shows = refl; many = refl; books = λ l b at unmarked. (at, λ e. none-some l e) }
 
 -- a step that touches no router
 pub link_marks : (w : World) (s : Step) (before after : Recorder) → touched_router s ≡ None → LinkMarked (touched_link w s) before after → Marks w s before after
 link_marks w s before after none marked = record {
   prefixes = marked.prefixes;
+  shows = record { prefixes = marked.prefixes; links = marked.shows; routers = ap (λ rs. map router_shows rs.items) marked.routers };
   links = marked.books;
   others = λ i d. ap (λ rs. slice_get rs.items i) marked.routers;
   book = λ i b is at. absurd (none-some i (sym none ∙ is));
@@ -140,6 +186,11 @@ pub router_marks : (w : World) (s : Step) (router : ℕ) (Spared : Prefix → Ty
     → RouterMarked router Spared before mid → LinkMarked (touched_link w s) mid after → Marks w s before after
 router_marks w s router Spared before mid after is spares routers links = record {
   prefixes = links.prefixes ∙ routers.prefixes;
+  shows = record {
+    prefixes = links.prefixes ∙ routers.prefixes;
+    links = links.shows ∙ ap (λ ls. map link_shows ls.items) routers.links;
+    routers = ap (λ rs. map router_shows rs.items) links.routers ∙ routers.shows;
+  };
   links = λ l b at unmarked. let was = links.books l b at unmarked in (ap (λ ls. slice_get ls.items l) (sym routers.links) ∙ was.0, was.1);
   others = λ i d. ap (λ rs. slice_get rs.items i) links.routers ∙ routers.others i (λ e. d (is ∙ ap Some (sym e)));
   book = λ i b touched at.

@@ -1,10 +1,13 @@
 -- Books of what was shown: what a change makes of one, and when one shows its link or its router as it is.
-use Rattle.std.specs.Prelude.{◌≡◌, ℕ, List, [], ◌∷◌, Bool, false, true, Option, Some, None, slice_get, slice_set, vec_len}
+use Rattle.std.specs.Prelude.{◌≡◌, ℕ, All, List, [], ◌∷◌, Bool, false, true, Option, Some, None, slice_get, slice_set, vec_len}
 use Rattle.std.specs.Option.{option_map_or}
 use Rattle.std.specs.FinMap.{find as row_of}
 use Rattle.ipv4_prefix.specs.Prefix.{Prefix, prefix_cmp, prefix_eq}
 use Rattle.network_model.specs.Machine.{Machine}
+use Rattle.network_model.specs.declared.item.Item.{Item}
 use Rattle.network_model.specs.World.{Link, Router}
+use Rattle.run_states.specs.declared.shown.LinkShown.{LinkShown}
+use Rattle.run_states.specs.declared.shown.RouterShown.{RouterShown}
 use Rattle.run_states.specs.declared.shown.MachineShown.{MachineShown}
 use Rattle.run_states.specs.declared.link_book.LinkBook.{LinkBook}
 use Rattle.run_states.specs.declared.link_book.LinkChange.{LinkChange}
@@ -20,6 +23,10 @@ shown_after (Some now) before = Some now
 
 -- ---- links
 
+-- what a book shows of its link, whatever it marks: the link itself, and what its ends A and B have yet to take
+abbrev pub link_shows : LinkBook → Option LinkShown × List Item × List Item
+link_shows b = (b.shown, (b.to_a).items, (b.to_b).items)
+
 -- the book becomes this by the change
 pub record LinkFollows (c : LinkChange) (before after : LinkBook) : Type 0 where
   pub shown : after.shown ≡ shown_after c.shown before.shown
@@ -33,6 +40,15 @@ pub record ShowsLink (k : Link) (b : LinkBook) : Type 0 where
   pub to_b : (b.to_b).items ≡ (k.b).inbox
 
 -- ---- routers
+
+-- what a book shows of its router, whatever it marks: the router itself, and its machines
+abbrev pub router_shows : RouterBook → Option RouterShown × List (Option MachineShown)
+router_shows b = (b.shown, (b.machines).items)
+
+-- nothing was shown of a router, and of none of its machines
+pub record IsBlankRouter (b : RouterBook) : Type 0 where
+  pub shown : b.shown ≡ None
+  pub machines : All (λ (m : Option MachineShown). m ≡ None) (b.machines).items
 
 -- what is shown of machines after these changes, each of the machine at a place
 abbrev pub machines_after : List (ℕ × MachineShown) → List (Option MachineShown) → List (Option MachineShown)

@@ -4,3 +4,4 @@ pub mod Shown
 pub mod Values
 pub mod Recorders
 pub mod Marks
+pub mod Told

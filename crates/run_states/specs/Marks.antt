@@ -1,5 +1,5 @@
 -- What a step may change, and the marks of it.
-use Rattle.std.specs.Prelude.{◌≡◌, ◌≢◌, ℕ, Bool, false, is_some, Option, Some, None, slice_get, vec_len, option_map, option_and_then}
+use Rattle.std.specs.Prelude.{◌≡◌, ◌≢◌, ℕ, Bool, false, is_some, Option, Some, None, map, slice_get, vec_len, option_map, option_and_then}
 use Rattle.std.specs.FinMap.{find as row_of}
 use Rattle.std.specs.Option.{option_map_or}
 use Rattle.ipv4_prefix.specs.Prefix.{Prefix, prefix_cmp}
@@ -11,8 +11,8 @@ use Rattle.network_model.specs.Step.{changed_rows, front_at, release_at}
 use Rattle.run_states.specs.declared.link_book.LinkBook.{LinkBook}
 use Rattle.run_states.specs.declared.router_book.RouterBook.{RouterBook}
 use Rattle.run_states.specs.declared.recorder.Recorder.{Recorder}
-use Rattle.run_states.specs.Books.{MachinesMarked, covers}
-use Rattle.run_states.specs.Recorders.{IsRecorderOf}
+use Rattle.run_states.specs.Books.{MachinesMarked, covers, link_shows, router_shows}
+use Rattle.run_states.specs.Recorders.{IsRecorderOf, ShowSame}
 
 -- the link that a step may change
 abbrev pub touched_link : World → Step → Option ℕ
@@ -61,6 +61,7 @@ touches w (Detach i p') p = false
 pub record LinkMarked (link : Option ℕ) (before after : Recorder) : Type 0 where
   pub prefixes : after.prefixes ≡ before.prefixes
   pub routers : after.routers ≡ before.routers
+  pub shows : map link_shows (after.links).items ≡ map link_shows (before.links).items
   pub many : vec_len after.links ≡ vec_len before.links
   pub books : (l : ℕ) (b : LinkBook) → slice_get (after.links).items l ≡ Some b → b.is_marked ≡ false
       → (slice_get (before.links).items l ≡ Some b) × (link ≢ Some l)
@@ -70,14 +71,16 @@ pub record LinkMarked (link : Option ℕ) (before after : Recorder) : Type 0 whe
 pub record RouterMarked (router : ℕ) (Spared : Prefix → Type 0) (before after : Recorder) : Type 0 where
   pub prefixes : after.prefixes ≡ before.prefixes
   pub links : after.links ≡ before.links
+  pub shows : map router_shows (after.routers).items ≡ map router_shows (before.routers).items
   pub many : vec_len after.routers ≡ vec_len before.routers
   pub others : (i : ℕ) → i ≢ router → slice_get (after.routers).items i ≡ slice_get (before.routers).items i
   pub book : (b : RouterBook) → slice_get (after.routers).items router ≡ Some b
       → (old : RouterBook) × (slice_get (before.routers).items router ≡ Some old) × MachinesMarked Spared (before.prefixes).items old b
 
--- all that a step may change is marked, and all else of the recorder stays
+-- all that a step may change is marked, and all else of the recorder stays: what was shown is shown
 pub record Marks (w : World) (s : Step) (before after : Recorder) : Type 0 where
   pub prefixes : after.prefixes ≡ before.prefixes
+  pub shows : ShowSame before after
   pub links : (l : ℕ) (b : LinkBook) → slice_get (after.links).items l ≡ Some b → b.is_marked ≡ false
       → (slice_get (before.links).items l ≡ Some b) × (touched_link w s ≢ Some l)
   pub others : (i : ℕ) → touched_router s ≢ Some i → slice_get (after.routers).items i ≡ slice_get (before.routers).items i

@@ -1,5 +1,5 @@
 -- When a recorder shows a world as it is, and what becomes of it.
-use Rattle.std.specs.Prelude.{◌≡◌, ◌<◌, ◌≤◌, ◌^◌, ℕ, List, [], ◌∷◌, Bool, false, true, is_some, Some, All, length, map, slice_get, slice_set, vec_len}
+use Rattle.std.specs.Prelude.{◌≡◌, ◌<◌, ◌≤◌, ◌^◌, ℕ, List, [], ◌∷◌, Bool, false, true, is_some, None, Some, All, length, map, slice_get, slice_set, vec_len}
 use Rattle.std.specs.FinMap.{find as row_of, is_sorted}
 use Rattle.std.specs.List.{list_any}
 use Rattle.ipv4_prefix.specs.Prefix.{Prefix, prefix_cmp, prefix_eq}
@@ -11,7 +11,7 @@ use Rattle.run_states.specs.declared.router_book.RouterBook.{RouterBook}
 use Rattle.run_states.specs.declared.router_book.RouterChange.{RouterChange}
 use Rattle.run_states.specs.declared.recorder.Changes.{Changes}
 use Rattle.run_states.specs.declared.recorder.Recorder.{Recorder}
-use Rattle.run_states.specs.Books.{HasPlaces, LinkFollows, RouterFollows, ShowsLink, ShowsRouter, ShowsUnmarked}
+use Rattle.run_states.specs.Books.{HasPlaces, IsBlankRouter, LinkFollows, RouterFollows, ShowsLink, ShowsRouter, ShowsUnmarked, link_shows, router_shows}
 
 -- a recorder has a book for each link and for each router, no more than a network has, and in those of routers a place for each
 -- prefix
@@ -66,6 +66,17 @@ ShowsRouters w r = EachRouter (ShowsRouter (r.prefixes).items) w r
 pub record ShowsWorld (w : World) (r : Recorder) : Type 0 where
   pub links : ShowsLinks w r
   pub routers : ShowsRouters w r
+
+-- nothing was shown
+pub record IsBlank (r : Recorder) : Type 0 where
+  pub links : All (λ b. link_shows b ≡ (None, [], [])) (r.links).items
+  pub routers : All IsBlankRouter (r.routers).items
+
+-- two recorders show the same, whatever they mark
+pub record ShowSame (before after : Recorder) : Type 0 where
+  pub prefixes : after.prefixes ≡ before.prefixes
+  pub links : map link_shows (after.links).items ≡ map link_shows (before.links).items
+  pub routers : map router_shows (after.routers).items ≡ map router_shows (before.routers).items
 
 -- ---- what has changed
 

@@ -1,5 +1,5 @@
 -- What a state shows.
-use Rattle.std.specs.Prelude.{◌≡◌, ◌<◌, ℕ, Option, Some, is_some, length}
+use Rattle.std.specs.Prelude.{◌≡◌, ◌<◌, ℕ, IsSome, Option, None, Some, is_some, length, option_map}
 use Rattle.std.specs.FinMap.{find as row_of}
 use Rattle.std.specs.FinSet as set
 use Rattle.std.specs.Ordering.{nat_cmp}
@@ -7,6 +7,7 @@ use Rattle.ipv4_prefix.specs.Prefix.{Prefix, prefix_cmp}
 use Rattle.network_model.specs.Machine.{Machine}
 use Rattle.network_model.specs.Network.{most_ports}
 use Rattle.network_model.specs.World.{Link, Router}
+use Rattle.diffusing_replies.specs.Origin.{origin_number}
 use Rattle.dual_machine.specs.State.{MachineState, awaits_at}
 use Rattle.run_states.specs.declared.shown.LinkShown.{LinkShown}
 use Rattle.run_states.specs.declared.shown.RouterShown.{RouterShown}
@@ -20,9 +21,14 @@ link_shown k = record { up = k.up; session = k.session; from_a = (k.a).cost; fro
 abbrev pub router_shown : Router → ℕ → RouterShown
 router_shown r notices = record { generation = r.generation; held = length (r.gate).held; ripe = (r.gate).ripe; notices = notices }
 
--- the origin state that is shown is there exactly while a computation is under way, and the ports shown as awaited are its
+-- the number of the origin state of the computation under way, if one is
+abbrev pub IsOriginNumber : MachineState → Option ℕ → Type 0
+IsOriginNumber s None = (s.machine).computation ≡ None
+IsOriginNumber s (Some number) = IsSome (s.machine).computation × (option_map origin_number s.origin ≡ Some number)
+
+-- the origin state that is shown is that of the computation under way, and the ports shown as awaited are its
 pub record ShowsMode (s : MachineState) (origin : Option ℕ) (awaited : set.FinSet nat_cmp) : Type 0 where
-  pub origin_is : is_some origin ≡ is_some (s.machine).computation
+  pub origin_is : IsOriginNumber s origin
   pub awaits : (q : ℕ) → q < most_ports → set.contains awaited q ≡ awaits_at (s.machine).computation q
 
 -- what is shown of a router's machine for a prefix

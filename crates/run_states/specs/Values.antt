@@ -1,25 +1,32 @@
 -- The JSON of what changed. A router, a link, a prefix and an end of a link go by their numbers.
-use Rattle.std.specs.Prelude.{ℕ, List, [], ◌∷◌, Bool, true, ◌==◌, nat_lt, if◌then◌else◌, Option, Some, None, map, filter, length, position, unwrap_or, codes, vec_len}
+use Rattle.std.specs.Prelude.{ℕ, List, [], ◌∷◌, ◌++◌, Bool, true, ◌==◌, nat_lt, if◌then◌else◌, Option, Some, None, map, filter, length, position, unwrap_or, codes, vec_len}
 use Rattle.std.specs.Option.{option_map_or}
-use Rattle.std.specs.List.{range_with_len}
+use Rattle.std.specs.List.{flat_map, range_with_len}
 use Rattle.std.specs.FinSet as set
 use Rattle.std.specs.Ordering.{nat_cmp}
 use Rattle.ipv4_prefix.specs.Prefix.{Prefix, prefix_eq}
+use Rattle.ipv4_prefix.specs.Texts.{prefix_text}
 use Rattle.metric.specs.Distance.{infinity}
 use Rattle.metric.specs.declared.kind.Kind.{Kind}
 use Rattle.metric.specs.declared.kind.Kind.TheVariants.{Update, Query, Reply}
-use Rattle.network_model.specs.World.{World, place_at}
+use Rattle.network_model.specs.World.{Network, World, place_at}
 use Rattle.network_model.specs.declared.route.Entry.{Entry}
 use Rattle.network_model.specs.declared.route.Entry.TheVariants.{Local, Via, Unreachable}
 use Rattle.network_model.specs.declared.item.Item.{Item}
 use Rattle.network_model.specs.declared.network.End.{End}
 use Rattle.serde_json.specs.Data.{Data, null, boolean, number, string, array, object, Members, no_members, member, put, unsigned}
 use Rattle.serde_json.specs.View.{items_of}
+use Rattle.serde_json.specs.Written.{compact_text}
 use Rattle.texts.specs.Words.{Text}
+use Rattle.script.specs.Directories.{Directory, name_text}
 use Rattle.run_states.specs.declared.shown.LinkShown.{LinkShown}
 use Rattle.run_states.specs.declared.shown.RouterShown.{RouterShown}
 use Rattle.run_states.specs.declared.shown.MachineShown.{MachineShown}
 use Rattle.run_states.specs.declared.queue.QueueChange.{QueueChange}
+use Rattle.run_states.specs.declared.link_book.LinkChange.{LinkChange}
+use Rattle.run_states.specs.declared.router_book.RouterChange.{RouterChange}
+use Rattle.run_states.specs.declared.recorder.Changes.{Changes}
+use Rattle.run_states.specs.Queues.{is_nothing}
 
 abbrev pub count : ℕ → Data
 count n = number (unsigned n)
@@ -65,21 +72,22 @@ entry_data w i (Some (Via q session)) = list (port_data w i q ∷ count session 
 abbrev pub ports_data : World → ℕ → set.FinSet nat_cmp → Data
 ports_data w i ports = list (map (port_data w i) (filter (set.contains ports) (range_with_len 0 32)))
 
+-- what is shown of a router's machine for a prefix, whether a computation is under way or not
+abbrev pub machine_members : World → ℕ → ℕ → MachineShown → Members
+machine_members w i p m =
+    member (codes "chosen") (entry_data w i m.chosen)
+    (member (codes "fd") (distance_data m.fd)
+    (member (codes "prefix") (count p)
+    (member (codes "published") (entry_data w i m.published)
+    (member (codes "rd") (distance_data m.rd)
+    (member (codes "router") (count i) no_members)))))
+
 -- what is shown of a router's machine for a prefix: the state and who is awaited, where a computation is under way
 abbrev pub machine_data : World → ℕ → ℕ → MachineShown → Data
 machine_data w i p m =
     object (option_map_or (λ origin.
     member (codes "active") (count origin)
-    (member (codes "awaits") (ports_data w i m.awaited) (rest w i p m))) m.origin (rest w i p m))
-  where
-    rest : World → ℕ → ℕ → MachineShown → Members
-    rest w i p m =
-        member (codes "chosen") (entry_data w i m.chosen)
-        (member (codes "fd") (distance_data m.fd)
-        (member (codes "prefix") (count p)
-        (member (codes "published") (entry_data w i m.published)
-        (member (codes "rd") (distance_data m.rd)
-        (member (codes "router") (count i) no_members)))))
+    (member (codes "awaits") (ports_data w i m.awaited) (machine_members w i p m))) m.origin (machine_members w i p m))
 
 -- ---- queues
 
@@ -118,3 +126,66 @@ queue_data ps l e c =
     (put_if (nat_lt 0 c.take) (codes "take") (count c.take)
     (put (codes "end") (count (number_of_end e))
     (put (codes "link") (count l) no_members)))))
+
+-- ---- states
+
+-- what is made of a value, where there is one
+abbrev pub listed : {X : Type 0} → (X → Data) → Option X → List Data
+listed f None = []
+listed f (Some x) = f x ∷ []
+
+-- the links that are others
+abbrev pub links_data : List (ℕ × LinkChange) → List Data
+links_data cs = flat_map (λ c. listed (link_data c.0) (c.1).shown) cs
+
+-- the routers that are others
+abbrev pub routers_data : List (ℕ × RouterChange) → List Data
+routers_data cs = flat_map (λ c. listed (router_data c.0) (c.1).shown) cs
+
+-- the machines that are others
+abbrev pub machines_data : World → List (ℕ × RouterChange) → List Data
+machines_data w cs = flat_map (λ c. map (λ m. machine_data w c.0 m.0 m.1) ((c.1).machines).items) cs
+
+-- a queue, where something became of it
+abbrev pub queue_listed : List Prefix → ℕ → End → QueueChange → List Data
+queue_listed ps l e c = if is_nothing c then [] else queue_data ps l e c ∷ []
+
+-- the queues of which something became, of a link those to its ends A and B
+abbrev pub queues_data : List Prefix → List (ℕ × LinkChange) → List Data
+queues_data ps cs = flat_map (λ c. queue_listed ps c.0 End.A (c.1).to_a ++ queue_listed ps c.0 End.B (c.1).to_b) cs
+
+-- the members, and a list where it is not empty
+abbrev pub put_list : Text → List Data → Members → Members
+put_list key ds ms = put_if (nat_lt 0 (length ds)) key (list ds) ms
+
+-- the members, and the text of a step where there is one
+abbrev pub put_step : Option Text → Members → Members
+put_step None ms = ms
+put_step (Some text) ms = put (codes "step") (word text) ms
+
+-- a state: after how many steps it is, the last of them, and what has changed
+abbrev pub state_data : World → List Prefix → ℕ → Option Text → Changes → Data
+state_data w ps k step c =
+    object (put_list (codes "queues") (queues_data ps (c.links).items)
+    (put_list (codes "machines") (machines_data w (c.routers).items)
+    (put_list (codes "routers") (routers_data (c.routers).items)
+    (put_list (codes "links") (links_data (c.links).items)
+    (put_step step
+    (put (codes "number") (count k)
+    (put (codes "kind") (word (codes "state")) no_members)))))))
+
+-- what a network opens with: how many steps follow, and after how many of them there is a state each; the names of its routers, the routers
+-- at the ends of its links, and its prefixes
+abbrev pub opening_data : Network → Directory → List Prefix → ℕ → ℕ → Data
+opening_data n d ps steps every =
+    object (put (codes "prefixes") (list (map (λ p. word (prefix_text p)) ps))
+    (put (codes "links") (list (map (λ k. list (count k.a ∷ count k.b ∷ [])) n.links))
+    (put (codes "routers") (list (map (λ i. word (name_text d (Some i))) (range_with_len 0 n.routers)))
+    (put (codes "every") (count every)
+    (put (codes "steps") (count steps)
+    (put (codes "format") (count 1)
+    (put (codes "kind") (word (codes "opening")) no_members)))))))
+
+-- a value on a line of its own
+abbrev pub line_text : Data → Text
+line_text d = compact_text d ++ 10 ∷ []

@@ -1,7 +1,7 @@
 //! What was shown of a link, and of what its ends have yet to take.
 
-ghost use Rattle.std.specs.Prelude.{◌≡◌, ◌<◌, Some, None, IfOk, IfSome, false, true, length, slice_get};
-ghost use Rattle.run_states.specs.Books.{LinkFollows, ShowsLink};
+ghost use Rattle.std.specs.Prelude.{◌≡◌, ◌<◌, [], Some, None, IfOk, IfSome, false, true, length, slice_get};
+ghost use Rattle.run_states.specs.Books.{LinkFollows, ShowsLink, link_shows};
 
 use crate::queue::{QueueChange, has_message, queue_at, queue_change};
 use crate::shown::{LinkShown, is_same_link, link_shown};
@@ -36,7 +36,8 @@ pub(crate) struct LinkChange {
 impl LinkBook {
     /// The book of a link that was not shown.
     pub(crate) fn new(alloc: Global) -> LinkBook
-        ensures { result.is_marked ≡ true }
+        ensures marked { result.is_marked ≡ true }
+        ensures blank { link_shows result ≡ (None, [], []) }
     {
         LinkBook {
             shown: None,

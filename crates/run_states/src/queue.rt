@@ -4,7 +4,7 @@ ghost use Rattle.std.specs.Prelude.{◌≡◌, ◌<◌, ◌≤◌, ◌↔◌, If
 ghost use Rattle.network_model.specs.declared.item.Item.{Item};
 ghost use Rattle.network_model.specs.World as world;
 ghost use Rattle.network_model.specs.Step as step;
-ghost use Rattle.run_states.specs.Queues.{left_after, queue_after};
+ghost use Rattle.run_states.specs.Queues.{is_nothing, left_after, queue_after};
 
 use link_fifo::Links;
 use network_model::{End, Item, NoMemory};
@@ -24,6 +24,7 @@ impl QueueChange {
     pub(crate) fn is_nothing(&self) -> bool
         ensures nothing { IsTrue result ↔ ((self.now.take ≡ 0) × (self.now.lose ≡ false)
             × (self.now.put.items ≡ [])) }
+        ensures exact { result ≡ is_nothing self.now }
         ensures stays { IsTrue result → (items : List Item) → queue_after self.now items ≡ items }
     {
         self.take == 0 && !self.lose && self.put.is_empty()

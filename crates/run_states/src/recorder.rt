@@ -7,7 +7,7 @@ ghost use Rattle.world.specs.Headline.{IsReached};
 ghost use Rattle.world.specs.Steps.{HasRoomForSteps};
 ghost use Rattle.run_states.specs.Books.{covers};
 ghost use Rattle.run_states.specs.Marks.{LinkMarked, Marks, RouterMarked, message_prefix, touched_link, touches};
-ghost use Rattle.run_states.specs.Recorders.{AreLinksCurrent, ArePrefixesOf, AreRoutersCurrent, Follows, IsCurrent, IsRecorderOf, LinksFollow, RoutersFollow, ShowsLinks, ShowsRouters, ShowsWorld};
+ghost use Rattle.run_states.specs.Recorders.{AreLinksCurrent, ArePrefixesOf, AreRoutersCurrent, Follows, IsBlank, IsCurrent, IsRecorderOf, LinksFollow, RoutersFollow, ShowSame, ShowsLinks, ShowsRouters, ShowsWorld};
 
 use crate::link_book::{LinkBook, LinkChange};
 use crate::router_book::{RouterBook, RouterChange};
@@ -38,6 +38,7 @@ impl Recorder {
     pub(crate) fn new(alloc: Global, network: &Network) -> Result<Recorder, NoMemory>
         ensures of { IfOk result (IsRecorderOf (model.opening network.now)) }
         ensures current { IfOk result (IsCurrent (model.opening network.now)) }
+        ensures blank { IfOk result IsBlank }
         ensures prefixes { IfOk result (λ r. ArePrefixesOf (network.now).attachments r.prefixes.items) }
     {
         let prefixes = prefixes_of(alloc, network)?;
@@ -68,7 +69,7 @@ impl Recorder {
         ensures err { OnErr result (world.new ≡ world.old) }
         ensures of { IsRecorderOf world.new self.new }
         ensures current { IsCurrent world.new self.new }
-        ensures prefixes { self.new.prefixes ≡ self.old.prefixes }
+        ensures shows { ShowSame self.old self.new }
     {
         self.mark(world, &step);
         world.step(step)
@@ -80,12 +81,7 @@ impl Recorder {
     {
         match *step {
             Step::LinkUp { link } => self.mark_link(link),
-            Step::LinkDown { link } => {
-                self.mark_link(link);
-                if let Some(book) = self.links.get_mut(usize::from(link)) {
-                    book.is_cut = true;
-                }
-            }
+            Step::LinkDown { link } => self.mark_cut(link),
             Step::SetCost {
                 router,
                 port,
@@ -114,6 +110,16 @@ impl Recorder {
     {
         if let Some(book) = self.links.get_mut(usize::from(link)) {
             book.is_marked = true;
+        }
+    }
+
+    // Marks a link that goes down.
+    fn mark_cut(&mut self, link: u16)
+        ensures { LinkMarked (Some link) self.old self.new }
+    {
+        if let Some(book) = self.links.get_mut(usize::from(link)) {
+            book.is_marked = true;
+            book.is_cut = true;
         }
     }
 

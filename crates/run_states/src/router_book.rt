@@ -5,7 +5,7 @@ ghost use Rattle.ipv4_prefix.specs.Prefix.{Prefix};
 ghost use Rattle.network_model.specs.World as model;
 ghost use Rattle.run_states.specs.declared.shown.MachineShown.{MachineShown};
 ghost use Rattle.run_states.specs.Shown.{ShowsMachine};
-ghost use Rattle.run_states.specs.Books.{HasPlaces, MachinesMarked, RouterFollows, ShowsMachines, ShowsRouter, ShowsUnmarked, covers, machines_after};
+ghost use Rattle.run_states.specs.Books.{HasPlaces, IsBlankRouter, MachinesMarked, RouterFollows, ShowsMachines, ShowsRouter, ShowsUnmarked, covers, machines_after};
 
 use crate::shown::{MachineShown, RouterShown, machine_shown, router_news, router_shown};
 use ipv4_prefix::Prefix;
@@ -41,6 +41,7 @@ impl RouterBook {
         ensures places { IfOk result (HasPlaces prefixes) }
         ensures marked { IfOk result (λ b. b.is_marked ≡ true) }
         ensures marks { IfOk result (λ b. All (λ m. m ≡ true) b.marks.items) }
+        ensures blank { IfOk result IsBlankRouter }
     {
         let mut machines = Vec::new(alloc);
         machines.resize(prefixes, None)?;

@@ -1,23 +1,36 @@
 //! The states of a run.
 
-ghost use Rattle.std.specs.Prelude.{◌≡◌, IfOk, MatchOption, OnOk, length, take};
+ghost use Rattle.std.specs.Prelude.{◌≡◌, ◌<◌, IfOk, Some, [], ◌∷◌, List, MatchOption, OnOk, false, length, map, option_map, string_bytes, take};
+ghost use Rattle.std.specs.Io.KnownBytes.{Appends};
+ghost use Rattle.std.specs.List.{range_with_len};
+ghost use Rattle.ipv4_prefix.specs.Texts.{prefix_text};
+ghost use Rattle.network_model.specs.Network.{IsNetwork};
 ghost use Rattle.network_model.specs.Run.{Runs};
 ghost use Rattle.network_model.specs.Step.{refusal};
 ghost use Rattle.network_model.specs.World as model;
 ghost use Rattle.world.specs.Steps.{StopsAt};
-ghost use Rattle.run_states.specs.Recorders.{IsCurrent, IsRecorderOf, ShowsWorld};
+ghost use Rattle.serde_json.specs.View.{view, members_view};
+ghost use Rattle.serde_json.specs.Written.{has_float};
+ghost use Rattle.script.specs.Directories.{name_text};
+ghost use Rattle.journal.specs.Steps.{step_text};
+ghost use Rattle.texts.specs.Lines.{lines_text};
+ghost use Rattle.texts.specs.Words.{Text};
+ghost use Rattle.run_states.specs.declared.recorder.Changes.{Changes as ChangesTold};
+ghost use Rattle.run_states.specs.Recorders.{ArePrefixesOf, Follows, IsCurrent, IsRecorderOf, ShowsWorld};
+ghost use Rattle.run_states.specs.Told.{IsStatesText, Tell, is_told as told_of, numbers_from, stride as stride_of};
+ghost use Rattle.run_states.specs.Values.{count as number_of, line_text, list, opening_data, put_step as with_step, state_data, word};
 
 use crate::fault::StatesFault;
-use crate::link_book::LinkChange;
 use crate::recorder::{Changes, Recorder};
-use crate::router_book::RouterChange;
-use crate::values::{link_value, machine_value, queue_value, router_value};
+use crate::values::{
+    link_values, machine_values, put_array, put_list, queue_values, router_values,
+};
 use ipv4_prefix::Prefix;
 use journal::StepText;
-use network_model::{End, NoMemory, Step};
+use network_model::{LinkSpec, NoMemory, Step};
 use script::Directory;
 use serde_json::{Map, Value, json, put};
-use std::alloc::Global;
+use std::alloc::{AllocError, Global};
 use std::io::{ErrorKind, Write};
 use world::{Network, Ran, World};
 
@@ -36,30 +49,16 @@ pub fn write_states<'n, W: Write>(
         × Runs (model.opening network.now) (take ran.done steps.now) w
         × MatchOption ran.refusal (ran.done ≡ length steps.now)
         (StopsAt (refusal w) steps.now ran.done)) }
+    ensures written { IfOk result (λ ran. (text : Text)
+        × IsStatesText network.now directory.now (take ran.done steps.now) (stride_of every) text
+        × Appends (W.contents out.old) (W.contents out.new) text) }
 {
-    let every = if every == 0 { 1 } else { every };
     // The opening has room for as many steps as a slice can have.
     let _many = count(steps);
     let mut ended = World::open(alloc, network)?;
     let ran = ended.run(steps);
-    let mut world = World::open(alloc, network)?;
-    // A network has no faults, so the headline holds of each world that its steps lead to.
-    let _links = network.links();
-    let mut recorder = Recorder::new(alloc, network)?;
-    let opening = opening_value(alloc, network, directory, &recorder, ran.done, every)?;
-    write_value(alloc, &opening, out)?;
-    write_state(alloc, &world, &mut recorder, 0, None, out)?;
     let done = &steps[..ran.done];
-    for (before, step) in done.iter().enumerate() {
-        if let Err(_refusal) = recorder.step(&mut world, *step) {
-            return Err(StatesFault::NoMemory);
-        }
-        let number = before + 1;
-        if number % every == 0 || number == ran.done {
-            let text = StepText::new(directory, network.links(), *step);
-            write_state(alloc, &world, &mut recorder, number, Some(text), out)?;
-        }
-    }
+    write_done(alloc, network, directory, done, stride(every), out)?;
     Ok(ran)
 }
 
@@ -69,27 +68,119 @@ fn count(steps: &[Step]) -> usize
     steps.len()
 }
 
+// After how many steps there is a state each.
+fn stride(every: usize) -> usize
+    ensures exact { result ≡ stride_of every }
+    ensures positive { 0 < result }
+{
+    if every == 0 { 1 } else { every }
+}
+
+// Whether the state after so many steps is told.
+fn is_told(number: usize, every: usize, last: usize) -> bool
+    requires { 0 < every }
+    ensures { result ≡ told_of every last number }
+{
+    number % every == 0 || number == last
+}
+
+// Writes the opening's line and the states of steps, up to the last.
+fn write_done<'n, W: Write>(
+    alloc: Global,
+    network: &'n Network,
+    directory: &'n Directory,
+    steps: &[Step],
+    every: usize,
+    out: &mut W,
+) -> Result<(), StatesFault>
+    requires { 0 < every }
+    ensures { OnOk result ((text : Text) × IsStatesText network.now directory.now steps.now every text
+        × Appends (W.contents out.old) (W.contents out.new) text) }
+{
+    let world = World::open(alloc, network)?;
+    let mut recorder = Recorder::new(alloc, network)?;
+    let prefixes = &recorder.prefixes;
+    let opening = opening_value(alloc, network, directory, prefixes, steps.len(), every)?;
+    write_value(alloc, &opening, out)?;
+    write_state(alloc, &world, &mut recorder, 0, None, out)?;
+    write_steps(
+        alloc, network, directory, steps, every, world, recorder, out,
+    )
+}
+
+// Does steps from the opening, whose state was shown, and writes the states after them.
+fn write_steps<'n, W: Write>(
+    alloc: Global,
+    network: &'n Network,
+    directory: &'n Directory,
+    steps: &[Step],
+    every: usize,
+    mut world: World,
+    mut recorder: Recorder,
+    out: &mut W,
+) -> Result<(), StatesFault>
+    requires every { 0 < every }
+    requires opens { world ≡ model.opening network.now }
+    requires of { IsRecorderOf world recorder }
+    requires shows { ShowsWorld world recorder }
+    ensures { OnOk result ((lines : List Text)
+        × Tell network.now directory.now steps.now (numbers_from every (length steps.now) 1) recorder lines
+        × Appends (W.contents out.old) (W.contents out.new) (lines_text (λ t. t) lines)) }
+{
+    // A network has no faults, so the headline holds of each world that its steps lead to.
+    let links = network.links();
+    for (before, step) in steps.iter().enumerate() {
+        if let Err(_refusal) = recorder.step(&mut world, *step) {
+            return Err(StatesFault::NoMemory);
+        }
+        let number = before + 1;
+        if is_told(number, every, steps.len()) {
+            let text = text_of(alloc, directory, links, step)?;
+            write_state(alloc, &world, &mut recorder, number, Some(text), out)?;
+        }
+    }
+    Ok(())
+}
+
+// A step as a script says it.
+fn text_of<'n>(
+    alloc: Global,
+    directory: &'n Directory,
+    links: &'n [LinkSpec],
+    step: &Step,
+) -> Result<String, NoMemory>
+    ensures { IfOk result (λ text. string_bytes text ≡ step_text directory.now links.now step.now) }
+{
+    Ok(StepText::new(directory, links, *step).to_string(alloc)?)
+}
+
 // Writes a state: after how many steps it is, the last of them, and what has changed since the state before.
 fn write_state<W: Write>(
     alloc: Global,
     world: &World,
     recorder: &mut Recorder,
     number: usize,
-    step: Option<StepText<'_>>,
+    step: Option<String>,
     out: &mut W,
 ) -> Result<(), StatesFault>
     requires of { IsRecorderOf world.now recorder.old }
     requires current { IsCurrent world.now recorder.old }
     ensures of { IsRecorderOf world.now recorder.new }
     ensures shows { OnOk result (ShowsWorld world.now recorder.new) }
+    ensures told { OnOk result ((c : ChangesTold) × Follows c recorder.old recorder.new
+        × Appends (W.contents out.old) (W.contents out.new)
+        (line_text (state_data world.now recorder.new.prefixes.items number (option_map string_bytes step) c))) }
 {
     let changes = recorder.changes(alloc, world)?;
-    let state = state_value(alloc, world, recorder, number, step, &changes)?;
+    let state = state_value(alloc, world, &recorder.prefixes, number, step, &changes)?;
     write_value(alloc, &state, out)
 }
 
 // Writes a value on a line of its own.
-fn write_value<W: Write>(alloc: Global, value: &Value, out: &mut W) -> Result<(), StatesFault> {
+fn write_value<W: Write>(alloc: Global, value: &Value, out: &mut W) -> Result<(), StatesFault>
+    requires { has_float (view value.now) ≡ false }
+    ensures { OnOk result (Appends (W.contents out.old) (W.contents out.new) (line_text (view value.now))) }
+{
     let Ok(text) = value.to_string(alloc) else {
         return Err(StatesFault::NoMemory);
     };
@@ -106,31 +197,59 @@ fn opening_value(
     alloc: Global,
     network: &Network,
     directory: &Directory,
-    recorder: &Recorder,
+    prefixes: &[Prefix],
     steps: usize,
     every: usize,
-) -> Result<Value, NoMemory> {
-    let mut routers = Vec::new(alloc);
-    for router in 0..network.routers() {
-        routers.push(Value::try_from_str(alloc, directory.name(Some(router)))?)?;
+) -> Result<Value, NoMemory>
+    ensures { IfOk result (λ v. view v ≡ opening_data network.now directory.now prefixes.now steps every) }
+{
+    let mut members = Map::new(alloc);
+    let kind = Value::try_from_str(alloc, "opening")?;
+    put(&mut members, alloc, "kind", kind)?;
+    put(&mut members, alloc, "format", Value::from(1_u8))?;
+    put(&mut members, alloc, "steps", Value::from(steps))?;
+    put(&mut members, alloc, "every", Value::from(every))?;
+    let routers = name_values(alloc, directory, network.routers())?;
+    put_array(&mut members, alloc, "routers", routers)?;
+    let links = end_values(alloc, network.links())?;
+    put_array(&mut members, alloc, "links", links)?;
+    let prefixes = prefix_values(alloc, prefixes)?;
+    put_array(&mut members, alloc, "prefixes", prefixes)?;
+    Ok(Value::Object(members))
+}
+
+// The names of so many routers.
+fn name_values(alloc: Global, directory: &Directory, routers: u16) -> Result<Vec<Value>, AllocError>
+    ensures { IfOk result (λ v. map view v.items
+        ≡ map (λ i. word (name_text directory.now (Some i))) (range_with_len 0 routers)) }
+{
+    let mut values = Vec::new(alloc);
+    for router in 0..routers {
+        values.push(Value::try_from_str(alloc, directory.name(Some(router)))?)?;
     }
-    let mut links = Vec::new(alloc);
-    for link in network.links() {
-        links.push(json!(in alloc; [link.a, link.b])?)?;
+    Ok(values)
+}
+
+// The routers at the ends of links.
+fn end_values(alloc: Global, links: &[LinkSpec]) -> Result<Vec<Value>, AllocError>
+    ensures { IfOk result (λ v. map view v.items
+        ≡ map (λ k. list (number_of k.a ∷ number_of k.b ∷ [])) links.now) }
+{
+    let mut values = Vec::new(alloc);
+    for link in links {
+        values.push(json!(in alloc; [link.a, link.b])?)?;
     }
-    let mut prefixes = Vec::new(alloc);
-    for prefix in &recorder.prefixes {
-        prefixes.push(Value::String(prefix.to_string(alloc)?))?;
+    Ok(values)
+}
+
+fn prefix_values(alloc: Global, prefixes: &[Prefix]) -> Result<Vec<Value>, AllocError>
+    ensures { IfOk result (λ v. map view v.items ≡ map (λ p. word (prefix_text p)) prefixes.now) }
+{
+    let mut values = Vec::new(alloc);
+    for &prefix in prefixes {
+        values.push(Value::String(prefix.to_string(alloc)?))?;
     }
-    Ok(json!(in alloc; {
-        "kind": "opening",
-        "format": 1,
-        "steps": steps,
-        "every": every,
-        "routers": routers,
-        "links": links,
-        "prefixes": prefixes
-    })?)
+    Ok(values)
 }
 
 // A state: after how many steps it is, the last of them, and what has changed. Where nothing has, nothing is
@@ -138,85 +257,39 @@ fn opening_value(
 fn state_value(
     alloc: Global,
     world: &World,
-    recorder: &Recorder,
+    prefixes: &[Prefix],
     number: usize,
-    step: Option<StepText<'_>>,
+    step: Option<String>,
     changes: &Changes,
-) -> Result<Value, NoMemory> {
+) -> Result<Value, NoMemory>
+    ensures { IfOk result (λ v. view v ≡ state_data world.now prefixes.now number (option_map string_bytes step) changes.now) }
+{
     let mut members = Map::new(alloc);
-    put(
-        &mut members,
-        alloc,
-        "kind",
-        Value::try_from_str(alloc, "state")?,
-    )?;
+    let kind = Value::try_from_str(alloc, "state")?;
+    put(&mut members, alloc, "kind", kind)?;
     put(&mut members, alloc, "number", Value::from(number))?;
-    if let Some(step) = step {
-        put(
-            &mut members,
-            alloc,
-            "step",
-            Value::String(step.to_string(alloc)?),
-        )?;
-    }
-    let (links, queues) = link_values(alloc, &recorder.prefixes, &changes.links)?;
-    let (routers, machines) = router_values(alloc, world, &changes.routers)?;
+    put_step(&mut members, alloc, step)?;
+    let links = link_values(alloc, &changes.links)?;
     put_list(&mut members, alloc, "links", links)?;
+    let routers = router_values(alloc, &changes.routers)?;
     put_list(&mut members, alloc, "routers", routers)?;
+    let machines = machine_values(alloc, world, &changes.routers)?;
     put_list(&mut members, alloc, "machines", machines)?;
+    let queues = queue_values(alloc, prefixes, &changes.links)?;
     put_list(&mut members, alloc, "queues", queues)?;
     Ok(Value::Object(members))
 }
 
-// What became of links, and of their queues.
-fn link_values(
-    alloc: Global,
-    prefixes: &[Prefix],
-    changes: &[(u16, LinkChange)],
-) -> Result<(Vec<Value>, Vec<Value>), NoMemory> {
-    let mut links = Vec::new(alloc);
-    let mut queues = Vec::new(alloc);
-    for (link, change) in changes {
-        if let Some(shown) = change.shown {
-            links.push(link_value(alloc, usize::from(*link), shown)?)?;
-        }
-        for (end, queue) in [(End::A, &change.to_a), (End::B, &change.to_b)] {
-            if !queue.is_nothing() {
-                queues.push(queue_value(alloc, prefixes, usize::from(*link), end, queue)?)?;
-            }
-        }
-    }
-    Ok((links, queues))
-}
-
-// What became of routers, and of their machines.
-fn router_values(
-    alloc: Global,
-    world: &World,
-    changes: &[(u16, RouterChange)],
-) -> Result<(Vec<Value>, Vec<Value>), NoMemory> {
-    let mut routers = Vec::new(alloc);
-    let mut machines = Vec::new(alloc);
-    for (router, change) in changes {
-        if let Some(shown) = change.shown {
-            routers.push(router_value(alloc, usize::from(*router), shown)?)?;
-        }
-        for &(prefix, shown) in &change.machines {
-            machines.push(machine_value(alloc, world, *router, prefix, shown)?)?;
-        }
-    }
-    Ok((routers, machines))
-}
-
-// The member of a list, where it is not empty.
-fn put_list(
+// Puts the text of a step.
+fn put_step(
     members: &mut Map<String, Value>,
     alloc: Global,
-    key: &str,
-    list: Vec<Value>,
-) -> Result<(), NoMemory> {
-    if !list.is_empty() {
-        put(members, alloc, key, Value::Array(list))?;
+    step: Option<String>,
+) -> Result<(), AllocError>
+    ensures { OnOk result (members_view members.new.entries ≡ with_step (option_map string_bytes step) (members_view members.old.entries)) }
+{
+    if let Some(text) = step {
+        put(members, alloc, "step", Value::String(text))?;
     }
     Ok(())
 }

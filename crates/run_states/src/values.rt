@@ -1,15 +1,17 @@
 //! The JSON of what changed. A router, a link, a prefix and an end of a link go by their numbers, as the
 //! opening lists them.
 
-ghost use Rattle.std.specs.Prelude.{◌≡◌, IfOk, OnOk, map, option_map, position};
+ghost use Rattle.std.specs.Prelude.{◌≡◌, ◌++◌, IfOk, OnOk, map, option_map, position};
 ghost use Rattle.std.specs.List.{range_with_len};
-ghost use Rattle.serde_json.specs.Data.{array, object, string};
+ghost use Rattle.serde_json.specs.Data.{array, object, put as with_member, string};
 ghost use Rattle.serde_json.specs.View.{view, items_of, items_view, members_view};
 ghost use Rattle.ipv4_prefix.specs.Prefix.{prefix_eq};
 ghost use Rattle.network_model.specs.World.{place_at};
-ghost use Rattle.run_states.specs.Values.{link_data, router_data, machine_data, queue_data, item_data, entry_data, distance_data, ports_data, port_data, items_data, kind_text, number_of_end, number_of_prefix, put_if as if_put};
+ghost use Rattle.run_states.specs.Values.{link_data, router_data, machine_data, queue_data, item_data, entry_data, distance_data, ports_data, port_data, items_data, kind_text, list, listed, links_data, routers_data, machines_data, queue_listed, queues_data, number_of_end, number_of_prefix, put_if as if_put, put_list as with_list};
 
+use crate::link_book::LinkChange;
 use crate::queue::QueueChange;
+use crate::router_book::RouterChange;
 use crate::shown::{LinkShown, MachineShown, RouterShown};
 use diffusing_replies::PortSet;
 use ipv4_prefix::Prefix;
@@ -19,20 +21,16 @@ use serde_json::{Map, Value, json, put};
 use std::alloc::{AllocError, Global};
 use world::World;
 
-/// What is shown of the link of this number.
-pub(crate) fn link_value(alloc: Global, number: usize, link: LinkShown) -> Result<Value, AllocError>
+// What is shown of the link of this number.
+fn link_value(alloc: Global, number: usize, link: LinkShown) -> Result<Value, AllocError>
     ensures { IfOk result (λ v. view v ≡ link_data number link) }
 {
     let costs = json!(in alloc; [link.from_a.value(), link.from_b.value()])?;
     json!(in alloc; {"link": number, "up": link.up, "session": link.session, "costs": costs})
 }
 
-/// What is shown of the router of this number.
-pub(crate) fn router_value(
-    alloc: Global,
-    number: usize,
-    router: RouterShown,
-) -> Result<Value, AllocError>
+// What is shown of the router of this number.
+fn router_value(alloc: Global, number: usize, router: RouterShown) -> Result<Value, AllocError>
     ensures { IfOk result (λ v. view v ≡ router_data number router) }
 {
     json!(in alloc; {
@@ -44,8 +42,8 @@ pub(crate) fn router_value(
     })
 }
 
-/// What is shown of a router's machine for the prefix of this number.
-pub(crate) fn machine_value(
+// What is shown of a router's machine for the prefix of this number.
+fn machine_value(
     alloc: Global,
     world: &World,
     router: u16,
@@ -140,8 +138,8 @@ fn ports_value(
     Ok(Value::Array(links))
 }
 
-/// What became of the items that an end of a link has yet to take. What did not happen is not named.
-pub(crate) fn queue_value(
+// What became of the items that an end of a link has yet to take. What did not happen is not named.
+fn queue_value(
     alloc: Global,
     prefixes: &[Prefix],
     link: usize,
@@ -243,4 +241,152 @@ fn is_same(one: Prefix, other: Prefix) -> bool
     ensures { result ≡ prefix_eq one other }
 {
     one == other
+}
+
+/// The links that are others.
+pub(crate) fn link_values(
+    alloc: Global,
+    changes: &[(u16, LinkChange)],
+) -> Result<Vec<Value>, AllocError>
+    ensures { IfOk result (λ v. map view v.items ≡ links_data changes.now) }
+{
+    let mut values = Vec::new(alloc);
+    for (link, change) in changes {
+        push_link(alloc, &mut values, usize::from(*link), change.shown)?;
+    }
+    Ok(values)
+}
+
+fn push_link(
+    alloc: Global,
+    values: &mut Vec<Value>,
+    link: usize,
+    shown: Option<LinkShown>,
+) -> Result<(), AllocError>
+    ensures { OnOk result (map view values.new.items ≡ map view values.old.items ++ listed (link_data link) shown) }
+{
+    if let Some(shown) = shown {
+        values.push(link_value(alloc, link, shown)?)?;
+    }
+    Ok(())
+}
+
+/// The routers that are others.
+pub(crate) fn router_values(
+    alloc: Global,
+    changes: &[(u16, RouterChange)],
+) -> Result<Vec<Value>, AllocError>
+    ensures { IfOk result (λ v. map view v.items ≡ routers_data changes.now) }
+{
+    let mut values = Vec::new(alloc);
+    for (router, change) in changes {
+        push_router(alloc, &mut values, usize::from(*router), change.shown)?;
+    }
+    Ok(values)
+}
+
+fn push_router(
+    alloc: Global,
+    values: &mut Vec<Value>,
+    router: usize,
+    shown: Option<RouterShown>,
+) -> Result<(), AllocError>
+    ensures { OnOk result (map view values.new.items ≡ map view values.old.items ++ listed (router_data router) shown) }
+{
+    if let Some(shown) = shown {
+        values.push(router_value(alloc, router, shown)?)?;
+    }
+    Ok(())
+}
+
+/// The machines that are others.
+pub(crate) fn machine_values(
+    alloc: Global,
+    world: &World,
+    changes: &[(u16, RouterChange)],
+) -> Result<Vec<Value>, AllocError>
+    ensures { IfOk result (λ v. map view v.items ≡ machines_data world.now changes.now) }
+{
+    let mut values = Vec::new(alloc);
+    for (router, change) in changes {
+        push_machines(alloc, world, &mut values, *router, &change.machines)?;
+    }
+    Ok(values)
+}
+
+fn push_machines(
+    alloc: Global,
+    world: &World,
+    values: &mut Vec<Value>,
+    router: u16,
+    machines: &[(usize, MachineShown)],
+) -> Result<(), AllocError>
+    ensures { OnOk result (map view values.new.items
+        ≡ map view values.old.items ++ map (λ m. machine_data world.now router m.0 m.1) machines.now) }
+{
+    for &(prefix, shown) in machines {
+        values.push(machine_value(alloc, world, router, prefix, shown)?)?;
+    }
+    Ok(())
+}
+
+/// The queues of which something became.
+pub(crate) fn queue_values(
+    alloc: Global,
+    prefixes: &[Prefix],
+    changes: &[(u16, LinkChange)],
+) -> Result<Vec<Value>, AllocError>
+    ensures { IfOk result (λ v. map view v.items ≡ queues_data prefixes.now changes.now) }
+{
+    let mut values = Vec::new(alloc);
+    for (link, change) in changes {
+        let link = usize::from(*link);
+        push_queue(alloc, prefixes, &mut values, link, End::A, &change.to_a)?;
+        push_queue(alloc, prefixes, &mut values, link, End::B, &change.to_b)?;
+    }
+    Ok(values)
+}
+
+fn push_queue(
+    alloc: Global,
+    prefixes: &[Prefix],
+    values: &mut Vec<Value>,
+    link: usize,
+    end: End,
+    change: &QueueChange,
+) -> Result<(), AllocError>
+    ensures { OnOk result (map view values.new.items
+        ≡ map view values.old.items ++ queue_listed prefixes.now link end change.now) }
+{
+    if !change.is_nothing() {
+        values.push(queue_value(alloc, prefixes, link, end, change)?)?;
+    }
+    Ok(())
+}
+
+/// Puts a list where it is not empty.
+pub(crate) fn put_list(
+    members: &mut Map<String, Value>,
+    alloc: Global,
+    key: &str,
+    values: Vec<Value>,
+) -> Result<(), AllocError>
+    ensures { OnOk result (members_view members.new.entries
+        ≡ with_list key.now (map view values.items) (members_view members.old.entries)) }
+{
+    let some = values.len() > 0;
+    put_if(members, alloc, key, some, Value::Array(values))
+}
+
+/// Puts a list.
+pub(crate) fn put_array(
+    members: &mut Map<String, Value>,
+    alloc: Global,
+    key: &str,
+    values: Vec<Value>,
+) -> Result<(), AllocError>
+    ensures { OnOk result (members_view members.new.entries
+        ≡ with_member key.now (list (map view values.items)) (members_view members.old.entries)) }
+{
+    put(members, alloc, key, Value::Array(values))
 }

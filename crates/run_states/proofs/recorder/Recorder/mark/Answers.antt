@@ -1,9 +1,24 @@
 use Rattle.std.proofs.Common.{◌≡◌, false, refl, ap, sym, subst, ◌∙◌}
-use Rattle.network_model.specs.declared.step.Step.TheVariants.{Deliver, Publish, Release, Attach, Detach}
+use Rattle.network_model.specs.declared.step.Step.TheVariants.{LinkUp, LinkDown, SetCost, Deliver, Publish, Release, Attach, Detach}
 use Rattle.run_states.specs.Books.{covers}
 use Rattle.run_states.specs.Marks.{Marks, touches}
-use Rattle.run_states.proofs.Marked.{no_link, router_marks}
+use Rattle.run_states.proofs.Marked.{link_marks, no_link, router_marks}
 use Rattle.run_states.proofs.recorder.Recorder.mark.Goals as goal
+
+pub returns-in-LinkUp : goal.returns-in-LinkUp
+returns-in-LinkUp c =
+    let w = c.args.world.now in
+    subst (λ s. Marks w s c.args.self.now c.mark_link.new.self) (sym c.in-LinkUp.is) (link_marks w (LinkUp c.in-LinkUp.link) c.args.self.now c.mark_link.new.self refl c.mark_link.ensures)
+
+pub returns-in-LinkDown : goal.returns-in-LinkDown
+returns-in-LinkDown c =
+    let w = c.args.world.now in
+    subst (λ s. Marks w s c.args.self.now c.mark_cut.new.self) (sym c.in-LinkDown.is) (link_marks w (LinkDown c.in-LinkDown.link) c.args.self.now c.mark_cut.new.self refl c.mark_cut.ensures)
+
+pub returns-in-SetCost : goal.returns-in-SetCost
+returns-in-SetCost c =
+    let w = c.args.world.now in
+    subst (λ s. Marks w s c.args.self.now c.mark_port.new.self) (sym c.in-SetCost.is) (link_marks w (SetCost c.in-SetCost.router c.in-SetCost.port c.in-SetCost.cost) c.args.self.now c.mark_port.new.self refl c.mark_port.ensures)
 
 pub returns-in-Deliver : goal.returns-in-Deliver
 returns-in-Deliver c =

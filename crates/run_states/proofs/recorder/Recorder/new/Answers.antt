@@ -29,3 +29,6 @@ returns-clause-current c = record {
         absurd (false≢true (all_at (λ k. k ≡ true) (b.marks).items j false (all_at (λ x. All (λ k. k ≡ true) (x.marks).items) (c.loop-2.routers).items i b c.loop-2.invariant.marks book) unmarked));
   };
 }
+
+pub returns-clause-blank : goal.returns-clause-blank
+returns-clause-blank c = record { links = c.loop.invariant.blank; routers = c.loop-2.invariant.blank }
