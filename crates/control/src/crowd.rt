@@ -1,5 +1,6 @@
 //! Threads that rest until there is enough to do for one more.
 
+use crate::crew::Thresholds;
 use std::sync::Wait;
 use std::sync::atomic::{AtomicBool, AtomicU64, Ordering};
 
@@ -7,6 +8,7 @@ use std::sync::atomic::{AtomicBool, AtomicU64, Ordering};
 #[derive(Drop)]
 pub struct Crowd {
     threads: u64,
+    thresholds: Thresholds,
     at_work: AtomicU64,
     calls: AtomicU64,
     over: AtomicBool,
@@ -14,22 +16,29 @@ pub struct Crowd {
 
 impl Crowd {
     /// So many threads, none of which is at work yet.
-    pub fn new(threads: usize) -> Crowd {
+    pub fn new(threads: usize, thresholds: Thresholds) -> Crowd {
         Crowd {
             threads: threads as u64,
+            thresholds,
             at_work: AtomicU64::new(0),
             calls: AtomicU64::new(0),
             over: AtomicBool::new(false),
         }
     }
 
-    /// A thread comes. The first goes to work, another rests until it is called.
+    /// With how many rows to publish its threads are called.
+    pub fn thresholds(&self) -> Thresholds {
+        self.thresholds
+    }
+
+    /// A thread comes. The first goes to work, another rests until a thread is called. A call that was made
+    /// before it came counts.
     pub fn enter<R: Wait>(&self, rt: &R) {
         let first = self
             .at_work
             .compare_exchange(0, 1, Ordering::SeqCst, Ordering::SeqCst);
         if first.is_err() {
-            self.sleep(rt);
+            self.sleep(rt, 0);
         }
     }
 
@@ -40,13 +49,12 @@ impl Crowd {
             self.at_work.fetch_add(1, Ordering::SeqCst);
             return false;
         }
-        self.sleep(rt);
+        self.sleep(rt, self.calls.load(Ordering::SeqCst));
         true
     }
 
-    // Until the next call.
-    fn sleep<R: Wait>(&self, rt: &R) {
-        let seen = self.calls.load(Ordering::SeqCst);
+    // Until there are more calls than it has seen.
+    fn sleep<R: Wait>(&self, rt: &R, seen: u64) {
         for _ in rt.forever() {
             if self.is_over() || self.calls.load(Ordering::SeqCst) != seen {
                 break;

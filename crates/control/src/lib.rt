@@ -22,8 +22,8 @@
 //!   next. A turn that publishes takes a ticket under the lock, publishes without it, and gives the ticket
 //!   back under it again.
 //! - [`Control::serve`] starts a thread for each share, which takes turns at its own routers until the
-//!   fabric is settled. [`settle`] does it with one thread, and calls others where there is much to
-//!   publish.
+//!   fabric is settled. [`settle`] does it with one thread, and calls others where there is as much to
+//!   publish as its caller's [`Thresholds`] say.
 //!
 //! What always holds: what lies under the lock is the fabric of the name with some more steps done, each
 //! one that some router had to do next, or that may be asked for (`IsServed` in `specs/Served.antt`), so
@@ -31,6 +31,7 @@
 #![tactic(auto)]
 
 mod control;
+mod crew;
 mod crowd;
 mod guarded;
 mod name;
@@ -42,9 +43,10 @@ mod share;
 mod watch;
 
 pub use control::Control;
+pub use crew::{Crew, NO_THRESHOLDS, THRESHOLDS, Thresholds};
 pub use name::ControlName;
 pub use network_model::{Refusal, Step};
 pub use progress::Progress;
-pub use serve::TurnGate;
+pub use serve::{NoGate, TurnGate};
 pub use settling::settle;
 pub use share::{Opening, Share};

@@ -5,8 +5,10 @@ ghost use Rattle.network_model.specs.Turns as turns;
 ghost use Rattle.control.specs.Served.{CanFailOutside, IsServed, IsTurnRefused};
 ghost use Rattle.control.specs.Shares.{IsHolder};
 
+use crate::crew::Thresholds;
 use crate::guarded::Guarded;
 use crate::name::ControlName;
+use crate::serve::TurnGate;
 use crate::share::Share;
 use crate::watch::Watch;
 use fabric::Fabric;
@@ -20,19 +22,12 @@ pub const MOST_TICKETS: usize = 64;
 // The most turns of a pass, after which another thread may have the lock.
 const MOST_TURNS: usize = 1024;
 
-// A publication of fewer rows is done under the lock: to let its writer go out would take longer.
-const ROWS_TO_LEND: usize = 32;
-
-/// With so many rows to publish outside the lock a pass ends, and it is worth while to call another
-/// thread.
-pub const ROWS_TO_CALL: usize = 512;
-
 /// How far a pass has come.
 #[derive(Clone, Copy)]
 pub struct Pass {
     /// The router with which the next pass begins.
     pub router: u16,
-    /// How many rows are to be published by the tickets that it took.
+    /// How many rows are to be published by the tickets that it took, one at least by each.
     pub rows: usize,
     /// Whether nothing is left to do.
     pub settled: bool,
@@ -47,6 +42,7 @@ impl<B: FabricName, N: ControlName> Guarded<B, N> {
         &mut self,
         rt: &R,
         router: u16,
+        thresholds: Thresholds,
         share: &mut Share<N>,
         tickets: &mut Vec<Ticket<B>>,
     ) -> Result<Pass, Refusal>
@@ -65,15 +61,15 @@ impl<B: FabricName, N: ControlName> Guarded<B, N> {
             settled: false,
         };
         for _ in 0..MOST_TURNS {
-            let next = if pass.rows < ROWS_TO_CALL {
-                self.watch.next(pass.router)
-            } else {
+            let next = if thresholds.calls(pass.rows) {
                 None
+            } else {
+                self.watch.next(pass.router)
             };
             let Some(router) = next else {
                 break;
             };
-            let rows = self.turn(rt, router, share, tickets)?;
+            let rows = self.turn(rt, router, thresholds, share, tickets)?;
             pass.rows = pass.rows.saturating_add(rows);
             pass.router = router.wrapping_add(1);
         }
@@ -81,11 +77,12 @@ impl<B: FabricName, N: ControlName> Guarded<B, N> {
         Ok(pass)
     }
 
-    // A turn of a router. Of a publication that is left to a ticket it tells how many rows it has.
+    // A turn of a router. Of a publication that is left to a ticket it tells how many rows it counts as.
     fn turn<R: Wait>(
         &mut self,
         rt: &R,
         router: u16,
+        thresholds: Thresholds,
         share: &mut Share<N>,
         tickets: &mut Vec<Ticket<B>>,
     ) -> Result<usize, Refusal>
@@ -99,11 +96,11 @@ impl<B: FabricName, N: ControlName> Guarded<B, N> {
             return Ok(0);
         }
         let rows = rows_due(&self.fabric, router);
-        let lends = tickets.len() < tickets.capacity() && rows >= ROWS_TO_LEND;
+        let lends = tickets.len() < tickets.capacity() && thresholds.lends(rows);
         let (done, ticket) = self.begin(rt, router, lends, share);
         if let Some(ticket) = ticket {
             tickets.push_reserved(ticket);
-            return Ok(rows);
+            return Ok(rows.max(1));
         }
         match done {
             Ok(Some(_)) => Ok(0),
@@ -146,15 +143,18 @@ pub fn rows_due<B: FabricName>(fabric: &Fabric<B>, router: u16) -> usize {
     }
 }
 
-/// Publishes what tickets are out with, up to the first for which there is no memory.
-pub fn publish_all<B: FabricName, R: Wait>(
+/// A thread publishes what tickets are out with, up to the first for which there is no memory.
+pub fn publish_all<B: FabricName, R: Wait, G: TurnGate>(
     rt: &R,
+    thread: u8,
     tickets: &mut Vec<Ticket<B>>,
+    gate: &G,
 ) -> Result<(), NoMemory>
     ensures { vec_len tickets.new ≡ vec_len tickets.old }
 {
     for ticket in tickets.as_mut_slice() {
         if !ticket.is_published() {
+            gate.publishing(thread, ticket.router());
             ticket.publish(rt)?;
         }
     }

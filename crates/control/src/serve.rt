@@ -19,7 +19,8 @@ use std::thread::Threads;
 
 /// What a thread that serves calls before and after each of its turns, and once a turn has a ticket,
 /// before it publishes, while it has no lock. Threads are numbered as their shares, and each counts its
-/// turns from 1; the count stays at the greatest.
+/// turns from 1; the count stays at the greatest. A thread of those that settle together takes many turns
+/// under one lock: it calls `before` and `after` for each such pass, and counts these.
 pub trait TurnGate {
     fn before(&self, thread: u8, turn: u64);
 
@@ -28,8 +29,8 @@ pub trait TurnGate {
     fn after(&self, thread: u8, turn: u64);
 }
 
-// A gate that is always open.
-pub(crate) struct NoGate;
+/// A gate that is always open.
+pub struct NoGate;
 
 impl TurnGate for NoGate {
     fn before(&self, _thread: u8, _turn: u64) {}

@@ -10,11 +10,12 @@ ghost use Rattle.control.specs.Served.{CanFailOutside, IsServed, IsStopped, IsTu
 ghost use Rattle.control.specs.Shares.{IsHolder, AreSameHolders};
 
 use crate::control::Control;
+use crate::crew::{Crew, Thresholds};
 use crate::crowd::Crowd;
 use crate::name::ControlName;
-use crate::pass::{MOST_TICKETS, Pass, ROWS_TO_CALL, publish_all, rows_due};
+use crate::pass::{MOST_TICKETS, Pass, publish_all, rows_due};
 use crate::progress::{Progress, STEPS_BETWEEN};
-use crate::serve::first_refusal;
+use crate::serve::{TurnGate, first_refusal};
 use crate::share::{Halt, Opening, Share};
 use crate::watch::Watch;
 use core::mem::replace_with;
@@ -26,9 +27,6 @@ use std::marker::Brand;
 use std::sync::Wait;
 use std::thread;
 use std::thread::Threads;
-
-// With so many rows to publish in all it is worth while to start threads.
-const ROWS_TO_START: usize = 16_384;
 
 // The fabric that is to be settled. The functions that settle it have it as a type parameter.
 trait Origin {
@@ -45,20 +43,22 @@ impl Origin for Brand {
 
 /// Lets routers take turns until nothing is left to do, or a step is refused, or there is no memory for
 /// the threads' shares. Where it is done all is quiet, and rows lead along least-cost walks. One thread
-/// takes all turns, in ascending cyclic order of the routers; while there is much to publish, up to so
-/// many do it together, and where the system gives fewer, those that it gives do all. One thread alone
-/// is refused with `JournalFull` or `NoMemory` and with nothing else. Where a writer is out, it does not
-/// come back. How far it is, `progress` is told.
-pub fn settle<B, P, R>(
+/// takes all turns, in ascending cyclic order of the routers; while there is as much to publish as the crew's
+/// thresholds say, up to so many do it together, and where the system gives fewer, those that it gives do
+/// all. These call the gate. One thread alone is refused with `JournalFull` or `NoMemory` and with nothing
+/// else. Where a writer is out, it does not come back. How far it is, `progress` is told.
+pub fn settle<B, P, G, R>(
     rt: &R,
     alloc: Global,
     fabric: &mut Fabric<B>,
-    threads: u8,
+    crew: Crew,
+    gate: &G,
     progress: &mut P,
 ) -> Result<(), Refusal>
 where
     B: FabricName + Send + Sync,
     P: Progress,
+    G: TurnGate + Sync,
     R: Threads + Wait + Sync,
     ensures turns { IsServed fabric.old none_asked fabric.new }
     ensures settled { OnOk result (IsTrue (turns.is_settled (fabric.new).world)) }
@@ -66,63 +66,73 @@ where
     ensures least_cost { OnOk result (HasBestRows fabric.new) }
     ensures err { IfErr result (λ e. IsTurnRefused fabric.old none_asked e
         ⊎ (e ≡ Refusal.NoMemory)) }
-    ensures alone { threads ≤ 1 → IfErr result (IsStopped fabric.new) }
+    ensures alone { crew.threads ≤ 1 → IfErr result (IsStopped fabric.new) }
 {
-    let by = (rt, alloc, threads, progress);
+    let by = (rt, alloc, crew, gate, progress);
     let done = replace_with(fabric, by, |fabric, by| settle_moved(fabric, by));
     fabric.holds();
     done
 }
 
-// The fabric, settled by so many threads.
-fn settle_moved<B, P, R>(
+// The fabric, settled by such a crew.
+fn settle_moved<B, P, G, R>(
     fabric: Fabric<B>,
-    by: (&R, Global, u8, &mut P),
+    by: (&R, Global, Crew, &G, &mut P),
 ) -> (Fabric<B>, Result<(), Refusal>)
 where
     B: FabricName + Send + Sync,
     P: Progress,
+    G: TurnGate + Sync,
     R: Threads + Wait + Sync,
     ensures turns { IsServed fabric none_asked result.0 }
     ensures settled { OnOk result.1 (IsTrue (turns.is_settled (result.0).world)) }
     ensures quiet { OnOk result.1 (IsTrue (is_quiet (result.0).world)) }
     ensures err { IfErr result.1 (λ e. IsTurnRefused fabric none_asked e
         ⊎ (e ≡ Refusal.NoMemory)) }
-    ensures alone { by.entry.2 ≤ 1 → IfErr result.1 (IsStopped result.0) }
+    ensures alone { (by.entry.2).threads ≤ 1 → IfErr result.1 (IsStopped result.0) }
 {
-    let (rt, alloc, threads, progress) = by;
-    settle_from::<B, Brand, P, R>(rt, alloc, fabric, threads, progress)
+    let (rt, alloc, crew, gate, progress) = by;
+    settle_from::<B, Brand, P, G, R>(rt, alloc, fabric, crew, gate, progress)
 }
 
 // One thread alone, and while there is much to publish all together.
-fn settle_from<B, O, P, R>(
+fn settle_from<B, O, P, G, R>(
     rt: &R,
     alloc: Global,
     fabric: Fabric<B>,
-    threads: u8,
+    crew: Crew,
+    gate: &G,
     progress: &mut P,
 ) -> (Fabric<B>, Result<(), Refusal>)
 where
     B: FabricName + Send + Sync,
     O: Origin,
     P: Progress,
+    G: TurnGate + Sync,
     R: Threads + Wait + Sync,
     requires from { fabric ≡ O.from }
     ensures turns { IsServed O.from none_asked result.0 }
     ensures settled { OnOk result.1 (IsTrue (turns.is_settled (result.0).world)) }
     ensures quiet { OnOk result.1 (IsTrue (is_quiet (result.0).world)) }
     ensures err { IfErr result.1 (λ e. IsTurnRefused O.from none_asked e ⊎ (e ≡ Refusal.NoMemory)) }
-    ensures alone { threads ≤ 1 → IfErr result.1 (IsStopped result.0) }
+    ensures alone { crew.threads ≤ 1 → IfErr result.1 (IsStopped result.0) }
 {
     let mut fabric = fabric;
     for _ in rt.forever() {
-        let done = take_turns::<B, O, P, R>(rt, &mut fabric, threads > 1, progress);
+        let done = take_turns::<B, O, P, R>(rt, &mut fabric, crew, progress);
         if done.is_err() || fabric.is_settled() {
             return (fabric, done);
         }
-        if threads > 1 {
-            let opening = Opening::new(threads);
-            let (next, done) = settle_together::<B, Brand, R>(rt, alloc, opening, fabric);
+        if crew.threads > 1 {
+            let opening = Opening::new(crew.threads);
+            let (next, done) = settle_together::<B, Brand, G, R>(
+                rt,
+                alloc,
+                opening,
+                fabric,
+                crew.thresholds,
+                gate,
+            );
             if done.is_err() || next.is_settled() {
                 return (next, done);
             }
@@ -132,12 +142,12 @@ where
     unreachable!()
 }
 
-// One thread takes turns until nothing is left to do, or, where others may be started, there is enough to
+// One thread takes turns until nothing is left to do, or, where there are others, there is enough to
 // publish for them.
 fn take_turns<B, O, P, R>(
     rt: &R,
     fabric: &mut Fabric<B>,
-    may_start: bool,
+    crew: Crew,
     progress: &mut P,
 ) -> Result<(), Refusal>
 where
@@ -159,7 +169,7 @@ where
         router = found.wrapping_add(1);
         match fabric.next_step(found) {
             Some(step) => {
-                if may_start && is_worth_threads(fabric, &step) {
+                if crew.threads > 1 && is_worth_threads(fabric, crew.thresholds, &step) {
                     break;
                 }
                 // It tells that the step fits its number.
@@ -186,30 +196,37 @@ fn tell<B: FabricName, P: Progress>(fabric: &Fabric<B>, progress: &mut P) {
 
 // Whether the step is a large publication, and together with it there is enough to publish for several
 // threads.
-fn is_worth_threads<B: FabricName>(fabric: &Fabric<B>, step: &Step) -> bool {
+fn is_worth_threads<B: FabricName>(
+    fabric: &Fabric<B>,
+    thresholds: Thresholds,
+    step: &Step,
+) -> bool {
     let Step::Publish { router } = *step else {
         return false;
     };
-    if rows_due(fabric, router) < ROWS_TO_CALL {
+    if !thresholds.calls(rows_due(fabric, router).max(1)) {
         return false;
     }
     let mut rows: usize = 0;
     for router in 0..fabric.network().routers() {
         rows = rows.saturating_add(rows_due(fabric, router));
     }
-    rows >= ROWS_TO_START
+    thresholds.starts(rows.max(1))
 }
 
 // A thread for each share, while there is much to publish.
-fn settle_together<B, N, R>(
+fn settle_together<B, N, G, R>(
     rt: &R,
     alloc: Global,
     opening: Opening,
     fabric: Fabric<B>,
+    thresholds: Thresholds,
+    gate: &G,
 ) -> (Fabric<B>, Result<(), Refusal>)
 where
     B: FabricName + Send + Sync,
     N: ControlName + Send + Sync,
+    G: TurnGate + Sync,
     R: Threads + Wait + Sync,
     requires names { IsNamed opening N.high N.low N.shares }
     requires some { 0 < opening.shares }
@@ -219,7 +236,7 @@ where
 {
     match Control::<B, N>::new(alloc, opening, fabric) {
         Ok((control, mut shares)) => {
-            let done = control.settle(rt, alloc, &mut shares);
+            let done = control.settle(rt, alloc, thresholds, gate, &mut shares);
             (control.close(shares), done)
         }
         Err(fabric) => (fabric, Err(Refusal::NoMemory)),
@@ -229,10 +246,12 @@ where
 impl<B: FabricName + Send + Sync, N: ControlName + Send + Sync> Control<B, N> {
     // Where a turn is refused, each thread ends its pass, and the refusal of the lowest such thread is
     // answered.
-    fn settle<R: Threads + Wait + Sync>(
+    fn settle<R: Threads + Wait + Sync, G: TurnGate + Sync>(
         &self,
         rt: &R,
         alloc: Global,
+        thresholds: Thresholds,
+        gate: &G,
         shares: &mut Vec<Share<N>>,
     ) -> Result<(), Refusal>
         requires some { 0 < vec_len shares.old }
@@ -241,18 +260,25 @@ impl<B: FabricName + Send + Sync, N: ControlName + Send + Sync> Control<B, N> {
         ensures err { IfErr result (IsTurnRefused N.opened N.asked) }
     {
         let threads = shares.len();
-        let crowd = Crowd::new(threads);
+        let crowd = Crowd::new(threads, thresholds);
         thread::for_each_mut(
             rt,
             shares.as_mut_slice(),
             threads,
-            &|_place, share| { self.help(rt, alloc, share, &crowd) },
+            &|_place, share| { self.help(rt, alloc, share, &crowd, gate) },
         );
         first_refusal(shares.as_slice())
     }
 
     // The passes of a thread. Without memory for tickets it publishes all under the lock.
-    fn help<R: Wait>(&self, rt: &R, alloc: Global, share: &mut Share<N>, crowd: &Crowd)
+    fn help<R: Wait, G: TurnGate>(
+        &self,
+        rt: &R,
+        alloc: Global,
+        share: &mut Share<N>,
+        crowd: &Crowd,
+        gate: &G,
+    )
         ensures { IsHolder share.old share.new }
     {
         share.halt = Halt::none();
@@ -261,12 +287,18 @@ impl<B: FabricName + Send + Sync, N: ControlName + Send + Sync> Control<B, N> {
             Err(_) => Vec::new(alloc),
         };
         crowd.enter(rt);
+        let thread = share.number;
         let mut router = 0;
+        let mut turn: u64 = 1;
         for _ in rt.forever() {
             if crowd.is_over() {
                 break;
             }
-            match self.round(rt, router, share, &mut tickets, crowd) {
+            gate.before(thread, turn);
+            let done = self.round(rt, router, share, &mut tickets, crowd, gate);
+            gate.after(thread, turn);
+            turn = turn.saturating_add(1);
+            match done {
                 Ok(pass) => {
                     router = pass.router;
                     if pass.settled || pass.rows == 0 && !crowd.rest(rt) {
@@ -283,27 +315,32 @@ impl<B: FabricName + Send + Sync, N: ControlName + Send + Sync> Control<B, N> {
     }
 
     // A pass under the lock, and outside it the publications that it leaves to tickets.
-    fn round<R: Wait>(
+    fn round<R: Wait, G: TurnGate>(
         &self,
         rt: &R,
         router: u16,
         share: &mut Share<N>,
         tickets: &mut Vec<Ticket<B>>,
         crowd: &Crowd,
+        gate: &G,
     ) -> Result<Pass, Refusal>
         requires { 0 < vec_len tickets.old → CanFailOutside N.opened N.asked }
         ensures tickets { 0 < vec_len tickets.new → CanFailOutside N.opened N.asked }
         ensures err { IfErr result (IsTurnRefused N.opened N.asked) }
         ensures holder { IsHolder share.old share.new }
     {
-        let pass = self.guarded.lock(rt).pass(rt, router, share, tickets)?;
-        if pass.rows >= ROWS_TO_CALL {
+        let thresholds = crowd.thresholds();
+        let pass = self
+            .guarded
+            .lock(rt)
+            .pass(rt, router, thresholds, share, tickets)?;
+        if thresholds.calls(pass.rows) {
             crowd.call();
         }
         if tickets.is_empty() {
             return Ok(pass);
         }
-        match publish_all(rt, tickets) {
+        match publish_all(rt, share.number, tickets, gate) {
             Ok(()) => Ok(pass),
             Err(NoMemory) => Err(Refusal::NoMemory),
         }

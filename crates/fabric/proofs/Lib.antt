@@ -10,3 +10,4 @@ pub mod Publishing
 pub mod Causes
 pub mod Lending
 pub mod Seats
+pub mod Example

@@ -5,3 +5,4 @@ pub mod Images
 pub mod Patches
 pub mod Writers
 pub mod Headline
+pub mod Ahead

@@ -27,6 +27,8 @@
 //! A fabric is not `Drop`, since a writer ends only by `close`, which waits for its readers.
 #![tactic(auto)]
 
+ghost use Rattle.fabric.specs.Ahead.{SomePacketGoesAhead};
+
 mod desk;
 mod fabric;
 mod images;
@@ -36,3 +38,9 @@ pub use fabric::{Fabric, MOST_STEPS};
 pub use network_model::{Answer, Entry, Prefix, Refusal, Step};
 pub use publication::{FabricName, ImageReader, Job, Ticket, Unnamed};
 pub use world::{Network, Ran, World};
+
+/// The mixtures of which the headline speaks are not empty: in some fabric a packet goes on by a row that a
+/// writer is still out to publish.
+pub fn some_packet_goes_ahead()
+    ensures { SomePacketGoesAhead }
+{}

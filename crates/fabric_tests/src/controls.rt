@@ -5,8 +5,8 @@ ghost use Rattle.fabric.specs.Writers.{opening_tables};
 ghost use Rattle.control.specs.Names.{IsNamed};
 
 use crate::networks::two_routers;
-use crate::outside::publish_outside;
-use control::{Control, ControlName, Opening, Refusal, Share, Step, TurnGate, settle};
+use crate::outside::{publish_outside, settle_side_by_side};
+use control::{Control, ControlName, Opening, Refusal, Share, Step, TurnGate};
 use fabric::{Fabric, MOST_STEPS, Network, Unnamed};
 use network_model::Cost;
 use publication::FabricName;
@@ -66,7 +66,7 @@ where
         panic!(rt; "open");
     };
     let fabric = match trial {
-        Trial::Settles => settles(rt, alloc, fabric, shares),
+        Trial::Settles => settle_side_by_side(rt, alloc, fabric),
         _ => controlled::<B, Brand, H>(rt, alloc, Opening::new(shares), fabric, trial),
     };
     fabric.close(rt);
@@ -368,19 +368,6 @@ where
 #[test]
 fn two_threads_meet_in_their_turns(rt: HostRuntime) {
     two(&rt, rt.alloc(), 2, Trial::Meets);
-}
-
-fn settles<B, H>(rt: &H, alloc: Global, fabric: Fabric<B>, threads: u8) -> Fabric<B>
-where
-    B: FabricName + Send + Sync,
-    H: Threads + Wait + Abort + Sync,
-{
-    let mut fabric = fabric;
-    fabric.step(rt, UP).expect(rt, "step");
-    settle(rt, alloc, &mut fabric, threads, &mut ()).expect(rt, "turns");
-    assert!(rt; fabric.is_settled());
-    assert!(rt; fabric.journal().len() > 1);
-    fabric
 }
 
 #[test]

@@ -29,13 +29,16 @@ struct Waiting<'a, H> {
     rt: &'a H,
     begun: AtomicU64,
     answered: AtomicU64,
+    missed: AtomicU64,
 }
 
 impl<H: Clock> TurnGate for Waiting<'_, H> {
     fn before(&self, _thread: u8, turn: u64) {
         if turn == 1 {
             self.begun.store(1, Ordering::SeqCst);
-            gets_to(self.rt, &self.answered, 1);
+            if !gets_to(self.rt, &self.answered, 1) {
+                self.missed.fetch_add(1, Ordering::SeqCst);
+            }
         }
     }
 
@@ -136,12 +139,14 @@ where
         rt,
         begun: AtomicU64::new(0),
         answered: AtomicU64::new(0),
+        missed: AtomicU64::new(0),
     };
     let (shares, port) = thread::join(
         rt,
         || { serve(rt, control, shares, &gate) },
         || answer_first(rt, control, port, &gate),
     );
+    assert_eq!(rt; gate.missed.load(Ordering::SeqCst), 0);
     let mut port = port;
     let via = Entry::Via {
         port: 0,

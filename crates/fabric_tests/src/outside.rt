@@ -1,10 +1,14 @@
-//! Turns let the lock go while they publish.
+//! Turns let the lock go while they publish, and threads that settle publish side by side.
 
 ghost use Rattle.std.specs.Prelude.{◌≡◌, ◌<◌, true, vec_len};
 
 use crate::controls::{UP, gets_to, serves_after};
-use control::{Control, ControlName, Share, Step, TurnGate};
+use crate::networks::ten;
+use control::{Control, ControlName, Crew, NO_THRESHOLDS, Share, Step, TurnGate, settle};
+use fabric::Fabric;
+use network_model::Cost;
 use publication::FabricName;
+use std::alloc::Global;
 use std::process::Abort;
 use std::sync::Wait;
 use std::sync::atomic::{AtomicU64, Ordering};
@@ -66,4 +70,65 @@ where
     serves_after(rt, control, shares, UP, &gate);
     assert_eq!(rt; gate.met.load(Ordering::SeqCst), 1);
     assert_eq!(rt; gate.missed.load(Ordering::SeqCst), 0);
+}
+
+// Each of two threads that settle waits, before it publishes, until the other is to publish too.
+#[derive(Drop)]
+struct SideBySide<'a, H> {
+    rt: &'a H,
+    // How often each was to publish, and how often one waited in vain.
+    first: AtomicU64,
+    second: AtomicU64,
+    missed: AtomicU64,
+}
+
+impl<H: Clock> TurnGate for SideBySide<'_, H> {
+    fn before(&self, _thread: u8, _turn: u64) {}
+
+    fn publishing(&self, thread: u8, _router: u16) {
+        let (own, other) = if thread == 0 {
+            (&self.first, &self.second)
+        } else {
+            (&self.second, &self.first)
+        };
+        own.fetch_add(1, Ordering::SeqCst);
+        if !gets_to(self.rt, other, 1) {
+            self.missed.fetch_add(1, Ordering::SeqCst);
+        }
+    }
+
+    fn after(&self, _thread: u8, _turn: u64) {}
+}
+
+// Two threads settle it, and both publish: router 1 is attached too, so that both routers have a report to
+// publish at once.
+pub(crate) fn settle_side_by_side<B, H>(rt: &H, alloc: Global, fabric: Fabric<B>) -> Fabric<B>
+where
+    B: FabricName + Send + Sync,
+    H: Threads + Wait + Abort + Clock + Sync,
+{
+    let mut fabric = fabric;
+    let attached = Step::Attach {
+        router: 1,
+        prefix: ten(),
+        cost: Cost::ONE,
+    };
+    fabric.step(rt, attached).expect(rt, "step");
+    fabric.step(rt, UP).expect(rt, "step");
+    let gate = SideBySide {
+        rt,
+        first: AtomicU64::new(0),
+        second: AtomicU64::new(0),
+        missed: AtomicU64::new(0),
+    };
+    let crew = Crew {
+        threads: 2,
+        thresholds: NO_THRESHOLDS,
+    };
+    settle(rt, alloc, &mut fabric, crew, &gate, &mut ()).expect(rt, "turns");
+    assert!(rt; fabric.is_settled());
+    assert!(rt; gate.first.load(Ordering::SeqCst) > 0);
+    assert!(rt; gate.second.load(Ordering::SeqCst) > 0);
+    assert_eq!(rt; gate.missed.load(Ordering::SeqCst), 0);
+    fabric
 }

@@ -3,19 +3,22 @@
 ghost use Rattle.std.specs.Prelude.{◌≡◌, ◌≤◌, All, IfOk, length, map, vec_len};
 ghost use Rattle.network_model.specs.Network.{most_workers};
 
+use crate::controls::gets_to;
 use crate::networks::{port_of, ten};
 use crate::publications::via;
 use forwarder::{Answer, GatherFault, ImageReader};
 use network_model::Refusal;
 use publication::{Told, Unnamed, close_all, open_all};
-use std::alloc::Global;
+use std::alloc::{AllocError, Global};
 use std::marker::Brand;
 use std::process::Abort;
-use std::sync::Wait;
+use std::sync::atomic::{AtomicU64, Ordering};
+use std::sync::{Arc, Wait};
 use std::thread::Threads;
+use std::time::Clock;
 use tree_bitmap::Image;
 use tree_bitmap::parts::{empty, set_row};
-use worker_pool::{FabricName, ForwardPort, Job, PoolFault, Reply, WorkerPool};
+use worker_pool::{FabricName, ForwardPort, Job, JobGate, PoolFault, Reply, WorkerPool};
 
 // An image of 10.0.0.0/8 over the port that has the router's number.
 fn image(rt: &impl Abort, alloc: Global, router: u8) -> Image
@@ -123,6 +126,64 @@ where
     ports
 }
 
+// How many jobs were taken, and how many of them waited in vain for another to be taken.
+#[derive(Drop)]
+struct Taken {
+    taken: AtomicU64,
+    missed: AtomicU64,
+}
+
+// Each of two jobs waits, once it is taken, until the other is taken too.
+#[derive(Drop)]
+struct Meeting<R> {
+    rt: R,
+    jobs: Arc<Taken, Global>,
+}
+
+impl<R: Clock + Copy> Clone for Meeting<R> {
+    fn clone(&self) -> Result<Self, AllocError> {
+        Ok(Meeting {
+            rt: self.rt,
+            jobs: Arc::try_clone(&self.jobs)?,
+        })
+    }
+}
+
+impl<R: Clock> JobGate for Meeting<R> {
+    fn before(&self, _job: u64) {
+        self.jobs.taken.fetch_add(1, Ordering::SeqCst);
+        if !gets_to(&self.rt, &self.jobs.taken, 2) {
+            self.jobs.missed.fetch_add(1, Ordering::SeqCst);
+        }
+    }
+
+    fn after(&self, _job: u64) {}
+}
+
+// The workers of these ports take a job each.
+fn meets<B, R>(rt: R, alloc: Global, ports: Vec<ForwardPort<B>>, tolds: &Tolds<B>)
+where
+    B: FabricName + Send + Sync + 'static,
+    R: Threads + Wait + Abort + Clock + Copy + Send + 'static,
+    requires { vec_len ports ≤ most_workers }
+{
+    let taken = Taken {
+        taken: AtomicU64::new(0),
+        missed: AtomicU64::new(0),
+    };
+    let jobs = Arc::new(alloc, taken).expect(&rt, "memory");
+    let gate = Meeting { rt, jobs };
+    let mut pool = WorkerPool::watched(rt, alloc, ports, &gate).expect(&rt, "workers");
+    ask(&rt, &mut pool, tolds, 2);
+    let (_ports, replies) = pool.drain(&rt, alloc);
+    let Ok(replies) = replies else {
+        panic!(rt; "replies");
+    };
+    are_right(&rt, &replies, 2);
+    assert_eq!(rt; gate.jobs.taken.load(Ordering::SeqCst), 2);
+    assert_eq!(rt; gate.jobs.missed.load(Ordering::SeqCst), 0);
+}
+
 // Workers that are ended give their ports back, by which others answer.
 fn answers_later<B, R>(rt: R, alloc: Global, ports: Vec<ForwardPort<B>>, tolds: &Tolds<B>)
 where
@@ -179,6 +240,7 @@ where
 #[derive(Clone, Copy)]
 enum Trial {
     Answers(u8),
+    Meets,
     AnswersLater,
     Doubles,
     HasNoImage,
@@ -188,11 +250,12 @@ enum Trial {
 fn tried<B, R>(rt: R, alloc: Global, ports: Vec<ForwardPort<B>>, tolds: &Tolds<B>, trial: Trial)
 where
     B: FabricName + Send + Sync + 'static,
-    R: Threads + Wait + Abort + Copy + Send + 'static,
+    R: Threads + Wait + Abort + Clock + Copy + Send + 'static,
 {
     assert!(rt; ports.len() <= 16);
     match trial {
         Trial::Answers(jobs) => drop(answers(rt, alloc, ports, tolds, jobs)),
+        Trial::Meets => meets(rt, alloc, ports, tolds),
         Trial::AnswersLater => answers_later(rt, alloc, ports, tolds),
         Trial::Doubles => {
             let fault = PoolFault::Gather(GatherFault::Doubled);
@@ -218,7 +281,7 @@ fn opened<B, R>(
 )
 where
     B: FabricName + Send + Sync + 'static,
-    R: Threads + Wait + Abort + Copy + Send + 'static,
+    R: Threads + Wait + Abort + Clock + Copy + Send + 'static,
     requires books { unnamed.items ≡ B.books }
     requires rows { map (λ i. i.rows) images.items ≡ B.openings }
     requires generation { All (λ i. i.generation ≡ 0) images.items }
@@ -246,7 +309,7 @@ where
 
 fn pooled<R>(rt: R, alloc: Global, workers: u8, trial: Trial)
 where
-    R: Threads + Wait + Abort + Copy + Send + 'static,
+    R: Threads + Wait + Abort + Clock + Copy + Send + 'static,
 {
     let (first, second) = (image(&rt, alloc, 0), image(&rt, alloc, 1));
     let images = vec![in alloc; first, second].expect(&rt, "memory");
@@ -262,6 +325,11 @@ fn one_worker_answers_all_jobs(rt: HostRuntime) {
 #[test]
 fn two_workers_answer_all_jobs(rt: HostRuntime) {
     pooled(rt, rt.alloc(), 2, Trial::Answers(200));
+}
+
+#[test]
+fn two_workers_of_a_pool_meet_at_their_first_jobs(rt: HostRuntime) {
+    pooled(rt, rt.alloc(), 2, Trial::Meets);
 }
 
 #[test]

@@ -1,14 +1,14 @@
 -- How the program ends, whatever it is asked for.
-use Rattle.std.specs.Prelude.{◌≡◌, Option}
+use Rattle.std.specs.Prelude.{◌≡◌, ◌⊎◌, ℕ, Option, Some}
 use Rattle.texts.specs.Words.{Text}
 use Rattle.words.specs.declared.words.Words.{Words}
 use Rattle.words.specs.declared.words.Words.TheVariants.{Check, Run, Replay, Explain, Shell}
 use Rattle.plans.specs.declared.fault.Fault.{Fault}
 use Rattle.reports.specs.declared.end.End.{End}
 use Rattle.reports.specs.declared.end.End.TheVariants.{Done}
-use Rattle.plans.specs.Faults.{OfBytes}
+use Rattle.plans.specs.Faults.{OfBytes, status_of}
 use Rattle.plans.specs.Scenarios.{StopsReading}
-use Rattle.reports.specs.Ends.{IsChecked, Replays, StopsReplay}
+use Rattle.reports.specs.Ends.{IsChecked, Replays, StopsReplay, status_at}
 use Rattle.play.specs.Runs.{IsRunToEnd, StopsFor}
 use Rattle.play.specs.Shell.{IsShellEnd, StopsShell}
 
@@ -27,3 +27,9 @@ Stops (Run _ _ _ _ _ _ _) scenario journal fault = OfBytes scenario (λ bytes. S
 Stops (Replay _ _ _ _ _) scenario journal fault = OfBytes scenario (λ bytes. StopsReplay bytes journal fault)
 Stops (Explain _) scenario journal fault = ⊥
 Stops (Shell _ _ _) scenario journal fault = OfBytes scenario (λ bytes. StopsShell bytes fault)
+
+-- the program comes to an end, whose status it answers; or it stops for a fault, whose status it answers, and which alone its caller is handed
+abbrev pub IsPlayed : Words → Option Text → Option Text → Text → Text → Option Fault → Option Fault → ℕ → Type 0
+IsPlayed words scenario journal old new told told_after status =
+    ((end : End) × (status ≡ status_at end) × Ends words scenario journal old new end × (told_after ≡ told))
+    ⊎ ((fault : Fault) × (status ≡ status_of fault.cause) × Stops words scenario journal fault × (told_after ≡ Some fault))

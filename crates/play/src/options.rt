@@ -1,12 +1,13 @@
 //! How the commands of a script are done.
 
+use control::Crew;
 use words::Format;
 
 /// How the commands of a script are done.
 #[derive(Clone, Copy, Debug, PartialEq, Eq)]
 pub struct Options {
-    /// How many threads let the routers take their turns, where they settle; at least one does.
-    pub threads: u8,
+    /// The threads that let the routers take their turns, where they settle.
+    pub crew: Crew,
     /// How many workers answer the packets that a script injects: 1 to 16.
     pub workers: u8,
     /// Whether more is told of a machine's state, and of a command that a shell cannot do.

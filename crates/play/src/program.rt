@@ -2,15 +2,16 @@
 
 ghost use Rattle.std.specs.Prelude.{◌≡◌, ◌⊎◌, IfOk, IfErr, OnOk, vec_len};
 ghost use Rattle.fabric.specs.Writers.{opening_tables};
-ghost use Rattle.plans.specs.Faults.{status_of, IsUnanswered, IsWantOfMemory, OfBytes};
-ghost use Rattle.reports.specs.Ends.{status_at, KeepsJournal};
+ghost use Rattle.plans.specs.Faults.{IsUnanswered, IsWantOfMemory, OfBytes};
+ghost use Rattle.reports.specs.Ends.{KeepsJournal};
 ghost use Rattle.play.specs.Commands.{AreDone, StopsAtCommand};
 ghost use Rattle.play.specs.Runs.{IsRunToEnd, RunsPlan, StopsFor, StopsPlan};
-ghost use Rattle.play.specs.Outcomes.{Ends, Stops};
+ghost use Rattle.play.specs.Outcomes.{Ends, IsPlayed, Stops};
 
 use crate::options::Options;
 use crate::session::Session;
 use crate::shell::shell;
+use control::{Crew, NoGate, THRESHOLDS, Thresholds, TurnGate};
 use dispatch::Host;
 use fabric::{Fabric, FabricName, Unnamed};
 use plans::{Fault, Plan, read_plan, read_text, refuse};
@@ -42,13 +43,40 @@ where
     J: Read + Drop,
     W: Write,
     E: Write,
-    ensures { ((end : End) × (result ≡ status_at end)
-        × Ends words.now (R.remaining scenario)
-        (J.remaining journal) kept.old.items kept.new.items end)
-        ⊎ ((fault : Fault) × (result ≡ status_of fault.cause)
-        × Stops words.now (R.remaining scenario) (J.remaining journal) fault) }
+    ensures { IsPlayed words.now (R.remaining scenario) (J.remaining journal)
+        kept.old.items kept.new.items told.old told.new result }
 {
-    match do_words(rt, alloc, words, scenario, journal, out, err, kept) {
+    play_by(
+        rt, alloc, THRESHOLDS, &NoGate, words, scenario, journal, out, err, kept, told,
+    )
+}
+
+/// The same, by threads that are started from these thresholds on, and call this gate.
+pub fn play_by<H, G, R, J, W, E>(
+    rt: &H,
+    alloc: Global,
+    thresholds: Thresholds,
+    gate: &G,
+    words: &Words<'_>,
+    scenario: R,
+    journal: J,
+    out: &mut W,
+    err: &mut E,
+    kept: &mut Vec<u8>,
+    told: &mut Option<Fault>,
+) -> u8
+where
+    H: Host,
+    G: TurnGate + Sync,
+    R: Read + Drop,
+    J: Read + Drop,
+    W: Write,
+    E: Write,
+    ensures { IsPlayed words.now (R.remaining scenario) (J.remaining journal)
+        kept.old.items kept.new.items told.old told.new result }
+{
+    let by = (thresholds, gate);
+    match do_words(rt, alloc, by, words, scenario, journal, out, err, kept) {
         Ok(end) => end.status(),
         Err(fault) => {
             // What was printed comes before the fault, also where `out` keeps it for a while.
@@ -60,9 +88,10 @@ where
 }
 
 // Does what the words ask for.
-fn do_words<H, R, J, W, E>(
+fn do_words<H, G, R, J, W, E>(
     rt: &H,
     alloc: Global,
+    by: (Thresholds, &G),
     words: &Words<'_>,
     scenario: R,
     journal: J,
@@ -72,6 +101,7 @@ fn do_words<H, R, J, W, E>(
 ) -> Result<End, Fault>
 where
     H: Host,
+    G: TurnGate + Sync,
     R: Read + Drop,
     J: Read + Drop,
     W: Write,
@@ -95,14 +125,18 @@ where
             format,
             progress,
         } => {
+            let (thresholds, gate) = by;
             let options = Options {
-                threads,
+                crew: Crew {
+                    threads,
+                    thresholds,
+                },
                 workers,
                 explain,
                 format,
                 progress,
             };
-            run(rt, alloc, scenario, options, out, err, kept)
+            run(rt, alloc, scenario, options, gate, out, err, kept)
         }
         Words::Replay {
             file: _,
@@ -125,17 +159,19 @@ where
 
 // Opens the network of a scenario, does its commands, says how many steps were done, and keeps their
 // journal.
-fn run<H, R, W, E>(
+fn run<H, G, R, W, E>(
     rt: &H,
     alloc: Global,
     scenario: R,
     options: Options,
+    gate: &G,
     out: &mut W,
     err: &mut E,
     kept: &mut Vec<u8>,
 ) -> Result<End, Fault>
 where
     H: Host,
+    G: TurnGate + Sync,
     R: Read + Drop,
     W: Write,
     E: Write,
@@ -147,17 +183,18 @@ where
     let text = read_text(alloc, scenario)?;
     let plan = read_plan(alloc, text.as_str())?;
     let unnamed = Unnamed::many(alloc, usize::from(plan.network.routers()))?;
-    run_plan::<Brand, H, W, E>(rt, alloc, plan, unnamed, options, out, err, kept)?;
+    run_plan::<Brand, H, G, W, E>(rt, alloc, plan, unnamed, options, gate, out, err, kept)?;
     Ok(End::Done)
 }
 
 // Opens the network of a plan under a name, does its commands, and keeps their journal.
-fn run_plan<B, H, W, E>(
+fn run_plan<B, H, G, W, E>(
     rt: &H,
     alloc: Global,
     plan: Plan,
     unnamed: Vec<Unnamed>,
     options: Options,
+    gate: &G,
     out: &mut W,
     err: &mut E,
     kept: &mut Vec<u8>,
@@ -165,6 +202,7 @@ fn run_plan<B, H, W, E>(
 where
     B: FabricName + Send + Sync + 'static,
     H: Host,
+    G: TurnGate + Sync,
     W: Write,
     E: Write,
     requires books { unnamed.items ≡ B.books }
@@ -180,7 +218,7 @@ where
     } = plan;
     let workers = options.workers.max(1).min(16);
     let (mut fabric, readers) = Fabric::<B>::open(rt, alloc, network, unnamed, workers)?;
-    let ended = match Session::new(rt, alloc, &directory, readers, options) {
+    let ended = match Session::new(rt, alloc, &directory, readers, options, gate) {
         Ok(session) => run_commands(session, &mut fabric, &commands, out, err, kept),
         Err(memory) => Err(Fault::from(memory)),
     };
@@ -189,8 +227,8 @@ where
 }
 
 // Does the commands, and keeps the journal of their steps.
-fn run_commands<B, H, W, E>(
-    session: Session<'_, B, H>,
+fn run_commands<B, H, G, W, E>(
+    session: Session<'_, B, H, G>,
     fabric: &mut Fabric<B>,
     commands: &[Command],
     out: &mut W,
@@ -200,6 +238,7 @@ fn run_commands<B, H, W, E>(
 where
     B: FabricName + Send + Sync + 'static,
     H: Host,
+    G: TurnGate + Sync,
     W: Write,
     E: Write,
     ensures ok { OnOk result (AreDone commands.now fabric.old fabric.new) }

@@ -11,7 +11,7 @@ ghost use Rattle.play.specs.Commands.{IsDone, IsRefused, AreDone, StopsAtCommand
 use crate::commands::{look_up, show_trace, try_step};
 use crate::options::Options;
 use crate::progress::ScriptProgress;
-use control::{Progress, settle};
+use control::{Progress, TurnGate, settle};
 use dispatch::{Dispatcher, Host, ports_of, print_replies};
 use fabric::{Fabric, FabricName, Refusal};
 use json_lines::EndLine;
@@ -23,20 +23,22 @@ use script::{Command, Directory, Key, Place};
 use std::alloc::Global;
 use std::io::Write;
 
-/// What the commands of a run are done with: the machine, the routers' names, the workers, and how the
-/// run is to be done. It is not `Drop`: end it by `finish`, so that no worker is left running.
-pub struct Session<'a, B: FabricName, H> {
+/// What the commands of a run are done with: the machine, the routers' names, the workers, what threads
+/// that settle call, and how the run is to be done. It is not `Drop`: end it by `finish`, so that no worker is left running.
+pub struct Session<'a, B: FabricName, H, G> {
     pub(crate) rt: &'a H,
     pub(crate) alloc: Global,
     pub(crate) directory: &'a Directory,
     pub(crate) options: Options,
+    gate: &'a G,
     dispatcher: Dispatcher<B>,
 }
 
-impl<'a, B, H> Session<'a, B, H>
+impl<'a, B, H, G> Session<'a, B, H, G>
 where
     B: FabricName + Send + Sync + 'static,
     H: Host,
+    G: TurnGate + Sync,
 {
     /// A run whose workers look up by these readers.
     pub fn new(
@@ -45,7 +47,8 @@ where
         directory: &'a Directory,
         readers: Vec<Vec<ImageReader<B>>>,
         options: Options,
-    ) -> Result<Session<'a, B, H>, NoMemory>
+        gate: &'a G,
+    ) -> Result<Session<'a, B, H, G>, NoMemory>
         requires ports { All (λ port. IsReaderPort (length B.books) port.items) readers.items }
         requires few { vec_len readers ≤ most_workers }
         ensures { IfOk result (λ s. (s.directory).now ≡ directory.now) }
@@ -56,6 +59,7 @@ where
             alloc,
             directory,
             options,
+            gate,
             dispatcher: Dispatcher::new(ports),
         })
     }
@@ -125,8 +129,8 @@ where
                 Ok(())
             }
             Command::Settle => {
-                let threads = self.options.threads;
-                let done = settle(self.rt, self.alloc, fabric, threads, progress);
+                let crew = self.options.crew;
+                let done = settle(self.rt, self.alloc, fabric, crew, self.gate, progress);
                 into_cause(done)
             }
             Command::State { router, prefix } => {
@@ -186,6 +190,7 @@ where
             alloc,
             directory,
             options,
+            gate: _,
             dispatcher,
         } = self;
         // No worker is left running, whatever became of the commands.

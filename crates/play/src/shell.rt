@@ -9,6 +9,7 @@ ghost use Rattle.play.specs.Shell.{AreTried, CannotReadOn, IsShellEnd, StopsShel
 
 use crate::options::Options;
 use crate::session::Session;
+use control::{Crew, NoGate, THRESHOLDS, TurnGate};
 use dispatch::Host;
 use fabric::{Fabric, FabricName, Unnamed};
 use plans::{Cause, Fault, Plan, read_failure, read_plan, read_text};
@@ -80,15 +81,19 @@ where
         directory,
         commands: _,
     } = plan;
-    let options = Options {
+    let crew = Crew {
         threads: 1,
+        thresholds: THRESHOLDS,
+    };
+    let options = Options {
+        crew,
         workers: 1,
         explain,
         format: Format::Text,
         progress: false,
     };
     let (mut fabric, readers) = Fabric::<B>::open(rt, alloc, network, unnamed, 1)?;
-    let ended = match Session::new(rt, alloc, &directory, readers, options) {
+    let ended = match Session::new(rt, alloc, &directory, readers, options, &NoGate) {
         Ok(session) => run_lines(session, &mut fabric, input, out, err, kept),
         Err(memory) => Err(Fault::from(memory)),
     };
@@ -97,8 +102,8 @@ where
 }
 
 // Does the commands of the lines, and keeps the journal of their steps.
-fn run_lines<B, H, J, W, E>(
-    session: Session<'_, B, H>,
+fn run_lines<B, H, G, J, W, E>(
+    session: Session<'_, B, H, G>,
     fabric: &mut Fabric<B>,
     input: J,
     out: &mut W,
@@ -108,6 +113,7 @@ fn run_lines<B, H, J, W, E>(
 where
     B: FabricName + Send + Sync + 'static,
     H: Host,
+    G: TurnGate + Sync,
     J: Read + Drop,
     W: Write,
     E: Write,
@@ -123,8 +129,8 @@ where
 }
 
 // Does the commands of the lines in order, to the end of the input.
-fn do_lines<B, H, J, W, E>(
-    session: &mut Session<'_, B, H>,
+fn do_lines<B, H, G, J, W, E>(
+    session: &mut Session<'_, B, H, G>,
     fabric: &mut Fabric<B>,
     input: J,
     out: &mut W,
@@ -133,6 +139,7 @@ fn do_lines<B, H, J, W, E>(
 where
     B: FabricName + Send + Sync + 'static,
     H: Host,
+    G: TurnGate + Sync,
     J: Read + Drop,
     W: Write,
     E: Write,
@@ -159,8 +166,8 @@ where
 
 // Does the command of a line, and tells of it where it cannot be read or is refused. An empty line says
 // nothing.
-fn do_line<B, H, W, E>(
-    session: &mut Session<'_, B, H>,
+fn do_line<B, H, G, W, E>(
+    session: &mut Session<'_, B, H, G>,
     fabric: &mut Fabric<B>,
     line: &str,
     out: &mut W,
@@ -169,6 +176,7 @@ fn do_line<B, H, W, E>(
 where
     B: FabricName + Send + Sync + 'static,
     H: Host,
+    G: TurnGate + Sync,
     W: Write,
     E: Write,
     ensures tried { (commands : List CommandOf) × AreTried commands fabric.old fabric.new }

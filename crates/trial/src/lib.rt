@@ -10,7 +10,7 @@ ghost use Rattle.std.specs.Prelude.{Option};
 ghost use Rattle.texts.specs.Words.{Text};
 ghost use Rattle.trial.specs.Outcomes.{Gave};
 
-use play::{Fault, Host, Source, play};
+use play::{Fault, Host, NoGate, Source, THRESHOLDS, Thresholds, TurnGate, play_by};
 use std::alloc::Global;
 use std::io;
 use std::io::Read;
@@ -46,12 +46,34 @@ where
     ensures { Gave words.now (R.remaining scenario)
         (J.remaining journal) result.status result.kept.items }
 {
+    play_in_memory_by(rt, alloc, THRESHOLDS, &NoGate, words, scenario, journal)
+}
+
+/// The same, by threads that are started from these thresholds on, and call this gate.
+pub fn play_in_memory_by<H, G, R, J>(
+    rt: &H,
+    alloc: Global,
+    thresholds: Thresholds,
+    gate: &G,
+    words: &Words<'_>,
+    scenario: R,
+    journal: J,
+) -> Outcome
+where
+    H: Host,
+    G: TurnGate + Sync,
+    R: Read + Drop,
+    J: Read + Drop,
+    ensures { Gave words.now (R.remaining scenario)
+        (J.remaining journal) result.status result.kept.items }
+{
     let mut out = Vec::new(alloc);
     let mut err = Vec::new(alloc);
     let mut kept = Vec::new(alloc);
     let mut fault = None;
-    let status = play(
-        rt, alloc, words, scenario, journal, &mut out, &mut err, &mut kept, &mut fault,
+    let status = play_by(
+        rt, alloc, thresholds, gate, words, scenario, journal, &mut out, &mut err, &mut kept,
+        &mut fault,
     );
     Outcome {
         status,

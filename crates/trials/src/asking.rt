@@ -1,11 +1,12 @@
-//! Does what a case asks, and tells where it gives something else.
+//! Does what a case asks, and tells where it gives something else. Where it asks for several threads, these are
+//! started whenever there is something to publish: the networks of cases reach no threshold of the program.
 
 use advice::{Faulty, advise, file_to_explain, is_check};
-use play::Host;
+use play::{Host, NO_THRESHOLDS, NoGate};
 use std::alloc::{AllocError, Global};
 use std::io::Write;
 use trial::case::{Given, Verdict, Wanted, judge};
-use trial::{Outcome, play_in_memory};
+use trial::{Outcome, play_in_memory, play_in_memory_by};
 use words::{Error, Format, Words, exit_status, read_words};
 
 /// What is asked, of which texts, and what it should give.
@@ -82,7 +83,16 @@ fn do_words<H: Host>(
 ) -> Result<Given, AllocError> {
     let words = format!(in alloc; "{asked:?}\n")?;
     let scenario = case.scenario.as_bytes();
-    let mut outcome = play_in_memory(wait, alloc, asked, scenario, case.journal.as_bytes());
+    let journal = case.journal.as_bytes();
+    let mut outcome = play_in_memory_by(
+        wait,
+        alloc,
+        NO_THRESHOLDS,
+        &NoGate,
+        asked,
+        scenario,
+        journal,
+    );
     if let (Some(file), Some(fault)) = (file_to_explain(asked), outcome.fault) {
         let faulty = Faulty {
             file,

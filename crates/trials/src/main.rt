@@ -29,6 +29,7 @@ use play::Host;
 use std::env;
 use std::io::{self, Write};
 use std::process::ExitCode;
+use std::time::Clock;
 
 const USAGE: &str = "usage: trials WORD.., where the words are FILE.toml, FILE.cases, FILE.faults, \
 soak SEED COUNT, load WORKERS ANSWERS";
@@ -41,7 +42,7 @@ fn main(rt: HostRuntime) -> ExitCode {
 }
 
 // Whether there are words, each of them asks for something, and all of that is as it should be.
-fn try_words<H: Host>(rt: &HostRuntime, wait: &H) -> io::Result<bool> {
+fn try_words<H: Host + Clock>(rt: &HostRuntime, wait: &H) -> io::Result<bool> {
     let given: Vec<String> = env::args(rt)?.skip(1).collect(rt.alloc())?;
     let words: Vec<&str> = given.iter().map(|word| word.as_str()).collect(rt.alloc())?;
     if words.is_empty() {
@@ -96,7 +97,12 @@ fn first_task<'w, 'a>(words: &'w [&'a str]) -> Option<(Task<'a>, &'w [&'a str])>
 }
 
 // Whether what is asked for is as it should be; tells what is found of it.
-fn is_right<H: Host, W: Write>(rt: &HostRuntime, wait: &H, task: Task<'_>, out: &mut W) -> bool {
+fn is_right<H: Host + Clock, W: Write>(
+    rt: &HostRuntime,
+    wait: &H,
+    task: Task<'_>,
+    out: &mut W,
+) -> bool {
     match task {
         Task::Example(file) => is_example_right(rt, wait, file, out),
         Task::Cases(file) => are_cases_right(rt, wait, file, out),

@@ -1,23 +1,88 @@
 //! Random scenarios. Each is run by several control threads and forwarding workers, the journal of the run
-//! is replayed, and packets are traced after each of its steps. The seed is printed first, and the text of
-//! each scenario that does not end as it should.
+//! is replayed, and packets are traced after each of its steps. Threads are started whenever there is
+//! something to publish, since such networks reach no threshold of the program. The seed is printed first,
+//! then the text of each scenario that does not end as it should, and then how many threads did steps.
 
 use crate::random::{Scenario, draw};
 use crate::traces::{PART, are_straight, step_lines, trace_all};
-use play::Host;
+use play::{Host, NO_THRESHOLDS, Source, TurnGate};
 use std::alloc::{AllocError, Global};
-use std::io::Write;
+use std::io::{self, Write};
+use std::sync::atomic::{AtomicU64, Ordering};
+use std::thread;
+use std::time::{Clock, Duration};
 use trial::soak::is_good;
-use trial::{play_in_memory, run_in_memory};
+use trial::{play_in_memory, play_in_memory_by, run_in_memory};
 use words::{Format, Words};
 
 const THREADS: u8 = 4;
 
 const WORKERS: u8 = 4;
 
+// So often a thread waits for the others at most, 1000 polls each time.
+const MOST_WAITS: u64 = 10;
+
+// Which threads have published, each a step. One that is to publish waits until all of them are.
+#[derive(Drop)]
+struct Turnout<'a, H> {
+    rt: &'a H,
+    published: [AtomicU64; 4],
+    waits: AtomicU64,
+}
+
+impl<'a, H: Clock> Turnout<'a, H> {
+    fn new(rt: &'a H) -> Self {
+        Turnout {
+            rt,
+            published: [
+                AtomicU64::new(0),
+                AtomicU64::new(0),
+                AtomicU64::new(0),
+                AtomicU64::new(0),
+            ],
+            waits: AtomicU64::new(0),
+        }
+    }
+
+    // How many threads have published.
+    fn count(&self) -> u8 {
+        let mut count = 0u8;
+        for published in &self.published {
+            if published.load(Ordering::SeqCst) > 0 {
+                count = count.saturating_add(1);
+            }
+        }
+        count
+    }
+
+    fn wait(&self) {
+        for _ in 0..1000u16 {
+            if self.count() >= THREADS {
+                return;
+            }
+            thread::sleep(self.rt, Duration::from_millis(1));
+        }
+    }
+}
+
+impl<H: Clock> TurnGate for Turnout<'_, H> {
+    fn before(&self, _thread: u8, _turn: u64) {}
+
+    fn publishing(&self, thread: u8, _router: u16) {
+        if let Some(published) = self.published.get(usize::from(thread)) {
+            published.fetch_add(1, Ordering::SeqCst);
+        }
+        if self.count() < THREADS && self.waits.fetch_add(1, Ordering::SeqCst) < MOST_WAITS {
+            self.wait();
+        }
+    }
+
+    fn after(&self, _thread: u8, _turn: u64) {}
+}
+
 /// Whether the scenarios of so many seeds, from this one on, are good, and there is one; tells of those
 /// that are not.
-pub fn are_scenarios_good<H: Host, W: Write>(
+pub fn are_scenarios_good<H: Host + Clock, W: Write>(
     rt: &H,
     alloc: Global,
     seed: u64,
@@ -25,10 +90,11 @@ pub fn are_scenarios_good<H: Host, W: Write>(
     out: &mut W,
 ) -> bool {
     let _ = writeln!(out, "seed {seed}");
+    let turnout = Turnout::new(rt);
     let mut good = 0u32;
     for number in 0..count {
         match draw(alloc, seed.wrapping_add(u64::from(number))) {
-            Ok(scenario) => match try_scenario(rt, alloc, &scenario) {
+            Ok(scenario) => match try_scenario(rt, alloc, &turnout, &scenario) {
                 Ok(true) => good = good.saturating_add(1),
                 _ => {
                     let _ = write!(out, "scenario {number}:\n{}", scenario.text);
@@ -39,16 +105,23 @@ pub fn are_scenarios_good<H: Host, W: Write>(
             }
         }
     }
+    let did = turnout.count();
     let _ = writeln!(
         out,
-        "{good} of {count} run by {THREADS} threads and {WORKERS} workers, replayed and traced"
+        "{good} of {count} run by {THREADS} threads, of which {did} did steps, and {WORKERS} workers, \
+         replayed and traced"
     );
     count > 0 && good == count
 }
 
 // Whether a scenario is run to its end, what its journal tells is done again, and no packet that is
 // traced after a step of it meets a router twice.
-fn try_scenario<H: Host>(rt: &H, alloc: Global, scenario: &Scenario) -> Result<bool, AllocError> {
+fn try_scenario<H: Host + Clock>(
+    rt: &H,
+    alloc: Global,
+    turnout: &Turnout<'_, H>,
+    scenario: &Scenario,
+) -> Result<bool, AllocError> {
     let words = Words::Run {
         file: "",
         threads: THREADS,
@@ -59,7 +132,8 @@ fn try_scenario<H: Host>(rt: &H, alloc: Global, scenario: &Scenario) -> Result<b
         progress: false,
     };
     let text = scenario.text.as_bytes();
-    let ran = run_in_memory(rt, alloc, &words, text);
+    let missing: Source<io::Empty> = Source::Missing;
+    let ran = play_in_memory_by(rt, alloc, NO_THRESHOLDS, turnout, &words, text, missing);
     let words = Words::Replay {
         file: "",
         journal: "",

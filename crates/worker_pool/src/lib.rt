@@ -5,5 +5,5 @@ mod fault;
 mod pool;
 
 pub use fault::PoolFault;
-pub use forwarder::{FabricName, ForwardPort, Job, Reply};
+pub use forwarder::{FabricName, ForwardPort, Job, JobGate, Reply};
 pub use pool::WorkerPool;

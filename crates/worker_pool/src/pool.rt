@@ -44,6 +44,7 @@ impl<B: FabricName> Model for WorkerPool<B> {
 }
 
 // Nobody watches the jobs of workers.
+#[derive(Clone, Copy)]
 struct Unwatched;
 
 impl JobGate for Unwatched {
@@ -66,18 +67,23 @@ impl<B: FabricName> Promise<Worked<B>> for TellsWhy {
 type Running<B> = PromisedHandle<Worked<B>, TellsWhy>;
 
 // Begins a worker.
-fn begin<B, R>(
+fn begin<B, R, G>(
     rt: R,
     alloc: Global,
     port: ForwardPort<B>,
     taker: Taker<B>,
+    gate: &G,
 ) -> Result<Running<B>, PoolFault>
 where
     B: FabricName + Send + Sync + 'static,
     R: Threads + Wait + Copy + Send + 'static,
+    G: JobGate + Clone + Send + 'static,
     ensures { IfErr result IsBeginFault }
 {
-    let worker = move || work(&rt, alloc, port, taker, &Unwatched);
+    let Ok(gate) = gate.clone() else {
+        return Err(PoolFault::Memory(NoMemory));
+    };
+    let worker = move || work(&rt, alloc, port, taker, &gate);
     match thread::spawn_with(&rt, TellsWhy, worker) {
         Ok(handle) => Ok(handle),
         Err(_) => Err(PoolFault::NoThread),
@@ -119,6 +125,24 @@ impl<B: FabricName + Send + Sync + 'static> WorkerPool<B> {
         ensures workers { IfOk result (λ p. p.workers ≡ vec_len ports) }
         ensures err { IfErr result IsBeginFault }
     {
+        WorkerPool::watched(rt, alloc, ports, &Unwatched)
+    }
+
+    /// The same, of workers that call this gate at each of their jobs: each has a clone of it.
+    pub fn watched<R, G>(
+        rt: R,
+        alloc: Global,
+        ports: Vec<ForwardPort<B>>,
+        gate: &G,
+    ) -> Result<WorkerPool<B>, PoolFault>
+    where
+        R: Threads + Wait + Copy + Send + 'static,
+        G: JobGate + Clone + Send + 'static,
+        requires few { vec_len ports ≤ most_workers }
+        ensures jobs { IfOk result (λ p. p.jobs ≡ []) }
+        ensures workers { IfOk result (λ p. p.workers ≡ vec_len ports) }
+        ensures err { IfErr result IsBeginFault }
+    {
         let (injector, takers) = PacketQueue::new::<B, _>(alloc, ports.len() as u8)?;
         let Ok(mut running) = Vec::with_capacity(alloc, ports.len()) else {
             return Err(PoolFault::Memory(NoMemory));
@@ -131,7 +155,7 @@ impl<B: FabricName + Send + Sync + 'static> WorkerPool<B> {
             let Some(taker) = takers.pop() else {
                 unreachable!()
             };
-            match begin(rt, alloc, port, taker) {
+            match begin(rt, alloc, port, taker, gate) {
                 Ok(handle) => running.push_reserved(handle),
                 Err(fault) => {
                     drop(end_all(&rt, injector, running, room));

@@ -1,5 +1,5 @@
 use Rattle.std.proofs.Common.{◌≡◌, ◌+◌, ◌≤◌, vec_len, vec_capacity}
-use Rattle.worker_pool.proofs.pool.WorkerPool.new.Given as goal
+use Rattle.worker_pool.proofs.pool.WorkerPool.watched.Given as goal
 
 -- each worker that has begun took a port and a taker
 abbrev pub invariant-loop-port : goal.invariant-loop-port
