@@ -1,6 +1,6 @@
 -- What a fabric under a lock can have become: nothing at first, then step after step; and what the sum of its journal tells.
-use Rattle.std.proofs.Common.{inl, inr, refl, sym, ap, subst, ◌∙◌, ◌≡◌, ◌≢◌, ◌⊎◌, ℕ, ◌+◌, ◌≤◌, ◌||◌, Bool, true, false, not, find, map, if◌then◌else◌, List, [], ◌∷◌, ◌++◌, Option, Some, None, nat_lt, ltb-false, is_none, is_some, length, slice_get, option_and_then, Result, Ok, Err, IfOk, OnOk, OnErr, append_assoc, append-nil}
-use Rattle.network_model.proofs.Common.{option_map_or, false≢true, most_steps, first_cause, is_lawful, next_step, Lawful_to_refusal, None_not_Some, Some_injective, option_map_or-ind, slice_get-changed_at_other, routers-changed_link, range_with_len, or-true, Router, World, degree_of, Patch, Lawful, next, refusal, is_due, ripe_front, changed_link, with_cost, with_delivered, with_front_taken, with_message, with_noticed, with_released, front_at, notice_at, release_at, router_accepting, router_at_home, router_publishing, router_releasing, Runs}
+use Rattle.std.proofs.Common.{inl, inr, refl, sym, ap, subst, ◌∙◌, ◌≡◌, ◌≢◌, ◌⊎◌, ℕ, ◌+◌, ◌≤◌, Bool, true, false, not, find, map, if◌then◌else◌, List, [], ◌∷◌, ◌++◌, Option, Some, None, nat_lt, ltb-false, is_none, is_some, length, slice_get, option_and_then, Result, Ok, Err, IfOk, OnOk, OnErr, append_assoc, append-nil}
+use Rattle.network_model.proofs.Common.{option_map_or, false≢true, most_steps, first_cause, is_lawful, next_step, Lawful_to_refusal, None_not_Some, Some_injective, option_map_or-ind, slice_get-changed_at_other, routers-changed_link, range_with_len, Router, World, degree_of, Patch, Lawful, next, refusal, is_due, ripe_front, changed_link, with_cost, with_delivered, with_front_taken, with_message, with_noticed, with_released, front_at, notice_at, release_at, router_accepting, router_at_home, router_publishing, router_releasing, Runs}
 use Rattle.network_model.specs.declared.step.Step.TheVariants.{LinkUp, LinkDown, SetCost, Deliver, Publish, Release, Attach, Detach}
 use Rattle.network_model.specs.declared.step.Refusal.{Refusal}
 use Rattle.world.specs.Steps.{CanBeRefused, IsDoneOr}
@@ -16,7 +16,8 @@ use Rattle.fabric.proofs.Idle.{busy-unsettled}
 use Rattle.world.proofs.Runs.{with_last_step}
 use Rattle.fabric.specs.Fabric.{Fabric, after_step, awaits_writer, count_lent, fabric_refusal, is_lent, lent_at, with_lent}
 use Rattle.fabric.specs.Images.{images_in_force}
-use Rattle.control.specs.Served.{AreTurns, IsServed, IsStopped, IsTurnAt, PublishesNext, images_after, may_do}
+use Rattle.control.specs.Served.{AreTurns, IsServed, IsStopped, IsTurnAt, PublishesNext, images_after}
+use Rattle.control.proofs.Lending.{lent_kept}
 
 -- ---- a router that publishes next
 
@@ -145,6 +146,11 @@ done_free {X} f s x done = by_test (nat_lt (length f.journal + count_lent f.lent
     by_test true false is done = is
     by_test false b is done = absurd (not_both Refusal.JournalFull done)
 
+-- and it had no cause to be refused
+pub done_none : {X : Type 0} (cause : Option Refusal) (x : X) → IsDoneOr cause (Ok x) → cause ≡ None
+done_none None x done = refl
+done_none {X} (Some c) x done = let never : ◌≡◌ {A = Result X Refusal} (Ok x) (Err c) = done in absurd cc
+
 -- ---- what was done
 
 -- nothing was done
@@ -157,6 +163,7 @@ served_none opened asked = record {
   runs = refl;
   fit = tt;
   images = refl;
+  stays = λ i lent. lent;
   out = λ i lent. inl lent;
 }
 
@@ -171,16 +178,17 @@ images-more opened (t ∷ ss) s w = refl
 
 -- one step more was done, of a fabric whose writers that are out its own are too
 pub served_next : (opened : Fabric) (asked : Step → Bool) (fabric before after : Fabric) (s : Step) → IsServed opened asked fabric → before.network ≡ fabric.network → before.journal ≡ fabric.journal → before.world ≡ fabric.world
-    → ((i : ℕ) → is_lent before i ≡ true → is_lent fabric i ≡ true) → awaits_writer before s ≡ false
-    → IsTurnAt (may_do opened asked) fabric.world s → Lawful fabric.world s → Fits s → after ≡ after_step before s → IsServed opened asked after
-served_next opened asked fabric before after s served network journal world lent free turn lawful fits is = subst (IsServed opened asked) (sym is) (record {
+    → ((i : ℕ) → is_lent opened i ≡ true → is_lent before i ≡ true) → ((i : ℕ) → is_lent before i ≡ true → is_lent fabric i ≡ true) → awaits_writer before s ≡ false
+    → IsTurnAt asked fabric.world s → Lawful fabric.world s → Fits s → after ≡ after_step before s → IsServed opened asked after
+served_next opened asked fabric before after s served network journal world stays lent free turn lawful fits is = subst (IsServed opened asked) (sym is) (record {
   network = network ∙ served.network;
   extra = served.extra ++ s ∷ [];
   journal = ap (λ ss. ss ++ s ∷ []) (journal ∙ served.journal) ∙ append_assoc opened.journal served.extra (s ∷ []);
-  turns = turns-more (may_do opened asked) opened.world served.extra fabric.world s served.turns served.runs turn;
+  turns = turns-more asked opened.world served.extra fabric.world s served.turns served.runs turn;
   runs = subst (λ v. Runs opened.world (served.extra ++ s ∷ []) (next v s)) (sym world) (with_last_step opened.world served.extra fabric.world s served.runs lawful);
   fit = fit-append served.extra (s ∷ []) served.fit (fits, tt);
   images = sym (images-more opened served.extra s (next before.world s));
+  stays = stays;
   out = λ i there. by_out i there (served.out i (lent i there));
 })
   where
@@ -188,9 +196,10 @@ served_next opened asked fabric before after s served network journal world lent
     by_out i there (inl was) = inl was
     by_out i there (inr is) = inr (subst (λ v. PublishesNext (next v s) i) (sym world) (stays_next fabric.world s i (spared before s free i there) lawful is))
 
--- a writer that went out, or came back with nothing published
-pub served_lent : (opened : Fabric) (asked : Step → Bool) (fabric after : Fabric) (i : ℕ) (l : Option Patch) → IsServed opened asked fabric → (is_some l ≡ true → PublishesNext fabric.world i) → after ≡ with_lent fabric i l → IsServed opened asked after
-served_lent opened asked fabric after i l served due is = subst (IsServed opened asked) (sym is) (record {
+-- a writer that went out, or came back with nothing published, having been in at first
+pub served_lent : (opened : Fabric) (asked : Step → Bool) (fabric after : Fabric) (i : ℕ) (l : Option Patch) → IsServed opened asked fabric → (is_lent opened i ≡ true → is_some l ≡ true) → (is_some l ≡ true → PublishesNext fabric.world i)
+    → after ≡ with_lent fabric i l → IsServed opened asked after
+served_lent opened asked fabric after i l served own due is = subst (IsServed opened asked) (sym is) (record {
   network = served.network;
   extra = served.extra;
   journal = served.journal;
@@ -198,6 +207,7 @@ served_lent opened asked fabric after i l served due is = subst (IsServed opened
   runs = served.runs;
   fit = served.fit;
   images = served.images;
+  stays = λ k was. lent_kept fabric.lent i k l (λ same. own (subst (λ j. is_lent opened j ≡ true) same was)) (served.stays k was);
   out = λ k there. by_place k (lent_set fabric.lent i k l there);
 })
   where
@@ -206,11 +216,14 @@ served_lent opened asked fabric after i l served due is = subst (IsServed opened
     by_place k (inr there) = served.out k there
 
 -- a writer that came back, with its patch published
-pub served_published : (opened : Fabric) (asked : Step → Bool) (fabric after : Fabric) (i : ℕ) (t : Patch) → IsServed opened asked fabric → lent_at fabric.lent i ≡ Some t → Lawful fabric.world (Publish i) → Fits (Publish i)
+pub served_published : (opened : Fabric) (asked : Step → Bool) (fabric after : Fabric) (i : ℕ) (t : Patch) → IsServed opened asked fabric → is_lent opened i ≡ false → lent_at fabric.lent i ≡ Some t → Lawful fabric.world (Publish i) → Fits (Publish i)
     → after ≡ after_step (with_lent fabric i None) (Publish i) → IsServed opened asked after
-served_published opened asked fabric after i t served out lawful fits is =
-    served_next opened asked fabric (with_lent fabric i None) after (Publish i) served refl refl refl others (ap is_some (lent_none fabric.lent i)) (by_out (served.out i (ap is_some out))) lawful fits is
+served_published opened asked fabric after i t served own out lawful fits is =
+    served_next opened asked fabric (with_lent fabric i None) after (Publish i) served refl refl refl stay others (ap is_some (lent_none fabric.lent i)) (by_out (served.out i (ap is_some out))) lawful fits is
   where
+    stay : (k : ℕ) → is_lent opened k ≡ true → is_lent (with_lent fabric i None) k ≡ true
+    stay k was = lent_kept fabric.lent i k None (λ same. absurd (false≢true (sym own ∙ subst (λ j. is_lent opened j ≡ true) same was))) (served.stays k was)
+
     others : (k : ℕ) → is_lent (with_lent fabric i None) k ≡ true → is_lent fabric k ≡ true
     others k there = by_place (lent_set fabric.lent i k None there)
       where
@@ -218,17 +231,17 @@ served_published opened asked fabric after i t served out lawful fits is =
         by_place (inl here) = absurd (false≢true here.1)
         by_place (inr was) = was
 
-    by_out : (is_lent opened i ≡ true) ⊎ PublishesNext fabric.world i → IsTurnAt (may_do opened asked) fabric.world (Publish i)
-    by_out (inl was) = inl (ap (λ b. asked (Publish i) || b) was ∙ or-true (asked (Publish i)))
+    by_out : (is_lent opened i ≡ true) ⊎ PublishesNext fabric.world i → IsTurnAt asked fabric.world (Publish i)
+    by_out (inl was) = absurd (false≢true (sym own ∙ was))
     by_out (inr next_one) = inr (i, next_is fabric.world i next_one)
 
 -- or not
-pub served_unpublished : (opened : Fabric) (asked : Step → Bool) (fabric after : Fabric) (i : ℕ) → IsServed opened asked fabric → after ≡ with_lent fabric i None → IsServed opened asked after
-served_unpublished opened asked fabric after i served is = served_lent opened asked fabric after i None served (λ no. absurd (false≢true no)) is
+pub served_unpublished : (opened : Fabric) (asked : Step → Bool) (fabric after : Fabric) (i : ℕ) → IsServed opened asked fabric → is_lent opened i ≡ false → after ≡ with_lent fabric i None → IsServed opened asked after
+served_unpublished opened asked fabric after i served own is = served_lent opened asked fabric after i None served (λ was. absurd (false≢true (sym own ∙ was))) (λ no. absurd (false≢true no)) is
 
 -- a ticket that was made, or refused
 pub served_ticket : (opened : Fabric) (asked : Step → Bool) (fabric after : Fabric) (i : ℕ) (r : Result Outing Refusal) → IsServed opened asked fabric → next_turn fabric i ≡ Some (Publish i)
     → OnOk r (Lawful fabric.world (Publish i)) → IfOk r (λ t. after ≡ with_lent fabric i (Some t.patch)) → OnErr r (after ≡ fabric) → IsServed opened asked after × (after.journal ≡ fabric.journal)
 served_ticket opened asked fabric after i (Ok t) served due lawful ok err =
-    (served_lent opened asked fabric after i (Some t.patch) served (λ _. is_next fabric.world i (turn_next fabric i (Publish i) due) lawful) ok, ap (λ (f : Fabric). f.journal) ok)
+    (served_lent opened asked fabric after i (Some t.patch) served (λ _. refl) (λ _. is_next fabric.world i (turn_next fabric i (Publish i) due) lawful) ok, ap (λ (f : Fabric). f.journal) ok)
 served_ticket opened asked fabric after i (Err e) served due lawful ok err = (subst (IsServed opened asked) (sym err) served, ap (λ (f : Fabric). f.journal) err)

@@ -1,8 +1,8 @@
 -- What a fabric that was under a lock can have become, and how a step or a turn comes out there.
-use Rattle.std.specs.Prelude.{◌≡◌, ℕ, ◌+◌, ◌≤◌, ◌<◌, ◌⊎◌, ⊤, Bool, true, false, ◌||◌, List, [], ◌∷◌, ◌++◌, length, Option, Some, None, Result, Ok, Err}
+use Rattle.std.specs.Prelude.{◌≡◌, ℕ, ◌+◌, ◌≤◌, ◌<◌, ◌⊎◌, ⊤, Bool, true, false, List, [], ◌∷◌, ◌++◌, length, Option, Some, None, Result, Ok, Err, MatchResult}
 use Rattle.std.specs.List.{AllByRecursion}
 use Rattle.network_model.specs.declared.step.Step.{Step}
-use Rattle.network_model.specs.declared.step.Step.TheVariants.{LinkUp, LinkDown, SetCost, Deliver, Publish, Release, Attach, Detach}
+use Rattle.network_model.specs.declared.step.Step.TheVariants.{Publish, Release}
 use Rattle.network_model.specs.declared.step.Refusal.{Refusal}
 use Rattle.network_model.specs.declared.step.Refusal.TheVariants.{JournalFull, NoMemory, UnknownRouter, WrongTicket}
 use Rattle.network_model.specs.World.{World}
@@ -44,21 +44,6 @@ abbrev pub AreTurns : (Step → Bool) → World → List Step → Type 0
 AreTurns asked w [] = ⊤
 AreTurns asked w (s ∷ ss) = IsTurnAt asked w s × AreTurns asked (next w s) ss
 
--- a publication of a router whose writer was out when the fabric was opened
-abbrev pub comes_back : Fabric → Step → Bool
-comes_back opened (LinkUp l) = false
-comes_back opened (LinkDown l) = false
-comes_back opened (SetCost i q cost) = false
-comes_back opened (Deliver i q) = false
-comes_back opened (Publish i) = is_lent opened i
-comes_back opened (Release i) = false
-comes_back opened (Attach i p cost) = false
-comes_back opened (Detach i p) = false
-
--- the step may be done though it is no router's next: it was asked for, or its ticket was out already
-abbrev pub may_do : Fabric → (Step → Bool) → Step → Bool
-may_do opened asked s = asked s || comes_back opened s
-
 -- router i publishes next: it has nothing to release, and something to publish
 abbrev pub PublishesNext : World → ℕ → Type 0
 PublishesNext w i = (is_lawful w (Release i) ≡ false) × (is_lawful w (Publish i) ≡ true)
@@ -73,12 +58,22 @@ pub record IsServed (opened : Fabric) (asked : Step → Bool) (fabric : Fabric) 
   pub network : fabric.network ≡ opened.network
   pub extra : List Step
   pub journal : fabric.journal ≡ opened.journal ++ extra
-  pub turns : AreTurns (may_do opened asked) opened.world extra
+  pub turns : AreTurns asked opened.world extra
   pub runs : Runs opened.world extra fabric.world
   pub fit : AllByRecursion Fits extra
   pub images : fabric.images ≡ images_after opened extra fabric.world
+  -- each writer that was out then is out
+  pub stays : (i : ℕ) → is_lent opened i ≡ true → is_lent fabric i ≡ true
   -- each writer that is out was out then, or its router publishes next
   pub out : (i : ℕ) → is_lent fabric i ≡ true → (is_lent opened i ≡ true) ⊎ PublishesNext fabric.world i
+
+-- the same writers are out
+abbrev pub HasSameOut : Fabric → Fabric → Type 0
+HasSameOut f g = (i : ℕ) → is_lent g i ≡ is_lent f i
+
+-- the same writers are out, unless a ticket was handed back
+abbrev pub AreBack : {X : Type 0} → Fabric → Fabric → Result X Refusal → Type 0
+AreBack f g r = MatchResult r (λ _. HasSameOut f g) (λ e. (e ≡ WrongTicket) ⊎ HasSameOut f g)
 
 -- its images in force answer by longest match over what the routers published, no packet circles along them, at quiet they lead along least-cost walks, and left alone it comes to rest there
 pub record HasHeadline (fabric : Fabric) : Type 0 where

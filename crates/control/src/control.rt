@@ -1,6 +1,7 @@
 //! A fabric under a lock.
 
-ghost use Rattle.std.specs.Prelude.{◌≡◌, ◌<◌, ◌≤◌, ◌+◌, ◌*◌, ◌^◌, ◌↔◌, if◌then◌else◌, None, Some, Ok, true, false, length, slice_get, sum_by, vec_len, IfOk, IfErr, IfSome, IsOk, OnOk, MatchOption, MatchResult};
+ghost use Rattle.std.specs.Prelude.{◌≡◌, ◌<◌, ◌≤◌, ◌+◌, ◌*◌, ◌^◌, ◌↔◌, if◌then◌else◌, None, Some, Ok, true, false, length, slice_get, sum_by, vec_len, IfOk, IfErr, IfSome, IsOk, OnErr, OnOk, MatchOption, MatchResult};
+ghost use Rattle.network_model.specs.declared.step.Refusal.TheVariants.{WrongTicket as WithWrongTicket};
 ghost use Rattle.network_model.specs.Journal.{journal_sum, step_number, steps_in_sum};
 ghost use Rattle.network_model.specs.Step as steps;
 ghost use Rattle.network_model.specs.Turns as turns;
@@ -8,13 +9,14 @@ ghost use Rattle.network_model.specs.Forwarding.{is_quiet};
 ghost use Rattle.network_model.specs.Network.{most_routers};
 ghost use Rattle.world.specs.Steps.{IsDoneOr};
 ghost use Rattle.publication.specs.Lists.{image_of};
-ghost use Rattle.fabric.specs.Fabric.{Fabric as FabricState, fabric_refusal};
+ghost use Rattle.fabric.specs.Fabric.{Fabric as FabricState, count_lent, fabric_refusal};
 ghost use Rattle.control.specs.Names.{IsNamed};
-ghost use Rattle.control.specs.Served.{HasHeadline, IsFound, IsServed, IsTurn, added_at_once};
-ghost use Rattle.control.specs.Shares.{IsHolder, AreNew};
+ghost use Rattle.control.specs.Served.{HasHeadline, IsFound, IsServed, IsTurn, IsTurnRefused, added_at_once};
+ghost use Rattle.control.specs.Shares.{IsBack, IsHolder, AreNew, owes};
 
+use crate::errand::Errand;
 use crate::guarded::{Guarded, UNIT};
-use crate::name::{ControlName, High, Low};
+use crate::name::{ControlName, High, Low, Out};
 use crate::serve::{NoGate, TurnGate};
 use crate::share::{Opening, Share};
 use fabric::Fabric;
@@ -31,13 +33,14 @@ pub struct Control<B: FabricName, N: ControlName> {
 
 impl<B: FabricName, N: ControlName> Control<B, N> {
     /// Puts a fabric under a lock, and makes the shares. The first has the journal's sum, the others
-    /// have 0. Without memory the fabric comes back.
+    /// have 0. No holder has a writer out. Without memory the fabric comes back.
     pub fn new(
         alloc: Global,
         opening: Opening,
         fabric: Fabric<B>,
     ) -> Result<(Control<B, N>, Vec<Share<N>>), Fabric<B>>
-        requires names { IsNamed opening N.high N.low N.shares }
+        requires names { IsNamed opening N.high N.low N.out N.shares }
+        requires lent { count_lent fabric.lent ≤ N.lent }
         requires some { 0 < opening.shares }
         requires opened { IsServed N.opened N.asked fabric }
         ensures shares { IfOk result (λ r. (vec_len r.1 ≡ opening.shares)
@@ -45,12 +48,18 @@ impl<B: FabricName, N: ControlName> Control<B, N> {
         ensures object { IfErr result (λ f. f ≡ fabric) }
     {
         let sum = fabric.sum();
-        let Opening { high, low, shares } = opening;
+        let Opening {
+            high,
+            low,
+            out,
+            shares,
+        } = opening;
         let Ok(mut all) = Vec::with_capacity(alloc, usize::from(shares)) else {
             return Err(fabric);
         };
         let (mut high_book, mut high_rest) = high.open::<High<N>>();
         let (mut low_book, mut low_rest) = low.open::<Low<N>>();
+        let (out_book, mut out_rest) = out.open::<Out<N>>();
         let mut sum_left = sum;
         let mut high_left = (sum / UNIT) as u64;
         let mut low_left = (sum % UNIT) as u64;
@@ -59,12 +68,13 @@ impl<B: FabricName, N: ControlName> Control<B, N> {
         for number in 0..shares {
             let high = high_rest.split_off(1, high_left);
             let low = low_rest.split_off(1, low_left);
-            all.push_reserved(Share::new(number, sum_left, high, low));
+            let out = out_rest.split_off(1, 0);
+            all.push_reserved(Share::new(number, sum_left, high, low, out));
             sum_left = 0;
             high_left = 0;
             low_left = 0;
         }
-        let guarded = Guarded::new(fabric, high_book, low_book);
+        let guarded = Guarded::new(fabric, high_book, low_book, out_book);
         Ok((Control::of(guarded), all))
     }
 
@@ -77,13 +87,15 @@ impl<B: FabricName, N: ControlName> Control<B, N> {
     }
 
     /// The fabric, where these are all shares of its control. Together they are the journal's sum,
-    /// which tells how many steps it has.
+    /// which tells how many steps it has. No more writers are out than were when the control was made, and
+    /// than holders have out.
     pub fn close(self, shares: Vec<Share<N>>) -> Fabric<B>
         requires all { vec_len shares ≡ N.shares }
         requires some { 0 < vec_len shares }
         ensures sum { sum_by (λ s. s.sum) shares.items ≡ journal_sum result.journal }
         ensures length { steps_in_sum (sum_by (λ s. s.sum) shares.items) ≡ length result.journal }
         ensures served { IsServed N.opened N.asked result }
+        ensures lent { count_lent result.lent ≤ N.lent + sum_by owes shares.items }
     {
         let mut shares = shares;
         let Control { guarded } = self;
@@ -92,6 +104,7 @@ impl<B: FabricName, N: ControlName> Control<B, N> {
             watch: _watch,
             mut high,
             mut low,
+            mut out,
         } = ManuallyDrop::into_inner(guarded.into_inner());
         let Some(first) = shares.pop() else {
             unreachable!()
@@ -102,6 +115,7 @@ impl<B: FabricName, N: ControlName> Control<B, N> {
             halt: _,
             high: mut all_high,
             low: mut all_low,
+            out: mut all_out,
         } = first;
         while let Some(share) = shares.pop() {
             let Share {
@@ -110,12 +124,15 @@ impl<B: FabricName, N: ControlName> Control<B, N> {
                 halt: _,
                 high: its_high,
                 low: its_low,
+                out: its_out,
             } = share;
             all_high.merge(its_high);
             all_low.merge(its_low);
+            all_out.merge(its_out);
         }
         high.audit(&mut all_high);
         low.audit(&mut all_low);
+        out.audit(&mut all_out);
         // The sum tells how long the journal is.
         let _sum = fabric.sum();
         fabric
@@ -128,6 +145,7 @@ impl<B: FabricName, N: ControlName> Control<B, N> {
         ensures sum { MatchResult result (λ _. share.new.sum ≡ share.old.sum + step_number step)
             (λ _. share.new.sum ≡ share.old.sum) }
         ensures holder { IsHolder share.old share.new }
+        ensures back { owes share.new ≡ owes share.old }
         ensures cause { (f : FabricState) × IsFound N.opened N.asked N.shares share.old.sum f
             × IsDoneOr (fabric_refusal f step) result × OnOk result (steps.Lawful f.world step) }
     {
@@ -148,6 +166,7 @@ impl<B: FabricName, N: ControlName> Control<B, N> {
             (λ o. MatchOption o (share.new.sum ≡ share.old.sum) (λ s. share.new.sum
             ≡ share.old.sum + step_number s)) (λ _. share.new.sum ≡ share.old.sum) }
         ensures holder { IsHolder share.old share.new }
+        ensures back { IsBack share.old share.new result }
         ensures turn { (f : FabricState) × IsFound N.opened N.asked N.shares share.old.sum f
             × IsTurn f router result }
     {
@@ -167,16 +186,17 @@ impl<B: FabricName, N: ControlName> Control<B, N> {
             (λ o. MatchOption o (share.new.sum ≡ share.old.sum) (λ s. share.new.sum
             ≡ share.old.sum + step_number s)) (λ _. share.new.sum ≡ share.old.sum) }
         ensures holder { IsHolder share.old share.new }
+        ensures back { IsBack share.old share.new result }
         ensures turn { (f : FabricState) × IsFound N.opened N.asked N.shares share.old.sum f
             × IsTurn f router result }
     {
-        let (done, ticket) = self.begin(rt, router, share);
-        let Some(mut ticket) = ticket else {
+        let (done, errand) = self.begin(rt, router, share);
+        let Some(mut errand) = errand else {
             return done;
         };
         gate.publishing(thread, router);
-        let published = ticket.publish(rt);
-        if let Err(ticket) = self.finish(rt, ticket, share) {
+        let published = errand.publish(rt);
+        if let Err(ticket) = self.finish(rt, errand, share) {
             ticket.close(rt);
             return Err(Refusal::WrongTicket);
         }
@@ -189,9 +209,11 @@ impl<B: FabricName, N: ControlName> Control<B, N> {
         rt: &R,
         router: u16,
         share: &mut Share<N>,
-    ) -> (Result<Option<Step>, Refusal>, Option<Ticket<B>>)
+    ) -> (Result<Option<Step>, Refusal>, Option<Errand<B, N>>)
         ensures sum { share.new.sum ≡ share.old.sum + added_at_once result.0 result.1 }
         ensures holder { IsHolder share.old share.new }
+        ensures out { MatchOption result.1 (owes share.new ≡ owes share.old)
+            (λ _. owes share.new ≡ owes share.old + 1) }
         ensures turn { (f : FabricState) × IsFound N.opened N.asked N.shares share.old.sum f
             × IsTurn f router result.0
             × IfSome result.1 (λ t. (result.0 ≡ Ok (Some (Step.Publish router))) × (fabric_refusal f
@@ -203,15 +225,19 @@ impl<B: FabricName, N: ControlName> Control<B, N> {
     pub(crate) fn finish<R: Wait>(
         &self,
         rt: &R,
-        ticket: Ticket<B>,
+        errand: Errand<B, N>,
         share: &mut Share<N>,
     ) -> Result<(), Ticket<B>>
+        requires out { 0 < owes share.old }
         ensures sum { MatchResult result (λ _. share.new.sum
-            ≡ share.old.sum + (if ticket.is_published then step_number
-            (Step.Publish ticket.before.router) else 0)) (λ _. share.new.sum ≡ share.old.sum) }
+            ≡ share.old.sum + (if errand.is_published then step_number
+            (Step.Publish errand.before.router) else 0)) (λ _. share.new.sum ≡ share.old.sum) }
         ensures holder { IsHolder share.old share.new }
+        ensures out { MatchResult result (λ _. owes share.new + 1 ≡ owes share.old)
+            (λ _. owes share.new ≡ owes share.old) }
+        ensures cause { OnErr result (IsTurnRefused N.opened N.asked WithWrongTicket) }
     {
-        self.guarded.lock(rt).finish(ticket, share)
+        self.guarded.lock(rt).finish(errand, share)
     }
 
     /// An address for a worker to look up at a router, in an image no older than the one in force now.

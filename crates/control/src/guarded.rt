@@ -1,6 +1,7 @@
 //! What lies under the lock: its steps and turns.
 
-ghost use Rattle.std.specs.Prelude.{◌≡◌, ◌≤◌, ◌<◌, ◌+◌, ◌*◌, ◌^◌, ◌↔◌, if◌then◌else◌, true, false, None, Some, Ok, slice_get, IfOk, IfErr, IfSome, IsOk, OnOk, OnErr, MatchResult};
+ghost use Rattle.std.specs.Prelude.{◌≡◌, ◌≤◌, ◌<◌, ◌+◌, ◌*◌, ◌^◌, ◌↔◌, if◌then◌else◌, true, false, None, Some, Ok, slice_get, IfOk, IfErr, IfSome, IsOk, OnOk, OnErr, MatchOption, MatchResult};
+ghost use Rattle.network_model.specs.declared.step.Refusal.TheVariants.{WrongTicket as WithWrongTicket};
 ghost use Rattle.network_model.specs.Journal.{journal_sum, step_number};
 ghost use Rattle.network_model.specs.Step as steps;
 ghost use Rattle.network_model.specs.Turns as turns;
@@ -8,12 +9,13 @@ ghost use Rattle.network_model.specs.Forwarding.{is_quiet};
 ghost use Rattle.network_model.specs.Network.{most_routers};
 ghost use Rattle.world.specs.Steps.{IsDoneOr};
 ghost use Rattle.publication.specs.Lists.{image_of};
-ghost use Rattle.fabric.specs.Fabric.{after_step, fabric_refusal};
+ghost use Rattle.fabric.specs.Fabric.{after_step, count_lent, fabric_refusal};
 ghost use Rattle.fabric.specs.Fabric.{next_fabric_step as next_turn};
-ghost use Rattle.control.specs.Served.{HasHeadline, IsFound, IsServed, IsTurn, IsTurnAt, added_at_once, may_do};
-ghost use Rattle.control.specs.Shares.{IsHolder};
+ghost use Rattle.control.specs.Served.{HasHeadline, IsFound, IsServed, IsTurn, IsTurnAt, IsTurnRefused, added_at_once};
+ghost use Rattle.control.specs.Shares.{IsHolder, owes};
 
-use crate::name::{ControlName, High, Low};
+use crate::errand::Errand;
+use crate::name::{ControlName, High, Low, Out};
 use crate::share::Share;
 use crate::watch::Watch;
 use fabric::Fabric;
@@ -26,19 +28,20 @@ use std::sync::ledger::Book;
 // What the high ledger counts by.
 pub const UNIT: u128 = 1 << 64;
 
-/// The fabric, which of its routers may have something to do, and the books of the shares, which add up
-/// to its journal's sum. Contracts see it as the fabric.
+/// The fabric, which of its routers may have something to do, and the books of the shares: they add up to
+/// its journal's sum, and to the writers that holders have out. Contracts see it as the fabric.
 pub struct Guarded<B: FabricName, N: ControlName> {
     pub(crate) fabric: Fabric<B>,
     pub(crate) watch: Watch,
     pub(crate) high: Book<High<N>>,
     pub(crate) low: Book<Low<N>>,
+    pub(crate) out: Book<Out<N>>,
 }
 
 impl<B: FabricName, N: ControlName> Model for Guarded<B, N> {
-    ghost use Rattle.std.specs.Prelude.{◌≡◌, ◌+◌, ◌*◌, ◌^◌};
+    ghost use Rattle.std.specs.Prelude.{◌≡◌, ◌≤◌, ◌+◌, ◌*◌, ◌^◌};
     ghost use Rattle.network_model.specs.Journal.{journal_sum};
-    ghost use Rattle.fabric.specs.Fabric.{Fabric as FabricState};
+    ghost use Rattle.fabric.specs.Fabric.{Fabric as FabricState, count_lent};
     ghost use Rattle.control.specs.Served.{IsServed};
 
     ghost Value = { FabricState };
@@ -46,12 +49,19 @@ impl<B: FabricName, N: ControlName> Model for Guarded<B, N> {
     ghost view = { λ g. g.fabric };
 
     ghost invariant = { λ g. (g.high.total * 2 ^ 64 + g.low.total ≡ journal_sum g.fabric.journal)
-        × IsServed N.opened N.asked g.fabric };
+        × IsServed N.opened N.asked g.fabric
+        × (count_lent g.fabric.lent ≤ N.lent + g.out.total) };
 }
 
 impl<B: FabricName, N: ControlName> Guarded<B, N> {
-    pub fn new(fabric: Fabric<B>, high: Book<High<N>>, low: Book<Low<N>>) -> Guarded<B, N>
+    pub fn new(
+        fabric: Fabric<B>,
+        high: Book<High<N>>,
+        low: Book<Low<N>>,
+        out: Book<Out<N>>,
+    ) -> Guarded<B, N>
         requires counted { high.total * 2 ^ 64 + low.total ≡ journal_sum fabric.journal }
+        requires lent { count_lent fabric.lent ≤ N.lent + out.total }
         requires served { IsServed N.opened N.asked fabric }
         ensures { result ≡ fabric }
     {
@@ -60,12 +70,13 @@ impl<B: FabricName, N: ControlName> Guarded<B, N> {
             watch: Watch::all(),
             high,
             low,
+            out,
         }
     }
 
     /// Does a step, and adds its number to the share. Refused, it changes nothing.
     pub fn step<R: Wait>(&mut self, rt: &R, step: Step, share: &mut Share<N>) -> Result<(), Refusal>
-        requires { IsTurnAt (may_do N.opened N.asked) (self.old).world step }
+        requires { IsTurnAt N.asked (self.old).world step }
         ensures found { IsFound N.opened N.asked N.shares share.old.sum self.old }
         ensures ok { OnOk result (steps.Lawful (self.old).world step
             × (self.new ≡ after_step self.old step)) }
@@ -74,6 +85,7 @@ impl<B: FabricName, N: ControlName> Guarded<B, N> {
         ensures sum { MatchResult result (λ _. share.new.sum ≡ share.old.sum + step_number step)
             (λ _. share.new.sum ≡ share.old.sum) }
         ensures holder { IsHolder share.old share.new }
+        ensures out { owes share.new ≡ owes share.old }
     {
         let number = step.number();
         let Guarded {
@@ -81,6 +93,7 @@ impl<B: FabricName, N: ControlName> Guarded<B, N> {
             watch,
             high,
             low,
+            out: _,
         } = self;
         let Share {
             number: _,
@@ -88,6 +101,7 @@ impl<B: FabricName, N: ControlName> Guarded<B, N> {
             halt: _,
             high: own_high,
             low: own_low,
+            out: _,
         } = share;
         // The network has no fault, which its type keeps.
         let _network = fabric.network();
@@ -113,7 +127,7 @@ impl<B: FabricName, N: ControlName> Guarded<B, N> {
         router: u16,
         lends: bool,
         share: &mut Share<N>,
-    ) -> (Result<Option<Step>, Refusal>, Option<Ticket<B>>)
+    ) -> (Result<Option<Step>, Refusal>, Option<Errand<B, N>>)
         ensures found { IsFound N.opened N.asked N.shares share.old.sum self.old }
         ensures turn { IsTurn self.old router result.0 }
         ensures ticket { IfSome result.1 (λ t. (result.0 ≡ Ok (Some (Step.Publish router)))
@@ -122,6 +136,8 @@ impl<B: FabricName, N: ControlName> Guarded<B, N> {
         ensures lent { IfSome result.1 (λ t. lends ≡ true) }
         ensures sum { share.new.sum ≡ share.old.sum + added_at_once result.0 result.1 }
         ensures holder { IsHolder share.old share.new }
+        ensures out { MatchOption result.1 (owes share.new ≡ owes share.old)
+            (λ _. owes share.new ≡ owes share.old + 1) }
     {
         self.audit(share);
         if usize::from(router) >= self.fabric.world().routers().len() {
@@ -133,8 +149,8 @@ impl<B: FabricName, N: ControlName> Guarded<B, N> {
         let done = step;
         if let Step::Publish { router: _ } = step {
             if lends {
-                return match self.lend(router) {
-                    Ok(ticket) => (Ok(Some(done)), Some(ticket)),
+                return match self.lend(router, share) {
+                    Ok(errand) => (Ok(Some(done)), Some(errand)),
                     Err(refusal) => (Err(refusal), None),
                 };
             }
@@ -146,24 +162,36 @@ impl<B: FabricName, N: ControlName> Guarded<B, N> {
     }
 
     // Lets the writer of a router that publishes next go out.
-    fn lend(&mut self, router: u16) -> Result<Ticket<B>, Refusal>
+    fn lend(&mut self, router: u16, share: &mut Share<N>) -> Result<Errand<B, N>, Refusal>
         requires next { next_turn self.old router ≡ Some (Step.Publish router) }
         ensures due { OnOk result (steps.Lawful (self.old).world (Step.Publish router)) }
         ensures cause { IsDoneOr (fabric_refusal self.old (Step.Publish router)) result }
         ensures fresh { IfOk result (λ t. (t.is_published ≡ false) × (t.before.router ≡ router)) }
+        ensures sum { share.new.sum ≡ share.old.sum }
+        ensures holder { IsHolder share.old share.new }
+        ensures out { MatchResult result (λ _. owes share.new ≡ owes share.old + 1)
+            (λ _. owes share.new ≡ owes share.old) }
     {
-        self.fabric.ticket(router)
+        let ticket = self.fabric.ticket(router)?;
+        self.out.add(&mut share.out, 1);
+        Ok(Errand::new(ticket))
     }
 
     /// Ends a turn whose router's writer was out: it comes back, and where it has published, the number
-    /// of the publication is added to the share. Refused, the ticket comes back, and nothing changes.
-    pub fn finish(&mut self, ticket: Ticket<B>, share: &mut Share<N>) -> Result<(), Ticket<B>>
+    /// of the publication is added to the share. Refused, the ticket comes back, and nothing changes; a turn
+    /// can be refused so.
+    pub fn finish(&mut self, errand: Errand<B, N>, share: &mut Share<N>) -> Result<(), Ticket<B>>
+        requires out { 0 < owes share.old }
         ensures sum { MatchResult result (λ _. share.new.sum
-            ≡ share.old.sum + (if ticket.is_published then step_number
-            (Step.Publish ticket.before.router) else 0)) (λ _. share.new.sum ≡ share.old.sum) }
+            ≡ share.old.sum + (if errand.is_published then step_number
+            (Step.Publish errand.before.router) else 0)) (λ _. share.new.sum ≡ share.old.sum) }
         ensures holder { IsHolder share.old share.new }
-        ensures ticket { IfErr result (λ t. t ≡ ticket) }
+        ensures out { MatchResult result (λ _. owes share.new + 1 ≡ owes share.old)
+            (λ _. owes share.new ≡ owes share.old) }
+        ensures ticket { IfErr result (λ t. t ≡ errand) }
+        ensures cause { OnErr result (IsTurnRefused N.opened N.asked WithWrongTicket) }
     {
+        let ticket = errand.into_ticket();
         let published = ticket.is_published();
         let router = ticket.router();
         let number = Step::Publish { router }.number();
@@ -172,6 +200,7 @@ impl<B: FabricName, N: ControlName> Guarded<B, N> {
             watch,
             high,
             low,
+            out,
         } = self;
         let Share {
             number: _,
@@ -179,10 +208,12 @@ impl<B: FabricName, N: ControlName> Guarded<B, N> {
             halt: _,
             high: own_high,
             low: own_low,
+            out: own_out,
         } = share;
         high.audit(own_high);
         low.audit(own_low);
         fabric.give_back(ticket)?;
+        out.sub(own_out, 1);
         watch.add(router);
         if published {
             // No journal's sum needs more than 128 bits.
@@ -236,6 +267,7 @@ impl<B: FabricName, N: ControlName> Guarded<B, N> {
         ensures fabric { self.new ≡ self.old }
         ensures sum { share.new.sum ≡ share.old.sum }
         ensures holder { IsHolder share.old share.new }
+        ensures out { owes share.new ≡ owes share.old }
     {
         // The network has no fault, which its type keeps.
         let _network = self.fabric.network();

@@ -33,6 +33,7 @@
 mod control;
 mod crew;
 mod crowd;
+mod errand;
 mod guarded;
 mod name;
 mod pass;

@@ -3,8 +3,8 @@
 use std::marker::{Brand, PhantomData};
 use std::sync::ledger::Ledger;
 
-/// Which control it is: the names of its two ledgers and the number of its shares, the fabric from which
-/// it began, and the steps that may be asked for. A generic function has it as a type parameter, and its
+/// Which control it is: the names of its three ledgers and the number of its shares, how many writers were
+/// out when it was made, the fabric from which it began, and the steps that may be asked for. A generic function has it as a type parameter, and its
 /// caller chooses it.
 pub trait ControlName {
     ghost use Rattle.std.specs.Prelude.{ℕ, Bool};
@@ -15,7 +15,11 @@ pub trait ControlName {
 
     ghost low: { ℕ };
 
+    ghost out: { ℕ };
+
     ghost shares: { ℕ };
+
+    ghost lent: { ℕ };
 
     ghost opened: { FabricState };
 
@@ -29,7 +33,11 @@ impl ControlName for Brand {
 
     ghost low = { 0 };
 
+    ghost out = { 0 };
+
     ghost shares = { 0 };
+
+    ghost lent = { 0 };
 
     ghost opened = { no_fabric };
 
@@ -50,6 +58,15 @@ pub struct Low<N>(PhantomData<N>);
 
 impl<N: ControlName> Ledger for Low<N> {
     ghost name = { N.low };
+
+    ghost parts = { N.shares };
+}
+
+/// The ledger of the writers that holders have out.
+pub struct Out<N>(PhantomData<N>);
+
+impl<N: ControlName> Ledger for Out<N> {
+    ghost name = { N.out };
 
     ghost parts = { N.shares };
 }

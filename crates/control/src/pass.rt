@@ -1,11 +1,12 @@
 //! Many turns under one lock, and publications between two of them.
 
-ghost use Rattle.std.specs.Prelude.{◌≡◌, ◌<◌, ◌≤◌, IfErr, OnOk, true, vec_len};
-ghost use Rattle.network_model.specs.Turns as turns;
-ghost use Rattle.control.specs.Served.{CanFailOutside, IsServed, IsTurnRefused};
-ghost use Rattle.control.specs.Shares.{IsHolder};
+ghost use Rattle.std.specs.Prelude.{◌≡◌, ◌<◌, ◌≤◌, ◌+◌, ◌⊎◌, IfErr, OnErr, OnOk, MatchResult, true, vec_len};
+ghost use Rattle.network_model.specs.declared.step.Refusal.TheVariants.{NoMemory as OutOfMemory, WrongTicket as WithWrongTicket};
+ghost use Rattle.control.specs.Served.{IsServed, IsTurnRefused};
+ghost use Rattle.control.specs.Shares.{IsHolder, owes};
 
 use crate::crew::Thresholds;
+use crate::errand::Errand;
 use crate::guarded::Guarded;
 use crate::name::ControlName;
 use crate::serve::TurnGate;
@@ -13,7 +14,7 @@ use crate::share::Share;
 use crate::watch::Watch;
 use fabric::Fabric;
 use network_model::{NoMemory, Refusal};
-use publication::{FabricName, Ticket};
+use publication::FabricName;
 use std::sync::Wait;
 
 /// The most tickets that a thread has out at once.
@@ -34,8 +35,8 @@ pub struct Pass {
 }
 
 impl<B: FabricName, N: ControlName> Guarded<B, N> {
-    /// Takes all tickets back. Then routers that may have something to do take turns, from this one on in
-    /// ascending cyclic order; large publications among them are left to tickets, as far as there is room
+    /// Takes all errands back. Then routers that may have something to do take turns, from this one on in
+    /// ascending cyclic order; large publications among them are left to errands, as far as there is room
     /// for these, until there is enough to publish outside the lock. Refused, as the first turn that is
     /// refused.
     pub fn pass<R: Wait>(
@@ -44,14 +45,18 @@ impl<B: FabricName, N: ControlName> Guarded<B, N> {
         router: u16,
         thresholds: Thresholds,
         share: &mut Share<N>,
-        tickets: &mut Vec<Ticket<B>>,
+        errands: &mut Vec<Errand<B, N>>,
     ) -> Result<Pass, Refusal>
-        requires { 0 < vec_len tickets.old → CanFailOutside N.opened N.asked }
-        ensures tickets { 0 < vec_len tickets.new → CanFailOutside N.opened N.asked }
+        requires covered { vec_len errands.old ≤ owes share.old }
+        ensures covered { vec_len errands.new ≤ owes share.new }
+        ensures back { MatchResult result
+            (λ _. owes share.new + vec_len errands.old ≡ owes share.old + vec_len errands.new)
+            (λ e. (e ≡ WithWrongTicket)
+            ⊎ (owes share.new + vec_len errands.old ≡ owes share.old + vec_len errands.new)) }
         ensures err { IfErr result (IsTurnRefused N.opened N.asked) }
         ensures holder { IsHolder share.old share.new }
     {
-        self.take_back(rt, share, tickets)?;
+        self.take_back(rt, share, errands)?;
         if self.watch.is_empty() {
             self.watch = Watch::all();
         }
@@ -69,7 +74,7 @@ impl<B: FabricName, N: ControlName> Guarded<B, N> {
             let Some(router) = next else {
                 break;
             };
-            let rows = self.turn(rt, router, thresholds, share, tickets)?;
+            let rows = self.turn(rt, router, thresholds, share, errands)?;
             pass.rows = pass.rows.saturating_add(rows);
             pass.router = router.wrapping_add(1);
         }
@@ -77,17 +82,16 @@ impl<B: FabricName, N: ControlName> Guarded<B, N> {
         Ok(pass)
     }
 
-    // A turn of a router. Of a publication that is left to a ticket it tells how many rows it counts as.
+    // A turn of a router. Of a publication that is left to an errand it tells how many rows it counts as.
     fn turn<R: Wait>(
         &mut self,
         rt: &R,
         router: u16,
         thresholds: Thresholds,
         share: &mut Share<N>,
-        tickets: &mut Vec<Ticket<B>>,
+        errands: &mut Vec<Errand<B, N>>,
     ) -> Result<usize, Refusal>
-        requires { 0 < vec_len tickets.old → CanFailOutside N.opened N.asked }
-        ensures tickets { 0 < vec_len tickets.new → CanFailOutside N.opened N.asked }
+        ensures back { owes share.new + vec_len errands.old ≡ owes share.old + vec_len errands.new }
         ensures err { IfErr result (IsTurnRefused N.opened N.asked) }
         ensures holder { IsHolder share.old share.new }
     {
@@ -96,10 +100,10 @@ impl<B: FabricName, N: ControlName> Guarded<B, N> {
             return Ok(0);
         }
         let rows = rows_due(&self.fabric, router);
-        let lends = tickets.len() < tickets.capacity() && thresholds.lends(rows);
-        let (done, ticket) = self.begin(rt, router, lends, share);
-        if let Some(ticket) = ticket {
-            tickets.push_reserved(ticket);
+        let lends = errands.len() < errands.capacity() && thresholds.lends(rows);
+        let (done, errand) = self.begin(rt, router, lends, share);
+        if let Some(errand) = errand {
+            errands.push_reserved(errand);
             return Ok(rows.max(1));
         }
         match done {
@@ -112,21 +116,23 @@ impl<B: FabricName, N: ControlName> Guarded<B, N> {
         }
     }
 
-    /// Takes tickets back. One that is refused, which does not happen, is closed.
-    pub fn take_back<R: Wait>(
+    // Takes errands back. The writer of one that is refused, which does not happen, is ended.
+    fn take_back<R: Wait>(
         &mut self,
         rt: &R,
         share: &mut Share<N>,
-        tickets: &mut Vec<Ticket<B>>,
+        errands: &mut Vec<Errand<B, N>>,
     ) -> Result<(), Refusal>
-        requires { 0 < vec_len tickets.old → CanFailOutside N.opened N.asked }
-        ensures empty { OnOk result (vec_len tickets.new ≡ 0) }
-        ensures fewer { vec_len tickets.new ≤ vec_len tickets.old }
+        requires covered { vec_len errands.old ≤ owes share.old }
+        ensures covered { vec_len errands.new ≤ owes share.new }
+        ensures back { OnOk result (owes share.new + vec_len errands.old ≡ owes share.old) }
+        ensures empty { OnOk result (vec_len errands.new ≡ 0) }
+        ensures lost { IfErr result (λ e. e ≡ WithWrongTicket) }
         ensures err { IfErr result (IsTurnRefused N.opened N.asked) }
         ensures holder { IsHolder share.old share.new }
     {
-        while let Some(ticket) = tickets.pop() {
-            if let Err(ticket) = self.finish(ticket, share) {
+        while let Some(errand) = errands.pop() {
+            if let Err(ticket) = self.finish(errand, share) {
                 ticket.close(rt);
                 return Err(Refusal::WrongTicket);
             }
@@ -143,19 +149,20 @@ pub fn rows_due<B: FabricName>(fabric: &Fabric<B>, router: u16) -> usize {
     }
 }
 
-/// A thread publishes what tickets are out with, up to the first for which there is no memory.
-pub fn publish_all<B: FabricName, R: Wait, G: TurnGate>(
+/// A thread publishes what errands are for, up to the first for which there is no memory.
+pub fn publish_all<B: FabricName, N: ControlName, R: Wait, G: TurnGate>(
     rt: &R,
     thread: u8,
-    tickets: &mut Vec<Ticket<B>>,
+    errands: &mut Vec<Errand<B, N>>,
     gate: &G,
 ) -> Result<(), NoMemory>
-    ensures { vec_len tickets.new ≡ vec_len tickets.old }
+    ensures same { vec_len errands.new ≡ vec_len errands.old }
+    ensures cause { OnErr result (IsTurnRefused N.opened N.asked OutOfMemory) }
 {
-    for ticket in tickets.as_mut_slice() {
-        if !ticket.is_published() {
-            gate.publishing(thread, ticket.router());
-            ticket.publish(rt)?;
+    for errand in errands.as_mut_slice() {
+        if !errand.is_published() {
+            gate.publishing(thread, errand.router());
+            errand.publish(rt)?;
         }
     }
     Ok(())

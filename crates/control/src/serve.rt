@@ -1,11 +1,11 @@
 //! Threads that take turns.
 
-ghost use Rattle.std.specs.Prelude.{◌≡◌, ◌+◌, ◌<◌, ◌≤◌, true, nat_lt, if◌then◌else◌, Some, None, IfErr, vec_len};
+ghost use Rattle.std.specs.Prelude.{◌≡◌, ◌+◌, ◌<◌, ◌≤◌, true, nat_lt, if◌then◌else◌, Some, None, IfErr, OnOk, vec_len};
 ghost use Rattle.network_model.specs.Turns as turns;
 ghost use Rattle.network_model.specs.Network.{most_routers};
 ghost use Rattle.fabric.specs.Fabric.{Fabric as FabricState};
 ghost use Rattle.control.specs.Served.{IsFound, IsServed, IsTurn, IsTurnRefused};
-ghost use Rattle.control.specs.Shares.{IsHolder, AreSameHolders};
+ghost use Rattle.control.specs.Shares.{AreUnrefused, HasServed, HaveServed, IsBack, IsHolder, OweAsBefore};
 
 use crate::control::Control;
 use crate::name::ControlName;
@@ -44,7 +44,8 @@ impl<B: FabricName + Send + Sync, N: ControlName + Send + Sync> Control<B, N> {
     /// Lets a thread for each of the n shares serve: thread t serves the routers whose number modulo n
     /// is t, one turn each, in ascending cyclic order, until it finds the fabric settled. One without
     /// routers returns at once. Where a step is refused, each thread stops after its present turn, and
-    /// the refusal of the lowest such thread is answered.
+    /// the refusal of the lowest such thread is answered. No thread leaves a writer out, unless its ticket
+    /// was handed back (`WrongTicket`), which does not happen.
     pub fn serve<R: Threads + Wait + Sync, G: TurnGate + Sync>(
         &self,
         rt: &R,
@@ -53,8 +54,22 @@ impl<B: FabricName + Send + Sync, N: ControlName + Send + Sync> Control<B, N> {
     ) -> Result<(), Refusal>
         requires some { 0 < vec_len shares.old }
         ensures len { vec_len shares.new ≡ vec_len shares.old }
-        ensures same { AreSameHolders shares.old.items shares.new.items }
+        ensures same { HaveServed shares.old.items shares.new.items }
+        ensures back { OnOk result (OweAsBefore shares.old.items shares.new.items) }
         ensures err { IfErr result (IsTurnRefused N.opened N.asked) }
+    {
+        self.serve_each(rt, shares, gate);
+        first_refusal(shares.as_slice())
+    }
+
+    fn serve_each<R: Threads + Wait + Sync, G: TurnGate + Sync>(
+        &self,
+        rt: &R,
+        shares: &mut Vec<Share<N>>,
+        gate: &G,
+    )
+        requires some { 0 < vec_len shares.old }
+        ensures { HaveServed shares.old.items shares.new.items }
     {
         let stop = AtomicBool::new(false);
         let threads = shares.len();
@@ -64,7 +79,6 @@ impl<B: FabricName + Send + Sync, N: ControlName + Send + Sync> Control<B, N> {
             threads,
             &|place, share| self.serve_one(rt, threads, place, share, gate, &stop),
         );
-        first_refusal(shares.as_slice())
     }
 
     fn rota<R: Wait>(&self, rt: &R, threads: usize) -> Rota
@@ -74,7 +88,7 @@ impl<B: FabricName + Send + Sync, N: ControlName + Send + Sync> Control<B, N> {
         Rota { threads, routers }
     }
 
-    // The turns of the thread that has the share at this place.
+    // The turns of the thread that has the share at this place, which then has their refusal, if any.
     fn serve_one<R: Wait, G: TurnGate>(
         &self,
         rt: &R,
@@ -84,12 +98,31 @@ impl<B: FabricName + Send + Sync, N: ControlName + Send + Sync> Control<B, N> {
         gate: &G,
         stop: &AtomicBool,
     )
-        ensures { IsHolder share.old share.new }
+        ensures { HasServed share.old share.new }
     {
-        share.halt = Halt::none();
+        let done = self.take_turns(rt, threads, place, share, gate, stop);
+        if done.is_err() {
+            stop.store(true, Ordering::SeqCst);
+        }
+        share.halt = Halt::of(done);
+    }
+
+    fn take_turns<R: Wait, G: TurnGate>(
+        &self,
+        rt: &R,
+        threads: usize,
+        place: usize,
+        share: &mut Share<N>,
+        gate: &G,
+        stop: &AtomicBool,
+    ) -> Result<(), Refusal>
+        ensures err { IfErr result (IsTurnRefused N.opened N.asked) }
+        ensures holder { IsHolder share.old share.new }
+        ensures back { IsBack share.old share.new result }
+    {
         let rota = self.rota(rt, threads);
         let Some(thread) = rota.first(place) else {
-            return;
+            return Ok(());
         };
         let mut router = u16::from(thread);
         let mut turn: u64 = 1;
@@ -105,23 +138,22 @@ impl<B: FabricName + Send + Sync, N: ControlName + Send + Sync> Control<B, N> {
             turn = turn.saturating_add(1);
             match done {
                 Ok(_) => router = rota.next(thread, router),
-                Err(refusal) => {
-                    share.halt = Halt::at(refusal);
-                    stop.store(true, Ordering::SeqCst);
-                    break;
-                }
+                Err(refusal) => return Err(refusal),
             }
         }
+        Ok(())
     }
 }
 
 /// The refusal of the first holder whose last serving ended with one.
 pub(crate) fn first_refusal<N: ControlName>(shares: &[Share<N>]) -> Result<(), Refusal>
-    ensures { IfErr result (IsTurnRefused N.opened N.asked) }
+    ensures err { IfErr result (IsTurnRefused N.opened N.asked) }
+    ensures none { OnOk result (AreUnrefused shares.now) }
 {
-    for share in shares {
-        if let Some(refusal) = share.halt.refusal() {
-            return Err(refusal);
+    for place in 0..shares.len() {
+        match shares[place].halt() {
+            None => {}
+            Some(refusal) => return Err(refusal),
         }
     }
     Ok(())

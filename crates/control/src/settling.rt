@@ -1,17 +1,19 @@
 //! Fabrics that are settled: by one thread, and where there is much to do by several.
 
-ghost use Rattle.std.specs.Prelude.{◌≡◌, ◌<◌, ◌≤◌, ◌⊎◌, IsTrue, IfErr, OnOk, vec_len};
+ghost use Rattle.std.specs.Prelude.{◌≡◌, ◌+◌, ◌<◌, ◌≤◌, ◌⊎◌, Err, IsTrue, IfErr, MatchResult, OnOk, false, sum_by, vec_len};
+ghost use Rattle.network_model.specs.declared.step.Refusal.TheVariants.{WrongTicket as WithWrongTicket};
 ghost use Rattle.network_model.specs.Turns as turns;
 ghost use Rattle.network_model.specs.Forwarding.{is_quiet};
-ghost use Rattle.fabric.specs.Fabric.{Fabric as FabricState};
+ghost use Rattle.fabric.specs.Fabric.{Fabric as FabricState, count_lent};
 ghost use Rattle.fabric.specs.Headline.{HasBestRows};
 ghost use Rattle.control.specs.Names.{IsNamed};
-ghost use Rattle.control.specs.Served.{CanFailOutside, IsServed, IsStopped, IsTurnRefused, none_asked};
-ghost use Rattle.control.specs.Shares.{IsHolder, AreSameHolders};
+ghost use Rattle.control.specs.Served.{AreBack, IsServed, IsStopped, IsTurnRefused, none_asked};
+ghost use Rattle.control.specs.Shares.{HasServed, HaveServed, IsHolder, KeptTickets, owes};
 
 use crate::control::Control;
 use crate::crew::{Crew, Thresholds};
 use crate::crowd::Crowd;
+use crate::errand::Errand;
 use crate::name::ControlName;
 use crate::pass::{MOST_TICKETS, Pass, publish_all, rows_due};
 use crate::progress::{Progress, STEPS_BETWEEN};
@@ -21,7 +23,7 @@ use crate::watch::Watch;
 use core::mem::replace_with;
 use fabric::Fabric;
 use network_model::{NoMemory, Refusal, Step};
-use publication::{FabricName, Ticket};
+use publication::FabricName;
 use std::alloc::Global;
 use std::marker::Brand;
 use std::sync::Wait;
@@ -46,7 +48,8 @@ impl Origin for Brand {
 /// takes all turns, in ascending cyclic order of the routers; while there is as much to publish as the crew's
 /// thresholds say, up to so many do it together, and where the system gives fewer, those that it gives do
 /// all. These call the gate. One thread alone is refused with `JournalFull` or `NoMemory` and with nothing
-/// else. Where a writer is out, it does not come back. How far it is, `progress` is told.
+/// else. Where a writer is out, it does not come back. It leaves no other writer out, unless it is refused
+/// with `WrongTicket`, which does not happen. How far it is, `progress` is told.
 pub fn settle<B, P, G, R>(
     rt: &R,
     alloc: Global,
@@ -67,6 +70,7 @@ where
     ensures err { IfErr result (λ e. IsTurnRefused fabric.old none_asked e
         ⊎ (e ≡ Refusal.NoMemory)) }
     ensures alone { crew.threads ≤ 1 → IfErr result (IsStopped fabric.new) }
+    ensures back { AreBack fabric.old fabric.new result }
 {
     let by = (rt, alloc, crew, gate, progress);
     let done = replace_with(fabric, by, |fabric, by| settle_moved(fabric, by));
@@ -90,6 +94,7 @@ where
     ensures err { IfErr result.1 (λ e. IsTurnRefused fabric none_asked e
         ⊎ (e ≡ Refusal.NoMemory)) }
     ensures alone { (by.entry.2).threads ≤ 1 → IfErr result.1 (IsStopped result.0) }
+    ensures back { AreBack fabric result.0 result.1 }
 {
     let (rt, alloc, crew, gate, progress) = by;
     settle_from::<B, Brand, P, G, R>(rt, alloc, fabric, crew, gate, progress)
@@ -116,6 +121,7 @@ where
     ensures quiet { OnOk result.1 (IsTrue (is_quiet (result.0).world)) }
     ensures err { IfErr result.1 (λ e. IsTurnRefused O.from none_asked e ⊎ (e ≡ Refusal.NoMemory)) }
     ensures alone { crew.threads ≤ 1 → IfErr result.1 (IsStopped result.0) }
+    ensures back { AreBack O.from result.0 result.1 }
 {
     let mut fabric = fabric;
     for _ in rt.forever() {
@@ -159,6 +165,7 @@ where
     ensures turns { IsServed O.from none_asked fabric.new }
     ensures err { IfErr result (IsTurnRefused O.from none_asked) }
     ensures alone { IfErr result (IsStopped fabric.new) }
+    ensures lent { (fabric.new).lent ≡ (fabric.old).lent }
 {
     let mut watch = Watch::all();
     let mut router = 0;
@@ -228,11 +235,13 @@ where
     N: ControlName + Send + Sync,
     G: TurnGate + Sync,
     R: Threads + Wait + Sync,
-    requires names { IsNamed opening N.high N.low N.shares }
+    requires names { IsNamed opening N.high N.low N.out N.shares }
+    requires lent { count_lent fabric.lent ≤ N.lent }
     requires some { 0 < opening.shares }
     requires opened { IsServed N.opened N.asked fabric }
     ensures turns { IsServed N.opened N.asked result.0 }
     ensures err { IfErr result.1 (λ e. IsTurnRefused N.opened N.asked e ⊎ (e ≡ Refusal.NoMemory)) }
+    ensures back { (result.1 ≡ Err WithWrongTicket) ⊎ (count_lent (result.0).lent ≤ N.lent) }
 {
     match Control::<B, N>::new(alloc, opening, fabric) {
         Ok((control, mut shares)) => {
@@ -244,8 +253,8 @@ where
 }
 
 impl<B: FabricName + Send + Sync, N: ControlName + Send + Sync> Control<B, N> {
-    // Where a turn is refused, each thread ends its pass, and the refusal of the lowest such thread is
-    // answered.
+    // Where a turn is refused, each thread ends its pass, and it is answered that a ticket was handed back,
+    // or else the refusal of the lowest such thread.
     fn settle<R: Threads + Wait + Sync, G: TurnGate + Sync>(
         &self,
         rt: &R,
@@ -255,9 +264,28 @@ impl<B: FabricName + Send + Sync, N: ControlName + Send + Sync> Control<B, N> {
         shares: &mut Vec<Share<N>>,
     ) -> Result<(), Refusal>
         requires some { 0 < vec_len shares.old }
+        requires home { sum_by owes shares.old.items ≡ 0 }
         ensures len { vec_len shares.new ≡ vec_len shares.old }
-        ensures same { AreSameHolders shares.old.items shares.new.items }
         ensures err { IfErr result (IsTurnRefused N.opened N.asked) }
+        ensures back { (result ≡ Err WithWrongTicket) ⊎ (sum_by owes shares.new.items ≡ 0) }
+    {
+        self.settle_each(rt, alloc, thresholds, gate, shares);
+        if has_lost_ticket(shares.as_slice()) {
+            return Err(Refusal::WrongTicket);
+        }
+        first_refusal(shares.as_slice())
+    }
+
+    fn settle_each<R: Threads + Wait + Sync, G: TurnGate + Sync>(
+        &self,
+        rt: &R,
+        alloc: Global,
+        thresholds: Thresholds,
+        gate: &G,
+        shares: &mut Vec<Share<N>>,
+    )
+        requires some { 0 < vec_len shares.old }
+        ensures { HaveServed shares.old.items shares.new.items }
     {
         let threads = shares.len();
         let crowd = Crowd::new(threads, thresholds);
@@ -267,10 +295,10 @@ impl<B: FabricName + Send + Sync, N: ControlName + Send + Sync> Control<B, N> {
             threads,
             &|_place, share| { self.help(rt, alloc, share, &crowd, gate) },
         );
-        first_refusal(shares.as_slice())
     }
 
-    // The passes of a thread. Without memory for tickets it publishes all under the lock.
+    // What a thread does, which then has the refusal of its passes, if any, or that a ticket was handed
+    // back to it. Without memory for errands it publishes all under the lock.
     fn help<R: Wait, G: TurnGate>(
         &self,
         rt: &R,
@@ -279,14 +307,33 @@ impl<B: FabricName + Send + Sync, N: ControlName + Send + Sync> Control<B, N> {
         crowd: &Crowd,
         gate: &G,
     )
-        ensures { IsHolder share.old share.new }
+        ensures { HasServed share.old share.new }
     {
-        share.halt = Halt::none();
-        let mut tickets = match Vec::with_capacity(alloc, MOST_TICKETS) {
-            Ok(tickets) => tickets,
-            Err(_) => Vec::new(alloc),
-        };
+        let mut errands = no_errands(alloc);
         crowd.enter(rt);
+        let done = self.passes(rt, share, &mut errands, crowd, gate);
+        let answer = self.give_all_back(rt, share, errands, done);
+        share.halt = Halt::of(answer);
+    }
+
+    // The passes of a thread, until all is over.
+    fn passes<R: Wait, G: TurnGate>(
+        &self,
+        rt: &R,
+        share: &mut Share<N>,
+        errands: &mut Vec<Errand<B, N>>,
+        crowd: &Crowd,
+        gate: &G,
+    ) -> Result<(), Refusal>
+        requires covered { vec_len errands.old ≤ owes share.old }
+        ensures covered { vec_len errands.new ≤ owes share.new }
+        ensures back { MatchResult result
+            (λ _. owes share.new + vec_len errands.old ≡ owes share.old + vec_len errands.new)
+            (λ e. (e ≡ WithWrongTicket)
+            ⊎ (owes share.new + vec_len errands.old ≡ owes share.old + vec_len errands.new)) }
+        ensures err { IfErr result (IsTurnRefused N.opened N.asked) }
+        ensures holder { IsHolder share.old share.new }
+    {
         let thread = share.number;
         let mut router = 0;
         let mut turn: u64 = 1;
@@ -295,7 +342,7 @@ impl<B: FabricName + Send + Sync, N: ControlName + Send + Sync> Control<B, N> {
                 break;
             }
             gate.before(thread, turn);
-            let done = self.round(rt, router, share, &mut tickets, crowd, gate);
+            let done = self.round(rt, router, share, errands, crowd, gate);
             gate.after(thread, turn);
             turn = turn.saturating_add(1);
             match done {
@@ -306,26 +353,30 @@ impl<B: FabricName + Send + Sync, N: ControlName + Send + Sync> Control<B, N> {
                     }
                 }
                 Err(refusal) => {
-                    share.halt = Halt::at(refusal);
                     crowd.end();
+                    return Err(refusal);
                 }
             }
         }
-        self.give_all_back(rt, share, tickets);
+        Ok(())
     }
 
-    // A pass under the lock, and outside it the publications that it leaves to tickets.
+    // A pass under the lock, and outside it the publications that it leaves to errands.
     fn round<R: Wait, G: TurnGate>(
         &self,
         rt: &R,
         router: u16,
         share: &mut Share<N>,
-        tickets: &mut Vec<Ticket<B>>,
+        errands: &mut Vec<Errand<B, N>>,
         crowd: &Crowd,
         gate: &G,
     ) -> Result<Pass, Refusal>
-        requires { 0 < vec_len tickets.old → CanFailOutside N.opened N.asked }
-        ensures tickets { 0 < vec_len tickets.new → CanFailOutside N.opened N.asked }
+        requires covered { vec_len errands.old ≤ owes share.old }
+        ensures covered { vec_len errands.new ≤ owes share.new }
+        ensures back { MatchResult result
+            (λ _. owes share.new + vec_len errands.old ≡ owes share.old + vec_len errands.new)
+            (λ e. (e ≡ WithWrongTicket)
+            ⊎ (owes share.new + vec_len errands.old ≡ owes share.old + vec_len errands.new)) }
         ensures err { IfErr result (IsTurnRefused N.opened N.asked) }
         ensures holder { IsHolder share.old share.new }
     {
@@ -333,29 +384,63 @@ impl<B: FabricName + Send + Sync, N: ControlName + Send + Sync> Control<B, N> {
         let pass = self
             .guarded
             .lock(rt)
-            .pass(rt, router, thresholds, share, tickets)?;
+            .pass(rt, router, thresholds, share, errands)?;
         if thresholds.calls(pass.rows) {
             crowd.call();
         }
-        if tickets.is_empty() {
-            return Ok(pass);
-        }
-        match publish_all(rt, share.number, tickets, gate) {
+        match publish_all(rt, share.number, errands, gate) {
             Ok(()) => Ok(pass),
             Err(NoMemory) => Err(Refusal::NoMemory),
         }
     }
 
-    // What a thread has out comes back.
-    fn give_all_back<R: Wait>(&self, rt: &R, share: &mut Share<N>, tickets: Vec<Ticket<B>>)
-        ensures { IsHolder share.old share.new }
+    // What a thread has out comes back. It answers what its passes came to, or that a ticket was handed
+    // back, whose writer is ended.
+    fn give_all_back<R: Wait>(
+        &self,
+        rt: &R,
+        share: &mut Share<N>,
+        errands: Vec<Errand<B, N>>,
+        done: Result<(), Refusal>,
+    ) -> Result<(), Refusal>
+        requires covered { vec_len errands ≤ owes share.old }
+        requires err { IfErr done (IsTurnRefused N.opened N.asked) }
+        ensures back { (result ≡ Err WithWrongTicket)
+            ⊎ ((owes share.new + vec_len errands ≡ owes share.old) × (result ≡ done)) }
+        ensures err { IfErr result (IsTurnRefused N.opened N.asked) }
+        ensures holder { IsHolder share.old share.new }
     {
-        let mut tickets = tickets;
-        while let Some(ticket) = tickets.pop() {
-            if let Err(ticket) = self.finish(rt, ticket, share) {
+        let (mut errands, mut answer) = (errands, done);
+        while let Some(errand) = errands.pop() {
+            if let Err(ticket) = self.finish(rt, errand, share) {
                 ticket.close(rt);
+                answer = Err(Refusal::WrongTicket);
             }
         }
-        tickets.into_iter().destroy_empty();
+        errands.into_iter().destroy_empty();
+        answer
     }
+}
+
+// No errands, with room for as many as a thread has out at once; without memory for that there is none.
+fn no_errands<B: FabricName, N: ControlName>(alloc: Global) -> Vec<Errand<B, N>>
+    ensures { vec_len result ≡ 0 }
+{
+    match Vec::with_capacity(alloc, MOST_TICKETS) {
+        Ok(errands) => errands,
+        Err(_) => Vec::new(alloc),
+    }
+}
+
+// Whether a ticket was handed back to one of these holders.
+fn has_lost_ticket<N: ControlName>(shares: &[Share<N>]) -> bool
+    ensures kept { result ≡ false → KeptTickets shares.now }
+    ensures cause { IsTrue result → IsTurnRefused N.opened N.asked WithWrongTicket }
+{
+    for place in 0..shares.len() {
+        if shares[place].has_lost_ticket() {
+            return true;
+        }
+    }
+    false
 }

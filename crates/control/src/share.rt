@@ -1,9 +1,10 @@
 //! What the holders of a control have beside the lock.
 
-ghost use Rattle.std.specs.Prelude.{◌≡◌, ◌+◌, ◌*◌, ◌^◌, Some, None, IfSome};
+ghost use Rattle.std.specs.Prelude.{◌≡◌, ◌↔◌, ◌+◌, ◌*◌, ◌^◌, Some, None, IfSome, IfErr, IsTrue, MatchResult};
+ghost use Rattle.network_model.specs.declared.step.Refusal.TheVariants.{WrongTicket as WithWrongTicket};
 ghost use Rattle.control.specs.Served.{IsTurnRefused};
 
-use crate::name::{ControlName, High, Low};
+use crate::name::{ControlName, High, Low, Out};
 use network_model::Refusal;
 use std::marker::{Model, PhantomData};
 use std::sync::ledger::{self, Blank};
@@ -13,9 +14,11 @@ use std::sync::ledger::{self, Blank};
 pub struct Opening {
     pub(crate) high: Blank,
     pub(crate) low: Blank,
+    pub(crate) out: Blank,
     pub(crate) shares: u8,
     ghost high_parts: { high.parts ≡ shares },
     ghost low_parts: { low.parts ≡ shares },
+    ghost out_parts: { out.parts ≡ shares },
 }
 
 impl Opening {
@@ -26,6 +29,7 @@ impl Opening {
         Opening {
             high: Blank::new(u64::from(shares)),
             low: Blank::new(u64::from(shares)),
+            out: Blank::new(u64::from(shares)),
             shares,
         }
     }
@@ -62,13 +66,13 @@ impl<N: ControlName> Halt<N> {
         }
     }
 
-    /// A turn was refused with this.
-    pub fn at(refusal: Refusal) -> Halt<N>
-        requires { IsTurnRefused N.opened N.asked refusal }
-        ensures { result ≡ Some refusal }
+    /// A turn was refused, if one was, with this.
+    pub fn of(done: Result<(), Refusal>) -> Halt<N>
+        requires { IfErr done (IsTurnRefused N.opened N.asked) }
+        ensures { MatchResult done (λ _. result ≡ None) (λ e. result ≡ Some e) }
     {
         Halt {
-            refusal: Some(refusal),
+            refusal: done.err(),
             name: PhantomData,
         }
     }
@@ -82,7 +86,7 @@ impl<N: ControlName> Halt<N> {
     }
 }
 
-/// What the steps of one holder come to. One that is dropped is lost: its control can then not be
+/// What the steps of one holder come to, and how many writers it has out. One that is dropped is lost: its control can then not be
 /// closed.
 #[derive(Drop)]
 pub struct Share<N: ControlName> {
@@ -91,8 +95,10 @@ pub struct Share<N: ControlName> {
     pub(crate) halt: Halt<N>,
     pub(crate) high: ledger::Share<High<N>>,
     pub(crate) low: ledger::Share<Low<N>>,
+    pub(crate) out: ledger::Share<Out<N>>,
     ghost high_part: { high.parts ≡ 1 },
     ghost low_part: { low.parts ≡ 1 },
+    ghost out_part: { out.parts ≡ 1 },
     ghost adds_up: { sum ≡ high.amount * 2 ^ 64 + low.amount },
 }
 
@@ -112,16 +118,33 @@ impl<N: ControlName> Share<N> {
         self.number
     }
 
+    /// The refusal with which its holder's last serving ended, if it ended with one.
+    pub fn halt(&self) -> Option<Refusal>
+        ensures same { result ≡ self.now.halt }
+        ensures cause { IfSome result (IsTurnRefused N.opened N.asked) }
+    {
+        self.halt.refusal()
+    }
+
+    // Whether it ended so since a ticket was handed back.
+    pub(crate) fn has_lost_ticket(&self) -> bool
+        ensures lost { IsTrue result ↔ (self.now.halt ≡ Some WithWrongTicket) }
+        ensures cause { IsTrue result → IsTurnRefused N.opened N.asked WithWrongTicket }
+    {
+        self.halt.refusal() == Some(Refusal::WrongTicket)
+    }
+
     // A share without a halt.
     pub fn new(
         number: u8,
         sum: u128,
         high: ledger::Share<High<N>>,
         low: ledger::Share<Low<N>>,
+        out: ledger::Share<Out<N>>,
     ) -> Share<N>
-        requires parts { (high.parts ≡ 1) × (low.parts ≡ 1) }
+        requires parts { (high.parts ≡ 1) × (low.parts ≡ 1) × (out.parts ≡ 1) }
         requires adds_up { sum ≡ high.amount * 2 ^ 64 + low.amount }
-        ensures { (result.number ≡ number) × (result.sum ≡ sum) }
+        ensures { (result.number ≡ number) × (result.sum ≡ sum) × (result.out ≡ out) }
     {
         Share {
             number,
@@ -129,6 +152,7 @@ impl<N: ControlName> Share<N> {
             halt: Halt::none(),
             high,
             low,
+            out,
         }
     }
 }

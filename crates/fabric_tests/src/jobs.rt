@@ -1,6 +1,7 @@
 //! Jobs that a port answers: one while a turn waits, and one once nothing is left to do.
 
-ghost use Rattle.std.specs.Prelude.{◌≡◌, ◌<◌, true, length, vec_len};
+ghost use Rattle.std.specs.Prelude.{◌≡◌, ◌≤◌, ◌<◌, true, length, vec_len};
+ghost use Rattle.fabric.specs.Fabric.{count_lent};
 ghost use Rattle.fabric.specs.Writers.{opening_tables};
 ghost use Rattle.control.specs.Names.{IsNamed};
 
@@ -167,7 +168,8 @@ where
     B: FabricName + Send + Sync,
     N: ControlName + Send + Sync,
     H: Threads + Wait + Abort + Clock + Sync,
-    requires names { IsNamed opening N.high N.low N.shares }
+    requires names { IsNamed opening N.high N.low N.out N.shares }
+    requires lent { count_lent fabric.lent ≤ N.lent }
     requires some { 0 < opening.shares }
     requires opened { fabric ≡ N.opened }
     requires asked { (s : Step) → N.asked s ≡ true }

@@ -1,5 +1,5 @@
-use Rattle.std.proofs.Common.{◌≡◌, ◌∙◌, Some, refl, sym, subst, inl, inr}
-use Rattle.fabric.specs.Fabric.{fabric_refusal, next_fabric_step}
+use Rattle.std.proofs.Common.{◌≡◌, ◌∙◌, Some, ap, refl, sym, subst, inl, inr}
+use Rattle.fabric.specs.Fabric.{Fabric, fabric_refusal, next_fabric_step}
 use Rattle.control.specs.Served.{IsStopped, none_asked}
 use Rattle.control.proofs.Serving.{done_free, served_next, stopped, turn_next}
 use Rattle.fabric.proofs.Causes.{refused_as}
@@ -11,15 +11,17 @@ loop-preserved-in-Ok g c =
     let f = c.loop.fabric in
     let s = c.in-Some-next_step.step in
     let due : next_fabric_step f c.in-Some-next.found ≡ Some s = sym c.next_step.ensures ∙ c.in-Some-next_step.is in
-    let ok = c.in-Ok.ensures.ok in
-    served_next g.O.Origin.from none_asked f f c.step.new.self s c.loop.invariant refl refl refl (λ i lent. lent) (done_free f s _ c.in-Ok.ensures.cause)
-    (inr (c.in-Some-next.found, turn_next f c.in-Some-next.found s due)) ok.0 c.number-number.ensures.fits ok.1
+    let ok = c.in-Ok.ensures.ok in (
+      served_next g.O.Origin.from none_asked f f c.step.new.self s c.loop.invariant.0 refl refl refl c.loop.invariant.0.stays (λ i lent. lent) (done_free f s _ c.in-Ok.ensures.cause)
+          (inr (c.in-Some-next.found, turn_next f c.in-Some-next.found s due)) ok.0 c.number-number.ensures.fits ok.1,
+      ap (λ (h : Fabric). h.lent) ok.1 ∙ c.loop.invariant.1,
+    )
 
 -- the step that was refused was the router's next
 pub returns-in-Err-clause-err : goal.returns-in-Err-clause-err
 returns-in-Err-clause-err g c = record {
   fabric = c.loop.fabric;
-  served = c.loop.invariant;
+  served = c.loop.invariant.0;
   router = c.in-Some-next.found;
   step = c.in-Some-next_step.step;
   due = sym c.next_step.ensures ∙ c.in-Some-next_step.is;

@@ -1,7 +1,8 @@
-use Rattle.control.specs.Names.{high_name, low_name}
+use Rattle.fabric.specs.Fabric.{count_lent}
+use Rattle.control.specs.Names.{high_name, low_name, out_name}
 use Rattle.control.specs.Served.{all_asked}
 use Rattle.fabric_tests.proofs.jobs.opened.Given as goal
 
 -- the ledgers that were just made, and the fabric
 abbrev pub ghosts-controlled : goal.ghosts-controlled
-ghosts-controlled g a = record { high = high_name a.opening; low = low_name a.opening; shares = (a.opening).shares; opened = a.fabric; asked = all_asked }
+ghosts-controlled g a = record { high = high_name a.opening; low = low_name a.opening; out = out_name a.opening; shares = (a.opening).shares; lent = count_lent (a.fabric).lent; opened = a.fabric; asked = all_asked }

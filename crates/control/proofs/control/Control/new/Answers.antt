@@ -1,4 +1,4 @@
-use Rattle.std.proofs.Common.{rules, ◌≡◌, ◌∙◌, length, arith}
+use Rattle.std.proofs.Common.{rules, ap, ◌≡◌, ◌∙◌, length, arith}
 use Rattle.control.proofs.Sharing.{new_more}
 use Rattle.control.proofs.control.Control.new.Goals as goal
 
@@ -11,8 +11,10 @@ loop-number-preserved g c =
       omega arith,
       omega arith,
       omega arith,
+      omega arith,
+      omega arith,
       search rules,
       search rules,
       search rules,
-      new_more c.sum-sum.result c.loop-number.all.items c.push_reserved.new.self.items c.new.result c.loop-number.number v.8 c.push_reserved.ensures.items many c.new.ensures.0 (c.new.ensures.1 ∙ v.5),
+      new_more c.sum-sum.result c.loop-number.all.items c.push_reserved.new.self.items c.new.result c.loop-number.number v.10 c.push_reserved.ensures.items many c.new.ensures.0 (c.new.ensures.1 ∙ v.7) (ap (λ o. o.amount) c.new.ensures.2 ∙ c.split_off-out.ensures.amount),
     )

@@ -7,6 +7,8 @@ abbrev pub invariant-loop-number : goal.invariant-loop-number
 invariant-loop-number g l =
     (l.high_rest.parts + l.number ≡ l.shares)
     × (l.low_rest.parts + l.number ≡ l.shares)
+    × (l.out_rest.parts + l.number ≡ l.shares)
+    × (l.out_rest.amount ≡ 0)
     × (l.high_rest.amount ≡ l.high_left)
     × (l.low_rest.amount ≡ l.low_left)
     × (l.sum_left ≡ l.high_left * 2 ^ 64 + l.low_left)

@@ -1,9 +1,9 @@
-use Rattle.std.proofs.Common.{◌≡◌, ◌∙◌, Err, Some, ap, subst, sym, inl, inr, arith}
+use Rattle.std.proofs.Common.{◌≡◌, ◌∙◌, Err, None, Ok, Some, ap, subst, sym, inl, inr, arith}
 use Rattle.network_model.specs.declared.step.Step.TheVariants.{Publish}
 use Rattle.network_model.specs.Step.{Lawful}
 use Rattle.world.specs.Steps.{IsDoneOr}
 use Rattle.fabric.specs.Fabric.{Fabric, fabric_refusal, next_fabric_step}
-use Rattle.control.proofs.Serving.{next_router, turn_next}
+use Rattle.control.proofs.Serving.{done_none, next_router, turn_next}
 use Rattle.fabric.proofs.Causes.{refused_as}
 use Rattle.control.proofs.guarded.Guarded.begin.Goals as goal
 
@@ -21,6 +21,16 @@ returns-in-Ok-clause-turn g c =
       ap (λ (f : Fabric). next_fabric_step f c.args.router) (sym before) ∙ sym c.next_step.ensures ∙ c.in-Some.is,
       subst (λ (f : Fabric). Lawful f.world c.in-Some.step) c.audit.ensures.fabric
           (subst (Lawful c.audit.new.self.world) (sym (c.in-Publish.is ∙ ap Publish mine)) c.in-Ok.ensures.due),
+    )
+
+pub returns-in-Ok-clause-ticket : goal.returns-in-Ok-clause-ticket
+returns-in-Ok-clause-ticket g c =
+    let mine : c.in-Publish.router ≡ c.args.router = next_router c.self.inside.fabric.world c.args.router c.in-Publish.router
+    (turn_next c.self.inside.fabric c.args.router (Publish c.in-Publish.router) (sym c.next_step.ensures ∙ c.in-Some.is ∙ ap Some c.in-Publish.is)) in (
+      ap (λ s. Ok (Some s)) (c.in-Publish.is ∙ ap Publish mine),
+      subst (λ f. fabric_refusal f (Publish c.args.router) ≡ None) c.audit.ensures.fabric (done_none _ _ c.in-Ok.ensures.cause),
+      c.in-Ok.ensures.fresh.0,
+      c.in-Ok.ensures.fresh.1,
     )
 
 pub returns-in-Err-clause-turn : goal.returns-in-Err-clause-turn
@@ -58,4 +68,5 @@ returns-in-Err-step g c =
       lent = tt;
       sum = omega (arith, sum, audited);
       holder = c.in-Err-step.ensures.holder ∙ c.audit.ensures.holder;
+      out = c.in-Err-step.ensures.out ∙ c.audit.ensures.out;
     }

@@ -1,7 +1,7 @@
 use Rattle.std.proofs.Common.{◌≡◌, ◌+◌, refl, ap, sym, subst, ◌∙◌, arith}
 use Rattle.network_model.proofs.Common.{sum_by_push, journal_sum, step_number}
-use Rattle.fabric.specs.Fabric.{Fabric}
-use Rattle.control.specs.Served.{IsTurnAt, may_do}
+use Rattle.fabric.specs.Fabric.{Fabric, count_lent}
+use Rattle.control.specs.Served.{IsTurnAt}
 use Rattle.control.proofs.Serving.{done_free, served_next}
 use Rattle.control.proofs.guarded.Guarded.step.Goals as goal
 
@@ -13,7 +13,8 @@ invariant_of-self-2 g c =
     = ap (λ (f : Fabric). journal_sum f.journal) ok.1 ∙ sum_by_push step_number c.self.inside.fabric.journal c.args.step in
     let number = c.number-number.ensures.number in (
       omega (arith, more, before, number, c.add.ensures.total, c.add-2.ensures.total, c.audit.ensures.total, c.audit-2.ensures.total),
-      served_next g.N.ControlName.opened g.N.ControlName.asked c.self.inside.fabric c.self.inside.fabric c.step.new.self c.args.step c.self.invariant.1 refl refl refl (λ i lent. lent)
+      served_next g.N.ControlName.opened g.N.ControlName.asked c.self.inside.fabric c.self.inside.fabric c.step.new.self c.args.step c.self.invariant.1 refl refl refl c.self.invariant.1.stays (λ i lent. lent)
           (done_free c.self.inside.fabric c.args.step _ c.in_ok-step.ensures.cause)
-          (subst (λ (f : Fabric). IsTurnAt (may_do g.N.ControlName.opened g.N.ControlName.asked) f.world c.args.step) (sym c.self.view_is) c.requires) ok.0 c.number-number.ensures.fits ok.1,
+          (subst (λ (f : Fabric). IsTurnAt g.N.ControlName.asked f.world c.args.step) (sym c.self.view_is) c.requires) ok.0 c.number-number.ensures.fits ok.1,
+      (let lent = ap (λ (f : Fabric). count_lent f.lent) ok.1 in let before = c.self.invariant.2 in omega (arith, lent, before)),
     )
