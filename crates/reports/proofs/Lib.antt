@@ -1,3 +1,3 @@
 pub mod Printed
 mod Slices
-mod Replays
+pub mod Replays

@@ -1,5 +1,7 @@
 //! A list of bytes that takes no more than so many.
 
+ghost use Rattle.std.specs.Prelude.{◌≡◌, []};
+
 use std::alloc::Global;
 use std::io;
 use std::io::{ErrorKind, Write};
@@ -13,7 +15,9 @@ pub(crate) struct Limited {
 
 impl Limited {
     /// No bytes, of at most so many.
-    pub(crate) fn new(alloc: Global, most: usize) -> Limited {
+    pub(crate) fn new(alloc: Global, most: usize) -> Limited
+        ensures { result.bytes.items ≡ [] }
+    {
         Limited {
             bytes: Vec::new(alloc),
             most,

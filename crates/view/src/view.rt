@@ -1,10 +1,13 @@
 //! Writes the states of a run.
 
-ghost use Rattle.std.specs.Prelude.{◌≡◌, IfOk, Ok, take};
+ghost use Rattle.std.specs.Prelude.{◌≡◌, ◌≤◌, ℕ, [], IfOk, None, Ok, is_some, length, take};
 ghost use Rattle.network_model.specs.World as model;
 ghost use Rattle.network_model.specs.Run.{Runs};
-ghost use Rattle.plans.specs.Faults.{OfBytes};
-ghost use Rattle.view.specs.Shown.{IsShown};
+ghost use Rattle.texts.specs.Words.{Text};
+ghost use Rattle.plans.specs.Faults.{Gives, OfBytes, most_bytes};
+ghost use Rattle.play.specs.Runs.{IsRunToEnd};
+ghost use Rattle.run_states.specs.Told.{IsStatesText};
+ghost use Rattle.view.specs.Shown.{AreLines, IsShown, IsWrittenUpTo};
 
 use crate::limited::Limited;
 use journal::read_journal;
@@ -40,28 +43,58 @@ where
     J: Read + Drop,
     W: Write,
     E: Write,
-    ensures { result ≡ 0 → OfBytes (R.remaining scenario) IsShown }
+    ensures { result ≡ 0 → OfBytes (R.remaining scenario) (λ bytes. (lines : Text)
+        × AreLines (is_some words.now.journal) bytes (J.remaining journal) lines
+        × IsShown words.now.json bytes lines (W.contents out.old) (W.contents out.new)) }
 {
     let text = match read_text(alloc, scenario) {
         Ok(text) => text,
         Err(cause) => return refuse(Fault::from(cause), err),
     };
-    let mut lines = Vec::new(alloc);
     if words.journal.is_some() {
-        match read_bytes(alloc, journal) {
-            Ok(read) => lines = read,
-            Err(cause) => return refuse(Fault::from(cause), err),
-        }
-    } else {
-        let status = run(rt, alloc, text.as_str(), err, &mut lines);
-        if status != 0 {
-            return status;
-        }
+        return show_journal(alloc, words.json, text.as_str(), journal, out, err);
     }
-    match write_run(alloc, words.json, text.as_str(), &lines, out) {
-        Ok(ran) => tell(ran, err),
-        Err(fault) => refuse(fault, err),
+    show_script(rt, alloc, words.json, text.as_str(), out, err)
+}
+
+// Writes the states of the steps that a journal says.
+fn show_journal<J: Read + Drop, W: Write, E: Write>(
+    alloc: Global,
+    json: bool,
+    text: &str,
+    journal: J,
+    out: &mut W,
+    err: &mut E,
+) -> u8
+    requires { length text.now ≤ most_bytes }
+    ensures { result ≡ 0 → (lines : Text) × Gives (J.remaining journal) lines
+        × IsShown json text.now lines (W.contents out.old) (W.contents out.new) }
+{
+    match read_bytes(alloc, journal) {
+        Ok(lines) => write_run(alloc, json, text, &lines, out, err),
+        Err(cause) => refuse(Fault::from(cause), err),
     }
+}
+
+// Runs the script of a scenario, and writes the states of its steps.
+fn show_script<H: Host, W: Write, E: Write>(
+    rt: &H,
+    alloc: Global,
+    json: bool,
+    text: &str,
+    out: &mut W,
+    err: &mut E,
+) -> u8
+    requires { length text.now ≤ most_bytes }
+    ensures { result ≡ 0 → (lines : Text) × IsRunToEnd text.now [] lines
+        × IsShown json text.now lines (W.contents out.old) (W.contents out.new) }
+{
+    let mut lines = Vec::new(alloc);
+    let status = run(rt, alloc, text, err, &mut lines);
+    if status != 0 {
+        return status;
+    }
+    write_run(alloc, json, text, &lines, out, err)
 }
 
 // Runs the script of a scenario, and keeps its journal.
@@ -71,7 +104,9 @@ fn run<H: Host, E: Write>(
     text: &str,
     err: &mut E,
     journal: &mut Vec<u8>,
-) -> u8 {
+) -> u8
+    ensures { result ≡ 0 → IsRunToEnd text.now journal.old.items journal.new.items }
+{
     let words = Words::Run {
         file: "",
         threads: 1,
@@ -94,15 +129,34 @@ fn run<H: Host, E: Write>(
     )
 }
 
-// Writes the states of the steps of a journal.
-fn write_run<W: Write>(
+// Writes the states of the steps of a journal, and answers the exit status.
+fn write_run<W: Write, E: Write>(
+    alloc: Global,
+    json: bool,
+    text: &str,
+    journal: &[u8],
+    out: &mut W,
+    err: &mut E,
+) -> u8
+    requires { length text.now ≤ most_bytes }
+    ensures { result ≡ 0 → IsShown json text.now journal.now (W.contents out.old) (W.contents out.new) }
+{
+    match write_journal(alloc, json, text, journal, out) {
+        Ok(ran) => tell(ran, err),
+        Err(fault) => refuse(fault, err),
+    }
+}
+
+fn write_journal<W: Write>(
     alloc: Global,
     json: bool,
     text: &str,
     journal: &[u8],
     out: &mut W,
 ) -> Result<Ran, Fault>
-    ensures { IfOk result (λ _. IsShown text.now) }
+    requires { length text.now ≤ most_bytes }
+    ensures { IfOk result (λ ran. ran.refusal ≡ None
+        → IsShown json text.now journal.now (W.contents out.old) (W.contents out.new)) }
 {
     let Plan {
         network,
@@ -116,11 +170,25 @@ fn write_run<W: Write>(
         network.attachments(),
         journal,
     )?;
+    write_steps(alloc, json, &network, &directory, &journal.steps, out)
+}
+
+// Writes the states of steps, up to the first that is refused.
+fn write_steps<W: Write>(
+    alloc: Global,
+    json: bool,
+    network: &Network,
+    directory: &Directory,
+    steps: &[Step],
+    out: &mut W,
+) -> Result<Ran, Fault>
+    ensures { IfOk result (IsWrittenUpTo json network.now directory.now steps.now (W.contents out.old) (W.contents out.new)) }
+{
     if json {
-        let written = write_states(alloc, &network, &directory, &journal.steps, 1, out);
+        let written = write_states(alloc, network, directory, steps, 1, out);
         return into_fault(written);
     }
-    let (states, ran) = states_of_page(alloc, &network, &directory, &journal.steps)?;
+    let (states, ran) = states_of_page(alloc, network, directory, steps)?;
     match write_page(&states, out) {
         Ok(()) => Ok(ran),
         Err(_) => Err(Fault::from(Cause::Unwritable)),
@@ -135,8 +203,11 @@ fn states_of_page(
     directory: &Directory,
     steps: &[Step],
 ) -> Result<(Vec<u8>, Ran), Fault>
-    ensures { IfOk result (λ r. (w : model.World)
+    ensures runs { IfOk result (λ r. (w : model.World)
         × Runs (model.opening network.now) (take (r.1).done steps.now) w) }
+    ensures whole { IfOk result (λ r. (r.1).refusal ≡ None → (r.1).done ≡ length steps.now) }
+    ensures states { IfOk result (λ r. (every : ℕ)
+        × IsStatesText network.now directory.now (take (r.1).done steps.now) every (r.0).items) }
 {
     let mut every: usize = 1;
     for _ in 0..20 {
@@ -168,7 +239,9 @@ fn into_fault(written: Result<Ran, StatesFault>) -> Result<Ran, Fault>
 }
 
 // Tells of a step that was refused, and answers the exit status.
-fn tell<E: Write>(ran: Ran, err: &mut E) -> u8 {
+fn tell<E: Write>(ran: Ran, err: &mut E) -> u8
+    ensures { result ≡ 0 → ran.refusal ≡ None }
+{
     match ran.refusal {
         Some(refusal) => {
             let _ = writeln!(
