@@ -1,0 +1,404 @@
+#include "config.h"
+
+#include "log.h"
+
+#include <errno.h>
+#include <string.h>
+
+enum { MOST_WORDS = 16, LINE_SIZE = 1024, MOST_COMPLAINTS = 20 };
+
+/* ---- what each keyword takes: what is wrong with its words; NULL: nothing */
+
+static const char *take_router_id(struct config *config, size_t count, char **words)
+{
+    (void)count;
+    if (!read_address(words[0], &config->router_id) || !config->router_id.s_addr)
+        return "a router id has the form of an address, as 10.255.0.1";
+    return NULL;
+}
+
+static const char *take_listen(struct config *config, size_t count, char **words)
+{
+    (void)count;
+    return read_address(words[0], &config->listen) ? NULL : "an address is expected, as 10.0.0.1";
+}
+
+static const char *take_control(struct config *config, size_t count, char **words)
+{
+    (void)count;
+    if (strlen(words[0]) >= sizeof config->control)
+        return "the path of a socket has at most 107 bytes";
+    strcpy(config->control, words[0]);
+    return NULL;
+}
+
+static bool copy_name(const char *word, char name[NAME_SIZE])
+{
+    size_t size = strlen(word);
+    if (size >= NAME_SIZE)
+        return false;
+    memcpy(name, word, size + 1);
+    return true;
+}
+
+/* Takes the option at words[0], and the word after it where it has one: how many words; 0: it is none. */
+static size_t take_option(struct neighbour *to, size_t count, char **words, const char **wrong)
+{
+    const char *value = count > 1 ? words[1] : NULL;
+    if (strcmp(words[0], "passive") == 0) {
+        to->passive = true;
+        return 1;
+    }
+    if (strcmp(words[0], "ttl-security") == 0) {
+        to->ttl_security = true;
+        return 1;
+    }
+    if (strcmp(words[0], "secret") == 0 && value) {
+        if (strlen(value) >= SECRET_SIZE)
+            *wrong = "a secret has at most 80 bytes";
+        else
+            strcpy(to->secret, value);
+        return 2;
+    }
+    if (strcmp(words[0], "most-prefixes") == 0 && value) {
+        if (!read_number(value, 1, MOST_PREFIXES, &to->most_prefixes))
+            *wrong = "most-prefixes is a number from 1 to 4096";
+        return 2;
+    }
+    if (strcmp(words[0], "list") == 0 && value) {
+        if (!copy_name(value, to->list))
+            *wrong = "the name of a list has at most 31 bytes";
+        return 2;
+    }
+    return 0;
+}
+
+const char *config_neighbour(struct config *config, size_t count, char **words)
+{
+    struct neighbour found = {0};
+    const char *wrong = NULL;
+    if (count < 2)
+        return "expected: neighbour ADDRESS COST, and options";
+    if (!read_address(words[0], &found.address) || !found.address.s_addr)
+        return "a neighbour has an address, as 10.0.0.2";
+    if (!read_number(words[1], 1, 65535, &found.cost))
+        return "a cost is a number from 1 to 65535";
+    for (size_t at = 2; at < count && !wrong;) {
+        size_t taken = take_option(&found, count - at, words + at, &wrong);
+        at += taken;
+        if (taken == 0)
+            wrong = "an option is passive, ttl-security, secret TEXT, most-prefixes N or list NAME";
+    }
+    for (size_t i = 0; i < config->neighbour_count && !wrong; i++)
+        if (config->neighbours[i].address.s_addr == found.address.s_addr)
+            wrong = "the neighbour stands twice";
+    if (!wrong && config->neighbour_count == TUHVONDI_PORTS)
+        wrong = "there are at most 32 neighbours";
+    if (!wrong) {
+        config->neighbours[config->neighbour_count++] = found;
+        config->has_secret |= found.secret[0] != '\0';
+    }
+    return wrong;
+}
+
+const char *config_attachment(size_t count, char **words, struct tuhvondi_attachment *attachment)
+{
+    struct tuhvondi_prefix prefix;
+    uint32_t cost;
+    if (count != 2)
+        return "expected: attach PREFIX COST";
+    const char *wrong = read_prefix(words[0], &prefix);
+    if (!wrong && !read_number(words[1], 1, 65535, &cost))
+        wrong = "a cost is a number from 1 to 65535";
+    if (!wrong)
+        *attachment = (struct tuhvondi_attachment){.addr = prefix.addr, .len = prefix.len, .cost = cost};
+    return wrong;
+}
+
+static const char *take_attach(struct config *config, size_t count, char **words)
+{
+    struct tuhvondi_attachment found;
+    const char *wrong = config_attachment(count, words, &found);
+    for (size_t i = 0; i < config->attachment_count && !wrong; i++)
+        if (config->attachments[i].addr == found.addr && config->attachments[i].len == found.len)
+            wrong = "the prefix stands twice";
+    if (!wrong && config->attachment_count == MOST_PREFIXES)
+        wrong = "there are at most 4096 prefixes";
+    if (!wrong)
+        config->attachments[config->attachment_count++] = found;
+    return wrong;
+}
+
+static const char *take_install(struct config *config, size_t count, char **words)
+{
+    (void)count;
+    config->installs = strcmp(words[0], "yes") == 0;
+    return config->installs || strcmp(words[0], "no") == 0 ? NULL : "yes or no is expected";
+}
+
+/* 255 is the table of local addresses, and 0 is none. */
+static const char *take_table(struct config *config, size_t count, char **words)
+{
+    (void)count;
+    bool fits = read_number(words[0], 1, UINT32_MAX, &config->table) && config->table != 255;
+    return fits ? NULL : "a table is a number from 1 to 4294967295, but not 255";
+}
+
+static const char *take_metric(struct config *config, size_t count, char **words)
+{
+    (void)count;
+    bool fits = read_number(words[0], 1, UINT32_MAX - 1, &config->metric);
+    return fits ? NULL : "a metric is a number from 1 to 4294967294";
+}
+
+/* Numbers to 4 are the kernel's and the administrator's. */
+static const char *take_protocol(struct config *config, size_t count, char **words)
+{
+    (void)count;
+    return read_number(words[0], 5, 255, &config->protocol) ? NULL : "a protocol is a number from 5 to 255";
+}
+
+static const char *take_alive(struct config *config, size_t count, char **words)
+{
+    (void)count;
+    return read_number(words[0], 10, 60000, &config->alive_ms) ? NULL : "milliseconds are expected, 10 to 60000";
+}
+
+static const char *take_dead(struct config *config, size_t count, char **words)
+{
+    (void)count;
+    return read_number(words[0], 30, 600000, &config->dead_ms) ? NULL : "milliseconds are expected, 30 to 600000";
+}
+
+static const char *take_log(struct config *config, size_t count, char **words)
+{
+    config->to_syslog = strcmp(words[0], "syslog") == 0;
+    if (count == 2)
+        config->log_level = log_level(words[1]);
+    bool fits = (config->to_syslog || strcmp(words[0], "stderr") == 0) && config->log_level >= 0;
+    return fits ? NULL : "expected: stderr or syslog, and then error, warning, notice, info or debug";
+}
+
+static const char *take_metrics(struct config *config, size_t count, char **words)
+{
+    (void)count;
+    if (!read_address(words[0], &config->metrics_address))
+        return "an address is expected, as 127.0.0.1";
+    return read_number(words[1], 1, 65535, &config->metrics_port) ? NULL : "a port is a number from 1 to 65535";
+}
+
+static const char *take_list_line(struct config *config, size_t count, char **words, bool accepts)
+{
+    struct list_line line = {.accepts = accepts};
+    uint32_t least = 0, most = 0;
+    if (!copy_name(words[0], line.name))
+        return "the name of a list has at most 31 bytes";
+    const char *wrong = read_prefix(words[1], &line.prefix);
+    for (size_t i = 2; i < count && !wrong; i += 2) {
+        uint32_t *bound = strcmp(words[i], "le") == 0 ? &most : strcmp(words[i], "ge") == 0 ? &least : NULL;
+        if (!bound || *bound || i + 1 == count || !read_number(words[i + 1], line.prefix.len, 32, bound))
+            wrong = "expected: le N and ge N, each no less than the prefix's length, and at most 32";
+    }
+    if (!wrong && most && least > most)
+        wrong = "no length is within these bounds";
+    if (!wrong && config->line_count == MOST_LIST_LINES)
+        wrong = "there are at most 1024 lines of prefix lists";
+    if (wrong)
+        return wrong;
+    line.most = (uint8_t)(most ? most : least ? 32 : line.prefix.len);
+    line.least = (uint8_t)(least ? least : line.prefix.len);
+    config->lines[config->line_count++] = line;
+    return NULL;
+}
+
+static const char *take_accept(struct config *config, size_t count, char **words)
+{
+    return take_list_line(config, count, words, true);
+}
+
+static const char *take_deny(struct config *config, size_t count, char **words)
+{
+    return take_list_line(config, count, words, false);
+}
+
+/* ---- lines */
+
+static const struct keyword {
+    const char *name;
+    const char *(*take)(struct config *config, size_t count, char **words);
+    size_t least, most; /* words after it */
+    bool once;
+    const char *form;
+} KEYWORDS[] = {
+    {"router-id", take_router_id, 1, 1, true, "router-id ADDRESS"},
+    {"listen", take_listen, 1, 1, true, "listen ADDRESS"},
+    {"control", take_control, 1, 1, true, "control PATH"},
+    {"neighbour", config_neighbour, 2, MOST_WORDS, false, "neighbour ADDRESS COST, and options"},
+    {"neighbor", config_neighbour, 2, MOST_WORDS, false, "neighbor ADDRESS COST, and options"},
+    {"attach", take_attach, 2, 2, false, "attach PREFIX COST"},
+    {"install", take_install, 1, 1, true, "install yes|no"},
+    {"table", take_table, 1, 1, true, "table NUMBER"},
+    {"metric", take_metric, 1, 1, true, "metric NUMBER"},
+    {"protocol", take_protocol, 1, 1, true, "protocol NUMBER"},
+    {"alive", take_alive, 1, 1, true, "alive MILLISECONDS"},
+    {"dead", take_dead, 1, 1, true, "dead MILLISECONDS"},
+    {"log", take_log, 1, 2, true, "log stderr|syslog, and a level"},
+    {"metrics", take_metrics, 2, 2, true, "metrics ADDRESS PORT"},
+    {"accept", take_accept, 2, 6, false, "accept NAME PREFIX, and le N, ge N"},
+    {"deny", take_deny, 2, 6, false, "deny NAME PREFIX, and le N, ge N"},
+};
+
+enum { KEYWORD_COUNT = sizeof KEYWORDS / sizeof *KEYWORDS };
+
+/* Where something is wrong, and how much was. */
+struct reading {
+    const char *name;
+    unsigned line, faults;
+    complain *complain;
+    void *whom;
+};
+
+static void fault(struct reading *at, const char *word, const char *what)
+{
+    char text[LINE_SIZE];
+    at->faults++;
+    if (at->faults > MOST_COMPLAINTS)
+        return;
+    if (at->line > 0)
+        snprintf(text, sizeof text, "%s:%u: %s%s%s", at->name, at->line, word, *word ? ": " : "", what);
+    else
+        snprintf(text, sizeof text, "%s: %s", at->name, what);
+    at->complain(at->whom, text);
+}
+
+static void obey(struct reading *at, struct config *config, char *line)
+{
+    char *words[MOST_WORDS], text[128];
+    size_t count = split_words(line, words, MOST_WORDS), number = 0;
+    if (count == 0)
+        return;
+    while (number < KEYWORD_COUNT && strcmp(words[0], KEYWORDS[number].name) != 0)
+        number++;
+    if (number == KEYWORD_COUNT) {
+        snprintf(text, sizeof text, "`%.40s' is no keyword (dualnetd.conf(5) lists them)", words[0]);
+        fault(at, "", text);
+        return;
+    }
+    const struct keyword *keyword = &KEYWORDS[number];
+    const char *wrong = NULL;
+    if (count - 1 < keyword->least || count - 1 > keyword->most) {
+        snprintf(text, sizeof text, "expected: %s", keyword->form);
+        wrong = text;
+    } else if (keyword->once && (config->seen >> number & 1)) {
+        wrong = "it stands twice";
+    } else {
+        wrong = keyword->take(config, count - 1, words + 1);
+    }
+    config->seen |= keyword->once ? 1U << number : 0;
+    if (wrong)
+        fault(at, words[0], wrong);
+}
+
+/* Reads a line, whole: false at the end. A line that is too long, or has a zero byte, is a fault, and empty. */
+static bool next_line(struct reading *at, FILE *file, char line[LINE_SIZE])
+{
+    size_t count = 0;
+    bool fits = true, is_text = true;
+    int byte = getc(file);
+    if (byte == EOF)
+        return false;
+    at->line++;
+    for (; byte != EOF && byte != '\n'; byte = getc(file)) {
+        is_text = is_text && byte != '\0';
+        fits = fits && count < LINE_SIZE - 1;
+        if (fits)
+            line[count++] = (char)byte;
+    }
+    if (!fits || !is_text) {
+        fault(at, "", fits ? "the line has a zero byte" : "a line has at most 1023 bytes");
+        count = 0;
+    }
+    line[count] = '\0';
+    return true;
+}
+
+/* What no line alone can tell. */
+static void check_whole(struct reading *at, const struct config *config)
+{
+    at->line = 0;
+    if (!config->router_id.s_addr)
+        fault(at, "", "expected: a line router-id ADDRESS");
+    if (!config->control[0])
+        fault(at, "", "expected: a line control PATH");
+    if (config->dead_ms < 2 * config->alive_ms)
+        fault(at, "", "dead is to be at least twice alive, or sessions end while both ends are there");
+    for (size_t i = 0; i < config->neighbour_count; i++) {
+        const struct neighbour *one = &config->neighbours[i];
+        size_t line = 0;
+        while (one->list[0] && line < config->line_count && strcmp(config->lines[line].name, one->list) != 0)
+            line++;
+        if (one->list[0] && line == config->line_count)
+            fault(at, "", "a neighbour names a list of which there is no line");
+        if (one->address.s_addr == config->listen.s_addr)
+            fault(at, "", "a neighbour has the address at which this router listens");
+    }
+}
+
+bool config_read(FILE *file, const char *name, struct config *config, complain *complain, void *whom)
+{
+    static const unsigned char MARK[] = {0xef, 0xbb, 0xbf};
+    struct reading at = {.name = name, .complain = complain, .whom = whom};
+    char line[LINE_SIZE];
+    *config = (struct config){.log_level = LOG_INFO, .table = 254, .metric = 201, .protocol = 201,
+                              .alive_ms = 1000, .dead_ms = 3500};
+    while (next_line(&at, file, line)) {
+        bool marked = at.line == 1 && memcmp(line, MARK, sizeof MARK) == 0;
+        obey(&at, config, line + (marked ? sizeof MARK : 0));
+    }
+    if (ferror(file)) {
+        at.line = 0;
+        fault(&at, "", strerror(errno));
+    } else if (at.faults == 0) {
+        check_whole(&at, config);
+    }
+    return at.faults == 0;
+}
+
+/* ---- prefix lists */
+
+bool config_accepts(const struct config *config, const char *list, uint32_t addr, uint8_t len)
+{
+    if (!*list)
+        return true;
+    for (size_t i = 0; i < config->line_count; i++) {
+        const struct list_line *line = &config->lines[i];
+        uint32_t mask = line->prefix.len ? UINT32_MAX << (32 - line->prefix.len) : 0;
+        if (strcmp(line->name, list) == 0 && ((addr ^ line->prefix.addr) & mask) == 0 && len >= line->least
+            && len <= line->most)
+            return line->accepts;
+    }
+    return false;
+}
+
+static const struct list_line *next_of(const struct config *config, const char *list, size_t *at)
+{
+    while (*at < config->line_count && strcmp(config->lines[*at].name, list) != 0)
+        ++*at;
+    return *at < config->line_count ? &config->lines[(*at)++] : NULL;
+}
+
+bool config_same_list(const struct config *one, const struct config *other, const char *list)
+{
+    size_t here = 0, there = 0;
+    const struct list_line *a, *b;
+    do {
+        a = next_of(one, list, &here);
+        b = next_of(other, list, &there);
+        if (!a != !b)
+            return false;
+        if (a && (a->accepts != b->accepts || a->prefix.addr != b->prefix.addr || a->prefix.len != b->prefix.len
+                  || a->least != b->least || a->most != b->most))
+            return false;
+    } while (a);
+    return true;
+}

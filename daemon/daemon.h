@@ -1,0 +1,253 @@
+/* The daemon's state, which is handed about, and what each room offers to the others. */
+#ifndef DUALNETD_DAEMON_H
+#define DUALNETD_DAEMON_H
+
+#include "config.h"
+#include "frames.h"
+#include "log.h"
+#include "prefixes.h"
+#include "text.h"
+#include "tuhvondi_router.h"
+
+#include <net/if.h>
+#include <netinet/in.h>
+#include <sys/stat.h>
+
+#define DUALNETD_VERSION "1.0"
+
+enum {
+    TCP_PORT = 6187,
+    PART = 256,         /* rows that are put in force at a time */
+    QUEUE = 1 << 20,    /* bytes that wait for a neighbour at most */
+    CANDIDATES = 4,     /* connections of a neighbour that have yet to prove themselves */
+    TRACES = 64,        /* traces on their way at a time */
+    CLIENTS = 32,       /* that ask at the control socket, or for metrics, at a time */
+    CLIENT_MS = 10000,  /* without progress, after which a client is left */
+    MONITOR_BYTES = 1 << 20, /* that wait for a client that follows changes */
+    FORGET_MS = 1000,   /* between looks for prefixes to forget */
+    CHECK_MS = 30000,   /* between looks at what the kernel has */
+    FAR_AHEAD = 1000,   /* sessions: a hello that names one so far ahead is refused */
+};
+
+/* ---- neighbours */
+
+enum peer_state { PEER_IDLE, PEER_CONNECTING, PEER_GREETING, PEER_UP };
+
+/* How a session ends: by what fails on the way, by a neighbour that breaks the protocol, or by the operator. */
+enum ending { BY_LINK, BY_FAULT, BY_OPERATOR };
+
+/* A connection from the neighbour's address, which ends nothing until it has said a hello that fits. `greeted`: it was
+ * told ours. `proved`: its hello has come, at `proved_at`, and names the session `theirs`. */
+struct candidate {
+    int fd;
+    bool greeted, proved;
+    uint16_t theirs;
+    int64_t since, proved_at;
+    size_t in_count;
+    unsigned char in[FRAME_SIZE];
+};
+
+/* Messages by kind: update, query, reply. */
+struct peer_counters {
+    uint64_t taken[3], told[3], sessions, faults;
+};
+
+/* A neighbour: the port of its number. `last`: the session that the link had last. `leaving`: the link went down, and
+ * the router could not be told yet. `stale`: rows by the last session may still forward. With routes in the kernel it
+ * is reached by the interface `index`; `filtered`: what comes in by it is dropped; `lost`: the kernel refused a
+ * route. `removed_at`: it is no neighbour any more, and its filter goes then. `waits_until`: after faults, no session
+ * before. */
+struct peer {
+    struct neighbour config;
+    char name[INET_ADDRSTRLEN], interface[IF_NAMESIZE];
+    bool used, shut, leaving, stale, filtered, lost, lets_in;
+    enum peer_state state;
+    int fd;
+    uint16_t last;
+    unsigned index, attempts, faults, shorts, complaints;
+    uint32_t reported; /* prefixes of which it told a finite distance last */
+    int64_t heard, said, begun, next_try, waits_until, removed_at, complained;
+    size_t in_count, in_from, out_count, out_from;
+    struct candidate candidates[CANDIDATES];
+    struct peer_counters counters;
+    unsigned char in[256 * FRAME_SIZE], out[QUEUE];
+};
+
+/* A trace that went on from here, to the port `next`, by this number. It was asked for by the port `from`, by its own
+ * number, or else (-1) by a client. */
+struct trace {
+    bool used;
+    uint16_t number, asked;
+    int from, next;
+    uint64_t client;
+    int64_t until;
+};
+
+/* ---- clients */
+
+enum client_state { CLIENT_ASKS, CLIENT_WAITS, CLIENT_ANSWERED, CLIENT_FOLLOWS };
+
+struct client {
+    bool used, for_metrics, json;
+    enum client_state state;
+    int fd;
+    uint64_t number;
+    int64_t since; /* of its last progress */
+    size_t in_count, out_from;
+    char in[512];
+    struct text out;
+};
+
+/* ---- the whole */
+
+/* `check_due`: the kernel may have lost something, and nothing is released until it was seen. */
+struct kernel {
+    bool installs, check_due;
+    int requests, links, routes, lock;
+    uint32_t number, port;
+    int64_t next_check, complained;
+    uint64_t set, refused, repaired; /* routes */
+};
+
+struct router {
+    struct tuhvondi_router machine;
+    /* What forwards, and a handle of it for look-ups, which is let go of while it changes. */
+    struct tuhvondi_image image, reader;
+    /* Rows that were published and do not forward yet: until they do, nothing is released. */
+    struct tuhvondi_row rows[PART];
+    size_t row_count;
+    uint64_t generation;
+    uint64_t computations, forgotten;
+    int64_t longest_ms;
+};
+
+/* `blocked`: published rows do not forward yet, so the router is told nothing. */
+struct daemon {
+    struct config config;
+    const char *path;
+    struct router router;
+    struct kernel kernel;
+    struct prefixes prefixes;
+    struct peer peers[TUHVONDI_PORTS];
+    size_t peer_count; /* ports that are, or were, in use */
+    struct trace traces[TRACES];
+    uint16_t trace_number;
+    struct client clients[CLIENTS];
+    uint64_t client_number;
+    int listener, control, metrics;
+    dev_t control_device;
+    ino_t control_inode;
+    bool blocked, reload, install_asked; /* by the command line */
+    int64_t next_forget;
+    uint64_t strangers; /* connections from addresses of no neighbour */
+};
+
+static inline uint8_t port_of(const struct daemon *daemon, const struct peer *peer)
+{
+    return (uint8_t)(peer - daemon->peers);
+}
+
+static inline struct peer *peers_end(struct daemon *daemon)
+{
+    return daemon->peers + daemon->peer_count;
+}
+
+static inline bool is_in_session(const struct peer *peer, uint16_t session)
+{
+    return peer->state == PEER_UP && peer->last == session;
+}
+
+/* ---- router.c: calls of the library */
+
+bool router_open(struct daemon *daemon);
+void router_close(struct daemon *daemon);
+/* Has published rows forward, and shares the image: whether all do. */
+bool router_forward(struct daemon *daemon);
+/* Publishes until nothing is due, and then releases: whether all is done. */
+bool router_publish_and_release(struct daemon *daemon);
+/* Forgets what may be forgotten, and takes its rows out of the kernel. */
+void router_forget(struct daemon *daemon);
+uint32_t router_take(struct daemon *daemon, struct peer *peer, const struct frame *frame);
+uint32_t router_link_up(struct daemon *daemon, struct peer *peer);
+uint32_t router_link_down(struct daemon *daemon, struct peer *peer);
+uint32_t router_cost(struct daemon *daemon, struct peer *peer, uint32_t cost);
+uint32_t router_attach(struct daemon *daemon, const struct tuhvondi_attachment *attachment);
+uint32_t router_detach(struct daemon *daemon, uint32_t addr, uint8_t len);
+
+/* ---- sessions.c */
+
+/* What is wrong, if the neighbour cannot be had; NULL: nothing. */
+const char *peer_add(struct daemon *daemon, const struct neighbour *neighbour);
+void peer_remove(struct daemon *daemon, struct peer *peer);
+struct peer *peer_of(struct daemon *daemon, struct in_addr address);
+void peer_put(struct daemon *daemon, struct peer *peer, const struct frame *frame);
+void peer_hang_up(struct daemon *daemon, struct peer *peer, enum ending ending, const char *why);
+/* The interface works again: an attempt to connect need not wait. */
+void peer_wake(struct peer *peer);
+void sessions_accept(struct daemon *daemon);
+void sessions_read(struct daemon *daemon, struct peer *peer, bool writable);
+void sessions_read_candidates(struct daemon *daemon, struct peer *peer);
+void sessions_flush(struct daemon *daemon, struct peer *peer);
+void sessions_tick(struct daemon *daemon, int64_t now);
+/* All rows in force are of present sessions: what was stale is not any more. */
+void sessions_rows_are_new(struct daemon *daemon);
+int64_t sessions_deadline(const struct daemon *daemon, int64_t now);
+/* A socket that listens, or -1. */
+int sessions_listen(struct daemon *daemon);
+/* Gives the listening socket the secret of a neighbour: whether the kernel takes it. */
+bool sessions_set_secret(int fd, const struct neighbour *neighbour);
+/* The listening socket takes only what passed no router, if a neighbour asks for that. */
+void sessions_set_ttl(int fd, const struct config *config);
+
+/* ---- traces.c */
+
+void trace_begin(struct daemon *daemon, const struct trace *asked, uint32_t addr, uint8_t hops);
+void trace_answered(struct daemon *daemon, const struct peer *peer, const struct frame *frame);
+void traces_tick(struct daemon *daemon, int64_t now);
+
+/* ---- kernel.c */
+
+bool kernel_open(struct daemon *daemon);
+void kernel_close(struct daemon *daemon);
+/* What is wrong, if anything. The neighbour's interface may come later where it is this: */
+extern const char *const kernel_no_interface;
+const char *kernel_find_interface(struct daemon *daemon, struct peer *peer);
+bool kernel_filter(struct daemon *daemon, struct peer *peer, bool drops);
+void kernel_bind(const struct daemon *daemon, const struct peer *peer, int fd);
+void kernel_drop_waiting(const struct peer *peer);
+bool kernel_interface_works(const struct peer *peer);
+/* Each is true when the kernel has done it. */
+bool kernel_set_rows(struct daemon *daemon, const struct tuhvondi_row *rows, size_t count);
+bool kernel_remove_row(struct daemon *daemon, uint32_t addr, uint8_t len);
+bool kernel_check(struct daemon *daemon);
+void kernel_read_links(struct daemon *daemon);
+void kernel_read_routes(struct daemon *daemon);
+
+/* ---- control.c, show.c, metrics.c */
+
+bool control_open(struct daemon *daemon);
+void control_close(struct daemon *daemon);
+void control_accept(struct daemon *daemon, int listener, bool for_metrics);
+void control_serve(struct daemon *daemon, struct client *client, short events);
+void control_tick(struct daemon *daemon, int64_t now);
+struct client *control_client(struct daemon *daemon, uint64_t number);
+/* Tells those who follow changes. */
+void control_tell_row(struct daemon *daemon, const struct tuhvondi_row *row);
+void control_tell_peer(struct daemon *daemon, const struct peer *peer, const char *what);
+
+/* Answers a question: false if it is none. */
+bool show(struct daemon *daemon, struct client *client, size_t count, char **words);
+void show_row(const struct daemon *daemon, struct text *out, const struct tuhvondi_row *row, bool json);
+/* One router of a trace. */
+void show_hop(struct text *out, bool json, uint32_t id, uint8_t end);
+
+bool metrics_open(struct daemon *daemon);
+void metrics_answer(struct daemon *daemon, struct client *client);
+
+/* ---- reload.c */
+
+void reload(struct daemon *daemon);
+/* Reads the configuration at the daemon's path: whether nothing is wrong. */
+bool reload_read(const char *path, struct config *config);
+
+#endif

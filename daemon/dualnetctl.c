@@ -1,0 +1,144 @@
+/* dualnetctl: asks a dualnetd at its control socket. It sends one line, and writes what is answered. */
+#include <errno.h>
+#include <stdbool.h>
+#include <stdio.h>
+#include <stdlib.h>
+#include <string.h>
+#include <sys/socket.h>
+#include <sys/un.h>
+#include <unistd.h>
+
+static const char USAGE[] =
+    "usage: dualnetctl [--socket PATH] [--json] COMMAND\n"
+    "\n"
+    "  table               rows in force\n"
+    "  state [PREFIX]      what the router knows of each prefix\n"
+    "  neighbours          sessions, costs, interfaces\n"
+    "  why PREFIX          why a prefix is active: whose replies it awaits\n"
+    "  counters            messages by kind, computations, their longest time\n"
+    "  lookup ADDRESS      the row by which packets go\n"
+    "  trace ADDRESS       the routers that they pass\n"
+    "  monitor             changes, as they come\n"
+    "  attach PREFIX COST | detach PREFIX\n"
+    "  cost NEIGHBOUR COST | down NEIGHBOUR | up NEIGHBOUR\n"
+    "  neighbour ADDRESS COST, and options as in dualnetd.conf(5)\n"
+    "  reload              reads the configuration again\n"
+    "  version             that of the daemon\n"
+    "\n"
+    "The socket is that of --socket, of DUALNETD_SOCKET, or else /run/dualnetd/dualnetd.sock.\n";
+
+static int fail(const char *what, const char *why)
+{
+    fprintf(stderr, "dualnetctl: %s%s%s\n", what, why ? ": " : "", why ? why : "");
+    return 1;
+}
+
+/* The words as one line, or false if they are too long, or have an end of line within. */
+static bool join(char *line, size_t size, bool json, char **words)
+{
+    size_t at = (size_t)snprintf(line, size, "%s", json ? "json " : "");
+    for (bool first = true; *words; words++, first = false) {
+        if (strpbrk(*words, "\r\n"))
+            return false;
+        int more = snprintf(line + at, size - at, "%s%s", first ? "" : " ", *words);
+        if (more < 0 || (size_t)more >= size - at - 1)
+            return false;
+        at += (size_t)more;
+    }
+    line[at++] = '\n';
+    line[at] = '\0';
+    return true;
+}
+
+static int connect_to(const char *path)
+{
+    struct sockaddr_un address = {.sun_family = AF_UNIX};
+    if (strlen(path) >= sizeof address.sun_path) {
+        errno = ENAMETOOLONG;
+        return -1;
+    }
+    strcpy(address.sun_path, path);
+    int fd = socket(AF_UNIX, SOCK_STREAM | SOCK_CLOEXEC, 0);
+    if (fd >= 0 && connect(fd, (struct sockaddr *)&address, sizeof address) == 0)
+        return fd;
+    int error = errno;
+    if (fd >= 0)
+        close(fd);
+    errno = error;
+    return -1;
+}
+
+static bool send_all(int fd, const char *text)
+{
+    size_t left = strlen(text);
+    while (left > 0) {
+        ssize_t sent = send(fd, text, left, MSG_NOSIGNAL);
+        if (sent < 0 && errno != EINTR)
+            return false;
+        text += sent > 0 ? sent : 0;
+        left -= sent > 0 ? (size_t)sent : 0;
+    }
+    return true;
+}
+
+/* Writes what is answered as it comes. An answer that says what is wrong goes to standard error: status 1. */
+static int copy_answer(int fd)
+{
+    static const char WRONG[] = "error: ", WRONG_JSON[] = "{\"error\":";
+    char room[65536];
+    size_t total = 0;
+    bool wrong = false;
+    for (;;) {
+        ssize_t got = recv(fd, room, sizeof room, 0);
+        if (got < 0 && errno == EINTR)
+            continue;
+        if (got < 0)
+            return fail("the daemon", strerror(errno));
+        if (got == 0)
+            break;
+        if (total == 0)
+            wrong = ((size_t)got >= strlen(WRONG) && memcmp(room, WRONG, strlen(WRONG)) == 0)
+                    || ((size_t)got >= strlen(WRONG_JSON) && memcmp(room, WRONG_JSON, strlen(WRONG_JSON)) == 0);
+        total += (size_t)got;
+        FILE *to = wrong ? stderr : stdout;
+        if (fwrite(room, 1, (size_t)got, to) != (size_t)got || fflush(to))
+            return fail("standard output", strerror(errno));
+    }
+    if (total == 0)
+        return fail("the daemon closed the connection, and said nothing", NULL);
+    return wrong;
+}
+
+int main(int count, char **words)
+{
+    const char *path = getenv("DUALNETD_SOCKET");
+    char line[512];
+    bool json = false;
+    int at = 1;
+    for (; at < count && words[at][0] == '-'; at++) {
+        if (strcmp(words[at], "--json") == 0) {
+            json = true;
+        } else if (strcmp(words[at], "--socket") == 0 && at + 1 < count) {
+            path = words[++at];
+        } else if (strcmp(words[at], "--help") == 0) {
+            return fputs(USAGE, stdout) < 0 || fflush(stdout);
+        } else {
+            break;
+        }
+    }
+    if (at >= count || words[at][0] == '-') {
+        fputs(USAGE, stderr);
+        return 2;
+    }
+    path = path ? path : "/run/dualnetd/dualnetd.sock";
+    if (!join(line, sizeof line, json, words + at))
+        return fail("a command is one line of at most 500 bytes", NULL);
+    int fd = connect_to(path);
+    if (fd < 0)
+        return fail(path, strerror(errno));
+    if (!send_all(fd, line))
+        return fail(path, strerror(errno));
+    int status = copy_answer(fd);
+    close(fd);
+    return status;
+}

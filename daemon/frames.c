@@ -1,0 +1,69 @@
+#include "frames.h"
+
+#include "tuhvondi_router.h"
+
+#include <stdbool.h>
+
+TUHVONDI_ASSERT((int)TRACE_DEAD_LINK > (int)TUHVONDI_NO_ROW, "the ends of a trace go on behind the kinds of rows");
+
+static uint32_t number_at(const unsigned char *bytes, size_t count)
+{
+    uint32_t number = 0;
+    for (size_t i = 0; i < count; i++)
+        number = number << 8 | bytes[i];
+    return number;
+}
+
+static void put_number(unsigned char *bytes, size_t count, uint32_t number)
+{
+    for (size_t i = count; i > 0; i--, number >>= 8)
+        bytes[i - 1] = (unsigned char)number;
+}
+
+void frame_write(const struct frame *frame, unsigned char bytes[FRAME_SIZE])
+{
+    bytes[0] = frame->type;
+    bytes[1] = frame->kind;
+    put_number(bytes + 2, 2, frame->number);
+    put_number(bytes + 4, 4, frame->addr);
+    put_number(bytes + 8, 4, frame->value);
+    bytes[12] = frame->len;
+    put_number(bytes + 13, 3, 0);
+}
+
+/* A message has the faults that the library has for its fields. */
+static const char *wrong_message(const struct frame *frame)
+{
+    if (frame->len > 32)
+        return tuhvondi_status_text(TUHVONDI_BAD_LENGTH);
+    if (frame->len < 32 && (frame->addr << frame->len) != 0)
+        return tuhvondi_status_text(TUHVONDI_HOST_BITS);
+    return frame->kind > TUHVONDI_REPLY ? tuhvondi_status_text(TUHVONDI_BAD_KIND) : NULL;
+}
+
+static bool is_well_formed(const struct frame *frame)
+{
+    bool has_prefix = frame->value != 0 || frame->len != 0;
+    switch (frame->type) {
+    case FRAME_HELLO:
+        return frame->kind == FRAME_VERSION && !has_prefix;
+    case FRAME_ALIVE:
+        return frame->kind == 0 && frame->number == 0 && frame->addr == 0 && !has_prefix;
+    case FRAME_TRACE:
+        return frame->kind < HOPS && !has_prefix;
+    case FRAME_ROUTER:
+        return frame->kind <= TRACE_GIVEN_UP && !has_prefix;
+    default:
+        return false;
+    }
+}
+
+const char *frame_read(const unsigned char bytes[FRAME_SIZE], struct frame *frame)
+{
+    *frame = (struct frame){.type = bytes[0], .kind = bytes[1], .len = bytes[12],
+                            .number = (uint16_t)number_at(bytes + 2, 2), .addr = number_at(bytes + 4, 4),
+                            .value = number_at(bytes + 8, 4)};
+    if (number_at(bytes + 13, 3) == 0 && frame->type == FRAME_MESSAGE)
+        return wrong_message(frame);
+    return number_at(bytes + 13, 3) == 0 && is_well_formed(frame) ? NULL : "a frame is malformed";
+}

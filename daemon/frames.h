@@ -1,0 +1,48 @@
+/* Frames: what goes over a connection between two daemons. Nothing here reads or writes a socket. */
+#ifndef DUALNETD_FRAMES_H
+#define DUALNETD_FRAMES_H
+
+#include <stddef.h>
+#include <stdint.h>
+
+enum {
+    FRAME_SIZE = 16,
+    FRAME_VERSION = 1, /* of the protocol, which a hello tells */
+    HOPS = 64,         /* routers that a trace passes at most */
+};
+
+/* Each frame takes 16 bytes, and numbers have their high byte first:
+ *
+ *     byte   0     1      2       4        8      12      13
+ *            type  kind   number  address  value  length  zero
+ *
+ * A field that a type does not have is zero. */
+enum frame_type {
+    /* Kind: the version. Number: the session that the link had last. Address: the sender's router id. */
+    FRAME_HELLO = 'H',
+    /* A sign of life: all else is zero. */
+    FRAME_ALIVE = 'A',
+    /* A message of the router: its kind, session (number), prefix (address, length) and value. */
+    FRAME_MESSAGE = 'M',
+    /* A trace goes on. Kind: how many hops more. Number: the trace at the sender. Address: the packet's. */
+    FRAME_TRACE = 'T',
+    /* A router of a trace. Kind: how the trace ends there. Number: the trace at the receiver. Address: its id. */
+    FRAME_ROUTER = 'R',
+};
+
+/* How a trace ends at a router, or goes on: the kinds of rows, and these two. */
+enum { TRACE_DEAD_LINK = 4, TRACE_GIVEN_UP = 5 };
+
+struct frame {
+    uint8_t type, kind, len;
+    uint16_t number;
+    uint32_t addr, value;
+};
+
+void frame_write(const struct frame *frame, unsigned char bytes[FRAME_SIZE]);
+
+/* What is wrong with the bytes as a frame; NULL: each field is one that its type may have. The session of a message,
+ * and whether the router awaits it, is tested where the session is known. */
+const char *frame_read(const unsigned char bytes[FRAME_SIZE], struct frame *frame);
+
+#endif

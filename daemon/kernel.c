@@ -1,0 +1,601 @@
+/* What the daemon has the kernel do: routes of rows, and filters of interfaces. docs/8-daemons.md has each duty. */
+#include "daemon.h"
+#include "requests.h"
+
+#include <arpa/inet.h>
+#include <errno.h>
+#include <ifaddrs.h>
+#include <linux/fib_rules.h>
+#include <linux/rtnetlink.h>
+#include <net/if_arp.h>
+#include <stdio.h>
+#include <string.h>
+#include <sys/ioctl.h>
+#include <sys/socket.h>
+#include <sys/un.h>
+#include <unistd.h>
+
+enum { ROUNDS = 10, COMPLAIN_MS = 1000 };
+
+static void ask(struct daemon *daemon, struct batch *batch)
+{
+    requests_send(daemon->kernel.requests, &daemon->kernel.number, batch);
+}
+
+/* What fails is said at most once a second, because it is tried again at each turn. */
+static bool may_complain(struct daemon *daemon)
+{
+    int64_t now = now_ms();
+    if (now - daemon->kernel.complained < COMPLAIN_MS)
+        return false;
+    daemon->kernel.complained = now;
+    return true;
+}
+
+static void complain_of(struct daemon *daemon, const char *what, int error)
+{
+    if (may_complain(daemon))
+        say(LOG_ERR, "%s: %s", what, strerror(error));
+}
+
+/* ---- filters */
+
+/* Has the kernel drop what comes in by the neighbour's interface, or let it through again: whether it does. */
+bool kernel_filter(struct daemon *daemon, struct peer *peer, bool drops)
+{
+    struct batch batch = {0};
+    struct kernel_rule rule = {.preference = RULE_PREFERENCE, .protocol = (uint8_t)daemon->config.protocol};
+    if (!daemon->kernel.installs)
+        return true;
+    if (!peer->interface[0])
+        return !drops;
+    memcpy(rule.interface, peer->interface, sizeof rule.interface);
+    batch_add(&batch, netlink_rule(batch_room(&batch), &rule, drops, drops ? NLM_F_CREATE | NLM_F_EXCL : 0), NULL);
+    ask(daemon, &batch);
+    int error = batch.errors[0];
+    if (error == 0 || (drops && error == EEXIST) || (!drops && error == ENOENT)) {
+        peer->filtered = drops;
+        return true;
+    }
+    complain_of(daemon, drops ? "a filter is not set" : "a filter is not taken away", error);
+    return false;
+}
+
+/* ---- interfaces */
+
+/* Whether an address of this interface has the neighbour in its subnet, or as its other end. */
+static bool is_beside(const struct ifaddrs *at, struct in_addr neighbour)
+{
+    if (!at->ifa_addr || !at->ifa_netmask || at->ifa_addr->sa_family != AF_INET || (at->ifa_flags & IFF_LOOPBACK))
+        return false;
+    bool has_end = (at->ifa_flags & IFF_POINTOPOINT) && at->ifa_dstaddr;
+    in_addr_t own = ((struct sockaddr_in *)(has_end ? at->ifa_dstaddr : at->ifa_addr))->sin_addr.s_addr;
+    in_addr_t mask = ((struct sockaddr_in *)at->ifa_netmask)->sin_addr.s_addr;
+    return ((own ^ neighbour.s_addr) & mask) == 0;
+}
+
+static bool find_name(struct in_addr neighbour, char name[IF_NAMESIZE])
+{
+    struct ifaddrs *list, *at;
+    if (getifaddrs(&list))
+        return false;
+    for (at = list; at && !is_beside(at, neighbour);)
+        at = at->ifa_next;
+    if (at)
+        snprintf(name, IF_NAMESIZE, "%s", at->ifa_name);
+    freeifaddrs(list);
+    return at != NULL;
+}
+
+const char *const kernel_no_interface = "no interface leads to it";
+
+/* The interface was that of a neighbour which is none any more. Its filter is now the new one's, and no session begins
+ * before the old one must have noticed. */
+static void succeed(struct peer *peer, struct peer *old)
+{
+    peer->waits_until = old->removed_at;
+    old->index = 0;
+    old->interface[0] = '\0';
+    old->filtered = false;
+}
+
+/* Finds the neighbour's interface, which may be down, and has what comes in by it dropped: what is wrong, if anything.
+ * A filter knows packets by their interface, so no two neighbours are at one. */
+const char *kernel_find_interface(struct daemon *daemon, struct peer *peer)
+{
+    char name[IF_NAMESIZE] = "";
+    if (!daemon->kernel.installs || peer->index)
+        return NULL;
+    if (!find_name(peer->config.address, name))
+        return kernel_no_interface;
+    for (struct peer *other = daemon->peers; other < peers_end(daemon); other++) {
+        if (other == peer || !other->used || !other->index || strcmp(other->interface, name) != 0)
+            continue;
+        if (!other->removed_at)
+            return "another neighbour is on its interface";
+        succeed(peer, other);
+    }
+    memcpy(peer->interface, name, sizeof name);
+    peer->index = if_nametoindex(name);
+    if (!peer->index)
+        return kernel_no_interface;
+    if (!kernel_filter(daemon, peer, true)) {
+        peer->index = 0;
+        return "what comes in from it is not dropped";
+    }
+    peer->stale = true;
+    return NULL;
+}
+
+/* The connection goes by the neighbour's interface alone, and by no router. */
+void kernel_bind(const struct daemon *daemon, const struct peer *peer, int fd)
+{
+    int one = 1;
+    if (!daemon->kernel.installs)
+        return;
+    setsockopt(fd, SOL_SOCKET, SO_BINDTODEVICE, peer->interface, (socklen_t)strlen(peer->interface));
+    setsockopt(fd, SOL_SOCKET, SO_DONTROUTE, &one, sizeof one);
+}
+
+/* Has the kernel forget the packets that wait until the neighbour's link address is found, up to three seconds: rows of
+ * the last session chose their way. An address that was set by hand stays, since nothing waits for it. */
+void kernel_drop_waiting(const struct peer *peer)
+{
+    struct arpreq entry = {0};
+    struct sockaddr_in address = {.sin_family = AF_INET, .sin_addr = peer->config.address};
+    int fd = socket(AF_INET, SOCK_DGRAM | SOCK_CLOEXEC, 0);
+    memcpy(&entry.arp_pa, &address, sizeof address);
+    memcpy(entry.arp_dev, peer->interface, sizeof peer->interface);
+    if (ioctl(fd, SIOCGARP, &entry) || !(entry.arp_flags & ATF_PERM)) {
+        entry.arp_flags = 0;
+        ioctl(fd, SIOCDARP, &entry);
+    }
+    close(fd);
+}
+
+bool kernel_interface_works(const struct peer *peer)
+{
+    struct ifreq request = {0};
+    int fd = socket(AF_INET, SOCK_DGRAM | SOCK_CLOEXEC, 0);
+    memcpy(request.ifr_name, peer->interface, sizeof peer->interface);
+    bool known = ioctl(fd, SIOCGIFFLAGS, &request) == 0;
+    close(fd);
+    return known && (request.ifr_flags & IFF_UP) && (request.ifr_flags & IFF_RUNNING);
+}
+
+/* ---- routes of rows */
+
+static struct kernel_route route_behind(const struct daemon *daemon, uint32_t addr, uint8_t len)
+{
+    return (struct kernel_route){.addr = addr, .len = len, .table = daemon->config.table, .metric = WORST_METRIC,
+                                 .type = RTN_UNREACHABLE, .protocol = (uint8_t)daemon->config.protocol};
+}
+
+static struct kernel_route route_via(const struct daemon *daemon, uint32_t addr, uint8_t len)
+{
+    return (struct kernel_route){.addr = addr, .len = len, .table = daemon->config.table,
+                                 .metric = daemon->config.metric, .type = RTN_UNICAST,
+                                 .protocol = (uint8_t)daemon->config.protocol};
+}
+
+static struct noted *noted_of(struct daemon *daemon, const struct tuhvondi_row *row)
+{
+    return prefixes_find(&daemon->prefixes, row->addr, row->len);
+}
+
+/* The neighbour by which the kernel is to forward: that of a row whose session is up. */
+static const struct peer *wanted(const struct daemon *daemon, const struct tuhvondi_row *row)
+{
+    const struct peer *peer = row->kind == TUHVONDI_VIA ? &daemon->peers[row->port] : NULL;
+    return peer && is_in_session(peer, row->session) && peer->index && !peer->lost ? peer : NULL;
+}
+
+/* First an unreachable route stands behind each prefix: the kernel takes routes away by itself where an interface goes
+ * down, and then no shorter prefix may match. One that somebody else set there (EEXIST) does as well. */
+static bool set_behind(struct daemon *daemon, const struct tuhvondi_row *rows, size_t count)
+{
+    struct batch batch = {0};
+    for (size_t i = 0; i < count; i++) {
+        struct noted *noted = prefixes_add(&daemon->prefixes, rows[i].addr, rows[i].len);
+        if (!noted) {
+            complain_of(daemon, "a route is not set", ENOSPC);
+            return false;
+        }
+        if (noted->behind)
+            continue;
+        struct kernel_route route = route_behind(daemon, rows[i].addr, rows[i].len);
+        batch_add(&batch, netlink_route(batch_room(&batch), &route, true, NLM_F_CREATE | NLM_F_EXCL), &rows[i]);
+    }
+    ask(daemon, &batch);
+    bool done = true;
+    for (size_t i = 0; i < batch.count; i++) {
+        struct noted *noted = noted_of(daemon, batch.of[i]);
+        noted->behind = batch.errors[i] == 0;
+        noted->foreign |= batch.errors[i] == EEXIST;
+        if (batch.errors[i] != 0 && batch.errors[i] != EEXIST) {
+            complain_of(daemon, "an unreachable route is not set", batch.errors[i]);
+            done = false;
+        }
+    }
+    return done;
+}
+
+/* Asks for the route of a row by a neighbour, or for its end. Only a route that is known to be ours is replaced. */
+static void request_via(struct daemon *daemon, struct batch *batch, const struct tuhvondi_row *row)
+{
+    struct noted *noted = noted_of(daemon, row);
+    const struct peer *peer = wanted(daemon, row);
+    struct kernel_route route = route_via(daemon, row->addr, row->len);
+    uint16_t flags = NLM_F_CREATE | (noted->via ? NLM_F_REPLACE : NLM_F_EXCL);
+    if (!peer && !noted->via)
+        return;
+    if (peer && noted->via && noted->by.s_addr == peer->config.address.s_addr && noted->index == peer->index)
+        return;
+    noted->asked = peer ? row->port : NOT_ASKED;
+    if (peer) {
+        route.by = peer->config.address;
+        route.index = peer->index;
+    }
+    batch_add(batch, netlink_route(batch_room(batch), &route, peer != NULL, peer ? flags : 0), row);
+}
+
+/* The kernel does not take a route by a neighbour: whether the row is done. If a route that is not ours stands there,
+ * it is left, and packets go by it. Otherwise the interface is down: that neighbour's session ends. Without an answer
+ * (EIO) the route may stand, so a look at the kernel is due. */
+static bool note_refusal(struct daemon *daemon, struct noted *noted, struct peer *peer, int error)
+{
+    char text[PREFIX_TEXT];
+    prefix_text(noted->addr, noted->len, text);
+    daemon->kernel.refused++;
+    daemon->kernel.check_due |= error == EIO;
+    if (error == EEXIST && !noted->via) {
+        noted->foreign = true;
+        if (may_complain(daemon))
+            say(LOG_WARNING, "%s: a route of metric %u that is not ours stands there, and is left", text,
+                (unsigned)daemon->config.metric);
+        return true;
+    }
+    if (!peer->lost)
+        say(LOG_WARNING, "%s: the kernel takes no route by %s: %s", text, peer->name, strerror(error));
+    peer->lost = true;
+    return false;
+}
+
+/* Notes what became of a request by request_via: whether the kernel is as wanted. */
+static bool note_via(struct daemon *daemon, const struct tuhvondi_row *row, int error)
+{
+    struct noted *noted = noted_of(daemon, row);
+    if (noted->asked == NOT_ASKED) {
+        noted->via = error != 0 && error != ESRCH;
+        if (noted->via)
+            complain_of(daemon, "a route is not taken away", error);
+        return !noted->via;
+    }
+    struct peer *peer = &daemon->peers[noted->asked];
+    if (error != 0)
+        return note_refusal(daemon, noted, peer, error);
+    noted->via = true;
+    noted->by = peer->config.address;
+    noted->index = peer->index;
+    daemon->kernel.set++;
+    return true;
+}
+
+static bool set_via(struct daemon *daemon, const struct tuhvondi_row *rows, size_t count)
+{
+    struct batch batch = {0};
+    bool done = true;
+    for (size_t i = 0; i < count; i++)
+        request_via(daemon, &batch, &rows[i]);
+    ask(daemon, &batch);
+    for (size_t i = 0; i < batch.count; i++)
+        done &= note_via(daemon, batch.of[i], batch.errors[i]);
+    return done;
+}
+
+/* Has the kernel forward by these rows: whether it does. After a refusal of a neighbour's route there is a second try,
+ * which takes that neighbour's rows as unreachable. */
+bool kernel_set_rows(struct daemon *daemon, const struct tuhvondi_row *rows, size_t count)
+{
+    if (!daemon->kernel.installs)
+        return true;
+    for (size_t at = 0; at < count; at += BATCH) {
+        size_t part = count - at < BATCH ? count - at : BATCH;
+        if (!set_behind(daemon, rows + at, part))
+            return false;
+        bool done = set_via(daemon, rows + at, part);
+        if (!done)
+            done = set_via(daemon, rows + at, part);
+        if (!done)
+            return false;
+    }
+    return true;
+}
+
+/* Takes the routes of a prefix away: whether none of ours is left. */
+bool kernel_remove_row(struct daemon *daemon, uint32_t addr, uint8_t len)
+{
+    struct batch batch = {0};
+    struct noted *noted = prefixes_find(&daemon->prefixes, addr, len);
+    if (!daemon->kernel.installs || !noted)
+        return true;
+    struct kernel_route via = route_via(daemon, addr, len), behind = route_behind(daemon, addr, len);
+    if (noted->via)
+        batch_add(&batch, netlink_route(batch_room(&batch), &via, false, 0), &noted->via);
+    if (noted->behind)
+        batch_add(&batch, netlink_route(batch_room(&batch), &behind, false, 0), &noted->behind);
+    ask(daemon, &batch);
+    for (size_t i = 0; i < batch.count; i++) {
+        bool stays = batch.errors[i] != 0 && batch.errors[i] != ESRCH;
+        *(batch.of[i] == &noted->via ? &noted->via : &noted->behind) = stays;
+        if (stays)
+            complain_of(daemon, "a route is not taken away", batch.errors[i]);
+    }
+    bool gone = !noted->via && !noted->behind;
+    prefixes_let_go(&daemon->prefixes, noted);
+    return gone;
+}
+
+/* ---- what the kernel has, beside what it should have */
+
+/* Routes or rules that are ours and stand where none should. `all`: none should stand at all. */
+struct left_over {
+    struct daemon *daemon;
+    struct batch batch;
+    bool all;
+    size_t found;
+};
+
+static void remove_left_over(struct left_over *left, size_t size)
+{
+    batch_add(&left->batch, size, NULL);
+    left->found++;
+    if (left->batch.count == BATCH) {
+        ask(left->daemon, &left->batch);
+        left->batch.count = left->batch.size = 0;
+    }
+}
+
+/* Whether a route stands in the place of one of a row; what the kernel has there is then noted. */
+static bool is_noted(struct daemon *daemon, const struct kernel_route *route)
+{
+    struct noted *noted = prefixes_find(&daemon->prefixes, route->addr, route->len);
+    if (!noted || route->table != daemon->config.table)
+        return false;
+    if (route->type == RTN_UNREACHABLE && route->metric == WORST_METRIC) {
+        noted->behind = noted->found_behind = true;
+        return true;
+    }
+    if (route->type != RTN_UNICAST || route->metric != daemon->config.metric || noted->found_via)
+        return false;
+    noted->differs |= !noted->via || route->by.s_addr != noted->by.s_addr || route->index != noted->index;
+    noted->via = noted->found_via = true;
+    noted->by = route->by;
+    noted->index = route->index;
+    return true;
+}
+
+/* Each look begins with nothing found. */
+static void find_none(struct daemon *daemon)
+{
+    for (size_t i = 0; i < PREFIX_SLOTS; i++) {
+        struct noted *noted = &daemon->prefixes.slots[i];
+        noted->found_behind = noted->found_via = false;
+    }
+}
+
+static void take_route(void *to, const struct nlmsghdr *message)
+{
+    struct left_over *left = to;
+    struct kernel_route route;
+    if (!netlink_read_route(message, &route) || route.protocol != left->daemon->config.protocol)
+        return;
+    if (!left->all && is_noted(left->daemon, &route))
+        return;
+    remove_left_over(left, netlink_route(batch_room(&left->batch), &route, false, 0));
+}
+
+static void take_rule(void *to, const struct nlmsghdr *message)
+{
+    struct left_over *left = to;
+    struct kernel_rule rule;
+    if (!netlink_read_rule(message, &rule) || rule.protocol != left->daemon->config.protocol
+        || rule.action != FR_ACT_BLACKHOLE)
+        return;
+    for (struct peer *peer = left->daemon->peers; !left->all && peer < peers_end(left->daemon); peer++)
+        if (peer->used && peer->filtered && strcmp(peer->interface, rule.interface) == 0)
+            return;
+    remove_left_over(left, netlink_rule(batch_room(&left->batch), &rule, false, 0));
+}
+
+/* Takes away what is ours and should not stand, in all tables where `all`: whether nothing of it stands. A dump may
+ * miss what changes meanwhile, so it is repeated until it finds nothing. */
+static bool sweep(struct daemon *daemon, bool routes, bool all)
+{
+    static struct left_over left;
+    _Alignas(struct nlmsghdr) unsigned char request[REQUEST_SIZE];
+    for (int round = 0; round < ROUNDS; round++) {
+        size_t size = routes ? netlink_dump_routes(request, all ? 0 : daemon->config.table,
+                                                   (uint8_t)daemon->config.protocol)
+                             : netlink_dump_rules(request);
+        left = (struct left_over){.daemon = daemon, .all = all};
+        if (routes)
+            find_none(daemon);
+        bool whole = requests_dump(request, size, &left, routes ? take_route : take_rule);
+        ask(daemon, &left.batch);
+        if (whole && left.found == 0)
+            return true;
+    }
+    return false;
+}
+
+/* ---- begin and end */
+
+/* One daemon a network namespace has routes of this protocol. The name is the namespace's; it ends with the process. */
+static bool take_lock(struct daemon *daemon)
+{
+    struct sockaddr_un name = {.sun_family = AF_UNIX};
+    int size = snprintf(name.sun_path + 1, sizeof name.sun_path - 1, "dualnetd protocol %u",
+                        (unsigned)daemon->config.protocol);
+    daemon->kernel.lock = socket(AF_UNIX, SOCK_STREAM | SOCK_CLOEXEC, 0);
+    return bind(daemon->kernel.lock, (struct sockaddr *)&name,
+                (socklen_t)(offsetof(struct sockaddr_un, sun_path) + 1 + (size_t)size)) == 0;
+}
+
+static int open_notices(uint32_t groups)
+{
+    struct sockaddr_nl changes = {.nl_family = AF_NETLINK, .nl_groups = groups};
+    int bytes = 4 << 20;
+    int fd = socket(AF_NETLINK, SOCK_RAW | SOCK_CLOEXEC | SOCK_NONBLOCK, NETLINK_ROUTE);
+    if (fd >= 0) {
+        setsockopt(fd, SOL_SOCKET, SO_RCVBUFFORCE, &bytes, sizeof bytes);
+        if (bind(fd, (struct sockaddr *)&changes, sizeof changes) == 0)
+            return fd;
+        close(fd);
+    }
+    return -1;
+}
+
+/* Filters each neighbour's interface. A neighbour whose interface is not there yet waits for it. */
+static bool filter_all(struct daemon *daemon)
+{
+    for (struct peer *peer = daemon->peers; peer < peers_end(daemon); peer++) {
+        const char *wrong = kernel_find_interface(daemon, peer);
+        if (!wrong)
+            continue;
+        say(wrong == kernel_no_interface ? LOG_WARNING : LOG_ERR, "%s: %s", peer->name, wrong);
+        if (wrong != kernel_no_interface)
+            return false;
+    }
+    return true;
+}
+
+static void warn_of_forwarding(void)
+{
+    FILE *file = fopen("/proc/sys/net/ipv4/ip_forward", "re");
+    if (file && getc(file) == '0')
+        say(LOG_WARNING, "install: this host forwards no packets (net.ipv4.ip_forward is 0)");
+    if (file)
+        fclose(file);
+}
+
+/* Before anything is said to a neighbour: notices are listened to, what comes in from neighbours is dropped, and only
+ * then what a crash left is taken away. The order matters: routes of old may lead in circles when half are gone. */
+bool kernel_open(struct daemon *daemon)
+{
+    struct kernel *kernel = &daemon->kernel;
+    kernel->requests = requests_socket(&kernel->port);
+    kernel->links = open_notices(RTMGRP_LINK | RTMGRP_IPV4_IFADDR);
+    kernel->routes = open_notices(RTMGRP_IPV4_ROUTE | 1 << (RTNLGRP_IPV4_RULE - 1));
+    if (kernel->requests < 0 || kernel->links < 0 || kernel->routes < 0) {
+        say(LOG_ERR, "install: no connection to the kernel's routes: %s", strerror(errno));
+        return false;
+    }
+    if (!take_lock(daemon)) {
+        say(LOG_ERR, "install: another dualnetd here has routes of protocol %u", (unsigned)daemon->config.protocol);
+        return false;
+    }
+    kernel->installs = true;
+    warn_of_forwarding();
+    bool filtered = filter_all(daemon);
+    if (filtered && sweep(daemon, true, true) && sweep(daemon, false, false))
+        return true;
+    if (filtered)
+        say(LOG_ERR, "install: routes or rules of protocol %u cannot be taken away", (unsigned)daemon->config.protocol);
+    sweep(daemon, false, true);
+    kernel->installs = false;
+    return false;
+}
+
+/* Nothing is forwarded any more, so the order matters here too: filters, the ends of sessions, routes, filters. */
+void kernel_close(struct daemon *daemon)
+{
+    if (!daemon->kernel.installs)
+        return;
+    for (struct peer *peer = daemon->peers; peer < peers_end(daemon); peer++) {
+        if (peer->used && peer->index)
+            kernel_filter(daemon, peer, true);
+        if (peer->used && peer->fd >= 0)
+            close(peer->fd);
+        peer->fd = -1;
+    }
+    if (!sweep(daemon, true, true) || !sweep(daemon, false, true))
+        say(LOG_ERR, "routes or rules of protocol %u are left in the kernel", (unsigned)daemon->config.protocol);
+    close(daemon->kernel.requests);
+    close(daemon->kernel.links);
+    close(daemon->kernel.routes);
+    close(daemon->kernel.lock);
+    daemon->kernel.installs = false;
+}
+
+/* ---- what was lost */
+
+/* Sets the routes of a prefix anew, by the row in force: whether they stand. Without a row there are none. */
+static bool repair(struct daemon *daemon, uint32_t addr, uint8_t len)
+{
+    struct tuhvondi_prefix from = {addr, len};
+    struct tuhvondi_row row;
+    size_t count = 0;
+    tuhvondi_image_rows(&daemon->router.image, &from, &row, 1, &count);
+    if (count == 0 || row.addr != addr || row.len != len)
+        return kernel_remove_row(daemon, addr, len);
+    return kernel_set_rows(daemon, &row, 1);
+}
+
+/* Puts one prefix right: whether that is done. `differed` counts it, unless the kernel took away what leads nowhere
+ * now. */
+static bool put_right(struct daemon *daemon, struct noted *noted, unsigned *differed)
+{
+    uint32_t addr = noted->addr;
+    uint8_t len = noted->len;
+    bool lost_via = noted->via && !noted->found_via;
+    bool lost_other = (noted->behind && !noted->found_behind) || noted->differs;
+    if (!lost_via && !lost_other && !noted->foreign)
+        return true;
+    noted->behind = noted->found_behind;
+    noted->via = noted->found_via;
+    noted->foreign = noted->differs = false;
+    bool done = repair(daemon, addr, len);
+    noted = prefixes_find(&daemon->prefixes, addr, len);
+    *differed += lost_other || (lost_via && noted && noted->via);
+    return done;
+}
+
+/* A prefix that is let go of may have another move into its place. */
+static bool put_all_right(struct daemon *daemon)
+{
+    bool done = true;
+    unsigned differed = 0;
+    for (size_t i = 0; i < PREFIX_SLOTS;) {
+        struct noted *noted = &daemon->prefixes.slots[i];
+        uint32_t addr = noted->addr;
+        uint8_t len = noted->len;
+        if (noted->used)
+            done &= put_right(daemon, noted, &differed);
+        i += !noted->used || (noted->addr == addr && noted->len == len);
+    }
+    daemon->kernel.repaired += differed;
+    if (differed)
+        say(LOG_NOTICE, "the kernel had other routes of %u prefixes than were set, which are put right", differed);
+    return done;
+}
+
+/* Compares what the kernel has with what it was told, and sets again what is lost: whether all stands. The kernel tells
+ * nothing of routes that it takes away with an interface or an address, so this is done after each such change. */
+bool kernel_check(struct daemon *daemon)
+{
+    struct kernel *kernel = &daemon->kernel;
+    if (!kernel->installs)
+        return true;
+    if (!sweep(daemon, true, false) || !sweep(daemon, false, false)) {
+        complain_of(daemon, "what the kernel has cannot be read", EAGAIN);
+        return false;
+    }
+    bool done = put_all_right(daemon);
+    for (struct peer *peer = daemon->peers; peer < peers_end(daemon); peer++)
+        if (peer->used && peer->filtered && peer->index)
+            done &= kernel_filter(daemon, peer, true);
+    kernel->check_due = !done;
+    kernel->next_check = now_ms() + CHECK_MS;
+    return done;
+}

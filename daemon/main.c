@@ -1,0 +1,271 @@
+/* dualnetd: a routing daemon. One loop waits for sockets, signals and time. */
+#include "daemon.h"
+
+#include <errno.h>
+#include <poll.h>
+#include <signal.h>
+#include <stdlib.h>
+#include <string.h>
+#include <unistd.h>
+
+enum { BLOCKED_MS = 50, MOST_POLLS = 5 + TUHVONDI_PORTS * (1 + CANDIDATES) + CLIENTS };
+
+static volatile sig_atomic_t stopping, reloading;
+
+/* ---- what the loop waits for */
+
+/* What a descriptor is of, beside its place among those that are polled. */
+struct polled {
+    struct pollfd polls[MOST_POLLS];
+    struct peer *peers[MOST_POLLS];
+    struct client *clients[MOST_POLLS];
+    nfds_t count;
+};
+
+static void add(struct polled *polled, int fd, short events, struct peer *peer, struct client *client)
+{
+    polled->polls[polled->count] = (struct pollfd){fd, events, 0};
+    polled->peers[polled->count] = peer;
+    polled->clients[polled->count++] = client;
+}
+
+/* While published rows do not forward, neighbours are not read. */
+static void gather(struct daemon *daemon, struct polled *polled)
+{
+    polled->count = 0;
+    add(polled, daemon->kernel.installs ? daemon->kernel.links : -1, POLLIN, NULL, NULL);
+    add(polled, daemon->kernel.installs ? daemon->kernel.routes : -1, POLLIN, NULL, NULL);
+    add(polled, daemon->control, POLLIN, NULL, NULL);
+    add(polled, daemon->metrics, POLLIN, NULL, NULL);
+    add(polled, daemon->blocked ? -1 : daemon->listener, POLLIN, NULL, NULL);
+    for (struct peer *peer = daemon->peers; peer < peers_end(daemon); peer++) {
+        bool writes = peer->state == PEER_CONNECTING || peer->out_count > 0;
+        if (!peer->used)
+            continue;
+        if (peer->fd >= 0)
+            add(polled, peer->fd, (short)((daemon->blocked ? 0 : POLLIN) | (writes ? POLLOUT : 0)), peer, NULL);
+        for (size_t i = 0; i < CANDIDATES && !daemon->blocked; i++)
+            if (peer->candidates[i].fd >= 0 && !peer->candidates[i].proved)
+                add(polled, peer->candidates[i].fd, POLLIN, NULL, NULL);
+    }
+    for (struct client *client = daemon->clients; client < daemon->clients + CLIENTS; client++) {
+        bool reads = client->state == CLIENT_ASKS || client->state == CLIENT_FOLLOWS;
+        bool writes = client->out_from < client->out.count;
+        if (client->used)
+            add(polled, client->fd, (short)((reads ? POLLIN : 0) | (writes ? POLLOUT : 0)), NULL, client);
+    }
+}
+
+/* Milliseconds until something is due. */
+static int patience(const struct daemon *daemon)
+{
+    int64_t now = now_ms(), next = sessions_deadline(daemon, now);
+    if (daemon->blocked || daemon->kernel.check_due)
+        next = now + BLOCKED_MS;
+    if (next > daemon->next_forget)
+        next = daemon->next_forget;
+    return next > now ? (int)(next - now) : 0;
+}
+
+/* ---- a turn */
+
+/* What the kernel tells comes first: a link that is down is not read any more. Then come connections that stand,
+ * since a new one may take the place of one that is closed. */
+static void take(struct daemon *daemon, const struct polled *polled)
+{
+    if (polled->polls[0].revents)
+        kernel_read_links(daemon);
+    if (polled->polls[1].revents)
+        kernel_read_routes(daemon);
+    for (nfds_t i = 5; i < polled->count; i++) {
+        struct peer *peer = polled->peers[i];
+        const struct pollfd *at = &polled->polls[i];
+        bool pending = peer && peer->in_count - peer->in_from >= FRAME_SIZE;
+        if (peer && peer->fd == at->fd && !daemon->blocked && (pending || (at->revents & ~POLLOUT)))
+            sessions_read(daemon, peer, false);
+        if (peer && peer->fd == at->fd && peer->state == PEER_CONNECTING && (at->revents & POLLOUT))
+            sessions_read(daemon, peer, true);
+    }
+    for (struct peer *peer = daemon->peers; peer < peers_end(daemon) && !daemon->blocked; peer++)
+        if (peer->used)
+            sessions_read_candidates(daemon, peer);
+    if (polled->polls[4].revents)
+        sessions_accept(daemon);
+}
+
+static void serve(struct daemon *daemon, const struct polled *polled)
+{
+    for (nfds_t i = 5; i < polled->count; i++) {
+        struct client *client = polled->clients[i];
+        if (client && client->used && client->fd == polled->polls[i].fd && polled->polls[i].revents)
+            control_serve(daemon, client, polled->polls[i].revents);
+    }
+    if (polled->polls[2].revents)
+        control_accept(daemon, daemon->control, false);
+    if (polled->polls[3].revents)
+        control_accept(daemon, daemon->metrics, true);
+}
+
+/* What was told is published, and set in the kernel; only then is it released, and may the router be told more. */
+static void turn(struct daemon *daemon, const sigset_t *mask)
+{
+    static struct polled polled;
+    int wait = patience(daemon);
+    struct timespec limit = {wait / 1000, (long)(wait % 1000) * 1000000};
+    gather(daemon, &polled);
+    if (ppoll(polled.polls, polled.count, &limit, mask) < 0)
+        for (nfds_t i = 0; i < polled.count; i++)
+            polled.polls[i].revents = 0;
+    take(daemon, &polled);
+    serve(daemon, &polled);
+    int64_t now = now_ms();
+    if ((reloading || daemon->reload) && !daemon->blocked) {
+        reloading = 0;
+        daemon->reload = false;
+        reload(daemon);
+    }
+    if (daemon->kernel.installs && now >= daemon->kernel.next_check)
+        daemon->kernel.check_due = true;
+    sessions_tick(daemon, now);
+    traces_tick(daemon, now);
+    control_tick(daemon, now);
+    daemon->blocked = !router_publish_and_release(daemon);
+    if (now >= daemon->next_forget) {
+        daemon->next_forget = now + FORGET_MS;
+        if (!daemon->blocked)
+            router_forget(daemon);
+    }
+    for (struct peer *peer = daemon->peers; peer < peers_end(daemon); peer++)
+        if (peer->used)
+            sessions_flush(daemon, peer);
+}
+
+/* ---- begin and end */
+
+static void on_signal(int number)
+{
+    if (number == SIGHUP)
+        reloading = 1;
+    else
+        stopping = 1;
+}
+
+/* Signals come only while the loop waits: those that were blocked before stay so. */
+static void take_signals(sigset_t *mask)
+{
+    static const int NUMBERS[] = {SIGTERM, SIGINT, SIGHUP};
+    struct sigaction action = {.sa_handler = on_signal}, ignored = {.sa_handler = SIG_IGN};
+    sigset_t own;
+    sigemptyset(&own);
+    for (size_t i = 0; i < sizeof NUMBERS / sizeof *NUMBERS; i++) {
+        sigaction(NUMBERS[i], &action, NULL);
+        sigaddset(&own, NUMBERS[i]);
+    }
+    sigaction(SIGPIPE, &ignored, NULL);
+    sigprocmask(SIG_BLOCK, &own, mask);
+    for (size_t i = 0; i < sizeof NUMBERS / sizeof *NUMBERS; i++)
+        sigdelset(mask, NUMBERS[i]);
+}
+
+/* The port comes first: a second daemon of this configuration ends there, and has touched nothing. */
+static bool begin(struct daemon *daemon)
+{
+    const struct config *config = &daemon->config;
+    daemon->listener = sessions_listen(daemon);
+    if (daemon->listener < 0 || !router_open(daemon) || !metrics_open(daemon))
+        return false;
+    for (size_t i = 0; i < config->attachment_count; i++) {
+        uint32_t status = router_attach(daemon, &config->attachments[i]);
+        if (status != TUHVONDI_DONE) {
+            say(LOG_ERR, "a prefix is not attached: %s", tuhvondi_status_text(status));
+            return false;
+        }
+    }
+    for (size_t i = 0; i < config->neighbour_count; i++)
+        peer_add(daemon, &config->neighbours[i]);
+    if (!control_open(daemon))
+        return false;
+    if (config->installs && !kernel_open(daemon)) {
+        control_close(daemon);
+        return false;
+    }
+    return true;
+}
+
+static void end(struct daemon *daemon)
+{
+    kernel_close(daemon);
+    control_close(daemon);
+    router_close(daemon);
+    say(LOG_NOTICE, "stopped");
+}
+
+static int run(struct daemon *daemon)
+{
+    sigset_t mask;
+    take_signals(&mask);
+    if (!begin(daemon))
+        return 1;
+    say(LOG_INFO, "dualnetd %s begins: %zu neighbours, %zu prefixes%s", DUALNETD_VERSION,
+        daemon->config.neighbour_count, daemon->config.attachment_count,
+        daemon->kernel.installs ? ", routes in the kernel" : "");
+    while (!stopping)
+        turn(daemon, &mask);
+    end(daemon);
+    return 0;
+}
+
+static const char USAGE[] = "usage: dualnetd CONFIG [--install] [--check]\n"
+                            "       dualnetd --help | --version\n"
+                            "CONFIG is a file as dualnetd.conf(5) describes it.\n"
+                            "--install  sets the kernel's routes, as `install yes' does\n"
+                            "--check    reads CONFIG, says what is wrong with it, and ends\n";
+
+/* What the words ask for: the configuration's path, or NULL where they are not understood. */
+static const char *read_words(int count, char **words, bool *installs, bool *checks)
+{
+    const char *path = NULL;
+    for (int i = 1; i < count; i++) {
+        if (strcmp(words[i], "--install") == 0)
+            *installs = true;
+        else if (strcmp(words[i], "--check") == 0)
+            *checks = true;
+        else if (words[i][0] == '-' || path)
+            return NULL;
+        else
+            path = words[i];
+    }
+    return path;
+}
+
+int main(int count, char **words)
+{
+    bool installs = false, checks = false;
+    if (count == 2 && strcmp(words[1], "--help") == 0)
+        return fputs(USAGE, stdout) < 0 || fflush(stdout);
+    if (count == 2 && strcmp(words[1], "--version") == 0)
+        return printf("dualnetd %s\n", DUALNETD_VERSION) < 0 || fflush(stdout);
+    const char *path = read_words(count, words, &installs, &checks);
+    if (!path) {
+        fputs(USAGE, stderr);
+        return 2;
+    }
+    struct daemon *daemon = calloc(1, sizeof *daemon);
+    if (!daemon) {
+        say(LOG_ERR, "no memory");
+        return 1;
+    }
+    daemon->path = path;
+    daemon->listener = daemon->control = daemon->metrics = -1;
+    for (size_t i = 0; i < CLIENTS; i++)
+        daemon->clients[i].fd = -1;
+    int status = 1;
+    if (reload_read(path, &daemon->config)) {
+        daemon->install_asked = installs;
+        daemon->config.installs |= installs;
+        log_to(daemon->config.to_syslog, daemon->config.log_level);
+        status = checks ? 0 : run(daemon);
+    }
+    free(daemon);
+    return status;
+}

@@ -1,0 +1,86 @@
+/* What the kernel tells: interfaces that go down or come up, and routes that others change. */
+#include "daemon.h"
+#include "netlink.h"
+
+#include <errno.h>
+#include <linux/rtnetlink.h>
+#include <string.h>
+#include <sys/socket.h>
+
+enum { ROOM = 1 << 16 };
+
+/* An interface of a neighbour changed. If it went down, packets and routes were lost, also if that was only for a
+ * moment. The kernel's filter goes by the name, so a new name gets a filter of its own; the old one is left over. */
+static void link_changed(struct daemon *daemon, const struct kernel_link *link)
+{
+    for (struct peer *peer = daemon->peers; peer < peers_end(daemon); peer++) {
+        if (!peer->used || !peer->index || peer->index != link->index)
+            continue;
+        if (!link->gone && link->name[0] && strcmp(link->name, peer->interface) != 0) {
+            say(LOG_NOTICE, "%s: its interface %s is now %s", peer->name, peer->interface, link->name);
+            memcpy(peer->interface, link->name, sizeof peer->interface);
+            peer_hang_up(daemon, peer, BY_LINK, "its interface has another name");
+            if (peer->filtered)
+                kernel_filter(daemon, peer, true);
+        }
+        if (link->works)
+            peer_wake(peer);
+        else
+            peer_hang_up(daemon, peer, BY_LINK, "its interface is down");
+        if (link->gone)
+            peer->index = 0;
+    }
+}
+
+static void find_interfaces(struct daemon *daemon)
+{
+    for (struct peer *peer = daemon->peers; peer < peers_end(daemon); peer++)
+        if (peer->used && !peer->removed_at && !peer->index && !kernel_find_interface(daemon, peer))
+            say(LOG_NOTICE, "%s: its interface is %s", peer->name, peer->interface);
+}
+
+/* Takes each change, and not only how interfaces are now. If some were lost, each may have been down. */
+void kernel_read_links(struct daemon *daemon)
+{
+    _Alignas(struct nlmsghdr) static unsigned char room[ROOM];
+    ssize_t got;
+    while ((got = recv(daemon->kernel.links, room, sizeof room, 0)) > 0 || errno == ENOBUFS) {
+        size_t size = got > 0 ? (size_t)got : 0, place = 0;
+        daemon->kernel.check_due = true;
+        for (struct peer *peer = daemon->peers; got < 0 && peer < peers_end(daemon); peer++)
+            if (peer->used && peer->state != PEER_IDLE)
+                peer_hang_up(daemon, peer, BY_LINK, "notices of its interface were lost");
+        for (const struct nlmsghdr *at; (at = netlink_next(room, size, &place));) {
+            struct kernel_link link;
+            if (netlink_read_link(at, &link))
+                link_changed(daemon, &link);
+        }
+        find_interfaces(daemon);
+    }
+}
+
+/* Whether a change by somebody else may be of what is ours. */
+static bool is_of_ours(const struct daemon *daemon, const struct nlmsghdr *message)
+{
+    const struct config *config = &daemon->config;
+    struct kernel_route route;
+    struct kernel_rule rule;
+    if (message->nlmsg_pid == daemon->kernel.port)
+        return false;
+    if (netlink_read_route(message, &route))
+        return route.protocol == config->protocol
+               || (route.table == config->table && (route.metric == config->metric || route.metric == WORST_METRIC));
+    return netlink_read_rule(message, &rule) && rule.protocol == config->protocol;
+}
+
+void kernel_read_routes(struct daemon *daemon)
+{
+    _Alignas(struct nlmsghdr) static unsigned char room[ROOM];
+    ssize_t got;
+    while ((got = recv(daemon->kernel.routes, room, sizeof room, 0)) > 0 || errno == ENOBUFS) {
+        size_t size = got > 0 ? (size_t)got : 0, place = 0;
+        daemon->kernel.check_due |= got < 0;
+        for (const struct nlmsghdr *at; (at = netlink_next(room, size, &place));)
+            daemon->kernel.check_due |= is_of_ours(daemon, at);
+    }
+}

@@ -1,0 +1,131 @@
+#include "requests.h"
+
+#include <errno.h>
+#include <linux/rtnetlink.h>
+#include <string.h>
+#include <sys/socket.h>
+#include <sys/time.h>
+#include <unistd.h>
+
+#ifndef SOL_NETLINK
+#define SOL_NETLINK 270
+#endif
+
+enum { ANSWER_MS = 2000, ROOM = 1 << 16 };
+
+static int open_socket(void)
+{
+    struct timeval moment = {.tv_sec = ANSWER_MS / 1000};
+    int one = 1, bytes = 1 << 20;
+    int fd = socket(AF_NETLINK, SOCK_RAW | SOCK_CLOEXEC, NETLINK_ROUTE);
+    struct sockaddr_nl own = {.nl_family = AF_NETLINK};
+    if (fd < 0)
+        return -1;
+    setsockopt(fd, SOL_SOCKET, SO_RCVTIMEO, &moment, sizeof moment);
+    setsockopt(fd, SOL_SOCKET, SO_SNDTIMEO, &moment, sizeof moment);
+    setsockopt(fd, SOL_SOCKET, SO_RCVBUFFORCE, &bytes, sizeof bytes);
+    setsockopt(fd, SOL_NETLINK, NETLINK_CAP_ACK, &one, sizeof one);
+    setsockopt(fd, SOL_NETLINK, NETLINK_GET_STRICT_CHK, &one, sizeof one);
+    if (bind(fd, (struct sockaddr *)&own, sizeof own)) {
+        close(fd);
+        return -1;
+    }
+    return fd;
+}
+
+int requests_socket(uint32_t *port)
+{
+    struct sockaddr_nl own = {0};
+    socklen_t size = sizeof own;
+    int fd = open_socket();
+    if (fd >= 0 && getsockname(fd, (struct sockaddr *)&own, &size) == 0)
+        *port = own.nl_pid;
+    return fd;
+}
+
+void *batch_room(struct batch *batch)
+{
+    return batch->room + batch->size;
+}
+
+void batch_add(struct batch *batch, size_t size, const void *of)
+{
+    batch->of[batch->count] = of;
+    batch->errors[batch->count++] = EIO;
+    batch->size += size;
+}
+
+size_t requests_note_answers(struct batch *batch, uint32_t first, void *bytes, size_t size)
+{
+    size_t answered = 0, place = 0;
+    for (const struct nlmsghdr *at; (at = netlink_next(bytes, size, &place));) {
+        struct nlmsgerr answer;
+        uint32_t number = at->nlmsg_seq - first;
+        if (at->nlmsg_type != NLMSG_ERROR || at->nlmsg_len < NLMSG_LENGTH(sizeof answer) || number >= batch->count)
+            continue;
+        memcpy(&answer, NLMSG_DATA(at), sizeof answer);
+        batch->errors[number] = -answer.error;
+        answered++;
+    }
+    return answered;
+}
+
+void requests_send(int fd, uint32_t *number, struct batch *batch)
+{
+    _Alignas(struct nlmsghdr) unsigned char room[8192];
+    uint32_t first = *number + 1;
+    if (batch->count == 0)
+        return;
+    size_t place = 0;
+    for (struct nlmsghdr *at; (at = netlink_next(batch->room, batch->size, &place));) {
+        at->nlmsg_seq = ++*number;
+        at->nlmsg_flags |= NLM_F_ACK;
+    }
+    if (send(fd, batch->room, batch->size, 0) < 0)
+        return;
+    for (size_t answered = 0; answered < batch->count;) {
+        ssize_t got = recv(fd, room, sizeof room, 0);
+        if (got < 0 && errno == EINTR)
+            continue;
+        if (got <= 0)
+            return;
+        answered += requests_note_answers(batch, first, room, (size_t)got);
+    }
+}
+
+int requests_read_dump(void *bytes, size_t size, bool *changed, void *to,
+                       void take(void *to, const struct nlmsghdr *message))
+{
+    size_t place = 0;
+    for (const struct nlmsghdr *at; (at = netlink_next(bytes, size, &place));) {
+        int error = 0;
+        *changed |= (at->nlmsg_flags & NLM_F_DUMP_INTR) != 0;
+        if (at->nlmsg_type == NLMSG_DONE || at->nlmsg_type == NLMSG_ERROR) {
+            if (at->nlmsg_len >= NLMSG_LENGTH(sizeof error))
+                memcpy(&error, NLMSG_DATA(at), sizeof error);
+            /* A table of which there is none has no routes. */
+            return error == 0 || error == -ENOENT ? 1 : -1;
+        }
+        take(to, at);
+    }
+    return 0;
+}
+
+bool requests_dump(const void *request, size_t size, void *to, void take(void *to, const struct nlmsghdr *message))
+{
+    _Alignas(struct nlmsghdr) static unsigned char room[ROOM];
+    bool changed = false;
+    int state = 0, fd = open_socket();
+    if (fd < 0)
+        return false;
+    if (send(fd, request, size, 0) < 0)
+        state = -1;
+    while (state == 0) {
+        ssize_t got = recv(fd, room, sizeof room, 0);
+        if (got < 0 && errno == EINTR)
+            continue;
+        state = got <= 0 ? -1 : requests_read_dump(room, (size_t)got, &changed, to, take);
+    }
+    close(fd);
+    return state == 1 && !changed;
+}

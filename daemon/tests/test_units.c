@@ -1,0 +1,291 @@
+/* Frames, numbers, configurations, prefix lists, the table of prefixes, and messages of rtnetlink. */
+#include "daemon.h"
+#include "netlink.h"
+#include "test.h"
+
+#include <arpa/inet.h>
+#include <linux/rtnetlink.h>
+#include <string.h>
+
+/* ---- frames */
+
+static bool is_frame(const char *hex)
+{
+    unsigned char bytes[FRAME_SIZE];
+    struct frame frame;
+    EXPECT(strlen(hex) == 2 * sizeof bytes);
+    for (size_t i = 0; i < sizeof bytes; i++)
+        EXPECT(sscanf(hex + 2 * i, "%2hhx", &bytes[i]) == 1);
+    return !frame_read(bytes, &frame);
+}
+
+static void test_frames(void)
+{
+    struct frame frame = {.type = FRAME_MESSAGE, .kind = TUHVONDI_QUERY, .len = 24, .number = 0x1234,
+                          .addr = 0x0a010200, .value = 0xdeadbeef},
+                 back;
+    unsigned char bytes[FRAME_SIZE];
+    frame_write(&frame, bytes);
+    EXPECT(memcmp(bytes, "M\x01\x12\x34\x0a\x01\x02\x00\xde\xad\xbe\xef\x18\0\0\0", FRAME_SIZE) == 0);
+    EXPECT(!frame_read(bytes, &back));
+    EXPECT(back.type == 'M' && back.kind == 1 && back.len == 24 && back.number == 0x1234);
+    EXPECT(back.addr == frame.addr && back.value == frame.value);
+    /* A hello, a sign of life, a trace, a router; and each with a field too many. */
+    EXPECT(is_frame("4801000aac10000100000000" "00000000"));
+    EXPECT(!is_frame("4802000aac10000100000000" "00000000"));
+    EXPECT(!is_frame("4801000aac10000100000001" "00000000"));
+    EXPECT(!is_frame("4801000aac10000100000000" "01000000"));
+    EXPECT(!is_frame("4801000aac10000100000000" "00000100"));
+    EXPECT(is_frame("410000000000000000000000" "00000000"));
+    EXPECT(!is_frame("410000010000000000000000" "00000000"));
+    EXPECT(!is_frame("410100000000000000000000" "00000000"));
+    EXPECT(!is_frame("410000000000000100000000" "00000000"));
+    EXPECT(is_frame("543f00070a01020300000000" "00000000"));
+    EXPECT(!is_frame("544000070a01020300000000" "00000000"));
+    EXPECT(is_frame("520500070a01020300000000" "00000000"));
+    EXPECT(!is_frame("520600070a01020300000000" "00000000"));
+    /* Messages: a length above 32, bits after the length, a kind above 2, a type that is none. */
+    EXPECT(is_frame("4d0200010a00000000000005" "08000000"));
+    EXPECT(is_frame("4d0200010a0102030000000520000000"));
+    EXPECT(!is_frame("4d0200010a00000000000005" "21000000"));
+    EXPECT(!is_frame("4d0200010a01000000000005" "08000000"));
+    EXPECT(!is_frame("4d0200010a00000000000005" "00000000"));
+    EXPECT(!is_frame("4d0300010a00000000000005" "08000000"));
+    EXPECT(!is_frame("000000000000000000000000" "00000000"));
+}
+
+/* ---- words */
+
+static void test_words(void)
+{
+    char line[] = "  a\tbc  d#e # rest", *words[4], text[PREFIX_TEXT];
+    uint32_t number = 7;
+    struct in_addr address;
+    struct tuhvondi_prefix prefix;
+    EXPECT(split_words(line, words, 4) == 3);
+    EXPECT(strcmp(words[2], "d#e") == 0);
+    EXPECT(split_words((char[]){"a b c d e"}, words, 4) == 5);
+    EXPECT(read_number("4294967295", 0, UINT32_MAX, &number) && number == UINT32_MAX);
+    EXPECT(!read_number("4294967296", 0, UINT32_MAX, &number) && number == UINT32_MAX);
+    EXPECT(!read_number("18446744073709551617", 0, UINT32_MAX, &number));
+    EXPECT(!read_number("", 0, 9, &number) && !read_number("-1", 0, 9, &number) && !read_number("+1", 0, 9, &number));
+    EXPECT(!read_number("1x", 0, 9, &number) && !read_number(" 1", 0, 9, &number));
+    EXPECT(!read_number("0x1", 0, 9, &number));
+    EXPECT(!read_address("10.0.0.256", &address) && !read_address("10.0.0", &address));
+    EXPECT(!read_address("10.0.0.1 ", &address) && read_address("10.0.0.1", &address));
+    EXPECT(!read_prefix("10.1.0.0/16", &prefix) && prefix.addr == 0x0a010000 && prefix.len == 16);
+    EXPECT(!read_prefix("0.0.0.0/0", &prefix) && !read_prefix("1.2.3.4/32", &prefix));
+    EXPECT(read_prefix("10.0.0.0/264", &prefix) && read_prefix("0.0.0.0/256", &prefix));
+    EXPECT(read_prefix("10.0.0.0/33", &prefix) && read_prefix("10.0.0.0/8x", &prefix));
+    EXPECT(read_prefix("10.0.0.1/8", &prefix) && read_prefix("10.0.0.0", &prefix) && read_prefix("/8", &prefix));
+    EXPECT(read_prefix("100.100.100.100.100/8", &prefix) && read_prefix("", &prefix));
+    EXPECT(strcmp(prefix_text(0xffffffff, 32, text), "255.255.255.255/32") == 0);
+}
+
+/* ---- configurations */
+
+struct told {
+    char first[256];
+    unsigned count;
+};
+
+static void note(void *whom, const char *what)
+{
+    struct told *told = whom;
+    if (told->count++ == 0)
+        snprintf(told->first, sizeof told->first, "%s", what);
+}
+
+static struct config config;
+
+/* Reads a text as a configuration; the first fault is in `told`. */
+static bool reads_bytes(const char *text, size_t size, struct told *told)
+{
+    char bytes[4096];
+    EXPECT(size <= sizeof bytes);
+    memcpy(bytes, text, size);
+    FILE *file = fmemopen(bytes, size, "r");
+    EXPECT(file || size == 0);
+    if (!file)
+        file = fopen("/dev/null", "re");
+    *told = (struct told){0};
+    bool done = config_read(file, "f", &config, note, told);
+    fclose(file);
+    EXPECT(done == (told->count == 0));
+    return done;
+}
+
+static bool reads(const char *text)
+{
+    struct told told;
+    return reads_bytes(text, strlen(text), &told);
+}
+
+/* Whether these lines, after those that have to be there, are refused, with a line number and this text. */
+static bool refused(const char *lines, const char *place, const char *text)
+{
+    char all[4096];
+    struct told told;
+    snprintf(all, sizeof all, "router-id 1.1.1.1\ncontrol c\n%s", lines);
+    if (reads_bytes(all, strlen(all), &told))
+        return false;
+    if (strncmp(told.first, place, strlen(place)) != 0 || !strstr(told.first, text))
+        fprintf(stderr, "it says: %s\n", told.first);
+    return strncmp(told.first, place, strlen(place)) == 0 && strstr(told.first, text);
+}
+
+static void test_good_config(void)
+{
+    EXPECT(reads("# c\nrouter-id 10.255.0.1\r\nlisten 10.0.0.1\ncontrol /run/x # here\n\n"
+                 "neighbour 10.0.0.2 10\n"
+                 "neighbor 10.0.0.6 65535 passive secret a#b ttl-security most-prefixes 9 list l\n"
+                 "accept l 10.0.0.0/8 le 24\nattach 10.1.0.0/16 1\nattach 0.0.0.0/0 2\ninstall yes\ntable 100\n"
+                 "metric 7\nprotocol 250\nalive 100\ndead 350\nlog syslog debug\nmetrics 127.0.0.1 9187\n"));
+    EXPECT(config.neighbour_count == 2 && config.attachment_count == 2 && config.installs && config.to_syslog);
+    EXPECT(config.table == 100 && config.metric == 7 && config.protocol == 250 && config.dead_ms == 350);
+    EXPECT(config.neighbours[1].passive && config.neighbours[1].ttl_security && config.has_secret);
+    EXPECT(strcmp(config.neighbours[1].secret, "a#b") == 0 && config.neighbours[1].most_prefixes == 9);
+    EXPECT(reads("\xef\xbb\xbfrouter-id 1.1.1.1\ncontrol c"));
+    EXPECT(!config.installs && config.table == 254 && config.metric == 201 && config.protocol == 201);
+    EXPECT(config.alive_ms == 1000 && config.dead_ms == 3500 && config.log_level == LOG_INFO);
+}
+
+static void test_bad_config(void)
+{
+    EXPECT(!reads("") && !reads("router-id 1.1.1.1\n") && !reads("control c\n"));
+    EXPECT(refused("router-id 2.2.2.2\n", "f:3:", "twice"));
+    EXPECT(refused("neighbour 10.0.0.2\n", "f:3:", "expected: neighbour"));
+    EXPECT(refused("neighbour 10.0.0.2 0\n", "f:3:", "1 to 65535"));
+    EXPECT(refused("neighbour 10.0.0.2 4294967298\n", "f:3:", "1 to 65535"));
+    EXPECT(refused("neighbour 10.0.0.2 5 pasive\n", "f:3:", "an option is passive"));
+    EXPECT(refused("neighbour 10.0.0.2 5 secret\n", "f:3:", "an option is passive"));
+    EXPECT(refused("neighbour 10.0.0.2 5\n#\nneighbour 10.0.0.2 6\n", "f:5:", "twice"));
+    EXPECT(refused("listen 10.0.0.2\nneighbour 10.0.0.2 5\n", "f:", "listens"));
+    EXPECT(refused("attach 10.0.0.0/264 1\n", "f:3:", "0 to 32"));
+    EXPECT(refused("attach 10.0.0.1/8 1\n", "f:3:", "bits set after"));
+    EXPECT(refused("attach 10.0.0.0/8 1 junk\n", "f:3:", "expected: attach"));
+    EXPECT(refused("attach 10.0.0.0/8 1\nattach 10.0.0.0/8 1\n", "f:4:", "twice"));
+    EXPECT(refused("atach 10.0.0.0/8 1\n", "f:3:", "no keyword"));
+    EXPECT(refused("install maybe\n", "f:3:", "yes or no"));
+    EXPECT(refused("table 255\n", "f:3:", "not 255"));
+    EXPECT(refused("metric 4294967295\n", "f:3:", "4294967294"));
+    EXPECT(refused("protocol 4\n", "f:3:", "5 to 255") && refused("protocol 256\n", "f:3:", "5 to 255"));
+    EXPECT(refused("alive 1000\ndead 1500\n", "f:", "twice alive"));
+    EXPECT(refused("log file\n", "f:3:", "stderr or syslog") && refused("log stderr loud\n", "f:3:", "debug"));
+    EXPECT(refused("metrics 127.0.0.1 65536\n", "f:3:", "1 to 65535"));
+    EXPECT(refused("neighbour 10.0.0.2 5 list l\n", "f:", "no line"));
+    EXPECT(refused("accept l 10.0.0.0/8 le 7\n", "f:3:", "le N"));
+    EXPECT(refused("accept l 10.0.0.0/8 le\n", "f:3:", "le N"));
+    EXPECT(refused("accept l 10.0.0.0/8 ge 24 le 16\n", "f:3:", "no length"));
+}
+
+/* Lines, and a path, that are too long; a zero byte; a neighbour too many. */
+static void test_long_config(void)
+{
+    char path[256], lines[4096] = "";
+    struct told told;
+    memset(path, 'p', sizeof path);
+    memcpy(path, "control ", 8);
+    path[8 + 108] = '\0';
+    EXPECT(!reads_bytes(path, strlen(path), &told) && strstr(told.first, "at most 107"));
+    path[8 + 107] = '\0';
+    EXPECT(!reads_bytes(path, strlen(path), &told) && strstr(told.first, "router-id"));
+    memset(lines, 'x', 1100);
+    EXPECT(refused(lines, "f:3:", "at most 1023"));
+    EXPECT(!reads_bytes("router-id 1.1.1.1\ncontrol c\n\0\n", 30, &told) && strstr(told.first, "zero byte"));
+    for (int i = 0, at = 0; i < 33; i++)
+        at += sprintf(lines + at, "neighbour 10.0.0.%d 5\n", i + 1);
+    EXPECT(refused(lines, "f:35:", "at most 32"));
+}
+
+static void test_lists(void)
+{
+    static struct config other;
+    const char *lines = "router-id 1.1.1.1\ncontrol c\ndeny l 10.9.0.0/16 le 32\naccept l 10.0.0.0/8 ge 16 le 24\n"
+                        "accept l 0.0.0.0/0\naccept m 0.0.0.0/0 le 32\n";
+    EXPECT(reads(lines));
+    EXPECT(config_accepts(&config, "", 0x0a090000, 16));
+    EXPECT(!config_accepts(&config, "l", 0x0a090000, 16) && !config_accepts(&config, "l", 0x0a090100, 24));
+    EXPECT(config_accepts(&config, "l", 0x0a010000, 16) && config_accepts(&config, "l", 0x0a010100, 24));
+    EXPECT(!config_accepts(&config, "l", 0x0a000000, 8) && !config_accepts(&config, "l", 0x0a010100, 25));
+    EXPECT(config_accepts(&config, "l", 0, 0) && !config_accepts(&config, "l", 0x0b000000, 8));
+    EXPECT(config_accepts(&config, "m", 0x0a090100, 24) && !config_accepts(&config, "none", 0, 0));
+    other = config;
+    EXPECT(config_same_list(&config, &other, "l") && config_same_list(&config, &other, "none"));
+    other.lines[1].most = 25;
+    EXPECT(!config_same_list(&config, &other, "l") && config_same_list(&config, &other, "m"));
+    other.line_count = 3;
+    EXPECT(!config_same_list(&config, &other, "m"));
+}
+
+/* ---- the table of prefixes, beside a plain list */
+
+static void test_prefixes(void)
+{
+    static struct prefixes table;
+    static bool there[4096];
+    uint32_t state = 1993;
+    for (int turn = 0; turn < 200000; turn++) {
+        state = state * 1664525 + 1013904223;
+        uint32_t number = state >> 20, addr = number << 20 | (number & 1 ? 0x12300 : 0);
+        uint8_t len = (uint8_t)(24 + number % 3);
+        struct noted *found = prefixes_find(&table, addr, len);
+        EXPECT((found != NULL) == there[number]);
+        if (!found) {
+            found = prefixes_add(&table, addr, len);
+            EXPECT(found && !found->behind);
+            found->behind = true;
+        } else {
+            found->behind = false;
+            EXPECT(prefixes_let_go(&table, found));
+        }
+        there[number] = !there[number];
+    }
+    size_t count = 0;
+    for (size_t i = 0; i < 4096; i++)
+        count += there[i];
+    EXPECT(table.count == count);
+    for (size_t i = 0; i < PREFIX_SLOTS; i++)
+        table.slots[i].behind = false;
+    prefixes_tidy(&table);
+    EXPECT(table.count == 0);
+    for (uint32_t i = 0; i < PREFIXES_NOTED; i++)
+        EXPECT(prefixes_add(&table, i, 32));
+    EXPECT(!prefixes_add(&table, PREFIXES_NOTED, 32));
+}
+
+/* ---- messages of rtnetlink */
+
+static void test_netlink(void)
+{
+    _Alignas(struct nlmsghdr) unsigned char room[REQUEST_SIZE];
+    struct nlmsghdr *message = (void *)room;
+    struct kernel_route route = {.addr = 0x0a010000, .len = 16, .table = 1000, .metric = 201, .type = RTN_UNICAST,
+                                 .protocol = 201, .by = {htonl(0x0a000002)}, .index = 9},
+                        back;
+    struct kernel_rule rule = {.preference = 1, .protocol = 201}, rule_back;
+    struct kernel_link link;
+    EXPECT(netlink_route(room, &route, true, 0) <= sizeof room);
+    EXPECT(netlink_read_route(message, &back) && back.addr == route.addr && back.len == 16 && back.table == 1000);
+    EXPECT(back.metric == 201 && back.by.s_addr == route.by.s_addr && back.index == 9 && back.protocol == 201);
+    EXPECT(!netlink_read_rule(message, &rule_back) && !netlink_read_link(message, &link));
+    memset(rule.interface, 'i', IF_NAMESIZE - 1);
+    EXPECT(netlink_rule(room, &rule, true, 0) <= sizeof room);
+    EXPECT(netlink_read_rule(message, &rule_back) && strcmp(rule.interface, rule_back.interface) == 0);
+    EXPECT(rule_back.preference == 1 && rule_back.protocol == 201);
+    EXPECT(netlink_dump_routes(room, 254, 201) <= sizeof room && netlink_dump_rules(room) <= sizeof room);
+}
+
+int main(void)
+{
+    test_frames();
+    test_words();
+    test_good_config();
+    test_bad_config();
+    test_long_config();
+    test_lists();
+    test_prefixes();
+    test_netlink();
+    puts("units: frames, words, configurations, lists, prefixes and rtnetlink are as they have to be");
+    return 0;
+}
