@@ -159,6 +159,10 @@ static void test_bad_config(void)
     EXPECT(refused("neighbour 10.0.0.2 4294967298\n", "f:3:", "1 to 65535"));
     EXPECT(refused("neighbour 10.0.0.2 5 pasive\n", "f:3:", "an option is passive"));
     EXPECT(refused("neighbour 10.0.0.2 5 secret\n", "f:3:", "an option is passive"));
+    /* More words than a line may have, each of which is an option. */
+#define SEVEN " passive passive passive passive passive passive passive"
+    EXPECT(refused("neighbour 10.0.0.2 5" SEVEN SEVEN "\n", "f:3:", "expected: neighbour"));
+    EXPECT(refused("neighbour 10.0.0.2 5" SEVEN SEVEN SEVEN "\n", "f:3:", "expected: neighbour"));
     EXPECT(refused("neighbour 10.0.0.2 5\n#\nneighbour 10.0.0.2 6\n", "f:5:", "twice"));
     EXPECT(refused("listen 10.0.0.2\nneighbour 10.0.0.2 5\n", "f:", "listens"));
     EXPECT(refused("attach 10.0.0.0/264 1\n", "f:3:", "0 to 32"));
