@@ -74,17 +74,18 @@ static bool is_beside(const struct ifaddrs *at, struct in_addr neighbour)
     return ((own ^ neighbour.s_addr) & mask) == 0;
 }
 
-static bool find_name(struct in_addr neighbour, char name[IF_NAMESIZE])
+/* The interface's number and name. What an address tells is its label, eth0:1 for example, and no rule of the kernel
+ * knows an interface by that. */
+static unsigned find_interface(struct in_addr neighbour, char name[IF_NAMESIZE])
 {
     struct ifaddrs *list, *at;
     if (getifaddrs(&list))
-        return false;
+        return 0;
     for (at = list; at && !is_beside(at, neighbour);)
         at = at->ifa_next;
-    if (at)
-        snprintf(name, IF_NAMESIZE, "%s", at->ifa_name);
+    unsigned index = at ? if_nametoindex(at->ifa_name) : 0;
     freeifaddrs(list);
-    return at != NULL;
+    return index && if_indextoname(index, name) ? index : 0;
 }
 
 const char *const kernel_no_interface = "no interface leads to it";
@@ -106,7 +107,8 @@ const char *kernel_find_interface(struct daemon *daemon, struct peer *peer)
     char name[IF_NAMESIZE] = "";
     if (!daemon->kernel.installs || peer->index)
         return NULL;
-    if (!find_name(peer->config.address, name))
+    unsigned index = find_interface(peer->config.address, name);
+    if (!index)
         return kernel_no_interface;
     for (struct peer *other = daemon->peers; other < peers_end(daemon); other++) {
         if (other == peer || !other->used || !other->index || strcmp(other->interface, name) != 0)
@@ -116,9 +118,7 @@ const char *kernel_find_interface(struct daemon *daemon, struct peer *peer)
         succeed(peer, other);
     }
     memcpy(peer->interface, name, sizeof name);
-    peer->index = if_nametoindex(name);
-    if (!peer->index)
-        return kernel_no_interface;
+    peer->index = index;
     if (!kernel_filter(daemon, peer, true)) {
         peer->index = 0;
         return "what comes in from it is not dropped";
