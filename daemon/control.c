@@ -90,7 +90,7 @@ static struct client *place_for_client(struct daemon *daemon)
 
 void control_accept(struct daemon *daemon, int listener, bool for_metrics)
 {
-    int fd = accept4(listener, NULL, NULL, SOCK_NONBLOCK | SOCK_CLOEXEC);
+    int fd = accept_from(daemon, listener, NULL);
     if (fd < 0)
         return;
     *place_for_client(daemon) = (struct client){.used = true, .for_metrics = for_metrics, .fd = fd,

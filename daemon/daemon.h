@@ -23,6 +23,7 @@ enum {
     TRACES = 64,        /* traces on their way at a time */
     CLIENTS = 32,       /* that ask at the control socket, or for metrics, at a time */
     CLIENT_MS = 10000,  /* without progress, after which a client is left */
+    ACCEPT_MS = 200,    /* without new connections, after there was no descriptor for one */
     MONITOR_BYTES = 1 << 20, /* that wait for a client that follows changes */
     FORGET_MS = 1000,   /* between looks for prefixes to forget */
     CHECK_MS = 30000,   /* between looks at what the kernel has */
@@ -103,7 +104,7 @@ struct client {
 /* `check_due`: the kernel may have lost something, and nothing is released until it was seen. */
 struct kernel {
     bool installs, check_due;
-    int requests, links, routes, lock;
+    int requests, links, routes, lock, device; /* sockets; `device` is for questions about interfaces */
     uint32_t number, port;
     int64_t next_check, complained;
     uint64_t set, refused, repaired; /* routes */
@@ -138,7 +139,7 @@ struct daemon {
     dev_t control_device;
     ino_t control_inode;
     bool blocked, reload, install_asked; /* by the command line */
-    int64_t next_forget;
+    int64_t next_forget, accepts_at;
     uint64_t strangers; /* connections from addresses of no neighbour */
 };
 
@@ -185,6 +186,8 @@ void peer_hang_up(struct daemon *daemon, struct peer *peer, enum ending ending, 
 /* The interface works again: an attempt to connect need not wait. */
 void peer_wake(struct peer *peer);
 void sessions_accept(struct daemon *daemon);
+/* The next connection of a listening socket, or -1. */
+int accept_from(struct daemon *daemon, int listener, struct sockaddr_in *from);
 void sessions_read(struct daemon *daemon, struct peer *peer, bool writable);
 void sessions_read_candidates(struct daemon *daemon, struct peer *peer);
 void sessions_flush(struct daemon *daemon, struct peer *peer);
@@ -214,8 +217,8 @@ extern const char *const kernel_no_interface;
 const char *kernel_find_interface(struct daemon *daemon, struct peer *peer);
 bool kernel_filter(struct daemon *daemon, struct peer *peer, bool drops);
 void kernel_bind(const struct daemon *daemon, const struct peer *peer, int fd);
-void kernel_drop_waiting(const struct peer *peer);
-bool kernel_interface_works(const struct peer *peer);
+void kernel_drop_waiting(const struct daemon *daemon, const struct peer *peer);
+bool kernel_interface_works(const struct daemon *daemon, const struct peer *peer);
 /* Each is true when the kernel has done it. */
 bool kernel_set_rows(struct daemon *daemon, const struct tuhvondi_row *rows, size_t count);
 bool kernel_remove_row(struct daemon *daemon, uint32_t addr, uint8_t len);

@@ -139,27 +139,23 @@ void kernel_bind(const struct daemon *daemon, const struct peer *peer, int fd)
 
 /* Has the kernel forget the packets that wait until the neighbour's link address is found, up to three seconds: rows of
  * the last session chose their way. An address that was set by hand stays, since nothing waits for it. */
-void kernel_drop_waiting(const struct peer *peer)
+void kernel_drop_waiting(const struct daemon *daemon, const struct peer *peer)
 {
     struct arpreq entry = {0};
     struct sockaddr_in address = {.sin_family = AF_INET, .sin_addr = peer->config.address};
-    int fd = socket(AF_INET, SOCK_DGRAM | SOCK_CLOEXEC, 0);
     memcpy(&entry.arp_pa, &address, sizeof address);
     memcpy(entry.arp_dev, peer->interface, sizeof peer->interface);
-    if (ioctl(fd, SIOCGARP, &entry) || !(entry.arp_flags & ATF_PERM)) {
+    if (ioctl(daemon->kernel.device, SIOCGARP, &entry) || !(entry.arp_flags & ATF_PERM)) {
         entry.arp_flags = 0;
-        ioctl(fd, SIOCDARP, &entry);
+        ioctl(daemon->kernel.device, SIOCDARP, &entry);
     }
-    close(fd);
 }
 
-bool kernel_interface_works(const struct peer *peer)
+bool kernel_interface_works(const struct daemon *daemon, const struct peer *peer)
 {
     struct ifreq request = {0};
-    int fd = socket(AF_INET, SOCK_DGRAM | SOCK_CLOEXEC, 0);
     memcpy(request.ifr_name, peer->interface, sizeof peer->interface);
-    bool known = ioctl(fd, SIOCGIFFLAGS, &request) == 0;
-    close(fd);
+    bool known = ioctl(daemon->kernel.device, SIOCGIFFLAGS, &request) == 0;
     return known && (request.ifr_flags & IFF_UP) && (request.ifr_flags & IFF_RUNNING);
 }
 
@@ -487,7 +483,8 @@ bool kernel_open(struct daemon *daemon)
     kernel->requests = requests_socket(&kernel->port);
     kernel->links = open_notices(RTMGRP_LINK | RTMGRP_IPV4_IFADDR);
     kernel->routes = open_notices(RTMGRP_IPV4_ROUTE | 1 << (RTNLGRP_IPV4_RULE - 1));
-    if (kernel->requests < 0 || kernel->links < 0 || kernel->routes < 0) {
+    kernel->device = socket(AF_INET, SOCK_DGRAM | SOCK_CLOEXEC, 0);
+    if (kernel->requests < 0 || kernel->links < 0 || kernel->routes < 0 || kernel->device < 0) {
         say(LOG_ERR, "install: no connection to the kernel's routes: %s", strerror(errno));
         return false;
     }
@@ -524,6 +521,7 @@ void kernel_close(struct daemon *daemon)
     close(daemon->kernel.requests);
     close(daemon->kernel.links);
     close(daemon->kernel.routes);
+    close(daemon->kernel.device);
     close(daemon->kernel.lock);
     daemon->kernel.installs = false;
 }

@@ -32,12 +32,13 @@ static void add(struct polled *polled, int fd, short events, struct peer *peer, 
 /* While published rows do not forward, neighbours are not read. */
 static void gather(struct daemon *daemon, struct polled *polled)
 {
+    bool accepts = now_ms() >= daemon->accepts_at;
     polled->count = 0;
     add(polled, daemon->kernel.installs ? daemon->kernel.links : -1, POLLIN, NULL, NULL);
     add(polled, daemon->kernel.installs ? daemon->kernel.routes : -1, POLLIN, NULL, NULL);
-    add(polled, daemon->control, POLLIN, NULL, NULL);
-    add(polled, daemon->metrics, POLLIN, NULL, NULL);
-    add(polled, daemon->blocked ? -1 : daemon->listener, POLLIN, NULL, NULL);
+    add(polled, accepts ? daemon->control : -1, POLLIN, NULL, NULL);
+    add(polled, accepts ? daemon->metrics : -1, POLLIN, NULL, NULL);
+    add(polled, accepts && !daemon->blocked ? daemon->listener : -1, POLLIN, NULL, NULL);
     for (struct peer *peer = daemon->peers; peer < peers_end(daemon); peer++) {
         bool writes = peer->state == PEER_CONNECTING || peer->out_count > 0;
         if (!peer->used)
@@ -64,6 +65,8 @@ static int patience(const struct daemon *daemon)
         next = now + BLOCKED_MS;
     if (next > daemon->next_forget)
         next = daemon->next_forget;
+    if (daemon->accepts_at > now && next > daemon->accepts_at)
+        next = daemon->accepts_at;
     return next > now ? (int)(next - now) : 0;
 }
 

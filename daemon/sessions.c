@@ -133,7 +133,7 @@ void sessions_rows_are_new(struct daemon *daemon)
         if (!peer->stale || peer->leaving)
             continue;
         if (daemon->kernel.installs && peer->index)
-            kernel_drop_waiting(peer);
+            kernel_drop_waiting(daemon, peer);
         peer->stale = false;
     }
 }
@@ -366,12 +366,25 @@ static void accept_one(struct daemon *daemon, int fd, struct in_addr from)
     *place = (struct candidate){.fd = fd, .since = now_ms()};
 }
 
+/* Without a free descriptor the connection stays in the queue, and the loop would be woken for it at once, again and
+ * again. So nobody is accepted for a moment. */
+int accept_from(struct daemon *daemon, int listener, struct sockaddr_in *from)
+{
+    socklen_t size = sizeof *from;
+    int fd = accept4(listener, (struct sockaddr *)from, from ? &size : NULL, SOCK_NONBLOCK | SOCK_CLOEXEC);
+    if (fd < 0 && (errno == EMFILE || errno == ENFILE || errno == ENOBUFS || errno == ENOMEM)) {
+        if (now_ms() - daemon->accepts_at > COMPLAIN_MS)
+            say(LOG_WARNING, "a connection has to wait: %s", strerror(errno));
+        daemon->accepts_at = now_ms() + ACCEPT_MS;
+    }
+    return fd;
+}
+
 void sessions_accept(struct daemon *daemon)
 {
     for (int i = 0; i < ACCEPTS; i++) {
         struct sockaddr_in from = {0};
-        socklen_t size = sizeof from;
-        int fd = accept4(daemon->listener, (struct sockaddr *)&from, &size, SOCK_NONBLOCK | SOCK_CLOEXEC);
+        int fd = accept_from(daemon, daemon->listener, &from);
         if (fd < 0)
             return;
         accept_one(daemon, fd, from.sin_addr);
@@ -550,7 +563,7 @@ static void tick_peer(struct daemon *daemon, struct peer *peer, int64_t now)
     if (peer->leaving && !daemon->blocked)
         tell_down(daemon, peer);
     if (peer->state == PEER_UP && peer->lost)
-        peer_hang_up(daemon, peer, kernel_interface_works(peer) ? BY_FAULT : BY_LINK,
+        peer_hang_up(daemon, peer, kernel_interface_works(daemon, peer) ? BY_FAULT : BY_LINK,
                      "the kernel takes no route by it");
     if (peer->state != PEER_IDLE && !daemon->blocked && now - peer->heard > patience(daemon, peer))
         peer_hang_up(daemon, peer, BY_LINK, "it is silent");
