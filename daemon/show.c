@@ -198,8 +198,9 @@ static const char *state_name(const struct peer *peer)
 static void show_neighbour_json(struct text *out, const struct peer *peer, int64_t now)
 {
     const struct peer_counters *counters = &peer->counters;
-    text_put(out, "{\"address\":\"%s\",\"state\":\"%s\",\"session\":%u,\"cost\":%" PRIu32 ",\"interface\":\"%s\"",
-             peer->name, state_name(peer), peer->last, peer->config.cost, peer->interface);
+    text_put(out, "{\"address\":\"%s\",\"state\":\"%s\",\"session\":%u,\"cost\":%" PRIu32 ",\"interface\":",
+             peer->name, state_name(peer), peer->last, peer->config.cost);
+    text_put_string(out, peer->interface);
     text_put(out, ",\"seconds\":%" PRId64 ",\"filtered\":%s,\"passive\":%s,\"prefixes\":%" PRIu32
              ",\"sessions\":%" PRIu64 ",\"faults\":%" PRIu64, peer->begun ? (now - peer->begun) / 1000 : 0,
              peer->filtered ? "true" : "false", peer->config.passive ? "true" : "false", peer->reported,

@@ -99,6 +99,18 @@ void text_put(struct text *text, const char *format, ...)
     text->count += (size_t)size;
 }
 
+void text_put_string(struct text *text, const char *string)
+{
+    text_put(text, "\"");
+    for (const unsigned char *at = (const unsigned char *)string; *at; at++) {
+        if (*at == '"' || *at == '\\')
+            text_put(text, "\\%c", *at);
+        else
+            text_put(text, *at < ' ' || *at > '~' ? "\\u%04x" : "%c", *at);
+    }
+    text_put(text, "\"");
+}
+
 void text_free(struct text *text)
 {
     free(text->bytes);

@@ -33,6 +33,8 @@ struct text {
 };
 
 void text_put(struct text *text, const char *format, ...) __attribute__((format(printf, 2, 3)));
+/* Writes the text as a string of JSON, with its quotes. A byte that is no ASCII is told by its number, \u00XX. */
+void text_put_string(struct text *text, const char *string);
 void text_free(struct text *text);
 
 #endif

@@ -82,6 +82,15 @@ static void test_words(void)
     EXPECT(strcmp(prefix_text(0xffffffff, 32, text), "255.255.255.255/32") == 0);
 }
 
+/* The kernel lets an interface have any name without a slash, a colon or a space. */
+static void test_strings(void)
+{
+    struct text text = {0};
+    text_put_string(&text, "e\"0\\\x01\xc3");
+    EXPECT(text.bytes && strcmp(text.bytes, "\"e\\\"0\\\\\\u0001\\u00c3\"") == 0);
+    text_free(&text);
+}
+
 /* ---- configurations */
 
 struct told {
@@ -284,6 +293,7 @@ int main(void)
 {
     test_frames();
     test_words();
+    test_strings();
     test_good_config();
     test_bad_config();
     test_long_config();
