@@ -29,7 +29,8 @@ static void add(struct polled *polled, int fd, short events, struct peer *peer, 
     polled->clients[polled->count++] = client;
 }
 
-/* While published rows do not forward, neighbours are not read. */
+/* While published rows do not forward, neighbours are not read. Nor is it looked whether they have closed: that would
+ * wake the loop again and again, since it cannot act on it. */
 static void gather(struct daemon *daemon, struct polled *polled)
 {
     bool accepts = now_ms() >= daemon->accepts_at;
@@ -43,7 +44,7 @@ static void gather(struct daemon *daemon, struct polled *polled)
         bool writes = peer->state == PEER_CONNECTING || peer->out_count > 0;
         if (!peer->used)
             continue;
-        if (peer->fd >= 0)
+        if (peer->fd >= 0 && (writes || !daemon->blocked))
             add(polled, peer->fd, (short)((daemon->blocked ? 0 : POLLIN) | (writes ? POLLOUT : 0)), peer, NULL);
         for (size_t i = 0; i < CANDIDATES && !daemon->blocked; i++)
             if (peer->candidates[i].fd >= 0 && !peer->candidates[i].proved)
