@@ -334,11 +334,10 @@ static void check_whole(struct reading *at, const struct config *config)
         fault(at, "", "dead is to be at least twice alive, or sessions end while both ends are there");
     for (size_t i = 0; i < config->neighbour_count; i++) {
         const struct neighbour *one = &config->neighbours[i];
-        size_t line = 0;
-        while (one->list[0] && line < config->line_count && strcmp(config->lines[line].name, one->list) != 0)
-            line++;
-        if (one->list[0] && line == config->line_count)
-            fault(at, "", "a neighbour names a list of which there is no line");
+        char text[NAME_SIZE + 64];
+        snprintf(text, sizeof text, "a neighbour names the list %s, of which there is no line", one->list);
+        if (!config_has_list(config, one->list))
+            fault(at, "", text);
         if (one->address.s_addr == config->listen.s_addr)
             fault(at, "", "a neighbour has the address at which this router listens");
     }
@@ -385,6 +384,12 @@ static const struct list_line *next_of(const struct config *config, const char *
     while (*at < config->line_count && strcmp(config->lines[*at].name, list) != 0)
         ++*at;
     return *at < config->line_count ? &config->lines[(*at)++] : NULL;
+}
+
+bool config_has_list(const struct config *config, const char *list)
+{
+    size_t at = 0;
+    return !*list || next_of(config, list, &at);
 }
 
 bool config_same_list(const struct config *one, const struct config *other, const char *list)

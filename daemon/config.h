@@ -63,6 +63,9 @@ const char *config_attachment(size_t count, char **words, struct tuhvondi_attach
  * (an empty name) takes all. */
 bool config_accepts(const struct config *config, const char *list, uint32_t addr, uint8_t len);
 
+/* Whether there is a line of this list, or it is none (an empty name). */
+bool config_has_list(const struct config *config, const char *list);
+
 /* Whether two configurations have this list alike. */
 bool config_same_list(const struct config *one, const struct config *other, const char *list);
 

@@ -9,6 +9,9 @@
 #include <sys/socket.h>
 #include <unistd.h>
 
+/* Of a command: a neighbour with each of its options has twelve, and there is `json`. */
+enum { MOST_WORDS = 16 };
+
 /* ---- the socket */
 
 /* Whether somebody answers at the path, so that it is another daemon's. */
@@ -144,6 +147,8 @@ static const char *change_neighbour(struct daemon *daemon, size_t count, char **
         return wrong;
     if (peer_of(daemon, alone.neighbours[0].address))
         return "it is a neighbour already";
+    if (!config_has_list(&daemon->config, alone.neighbours[0].list))
+        return "the configuration has no line of this list";
     if (alone.neighbours[0].secret[0] && !sessions_set_secret(daemon->listener, &alone.neighbours[0]))
         return "this kernel has no MD5 option of TCP";
     return peer_add(daemon, &alone.neighbours[0]);
@@ -196,11 +201,11 @@ static void trace_for(struct daemon *daemon, struct client *client, struct in_ad
 
 static void answer(struct daemon *daemon, struct client *client)
 {
-    char *words[8];
+    char *words[MOST_WORDS];
     struct in_addr address;
-    size_t count = split_words(client->in, words, 8);
+    size_t count = split_words(client->in, words, MOST_WORDS);
     char **at = words;
-    if (count > 0 && count <= 8 && strcmp(words[0], "json") == 0) {
+    if (count > 0 && count <= MOST_WORDS && strcmp(words[0], "json") == 0) {
         client->json = true;
         at++;
         count--;
@@ -210,8 +215,8 @@ static void answer(struct daemon *daemon, struct client *client)
         trace_for(daemon, client, address);
     } else if (count == 1 && strcmp(at[0], "monitor") == 0) {
         client->state = CLIENT_FOLLOWS;
-    } else if (count > 8 || !show(daemon, client, count, at)) {
-        const char *wrong = count > 8 ? "not understood" : change(daemon, count, at);
+    } else if (count > MOST_WORDS || !show(daemon, client, count, at)) {
+        const char *wrong = count > MOST_WORDS ? "not understood" : change(daemon, count, at);
         if (client->json)
             text_put(&client->out, wrong ? "{\"error\":\"%s\"}\n" : "{\"done\":true}\n", wrong);
         else
@@ -308,10 +313,12 @@ void control_tick(struct daemon *daemon, int64_t now)
 
 /* ---- those who follow changes */
 
+/* Where a change is written for a client; NULL: nowhere. A client to which some were not told is left, so that it can
+ * tell. */
 static struct text *out_of_follower(struct client *client)
 {
     bool follows = client->used && client->state == CLIENT_FOLLOWS;
-    if (follows && client->out.count > MONITOR_BYTES) {
+    if (follows && (client->out.count > MONITOR_BYTES || client->out.refused)) {
         leave(client);
         follows = false;
     }
