@@ -452,18 +452,19 @@ static int open_notices(uint32_t groups)
     return -1;
 }
 
-/* Filters each neighbour's interface. A neighbour whose interface is not there yet waits for it. */
+/* Filters each neighbour's interface, also after one that cannot be. A neighbour whose interface is not there yet waits
+ * for it. */
 static bool filter_all(struct daemon *daemon)
 {
+    bool done = true;
     for (struct peer *peer = daemon->peers; peer < peers_end(daemon); peer++) {
         const char *wrong = kernel_find_interface(daemon, peer);
         if (!wrong)
             continue;
         say(wrong == kernel_no_interface ? LOG_WARNING : LOG_ERR, "%s: %s", peer->name, wrong);
-        if (wrong != kernel_no_interface)
-            return false;
+        done &= wrong == kernel_no_interface;
     }
-    return true;
+    return done;
 }
 
 static void warn_of_forwarding(void)
@@ -494,12 +495,14 @@ bool kernel_open(struct daemon *daemon)
     }
     kernel->installs = true;
     warn_of_forwarding();
-    bool filtered = filter_all(daemon);
-    if (filtered && sweep(daemon, true, true) && sweep(daemon, false, false))
+    bool filtered = filter_all(daemon), swept = sweep(daemon, true, true);
+    if (filtered && swept && sweep(daemon, false, false))
         return true;
     if (filtered)
         say(LOG_ERR, "install: routes or rules of protocol %u cannot be taken away", (unsigned)daemon->config.protocol);
-    sweep(daemon, false, true);
+    /* Filters go only behind the routes of old: while such a route stands, what comes in is to be dropped. */
+    if (swept)
+        sweep(daemon, false, true);
     kernel->installs = false;
     return false;
 }
