@@ -216,7 +216,7 @@ void kernel_close(struct daemon *daemon);
 extern const char *const kernel_no_interface;
 const char *kernel_find_interface(struct daemon *daemon, struct peer *peer);
 bool kernel_filter(struct daemon *daemon, struct peer *peer, bool drops);
-void kernel_bind(const struct daemon *daemon, const struct peer *peer, int fd);
+bool kernel_bind(const struct daemon *daemon, const struct peer *peer, int fd);
 void kernel_drop_waiting(const struct daemon *daemon, const struct peer *peer);
 bool kernel_interface_works(const struct daemon *daemon, const struct peer *peer);
 /* Each is true when the kernel has done it. */

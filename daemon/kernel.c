@@ -127,14 +127,15 @@ const char *kernel_find_interface(struct daemon *daemon, struct peer *peer)
     return NULL;
 }
 
-/* The connection goes by the neighbour's interface alone, and by no router. */
-void kernel_bind(const struct daemon *daemon, const struct peer *peer, int fd)
+/* Has the connection go by the neighbour's interface alone, and by no router: whether it does. If it went another way,
+ * it would tell nothing of the link. */
+bool kernel_bind(const struct daemon *daemon, const struct peer *peer, int fd)
 {
     int one = 1;
     if (!daemon->kernel.installs)
-        return;
-    setsockopt(fd, SOL_SOCKET, SO_BINDTODEVICE, peer->interface, (socklen_t)strlen(peer->interface));
-    setsockopt(fd, SOL_SOCKET, SO_DONTROUTE, &one, sizeof one);
+        return true;
+    return !setsockopt(fd, SOL_SOCKET, SO_BINDTODEVICE, peer->interface, (socklen_t)strlen(peer->interface))
+           && !setsockopt(fd, SOL_SOCKET, SO_DONTROUTE, &one, sizeof one);
 }
 
 /* Has the kernel forget the packets that wait until the neighbour's link address is found, up to three seconds: rows of

@@ -222,14 +222,14 @@ bool sessions_set_secret(int fd, const struct neighbour *neighbour)
     return setsockopt(fd, IPPROTO_TCP, TCP_MD5SIG, &key, sizeof key) == 0;
 }
 
-static void set_options(const struct daemon *daemon, const struct peer *peer, int fd)
+static bool set_options(const struct daemon *daemon, const struct peer *peer, int fd)
 {
     int one = 1, ttl = OWN_TTL;
     setsockopt(fd, IPPROTO_TCP, TCP_NODELAY, &one, sizeof one);
     setsockopt(fd, IPPROTO_IP, IP_TTL, &ttl, sizeof ttl);
     if (peer->config.ttl_security)
         setsockopt(fd, IPPROTO_IP, IP_MINTTL, &ttl, sizeof ttl);
-    kernel_bind(daemon, peer, fd);
+    return kernel_bind(daemon, peer, fd);
 }
 
 static struct sockaddr_in endpoint(struct in_addr address, uint16_t port)
@@ -246,8 +246,8 @@ static void try_to_connect(struct daemon *daemon, struct peer *peer)
         return;
     peer->state = PEER_CONNECTING;
     peer->heard = now_ms();
-    set_options(daemon, peer, peer->fd);
-    if ((peer->config.secret[0] && !sessions_set_secret(peer->fd, &peer->config))
+    if (!set_options(daemon, peer, peer->fd)
+        || (peer->config.secret[0] && !sessions_set_secret(peer->fd, &peer->config))
         || bind(peer->fd, (struct sockaddr *)&from, sizeof from)
         || (connect(peer->fd, (struct sockaddr *)&to, sizeof to) && errno != EINPROGRESS))
         peer_hang_up(daemon, peer, BY_LINK, "it does not answer");
@@ -358,11 +358,10 @@ static void accept_one(struct daemon *daemon, int fd, struct in_addr from)
         return;
     }
     struct candidate *place = place_for(peer);
-    if (!place) {
+    if (!place || !set_options(daemon, peer, fd)) {
         close(fd);
         return;
     }
-    set_options(daemon, peer, fd);
     *place = (struct candidate){.fd = fd, .since = now_ms()};
 }
 
