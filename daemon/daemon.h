@@ -75,9 +75,10 @@ struct peer {
 };
 
 /* A trace that went on from here, to the port `next`, by this number. It was asked for by the port `from`, by its own
- * number, or else (-1) by a client. */
+ * number, or else (-1) by a client. `left`: routers that it may still pass. */
 struct trace {
     bool used;
+    uint8_t left;
     uint16_t number, asked;
     int from, next;
     uint64_t client;

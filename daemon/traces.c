@@ -47,17 +47,19 @@ void trace_begin(struct daemon *daemon, const struct trace *asked, uint32_t addr
     if (!begun.used)
         return;
     begun.next = row.port;
+    begun.left = hops;
     begun.until = now_ms() + daemon->config.dead_ms;
     *trace = begun;
     struct frame frame = {.type = FRAME_TRACE, .kind = (uint8_t)(hops - 1), .number = begun.number, .addr = addr};
     peer_put(daemon, &daemon->peers[row.port], &frame);
 }
 
+/* A neighbour may tell of as many routers as the trace may still pass, and of no more. */
 void trace_answered(struct daemon *daemon, const struct peer *peer, const struct frame *frame)
 {
     for (struct trace *trace = daemon->traces; trace < daemon->traces + TRACES; trace++)
         if (trace->used && trace->number == frame->number && trace->next == port_of(daemon, peer))
-            tell(daemon, trace, frame->kind, frame->addr);
+            tell(daemon, trace, trace->left-- > 0 ? frame->kind : TRACE_GIVEN_UP, frame->addr);
 }
 
 void traces_tick(struct daemon *daemon, int64_t now)
