@@ -90,8 +90,8 @@ static unsigned find_interface(struct in_addr neighbour, char name[IF_NAMESIZE])
 
 const char *const kernel_no_interface = "no interface leads to it";
 
-/* The interface was that of a neighbour which is none any more. Its filter is now the new one's, and no session begins
- * before the old one must have noticed. */
+/* The interface was that of a neighbour which is none any more, and whose link is down for the router. Its filter is now
+ * the new one's, and no session begins before the old one must have noticed. */
 static void succeed(struct peer *peer, struct peer *old)
 {
     peer->waits_until = old->removed_at;
@@ -113,7 +113,7 @@ const char *kernel_find_interface(struct daemon *daemon, struct peer *peer)
     for (struct peer *other = daemon->peers; other < peers_end(daemon); other++) {
         if (other == peer || !other->used || !other->index || strcmp(other->interface, name) != 0)
             continue;
-        if (!other->removed_at)
+        if (!other->removed_at || other->leaving)
             return "another neighbour is on its interface";
         succeed(peer, other);
     }

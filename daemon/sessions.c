@@ -645,9 +645,13 @@ const char *peer_add(struct daemon *daemon, const struct neighbour *neighbour)
     return wrong;
 }
 
-/* What comes in from it is dropped until it must have noticed. */
+/* What comes in from it is dropped until it must have noticed. Its secret goes at once: whoever has the address later
+ * may have none. */
 void peer_remove(struct daemon *daemon, struct peer *peer)
 {
+    struct neighbour unsigned_one = {.address = peer->config.address};
+    if (peer->config.secret[0])
+        sessions_set_secret(daemon->listener, &unsigned_one);
     peer_hang_up(daemon, peer, BY_OPERATOR, "it is no neighbour any more");
     for (size_t i = 0; i < CANDIDATES; i++)
         drop(&peer->candidates[i]);
