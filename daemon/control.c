@@ -77,11 +77,13 @@ static void leave(struct client *client)
     *client = (struct client){.fd = -1};
 }
 
-/* A free place, or that of the client which has made no progress for longest. */
-static struct client *place_for_client(struct daemon *daemon)
+/* A free place, or that of the client of its kind which has made no progress for longest. Who can only ask for metrics,
+ * perhaps from afar, takes no place of the control socket's. */
+static struct client *place_for_client(struct daemon *daemon, bool for_metrics)
 {
-    struct client *oldest = daemon->clients;
-    for (struct client *client = daemon->clients; client < daemon->clients + CLIENTS; client++) {
+    struct client *first = daemon->clients + (for_metrics ? 0 : METRICS_CLIENTS), *oldest = first;
+    const struct client *end = daemon->clients + (for_metrics ? METRICS_CLIENTS : CLIENTS);
+    for (struct client *client = first; client < end; client++) {
         if (!client->used)
             return client;
         if (client->since < oldest->since)
@@ -96,7 +98,7 @@ void control_accept(struct daemon *daemon, int listener, bool for_metrics)
     int fd = accept_from(daemon, listener, NULL);
     if (fd < 0)
         return;
-    *place_for_client(daemon) = (struct client){.used = true, .for_metrics = for_metrics, .fd = fd,
+    *place_for_client(daemon, for_metrics) = (struct client){.used = true, .for_metrics = for_metrics, .fd = fd,
                                                 .number = ++daemon->client_number, .since = now_ms()};
 }
 
@@ -224,6 +226,14 @@ static void answer(struct daemon *daemon, struct client *client)
     }
 }
 
+/* A request of HTTP may be longer than there is room. It is read to its end, since an answer is lost if the connection
+ * closes with something unread; and only its last three bytes matter for where it ends. */
+static void keep_end(struct client *client)
+{
+    memmove(client->in, client->in + client->in_count - 3, 3);
+    client->in_count = 3;
+}
+
 /* A line is whole at its end, or when the client sends no more. */
 static void read_client(struct daemon *daemon, struct client *client)
 {
@@ -236,12 +246,14 @@ static void read_client(struct daemon *daemon, struct client *client)
     bool is_full = client->in_count == sizeof client->in - 1;
     if (got < 0 || (got == 0 && client->in_count == 0)) {
         leave(client);
-    } else if (strlen(client->in) < client->in_count || (is_full && !strpbrk(client->in, "\r\n"))) {
+    } else if (strlen(client->in) < client->in_count || (is_full && !client->for_metrics && !strpbrk(client->in, "\r\n"))) {
         client->state = CLIENT_ANSWERED;
         text_put(&client->out, "error: not understood\n");
     } else if (client->for_metrics) {
-        if (got == 0 || strstr(client->in, "\r\n\r\n") || strstr(client->in, "\n\n") || is_full)
+        if (got == 0 || strstr(client->in, "\r\n\r\n") || strstr(client->in, "\n\n"))
             metrics_answer(daemon, client);
+        else if (is_full)
+            keep_end(client);
     } else if (got == 0 || strchr(client->in, '\n')) {
         answer(daemon, client);
     }

@@ -21,7 +21,8 @@ enum {
     QUEUE = 1 << 20,    /* bytes that wait for a neighbour at most */
     CANDIDATES = 4,     /* connections of a neighbour that have yet to prove themselves */
     TRACES = 64,        /* traces on their way at a time */
-    CLIENTS = 32,       /* that ask at the control socket, or for metrics, at a time */
+    CLIENTS = 40,       /* that ask at the control socket, or for metrics, at a time */
+    METRICS_CLIENTS = 8, /* of these, those for metrics */
     CLIENT_MS = 10000,  /* without progress, after which a client is left */
     ACCEPT_MS = 200,    /* without new connections, after there was no descriptor for one */
     MONITOR_BYTES = 1 << 20, /* that wait for a client that follows changes */
