@@ -5,6 +5,7 @@
 #include <stdio.h>
 #include <stdlib.h>
 #include <string.h>
+#include <sys/stat.h>
 #include <time.h>
 #include <unistd.h>
 
@@ -40,13 +41,25 @@ int log_level(const char *name)
     return -1;
 }
 
+/* Whether standard error is the journal's. The variable alone does not tell: whoever a service starts has it too. */
+static bool is_journal(void)
+{
+    const char *stream = getenv("JOURNAL_STREAM");
+    struct stat info;
+    char own[64];
+    if (!stream || fstat(STDERR_FILENO, &info))
+        return false;
+    snprintf(own, sizeof own, "%ju:%ju", (uintmax_t)info.st_dev, (uintmax_t)info.st_ino);
+    return strcmp(own, stream) == 0;
+}
+
 /* What stands before a line: the journal has the time by itself, and takes the level as <N>. */
 static int head(char *line, size_t size, int level)
 {
     struct timespec now;
     struct tm parts;
     char stamp[32];
-    if (getenv("JOURNAL_STREAM"))
+    if (is_journal())
         return snprintf(line, size, "<%d>", level);
     clock_gettime(CLOCK_REALTIME, &now);
     gmtime_r(&now.tv_sec, &parts);
