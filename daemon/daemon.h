@@ -213,7 +213,8 @@ void traces_tick(struct daemon *daemon, int64_t now);
 /* ---- kernel.c */
 
 bool kernel_open(struct daemon *daemon);
-void kernel_close(struct daemon *daemon);
+/* Takes away what is the daemon's: whether nothing of it is left. */
+bool kernel_close(struct daemon *daemon);
 /* What is wrong, if anything. The neighbour's interface may come later where it is this: */
 extern const char *const kernel_no_interface;
 const char *kernel_find_interface(struct daemon *daemon, struct peer *peer);

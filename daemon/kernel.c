@@ -509,10 +509,10 @@ bool kernel_open(struct daemon *daemon)
 }
 
 /* Nothing is forwarded any more, so the order matters here too: filters, the ends of sessions, routes, filters. */
-void kernel_close(struct daemon *daemon)
+bool kernel_close(struct daemon *daemon)
 {
     if (!daemon->kernel.installs)
-        return;
+        return true;
     for (struct peer *peer = daemon->peers; peer < peers_end(daemon); peer++) {
         if (peer->used && peer->index)
             kernel_filter(daemon, peer, true);
@@ -520,7 +520,8 @@ void kernel_close(struct daemon *daemon)
             close(peer->fd);
         peer->fd = -1;
     }
-    if (!sweep(daemon, true, true) || !sweep(daemon, false, true))
+    bool gone = sweep(daemon, true, true) && sweep(daemon, false, true);
+    if (!gone)
         say(LOG_ERR, "routes or rules of protocol %u are left in the kernel", (unsigned)daemon->config.protocol);
     close(daemon->kernel.requests);
     close(daemon->kernel.links);
@@ -528,6 +529,7 @@ void kernel_close(struct daemon *daemon)
     close(daemon->kernel.device);
     close(daemon->kernel.lock);
     daemon->kernel.installs = false;
+    return gone;
 }
 
 /* ---- what was lost */

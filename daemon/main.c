@@ -196,12 +196,13 @@ static bool begin(struct daemon *daemon)
     return true;
 }
 
-static void end(struct daemon *daemon)
+static bool end(struct daemon *daemon)
 {
-    kernel_close(daemon);
+    bool clean = kernel_close(daemon);
     control_close(daemon);
     router_close(daemon);
     say(LOG_NOTICE, "stopped");
+    return clean;
 }
 
 static int run(struct daemon *daemon)
@@ -215,8 +216,7 @@ static int run(struct daemon *daemon)
         daemon->kernel.installs ? ", routes in the kernel" : "");
     while (!stopping)
         turn(daemon, &mask);
-    end(daemon);
-    return 0;
+    return end(daemon) ? 0 : 1;
 }
 
 static const char USAGE[] = "usage: dualnetd CONFIG [--install] [--check]\n"
