@@ -120,8 +120,8 @@ static void change_attachments(struct daemon *daemon, const struct config *new)
     uint32_t status = TUHVONDI_DONE;
     for (size_t i = 0; i < daemon->config.attachment_count; i++) {
         const struct tuhvondi_attachment *old = &daemon->config.attachments[i];
-        if (!attachment_of(new, old))
-            router_detach(daemon, old->addr, old->len);
+        if (!attachment_of(new, old) && router_detach(daemon, old->addr, old->len) == TUHVONDI_NO_MEMORY)
+            status = TUHVONDI_NO_MEMORY;
     }
     for (size_t i = 0; i < new->attachment_count && status == TUHVONDI_DONE; i++) {
         const struct tuhvondi_attachment *old = attachment_of(&daemon->config, &new->attachments[i]);
@@ -129,7 +129,7 @@ static void change_attachments(struct daemon *daemon, const struct config *new)
             status = router_attach(daemon, &new->attachments[i]);
     }
     if (status != TUHVONDI_DONE)
-        say(LOG_ERR, "reload: a prefix is not attached: %s", tuhvondi_status_text(status));
+        say(LOG_ERR, "reload: a prefix is not attached, or still is: %s", tuhvondi_status_text(status));
 }
 
 void reload(struct daemon *daemon)

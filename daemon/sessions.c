@@ -199,7 +199,7 @@ static void begin_session(struct daemon *daemon, struct peer *peer, uint16_t the
     uint32_t status = router_link_up(daemon, peer);
     if (status != TUHVONDI_DONE) {
         say(LOG_ERR, "%s: no session %u: %s", peer->name, peer->last, tuhvondi_status_text(status));
-        peer_hang_up(daemon, peer, BY_FAULT, "no session begins");
+        peer_hang_up(daemon, peer, status == TUHVONDI_NO_MEMORY ? BY_LINK : BY_FAULT, "no session begins");
         return;
     }
     peer->state = PEER_UP;
