@@ -357,7 +357,7 @@ static void remove_left_over(struct left_over *left, size_t size)
 static bool is_noted(struct daemon *daemon, const struct kernel_route *route)
 {
     struct noted *noted = prefixes_find(&daemon->prefixes, route->addr, route->len);
-    if (!noted || route->table != daemon->config.table)
+    if (!noted || route->table != daemon->config.table || route->tos)
         return false;
     if (route->type == RTN_UNREACHABLE && route->metric == WORST_METRIC) {
         noted->behind = noted->found_behind = true;
@@ -592,7 +592,9 @@ bool kernel_check(struct daemon *daemon)
     if (!kernel->installs)
         return true;
     if (!sweep(daemon, true, false) || !sweep(daemon, false, false)) {
-        complain_of(daemon, "what the kernel has cannot be read", EAGAIN);
+        if (may_complain(daemon))
+            say(LOG_ERR, "routes or rules of protocol %u cannot be read, or not be taken away",
+                (unsigned)daemon->config.protocol);
         return false;
     }
     bool done = put_all_right(daemon);

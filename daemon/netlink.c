@@ -29,7 +29,7 @@ static struct nlmsghdr *begin(void *room, uint16_t type, uint16_t flags, const v
 size_t netlink_route(void *room, const struct kernel_route *route, bool stays, uint16_t flags)
 {
     uint32_t to = htonl(route->addr);
-    struct rtmsg body = {.rtm_family = AF_INET, .rtm_dst_len = route->len,
+    struct rtmsg body = {.rtm_family = AF_INET, .rtm_dst_len = route->len, .rtm_tos = route->tos,
                          .rtm_table = (uint8_t)(route->table < 256 ? route->table : RT_TABLE_UNSPEC),
                          .rtm_protocol = route->protocol,
                          .rtm_scope = stays ? RT_SCOPE_UNIVERSE : RT_SCOPE_NOWHERE, .rtm_type = route->type};
@@ -152,7 +152,7 @@ bool netlink_read_route(const struct nlmsghdr *message, struct kernel_route *rou
     if (!is_route || !read_body(message, &body, sizeof body) || body.rtm_family != AF_INET || body.rtm_dst_len > 32)
         return false;
     *route = (struct kernel_route){.len = body.rtm_dst_len, .type = body.rtm_type, .protocol = body.rtm_protocol,
-                                   .table = body.rtm_table};
+                                   .tos = body.rtm_tos, .table = body.rtm_table};
     each_attribute(message, sizeof body, route, take_of_route);
     return true;
 }

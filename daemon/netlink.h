@@ -17,10 +17,10 @@ enum {
 /* The metric of the route behind each row: no other is worse. */
 #define WORST_METRIC UINT32_MAX
 
-/* A route of IPv4. By no neighbour (index 0) it is unreachable. */
+/* A route of IPv4. By no neighbour (index 0) it is unreachable. Ours have no type of service (tos). */
 struct kernel_route {
     uint32_t addr, table, metric;
-    uint8_t len, type, protocol;
+    uint8_t len, type, protocol, tos;
     struct in_addr by;
     unsigned index;
 };
