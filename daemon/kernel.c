@@ -468,6 +468,20 @@ static bool filter_all(struct daemon *daemon)
     return done;
 }
 
+/* Without the right to change routes the daemon would wait for its first route for ever. A rule is taken away that
+ * nobody has, since no interface has a slash in its name. */
+static bool may_change(struct daemon *daemon)
+{
+    struct batch batch = {0};
+    struct kernel_rule none = {.preference = RULE_PREFERENCE, .protocol = (uint8_t)daemon->config.protocol,
+                               .interface = "/"};
+    batch_add(&batch, netlink_rule(batch_room(&batch), &none, false, 0), NULL);
+    ask(daemon, &batch);
+    if (batch.errors[0] == EPERM)
+        say(LOG_ERR, "install: to change the kernel's routes needs CAP_NET_ADMIN");
+    return batch.errors[0] != EPERM;
+}
+
 static void warn_of_forwarding(void)
 {
     FILE *file = fopen("/proc/sys/net/ipv4/ip_forward", "re");
@@ -494,6 +508,8 @@ bool kernel_open(struct daemon *daemon)
         say(LOG_ERR, "install: another dualnetd here has routes of protocol %u", (unsigned)daemon->config.protocol);
         return false;
     }
+    if (!may_change(daemon))
+        return false;
     kernel->installs = true;
     warn_of_forwarding();
     bool filtered = filter_all(daemon), swept = sweep(daemon, true, true);

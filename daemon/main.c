@@ -209,8 +209,14 @@ static int run(struct daemon *daemon)
 {
     sigset_t mask;
     take_signals(&mask);
-    if (!begin(daemon))
+    if (!begin(daemon)) {
+        /* Who starts it by hand sees no line of syslog. */
+        if (daemon->config.to_syslog) {
+            log_to(false, LOG_ERR);
+            say(LOG_ERR, "it cannot begin: syslog has the reason");
+        }
         return 1;
+    }
     say(LOG_INFO, "dualnetd %s begins: %zu neighbours, %zu prefixes%s", DUALNETD_VERSION,
         daemon->config.neighbour_count, daemon->config.attachment_count,
         daemon->kernel.installs ? ", routes in the kernel" : "");
