@@ -19,6 +19,10 @@ mod queues;
 #[cfg(test)]
 mod refusals;
 #[cfg(test)]
+mod refusing;
+#[cfg(test)]
+mod rooms;
+#[cfg(test)]
 mod scripts;
 #[cfg(test)]
 mod tickets;

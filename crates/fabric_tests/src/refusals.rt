@@ -1,56 +1,34 @@
-//! A publication, a queue and a worker's replies that are refused where a heap has too little left, be it
-//! 0, 16, 32 or more bytes, and done again once there is room.
+//! A publication and a queue of which one allocation after another is refused, and which are done again
+//! then; and a worker whose replies are refused so, beside another.
 
 ghost use Rattle.std.specs.Prelude.{◌≡◌, ◌∷◌, [], length};
 ghost use Rattle.publication.specs.Lists.{opening_of};
 
 use crate::networks::ten;
 use crate::publications::{found, set, via};
-use crate::workers::{port_of, put, work_five};
-use linked_list_allocator::LocalHeap;
+use crate::refusing::{Refused, Refusing};
+use crate::workers::{port_of, put};
+use forwarder::{ForwardPort, JobGate, Reply, work};
 use network_model::Refusal;
-use packet_queue::PacketQueue;
+use packet_queue::{PacketQueue, Taker};
 use publication::{
     Entry, FabricName, ImageReader, ImageWriter, NoMemory, Patch, Prefix, Told, Unnamed, open,
 };
-use std::alloc::Global;
+use std::alloc::{Allocator, Global};
 use std::marker::Brand;
 use std::process::Abort;
 use std::sync::Wait;
+use std::sync::atomic::{AtomicBool, AtomicU64, Ordering};
+use std::thread;
+use std::thread::Threads;
+use std::time::{Clock, Duration};
 use tree_bitmap::Image;
 use tree_bitmap::parts::empty;
 
-// More than each of the calls takes.
-const HEAP: usize = 65_536;
+// More allocations than a call makes.
+const MOST: u64 = 4096;
 
-// The greatest piece by which a heap is filled.
-const LARGEST: usize = 16 << 20;
-
-// Takes all of the heap but so many bytes, hole by hole, until it is dropped.
-pub fn ballast<'h>(
-    rt: &impl Abort,
-    alloc: Global,
-    heap: &'h LocalHeap,
-    left: usize,
-) -> Vec<Vec<u8, &'h LocalHeap>> {
-    let mut weights = Vec::new(alloc);
-    for halvings in 0..21u8 {
-        let size = LARGEST >> halvings;
-        for _ in 0..4096u16 {
-            if heap.free() < left.saturating_add(size) {
-                break;
-            }
-            let Ok(weight) = Vec::with_capacity(heap, size) else {
-                break;
-            };
-            let pushed = weights.push(weight);
-            assert!(rt; pushed.is_ok());
-        }
-    }
-    weights
-}
-
-// A call that is tried with so many bytes left.
+// A call of which an allocation is refused.
 #[derive(Clone, Copy)]
 enum Call {
     Publish,
@@ -58,58 +36,87 @@ enum Call {
     Work,
 }
 
-// Whether the call is refused with so many bytes left.
-fn is_refused<R: Wait + Abort>(rt: &R, alloc: Global, call: Call, left: usize) -> bool {
-    let heap = LocalHeap::new(alloc, HEAP).expect(rt, "memory");
+// Whether the call meets a refusal of these.
+fn is_refused<R>(rt: &R, alloc: Global, call: Call, refused: Refused) -> bool
+where
+    R: Threads + Wait + Clock + Abort + Sync,
+{
     match call {
-        Call::MakeQueue => is_queue_refused::<Brand>(rt, alloc, &heap, left),
-        _ => is_refused_to_one_router(rt, alloc, &heap, call, left),
+        Call::MakeQueue => is_queue_refused::<Brand>(rt, alloc, refused),
+        _ => is_refused_to_one_router(rt, alloc, call, refused),
     }
 }
 
-// It is refused with no, one, two and more units of memory left, and from some room on never more.
-fn is_refused_until_there_is_room<R: Wait + Abort>(rt: &R, alloc: Global, call: Call, unit: u8) {
-    let mut refused = 0;
-    for units in 0..1024usize {
-        if is_refused(rt, alloc, call, units * usize::from(unit)) {
-            assert_eq!(rt; refused, units);
-            refused = units + 1;
+// Each of its allocations is refused, alone and with all behind it.
+fn is_refused_at_each<R>(rt: &R, alloc: Global, call: Call)
+where
+    R: Threads + Wait + Clock + Abort + Sync,
+{
+    let mut last = 0;
+    for nth in 1..MOST {
+        let one = is_refused(rt, alloc, call, Refused::One(nth));
+        let all = is_refused(rt, alloc, call, Refused::From(nth));
+        if !one && !all {
+            break;
         }
+        last = nth;
     }
-    assert!(rt; refused > 0 && refused < 1024);
+    assert!(rt; last > 0 && last < MOST - 1);
 }
 
-fn is_refused_to_one_router<'h, R: Wait + Abort>(
-    rt: &R,
-    alloc: Global,
-    heap: &'h LocalHeap,
-    call: Call,
-    left: usize,
-) -> bool {
-    let image = empty(heap).expect(rt, "room");
-    with_reader::<Brand, R>(rt, alloc, heap, Unnamed::new(), image, call, left)
+fn is_refused_to_one_router<R>(rt: &R, alloc: Global, call: Call, refused: Refused) -> bool
+where
+    R: Threads + Wait + Clock + Abort + Sync,
+{
+    let memory = Refusing::new(alloc);
+    let gate = Beside::new(rt);
+    let image = empty(&memory).expect(rt, "memory");
+    with_readers::<Brand, R>(
+        rt,
+        alloc,
+        &memory,
+        &gate,
+        Unnamed::new(),
+        image,
+        call,
+        refused,
+    )
 }
 
-fn with_reader<'h, B: FabricName, R: Wait + Abort>(
-    rt: &R,
+fn with_readers<'h, B, R>(
+    rt: &'h R,
     alloc: Global,
-    heap: &'h LocalHeap,
+    memory: &'h Refusing<Global>,
+    gate: &'h Beside<'h, R>,
     unnamed: Unnamed,
-    image: Image<&'h LocalHeap>,
+    image: Image<&'h Refusing<Global>>,
     call: Call,
-    left: usize,
+    refused: Refused,
 ) -> bool
+where
+    B: FabricName + Send + Sync,
+    R: Threads + Wait + Clock + Abort + Sync,
     requires books { B.books ≡ unnamed ∷ [] }
     requires generation { image.generation ≡ 0 }
     requires rows { image.rows ≡ opening_of B.openings 0 }
 {
-    let Ok((mut writer, mut readers)) = open::<B, _, R>(rt, heap, unnamed, 0, image, 1) else {
+    let Ok((mut writer, mut readers)) = open::<B, _, R>(rt, memory, unnamed, 0, image, 2) else {
         panic!(rt; "open");
     };
-    let mut reader = readers.pop().expect(rt, "reader");
+    let mut first = readers.pop().expect(rt, "reader");
+    let second = readers.pop().expect(rt, "reader");
     let end = match call {
-        Call::Work => are_replies_refused(rt, alloc, heap, &writer, reader, left),
-        _ => is_publication_refused(rt, alloc, heap, &mut writer, &mut reader, left),
+        Call::Work => are_replies_refused(
+            rt,
+            alloc,
+            memory,
+            gate,
+            &writer.tell(),
+            first,
+            second,
+            refused,
+        ),
+        _ => is_publication_refused(rt, memory, &mut writer, &mut first, refused),
     };
     writer.close(rt);
     end
@@ -118,7 +125,7 @@ fn with_reader<'h, B: FabricName, R: Wait + Abort>(
 // A reader that learns this answers two addresses by these rows.
 fn answers<'h, B: FabricName>(
     rt: &impl Abort,
-    reader: &mut ImageReader<B, &'h LocalHeap>,
+    reader: &mut ImageReader<B, &'h Refusing<Global>>,
     told: &Told<B>,
     generation: u64,
     rows: &[(Prefix, Entry); 2],
@@ -132,30 +139,29 @@ fn answers<'h, B: FabricName>(
     assert_eq!(rt; reader.lookup(0x0A01_0001), found(generation, two, second));
 }
 
-// Publishes a row of 10.0.0.0/8, then with so little left another, and one of 10.1.0.0/16. Where that is
+// Publishes a row of 10.0.0.0/8, then with a refusal another, and one of 10.1.0.0/16. Where that is
 // refused, a reader that learns meanwhile sees the first publication, until the third, of the same
 // prefixes.
 fn is_publication_refused<'h, B: FabricName, R: Wait + Abort>(
     rt: &R,
-    alloc: Global,
-    heap: &'h LocalHeap,
-    writer: &mut ImageWriter<B, &'h LocalHeap>,
-    reader: &mut ImageReader<B, &'h LocalHeap>,
-    left: usize,
+    memory: &'h Refusing<Global>,
+    writer: &mut ImageWriter<B, &'h Refusing<Global>>,
+    reader: &mut ImageReader<B, &'h Refusing<Global>>,
+    refused: Refused,
 ) -> bool
     requires empty { writer.old.waiting ≡ [] }
     requires router { reader.old.router ≡ writer.old.published.router }
 {
     let (wide, narrow) = (ten(), Prefix::covering(0x0A01_0000, 16));
-    let told = set(rt, heap, writer, &[(wide, via(0))]).expect(rt, "room");
+    let told = set(rt, memory, writer, &[(wide, via(0))]).expect(rt, "memory");
     reader.learn(&told);
     let last = [(wide, Entry::Unreachable), (narrow, via(2))];
-    let rows = Vec::from_slice(heap, &last).expect(rt, "room");
-    let weight = ballast(rt, alloc, heap, left);
-    let second = set(rt, heap, writer, &[(wide, via(1)), (narrow, via(1))]);
-    drop(weight);
+    let rows = Vec::from_slice(memory, &last).expect(rt, "memory");
+    memory.refuse(refused);
+    let second = set(rt, memory, writer, &[(wide, via(1)), (narrow, via(1))]);
+    let was_met = memory.was_met(rt, second.is_err());
     let Err(NoMemory) = second else {
-        return false;
+        return was_met;
     };
     assert_eq!(rt; writer.generation(), 1);
     answers(
@@ -168,79 +174,189 @@ fn is_publication_refused<'h, B: FabricName, R: Wait + Abort>(
     let generation = 2;
     let told = writer
         .publish(rt, Patch { generation, rows })
-        .expect(rt, "room");
+        .expect(rt, "memory");
     assert_eq!(rt; writer.generation(), 2);
     answers(rt, reader, &told, 2, &last);
     true
 }
 
-// A worker takes five jobs from a queue with so little left for its replies: it takes all of them, also
-// where it tells that they are refused.
-fn are_replies_refused<'h, B: FabricName, R: Wait + Abort>(
-    rt: &R,
-    alloc: Global,
-    heap: &'h LocalHeap,
-    writer: &ImageWriter<B, &'h LocalHeap>,
-    reader: ImageReader<B, &'h LocalHeap>,
-    left: usize,
-) -> bool
-    requires one { length B.books ≡ 1 }
-    requires first { reader.router ≡ 0 }
-{
-    let port = port_of(rt, heap, reader);
-    let made = PacketQueue::new::<B, &'h LocalHeap>(heap, 1);
-    let (mut injector, mut takers) = made.expect(rt, "room");
-    put(rt, &mut injector, &writer.tell(), 5);
-    drop(injector);
-    let taker = takers.pop().expect(rt, "taker");
-    let weight = ballast(rt, alloc, heap, left);
-    let replies = work_five(rt, heap, port, taker);
-    drop(weight);
-    match replies {
-        Ok(replies) => {
-            assert_eq!(rt; replies.len(), 5);
-            false
-        }
-        Err(refusal) => {
-            assert_eq!(rt; refusal, Refusal::NoMemory);
-            true
+// Two workers beside each other: the one that takes the first job waits until the other has answered five,
+// 1000 polls at most.
+struct Beside<'a, R> {
+    rt: &'a R,
+    taken: AtomicU64,
+    answered: AtomicU64,
+    late: AtomicBool,
+}
+
+impl<'a, R> Beside<'a, R> {
+    fn new(rt: &'a R) -> Beside<'a, R> {
+        Beside {
+            rt,
+            taken: AtomicU64::new(0),
+            answered: AtomicU64::new(0),
+            late: AtomicBool::new(false),
         }
     }
 }
 
-// A queue for two workers, of which nothing is taken where it is refused.
-fn is_queue_refused<'h, B: FabricName>(
-    rt: &impl Abort,
-    alloc: Global,
-    heap: &'h LocalHeap,
-    left: usize,
-) -> bool {
-    let weight = ballast(rt, alloc, heap, left);
-    let first = PacketQueue::new::<B, &'h LocalHeap>(heap, 2);
-    drop(weight);
-    let is_refused = first.is_err();
-    let (_injector, takers) = match first {
-        Ok(made) => made,
-        Err(_) => {
-            assert_eq!(rt; heap.used(), 0);
-            PacketQueue::new::<B, &'h LocalHeap>(heap, 2).expect(rt, "room")
+impl<R> Drop for Beside<'_, R> {
+    fn drop(self) {
+        let Self {
+            rt: _,
+            taken: _,
+            answered: _,
+            late: _,
+        } = self;
+    }
+}
+
+impl<R: Clock> JobGate for Beside<'_, R> {
+    fn before(&self, _job: u64) {
+        if self.taken.fetch_add(1, Ordering::SeqCst) > 0 {
+            return;
         }
-    };
+        for _ in 0..1_000u32 {
+            if self.answered.load(Ordering::SeqCst) >= 5 {
+                return;
+            }
+            thread::sleep(self.rt, Duration::from_millis(1));
+        }
+        self.late.store(true, Ordering::SeqCst);
+    }
+
+    fn after(&self, _job: u64) {
+        self.answered.fetch_add(1, Ordering::SeqCst);
+    }
+}
+
+// How many replies there are.
+fn count_of<B: FabricName, A: Allocator>(
+    replies: Result<Vec<Reply<B>, A>, Refusal>,
+) -> Result<usize, Refusal> {
+    Ok(replies?.len())
+}
+
+// What a worker has, and how many replies it had at its end.
+#[derive(Drop)]
+struct Seat<'h, B: FabricName> {
+    has: Option<
+        (
+            ForwardPort<B, &'h Refusing<Global>>,
+            Taker<B, &'h Refusing<Global>>,
+        ),
+    >,
+    end: Result<usize, Refusal>,
+}
+
+// The worker of a seat goes on to its stop message.
+fn sit<'h, B, R>(
+    rt: &'h R,
+    memory: &'h Refusing<Global>,
+    gate: &'h Beside<'h, R>,
+    seat: &mut Seat<'h, B>,
+)
+where
+    B: FabricName,
+    R: Wait + Clock,
+{
+    if let Some((port, taker)) = seat.has.take() {
+        seat.end = count_of(work(rt, memory, port, taker, gate).replies);
+    }
+}
+
+// How many replies two workers have, of which one answers a job and the other five.
+fn work_beside<'h, B, R>(
+    rt: &'h R,
+    memory: &'h Refusing<Global>,
+    gate: &'h Beside<'h, R>,
+    seats: &mut Vec<Seat<'h, B>>,
+)
+where
+    B: FabricName + Send + Sync,
+    R: Threads + Wait + Clock + Abort + Sync,
+{
+    thread::for_each_mut(
+        rt,
+        seats.as_mut_slice(),
+        2,
+        &|_place, seat| { sit(rt, memory, gate, seat) },
+    );
+    assert!(rt; !gate.late.load(Ordering::SeqCst));
+    assert_eq!(rt; gate.answered.load(Ordering::SeqCst), 6);
+}
+
+// Whether one of two workers has its list of replies refused. Both go on to their stop messages, behind
+// which there is one more job. Where one allocation alone is refused, the other has its replies.
+fn are_replies_refused<'h, B, R>(
+    rt: &'h R,
+    alloc: Global,
+    memory: &'h Refusing<Global>,
+    gate: &'h Beside<'h, R>,
+    told: &Told<B>,
+    first: ImageReader<B, &'h Refusing<Global>>,
+    second: ImageReader<B, &'h Refusing<Global>>,
+    refused: Refused,
+) -> bool
+where
+    B: FabricName + Send + Sync,
+    R: Threads + Wait + Clock + Abort + Sync,
+    requires one { length B.books ≡ 1 }
+    requires first { first.router ≡ 0 }
+    requires second { second.router ≡ 0 }
+{
+    let (first, second) = (port_of(rt, memory, first), port_of(rt, memory, second));
+    let (mut injector, mut takers) = PacketQueue::new::<B, _>(memory, 2).expect(rt, "memory");
+    put(rt, &mut injector, told, 6);
+    assert!(rt; injector.stop(rt));
+    put(rt, &mut injector, told, 1);
+    drop(injector);
+    let mut seats = Vec::new(alloc);
+    for port in [first, second] {
+        let taker = takers.pop().expect(rt, "taker");
+        let seat = Seat {
+            has: Some((port, taker)),
+            end: Ok(0),
+        };
+        assert!(rt; seats.push(seat).is_ok());
+    }
+    memory.refuse(refused);
+    work_beside(rt, memory, gate, &mut seats);
+    let other = seats.pop().expect(rt, "seat").end;
+    let one = seats.pop().expect(rt, "seat").end;
+    let was_met = memory.was_met(rt, one.is_err() || other.is_err());
+    for end in [one, other] {
+        assert!(rt; end == Ok(1) || end == Ok(5) || end == Err(Refusal::NoMemory));
+    }
+    assert!(rt; one != other || one.is_err());
+    if let Refused::One(_) = refused {
+        assert!(rt; one.is_ok() || other.is_ok());
+    }
+    was_met
+}
+
+// Whether a queue for two workers meets a refusal of these.
+fn is_queue_refused<B: FabricName>(rt: &impl Abort, alloc: Global, refused: Refused) -> bool {
+    let memory = Refusing::new(alloc);
+    memory.refuse(refused);
+    let has_failed = PacketQueue::new::<B, _>(&memory, 2).is_err();
+    let was_met = memory.was_met(rt, has_failed);
+    let (_injector, takers) = PacketQueue::new::<B, _>(&memory, 2).expect(rt, "memory");
     assert_eq!(rt; takers.len(), 2);
-    is_refused
+    was_met
 }
 
 #[test]
-fn a_refused_publication_is_done_again(rt: HostRuntime) {
-    is_refused_until_there_is_room(&rt, rt.alloc(), Call::Publish, 16);
+fn a_publication_is_refused_at_each_allocation(rt: HostRuntime) {
+    is_refused_at_each(&rt, rt.alloc(), Call::Publish);
 }
 
 #[test]
-fn a_queue_needs_room_for_its_places(rt: HostRuntime) {
-    is_refused_until_there_is_room(&rt, rt.alloc(), Call::MakeQueue, 32);
+fn a_queue_is_refused_at_each_allocation(rt: HostRuntime) {
+    is_refused_at_each(&rt, rt.alloc(), Call::MakeQueue);
 }
 
 #[test]
-fn a_worker_without_room_takes_all_jobs(rt: HostRuntime) {
-    is_refused_until_there_is_room(&rt, rt.alloc(), Call::Work, 16);
+fn a_worker_without_memory_goes_on_to_its_stop(rt: HostRuntime) {
+    is_refused_at_each(&rt, rt.alloc(), Call::Work);
 }

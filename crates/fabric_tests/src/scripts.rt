@@ -1,278 +1,334 @@
-//! Scripts of steps over a heap that has 0, 16, 32 and more bytes left at each of them: a step is refused
-//! until there is room, a refused step changes nothing that can be read, and the end is that of the run
-//! which is never refused.
+//! Scripts of steps. Of each step the first, second, third .. allocation is refused, alone or with all behind
+//! it, until an attempt meets no refusal. A refused attempt changes nothing that can be read, and the end is
+//! that of the run which is never refused.
 
-ghost use Rattle.std.specs.Prelude.{◌≡◌, vec_len};
+ghost use Rattle.std.specs.Prelude.{◌≡◌, vec_len, false};
 ghost use Rattle.fabric.specs.Writers.{opening_tables};
 
 use crate::networks::{link, ten, two_routers};
-use crate::refusals::ballast;
-use fabric::{
-    Answer, Entry, Fabric, FabricName, MOST_STEPS, Network, Prefix, Refusal, Step, Unnamed, World,
-};
-use linked_list_allocator::LocalHeap;
-use network_model::{Cost, Distance, End, SmallAllocator};
+use crate::refusing::{Refused, Refusing};
+use crate::tickets::give_back;
+use fabric::{Entry, Fabric, FabricName, Network, Prefix, Refusal, Step, Ticket, Unnamed};
+use network_model::{Cost, Distance, SmallAllocator};
 use router_core::Router;
 use std::alloc::Global;
+use std::fmt;
+use std::fmt::Write;
 use std::marker::Brand;
-use std::mem::size_of;
 use std::process::Abort;
 use std::sync::Wait;
 
-// More than a journal and all else takes.
-const HEAP: usize = 64 << 20;
-
-// What a journal takes.
-const JOURNAL: usize = MOST_STEPS * size_of::<Step>();
+// More allocations than a call makes.
+const MOST: u64 = 4096;
 
 // An address of 10.0.0.0/8.
 const ADDR: u32 = 0x0A00_0001;
 
-// What is done: a step, or steps until nothing is left to do.
+// What is done: a step; steps until nothing is left to do; or a publication by a ticket, with a step while
+// the writer is out.
 #[derive(Clone, Copy)]
 enum Act {
     Do(Step),
     Settle,
+    Lend(u16, Step),
 }
 
-// What a router shows of a prefix: RD, FD, the successor and whether it is passive, where it has a machine,
-// and the rows chosen and published.
-#[derive(Clone, Copy, PartialEq)]
-struct Row {
-    machine: Option<(Distance, Distance, Option<u8>, bool)>,
-    chosen: Option<Entry>,
-    published: Option<Entry>,
+// A router that is passive for a prefix, with its RD and FD, and the port and session of the row that it
+// published; none where that is unreachable.
+type End = (u16, Prefix, u32, u32, Option<(u8, u16)>);
+
+// The networks: two routers; three in a triangle, of which one link has this cost; three in a line.
+#[derive(Clone, Copy)]
+enum Shape {
+    Two,
+    Triangle(u32),
+    Line,
 }
 
-#[derive(Clone, Copy, PartialEq)]
-struct RouterLine {
-    generation: u64,
-    held: usize,
-    ripe: usize,
-    ten: Row,
-    any: Row,
-    answer: Result<Answer, Refusal>,
+// A script, and some of what the network shows at its end.
+#[derive(Clone, Copy)]
+struct Case<'a> {
+    shape: Shape,
+    script: &'a [Act],
+    ends: &'a [End],
 }
 
-#[derive(Clone, Copy, PartialEq)]
-struct LinkLine {
-    session: u16,
-    is_up: bool,
-    queued: (usize, usize),
+// Which allocation of a call is refused first, and whether all behind it are.
+#[derive(Clone, Copy)]
+struct Sweep {
+    first: u64,
+    all: bool,
 }
 
-// What a network shows.
-#[derive(Drop)]
-struct Report {
-    routers: Vec<RouterLine>,
-    links: Vec<LinkLine>,
-    steps: usize,
-}
-
-impl Report {
-    fn is(&self, other: &Report) -> bool {
-        self.routers.as_slice() == other.routers.as_slice()
-            && self.links.as_slice() == other.links.as_slice()
-            && self.steps == other.steps
-    }
-}
-
-fn row_of<A: SmallAllocator>(router: &Router<A>, prefix: Prefix) -> Row {
-    let machine = match router.machine(prefix) {
-        Some(found) => Some((
-            found.rd(),
-            found.fd(),
-            found.successor(),
-            found.is_passive(),
-        )),
-        None => None,
-    };
-    Row {
-        machine,
-        chosen: router.table().get(prefix),
-        published: router.table().published(prefix),
-    }
-}
-
-fn link_lines<A: SmallAllocator>(
-    rt: &impl Abort,
-    alloc: Global,
-    world: &World<A>,
-) -> Vec<LinkLine> {
-    let links = world.links();
-    let mut lines = Vec::new(alloc);
-    for number in 0..1024u16 {
-        if usize::from(number) < links.len() {
-            let line = LinkLine {
-                session: links.session(number),
-                is_up: links.is_up(number),
-                queued: (links.queued(number, End::A), links.queued(number, End::B)),
-            };
-            lines.push(line).expect(rt, "memory");
+impl Sweep {
+    fn refused(self, nth: u64) -> Refused {
+        if self.all {
+            Refused::From(nth)
+        } else {
+            Refused::One(nth)
         }
     }
-    lines
 }
 
-fn report_of<B: FabricName, A: SmallAllocator>(
+// What is shown of a router.
+fn tell_router<A: SmallAllocator + fmt::Debug>(
+    out: &mut String,
+    router: &Router<A>,
+    notices: usize,
+) -> fmt::Result {
+    let (generation, held, ripe) = (router.generation(), router.held(), router.ripe());
+    let front = router.front();
+    writeln!(out, "{generation} {held} {ripe} {front:?} {notices}")?;
+    for number in 0..3u8 {
+        writeln!(out, "{:?}", router.port(number))?;
+    }
+    for (prefix, chosen) in router.table().rows() {
+        let (published, machine) = (router.table().published(prefix), router.machine(prefix));
+        writeln!(out, "{prefix:?} {chosen:?} {published:?} {machine:?}")?;
+    }
+    Ok(())
+}
+
+// What is shown of each router, link and step, and what the images answer.
+fn tell<B: FabricName, A: SmallAllocator + fmt::Debug>(
+    out: &mut String,
+    fabric: &mut Fabric<B, A>,
+) -> fmt::Result {
+    writeln!(out, "{:?}\n{:?}", fabric.journal(), fabric.world().links())?;
+    for number in 0..3u16 {
+        writeln!(out, "{number} {:?}", fabric.lookup(number, ADDR))?;
+        let world = fabric.world();
+        if usize::from(number) < world.routers().len() {
+            tell_router(out, world.router(number), world.notices(number))?;
+        }
+    }
+    Ok(())
+}
+
+// All that a network of at most three routers shows, line by line.
+fn report_of<B: FabricName, A: SmallAllocator + fmt::Debug>(
     rt: &impl Abort,
     alloc: Global,
     fabric: &mut Fabric<B, A>,
-) -> Report {
-    let any = Prefix::covering(0, 0);
-    let mut routers = Vec::new(alloc);
-    for number in 0..256u16 {
-        let answer = fabric.lookup(number, ADDR);
-        if let Some(router) = fabric.world().routers().get(usize::from(number)) {
-            let line = RouterLine {
-                generation: router.generation(),
-                held: router.held(),
-                ripe: router.ripe(),
-                ten: row_of(router, ten()),
-                any: row_of(router, any),
-                answer,
-            };
-            routers.push(line).expect(rt, "memory");
-        }
-    }
-    Report {
-        routers,
-        links: link_lines(rt, alloc, fabric.world()),
-        steps: fabric.journal().len(),
-    }
+) -> String {
+    let mut report = String::new(alloc);
+    tell(&mut report, fabric).expect(rt, "memory");
+    report
 }
 
-// Does a step, first with no room, then with ever more, until it is not refused.
-fn step_by_room<'h, B: FabricName, H: Wait + Abort>(
+// Does a step, of which one allocation after another is refused before.
+fn step<B: FabricName, H: Wait + Abort>(
     rt: &H,
     alloc: Global,
-    heap: &'h LocalHeap,
-    fabric: &mut Fabric<B, &'h LocalHeap>,
-    step: &Step,
+    memory: &Refusing<Global>,
+    fabric: &mut Fabric<B, &Refusing<Global>>,
+    next: &Step,
+    sweep: Sweep,
 ) {
     let before = report_of(rt, alloc, fabric);
-    for units in 0..4096usize {
-        let weight = ballast(rt, alloc, heap, units * 16);
-        let end = fabric.step(rt, *step);
-        drop(weight);
+    for nth in sweep.first..MOST + 1 {
+        memory.refuse(sweep.refused(nth));
+        let end = fabric.step(rt, *next);
+        let _was_met = memory.was_met(rt, end.is_err());
         if end.is_ok() {
             return;
         }
         assert_eq!(rt; end, Err(Refusal::NoMemory));
-        assert!(rt; report_of(rt, alloc, fabric).is(&before));
+        assert!(rt; report_of(rt, alloc, fabric) == before);
     }
     panic!(rt; "refused for ever");
 }
 
-// Does a step, with ample room or with as little as it needs.
-fn step<'h, B: FabricName, H: Wait + Abort>(
+// A router's writer goes out, after as many refusals.
+fn lent<'h, B: FabricName, H: Wait + Abort>(
     rt: &H,
     alloc: Global,
-    heap: &'h LocalHeap,
-    fabric: &mut Fabric<B, &'h LocalHeap>,
-    next: Step,
-    is_tight: bool,
-) {
-    if is_tight {
-        step_by_room(rt, alloc, heap, fabric, &next);
-    } else {
-        fabric.step(rt, next).expect(rt, "room");
+    memory: &Refusing<Global>,
+    fabric: &mut Fabric<B, &'h Refusing<Global>>,
+    router: u16,
+    sweep: Sweep,
+) -> Ticket<B, &'h Refusing<Global>>
+    ensures { result.is_published ≡ false }
+{
+    let before = report_of(rt, alloc, fabric);
+    for nth in sweep.first..MOST + 1 {
+        memory.refuse(sweep.refused(nth));
+        let end = fabric.ticket(router);
+        let _was_met = memory.was_met(rt, end.is_err());
+        match end {
+            Ok(ticket) => return ticket,
+            Err(refusal) => assert_eq!(rt; refusal, Refusal::NoMemory),
+        }
+        assert!(rt; report_of(rt, alloc, fabric) == before);
     }
+    panic!(rt; "refused for ever");
+}
+
+// The ticket is published, after as many refusals.
+fn publish_ticket<'h, B: FabricName, H: Wait + Abort>(
+    rt: &H,
+    alloc: Global,
+    memory: &Refusing<Global>,
+    fabric: &mut Fabric<B, &'h Refusing<Global>>,
+    ticket: &mut Ticket<B, &'h Refusing<Global>>,
+    sweep: Sweep,
+) {
+    let before = report_of(rt, alloc, fabric);
+    for nth in sweep.first..MOST + 1 {
+        if ticket.is_published() {
+            break;
+        }
+        memory.refuse(sweep.refused(nth));
+        let end = ticket.publish(rt);
+        let _was_met = memory.was_met(rt, end.is_err());
+        if end.is_ok() {
+            return;
+        }
+        assert!(rt; report_of(rt, alloc, fabric) == before);
+    }
+    panic!(rt; "refused for ever");
 }
 
 // The first three routers take turns until nothing is left to do.
-fn settle<'h, B: FabricName, H: Wait + Abort>(
+fn settle<B: FabricName, H: Wait + Abort>(
     rt: &H,
     alloc: Global,
-    heap: &'h LocalHeap,
-    fabric: &mut Fabric<B, &'h LocalHeap>,
-    is_tight: bool,
+    memory: &Refusing<Global>,
+    fabric: &mut Fabric<B, &Refusing<Global>>,
+    sweep: Sweep,
 ) {
     for turn in 0..1000u16 {
         if fabric.is_settled() {
             return;
         }
         if let Some(next) = fabric.next_step(turn % 3) {
-            step(rt, alloc, heap, fabric, next, is_tight);
+            step(rt, alloc, memory, fabric, &next, sweep);
         }
     }
     panic!(rt; "never at rest");
 }
 
-fn run<'h, B: FabricName, H: Wait + Abort>(
+fn run<B: FabricName, H: Wait + Abort>(
     rt: &H,
     alloc: Global,
-    heap: &'h LocalHeap,
-    fabric: &mut Fabric<B, &'h LocalHeap>,
-    script: &[Act],
-    is_tight: bool,
-) -> Report {
-    for &next in script {
+    memory: &Refusing<Global>,
+    fabric: &mut Fabric<B, &Refusing<Global>>,
+    case: &Case<'_>,
+    sweep: Sweep,
+) {
+    for &next in case.script {
         match next {
-            Act::Do(next) => step(rt, alloc, heap, fabric, next, is_tight),
-            Act::Settle => settle(rt, alloc, heap, fabric, is_tight),
+            Act::Do(next) => step(rt, alloc, memory, fabric, &next, sweep),
+            Act::Settle => settle(rt, alloc, memory, fabric, sweep),
+            Act::Lend(router, next) => {
+                let mut ticket = lent(rt, alloc, memory, fabric, router, sweep);
+                step(rt, alloc, memory, fabric, &next, sweep);
+                publish_ticket(rt, alloc, memory, fabric, &mut ticket, sweep);
+                give_back(rt, fabric, ticket);
+            }
         }
     }
-    report_of(rt, alloc, fabric)
 }
 
+// Each of these routers is so.
+fn are_at<B: FabricName, A: SmallAllocator>(rt: &impl Abort, fabric: &Fabric<B, A>, ends: &[End]) {
+    for &(number, prefix, rd, fd, row) in ends {
+        let router = fabric.world().routers().get(usize::from(number));
+        let router = router.expect(rt, "router");
+        let machine = router.machine(prefix).expect(rt, "machine");
+        let (successor, entry) = match row {
+            Some((port, session)) => (Some(port), Entry::Via { port, session }),
+            None => (None, Entry::Unreachable),
+        };
+        assert!(rt; machine.is_passive());
+        assert_eq!(rt;
+            (machine.rd(), machine.fd()),
+            (Distance::new(rd), Distance::new(fd))
+        );
+        assert_eq!(rt; machine.successor(), successor);
+        assert_eq!(rt; router.table().published(prefix), Some(entry));
+    }
+}
+
+// What the network shows once the script is run.
 fn open_and_run<'h, B: FabricName, H: Wait + Abort>(
     rt: &H,
     alloc: Global,
-    heap: &'h LocalHeap,
+    memory: &'h Refusing<Global>,
     network: Network,
-    unnamed: Vec<Unnamed, &'h LocalHeap>,
-    script: &[Act],
-    is_tight: bool,
-) -> Report
+    unnamed: Vec<Unnamed, &'h Refusing<Global>>,
+    case: &Case<'_>,
+    sweep: Sweep,
+) -> String
     requires books { unnamed.items ≡ B.books }
     requires each { vec_len unnamed ≡ network.routers }
     requires openings { opening_tables network ≡ B.openings }
 {
-    let Ok((mut fabric, _ports)) = Fabric::<B, &'h LocalHeap>::open(rt, heap, network, unnamed, 0)
-    else {
+    let Ok((mut fabric, _ports)) = Fabric::<B, _>::open(rt, memory, network, unnamed, 0) else {
         panic!(rt; "open");
     };
-    let last = run(rt, alloc, heap, &mut fabric, script, is_tight);
+    run(rt, alloc, memory, &mut fabric, case, sweep);
+    are_at(rt, &fabric, case.ends);
+    let last = report_of(rt, alloc, &mut fabric);
     fabric.close(rt);
     last
 }
 
-// What the network shows once a script is run over a heap of its own.
-fn end_of<H: Wait + Abort>(
-    rt: &H,
-    alloc: Global,
-    network: Network,
-    script: &[Act],
-    is_tight: bool,
-) -> Report {
-    let heap = LocalHeap::new(alloc, HEAP).expect(rt, "memory");
-    let unnamed = Unnamed::many(&heap, usize::from(network.routers())).expect(rt, "room");
-    open_and_run::<Brand, H>(rt, alloc, &heap, network, unnamed, script, is_tight)
-}
-
-// What it shows then, which is the same with as little room as each step needs as with ample room.
-fn end_of_both<H: Wait + Abort>(
-    rt: &H,
-    alloc: Global,
-    tight: Network,
-    free: Network,
-    script: &[Act],
-) -> Report {
-    let end = end_of(rt, alloc, tight, script, true);
-    assert!(rt; end.is(&end_of(rt, alloc, free, script, false)));
-    end
-}
-
-// So many routers are there, and these are passive at an RD and an FD, with the successor at a port, for
-// 10.0.0.0/8.
-fn are_at(rt: &impl Abort, end: &Report, routers: usize, wanted: &[(usize, u32, u32, Option<u8>)]) {
-    assert_eq!(rt; end.routers.len(), routers);
-    for &(router, rd, fd, successor) in wanted {
-        let machine = Some((Distance::new(rd), Distance::new(fd), successor, true));
-        let line = end.routers.get(router).expect(rt, "router");
-        assert_eq!(rt; line.ten.machine, machine);
+// Routers 0, 1 and 2, of which 0 is attached to 10.0.0.0/8 at cost 1; the links 0 1 and 1 2 at cost 1, and
+// in a triangle 0 2 at this one. Router 1 has 0 at its port 0, and 2 has 1 there and 0 at port 1. In a line
+// router 2 is attached to all, at cost 1.
+fn made(rt: &impl Abort, alloc: Global, shape: Shape) -> Network {
+    let mut links = vec![in alloc; link(rt, 0, 1, 1), link(rt, 1, 2, 1)].expect(rt, "memory");
+    let mut attachments = vec![in alloc; (ten(), 0, Cost::ONE)].expect(rt, "memory");
+    match shape {
+        Shape::Two => return two_routers(rt, alloc),
+        Shape::Triangle(cost) => links.push(link(rt, 0, 2, cost)).expect(rt, "memory"),
+        Shape::Line => attachments.push((any(), 2, Cost::ONE)).expect(rt, "memory"),
     }
+    Network::new(3, links, attachments).expect(rt, "network")
+}
+
+// What the network of a case shows at the end, and how many calls met a refusal.
+fn end_of<H: Wait + Abort>(rt: &H, alloc: Global, case: &Case<'_>, sweep: Sweep) -> (String, u64) {
+    let memory = Refusing::new(alloc);
+    let network = made(rt, alloc, case.shape);
+    let unnamed = Unnamed::many(&memory, usize::from(network.routers())).expect(rt, "memory");
+    let end = open_and_run::<Brand, H>(rt, alloc, &memory, network, unnamed, case, sweep);
+    (end, memory.met())
+}
+
+// The end is the same where memory runs out at each allocation, and where each alone is refused, up to
+// the run that meets no refusal. A call that is done although its n-th allocation alone is refused meets
+// the next one in the run that begins with it.
+fn leads_to<H: Wait + Abort>(rt: &H, alloc: Global, shape: Shape, script: &[Act], ends: &[End]) {
+    let case = Case {
+        shape,
+        script,
+        ends,
+    };
+    let (end, met) = end_of(
+        rt,
+        alloc,
+        &case,
+        Sweep {
+            first: 1,
+            all: true,
+        },
+    );
+    assert!(rt; met > 0);
+    for first in 1..MOST {
+        let (again, met) = end_of(rt, alloc, &case, Sweep { first, all: false });
+        assert!(rt; again == end);
+        if met == 0 {
+            return;
+        }
+    }
+    panic!(rt; "refused for ever");
+}
+
+// The prefix of all addresses.
+fn any() -> Prefix {
+    Prefix::covering(0, 0)
 }
 
 fn up(link: u16) -> Act {
@@ -283,11 +339,26 @@ fn down(link: u16) -> Act {
     Act::Do(Step::LinkDown { link })
 }
 
-fn set_cost(rt: &impl Abort, router: u16, port: u8, cost: u32) -> Act {
-    Act::Do(Step::SetCost {
+fn costs(rt: &impl Abort, router: u16, port: u8, cost: u32) -> Step {
+    Step::SetCost {
         router,
         port,
         cost: Cost::new(cost).expect(rt, "cost"),
+    }
+}
+
+fn attach(rt: &impl Abort, router: u16, cost: u32) -> Act {
+    Act::Do(Step::Attach {
+        router,
+        prefix: ten(),
+        cost: Cost::new(cost).expect(rt, "cost"),
+    })
+}
+
+fn detach(router: u16) -> Act {
+    Act::Do(Step::Detach {
+        router,
+        prefix: ten(),
     })
 }
 
@@ -303,43 +374,27 @@ fn release(router: u16) -> Act {
     Act::Do(Step::Release { router })
 }
 
-// Routers 0, 1 and 2, of which 0 is attached to 10.0.0.0/8 at cost 1; the links 0 1 and 1 2 at cost 1, and
-// 0 2 at this one. Router 1 has 0 at its port 0, and 2 has 1 there and 0 at port 1.
-fn triangle(rt: &impl Abort, alloc: Global, cost: u32) -> Network {
-    let (first, second, third) = (link(rt, 0, 1, 1), link(rt, 1, 2, 1), link(rt, 0, 2, cost));
-    let links = vec![in alloc; first, second, third].expect(rt, "memory");
-    let attachments = vec![in alloc; (ten(), 0, Cost::ONE)].expect(rt, "memory");
-    Network::new(3, links, attachments).expect(rt, "network")
-}
-
-// Routers 0, 1 and 2 in a line at cost 1; 0 is attached to 10.0.0.0/8, and 2 to all, at cost 1.
-fn line(rt: &impl Abort, alloc: Global) -> Network {
-    let links = vec![in alloc; link(rt, 0, 1, 1), link(rt, 1, 2, 1)].expect(rt, "memory");
-    let any = (Prefix::covering(0, 0), 2, Cost::ONE);
-    let attachments = vec![in alloc; (ten(), 0, Cost::ONE), any].expect(rt, "memory");
-    Network::new(3, links, attachments).expect(rt, "network")
+#[test]
+fn a_link_comes_up_twice(rt: HostRuntime) {
+    let script = [up(0), Act::Settle, down(0), up(0), Act::Settle];
+    let ends = [(1, ten(), 6, 6, Some((0, 2)))];
+    leads_to(&rt, rt.alloc(), Shape::Two, &script, &ends);
 }
 
 #[test]
-fn two_routers_settle_with_little_memory(rt: HostRuntime) {
-    let alloc = rt.alloc();
-    let (tight, free) = (two_routers(&rt, alloc), two_routers(&rt, alloc));
-    let end = end_of_both(&rt, alloc, tight, free, &[up(0), Act::Settle]);
-    assert_eq!(&rt; end.steps, 9);
-    are_at(&rt, &end, 2, &[(1, 6, 6, Some(0))]);
-}
-
-// A script ends so in a triangle.
-fn ends_so<H: Wait + Abort>(
-    rt: &H,
-    alloc: Global,
-    cost: u32,
-    script: &[Act],
-    wanted: &[(usize, u32, u32, Option<u8>)],
-) {
-    let (tight, free) = (triangle(rt, alloc, cost), triangle(rt, alloc, cost));
-    let end = end_of_both(rt, alloc, tight, free, script);
-    are_at(rt, &end, 3, wanted);
+fn a_writer_goes_out(rt: HostRuntime) {
+    let script = [
+        up(0),
+        deliver(0, 0),
+        deliver(1, 0),
+        publish(0),
+        release(0),
+        deliver(1, 0),
+        Act::Lend(1, costs(&rt, 1, 0, 10)),
+        Act::Settle,
+    ];
+    let ends = [(1, ten(), 11, 6, Some((0, 1)))];
+    leads_to(&rt, rt.alloc(), Shape::Two, &script, &ends);
 }
 
 #[test]
@@ -357,13 +412,11 @@ fn a_diffusing_computation_goes_round_a_triangle(rt: HostRuntime) {
         publish(2),
         Act::Settle,
     ];
-    ends_so(
-        &rt,
-        rt.alloc(),
-        5,
-        &script,
-        &[(1, 7, 7, Some(1)), (2, 6, 3, Some(1))],
-    );
+    let ends = [
+        (1, ten(), 7, 7, Some((1, 1))),
+        (2, ten(), 6, 3, Some((1, 1))),
+    ];
+    leads_to(&rt, rt.alloc(), Shape::Triangle(5), &script, &ends);
 }
 
 #[test]
@@ -373,24 +426,21 @@ fn a_cost_rises_twice(rt: HostRuntime) {
         up(1),
         up(2),
         Act::Settle,
-        set_cost(&rt, 1, 0, 10),
+        Act::Do(costs(&rt, 1, 0, 10)),
         deliver(1, 0),
-        set_cost(&rt, 1, 0, 20),
+        Act::Do(costs(&rt, 1, 0, 20)),
         deliver(1, 0),
         Act::Settle,
     ];
-    ends_so(
-        &rt,
-        rt.alloc(),
-        12,
-        &script,
-        &[(1, 14, 14, Some(1)), (2, 13, 12, Some(1))],
-    );
+    let ends = [
+        (1, ten(), 14, 14, Some((1, 1))),
+        (2, ten(), 13, 12, Some((1, 1))),
+    ];
+    leads_to(&rt, rt.alloc(), Shape::Triangle(12), &script, &ends);
 }
 
 #[test]
 fn a_prefix_is_cut_off(rt: HostRuntime) {
-    let alloc = rt.alloc();
     let script = [
         up(0),
         up(1),
@@ -402,62 +452,79 @@ fn a_prefix_is_cut_off(rt: HostRuntime) {
         deliver(2, 0),
         Act::Settle,
     ];
-    let (tight, free) = (line(&rt, alloc), line(&rt, alloc));
-    let end = end_of_both(&rt, alloc, tight, free, &script);
-    are_at(&rt, &end, 3, &[(2, u32::MAX, u32::MAX, None)]);
-    let cut_off = Some((Distance::INF, Distance::INF, None, true));
-    assert_eq!(&rt; end.routers.len(), 3);
-    assert_eq!(&rt; end.routers[0].any.machine, cut_off);
-    assert_eq!(&rt; end.routers[1].ten.published, Some(Entry::Unreachable));
+    let ends = [
+        (0, any(), u32::MAX, u32::MAX, None),
+        (1, ten(), u32::MAX, u32::MAX, None),
+        (2, ten(), u32::MAX, u32::MAX, None),
+    ];
+    leads_to(&rt, rt.alloc(), Shape::Line, &script, &ends);
 }
 
-fn is_opening_refused_over<'h, B: FabricName, H: Wait + Abort>(
+// Router 2 has two notices when it takes the first.
+#[test]
+fn an_attachment_moves(rt: HostRuntime) {
+    let script = [
+        up(0),
+        up(1),
+        Act::Settle,
+        attach(&rt, 2, 5),
+        attach(&rt, 2, 1),
+        deliver(2, 1),
+        detach(0),
+        Act::Settle,
+    ];
+    let ends = [
+        (0, ten(), 3, 3, Some((0, 1))),
+        (1, ten(), 2, 2, Some((1, 1))),
+    ];
+    leads_to(&rt, rt.alloc(), Shape::Line, &script, &ends);
+}
+
+// Whether the opening met a refusal.
+fn is_opening_refused_over<'m, B: FabricName, H: Wait + Abort>(
     rt: &H,
-    alloc: Global,
-    heap: &'h LocalHeap,
+    memory: &'m Refusing<Global>,
     network: Network,
-    unnamed: Vec<Unnamed, &'h LocalHeap>,
-    left: usize,
+    unnamed: Vec<Unnamed, &'m Refusing<Global>>,
+    refused: Refused,
 ) -> bool
     requires books { unnamed.items ≡ B.books }
     requires each { vec_len unnamed ≡ network.routers }
     requires openings { opening_tables network ≡ B.openings }
 {
-    let weight = ballast(rt, alloc, heap, left);
-    let end = Fabric::<B, &'h LocalHeap>::open(rt, heap, network, unnamed, 1);
-    drop(weight);
+    memory.refuse(refused);
+    let end = Fabric::<B, _>::open(rt, memory, network, unnamed, 1);
+    let was_met = memory.was_met(rt, end.is_err());
     match end {
-        Ok((fabric, _ports)) => {
-            fabric.close(rt);
-            false
-        }
+        Ok((fabric, _ports)) => fabric.close(rt),
         Err(refusal) => {
             assert!(rt; refusal == Refusal::NoMemory || refusal == Refusal::NoReaderPlace);
-            true
         }
     }
+    was_met
 }
 
-// Whether two routers, and a reader of each for one worker, need more than so many bytes. A refusal leaves
-// the heap as it was.
-fn is_opening_refused<H: Wait + Abort>(rt: &H, alloc: Global, left: usize) -> bool {
-    let heap = LocalHeap::new(alloc, HEAP).expect(rt, "memory");
+// Whether an opening of two routers, and of a reader of each for one worker, meets a refusal of these.
+fn is_opening_refused<H: Wait + Abort>(rt: &H, alloc: Global, refused: Refused) -> bool {
+    let memory = Refusing::new(alloc);
     let network = two_routers(rt, alloc);
-    let unnamed = Unnamed::many(&heap, usize::from(network.routers())).expect(rt, "room");
-    let end = is_opening_refused_over::<Brand, H>(rt, alloc, &heap, network, unnamed, left);
-    assert_eq!(rt; heap.used(), 0);
-    end
+    let unnamed = Unnamed::many(&memory, usize::from(network.routers())).expect(rt, "memory");
+    is_opening_refused_over::<Brand, H>(rt, &memory, network, unnamed, refused)
 }
 
 #[test]
-fn an_opening_needs_room(rt: HostRuntime) {
-    let mut refused = 0;
-    for units in 0..1024usize {
-        assert!(&rt; is_opening_refused(&rt, rt.alloc(), units * 16));
-        if is_opening_refused(&rt, rt.alloc(), JOURNAL + units * 64) {
-            assert_eq!(&rt; refused, units);
-            refused = units + 1;
+fn an_opening_is_refused_at_each_allocation(rt: HostRuntime) {
+    let mut last = 0;
+    for nth in 1..MOST {
+        let one = is_opening_refused(&rt, rt.alloc(), Refused::One(nth));
+        assert_eq!(&rt;
+            is_opening_refused(&rt, rt.alloc(), Refused::From(nth)),
+            one
+        );
+        if !one {
+            break;
         }
+        last = nth;
     }
-    assert!(&rt; refused > 0 && refused < 1024);
+    assert!(&rt; last > 0 && last < MOST - 1);
 }

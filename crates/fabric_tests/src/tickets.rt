@@ -6,6 +6,7 @@ ghost use Rattle.fabric.specs.Writers.{opening_tables};
 use crate::fabrics::LEARNS;
 use crate::networks::two_routers;
 use fabric::{Fabric, FabricName, Network, Refusal, Step, Ticket, Unnamed};
+use network_model::SmallAllocator;
 use std::alloc::Global;
 use std::marker::Brand;
 use std::process::Abort;
@@ -16,7 +17,11 @@ use tracer::{Ending, TraceFault, trace};
 const ADDR: u32 = 0x0A00_0001;
 
 // The fabric takes it back.
-fn give_back<B: FabricName, H: Wait + Abort>(rt: &H, fabric: &mut Fabric<B>, ticket: Ticket<B>) {
+pub fn give_back<B: FabricName, A: SmallAllocator, H: Wait + Abort>(
+    rt: &H,
+    fabric: &mut Fabric<B, A>,
+    ticket: Ticket<B, A>,
+) {
     if let Err(ticket) = fabric.give_back(ticket) {
         ticket.close(rt);
         panic!(rt; "not back");
