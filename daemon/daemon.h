@@ -213,6 +213,8 @@ void traces_tick(struct daemon *daemon, int64_t now);
 /* ---- kernel.c */
 
 bool kernel_open(struct daemon *daemon);
+/* Whether no routes of a daemon that was killed stand, where this one has none in the kernel. */
+bool kernel_is_clear(struct daemon *daemon);
 /* Takes away what is the daemon's: whether nothing of it is left. */
 bool kernel_close(struct daemon *daemon);
 /* What is wrong, if anything. The neighbour's interface may come later where it is this: */

@@ -524,6 +524,34 @@ bool kernel_open(struct daemon *daemon)
     return false;
 }
 
+static void count_route(void *to, const struct nlmsghdr *message)
+{
+    struct left_over *left = to;
+    struct kernel_route route;
+    left->found += netlink_read_route(message, &route) && route.protocol == left->daemon->config.protocol;
+}
+
+/* A hello tells that no row of an old session forwards. Without routes in the kernel a daemon takes none away, so it does
+ * not begin while those of a daemon that was killed stand. Those of a daemon that runs are its own. */
+bool kernel_is_clear(struct daemon *daemon)
+{
+    static struct left_over left;
+    _Alignas(struct nlmsghdr) unsigned char request[REQUEST_SIZE];
+    bool alone = take_lock(daemon);
+    close(daemon->kernel.lock);
+    daemon->kernel.lock = -1;
+    left = (struct left_over){.daemon = daemon};
+    for (int round = 0; alone && round < ROUNDS; round++) {
+        left.found = 0;
+        if (requests_dump(request, netlink_dump_routes(request, 0, (uint8_t)daemon->config.protocol), &left, count_route))
+            break;
+    }
+    if (left.found > 0)
+        say(LOG_ERR, "routes of protocol %u stand, of a daemon that was killed: start with `install yes`, or remove them",
+            (unsigned)daemon->config.protocol);
+    return left.found == 0;
+}
+
 /* Nothing is forwarded any more, so the order matters here too: filters, the ends of sessions, routes, filters. */
 bool kernel_close(struct daemon *daemon)
 {

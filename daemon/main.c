@@ -189,7 +189,7 @@ static bool begin(struct daemon *daemon)
         peer_add(daemon, &config->neighbours[i]);
     if (!control_open(daemon))
         return false;
-    if (config->installs && !kernel_open(daemon)) {
+    if (!(config->installs ? kernel_open(daemon) : kernel_is_clear(daemon))) {
         control_close(daemon);
         return false;
     }
