@@ -6,6 +6,7 @@
 #include <signal.h>
 #include <stdlib.h>
 #include <string.h>
+#include <sys/select.h>
 #include <unistd.h>
 
 enum { BLOCKED_MS = 50, MOST_POLLS = 5 + TUHVONDI_PORTS * (1 + CANDIDATES) + CLIENTS };
@@ -117,9 +118,13 @@ static void turn(struct daemon *daemon, const sigset_t *mask)
     int wait = patience(daemon);
     struct timespec limit = {wait / 1000, (long)(wait % 1000) * 1000000};
     gather(daemon, &polled);
-    if (ppoll(polled.polls, polled.count, &limit, mask) < 0)
+    if (ppoll(polled.polls, polled.count, &limit, mask) < 0) {
+        /* Where fewer descriptors are allowed than there are, nothing can be polled. It ends by a signal all the same. */
+        if (errno != EINTR)
+            pselect(0, NULL, NULL, NULL, &limit, mask);
         for (nfds_t i = 0; i < polled.count; i++)
             polled.polls[i].revents = 0;
+    }
     take(daemon, &polled);
     serve(daemon, &polled);
     int64_t now = now_ms();
