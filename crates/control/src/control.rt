@@ -229,6 +229,7 @@ impl<B: FabricName, N: ControlName> Control<B, N> {
         share: &mut Share<N>,
     ) -> Result<(), Ticket<B>>
         requires out { 0 < owes share.old }
+        ensures found { (f : FabricState) × IsFound N.opened N.asked N.shares share.old.sum f }
         ensures sum { MatchResult result (λ _. share.new.sum
             ≡ share.old.sum + (if errand.is_published then step_number
             (Step.Publish errand.before.router) else 0)) (λ _. share.new.sum ≡ share.old.sum) }

@@ -182,6 +182,7 @@ impl<B: FabricName, N: ControlName> Guarded<B, N> {
     /// can be refused so.
     pub fn finish(&mut self, errand: Errand<B, N>, share: &mut Share<N>) -> Result<(), Ticket<B>>
         requires out { 0 < owes share.old }
+        ensures found { IsFound N.opened N.asked N.shares share.old.sum self.old }
         ensures sum { MatchResult result (λ _. share.new.sum
             ≡ share.old.sum + (if errand.is_published then step_number
             (Step.Publish errand.before.router) else 0)) (λ _. share.new.sum ≡ share.old.sum) }
@@ -210,6 +211,8 @@ impl<B: FabricName, N: ControlName> Guarded<B, N> {
             low: own_low,
             out: own_out,
         } = share;
+        let _network = fabric.network();
+        fabric.holds();
         high.audit(own_high);
         low.audit(own_low);
         fabric.give_back(ticket)?;

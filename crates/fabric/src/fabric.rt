@@ -5,7 +5,7 @@ ghost use Rattle.network_model.specs.World as model;
 ghost use Rattle.network_model.specs.Step as steps;
 ghost use Rattle.network_model.specs.Run.{Runs};
 ghost use Rattle.network_model.specs.Journal.{journal_sum, most_steps, steps_in_sum};
-ghost use Rattle.world.specs.Steps.{DiscardsStale, IsDoneOr, StopsAt};
+ghost use Rattle.world.specs.Steps.{DeliversWithRoom, DiscardsStale, IsDoneOr, StopsAt};
 ghost use Rattle.publication.specs.Lists.{image_of};
 ghost use Rattle.publication.specs.Outings.{new_outing};
 ghost use Rattle.fabric.specs.Desks.{all_lent, writings};
@@ -275,7 +275,7 @@ impl<B: FabricName, A: SmallAllocator> Fabric<B, A> {
     /// Does one step, and writes it into the journal. Refused, it leaves all as it was: with
     /// `JournalFull` where the journal has no place left, some of which may be set aside for tickets; with
     /// `Busy` for a delivery or a publication at a router whose writer is out; then as the world refuses
-    /// it; want of memory comes last. The release of a stale message takes none.
+    /// it; want of memory comes last. A link that goes down and the release of a stale message take none.
     pub fn step<R: Wait>(&mut self, rt: &R, step: Step) -> Result<(), Refusal>
         ensures ok { OnOk result (steps.Lawful (self.old).world step
             × (self.new ≡ after_step self.old step)) }
@@ -283,6 +283,10 @@ impl<B: FabricName, A: SmallAllocator> Fabric<B, A> {
         ensures cause { IsDoneOr (fabric_refusal self.old step) result }
         ensures stale { fabric_refusal self.old step ≡ None
             → DiscardsStale (self.old).world step result }
+        ensures room { fabric_refusal self.old step ≡ None
+            → DeliversWithRoom (self.old).world step result }
+        ensures down { (l : ℕ) → step ≡ Step.LinkDown l
+            → MatchOption (fabric_refusal self.old step) (IsOk result) (λ e. result ≡ Err e) }
         ensures forwards { ForwardsAsPublished self.new }
         ensures no_loop { NeverMeetsTwice self.new }
         ensures least_cost { LeadsAtLeastCost self.new }
@@ -300,6 +304,10 @@ impl<B: FabricName, A: SmallAllocator> Fabric<B, A> {
         ensures cause { IsDoneOr (fabric_refusal self.old step) result }
         ensures stale { fabric_refusal self.old step ≡ None
             → DiscardsStale (self.old).world step result }
+        ensures room { fabric_refusal self.old step ≡ None
+            → DeliversWithRoom (self.old).world step result }
+        ensures down { (l : ℕ) → step ≡ Step.LinkDown l
+            → MatchOption (fabric_refusal self.old step) (IsOk result) (λ e. result ≡ Err e) }
     {
         self.admits(&step)?;
         // The match takes the step.

@@ -10,7 +10,8 @@ use Rattle.link_fifo.specs.Refusals.{refusal_to_come_up, refusal_to_change, fron
 use Rattle.link_fifo.proofs.Changes.{front_of-Some}
 use Rattle.router_core.specs.Router.{is_port_up, CanTake}
 use Rattle.world.specs.Kept.{LeadsTo, IsWorld}
-use Rattle.world.specs.Steps.{IsDoneOr, IsPort, port_refusal, prefix_refusal, is_stale}
+use Rattle.router_core.specs.Room.{ItemNeedsMemory, MeetingNeedsMemory}
+use Rattle.world.specs.Steps.{DeliveryNeedsMemory, IsDoneOr, IsPort, port_refusal, prefix_refusal, is_stale, TakingNeedsMemory}
 use Rattle.world.proofs.Steps.{next-kept}
 use Rattle.link_fifo.specs.declared.refusal.Put.{Put}
 
@@ -41,6 +42,10 @@ first_of_two : {C : Type 0} (x y : C) (a b : Bool) (rest : List (Bool × C)) (e 
 first_of_two x y true b rest e found = found
 first_of_two x y false true rest e found = found
 first_of_two x y false false rest e found = absurd (None_not_Some found)
+
+-- what is refused for its cause is not lawful
+pub not_lawful : {X : Type 0} (o : Option Refusal) (e : Refusal) → o ≡ Some e → o ≡ None → X
+not_lawful o e caused none = absurd (None_not_Some (sym none ∙ caused))
 
 -- ---- what is refused at a port
 
@@ -232,6 +237,10 @@ item_lawful w i q p item port answer = (port.router, port.is_router, inl (item, 
 pub delivered-keeps : (w : World) (i q : ℕ) (p : Place) (item : Item) (v : World) → IsPort w i q p → front_of p.end (slice_get w.links p.link) ≡ Ok item → v ≡ next w (Deliver i q) → IsWorld w → IsWorld v
 delivered-keeps w i q p item v port answer is h = subst IsWorld (sym is) (next-kept w (Deliver i q) (item_lawful w i q p item port answer) h)
 
+-- what the item needs, the delivery needs
+pub item_needs : (w : World) (i q : ℕ) (p : Place) (item : Item) (r : Router) → IsPort w i q p → front_of p.end (slice_get w.links p.link) ≡ Ok item → slice_get w.routers i ≡ Some r → ItemNeedsMemory item r → DeliveryNeedsMemory w i q
+item_needs w i q p item r port answer there needs = (r, there, subst (λ o. TakingNeedsMemory o (notice_at w i q) r) (sym (front_at_is w i q p item port answer)) needs)
+
 -- ---- a notice
 
 -- the places of the router, and the number of the port behind them
@@ -297,6 +306,11 @@ noticed w i q x attachments routers home waits attachments_are routers_are =
     ∙ ap (λ rs. record w { attachments = changed_at i with_notice_taken w.attachments; routers = rs }) routers_are
     ∙ sym (ap (λ o. option_map_or (with_delivered i q w) o (option_map_or (with_noticed i w) (notice_at w i q) w)) (no_front w i q home)
     ∙ ap (λ o. option_map_or (with_noticed i w) o w) waits)
+
+-- what the notice needs, the delivery needs
+pub notice_needs : (w : World) (i q : ℕ) (x : Notice) (r : Router) → is_at_home w i q ≡ true → notice_at w i q ≡ Some x → slice_get w.routers i ≡ Some r → MeetingNeedsMemory x.prefix r → DeliveryNeedsMemory w i q
+notice_needs w i q x r home waits there needs =
+    (r, there, subst (λ o. TakingNeedsMemory o (notice_at w i q) r) (sym (no_front w i q home)) (subst (λ o. TakingNeedsMemory None o r) (sym waits) needs))
 
 -- to take it is lawful
 pub notice_lawful : (w : World) (i q : ℕ) (x : Notice) → IsWorld w → is_at_home w i q ≡ true → notice_at w i q ≡ Some x → Lawful w (Deliver i q)

@@ -1,16 +1,19 @@
 -- What a step answers, and the room that the routers' generations need.
-use Rattle.std.specs.Prelude.{ℕ, ◌+◌, ◌^◌, ◌<◌, Bool, true, false, not, List, [], ◌∷◌, slice_get, is_none, Option, Some, Result, Err, ◌≡◌, MatchOption, IsOk, IsOkUnless, All}
+use Rattle.std.specs.Prelude.{ℕ, ◌+◌, ◌^◌, ◌<◌, Bool, true, false, not, List, [], ◌∷◌, slice_get, is_none, Option, Some, None, Result, Err, ◌≡◌, MatchOption, IsOk, OnErr, IsOkUnless, All}
 use Rattle.std.specs.Option.{option_map_or}
 use Rattle.network_model.specs.declared.step.Step.{Step}
-use Rattle.network_model.specs.declared.step.Step.TheVariants.{Release}
+use Rattle.network_model.specs.declared.step.Step.TheVariants.{Deliver, Release}
 use Rattle.network_model.specs.declared.step.Refusal.{Refusal}
 use Rattle.network_model.specs.declared.step.Refusal.TheVariants.{UnknownRouter, UnknownLink, UnknownPrefix}
 use Rattle.network_model.specs.declared.item.Held.{Held}
+use Rattle.network_model.specs.declared.item.Item.{Item}
+use Rattle.network_model.specs.declared.item.Notice.{Notice}
 use Rattle.network_model.specs.declared.network.Place.{Place}
 use Rattle.ipv4_prefix.specs.Prefix.{Prefix}
 use Rattle.network_model.specs.World.{Link, Router, World, place_at, link_at, is_known}
 use Rattle.network_model.specs.Network.{first_cause}
-use Rattle.network_model.specs.Step.{is_up_in, release_at}
+use Rattle.network_model.specs.Step.{front_at, is_up_in, notice_at, refusal, release_at}
+use Rattle.router_core.specs.Room.{ItemNeedsMemory, MeetingNeedsMemory}
 
 -- refused for this cause, if there is one; else done, unless memory runs out
 abbrev pub IsDoneOr : {X : Type 0} → Option Refusal → Result X Refusal → Type 0
@@ -51,3 +54,17 @@ port_refusal w i q = first_cause ((is_none (slice_get w.routers i), UnknownRoute
 -- why a step that names a prefix at a router is refused, where one of them is not there
 abbrev pub prefix_refusal : World → ℕ → Prefix → Option Refusal
 prefix_refusal w i p = first_cause ((is_none (slice_get w.routers i), UnknownRouter) ∷ (not (is_known w p), UnknownPrefix) ∷ [])
+
+-- a router may need memory to take the item that stands first at its port, or else the notice of its attachment
+abbrev pub TakingNeedsMemory : Option Item → Option Notice → Router → Type 0
+TakingNeedsMemory (Some item) notice r = ItemNeedsMemory item r
+TakingNeedsMemory None (Some notice) r = MeetingNeedsMemory notice.prefix r
+TakingNeedsMemory None None r = ⊥
+
+-- router i may need memory to take what waits at its port q
+abbrev pub DeliveryNeedsMemory : World → ℕ → ℕ → Type 0
+DeliveryNeedsMemory w i q = (r : Router) × (slice_get w.routers i ≡ Some r) × TakingNeedsMemory (front_at w i q) (notice_at w i q) r
+
+-- a lawful delivery is refused only where its router may need memory
+abbrev pub DeliversWithRoom : {X : Type 0} → World → Step → Result X Refusal → Type 0
+DeliversWithRoom w s r = (i q : ℕ) → s ≡ Deliver i q → refusal w s ≡ None → OnErr r (DeliveryNeedsMemory w i q)

@@ -5,7 +5,7 @@ ghost use Rattle.std.specs.Option.{option_map_or};
 ghost use Rattle.network_model.specs.World as model;
 ghost use Rattle.network_model.specs.Step as steps;
 ghost use Rattle.network_model.specs.Turns as turns;
-ghost use Rattle.world.specs.Steps.{DiscardsStale, IsDoneOr, HasRoomForSteps};
+ghost use Rattle.world.specs.Steps.{DeliversWithRoom, DiscardsStale, IsDoneOr, HasRoomForSteps};
 ghost use Rattle.world.specs.Rest.{has_notice, is_busy, is_restless, link_number};
 
 use crate::network::Network;
@@ -73,6 +73,7 @@ impl<A: SmallAllocator> WatchedWorld<A> {
         ensures down { (l : ℕ) → step ≡ Step.LinkDown l
             → MatchOption (steps.refusal self.old step) (IsOk result) (λ e. result ≡ Err e) }
         ensures stale { DiscardsStale self.old step result }
+        ensures room { DeliversWithRoom self.old step result }
     {
         let touched = Touched::by(&step, &self.world);
         let before = touched.unrest(&self.world);

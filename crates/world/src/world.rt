@@ -9,7 +9,7 @@ ghost use Rattle.network_model.specs.Step.{refusal};
 ghost use Rattle.network_model.specs.Run.{Runs};
 ghost use Rattle.network_model.specs.Turns as turns;
 ghost use Rattle.network_model.specs.declared.item.Held.{Held};
-ghost use Rattle.world.specs.Steps.{DiscardsStale, IsDoneOr, HasRoomForSteps, IsPort, is_stale, port_refusal, prefix_refusal, StopsAt};
+ghost use Rattle.world.specs.Steps.{DeliversWithRoom, DeliveryNeedsMemory, DiscardsStale, IsDoneOr, HasRoomForSteps, IsPort, is_stale, port_refusal, prefix_refusal, StopsAt};
 ghost use Rattle.world.specs.Headline.{IsReached, HasWorldHeadline};
 ghost use Rattle.world.specs.Waiting.{is_waiting, waiting_port};
 
@@ -168,7 +168,7 @@ impl<A: SmallAllocator> World<A> {
 
     /// Does one step. Refused, it leaves all as it was. The causes are tested in the order of the
     /// definition; want of memory comes after them. A publication takes no memory, nor does a link that goes
-    /// down, nor the release of a stale message, which is discarded.
+    /// down, nor the release of a stale message, which is discarded; a delivery takes what its router needs.
     pub fn step(&mut self, step: Step) -> Result<(), Refusal>
         requires { HasRoomForSteps 1 self.old }
         ensures ok { OnOk result (steps.Lawful self.old step
@@ -180,6 +180,7 @@ impl<A: SmallAllocator> World<A> {
         ensures down { (l : ℕ) → step ≡ Step.LinkDown l
             → MatchOption (steps.refusal self.old step) (IsOk result) (λ e. result ≡ Err e) }
         ensures stale { DiscardsStale self.old step result }
+        ensures room { DeliversWithRoom self.old step result }
     {
         match step {
             Step::LinkUp { link } => self.link_up(link),
@@ -258,6 +259,8 @@ impl<A: SmallAllocator> World<A> {
         ensures ok { OnOk result (self.new ≡ steps.next self.old (Step.Deliver router port)) }
         ensures err { OnErr result (self.new ≡ self.old) }
         ensures cause { IsDoneOr (steps.refusal self.old (Step.Deliver router port)) result }
+        ensures room { steps.refusal self.old (Step.Deliver router port) ≡ None
+            → OnErr result (DeliveryNeedsMemory self.old router port) }
     {
         if self.is_at_home(router, port) {
             return self.deliver_notice(router, port);
@@ -280,6 +283,8 @@ impl<A: SmallAllocator> World<A> {
         ensures ok { OnOk result (self.new ≡ steps.next self.old (Step.Deliver router port)) }
         ensures err { OnErr result (self.new ≡ self.old) }
         ensures cause { IsDoneOr (steps.refusal self.old (Step.Deliver router port)) result }
+        ensures room { steps.refusal self.old (Step.Deliver router port) ≡ None
+            → OnErr result (DeliveryNeedsMemory self.old router port) }
     {
         let number = usize::from(router);
         let Some(notice) = self.attachments[number].front() else {
@@ -295,6 +300,8 @@ impl<A: SmallAllocator> World<A> {
         ensures ok { OnOk result (self.new ≡ steps.next self.old (Step.Deliver router port)) }
         ensures err { OnErr result (self.new ≡ self.old) }
         ensures cause { IsDoneOr (steps.refusal self.old (Step.Deliver router port)) result }
+        ensures room { steps.refusal self.old (Step.Deliver router port) ≡ None
+            → OnErr result (DeliveryNeedsMemory self.old router port) }
     {
         let place = self.known_port(router, port)?;
         let item = self.links.front(place.link, place.end)?;

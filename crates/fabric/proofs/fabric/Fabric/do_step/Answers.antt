@@ -1,10 +1,10 @@
-use Rattle.std.proofs.Common.{rules, Err, None, ◌≡◌, ◌+◌, ◌<◌, ◌≤◌, ◌++◌, [], ◌∷◌, length, vec_len, refl, sym, ap, subst, ◌∙◌, arith, Some, IsOk, IsSome, MatchOption, false, is_some, slice_get, vec_capacity, set}
-use Rattle.packet_loops.proofs.Common.{false≢true, err_from_is_err_and, most_steps, Lawful, next, release_at, Lawful_to_refusal, None_not_Some}
+use Rattle.std.proofs.Common.{rules, Ok, Err, Result, None, ◌≡◌, ◌+◌, ◌<◌, ◌≤◌, ◌++◌, [], ◌∷◌, length, vec_len, refl, sym, ap, subst, ◌∙◌, arith, Some, IsOk, IsSome, MatchOption, false, is_some, slice_get, vec_capacity, set}
+use Rattle.packet_loops.proofs.Common.{false≢true, err_from_is_err_and, most_steps, Lawful, next, refusal, Refusal, release_at, Lawful_to_refusal, None_not_Some}
 use Rattle.network_model.specs.declared.step.Step.{Step}
 use Rattle.network_model.specs.declared.step.Step.TheVariants.{Publish}
 use Rattle.router_core.proofs.Refused.{gave_up, not_ok}
-use Rattle.world.specs.Steps.{HasRoomForSteps, is_stale}
-use Rattle.world.proofs.Done.{memory_lacked, not_caused}
+use Rattle.world.specs.Steps.{DeliveryNeedsMemory, HasRoomForSteps, is_stale}
+use Rattle.world.proofs.Done.{memory_lacked, not_caused, only_cause}
 use Rattle.publication.specs.declared.known.Known.{Known}
 use Rattle.image_patch.specs.Patches.{patched}
 use Rattle.fabric.specs.Desks.{all_lent, writings}
@@ -324,6 +324,11 @@ returns-in_err-step-in_default g c =
       cause = passed_on c.args.self.now s.world c.args.step c.args.step c.from_residual-in_err-step-in_default.result c.in_err-step-in_default.field-0.0
           c.in_ok-admits.ensures.cause (ap (λ (f : Fabric). f.world) (sym c.self.view_is)) refl failed.cause p;
       stale = λ _ i h is at old. absurd (false≢true (failed.stale i h is (ap (λ (f : Fabric). release_at f.world i) c.self.view_is ∙ at) (ap (λ (f : Fabric). is_stale f.world i h) c.self.view_is ∙ old)));
+      room = λ _ i q is lawful. gave_up c.from_residual-in_err-step-in_default.result
+          (subst (λ v. DeliveryNeedsMemory v i q) (ap (λ (f : Fabric). f.world) c.self.view_is) (failed.room i q is (ap (λ (f : Fabric). refusal f.world c.args.step) c.self.view_is ∙ lawful)));
+      down = λ l is. subst (λ o. MatchOption o (IsOk c.from_residual-in_err-step-in_default.result) (λ e. c.from_residual-in_err-step-in_default.result ≡ Err e))
+          (sym (c.in_ok-admits.ensures.cause ∙ ap (λ (f : Fabric). refusal f.world c.args.step) (sym c.self.view_is) ∙ only_cause (Unit {0}) (refusal s.world c.args.step) c.in_err-step-in_default.field-0.0 (failed.down l is)))
+          (p.1 ∙ ap Err p.2);
     }
 
 -- the journal has not moved
@@ -342,7 +347,12 @@ unwrap-requires-2 g c =
     let within : vec_len journal < vec_capacity journal = omega (arith, short, room, journal.ok.0) in
     c.push.ensures.succeeds (subst (λ j. vec_len j < vec_capacity j) (sym (journal_same g c)) within)
 
+-- the fabric had no cause to refuse the step
+uncaused : (g : given.Over) (c : goal.After-unwrap-2 g) → fabric_refusal c.args.self.now c.args.step ≡ None
+uncaused g c = c.in_ok-admits.ensures.cause ∙ Lawful_to_refusal c.args.self.now.world c.args.step (subst (λ (f : Fabric). Lawful f.world c.args.step) c.self.view_is (stepped g c).lawful)
+
 pub returns-clause-cause : goal.returns-clause-cause
-returns-clause-cause g c =
-    let lawful : Lawful c.args.self.now.world c.args.step = subst (λ (f : Fabric). Lawful f.world c.args.step) c.self.view_is (stepped g c).lawful in
-    not_caused (fabric_refusal c.args.self.now c.args.step) tt (c.in_ok-admits.ensures.cause ∙ Lawful_to_refusal c.args.self.now.world c.args.step lawful)
+returns-clause-cause g c = not_caused (fabric_refusal c.args.self.now c.args.step) tt (uncaused g c)
+
+pub returns-clause-down : goal.returns-clause-down
+returns-clause-down g c l is = subst (λ o. MatchOption o (IsOk {E = Refusal} (Ok (tt {0}))) (λ e. ◌≡◌ {A = Result (Unit {0}) Refusal} (Ok (tt {0})) (Err e))) (sym (uncaused g c)) refl

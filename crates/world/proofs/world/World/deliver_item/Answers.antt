@@ -4,10 +4,10 @@ use Rattle.network_model.specs.Step as steps
 use Rattle.link_fifo.specs.Refusals.{step_refusal}
 use Rattle.link_fifo.proofs.Changes.{written, slice_get-read}
 use Rattle.world.specs.Kept.{IsWorld}
-use Rattle.world.specs.Steps.{IsDoneOr, IsPort}
+use Rattle.world.specs.Steps.{DeliveryNeedsMemory, IsDoneOr, IsPort}
 use Rattle.router_core.proofs.Refused.{gave_up}
 use Rattle.world.proofs.Insides.{world_in}
-use Rattle.world.proofs.Done.{on_ok, port_known, can_take, item_cause, item_lawful, delivered, delivered-keeps, refused_by_link, is_done, found_no_memory, written_back, in_bounds}
+use Rattle.world.proofs.Done.{on_ok, port_known, can_take, item_cause, item_lawful, item_needs, not_lawful, delivered, delivered-keeps, refused_by_link, is_done, found_no_memory, written_back, in_bounds}
 use Rattle.world.proofs.world.World.deliver_item.Goals as goal
 use Rattle.world.proofs.world.World.deliver_item.Goals.{In_ok-place, After-index_mut-taker}
 use Rattle.world.proofs.world.World.deliver_item.Given as given
@@ -24,6 +24,14 @@ returns-in_err-item-clause-cause g c =
     (refused_by_link (Some c.in_err-item.field-0.0) c.in_err-item.field-0.0 c.from_residual-in_err-item.result
     (item_cause (world_in c.self.inside) c.args.router c.args.port c.in_ok-place.place port away ∙ ap (λ r. option_map step_refusal (result_err r)) (sym c.in_err-item.ensures))
     refl c.from_residual-in_err-item.ensures.1)
+
+pub returns-in_err-item-clause-room : goal.returns-in_err-item-clause-room
+returns-in_err-item-clause-room g c lawful =
+    let away : steps.is_at_home (world_in c.self.inside) c.args.router c.args.port ≡ false = ap (λ w. steps.is_at_home w c.args.router c.args.port) c.self.view_is ∙ c.requires.link in
+    let port : IsPort (world_in c.self.inside) c.args.router c.args.port c.in_ok-place.place = port_is g (goal.at.returns-in_err-item-clause-room g c).In_ok-place in
+    not_lawful _ (step_refusal c.in_err-item.field-0.0)
+    (item_cause (world_in c.self.inside) c.args.router c.args.port c.in_ok-place.place port away ∙ ap (λ r. option_map step_refusal (result_err r)) (sym c.in_err-item.ensures))
+    (ap (λ w. steps.refusal w (Deliver c.args.router c.args.port)) c.self.view_is ∙ lawful)
 
 pub index_mut-taker-requires : goal.index_mut-taker-requires
 index_mut-taker-requires g c =
@@ -66,6 +74,14 @@ returns-in_err-accept-clause-cause g c =
     (found_no_memory (world_in c.self.inside) (Deliver c.args.router c.args.port) c.from_residual-in_err-accept.result
     (item_lawful (world_in c.self.inside) c.args.router c.args.port c.in_ok-place.place c.in_ok-item.item (port_is g (goal.at.returns-in_err-accept-clause-cause g c).In_ok-place) (sym c.in_ok-item.ensures))
     c.from_residual-in_err-accept.ensures.1)
+
+pub returns-in_err-accept-clause-room : goal.returns-in_err-accept-clause-room
+returns-in_err-accept-clause-room g c lawful =
+    let at = goal.at.returns-in_err-accept-clause-room g c in
+    let port = port_is g at.In_ok-place in
+    gave_up c.from_residual-in_err-accept.result
+    (subst (λ v. DeliveryNeedsMemory v c.args.router c.args.port) c.self.view_is
+    (item_needs (world_in c.self.inside) c.args.router c.args.port c.in_ok-place.place c.in_ok-item.item c.index_mut-taker.result.now port (sym c.in_ok-item.ensures) (taker_is g at.After-index_mut-taker port) c.in_err-accept.ensures.memory))
 
 -- ---- a router that took the item
 

@@ -3,10 +3,10 @@ use Rattle.packet_loops.proofs.Common.{Deliver, Refusal, World}
 use Rattle.network_model.specs.Step as steps
 use Rattle.link_fifo.proofs.Changes.{written, slice_get-read}
 use Rattle.world.specs.Kept.{IsWorld}
-use Rattle.world.specs.Steps.{IsDoneOr}
+use Rattle.world.specs.Steps.{DeliveryNeedsMemory, IsDoneOr}
 use Rattle.router_core.proofs.Refused.{gave_up}
 use Rattle.world.proofs.Insides.{world_in}
-use Rattle.world.proofs.Done.{router_within, attachments_within, notice_is, no_notice, notice_lawful, noticed, noticed-keeps, refused, is_done, found_no_memory, written_back, in_bounds}
+use Rattle.world.proofs.Done.{router_within, attachments_within, notice_is, no_notice, notice_lawful, noticed, noticed-keeps, notice_needs, not_lawful, refused, is_done, found_no_memory, written_back, in_bounds}
 use Rattle.world.proofs.world.World.deliver_notice.Goals as goal
 use Rattle.world.proofs.world.World.deliver_notice.Goals.{After-front}
 use Rattle.world.proofs.world.World.deliver_notice.Given as given
@@ -32,6 +32,12 @@ returns-in_default-clause-cause g c =
     let f = (goal.at.returns-in_default-clause-cause g c).After-front in
     subst (λ w. IsDoneOr (steps.refusal w (Deliver c.args.router c.args.port)) (Err Refusal.NothingToDeliver)) c.self.view_is
     (refused _ (Err Refusal.NothingToDeliver) Refusal.NothingToDeliver (no_notice (world_in c.self.inside) c.args.router c.args.port c.self.invariant (home g f) (first g f ∙ c.in_default.is)) refl)
+
+pub returns-in_default-clause-room : goal.returns-in_default-clause-room
+returns-in_default-clause-room g c lawful =
+    let f = (goal.at.returns-in_default-clause-room g c).After-front in
+    not_lawful _ Refusal.NothingToDeliver (no_notice (world_in c.self.inside) c.args.router c.args.port c.self.invariant (home g f) (first g f ∙ c.in_default.is))
+    (ap (λ (w : World). steps.refusal w (Deliver c.args.router c.args.port)) c.self.view_is ∙ lawful)
 
 pub index_mut-requires : goal.index_mut-requires
 index_mut-requires g c =
@@ -61,6 +67,15 @@ returns-in_err-notice-clause-cause g c =
     subst (λ w. IsDoneOr (steps.refusal w (Deliver c.args.router c.args.port)) c.from_residual.result) c.self.view_is
     (found_no_memory (world_in c.self.inside) (Deliver c.args.router c.args.port) c.from_residual.result
     (notice_lawful (world_in c.self.inside) c.args.router c.args.port c.in-Some.notice c.self.invariant (home g f) (first g f ∙ c.in-Some.is)) c.from_residual.ensures.1)
+
+pub returns-in_err-notice-clause-room : goal.returns-in_err-notice-clause-room
+returns-in_err-notice-clause-room g c lawful =
+    let f = (goal.at.returns-in_err-notice-clause-room g c).After-front in
+    let w : World = world_in c.self.inside in
+    let there = slice_get-read c.from-number.ensures c.index_mut.ensures.value refl (router_within w c.args.router c.args.port c.self.invariant (home g f)) in
+    gave_up c.from_residual.result
+    (subst (λ v. DeliveryNeedsMemory v c.args.router c.args.port) c.self.view_is
+    (notice_needs w c.args.router c.args.port c.in-Some.notice c.index_mut.result.now (home g f) (first g f ∙ c.in-Some.is) there c.in_err-notice.ensures.memory))
 
 -- ---- a router that took the notice
 
