@@ -106,7 +106,7 @@ struct client {
 /* `check_due`: the kernel may have lost something, and nothing is released until it was seen. */
 struct kernel {
     bool installs, check_due;
-    int requests, links, routes, lock, device; /* sockets; `device` is for questions about interfaces */
+    int requests, dumps, links, routes, lock, device; /* sockets; `device` is for questions about interfaces */
     uint32_t number, port;
     int64_t next_check, complained;
     uint64_t set, refused, repaired; /* routes */

@@ -418,7 +418,8 @@ static bool sweep(struct daemon *daemon, bool routes, bool all)
         left = (struct left_over){.daemon = daemon, .all = all};
         if (routes)
             find_none(daemon);
-        bool whole = requests_dump(request, size, &left, routes ? take_route : take_rule);
+        bool whole = requests_dump(daemon->kernel.dumps, &daemon->kernel.number, request, size, &left,
+                                   routes ? take_route : take_rule);
         ask(daemon, &left.batch);
         if (whole && left.found == 0)
             return true;
@@ -496,11 +497,13 @@ static void warn_of_forwarding(void)
 bool kernel_open(struct daemon *daemon)
 {
     struct kernel *kernel = &daemon->kernel;
+    uint32_t none;
     kernel->requests = requests_socket(&kernel->port);
+    kernel->dumps = requests_socket(&none);
     kernel->links = open_notices(RTMGRP_LINK | RTMGRP_IPV4_IFADDR);
     kernel->routes = open_notices(RTMGRP_IPV4_ROUTE | 1 << (RTNLGRP_IPV4_RULE - 1));
     kernel->device = socket(AF_INET, SOCK_DGRAM | SOCK_CLOEXEC, 0);
-    if (kernel->requests < 0 || kernel->links < 0 || kernel->routes < 0 || kernel->device < 0) {
+    if (kernel->requests < 0 || kernel->dumps < 0 || kernel->links < 0 || kernel->routes < 0 || kernel->device < 0) {
         say(LOG_ERR, "install: no connection to the kernel's routes: %s", strerror(errno));
         return false;
     }
@@ -537,15 +540,18 @@ bool kernel_is_clear(struct daemon *daemon)
 {
     static struct left_over left;
     _Alignas(struct nlmsghdr) unsigned char request[REQUEST_SIZE];
-    bool alone = take_lock(daemon);
+    bool alone = take_lock(daemon), whole = false;
+    uint32_t none;
+    int fd = requests_socket(&none);
     close(daemon->kernel.lock);
     daemon->kernel.lock = -1;
     left = (struct left_over){.daemon = daemon};
-    for (int round = 0; alone && round < ROUNDS; round++) {
+    for (int round = 0; alone && !whole && round < ROUNDS; round++) {
+        size_t size = netlink_dump_routes(request, 0, (uint8_t)daemon->config.protocol);
         left.found = 0;
-        if (requests_dump(request, netlink_dump_routes(request, 0, (uint8_t)daemon->config.protocol), &left, count_route))
-            break;
+        whole = requests_dump(fd, &daemon->kernel.number, request, size, &left, count_route);
     }
+    close(fd);
     if (left.found > 0)
         say(LOG_ERR, "routes of protocol %u stand, of a daemon that was killed: start with `install yes`, or remove them",
             (unsigned)daemon->config.protocol);
@@ -568,6 +574,7 @@ bool kernel_close(struct daemon *daemon)
     if (!gone)
         say(LOG_ERR, "routes or rules of protocol %u are left in the kernel", (unsigned)daemon->config.protocol);
     close(daemon->kernel.requests);
+    close(daemon->kernel.dumps);
     close(daemon->kernel.links);
     close(daemon->kernel.routes);
     close(daemon->kernel.device);

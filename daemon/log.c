@@ -5,16 +5,19 @@
 #include <stdio.h>
 #include <stdlib.h>
 #include <string.h>
+#include <sys/socket.h>
 #include <sys/stat.h>
+#include <sys/un.h>
 #include <time.h>
 #include <unistd.h>
 
 static const char *const LEVELS[] = {"emergency", "alert", "critical", "error", "warning", "notice", "info", "debug"};
 
+/* `fd`: the socket by which lines go to syslog. It is not connected, so a log daemon that began anew gets them too. */
 static struct {
     bool to_syslog;
-    int level;
-} settings = {false, LOG_INFO};
+    int level, fd;
+} settings = {false, LOG_INFO, -1};
 
 int64_t now_ms(void)
 {
@@ -25,10 +28,8 @@ int64_t now_ms(void)
 
 void log_to(bool to_syslog, int level)
 {
-    if (to_syslog && !settings.to_syslog)
-        openlog("dualnetd", LOG_PID | LOG_NDELAY, LOG_DAEMON);
-    if (!to_syslog && settings.to_syslog)
-        closelog();
+    if (to_syslog && settings.fd < 0)
+        settings.fd = socket(AF_UNIX, SOCK_DGRAM | SOCK_CLOEXEC, 0);
     settings.to_syslog = to_syslog;
     settings.level = level;
 }
@@ -53,15 +54,21 @@ static bool is_journal(void)
     return strcmp(own, stream) == 0;
 }
 
-/* What stands before a line: the journal has the time by itself, and takes the level as <N>. */
+/* What stands before a line: the journal has the time by itself, and takes the level as <N>. Syslog has the form of
+ * RFC 3164. */
 static int head(char *line, size_t size, int level)
 {
     struct timespec now;
     struct tm parts;
     char stamp[32];
-    if (is_journal())
+    if (!settings.to_syslog && is_journal())
         return snprintf(line, size, "<%d>", level);
     clock_gettime(CLOCK_REALTIME, &now);
+    if (settings.to_syslog) {
+        localtime_r(&now.tv_sec, &parts);
+        strftime(stamp, sizeof stamp, "%b %e %H:%M:%S", &parts);
+        return snprintf(line, size, "<%d>%s dualnetd[%d]: ", LOG_DAEMON | level, stamp, (int)getpid());
+    }
     gmtime_r(&now.tv_sec, &parts);
     strftime(stamp, sizeof stamp, "%Y-%m-%dT%H:%M:%S", &parts);
     return snprintf(line, size, "%s.%03ldZ dualnetd %s: ", stamp, now.tv_nsec / 1000000, LEVELS[level]);
@@ -69,21 +76,24 @@ static int head(char *line, size_t size, int level)
 
 void say(int level, const char *format, ...)
 {
+    static const struct sockaddr_un SYSLOG = {.sun_family = AF_UNIX, .sun_path = "/dev/log"};
+    struct pollfd ready = {STDERR_FILENO, POLLOUT, 0};
     char line[512];
     va_list words;
     if (level > settings.level)
         return;
+    int begun = head(line, sizeof line, level);
     va_start(words, format);
-    if (settings.to_syslog) {
-        vsyslog(level, format, words);
-    } else {
-        struct pollfd ready = {STDERR_FILENO, POLLOUT, 0};
-        int begun = head(line, sizeof line, level);
-        int size = vsnprintf(line + begun, sizeof line - (size_t)begun - 1, format, words);
-        size_t count = strlen(line);
-        line[count++] = '\n';
-        ssize_t written = size >= 0 && poll(&ready, 1, 0) == 1 ? write(STDERR_FILENO, line, count) : 0;
-        (void)written;
-    }
+    vsnprintf(line + begun, sizeof line - (size_t)begun - 1, format, words);
     va_end(words);
+    size_t count = strlen(line);
+    ssize_t written = 0;
+    if (settings.to_syslog) {
+        written = sendto(settings.fd, line, count, MSG_DONTWAIT | MSG_NOSIGNAL, (const struct sockaddr *)&SYSLOG,
+                         sizeof SYSLOG);
+    } else if (poll(&ready, 1, 0) == 1) {
+        line[count++] = '\n';
+        written = write(STDERR_FILENO, line, count);
+    }
+    (void)written;
 }

@@ -9,7 +9,8 @@
 /* Where lines go from now on, and up to which level (LOG_ERR to LOG_DEBUG). */
 void log_to(bool to_syslog, int level);
 
-/* Writes one line. If standard error is a pipe that nobody reads, the line is lost: the daemon waits for no reader. */
+/* Writes one line. If standard error is a pipe that nobody reads, or syslog's socket is full, the line is lost: the daemon
+ * waits for no reader. */
 void say(int level, const char *format, ...) __attribute__((format(printf, 2, 3)));
 
 /* The level of this name, or -1. */

@@ -7,7 +7,10 @@
 #include <string.h>
 #include <sys/socket.h>
 
-enum { ROOM = 1 << 16 };
+enum {
+    ROOM = 1 << 16,
+    TAKEN = 256, /* pieces of notices that are read at a turn: others may change routes without end */
+};
 
 /* An interface of a neighbour changed. If it went down, packets and routes were lost, also if that was only for a
  * moment. The kernel's filter goes by the name, so a new name gets a filter of its own; the old one is left over. */
@@ -43,8 +46,10 @@ static void find_interfaces(struct daemon *daemon)
 void kernel_read_links(struct daemon *daemon)
 {
     _Alignas(struct nlmsghdr) static unsigned char room[ROOM];
-    ssize_t got;
-    while ((got = recv(daemon->kernel.links, room, sizeof room, 0)) > 0 || errno == ENOBUFS) {
+    for (int i = 0; i < TAKEN; i++) {
+        ssize_t got = recv(daemon->kernel.links, room, sizeof room, 0);
+        if (got <= 0 && errno != ENOBUFS)
+            return;
         size_t size = got > 0 ? (size_t)got : 0, place = 0;
         daemon->kernel.check_due = true;
         for (struct peer *peer = daemon->peers; got < 0 && peer < peers_end(daemon); peer++)
@@ -76,8 +81,10 @@ static bool is_of_ours(const struct daemon *daemon, const struct nlmsghdr *messa
 void kernel_read_routes(struct daemon *daemon)
 {
     _Alignas(struct nlmsghdr) static unsigned char room[ROOM];
-    ssize_t got;
-    while ((got = recv(daemon->kernel.routes, room, sizeof room, 0)) > 0 || errno == ENOBUFS) {
+    for (int i = 0; i < TAKEN; i++) {
+        ssize_t got = recv(daemon->kernel.routes, room, sizeof room, 0);
+        if (got <= 0 && errno != ENOBUFS)
+            return;
         size_t size = got > 0 ? (size_t)got : 0, place = 0;
         daemon->kernel.check_due |= got < 0;
         for (const struct nlmsghdr *at; (at = netlink_next(room, size, &place));)

@@ -13,12 +13,13 @@
 
 enum { ANSWER_MS = 2000, ROOM = 1 << 16 };
 
-static int open_socket(void)
+int requests_socket(uint32_t *port)
 {
     struct timeval moment = {.tv_sec = ANSWER_MS / 1000};
     int one = 1, bytes = 1 << 20;
     int fd = socket(AF_NETLINK, SOCK_RAW | SOCK_CLOEXEC, NETLINK_ROUTE);
     struct sockaddr_nl own = {.nl_family = AF_NETLINK};
+    socklen_t size = sizeof own;
     if (fd < 0)
         return -1;
     setsockopt(fd, SOL_SOCKET, SO_RCVTIMEO, &moment, sizeof moment);
@@ -26,20 +27,11 @@ static int open_socket(void)
     setsockopt(fd, SOL_SOCKET, SO_RCVBUFFORCE, &bytes, sizeof bytes);
     setsockopt(fd, SOL_NETLINK, NETLINK_CAP_ACK, &one, sizeof one);
     setsockopt(fd, SOL_NETLINK, NETLINK_GET_STRICT_CHK, &one, sizeof one);
-    if (bind(fd, (struct sockaddr *)&own, sizeof own)) {
+    if (bind(fd, (struct sockaddr *)&own, sizeof own) || getsockname(fd, (struct sockaddr *)&own, &size)) {
         close(fd);
         return -1;
     }
-    return fd;
-}
-
-int requests_socket(uint32_t *port)
-{
-    struct sockaddr_nl own = {0};
-    socklen_t size = sizeof own;
-    int fd = open_socket();
-    if (fd >= 0 && getsockname(fd, (struct sockaddr *)&own, &size) == 0)
-        *port = own.nl_pid;
+    *port = own.nl_pid;
     return fd;
 }
 
@@ -93,12 +85,14 @@ void requests_send(int fd, uint32_t *number, struct batch *batch)
     }
 }
 
-int requests_read_dump(void *bytes, size_t size, bool *changed, void *to,
+int requests_read_dump(uint32_t number, void *bytes, size_t size, bool *changed, void *to,
                        void take(void *to, const struct nlmsghdr *message))
 {
     size_t place = 0;
     for (const struct nlmsghdr *at; (at = netlink_next(bytes, size, &place));) {
         int error = 0;
+        if (at->nlmsg_seq != number)
+            continue;
         *changed |= (at->nlmsg_flags & NLM_F_DUMP_INTR) != 0;
         if (at->nlmsg_type == NLMSG_DONE || at->nlmsg_type == NLMSG_ERROR) {
             if (at->nlmsg_len >= NLMSG_LENGTH(sizeof error))
@@ -111,21 +105,22 @@ int requests_read_dump(void *bytes, size_t size, bool *changed, void *to,
     return 0;
 }
 
-bool requests_dump(const void *request, size_t size, void *to, void take(void *to, const struct nlmsghdr *message))
+bool requests_dump(int fd, uint32_t *number, void *request, size_t size, void *to,
+                   void take(void *to, const struct nlmsghdr *message))
 {
     _Alignas(struct nlmsghdr) static unsigned char room[ROOM];
     bool changed = false;
-    int state = 0, fd = open_socket();
-    if (fd < 0)
-        return false;
-    if (send(fd, request, size, 0) < 0)
-        state = -1;
+    /* One that was given up is read to its end first. */
+    while (recv(fd, room, sizeof room, MSG_DONTWAIT) > 0)
+        ;
+    uint32_t own = ++*number;
+    ((struct nlmsghdr *)request)->nlmsg_seq = own;
+    int state = send(fd, request, size, 0) < 0 ? -1 : 0;
     while (state == 0) {
         ssize_t got = recv(fd, room, sizeof room, 0);
         if (got < 0 && errno == EINTR)
             continue;
-        state = got <= 0 ? -1 : requests_read_dump(room, (size_t)got, &changed, to, take);
+        state = got <= 0 ? -1 : requests_read_dump(own, room, (size_t)got, &changed, to, take);
     }
-    close(fd);
     return state == 1 && !changed;
 }

@@ -28,11 +28,12 @@ void requests_send(int fd, uint32_t *number, struct batch *batch);
 /* What the bytes of an answer tell, without a socket: how many requests of the batch, whose numbers begin with `first`,
  * they answer; whether a dump goes on (0), is over (1), or has failed (-1). */
 size_t requests_note_answers(struct batch *batch, uint32_t first, void *bytes, size_t size);
-int requests_read_dump(void *bytes, size_t size, bool *changed, void *to,
+int requests_read_dump(uint32_t number, void *bytes, size_t size, bool *changed, void *to,
                        void take(void *to, const struct nlmsghdr *message));
 
-/* Asks for a dump on a socket of its own, and calls `take` for each message of it: whether all of it came, and nothing
- * changed meanwhile. */
-bool requests_dump(const void *request, size_t size, void *to, void take(void *to, const struct nlmsghdr *message));
+/* Asks for a dump, on a socket for that alone, and calls `take` for each message of it: whether all of it came, and
+ * nothing changed meanwhile. The socket stays open, because later there may be no free descriptor for one. */
+bool requests_dump(int fd, uint32_t *number, void *request, size_t size, void *to,
+                   void take(void *to, const struct nlmsghdr *message));
 
 #endif

@@ -135,7 +135,7 @@ static uint64_t fuzz_answers(uint64_t turns)
             struct kernel_route route = {.addr = drawn(UINT32_MAX), .len = (uint8_t)drawn(33), .table = 254};
             struct nlmsghdr *at = (void *)(room + size);
             size_t taken = netlink_route(at, &route, true, 0);
-            at->nlmsg_seq = 5 + drawn(BATCH);
+            at->nlmsg_seq = 5 + drawn(drawn(2) ? BATCH : 1);
             at->nlmsg_type = drawn(2) ? at->nlmsg_type : (uint16_t)(drawn(2) ? NLMSG_ERROR : NLMSG_DONE);
             size += taken;
         }
@@ -147,7 +147,7 @@ static uint64_t fuzz_answers(uint64_t turns)
             continue;
         memcpy(bytes, room, size);
         EXPECT(requests_note_answers(&batch, 5, bytes, size) <= 4);
-        requests_read_dump(bytes, size, &changed, &good, count_message);
+        requests_read_dump(5 + drawn(2), bytes, size, &changed, &good, count_message);
         free(bytes);
     }
     return good;
