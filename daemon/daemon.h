@@ -13,8 +13,6 @@
 #include <netinet/in.h>
 #include <sys/stat.h>
 
-#define DUALNETD_VERSION "1.0"
-
 enum {
     TCP_PORT = 6187,
     PART = 256,         /* rows that are put in force at a time */

@@ -10,6 +10,7 @@
 
 static const char USAGE[] =
     "usage: dualnetctl [--socket PATH] [--json] COMMAND\n"
+    "       dualnetctl --help | --version\n"
     "\n"
     "  table               rows in force\n"
     "  state [PREFIX]      what the router knows of each prefix\n"
@@ -122,6 +123,8 @@ int main(int count, char **words)
             path = words[++at];
         } else if (strcmp(words[at], "--help") == 0) {
             return fputs(USAGE, stdout) < 0 || fflush(stdout);
+        } else if (strcmp(words[at], "--version") == 0) {
+            return printf("dualnetctl %s\n", DUALNETD_VERSION) < 0 || fflush(stdout);
         } else {
             break;
         }
