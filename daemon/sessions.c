@@ -618,13 +618,27 @@ int64_t sessions_deadline(const struct daemon *daemon, int64_t now)
 
 /* ---- neighbours that come and go */
 
-/* A port that was another neighbour's goes on behind its sessions. */
+/* A port goes on behind its sessions, also for another neighbour, because the router takes no session twice. So a
+ * neighbour gets the port again that it had. Another gets the one whose number is lowest, because it refuses a number
+ * that is far ahead of its own. */
+static struct peer *free_port(struct daemon *daemon, struct in_addr address)
+{
+    struct peer *found = daemon->peer_count < TUHVONDI_PORTS ? peers_end(daemon) : NULL;
+    for (struct peer *peer = daemon->peers; peer < peers_end(daemon); peer++) {
+        if (peer->used)
+            continue;
+        if (address.s_addr && peer->config.address.s_addr == address.s_addr)
+            return peer;
+        if (!found || peer->last < found->last)
+            found = peer;
+    }
+    return found;
+}
+
 const char *peer_add(struct daemon *daemon, const struct neighbour *neighbour)
 {
-    struct peer *peer = daemon->peers;
-    while (peer < peers_end(daemon) && peer->used)
-        peer++;
-    if (peer == daemon->peers + TUHVONDI_PORTS)
+    struct peer *peer = free_port(daemon, neighbour->address);
+    if (!peer)
         return "there are at most 32 neighbours";
     uint16_t last = peer->last;
     memset(peer, 0, offsetof(struct peer, in));

@@ -1,4 +1,4 @@
-/* Frames, numbers, configurations, prefix lists, the table of prefixes, and messages of rtnetlink. */
+/* Frames, numbers, configurations, prefix lists, ports, the table of prefixes, and messages of rtnetlink. */
 #include "daemon.h"
 #include "netlink.h"
 #include "test.h"
@@ -231,6 +231,43 @@ static void test_lists(void)
     EXPECT(!config_same_list(&config, &other, "m"));
 }
 
+/* ---- ports */
+
+static struct daemon state;
+
+static size_t port_for(uint32_t address)
+{
+    const struct neighbour neighbour = {.address = {htonl(address)}, .cost = 1};
+    EXPECT(!peer_add(&state, &neighbour));
+    return port_of(&state, peer_of(&state, neighbour.address));
+}
+
+static void let_all_go(void)
+{
+    for (size_t i = 0; i < TUHVONDI_PORTS; i++)
+        state.peers[i].used = false;
+}
+
+/* A neighbour has the port again that it had; another the one of the lowest session; and none is left behind 32. */
+static void test_ports(void)
+{
+    const struct neighbour more = {.address = {htonl(99)}, .cost = 1};
+    state.listener = -1;
+    EXPECT(port_for(1) == 0 && port_for(2) == 1);
+    state.peers[0].last = 5;
+    state.peers[1].last = 6;
+    let_all_go();
+    EXPECT(port_for(3) == 2 && port_for(2) == 1 && port_for(1) == 0);
+    EXPECT(state.peers[0].last == 5 && state.peers[1].last == 6);
+    for (uint32_t i = 4; i <= TUHVONDI_PORTS; i++)
+        EXPECT(port_for(i) == i - 1);
+    EXPECT(peer_add(&state, &more) && !peer_of(&state, more.address));
+    for (size_t i = 0; i < TUHVONDI_PORTS; i++)
+        state.peers[i].last = (uint16_t)(i == 7 ? 3 : 10 + i);
+    let_all_go();
+    EXPECT(port_for(99) == 7 && state.peers[7].last == 3);
+}
+
 /* ---- the table of prefixes, beside a plain list */
 
 static void test_prefixes(void)
@@ -298,8 +335,9 @@ int main(void)
     test_bad_config();
     test_long_config();
     test_lists();
+    test_ports();
     test_prefixes();
     test_netlink();
-    puts("units: frames, words, configurations, lists, prefixes and rtnetlink are as they have to be");
+    puts("units: frames, words, configurations, lists, ports, prefixes and rtnetlink are as they have to be");
     return 0;
 }
