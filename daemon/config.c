@@ -5,7 +5,7 @@
 #include <errno.h>
 #include <string.h>
 
-enum { MOST_WORDS = 16, LINE_SIZE = 1024, MOST_COMPLAINTS = 20 };
+enum { MOST_WORDS = 16, LINE_SIZE = 1024, MOST_COMPLAINTS = 20, NO_BOUND = 33 };
 
 /* ---- what each keyword takes: what is wrong with its words; NULL: nothing */
 
@@ -41,64 +41,101 @@ static bool copy_name(const char *word, char name[NAME_SIZE])
     return true;
 }
 
-/* Takes the option at words[0], and the word after it where it has one: how many words; 0: it is none. */
-static size_t take_option(struct neighbour *to, size_t count, char **words, const char **wrong)
+enum option { PASSIVE, TTL_SECURITY, MOST, SECRET, PREFIXES, LIST, NO_OPTION };
+
+static enum option option_of(const char *word)
 {
-    const char *value = count > 1 ? words[1] : NULL;
-    if (strcmp(words[0], "passive") == 0) {
+    static const char *const NAMES[] = {"passive", "ttl-security", "most", "secret", "most-prefixes", "list"};
+    unsigned option = 0;
+    while (option < NO_OPTION && strcmp(word, NAMES[option]) != 0)
+        option++;
+    return option;
+}
+
+/* Takes an option, and the word behind it where it has one: what is wrong; NULL: nothing. */
+static const char *take_option(struct neighbour *to, uint32_t *most, enum option option, const char *value)
+{
+    switch (option) {
+    case PASSIVE:
         to->passive = true;
-        return 1;
-    }
-    if (strcmp(words[0], "ttl-security") == 0) {
+        return NULL;
+    case TTL_SECURITY:
         to->ttl_security = true;
-        return 1;
-    }
-    if (strcmp(words[0], "secret") == 0 && value) {
+        return NULL;
+    case MOST:
+        return read_number(value, 1, TUHVONDI_PORTS, most) ? NULL : "most is a number from 1 to 32";
+    case SECRET:
         if (strlen(value) >= SECRET_SIZE)
-            *wrong = "a secret has at most 80 bytes";
-        else
-            strcpy(to->secret, value);
-        return 2;
+            return "a secret has at most 80 bytes";
+        strcpy(to->secret, value);
+        return NULL;
+    case PREFIXES:
+        return read_number(value, 1, MOST_PREFIXES, &to->most_prefixes) ? NULL
+                                                                        : "most-prefixes is a number from 1 to 4096";
+    default:
+        return copy_name(value, to->list) ? NULL : "the name of a list has at most 31 bytes";
     }
-    if (strcmp(words[0], "most-prefixes") == 0 && value) {
-        if (!read_number(value, 1, MOST_PREFIXES, &to->most_prefixes))
-            *wrong = "most-prefixes is a number from 1 to 4096";
-        return 2;
+}
+
+/* Takes the cost and the options behind it, each once. Who is sought (`most`) is not told to be passive. */
+static const char *take_link(struct neighbour *to, uint32_t *most, size_t count, char **words)
+{
+    const char *wrong = NULL;
+    unsigned seen = 0;
+    if (!read_number(words[0], 1, 65535, &to->cost))
+        return "a cost is a number from 1 to 65535";
+    for (size_t at = 1; at < count && !wrong; at++) {
+        enum option option = option_of(words[at]);
+        bool has_value = option >= MOST;
+        if (option == NO_OPTION || option == (most ? PASSIVE : MOST) || (has_value && at + 1 == count))
+            return most ? "an option is most N, ttl-security, secret TEXT, most-prefixes N or list NAME"
+                        : "an option is passive, ttl-security, secret TEXT, most-prefixes N or list NAME";
+        if (seen >> option & 1)
+            return "an option stands twice";
+        seen |= 1U << option;
+        at += has_value;
+        wrong = take_option(to, most, option, words[at]);
     }
-    if (strcmp(words[0], "list") == 0 && value) {
-        if (!copy_name(value, to->list))
-            *wrong = "the name of a list has at most 31 bytes";
-        return 2;
-    }
-    return 0;
+    return wrong;
+}
+
+static const char *add_neighbours(struct config *config, const struct neighbour *neighbour, uint32_t count)
+{
+    if (config->neighbour_count + count > TUHVONDI_PORTS)
+        return "there are at most 32 neighbours";
+    for (; count > 0; count--)
+        config->neighbours[config->neighbour_count++] = *neighbour;
+    config->has_secret |= neighbour->secret[0] != '\0';
+    return NULL;
 }
 
 const char *config_neighbour(struct config *config, size_t count, char **words)
 {
     struct neighbour found = {0};
-    const char *wrong = NULL;
     if (count < 2)
         return "expected: neighbour ADDRESS COST, and options";
     if (!read_address(words[0], &found.address) || !found.address.s_addr)
         return "a neighbour has an address, as 10.0.0.2";
-    if (!read_number(words[1], 1, 65535, &found.cost))
-        return "a cost is a number from 1 to 65535";
-    for (size_t at = 2; at < count && !wrong;) {
-        size_t taken = take_option(&found, count - at, words + at, &wrong);
-        at += taken;
-        if (taken == 0)
-            wrong = "an option is passive, ttl-security, secret TEXT, most-prefixes N or list NAME";
-    }
+    const char *wrong = take_link(&found, NULL, count - 1, words + 1);
     for (size_t i = 0; i < config->neighbour_count && !wrong; i++)
         if (config->neighbours[i].address.s_addr == found.address.s_addr)
             wrong = "the neighbour stands twice";
-    if (!wrong && config->neighbour_count == TUHVONDI_PORTS)
-        wrong = "there are at most 32 neighbours";
-    if (!wrong) {
-        config->neighbours[config->neighbour_count++] = found;
-        config->has_secret |= found.secret[0] != '\0';
-    }
-    return wrong;
+    return wrong ? wrong : add_neighbours(config, &found, 1);
+}
+
+/* Each neighbour that may be found is one of the configuration, and has its port from the beginning. */
+static const char *take_discover(struct config *config, size_t count, char **words)
+{
+    struct neighbour sought = {0};
+    uint32_t most = 1;
+    if (strlen(words[0]) >= sizeof sought.interface)
+        return "the name of an interface has at most 15 bytes";
+    strcpy(sought.interface, words[0]);
+    const char *wrong = take_link(&sought, &most, count - 1, words + 1);
+    for (size_t i = 0; i < config->neighbour_count && !wrong; i++)
+        if (strcmp(config->neighbours[i].interface, sought.interface) == 0)
+            wrong = "the interface stands twice";
+    return wrong ? wrong : add_neighbours(config, &sought, most);
 }
 
 const char *config_attachment(size_t count, char **words, struct tuhvondi_attachment *attachment)
@@ -190,23 +227,23 @@ static const char *take_metrics(struct config *config, size_t count, char **word
 static const char *take_list_line(struct config *config, size_t count, char **words, bool accepts)
 {
     struct list_line line = {.accepts = accepts};
-    uint32_t least = 0, most = 0;
+    uint32_t least = NO_BOUND, most = NO_BOUND;
     if (!copy_name(words[0], line.name))
         return "the name of a list has at most 31 bytes";
     const char *wrong = read_prefix(words[1], &line.prefix);
     for (size_t i = 2; i < count && !wrong; i += 2) {
         uint32_t *bound = strcmp(words[i], "le") == 0 ? &most : strcmp(words[i], "ge") == 0 ? &least : NULL;
-        if (!bound || *bound || i + 1 == count || !read_number(words[i + 1], line.prefix.len, 32, bound))
+        if (!bound || *bound != NO_BOUND || i + 1 == count || !read_number(words[i + 1], line.prefix.len, 32, bound))
             wrong = "expected: le N and ge N, each no less than the prefix's length, and at most 32";
     }
-    if (!wrong && most && least > most)
+    if (!wrong && least != NO_BOUND && least > most)
         wrong = "no length is within these bounds";
     if (!wrong && config->line_count == MOST_LIST_LINES)
         wrong = "there are at most 1024 lines of prefix lists";
     if (wrong)
         return wrong;
-    line.most = (uint8_t)(most ? most : least ? 32 : line.prefix.len);
-    line.least = (uint8_t)(least ? least : line.prefix.len);
+    line.most = (uint8_t)(most != NO_BOUND ? most : least != NO_BOUND ? 32 : line.prefix.len);
+    line.least = (uint8_t)(least != NO_BOUND ? least : line.prefix.len);
     config->lines[config->line_count++] = line;
     return NULL;
 }
@@ -235,6 +272,7 @@ static const struct keyword {
     {"control", take_control, 1, 1, true, "control PATH"},
     {"neighbour", config_neighbour, 2, MOST_WORDS - 1, false, "neighbour ADDRESS COST, and options"},
     {"neighbor", config_neighbour, 2, MOST_WORDS - 1, false, "neighbor ADDRESS COST, and options"},
+    {"discover", take_discover, 2, MOST_WORDS - 1, false, "discover INTERFACE COST, and options"},
     {"attach", take_attach, 2, 2, false, "attach PREFIX COST"},
     {"install", take_install, 1, 1, true, "install yes|no"},
     {"table", take_table, 1, 1, true, "table NUMBER"},
@@ -338,7 +376,7 @@ static void check_whole(struct reading *at, const struct config *config)
         snprintf(text, sizeof text, "a neighbour names the list %s, of which there is no line", one->list);
         if (!config_has_list(config, one->list))
             fault(at, "", text);
-        if (one->address.s_addr == config->listen.s_addr)
+        if (one->address.s_addr && one->address.s_addr == config->listen.s_addr)
             fault(at, "", "a neighbour has the address at which this router listens");
     }
 }

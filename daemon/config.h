@@ -5,6 +5,7 @@
 #include "text.h"
 #include "tuhvondi_router.h"
 
+#include <net/if.h>
 #include <stdio.h>
 #include <sys/un.h>
 
@@ -15,8 +16,10 @@ enum {
     NAME_SIZE = 32,
 };
 
+/* With an `interface` it is sought there, and the address is that of whoever was found; zero: nobody yet. */
 struct neighbour {
     struct in_addr address;
+    char interface[IF_NAMESIZE];
     uint32_t cost;
     bool passive, ttl_security;
     uint32_t most_prefixes; /* that it may tell of at a time; 0: as many as the router may know */

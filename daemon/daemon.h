@@ -56,7 +56,8 @@ struct peer_counters {
  * the router could not be told yet. `stale`: rows by the last session may still forward. With routes in the kernel it
  * is reached by the interface `index`; `filtered`: what comes in by it is dropped; `lost`: the kernel refused a
  * route. `removed_at`: it is no neighbour any more, and its filter goes then. `waits_until`: after faults, no session
- * before. */
+ * before. Of one that is sought: `announced`, when it said last that it is there; `over`, since when there is no
+ * session. */
 struct peer {
     struct neighbour config;
     char name[INET_ADDRSTRLEN], interface[IF_NAMESIZE];
@@ -66,7 +67,7 @@ struct peer {
     uint16_t last;
     unsigned index, attempts, faults, shorts, complaints;
     uint32_t reported; /* prefixes of which it told a finite distance last */
-    int64_t heard, said, begun, next_try, waits_until, removed_at, complained;
+    int64_t heard, said, begun, next_try, waits_until, removed_at, complained, announced, over;
     size_t in_count, in_from, out_count, out_from;
     struct candidate candidates[CANDIDATES];
     struct peer_counters counters;
@@ -82,6 +83,23 @@ struct trace {
     int from, next;
     uint64_t client;
     int64_t until;
+};
+
+/* An interface on which neighbours are sought. The socket `fd` is of the interface of the number `index`. Announcements
+ * go from the address `own` (zero: there is none), and come from those beside `base`. `told`: of what there was a line. */
+struct segment {
+    char interface[IF_NAMESIZE];
+    int fd;
+    unsigned index, told;
+    struct in_addr own, base, mask;
+};
+
+/* What came to a segment. A size of more than a frame tells that it was longer. */
+struct announcement {
+    struct in_addr from;
+    int ttl;
+    size_t size;
+    unsigned char bytes[FRAME_SIZE + 1];
 };
 
 /* ---- clients */
@@ -131,6 +149,10 @@ struct daemon {
     struct prefixes prefixes;
     struct peer peers[TUHVONDI_PORTS];
     size_t peer_count; /* ports that are, or were, in use */
+    struct segment segments[TUHVONDI_PORTS];
+    size_t segment_count;
+    int64_t next_announcement;
+    uint64_t refused; /* announcements */
     struct trace traces[TRACES];
     uint16_t trace_number;
     struct client clients[CLIENTS];
@@ -151,6 +173,12 @@ static inline uint8_t port_of(const struct daemon *daemon, const struct peer *pe
 static inline struct peer *peers_end(struct daemon *daemon)
 {
     return daemon->peers + daemon->peer_count;
+}
+
+/* Whether somebody is at the port: where a neighbour is sought, perhaps nobody was found. */
+static inline bool is_somebody(const struct peer *peer)
+{
+    return peer->used && !peer->removed_at && peer->config.address.s_addr;
 }
 
 static inline bool is_in_session(const struct peer *peer, uint16_t session)
@@ -180,6 +208,8 @@ uint32_t router_detach(struct daemon *daemon, uint32_t addr, uint8_t len);
 /* What is wrong, if the neighbour cannot be had; NULL: nothing. */
 const char *peer_add(struct daemon *daemon, const struct neighbour *neighbour);
 void peer_remove(struct daemon *daemon, struct peer *peer);
+/* The port is that of the neighbour which was found at this address, or (0) of nobody: whether it can be. */
+bool peer_give(struct daemon *daemon, struct peer *peer, struct in_addr address);
 struct peer *peer_of(struct daemon *daemon, struct in_addr address);
 void peer_put(struct daemon *daemon, struct peer *peer, const struct frame *frame);
 void peer_hang_up(struct daemon *daemon, struct peer *peer, enum ending ending, const char *why);
@@ -201,6 +231,14 @@ int sessions_listen(struct daemon *daemon);
 bool sessions_set_secret(int fd, const struct neighbour *neighbour);
 /* The listening socket takes only what passed no router, if a neighbour asks for that. */
 void sessions_set_ttl(int fd, const struct config *config);
+
+/* ---- discover.c */
+
+/* Seeks neighbours on the interfaces that the configuration names, and on no others. */
+void discover_begin(struct daemon *daemon, const struct config *config);
+void discover_take(struct daemon *daemon, struct segment *segment, const struct announcement *heard);
+void discover_read(struct daemon *daemon);
+void discover_tick(struct daemon *daemon, int64_t now);
 
 /* ---- traces.c */
 

@@ -49,6 +49,8 @@ static bool is_well_formed(const struct frame *frame)
         return frame->kind == FRAME_VERSION && !has_prefix;
     case FRAME_ALIVE:
         return frame->kind == 0 && frame->number == 0 && frame->addr == 0 && !has_prefix;
+    case FRAME_ANNOUNCEMENT:
+        return frame->kind == FRAME_VERSION && frame->number != 0 && frame->value != 0 && frame->len == 0;
     case FRAME_TRACE:
         return frame->kind < HOPS && !has_prefix;
     case FRAME_ROUTER:

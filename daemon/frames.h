@@ -22,6 +22,9 @@ enum frame_type {
     FRAME_HELLO = 'H',
     /* A sign of life: all else is zero. */
     FRAME_ALIVE = 'A',
+    /* To a whole segment, as a datagram. Kind: the version. Number: the port of TCP. Address: the sender's router id.
+     * Value: the sender's address there. */
+    FRAME_ANNOUNCEMENT = 'N',
     /* A message of the router: its kind, session (number), prefix (address, length) and value. */
     FRAME_MESSAGE = 'M',
     /* A trace goes on. Kind: how many hops more. Number: the trace at the sender. Address: the packet's. */

@@ -88,6 +88,19 @@ static unsigned find_interface(struct in_addr neighbour, char name[IF_NAMESIZE])
     return index && if_indextoname(index, name) ? index : 0;
 }
 
+/* The interface of this name, where neighbours are sought. What the host sends itself comes in by the loopback, which no
+ * rule may drop. */
+static unsigned named_interface(const struct daemon *daemon, const char *given, char name[IF_NAMESIZE])
+{
+    struct ifreq request = {0};
+    unsigned index = if_nametoindex(given);
+    if (!index || !if_indextoname(index, name))
+        return 0;
+    memcpy(request.ifr_name, name, IF_NAMESIZE);
+    bool known = ioctl(daemon->kernel.device, SIOCGIFFLAGS, &request) == 0;
+    return known && !(request.ifr_flags & IFF_LOOPBACK) ? index : 0;
+}
+
 const char *const kernel_no_interface = "no interface leads to it";
 
 /* The interface was that of a neighbour which is none any more, and whose link is down for the router. Its filter is now
@@ -101,13 +114,15 @@ static void succeed(struct peer *peer, struct peer *old)
 }
 
 /* Finds the neighbour's interface, which may be down, and has what comes in by it dropped: what is wrong, if anything.
- * A filter knows packets by their interface, so no two neighbours are at one. */
+ * A filter knows packets by their interface, so no two neighbours are at one. Where one is sought, another may have rows
+ * by the process before this one, until it must have noticed its end. */
 const char *kernel_find_interface(struct daemon *daemon, struct peer *peer)
 {
     char name[IF_NAMESIZE] = "";
     if (!daemon->kernel.installs || peer->index)
         return NULL;
-    unsigned index = find_interface(peer->config.address, name);
+    const char *given = peer->config.interface;
+    unsigned index = *given ? named_interface(daemon, given, name) : find_interface(peer->config.address, name);
     if (!index)
         return kernel_no_interface;
     for (struct peer *other = daemon->peers; other < peers_end(daemon); other++) {
@@ -119,6 +134,8 @@ const char *kernel_find_interface(struct daemon *daemon, struct peer *peer)
     }
     memcpy(peer->interface, name, sizeof name);
     peer->index = index;
+    if (*given)
+        peer->waits_until = now_ms() + 2 * (int64_t)daemon->config.dead_ms;
     if (!kernel_filter(daemon, peer, true)) {
         peer->index = 0;
         return "what comes in from it is not dropped";

@@ -9,7 +9,7 @@
 #include <sys/select.h>
 #include <unistd.h>
 
-enum { BLOCKED_MS = 50, MOST_POLLS = 5 + TUHVONDI_PORTS * (1 + CANDIDATES) + CLIENTS };
+enum { BLOCKED_MS = 50, MOST_POLLS = 5 + TUHVONDI_PORTS * (2 + CANDIDATES) + CLIENTS };
 
 static volatile sig_atomic_t stopping, reloading;
 
@@ -41,6 +41,8 @@ static void gather(struct daemon *daemon, struct polled *polled)
     add(polled, accepts ? daemon->control : -1, POLLIN, NULL, NULL);
     add(polled, accepts ? daemon->metrics : -1, POLLIN, NULL, NULL);
     add(polled, accepts && !daemon->blocked ? daemon->listener : -1, POLLIN, NULL, NULL);
+    for (size_t i = 0; i < daemon->segment_count && !daemon->blocked; i++)
+        add(polled, daemon->segments[i].fd, POLLIN, NULL, NULL);
     for (struct peer *peer = daemon->peers; peer < peers_end(daemon); peer++) {
         bool writes = peer->state == PEER_CONNECTING || peer->out_count > 0;
         if (!peer->used)
@@ -67,6 +69,8 @@ static int patience(const struct daemon *daemon)
         next = now + BLOCKED_MS;
     if (next > daemon->next_forget)
         next = daemon->next_forget;
+    if (daemon->segment_count > 0 && next > daemon->next_announcement)
+        next = daemon->next_announcement;
     if (daemon->accepts_at > now && next > daemon->accepts_at)
         next = daemon->accepts_at;
     return next > now ? (int)(next - now) : 0;
@@ -94,6 +98,8 @@ static void take(struct daemon *daemon, const struct polled *polled)
     for (struct peer *peer = daemon->peers; peer < peers_end(daemon) && !daemon->blocked; peer++)
         if (peer->used)
             sessions_read_candidates(daemon, peer);
+    if (!daemon->blocked)
+        discover_read(daemon);
     if (polled->polls[4].revents)
         sessions_accept(daemon);
 }
@@ -135,6 +141,7 @@ static void turn(struct daemon *daemon, const sigset_t *mask)
     }
     if (daemon->kernel.installs && now >= daemon->kernel.next_check)
         daemon->kernel.check_due = true;
+    discover_tick(daemon, now);
     sessions_tick(daemon, now);
     traces_tick(daemon, now);
     control_tick(daemon, now);
@@ -192,6 +199,7 @@ static bool begin(struct daemon *daemon)
     }
     for (size_t i = 0; i < config->neighbour_count; i++)
         peer_add(daemon, &config->neighbours[i]);
+    discover_begin(daemon, config);
     if (!control_open(daemon))
         return false;
     if (!(config->installs ? kernel_open(daemon) : kernel_is_clear(daemon))) {

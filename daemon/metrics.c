@@ -40,7 +40,7 @@ static void put_messages(struct daemon *daemon, struct text *out, const char *na
     static const char *const KINDS[] = {"update", "query", "reply"};
     put_head(out, name, "counter", help);
     for (const struct peer *peer = daemon->peers; peer < peers_end(daemon); peer++)
-        for (size_t kind = 0; peer->used && kind < 3; kind++)
+        for (size_t kind = 0; is_somebody(peer) && kind < 3; kind++)
             text_put(out, "dualnetd_%s{neighbour=\"%s\",kind=\"%s\"} %" PRIu64 "\n", name, peer->name, KINDS[kind],
                      told ? peer->counters.told[kind] : peer->counters.taken[kind]);
 }
@@ -49,11 +49,11 @@ static void put_peers(struct daemon *daemon, struct text *out)
 {
     put_head(out, "neighbour_up", "gauge", "1 while the session of the neighbour is up.");
     for (const struct peer *peer = daemon->peers; peer < peers_end(daemon); peer++)
-        if (peer->used)
+        if (is_somebody(peer))
             text_put(out, "dualnetd_neighbour_up{neighbour=\"%s\"} %d\n", peer->name, peer->state == PEER_UP);
     put_head(out, "sessions_total", "counter", "Sessions that began.");
     for (const struct peer *peer = daemon->peers; peer < peers_end(daemon); peer++)
-        if (peer->used)
+        if (is_somebody(peer))
             text_put(out, "dualnetd_sessions_total{neighbour=\"%s\"} %" PRIu64 "\n", peer->name,
                      peer->counters.sessions);
 }
@@ -86,6 +86,7 @@ void metrics_answer(struct daemon *daemon, struct client *client)
     put(&body, "kernel_routes_refused_total", "counter", "Routes that the kernel refused.", daemon->kernel.refused);
     put(&body, "kernel_routes_repaired_total", "counter", "Prefixes whose routes others changed.",
         daemon->kernel.repaired);
+    put(&body, "announcements_refused_total", "counter", "Announcements that were not taken.", daemon->refused);
     put(&body, "blocked", "gauge", "1 while published rows do not forward yet.", daemon->blocked);
     text_put(&client->out, "HTTP/1.0 200 OK\r\nContent-Type: text/plain; version=0.0.4\r\nContent-Length: %zu\r\n"
              "Connection: close\r\n\r\n%s", body.count, body.count ? body.bytes : "");

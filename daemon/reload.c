@@ -55,54 +55,83 @@ static void keep_fixed(const struct config *old, struct config *new)
     new->metrics_address = old->metrics_address;
 }
 
-static const struct neighbour *neighbour_of(const struct config *config, struct in_addr address)
+/* Those that are sought on one interface differ by their order alone. */
+static bool is_same(const struct neighbour *one, const struct neighbour *other)
+{
+    return strcmp(one->interface, other->interface) == 0
+           && (*one->interface || one->address.s_addr == other->address.s_addr);
+}
+
+/* What the configuration has of the neighbour, behind as many as are like it. */
+static const struct neighbour *neighbour_of(const struct config *config, const struct neighbour *neighbour,
+                                            size_t behind)
 {
     for (size_t i = 0; i < config->neighbour_count; i++)
-        if (config->neighbours[i].address.s_addr == address.s_addr)
+        if (is_same(&config->neighbours[i], neighbour) && behind-- == 0)
             return &config->neighbours[i];
     return NULL;
 }
 
-/* A session ends if its connection would be another, or if its neighbour has to tell anew what a list refused. */
-static void change_peer(struct daemon *daemon, struct peer *peer, const struct neighbour *to, const struct config *new)
+/* How many ports before this one have a neighbour like it. */
+static size_t count_like(const struct daemon *daemon, const struct peer *end, const struct neighbour *neighbour)
+{
+    size_t count = 0;
+    for (const struct peer *peer = daemon->peers; peer < end; peer++)
+        count += peer->used && !peer->removed_at && is_same(&peer->config, neighbour);
+    return count;
+}
+
+/* A session ends if its connection would be another, or if its neighbour has to tell anew what a list refused. Who was
+ * found stays so. */
+static void change_peer(struct daemon *daemon, struct peer *peer, struct neighbour to, const struct config *new)
 {
     struct neighbour *old = &peer->config;
-    bool connects_anew = old->passive != to->passive || old->ttl_security != to->ttl_security
-                         || strcmp(old->secret, to->secret) != 0;
-    bool takes_other = strcmp(old->list, to->list) != 0 || !config_same_list(&daemon->config, new, to->list);
-    if (strcmp(old->secret, to->secret) != 0 && !sessions_set_secret(daemon->listener, to) && to->secret[0])
+    if (*to.interface) {
+        to.address = old->address;
+        to.passive = old->passive;
+    }
+    bool signs_anew = strcmp(old->secret, to.secret) != 0 && to.address.s_addr;
+    bool connects_anew = old->passive != to.passive || old->ttl_security != to.ttl_security || signs_anew;
+    bool takes_other = strcmp(old->list, to.list) != 0 || !config_same_list(&daemon->config, new, to.list);
+    if (signs_anew && !sessions_set_secret(daemon->listener, &to) && to.secret[0])
         say(LOG_ERR, "%s: its secret is not set: %s", peer->name, strerror(errno));
     if (connects_anew || takes_other)
         peer_hang_up(daemon, peer, BY_OPERATOR, "its configuration changed");
-    uint32_t status = old->cost == to->cost ? TUHVONDI_DONE : router_cost(daemon, peer, to->cost);
+    uint32_t status = old->cost == to.cost ? TUHVONDI_DONE : router_cost(daemon, peer, to.cost);
     if (status != TUHVONDI_DONE)
         say(LOG_ERR, "%s: its cost is not changed: %s", peer->name, tuhvondi_status_text(status));
-    uint32_t cost = peer->config.cost;
-    peer->config = *to;
-    peer->config.cost = cost;
+    to.cost = peer->config.cost;
+    peer->config = to;
+}
+
+static void add_neighbour(struct daemon *daemon, const struct neighbour *to)
+{
+    const char *wrong = NULL;
+    if (to->address.s_addr && peer_of(daemon, to->address))
+        wrong = "it was found on an interface";
+    else if (to->address.s_addr && to->secret[0] && !sessions_set_secret(daemon->listener, to))
+        wrong = "its secret is not set";
+    else
+        wrong = peer_add(daemon, to);
+    if (wrong)
+        say(LOG_ERR, "reload: a neighbour is not taken: %s", wrong);
 }
 
 static void change_neighbours(struct daemon *daemon, const struct config *new)
 {
     for (struct peer *peer = daemon->peers; peer < peers_end(daemon); peer++) {
-        const struct neighbour *to = neighbour_of(new, peer->config.address);
+        const struct neighbour *to = neighbour_of(new, &peer->config, count_like(daemon, peer, &peer->config));
         if (peer->used && !peer->removed_at && !to)
             peer_remove(daemon, peer);
         else if (peer->used && !peer->removed_at)
-            change_peer(daemon, peer, to, new);
+            change_peer(daemon, peer, *to, new);
     }
     for (size_t i = 0; i < new->neighbour_count; i++) {
         const struct neighbour *to = &new->neighbours[i];
-        const char *wrong = NULL;
-        if (peer_of(daemon, to->address))
-            continue;
-        if (to->secret[0] && !sessions_set_secret(daemon->listener, to))
-            wrong = "its secret is not set";
-        if (!wrong)
-            wrong = peer_add(daemon, to);
-        if (wrong)
-            say(LOG_ERR, "reload: a neighbour is not taken: %s", wrong);
+        if (neighbour_of(new, to, count_like(daemon, peers_end(daemon), to)) == to)
+            add_neighbour(daemon, to);
     }
+    discover_begin(daemon, new);
 }
 
 static const struct tuhvondi_attachment *attachment_of(const struct config *config,

@@ -31,9 +31,17 @@ enum {
 struct peer *peer_of(struct daemon *daemon, struct in_addr address)
 {
     for (struct peer *peer = daemon->peers; peer < peers_end(daemon); peer++)
-        if (peer->used && !peer->removed_at && peer->config.address.s_addr == address.s_addr)
+        if (is_somebody(peer) && peer->config.address.s_addr == address.s_addr)
             return peer;
     return NULL;
+}
+
+static void name_peer(struct peer *peer)
+{
+    if (peer->config.address.s_addr)
+        address_text(peer->config.address, peer->name);
+    else
+        memcpy(peer->name, peer->config.interface, sizeof peer->name);
 }
 
 /* Whoever can connect can have lines written, so there are few a second. */
@@ -103,6 +111,7 @@ void peer_hang_up(struct daemon *daemon, struct peer *peer, enum ending ending, 
     if (was_up) {
         say(LOG_NOTICE, "%s: session %u ends: %s", peer->name, peer->last, why);
         peer->counters.faults += ending == BY_FAULT;
+        peer->over = now_ms();
         tell_down(daemon, peer);
     } else if (ending == BY_FAULT) {
         complain_of(peer, why);
@@ -122,7 +131,7 @@ void peer_hang_up(struct daemon *daemon, struct peer *peer, enum ending ending, 
 /* Whether a new session may come: the last one is over, and no row by it forwards. */
 static bool may_begin(const struct daemon *daemon, const struct peer *peer)
 {
-    return !peer->shut && !peer->removed_at && !peer->leaving && !peer->stale && !daemon->blocked
+    return is_somebody(peer) && !peer->shut && !peer->leaving && !peer->stale && !daemon->blocked
            && (!daemon->kernel.installs || peer->index) && now_ms() >= peer->waits_until
            && now_ms() >= peer->next_try;
 }
@@ -498,7 +507,7 @@ static const char *take_frame(struct daemon *daemon, struct peer *peer, const un
             begin_session(daemon, peer, frame.number);
         return wrong;
     }
-    if (frame.type == FRAME_HELLO)
+    if (frame.type == FRAME_HELLO || frame.type == FRAME_ANNOUNCEMENT)
         return "a frame is not due";
     if (frame.type == FRAME_MESSAGE)
         return take_message(daemon, peer, &frame);
@@ -645,7 +654,7 @@ const char *peer_add(struct daemon *daemon, const struct neighbour *neighbour)
     peer->config = *neighbour;
     peer->last = last;
     peer->fd = -1;
-    address_text(neighbour->address, peer->name);
+    name_peer(peer);
     for (size_t i = 0; i < CANDIDATES; i++)
         peer->candidates[i].fd = -1;
     peer->used = true;
@@ -659,15 +668,37 @@ const char *peer_add(struct daemon *daemon, const struct neighbour *neighbour)
     return wrong;
 }
 
-/* What comes in from it is dropped until it must have noticed. Its secret goes at once: whoever has the address later
- * may have none. */
-void peer_remove(struct daemon *daemon, struct peer *peer)
+/* Its secret goes at once: whoever has the address later may have none. */
+static void part_from(struct daemon *daemon, struct peer *peer)
 {
     struct neighbour unsigned_one = {.address = peer->config.address};
-    if (peer->config.secret[0])
+    if (peer->config.secret[0] && is_somebody(peer))
         sessions_set_secret(daemon->listener, &unsigned_one);
     peer_hang_up(daemon, peer, BY_OPERATOR, "it is no neighbour any more");
     for (size_t i = 0; i < CANDIDATES; i++)
         drop(&peer->candidates[i]);
+}
+
+/* What comes in from it is dropped until it must have noticed. */
+void peer_remove(struct daemon *daemon, struct peer *peer)
+{
+    part_from(daemon, peer);
     peer->removed_at = now_ms() + 2 * (int64_t)daemon->config.dead_ms;
+}
+
+/* It has no session now. Packets may wait for its link address, as after a session. */
+bool peer_give(struct daemon *daemon, struct peer *peer, struct in_addr address)
+{
+    part_from(daemon, peer);
+    peer->config.address = address;
+    bool done = !address.s_addr || !peer->config.secret[0] || sessions_set_secret(daemon->listener, &peer->config);
+    if (!done)
+        peer->config.address.s_addr = 0;
+    name_peer(peer);
+    peer->config.passive = false;
+    peer->counters = (struct peer_counters){0};
+    peer->attempts = peer->faults = peer->shorts = 0;
+    peer->stale = true;
+    peer->over = now_ms();
+    return done;
 }

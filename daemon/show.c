@@ -89,7 +89,7 @@ static void show_head(struct daemon *daemon, struct text *out, bool json)
     text_put(out, json ? "{\"generation\":%" PRIu64 ",\"neighbours\":[" : "generation %" PRIu64 "\n", in_force);
     for (const struct peer *peer = daemon->peers; peer < peers_end(daemon); peer++) {
         bool up = peer->state == PEER_UP, heard = up && peer->lets_in;
-        if (!peer->used || peer->removed_at)
+        if (!is_somebody(peer))
             continue;
         if (json)
             text_put(out, "%s{\"address\":\"%s\",\"up\":%s,\"session\":%u,\"heard\":%s}", is_first ? "" : ",",
@@ -192,15 +192,18 @@ void show_hop(struct text *out, bool json, uint32_t id, uint8_t end)
 static const char *state_name(const struct peer *peer)
 {
     static const char *const STATES[] = {"idle", "connecting", "greeting", "up"};
-    return peer->shut ? "shut" : STATES[peer->state];
+    return !is_somebody(peer) ? "sought" : peer->shut ? "shut" : STATES[peer->state];
 }
 
 static void show_neighbour_json(struct text *out, const struct peer *peer, int64_t now)
 {
     const struct peer_counters *counters = &peer->counters;
-    text_put(out, "{\"address\":\"%s\",\"state\":\"%s\",\"session\":%u,\"cost\":%" PRIu32 ",\"interface\":",
-             peer->name, state_name(peer), peer->last, peer->config.cost);
+    text_put(out, is_somebody(peer) ? "{\"address\":\"%s\"" : "{\"address\":null", peer->name);
+    text_put(out, ",\"state\":\"%s\",\"session\":%u,\"cost\":%" PRIu32 ",\"interface\":", state_name(peer), peer->last,
+             peer->config.cost);
     text_put_string(out, peer->interface);
+    text_put(out, ",\"discover\":");
+    text_put_string(out, peer->config.interface);
     text_put(out, ",\"seconds\":%" PRId64 ",\"filtered\":%s,\"passive\":%s,\"prefixes\":%" PRIu32
              ",\"sessions\":%" PRIu64 ",\"faults\":%" PRIu64, peer->begun ? (now - peer->begun) / 1000 : 0,
              peer->filtered ? "true" : "false", peer->config.passive ? "true" : "false", peer->reported,
@@ -219,7 +222,9 @@ static void show_neighbour(struct text *out, const struct peer *peer, int64_t no
     if (peer->interface[0])
         text_put(out, ", %s%s", peer->interface, peer->filtered ? " (filtered)" : "");
     if (now < peer->waits_until)
-        text_put(out, ", waits %" PRId64 " s after a fault", (peer->waits_until - now + 999) / 1000);
+        text_put(out, ", waits %" PRId64 " s", (peer->waits_until - now + 999) / 1000);
+    if (peer->config.interface[0] && is_somebody(peer))
+        text_put(out, ", found on %s", peer->config.interface);
     text_put(out, "%s\n", peer->config.passive ? ", passive" : "");
 }
 
@@ -274,6 +279,7 @@ static void show_counters(struct daemon *daemon, struct text *out, bool json)
                  {"sessions", sums.sessions},
                  {"faults of neighbours", sums.faults},
                  {"connections of strangers", daemon->strangers},
+                 {"announcements refused", daemon->refused},
                  {"prefixes", counts.prefixes},
                  {"prefixes forgotten", daemon->router.forgotten},
                  {"publications", counts.generation},

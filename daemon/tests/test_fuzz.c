@@ -1,5 +1,5 @@
-/* Gives the readers of the daemon what nobody should send: frames, configurations, lines at the control socket, and
- * messages of rtnetlink, good ones and spoilt ones.
+/* Gives the readers of the daemon what nobody should send: frames, announcements, configurations, lines at the control
+ * socket, and messages of rtnetlink, good ones and spoilt ones.
  *
  *     test_fuzz [COUNT [SEED]]
  *
@@ -39,13 +39,14 @@ static uint64_t fuzz_frames(uint64_t turns)
     uint64_t good = 0;
     for (uint64_t i = 0; i < turns; i++) {
         unsigned char bytes[FRAME_SIZE], back[FRAME_SIZE];
-        uint8_t type = (uint8_t)"HAMMMTR"[drawn(7)];
-        uint32_t kind = type == FRAME_ALIVE ? 0 : type == FRAME_HELLO ? FRAME_VERSION : drawn(4);
+        uint8_t type = (uint8_t)"HAMMMTRN"[drawn(8)];
+        bool tells = type == FRAME_HELLO || type == FRAME_ANNOUNCEMENT;
+        uint32_t kind = type == FRAME_ALIVE ? 0 : tells ? FRAME_VERSION : drawn(4);
         struct frame frame = {.type = type, .kind = (uint8_t)kind,
                               .len = (uint8_t)(type == FRAME_MESSAGE ? 20 + drawn(14) : 0),
                               .number = (uint16_t)(type == FRAME_ALIVE ? 0 : drawn(1 << 16)),
                               .addr = type == FRAME_ALIVE ? 0 : drawn(1 << 20) << 12,
-                              .value = type == FRAME_MESSAGE ? drawn(UINT32_MAX) : 0};
+                              .value = type == FRAME_MESSAGE || type == FRAME_ANNOUNCEMENT ? drawn(UINT32_MAX) : 0};
         frame_write(&frame, bytes);
         if (drawn(2))
             spoil(bytes, sizeof bytes);
@@ -68,6 +69,7 @@ static uint64_t fuzz_configs(uint64_t turns)
 {
     static const char GOOD[] = "router-id 10.255.0.1\nlisten 10.0.0.1\ncontrol /run/x\nneighbour 10.0.0.2 10\n"
                                "neighbour 10.0.0.6 9 passive secret ab ttl-security most-prefixes 9 list l\n"
+                               "discover e0 5 most 3 secret ab list l\n"
                                "accept l 10.0.0.0/8 le 24 ge 9\ndeny l 0.0.0.0/0\nattach 10.1.0.0/16 1\ninstall yes\n"
                                "table 100\nmetric 7\nprotocol 250\nalive 100\ndead 350\nlog syslog debug\n"
                                "metrics 127.0.0.1 9187\n";
@@ -183,6 +185,63 @@ static void end_daemon(struct daemon *daemon, int *far_ends)
     free(daemon);
 }
 
+/* ---- announcements */
+
+/* An announcement: whether it is good. */
+static bool drawn_announcement(struct announcement *heard, const struct daemon *daemon)
+{
+    uint32_t from = (drawn(8) ? 0x0afe0000 : 0x0afe0100) + drawn(16);
+    struct frame frame = {.type = FRAME_ANNOUNCEMENT, .kind = FRAME_VERSION, .number = TCP_PORT, .value = from,
+                          .addr = drawn(16) ? from : ntohl(daemon->config.router_id.s_addr)};
+    unsigned char good[FRAME_SIZE];
+    *heard = (struct announcement){.from = {htonl(from)}, .ttl = drawn(8) ? 255 : 254,
+                                   .size = drawn(8) ? FRAME_SIZE : drawn(FRAME_SIZE + 2)};
+    frame_write(&frame, good);
+    memcpy(heard->bytes, good, sizeof good);
+    if (drawn(4) == 0)
+        spoil(heard->bytes, sizeof good);
+    return from >> 8 == 0x0afe00 && heard->ttl == 255 && heard->size == FRAME_SIZE
+           && heard->bytes[0] == 'N' && memcmp(heard->bytes + 1, good + 1, 3) == 0
+           && memcmp(heard->bytes + 8, good + 8, 8) == 0
+           && memcmp(heard->bytes + 4, &daemon->config.router_id, sizeof daemon->config.router_id) != 0;
+}
+
+/* A good one finds its sender, if there is a place; no other changes anything; and no more are found than may be. */
+static uint64_t fuzz_announcements(uint64_t turns)
+{
+    static const uint32_t OWN = 0x0afe0007;
+    struct daemon *daemon = daemon_of(0);
+    struct segment segment = {.interface = "e0", .fd = -1, .own = {htonl(OWN)}, .base = {htonl(OWN)},
+                              .mask = {htonl(0xffffff00)}};
+    const struct neighbour sought = {.interface = "e0", .cost = 1};
+    uint64_t found = 0;
+    int64_t now = now_ms();
+    daemon->config.dead_ms = 0;
+    for (size_t i = 0; i < 3; i++)
+        EXPECT(!peer_add(daemon, &sought));
+    for (uint64_t i = 0; i < turns; i++) {
+        struct announcement heard;
+        struct in_addr before[3];
+        bool good = drawn_announcement(&heard, daemon) && heard.from.s_addr != segment.own.s_addr, changed = false;
+        for (size_t port = 0; port < 3; port++)
+            before[port] = daemon->peers[port].config.address;
+        discover_take(daemon, &segment, &heard);
+        EXPECT(daemon->peer_count == 3);
+        for (size_t port = 0; port < 3; port++) {
+            changed |= daemon->peers[port].config.address.s_addr != before[port].s_addr;
+            EXPECT(good || daemon->peers[port].config.address.s_addr == before[port].s_addr);
+        }
+        EXPECT(!good || peer_of(daemon, heard.from) || !changed);
+        found += changed;
+        if (drawn(16) == 0)
+            sessions_rows_are_new(daemon);
+        if (drawn(64) == 0)
+            discover_tick(daemon, now += 2000);
+    }
+    end_daemon(daemon, NULL);
+    return found;
+}
+
 /* ---- lines at the control socket */
 
 static size_t drawn_line(char *line, size_t size)
@@ -294,6 +353,8 @@ static struct frame drawn_frame(const struct peer *peer)
         return (struct frame){.type = FRAME_TRACE, .kind = (uint8_t)drawn(HOPS), .number = (uint16_t)drawn(1 << 16),
                               .addr = addr};
     case 2:
+        if (drawn(100) == 0)
+            return (struct frame){.type = FRAME_ANNOUNCEMENT, .kind = FRAME_VERSION, .number = 1, .value = 1};
         return (struct frame){.type = FRAME_ROUTER, .kind = (uint8_t)drawn(TRACE_GIVEN_UP + 1),
                               .number = (uint16_t)drawn(100), .addr = addr};
     default:
@@ -337,7 +398,7 @@ static void send_one(struct session_test *test, struct peer *peer)
         EXPECT(peer->state == PEER_IDLE);
         return;
     }
-    bool bad = frame_read(bytes, &back) || (back.type == FRAME_HELLO) != greets
+    bool bad = frame_read(bytes, &back) || (back.type == FRAME_HELLO) != greets || back.type == FRAME_ANNOUNCEMENT
                || (back.type == FRAME_MESSAGE && back.number != peer->last);
     send_in_pieces(test, peer, bytes, sizeof bytes);
     EXPECT(!bad || peer->state == PEER_IDLE);
@@ -400,6 +461,7 @@ int main(int count, char **words)
     printf("fuzz: of %" PRIu64 " each, %" PRIu64 " frames", turns, fuzz_frames(turns));
     printf(", %" PRIu64 " configurations", fuzz_configs(turns));
     printf(" and %" PRIu64 " kernel messages were good", fuzz_netlink(turns) + fuzz_answers(turns));
+    printf("; %" PRIu64 " announcements found somebody", fuzz_announcements(turns));
     printf("; %" PRIu64 " control lines were answered", fuzz_control(turns));
     fuzz_sessions(&test, turns);
     printf("; frames of sessions ended %" PRIu64 ", and answered %" PRIu64 " questions\n", test.ended, test.answered);

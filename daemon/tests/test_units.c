@@ -44,6 +44,12 @@ static void test_frames(void)
     EXPECT(!is_frame("544000070a01020300000000" "00000000"));
     EXPECT(is_frame("520500070a01020300000000" "00000000"));
     EXPECT(!is_frame("520600070a01020300000000" "00000000"));
+    /* An announcement of another version, without a port, without an address, with a length. */
+    EXPECT(is_frame("4e01182b0aff00010a000001" "00000000"));
+    EXPECT(!is_frame("4e02182b0aff00010a000001" "00000000"));
+    EXPECT(!is_frame("4e0100000aff00010a000001" "00000000"));
+    EXPECT(!is_frame("4e01182b0aff000100000000" "00000000"));
+    EXPECT(!is_frame("4e01182b0aff00010a000001" "01000000"));
     /* Messages: a length above 32, bits after the length, a kind above 2, a type that is none. */
     EXPECT(is_frame("4d0200010a00000000000005" "08000000"));
     EXPECT(is_frame("4d0200010a0102030000000520000000"));
@@ -148,9 +154,14 @@ static void test_good_config(void)
     EXPECT(reads("# c\nrouter-id 10.255.0.1\r\nlisten 10.0.0.1\ncontrol /run/x # here\n\n"
                  "neighbour 10.0.0.2 10\n"
                  "neighbor 10.0.0.6 65535 passive secret a#b ttl-security most-prefixes 9 list l\n"
+                 "discover eth1 7 most 3 secret s\n"
                  "accept l 10.0.0.0/8 le 24\nattach 10.1.0.0/16 1\nattach 0.0.0.0/0 2\ninstall yes\ntable 100\n"
                  "metric 7\nprotocol 250\nalive 100\ndead 350\nlog syslog debug\nmetrics 127.0.0.1 9187\n"));
-    EXPECT(config.neighbour_count == 2 && config.attachment_count == 2 && config.installs && config.to_syslog);
+    EXPECT(config.neighbour_count == 5 && config.neighbours[1].interface[0] == '\0');
+    for (size_t i = 2; i < 5; i++)
+        EXPECT(strcmp(config.neighbours[i].interface, "eth1") == 0 && !config.neighbours[i].address.s_addr
+               && config.neighbours[i].cost == 7 && strcmp(config.neighbours[i].secret, "s") == 0);
+    EXPECT(config.attachment_count == 2 && config.installs && config.to_syslog);
     EXPECT(config.table == 100 && config.metric == 7 && config.protocol == 250 && config.dead_ms == 350);
     EXPECT(config.neighbours[1].passive && config.neighbours[1].ttl_security && config.has_secret);
     EXPECT(strcmp(config.neighbours[1].secret, "a#b") == 0 && config.neighbours[1].most_prefixes == 9);
@@ -172,6 +183,19 @@ static void test_bad_config(void)
 #define SEVEN " passive passive passive passive passive passive passive"
     EXPECT(refused("neighbour 10.0.0.2 5" SEVEN SEVEN "\n", "f:3:", "expected: neighbour"));
     EXPECT(refused("neighbour 10.0.0.2 5" SEVEN SEVEN SEVEN "\n", "f:3:", "expected: neighbour"));
+    EXPECT(refused("\nneighbour 10.0.0.2 5 list a passive list a\n", "f:4:", "an option stands twice"));
+    EXPECT(refused("neighbour 10.0.0.2 5 secret passive passive secret x\n", "f:3:", "an option stands twice"));
+    EXPECT(refused("neighbour 10.0.0.2 5 most 2\n", "f:3:", "an option is passive"));
+    EXPECT(refused("discover e0 5 passive\n", "f:3:", "an option is most N"));
+    EXPECT(refused("discover e0 5 most 2 most 2\n", "f:3:", "an option stands twice"));
+    EXPECT(refused("discover e0 5 most 0\n", "f:3:", "1 to 32"));
+    EXPECT(refused("discover e0 5 most 33\n", "f:3:", "1 to 32"));
+    EXPECT(refused("discover e0 0\n", "f:3:", "1 to 65535"));
+    EXPECT(refused("discover e0\n", "f:3:", "expected: discover"));
+    EXPECT(refused("discover e0 5\ndiscover e1 5\ndiscover e0 6\n", "f:5:", "the interface stands twice"));
+    EXPECT(refused("discover a123456789012345 5\n", "f:3:", "at most 15 bytes"));
+    EXPECT(refused("neighbour 10.0.0.2 5\ndiscover e0 5 most 32\n", "f:4:", "at most 32 neighbours"));
+    EXPECT(refused("discover e0 5 list l\n", "f:", "no line"));
     EXPECT(refused("neighbour 10.0.0.2 5\n#\nneighbour 10.0.0.2 6\n", "f:5:", "twice"));
     EXPECT(refused("listen 10.0.0.2\nneighbour 10.0.0.2 5\n", "f:", "listens"));
     EXPECT(refused("attach 10.0.0.0/264 1\n", "f:3:", "0 to 32"));
@@ -188,6 +212,7 @@ static void test_bad_config(void)
     EXPECT(refused("metrics 127.0.0.1 65536\n", "f:3:", "1 to 65535"));
     EXPECT(refused("neighbour 10.0.0.2 5 list l\n", "f:", "no line"));
     EXPECT(refused("accept l 10.0.0.0/8 le 7\n", "f:3:", "le N"));
+    EXPECT(refused("accept l 0.0.0.0/0 le 0 le 5\n", "f:3:", "le N"));
     EXPECT(refused("accept l 10.0.0.0/8 le\n", "f:3:", "le N"));
     EXPECT(refused("accept l 10.0.0.0/8 ge 24 le 16\n", "f:3:", "no length"));
 }
@@ -215,13 +240,14 @@ static void test_lists(void)
 {
     static struct config other;
     const char *lines = "router-id 1.1.1.1\ncontrol c\ndeny l 10.9.0.0/16 le 32\naccept l 10.0.0.0/8 ge 16 le 24\n"
-                        "accept l 0.0.0.0/0\naccept m 0.0.0.0/0 le 32\n";
+                        "accept l 0.0.0.0/0\naccept m 0.0.0.0/0 le 32\naccept n 0.0.0.0/0 ge 0\n";
     EXPECT(reads(lines));
     EXPECT(config_accepts(&config, "", 0x0a090000, 16));
     EXPECT(!config_accepts(&config, "l", 0x0a090000, 16) && !config_accepts(&config, "l", 0x0a090100, 24));
     EXPECT(config_accepts(&config, "l", 0x0a010000, 16) && config_accepts(&config, "l", 0x0a010100, 24));
     EXPECT(!config_accepts(&config, "l", 0x0a000000, 8) && !config_accepts(&config, "l", 0x0a010100, 25));
     EXPECT(config_accepts(&config, "l", 0, 0) && !config_accepts(&config, "l", 0x0b000000, 8));
+    EXPECT(config_accepts(&config, "n", 0x0a090100, 24) && config_accepts(&config, "n", 0, 0));
     EXPECT(config_accepts(&config, "m", 0x0a090100, 24) && !config_accepts(&config, "none", 0, 0));
     other = config;
     EXPECT(config_same_list(&config, &other, "l") && config_same_list(&config, &other, "none"));
@@ -304,6 +330,16 @@ static void test_prefixes(void)
     EXPECT(!prefixes_add(&table, PREFIXES_NOTED, 32));
 }
 
+/* ---- a place where nobody is yet */
+
+static void test_sought(void)
+{
+    const struct neighbour nobody = {.interface = "e0", .cost = 1};
+    let_all_go();
+    EXPECT(!peer_add(&state, &nobody) && strcmp(state.peers[7].name, "e0") == 0);
+    EXPECT(!peer_of(&state, nobody.address));
+}
+
 /* ---- messages of rtnetlink */
 
 static void test_netlink(void)
@@ -337,6 +373,7 @@ int main(void)
     test_lists();
     test_ports();
     test_prefixes();
+    test_sought();
     test_netlink();
     puts("units: frames, words, configurations, lists, ports, prefixes and rtnetlink are as they have to be");
     return 0;
