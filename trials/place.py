@@ -79,12 +79,12 @@ def delete(name: str) -> None:
     subprocess.run(["ip", "netns", "del", name], check=False, capture_output=True)
 
 
-def sweep() -> None:
-    """Deletes the namespaces of runs that were killed before they could do so."""
-    for path in NAMES.glob(f"{Place.prefix}*r*") if NAMES.is_dir() else []:
-        found = re.fullmatch(rf"{Place.prefix}(\d+)r(?:\d+|between)", path.name)
+def sweep(prefix: str) -> None:
+    """Deletes the namespaces of runs that were killed before they could do so. Names begin as the program is called."""
+    for path in NAMES.glob(f"{prefix}*r*") if NAMES.is_dir() else []:
+        found = re.fullmatch(rf"{prefix}(\d+)r(?:\d+|between)", path.name)
         command = Path(f"/proc/{found[1]}/cmdline") if found else None
-        if command and not (command.exists() and b"loops" in command.read_bytes()):
+        if command and not (command.exists() and prefix.encode() in command.read_bytes()):
             delete(path.name)
 
 

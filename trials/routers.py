@@ -261,7 +261,10 @@ class BirdBabel(Bird):
 class FrrOspf(Daemons):
     needs = (str(FRR / "zebra"), str(FRR / "ospfd"), "vtysh")
     up, seen, unseen = 16.0, 8.0, 48.0
+    # Lines of each interface, of the router, and of zebra.
     timers: tuple[str, ...] = ()
+    throttle: tuple[str, ...] = ()
+    zebra: tuple[str, ...] = ("ip forwarding",)
 
     def start(self, router: int) -> None:
         """zebra first, and ospfd when it listens; both run as the user frr."""
@@ -272,9 +275,9 @@ class FrrOspf(Daemons):
             lines += [f"interface l{k}", " ip ospf network point-to-point", f" ip ospf cost {cost}", " ip ospf area 0"]
             lines += [*self.timers, "exit"]
         lines += ["interface stub", " ip ospf area 0", " ip ospf passive", "exit"]
-        lines += ["router ospf", f" ospf router-id 10.254.0.{router + 1}", "exit"]
+        lines += ["router ospf", f" ospf router-id 10.254.0.{router + 1}", *self.throttle, "exit"]
         (folder / "ospfd.conf").write_text("\n".join(lines) + "\n", encoding="utf-8")
-        (folder / "zebra.conf").write_text("ip forwarding\n", encoding="utf-8")
+        (folder / "zebra.conf").write_text("\n".join(self.zebra) + "\n", encoding="utf-8")
         for path in (folder, *folder.glob("*.conf")):
             shutil.chown(path, "frr", "frr")
         talk = folder / "zserv.api"
