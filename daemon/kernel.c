@@ -6,6 +6,7 @@
 #include <errno.h>
 #include <ifaddrs.h>
 #include <linux/fib_rules.h>
+#include <linux/filter.h>
 #include <linux/rtnetlink.h>
 #include <net/if_arp.h>
 #include <stdio.h>
@@ -471,6 +472,21 @@ static int open_notices(uint32_t groups)
     return -1;
 }
 
+/* The kernel tells all who listen of each route that it sets, also the one who asked for it. A publication has thousands,
+ * and each would be read only to be left. So the kernel is not to queue those of our own requests; if it cannot, they
+ * are read. */
+static void leave_out_own(int notices, uint32_t port)
+{
+    struct sock_filter code[] = {
+        BPF_STMT(BPF_LD | BPF_W | BPF_ABS, offsetof(struct nlmsghdr, nlmsg_pid)),
+        BPF_JUMP(BPF_JMP | BPF_JEQ | BPF_K, htonl(port), 0, 1),
+        BPF_STMT(BPF_RET | BPF_K, 0),
+        BPF_STMT(BPF_RET | BPF_K, UINT32_MAX),
+    };
+    struct sock_fprog program = {.len = sizeof code / sizeof *code, .filter = code};
+    setsockopt(notices, SOL_SOCKET, SO_ATTACH_FILTER, &program, sizeof program);
+}
+
 /* Filters each neighbour's interface, also after one that cannot be. A neighbour whose interface is not there yet waits
  * for it. */
 static bool filter_all(struct daemon *daemon)
@@ -520,6 +536,7 @@ bool kernel_open(struct daemon *daemon)
     kernel->links = open_notices(RTMGRP_LINK | RTMGRP_IPV4_IFADDR);
     kernel->routes = open_notices(RTMGRP_IPV4_ROUTE | 1 << (RTNLGRP_IPV4_RULE - 1));
     kernel->device = socket(AF_INET, SOCK_DGRAM | SOCK_CLOEXEC, 0);
+    leave_out_own(kernel->routes, kernel->port);
     if (kernel->requests < 0 || kernel->dumps < 0 || kernel->links < 0 || kernel->routes < 0 || kernel->device < 0) {
         say(LOG_ERR, "install: no connection to the kernel's routes: %s", strerror(errno));
         return false;
