@@ -6,8 +6,8 @@ from dataclasses import dataclass
 from random import Random
 from typing import Callable
 
-from place import is_connected
 from routers import Daemons
+from topology import is_connected
 
 # What happens to a link; trials/loops says what each is.
 LINKS = ("cut", "admin", "onesided", "onecut", "silent", "deaf", "oneway")

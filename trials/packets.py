@@ -7,7 +7,7 @@ from pathlib import Path
 from typing import Any
 
 from events import Event
-from place import Network
+from topology import Network
 
 PACKET = struct.Struct("<QQBBBBB3x")
 # TTLs that expire within this time of each other are of one loop.

@@ -1,71 +1,42 @@
 """Where a trial takes place: routers in network namespaces, each with prefixes of its own, and what happens to their links."""
 
 import json
-import math
 import os
 import re
 import signal
 import subprocess
 import sys
-from ipaddress import IPv4Address
 from pathlib import Path
-from random import Random
+from typing import NoReturn
 
-sys.path.insert(0, str(Path(__file__).resolve().parent.parent / "bench"))
+from topology import Attachment, Link, Network
 
-# Other modules of trials take these from here, since this one knows where bench is.
-from namespaces import ROOT, Attachment, Link, Namespaces, Network, archive, ask
-
-__all__ = ["ROOT", "Attachment", "Link", "Network", "Place", "archive", "ask", "draw", "is_connected", "sweep"]
+__all__ = ["Attachment", "Link", "Network", "Place", "end_by_signals", "skip", "sweep"]
 
 NAMES = Path("/run/netns")
+SKIPPED = 77
 # What the protocols of a trial send; all else passes a deaf link.
 SPOKEN = "meta l4proto ospf drop; tcp dport 6187 drop; tcp sport 6187 drop; udp dport { 520, 3784, 6187, 6696 } drop;"
-MOST_ROUTERS = 64
+ENDS = (signal.SIGINT, signal.SIGTERM, signal.SIGHUP, signal.SIGALRM)
 
 
-def pairs(shape: str, routers: int, random: Random) -> list[tuple[int, int]]:
-    """The links of a ring, of a square grid, or of a random tree and 7 links more for 10 routers."""
-    if shape == "ring":
-        return [(i, (i + 1) % routers) for i in range(routers)]
-    if shape == "grid":
-        side = math.isqrt(routers)
-        right = [(i, i + 1) for i in range(routers) if (i + 1) % side]
-        return right + [(i, i + side) for i in range(routers - side)]
-    tree = [(random.randrange(i), i) for i in range(1, routers)]
-    others = [(a, b) for b in range(routers) for a in range(b) if (a, b) not in tree]
-    return tree + random.sample(others, min(len(others), routers * 7 // 10))
+def skip(why: str) -> NoReturn:
+    print(f"skipped: {why}")
+    sys.exit(SKIPPED)
 
 
-def draw(topology: str, random: Random, prefixes: int = 0, nested: bool = False) -> Network:
-    """A network by its name, as ring6, grid9 or rand20, with costs of 1 to 20.
-
-    Router r is attached to 10.100.r.0/24. Nested: the last router also to 10.100.0.0/20, and the first one to
-    10.100.0.0/16. So many prefixes of 172.16.0.0/12 more are shared out among all routers."""
-    found = re.fullmatch(r"(ring|grid|rand)(\d+)", topology)
-    routers = int(found[2]) if found else 0
-    if not found or not 3 <= routers <= MOST_ROUTERS or (found[1] == "grid" and math.isqrt(routers) ** 2 != routers):
-        raise ValueError(f"{topology} is no topology: ringN, gridN (N a square) or randN, N from 3 to {MOST_ROUTERS}")
-    links = [Link(a, b, random.randint(1, 20), random.randint(1, 20)) for a, b in pairs(found[1], routers, random)]
-    attachments = [Attachment(f"10.100.{r}.0/24", r, 1) for r in range(routers)]
-    if nested:
-        attachments += [Attachment("10.100.0.0/20", routers - 1, 1), Attachment("10.100.0.0/16", 0, 1)]
-    first = int(IPv4Address("172.16.0.0"))
-    for k in range(prefixes):
-        attachments.append(Attachment(f"{IPv4Address(first + (k << 8))}/24", k * routers // prefixes, 1))
-    return Network(routers, links, attachments)
+def end(number: int, _: object) -> NoReturn:
+    """Ends the run as a failure does; a second signal does not keep it from deleting what it made."""
+    for one in ENDS:
+        signal.signal(one, signal.SIG_IGN)
+    sys.exit(128 + number)
 
 
-def is_connected(network: Network, down: int) -> bool:
-    """Whether all routers reach each other without this link."""
-    seen, todo = {0}, [0]
-    while todo:
-        here = todo.pop()
-        for k, link in enumerate(network.links):
-            if k != down and here in (link.a, link.b) and link.other(here) not in seen:
-                seen.add(link.other(here))
-                todo.append(link.other(here))
-    return len(seen) == network.routers
+def end_by_signals(seconds: float) -> None:
+    """A run that takes longer ends too."""
+    for number in ENDS:
+        signal.signal(number, end)
+    signal.alarm(int(seconds))
 
 
 def delete(name: str) -> None:
@@ -88,34 +59,76 @@ def sweep(prefix: str) -> None:
             delete(path.name)
 
 
-class Place(Namespaces):
-    """Each router has a stub: an interface with the first address of its own prefix, whose other end nobody has."""
+class Place:
+    """Each router has a network namespace; a link is a bridge in one more, to which both ends have a veth. Each router also has
+    a stub: an interface with the first address of its own prefix, whose other end nobody has."""
 
+    # Names begin so, and then comes the number of the process that made them.
     prefix = "loops"
 
+    def __init__(self, network: Network) -> None:
+        self.network = network
+
+    def name(self, router: int | str) -> str:
+        return f"{self.prefix}{os.getpid()}r{router}"
+
+    def command(self, router: int | str) -> list[str]:
+        return ["ip", "netns", "exec", self.name(router)]
+
     def ip(self, router: int | str | None, *words: str) -> None:
+        inside = [] if router is None else ["-n", self.name(router)]
+        done = subprocess.run(["ip", *inside, *words], check=False, capture_output=True, text=True)
+        if done.returncode:
+            raise RuntimeError(f"{' '.join(done.args)}: {done.stderr.strip()}")
+
+    def address(self, router: int, link: int) -> str:
+        return f"10.255.{link}.{1 if router == self.network.links[link].a else 2}"
+
+    def __enter__(self) -> "Place":
         try:
-            super().ip(router, *words)
-        except subprocess.CalledProcessError as wrong:
-            raise RuntimeError(f"{' '.join(wrong.cmd)}: {wrong.stderr.decode().strip()}") from None
+            self.make()
+        except BaseException:
+            self.__exit__()
+            raise
+        return self
 
     def __exit__(self, *_: object) -> None:
         for router in [*range(self.network.routers), "between"]:
             delete(self.name(router))
 
+    def make(self) -> None:
+        for router in range(self.network.routers):
+            self.make_router(router)
+        self.ip(None, "netns", "add", self.name("between"))
+        for link in range(len(self.network.links)):
+            self.make_link(link)
+        for attachment in self.network.attachments:
+            self.make_attachment(attachment)
+
     def make_router(self, router: int) -> None:
-        super().make_router(router)
+        self.ip(None, "netns", "add", self.name(router))
+        self.ip(router, "link", "set", "lo", "up")
         # A router drops what comes back to it with its own address as the source, if it is not told to accept it. It is,
         # because the packets stand for those of hosts beside the router, and those circle through it.
-        knobs = {"ipv4/conf/all/accept_local": 1, "ipv4/conf/default/rp_filter": 0}
-        knobs |= {f"ipv4/conf/{which}/send_redirects": 0 for which in ("all", "default")}
+        knobs = {"ipv4/ip_forward": 1, "ipv4/conf/all/accept_local": 1}
+        knobs |= {f"ipv4/conf/{which}/{name}": 0 for which in ("all", "default") for name in ("rp_filter", "send_redirects")}
         knobs |= {f"ipv6/conf/{which}/accept_dad": 0 for which in ("all", "default")}
         line = "; ".join(f"echo {value} 2>/dev/null >/proc/sys/net/{knob}" for knob, value in knobs.items())
         subprocess.run([*self.command(router), "sh", "-c", line], check=False, capture_output=True)
         self.ip(router, "link", "add", "stub", "type", "veth", "peer", "name", "end")
-        for end in ("stub", "end"):
-            self.ip(router, "link", "set", end, "up")
+        for end_of_stub in ("stub", "end"):
+            self.ip(router, "link", "set", end_of_stub, "up")
         self.ip(router, "address", "add", f"10.100.{router}.1/24", "dev", "stub")
+
+    def make_link(self, link: int) -> None:
+        self.ip("between", "link", "add", f"bridge{link}", "type", "bridge", "mcast_snooping", "0")
+        self.ip("between", "link", "set", f"bridge{link}", "up")
+        for router in self.network.links[link][:2]:
+            far = f"to{link}r{router}"
+            self.ip(router, "link", "add", f"l{link}", "type", "veth", "peer", far, "netns", self.name("between"))
+            self.ip("between", "link", "set", far, "master", f"bridge{link}", "up")
+            self.ip(router, "address", "add", f"{self.address(router, link)}/30", "dev", f"l{link}")
+            self.ip(router, "link", "set", f"l{link}", "up")
 
     def make_attachment(self, attachment: Attachment) -> None:
         """Of the prefixes that are shared out all addresses are the router's own."""
@@ -151,7 +164,9 @@ class Place(Namespaces):
         if kind in ("cut", "admin"):
             self.ip("between", "link", "set", f"to{link}r{there}", state)
         if kind == "silent":
-            self.silence(link, fails)
+            for router in (here, there):
+                master = ["nomaster"] if fails else ["master", f"bridge{link}"]
+                self.ip("between", "link", "set", f"to{link}r{router}", *master)
         if kind == "deaf":
             self.filter(link, [here, there], SPOKEN, fails)
         if kind == "oneway":

@@ -3,11 +3,13 @@
 import os
 import shutil
 import signal
+import socket
 import subprocess
 import time
 from pathlib import Path
 
-from place import ROOT, Attachment, Link, Place, archive, ask
+from place import Attachment, Link, Place
+from topology import ROOT
 
 ASK_SECONDS = 5
 UNSEEN = ("silent", "oneway", "onesided", "onecut", "deaf")
@@ -99,9 +101,22 @@ def build_dualnetd(folder: Path) -> Path:
     """The program that DUALNETD names, else the one that is built into this folder."""
     if named := os.environ.get("DUALNETD"):
         return Path(named).resolve()
-    words = ["make", "-s", "-C", ROOT / "daemon", f"OUT={folder}", f"TUHVONDI_LIB={archive(folder)}", "all"]
+    archive = os.environ.get("TUHVONDI_LIB")
+    if not archive:
+        archive = str(folder / "libtuhvondi.a")
+        subprocess.run([ROOT / "install", "--archive", archive], check=True)
+    words = ["make", "-s", "-C", ROOT / "daemon", f"OUT={folder}", f"TUHVONDI_LIB={archive}", "all"]
     subprocess.run(words, check=True)
     return folder / "dualnetd"
+
+
+def ask(control: Path, line: str) -> str:
+    """What the daemon at this socket answers."""
+    with socket.socket(socket.AF_UNIX) as client:
+        client.settimeout(ASK_SECONDS)
+        client.connect(str(control))
+        client.sendall(line.encode() + b"\n")
+        return b"".join(iter(lambda: client.recv(65536), b"")).decode()
 
 
 class Dualnetd(Daemons):
@@ -126,13 +141,12 @@ class Dualnetd(Daemons):
     def control(self, router: int) -> Path:
         return self.folder / f"r{router}.sock"
 
-    def ask(self, router: int, line: str) -> None:
-        """Has the daemon make a change; one that has just been started may not listen yet."""
+    def ask(self, router: int, line: str) -> str:
+        """What the daemon answers; one that has just been started may not listen yet."""
         until = time.monotonic() + ASK_SECONDS
         while True:
             try:
-                ask(self.control(router), line, ASK_SECONDS)
-                return
+                return ask(self.control(router), line)
             except (FileNotFoundError, ConnectionRefusedError):
                 if time.monotonic() > until:
                     raise
