@@ -6,12 +6,19 @@ use Rattle.word_pool.specs.Layout.{noted}
 use Rattle.word_pool.specs.Pool.{read, block_at}
 
 -- the block that was noted last has the size
-pub noted_here : (rest : List ℕ) (p size : ℕ) → noted (p ∷ size ∷ rest) p ≡ size
-noted_here rest p size = ap (λ b. cond b size (noted rest p)) (eq-eqb p p refl)
+pub noted_here : (new rest : List ℕ) (p size : ℕ) → new ≡ p ∷ size ∷ rest → noted new p ≡ size
+unfolding noted
+noted_here new rest p size e = ap (λ ns. noted ns p) e ∙ ap (λ b. cond b size (noted rest p)) (eq-eqb p p refl)
 
 -- the others keep theirs
-pub noted_other : (rest : List ℕ) (p size b : ℕ) → b ≢ p → noted (p ∷ size ∷ rest) b ≡ noted rest b
-noted_other rest p size b n = ap (λ x. cond x size (noted rest b)) (ne_eqb p b (λ e. n (sym e)))
+pub noted_other : (new rest : List ℕ) (p size b : ℕ) → new ≡ p ∷ size ∷ rest → b ≢ p → noted new b ≡ noted rest b
+unfolding noted
+noted_other new rest p size b e n = ap (λ ns. noted ns b) e ∙ ap (λ x. cond x size (noted rest b)) (ne_eqb p b (λ x. n (sym x)))
+
+-- at the start there is only the block at 0
+pub noted_start : (numbers : List ℕ) (b : ℕ) → numbers ≡ 0 ∷ 4 ∷ [] → b ≢ 0 → noted numbers b ≡ 0
+unfolding noted
+noted_start numbers b e n = noted_other numbers [] 0 4 b e n
 
 -- where the words stay, what is read stays
 read_same : (f g : ℕ → ℕ) (b n : ℕ) → ((k : ℕ) → b ≤ k → k < b + n → g k ≡ f k) → read g b n ≡ read f b n

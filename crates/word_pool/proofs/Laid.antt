@@ -60,16 +60,26 @@ module _ (words : ℕ → ℕ) (count : ℕ) (first used : ℕ → ℕ) (w : IsL
       n (one_block a b k (sized a p) (sized b q) l (omega (arith, s, m)) o (omega (arith, t, r)))
 
   -- the words of a block that is in use, but the one at 0, may be written
-  laid_set : (words' : ℕ → ℕ) (b k : ℕ) → b ≢ 0 → 0 < used b → b ≤ k → k < b + used b → ((j : ℕ) → j ≢ k → words' j ≡ words j) → IsLaid words' count first used
+  pub laid_set : (words' : ℕ → ℕ) (b k : ℕ) → b ≢ 0 → 0 < used b → b ≤ k → k < b + used b → ((j : ℕ) → j ≢ k → words' j ≡ words j) → IsLaid words' count first used
   laid_set words' b k n p l m same = record {
-    size = w.size; within = w.within; apart = w.apart; in_use = w.in_use; many = w.many; place = w.place; head = w.head; last = w.last;
+    size = w.size;
+    within = w.within;
+    apart = w.apart;
+    in_use = w.in_use;
+    many = w.many;
+    place = w.place;
+    head = w.head;
+    last = w.last;
     link = λ i h x. same (w.place i (h + 1)) (free_apart b k i h p l m x) ∙ w.link i h x;
-    free = w.free; unused = w.unused; distinct = w.distinct; zero_used = w.zero_used;
+    free = w.free;
+    unused = w.unused;
+    distinct = w.distinct;
+    zero_used = w.zero_used;
     zeros = λ j x. same j (λ e. let s = w.in_use b p in let z = zero_apart b k n (sized b p) l (omega (arith, s, m)) in omega (arith, z, e, x)) ∙ w.zeros j x;
   }
 
   -- a list that names a block has a first one
-  first_of_list : (i : ℕ) → i < 6 → first i ≢ 0 → (m : ℕ) × (w.many i ≡ m + 1) × (first i ≡ w.place i (m + 1))
+  pub first_of_list : (i : ℕ) → i < 6 → first i ≢ 0 → (m : ℕ) × (w.many i ≡ m + 1) × (first i ≡ w.place i (m + 1))
   first_of_list i l n =
       let h = w.head i l in
       ⊎_elim (λ p. let e : w.many i ≡ w.many i - 1 + 1 = omega arith in (w.many i - 1, e, h ∙ ap (w.place i) e))
@@ -109,11 +119,14 @@ module _ (words : ℕ → ℕ) (count : ℕ) (first used : ℕ → ℕ) (w : IsL
 
     pub laid_pop : IsLaid words count first' used'
     laid_pop = record {
-      size = w.size; within = w.within; apart = w.apart;
+      size = w.size;
+      within = w.within;
+      apart = w.apart;
       in_use = λ b p. ⊎_elim
           (λ e. ap w.size (e ∙ taken) ∙ w.free i left (omega (arith, was)) ∙ sym (ap used' e ∙ now))
           (λ n. let o = others b n in w.in_use b (omega (arith, o, p)) ∙ sym o) (cases_eq b (first i));
-      many = many'; place = w.place;
+      many = many';
+      place = w.place;
       head = λ j l. ⊎_elim
           (λ e. ap first' e ∙ next ∙ ap words taken ∙ w.link i left (omega (arith, was)) ∙ sym (ap (w.place i) (put_same w.many i left j e)) ∙ ap (λ x. w.place x (many' j)) (sym e))
           (λ n. lists j n ∙ w.head j l ∙ sym (ap (w.place j) (put_other w.many i left j n))) (cases_eq j i);
@@ -164,10 +177,13 @@ module _ (words : ℕ → ℕ) (count : ℕ) (first used : ℕ → ℕ) (w : IsL
     pub laid_push : IsLaid words' count first' used'
     unfolding many''
     laid_push = record {
-      size = w.size; within = w.within; apart = w.apart;
+      size = w.size;
+      within = w.within;
+      apart = w.apart;
       in_use = λ a p. ⊎_elim (λ e. let z = ap used' e in absurd (omega (arith, z, gone, p)))
           (λ n. let o = others a n in w.in_use a (omega (arith, o, p)) ∙ sym o) (cases_eq a b);
-      many = many''; place = place';
+      many = many'';
+      place = place';
       head = λ j l. ⊎_elim
           (λ e. ap first' e ∙ now ∙ sym (new_place j (w.many i) e refl) ∙ sym (ap (place' j) (put_same w.many i (w.many i + 1) j e)))
           (λ n. lists j n ∙ w.head j l ∙ sym (old_place j (w.many j) (omega arith)) ∙ sym (ap (place' j) (put_other w.many i (w.many i + 1) j n))) (cases_eq j i);
@@ -250,7 +266,11 @@ module _ (words : ℕ → ℕ) (count : ℕ) (first used : ℕ → ℕ) (w : IsL
       apart = apart';
       in_use = λ a p. ⊎_elim (λ e. size'-low a e ∙ sym (ap used' e ∙ low))
           (⊎_elim (λ e. size'-high a e ∙ sym (ap used' e ∙ high)) (λ e. let o = others a e.0 e.1 in size'-other a e.0 e.1 ∙ w.in_use a (omega (arith, o, p)) ∙ sym o)) (which a);
-      many = w.many; place = w.place; head = w.head; last = w.last; link = w.link;
+      many = w.many;
+      place = w.place;
+      head = w.head;
+      last = w.last;
+      link = w.link;
       free = λ i h l. size'-other (w.place i (h + 1)) (free_low i h l) (free_high i h l) ∙ w.free i h l;
       unused = λ i h l. others (w.place i (h + 1)) (free_low i h l) (free_high i h l) ∙ w.unused i h l;
       distinct = w.distinct;
@@ -288,7 +308,10 @@ module _ (words : ℕ → ℕ) (count : ℕ) (first used : ℕ → ℕ) (w : IsL
           (λ e. let y = below a e p in ⊎_elim (λ f. absurd (omega (arith, y, f, m)))
           (λ f. let u = size''-other a e in let v = size''-other c f in w.apart a c (omega (arith, u, p)) (omega (arith, v, q)) l (omega (arith, u, m))) (cases_eq c count)) (cases_eq a count);
       in_use = λ a p. ⊎_elim (λ e. size''-new a e ∙ sym (ap used' e ∙ now)) (λ e. let o = others a e in size''-other a e ∙ w.in_use a (omega (arith, o, p)) ∙ sym o) (cases_eq a count);
-      many = w.many; place = w.place; head = w.head; last = w.last;
+      many = w.many;
+      place = w.place;
+      head = w.head;
+      last = w.last;
       link = λ i h l. same (w.place i (h + 1)) (free_below i h l) ∙ w.link i h l;
       free = λ i h l. size''-other (w.place i (h + 1)) (λ e. let y = free_below i h l in omega (arith, y, e)) ∙ w.free i h l;
       unused = λ i h l. others (w.place i (h + 1)) (λ e. let y = free_below i h l in omega (arith, y, e)) ∙ w.unused i h l;
@@ -301,23 +324,25 @@ module _ (words : ℕ → ℕ) (count : ℕ) (first used : ℕ → ℕ) (w : IsL
         zero_within = let z = w.zero_used in let e = w.in_use 0 (omega (arith, z)) in let y = w.within 0 (omega (arith, e, z)) in omega (arith, e, z, y)
 
 -- a pool of the block of four zeros alone
-pub laid_start : (words first used : ℕ → ℕ) → ((k : ℕ) → words k ≡ 0) → ((i : ℕ) → first i ≡ 0) → used 0 ≡ 4 → ((b : ℕ) → b ≢ 0 → used b ≡ 0) → IsLaid words 4 first used
-laid_start words first used zeros none zero others =
+pub laid_start : (words : ℕ → ℕ) (count : ℕ) (first used : ℕ → ℕ) → 4 ≤ count → ((k : ℕ) → k < 4 → words k ≡ 0) → ((i : ℕ) → i < 6 → first i ≡ 0) → used 0 ≡ 4 → ((b : ℕ) → b ≢ 0 → used b ≡ 0)
+    → IsLaid words count first used
+laid_start words count first used four zeros none zero others =
     let only : (b : ℕ) → 0 < used b → b ≡ 0 = λ b p. ⊎_elim (λ e. e) (λ n. let z = others b n in absurd (omega (arith, z, p))) (cases_eq b 0) in
     record {
       size = used;
-      within = λ b p. let e = only b p in let z = ap used e in omega (arith, e, z, zero);
+      within = λ b p. let e = only b p in let z = ap used e in omega (arith, e, z, zero, four);
       apart = λ a b p q l m. only a p ∙ sym (only b q);
       in_use = λ b p. refl;
-      many = λ i. 0; place = λ i h. 0;
-      head = λ i l. none i;
+      many = λ i. 0;
+      place = λ i h. 0;
+      head = none;
       last = λ i. refl;
       link = λ i h l. absurd (omega arith);
       free = λ i h l. absurd (omega arith);
       unused = λ i h l. absurd (omega arith);
       distinct = λ i j g h l m e. absurd (omega arith);
       zero_used = zero;
-      zeros = λ k l. zeros k;
+      zeros = zeros;
     }
 
 -- what follows of some layout

@@ -1,2 +1,4 @@
 pub mod Blocks
 pub mod Laid
+pub mod Pools
+pub mod Zero

@@ -6,7 +6,7 @@ abbrev pub entry : List ℕ → ℕ → ℕ
 entry words k = slice_index_or words k 0
 
 -- the size that was noted last for a place; 0 where no block in use begins
-abbrev pub noted : List ℕ → ℕ → ℕ
+unfoldable pub noted : List ℕ → ℕ → ℕ
 noted [] b = 0
 noted (p ∷ []) b = 0
 noted (p ∷ size ∷ rest) b = if p == b then size else noted rest b

@@ -53,13 +53,7 @@ impl<A: Allocator> Pool<A> {
     pub fn new(alloc: A) -> Result<Self, NoMemory>
         ensures { IfOk result (λ pool. IsEmpty (blocks pool)) }
     {
-        let mut words = Vec::with_capacity(alloc, GROUP)?;
-        words.resize(4, 0)?;
-        let mut pool = Pool {
-            words,
-            free: [0; 6],
-            used: start(),
-        };
+        let mut pool = Self::zeros(alloc)?;
         pool.add_free(4)?;
         pool.add_free(8)?;
         pool.add_free(16)?;
@@ -129,7 +123,7 @@ impl<A: Allocator> Pool<A> {
     {
         let list = list_of(size);
         if self.free[list] != 0 {
-            return Ok(self.pop(list));
+            return Ok(self.pop(list, size));
         }
         if size == GROUP {
             return self.add(size);
@@ -167,16 +161,30 @@ impl<A: Allocator> Pool<A> {
         self.give(upper, half);
     }
 
+    // A pool of the four words at 0, with room for the first group.
+    fn zeros(alloc: A) -> Result<Self, NoMemory>
+        ensures { IfOk result (λ pool. IsEmpty (blocks pool)) }
+    {
+        let mut words = Vec::with_capacity(alloc, GROUP)?;
+        words.resize(4, 0)?;
+        Ok(Pool {
+            words,
+            free: [0; 6],
+            used: start(),
+        })
+    }
+
     // Takes the first free block of a list.
-    fn pop(&mut self, list: usize) -> u32
+    fn pop(&mut self, list: usize, size: usize) -> u32
         requires few { list < 6 }
+        requires size { size ≡ width list }
         requires some { entry self.old.free list ≢ 0 }
-        ensures taken { IsTaken (blocks self.old) (blocks self.new) result (width list) }
+        ensures taken { IsTaken (blocks self.old) (blocks self.new) result size }
         ensures room { room self.new ≡ room self.old }
     {
         let block = self.free[list];
         self.free[list] = self.words[block as usize];
-        self.used = note(&self.used, block, 4 << list);
+        self.used = note(&self.used, block, size);
         block
     }
 
