@@ -1,5 +1,5 @@
 -- The words of a block, and what stays of them where words are written.
-use Rattle.std.proofs.Common.{ℕ, zero, suc, ◌≡◌, ◌≢◌, ◌⊎◌, inl, inr, ⊎_elim, ◌+◌, ◌<◌, ◌≤◌, List, [], ◌∷◌, length, take, set, get_or, Option, Some, None, arith, refl, sym, ap, ◌∙◌, cond, eqb}
+use Rattle.std.proofs.Common.{ℕ, zero, suc, ◌≡◌, ◌≢◌, ◌⊎◌, inl, inr, ⊎_elim, ◌+◌, ◌%◌, ◌<◌, ◌≤◌, List, [], ◌∷◌, length, take, set, get_or, Option, Some, None, arith, refl, sym, ap, ◌∙◌, cond, eqb}
 use Rattle.std.proofs.lemmas.Bool.{cases_eq, eq-eqb, ne_eqb}
 use Rattle.word_pool.specs.Heap.{size_of, word_of, with_word, first_of, IsTaken, IsGiven, IsWritten, IsSplit, SameOthers}
 use Rattle.word_pool.specs.Layout.{noted}
@@ -101,11 +101,12 @@ module _ (f g u v : ℕ → ℕ) where
   heap_same b e same = ap (λ s. block_at g b s) e ∙ block_same f g b (u b) same
 
   -- a block has a size now
-  pub heap_taken : (p s : ℕ) → p ≢ 0 → u p ≡ 0 → v p ≡ s → ((b : ℕ) → b ≢ p → v b ≡ u b) → ((b k : ℕ) → b ≢ p → b ≤ k → k < b + u b → g k ≡ f k)
+  pub heap_taken : (p s : ℕ) → p ≢ 0 → p % s ≡ 0 → u p ≡ 0 → v p ≡ s → ((b : ℕ) → b ≢ p → v b ≡ u b) → ((b k : ℕ) → b ≢ p → b ≤ k → k < b + u b → g k ≡ f k)
       → IsTaken (heap f u) (heap g v) p s
-  heap_taken p s some none size others same = record {
+  heap_taken p s some fits none size others same = record {
     not_zero = some;
     fresh = block_none f p (u p) none;
+    aligned = fits;
     words = size-block_at g p (v p) ∙ size;
     others = λ b n. heap_same b (others b n) (λ k l h. same b k n l h);
   }

@@ -1,7 +1,7 @@
 -- What the layout of a pool keeps when a block is taken, given back, split, written or added.
-use Rattle.std.proofs.Common.{ℕ, ◌≡◌, ◌≢◌, ◌⊎◌, inl, inr, ⊎_elim, ◌+◌, ◌*◌, ◌^◌, ◌-◌, ◌<◌, ◌≤◌, arith, refl, sym, ap, subst, ◌∙◌, cond, eqb}
+use Rattle.std.proofs.Common.{ℕ, ◌≡◌, ◌≢◌, ◌⊎◌, inl, inr, ⊎_elim, ◌+◌, ◌*◌, ◌%◌, ◌/◌, ◌^◌, ◌-◌, ◌<◌, ◌≤◌, arith, refl, sym, ap, subst, ◌∙◌, cond, eqb}
 use Rattle.std.proofs.Math.Logic.{∥∥₁_elim, ∥∥₁_map}
-use Rattle.std.proofs.Math.Nat.{ℕ_set}
+use Rattle.std.proofs.Math.Nat.{ℕ_set, div-add-mod, add-mul, mul-add, mul-one, mul-mod_right, add-mul-mod_self_left, zero-mod}
 use Rattle.std.specs.Coded.{le_prop}
 use Rattle.std.proofs.lemmas.Bool.{cases_eq, cases_lt, eq-eqb, ne_eqb}
 use Rattle.std.proofs.lemmas.Nat.{pow_pos}
@@ -19,16 +19,24 @@ put_other : {A : Type 0} (f : ℕ → A) (i : ℕ) (v : A) (j : ℕ) → j ≢ i
 unfolding put
 put_other f i v j n = ap (λ b. cond b v (f j)) (ne_eqb j i n)
 
+-- what lies at a multiple of twice a size lies at a multiple of it, as does what lies behind it
+pub mod_halves : (b s : ℕ) → b % (s + s) ≡ 0 → (b % s ≡ 0) × ((b + s) % s ≡ 0)
+mod_halves b s h =
+    let q = b / (s + s) in
+    let e : s * (q + q) ≡ b = omega (arith, div-add-mod b (s + s), h, add-mul s s q, mul-add s q q) in
+    let low : b % s ≡ 0 = ap (λ x. x % s) (sym e) ∙ mul-mod_right s (q + q) in
+    (low, ap (λ x. (b + x) % s) (sym (mul-one s)) ∙ add-mul-mod_self_left b s 1 ∙ low)
+
 pub width_some : (i : ℕ) → 0 < width i
 width_some i = omega (arith, pow_pos i)
 
-module _ (words : ℕ → ℕ) (count : ℕ) (first used : ℕ → ℕ) (w : IsLaid words count first used) where
+module _ (words : ℕ → ℕ) (count : ℕ) (first many used : ℕ → ℕ) (w : IsLaid words count first many used) where
   -- a block in use is a block
   sized : (b : ℕ) → 0 < used b → 0 < w.size b
   sized b p = let e = w.in_use b p in omega (arith, e, p)
 
   -- a free one too
-  free_sized : (i h : ℕ) → h < w.many i → 0 < w.size (w.place i (h + 1))
+  free_sized : (i h : ℕ) → h < many i → 0 < w.size (w.place i (h + 1))
   free_sized i h l = let e = w.free i h l in let p = width_some i in omega (arith, e, p)
 
   -- two blocks with a place in common are one
@@ -39,7 +47,7 @@ module _ (words : ℕ → ℕ) (count : ℕ) (first used : ℕ → ℕ) (w : IsL
       (cases_lt a b)
 
   -- a free block does not begin in a block in use
-  free_apart : (b k i h : ℕ) → 0 < used b → b ≤ k → k < b + used b → h < w.many i → w.place i (h + 1) ≢ k
+  free_apart : (b k i h : ℕ) → 0 < used b → b ≤ k → k < b + used b → h < many i → w.place i (h + 1) ≢ k
   free_apart b k i h p l m n e =
       let s = w.in_use b p in
       let f = free_sized i h n in
@@ -60,13 +68,13 @@ module _ (words : ℕ → ℕ) (count : ℕ) (first used : ℕ → ℕ) (w : IsL
       n (one_block a b k (sized a p) (sized b q) l (omega (arith, s, m)) o (omega (arith, t, r)))
 
   -- the words of a block that is in use, but the one at 0, may be written
-  pub laid_set : (words' : ℕ → ℕ) (b k : ℕ) → b ≢ 0 → 0 < used b → b ≤ k → k < b + used b → ((j : ℕ) → j ≢ k → words' j ≡ words j) → IsLaid words' count first used
+  pub laid_set : (words' : ℕ → ℕ) (b k : ℕ) → b ≢ 0 → 0 < used b → b ≤ k → k < b + used b → ((j : ℕ) → j ≢ k → words' j ≡ words j) → IsLaid words' count first many used
   laid_set words' b k n p l m same = record {
     size = w.size;
     within = w.within;
+    aligned = w.aligned;
     apart = w.apart;
     in_use = w.in_use;
-    many = w.many;
     place = w.place;
     head = w.head;
     last = w.last;
@@ -78,58 +86,44 @@ module _ (words : ℕ → ℕ) (count : ℕ) (first used : ℕ → ℕ) (w : IsL
     zeros = λ j x. same j (λ e. let s = w.in_use b p in let z = zero_apart b k n (sized b p) l (omega (arith, s, m)) in omega (arith, z, e, x)) ∙ w.zeros j x;
   }
 
-  -- a list that names a block has a first one
-  pub first_of_list : (i : ℕ) → i < 6 → first i ≢ 0 → (m : ℕ) × (w.many i ≡ m + 1) × (first i ≡ w.place i (m + 1))
-  first_of_list i l n =
-      let h = w.head i l in
-      ⊎_elim (λ p. let e : w.many i ≡ w.many i - 1 + 1 = omega arith in (w.many i - 1, e, h ∙ ap (w.place i) e))
-      (λ p. let e : w.many i ≡ 0 = omega arith in absurd (n (h ∙ ap (w.place i) e ∙ w.last i)))
-      (cases_lt 0 (w.many i))
+  -- a list that names a block has one
+  pub some_of_list : (i : ℕ) → i < 6 → first i ≢ 0 → 0 < many i
+  some_of_list i l n = ⊎_elim (λ p. p)
+      (λ p. let e : many i ≡ 0 = omega arith in absurd (n (w.head i l ∙ ap (w.place i) e ∙ w.last i)))
+      (cases_lt 0 (many i))
 
   -- the first block of a list is in use now
-  module _ (first' used' : ℕ → ℕ) (i : ℕ) (few : i < 6) (some : first i ≢ 0) (next : first' i ≡ words (first i)) (lists : (j : ℕ) → j ≢ i → first' j ≡ first j)
-      (now : used' (first i) ≡ width i) (others : (b : ℕ) → b ≢ first i → used' b ≡ used b) where
-    -- the blocks that are left in the list
-    left : ℕ
-    left = (first_of_list i few some).0
-
-    abbrev many' : ℕ → ℕ
-    many' = put w.many i left
-
-    was : w.many i ≡ left + 1
-    unfolding left
-    was = (first_of_list i few some).1
-
-    taken : first i ≡ w.place i (left + 1)
-    unfolding left
-    taken = (first_of_list i few some).2
+  module _ (first' many' used' : ℕ → ℕ) (i : ℕ) (few : i < 6) (some : first i ≢ 0) (next : first' i ≡ words (first i)) (lists : (j : ℕ) → j ≢ i → first' j ≡ first j)
+      (less : many i ≡ many' i + 1) (counts : (j : ℕ) → j ≢ i → many' j ≡ many j) (now : used' (first i) ≡ width i) (others : (b : ℕ) → b ≢ first i → used' b ≡ used b) where
+    taken : first i ≡ w.place i (many' i + 1)
+    taken = w.head i few ∙ ap (w.place i) less
 
     -- a list has now as many as it had, or is the one that lost its first block
-    fewer : (j h : ℕ) → h < many' j → (h < w.many j) × (j ≡ i → h < left)
+    fewer : (j h : ℕ) → h < many' j → (h < many j) × (j ≡ i → h < many' i)
     fewer j h l = ⊎_elim
-        (λ e. let p = put_same w.many i left j e in let q = ap w.many e in (omega (arith, l, p, q, was), λ _. omega (arith, l, p)))
-        (λ n. let p = put_other w.many i left j n in (omega (arith, l, p), λ e. absurd (n e))) (cases_eq j i)
+        (λ e. let p = ap many' e in let q = ap many e in (omega (arith, l, p, q, less), λ _. omega (arith, l, p)))
+        (λ n. let p = counts j n in (omega (arith, l, p), λ e. absurd (n e))) (cases_eq j i)
 
     -- what is left in the lists is not the block that was taken
     other : (j h : ℕ) → h < many' j → w.place j (h + 1) ≢ first i
     other j h l e =
         let f = fewer j h l in
-        let d = w.distinct j i h left f.0 (omega (arith, was)) (e ∙ taken) in
+        let d = w.distinct j i h (many' i) f.0 (omega (arith, less)) (e ∙ taken) in
         let b = f.1 d.0 in omega (arith, b, d.1)
 
-    pub laid_pop : IsLaid words count first' used'
+    pub laid_pop : IsLaid words count first' many' used'
     laid_pop = record {
       size = w.size;
       within = w.within;
+      aligned = w.aligned;
       apart = w.apart;
       in_use = λ b p. ⊎_elim
-          (λ e. ap w.size (e ∙ taken) ∙ w.free i left (omega (arith, was)) ∙ sym (ap used' e ∙ now))
+          (λ e. ap w.size (e ∙ taken) ∙ w.free i (many' i) (omega (arith, less)) ∙ sym (ap used' e ∙ now))
           (λ n. let o = others b n in w.in_use b (omega (arith, o, p)) ∙ sym o) (cases_eq b (first i));
-      many = many';
       place = w.place;
       head = λ j l. ⊎_elim
-          (λ e. ap first' e ∙ next ∙ ap words taken ∙ w.link i left (omega (arith, was)) ∙ sym (ap (w.place i) (put_same w.many i left j e)) ∙ ap (λ x. w.place x (many' j)) (sym e))
-          (λ n. lists j n ∙ w.head j l ∙ sym (ap (w.place j) (put_other w.many i left j n))) (cases_eq j i);
+          (λ e. ap first' e ∙ next ∙ ap words taken ∙ w.link i (many' i) (omega (arith, less)) ∙ ap (λ x. w.place x (many' x)) (sym e))
+          (λ n. lists j n ∙ w.head j l ∙ sym (ap (w.place j) (counts j n))) (cases_eq j i);
       last = w.last;
       link = λ j h l. w.link j h (fewer j h l).0;
       free = λ j h l. w.free j h (fewer j h l).0;
@@ -140,56 +134,51 @@ module _ (words : ℕ → ℕ) (count : ℕ) (first used : ℕ → ℕ) (w : IsL
     }
 
   -- a block in use is the first of a list now
-  module _ (words' first' used' : ℕ → ℕ) (i b : ℕ) (few : i < 6) (some : b ≢ 0) (size : used b ≡ width i) (next : words' b ≡ first i) (same : (k : ℕ) → k ≢ b → words' k ≡ words k)
-      (now : first' i ≡ b) (lists : (j : ℕ) → j ≢ i → first' j ≡ first j) (gone : used' b ≡ 0) (others : (a : ℕ) → a ≢ b → used' a ≡ used a) where
-    many'' : ℕ → ℕ
-    many'' = put w.many i (w.many i + 1)
-
+  module _ (words' first' many' used' : ℕ → ℕ) (i b : ℕ) (few : i < 6) (some : b ≢ 0) (size : used b ≡ width i) (next : words' b ≡ first i) (same : (k : ℕ) → k ≢ b → words' k ≡ words k)
+      (now : first' i ≡ b) (lists : (j : ℕ) → j ≢ i → first' j ≡ first j) (more : many' i ≡ many i + 1) (counts : (j : ℕ) → j ≢ i → many' j ≡ many j) (gone : used' b ≡ 0) (others : (a : ℕ) → a ≢ b → used' a ≡ used a) where
     place' : ℕ → ℕ → ℕ
-    place' = put w.place i (put (w.place i) (w.many i + 1) b)
+    place' = put w.place i (put (w.place i) (many i + 1) b)
 
     in_use : 0 < used b
     in_use = let p = width_some i in omega (arith, size, p)
 
     -- a list has the blocks that it had, and the new one
-    longer : (j h : ℕ) → h < many'' j → ((j ≡ i) × (h ≡ w.many i)) ⊎ (h < w.many j)
-    unfolding many''
+    longer : (j h : ℕ) → h < many' j → ((j ≡ i) × (h ≡ many i)) ⊎ (h < many j)
     longer j h l = ⊎_elim
-        (λ e. let p = put_same w.many i (w.many i + 1) j e in let q = ap w.many e in
-        ⊎_elim (λ x. inr (omega (arith, x, q))) (λ x. inl (e, omega (arith, x, l, p))) (cases_lt h (w.many i)))
-        (λ n. let p = put_other w.many i (w.many i + 1) j n in inr (omega (arith, p, l))) (cases_eq j i)
+        (λ e. let p = ap many' e in let q = ap many e in
+        ⊎_elim (λ x. inr (omega (arith, x, q))) (λ x. inl (e, omega (arith, x, l, p, more))) (cases_lt h (many i)))
+        (λ n. let p = counts j n in inr (omega (arith, p, l))) (cases_eq j i)
 
-    new_place : (j h : ℕ) → j ≡ i → h ≡ w.many i → place' j (h + 1) ≡ b
+    new_place : (j h : ℕ) → j ≡ i → h ≡ many i → place' j (h + 1) ≡ b
     unfolding place'
-    new_place j h e f = ap (λ p. p (h + 1)) (put_same w.place i (put (w.place i) (w.many i + 1) b) j e) ∙ put_same (w.place i) (w.many i + 1) b (h + 1) (omega (arith, f))
+    new_place j h e f = ap (λ p. p (h + 1)) (put_same w.place i (put (w.place i) (many i + 1) b) j e) ∙ put_same (w.place i) (many i + 1) b (h + 1) (omega (arith, f))
 
-    old_place : (j h : ℕ) → h ≤ w.many j → place' j h ≡ w.place j h
+    old_place : (j h : ℕ) → h ≤ many j → place' j h ≡ w.place j h
     unfolding place'
     old_place j h l = ⊎_elim
-        (λ e. let q = ap w.many e in ap (λ p. p h) (put_same w.place i (put (w.place i) (w.many i + 1) b) j e)
-        ∙ put_other (w.place i) (w.many i + 1) b h (λ x. omega (arith, l, q, x)) ∙ ap (λ x. w.place x h) (sym e))
-        (λ n. ap (λ p. p h) (put_other w.place i (put (w.place i) (w.many i + 1) b) j n)) (cases_eq j i)
+        (λ e. let q = ap many e in ap (λ p. p h) (put_same w.place i (put (w.place i) (many i + 1) b) j e)
+        ∙ put_other (w.place i) (many i + 1) b h (λ x. omega (arith, l, q, x)) ∙ ap (λ x. w.place x h) (sym e))
+        (λ n. ap (λ p. p h) (put_other w.place i (put (w.place i) (many i + 1) b) j n)) (cases_eq j i)
 
     -- the blocks that were free are not the new one
-    other' : (j h : ℕ) → h < w.many j → w.place j (h + 1) ≢ b
+    other' : (j h : ℕ) → h < many j → w.place j (h + 1) ≢ b
     other' j h l e = let u = w.unused j h l in let z = ap used e in omega (arith, u, z, in_use)
 
-    pub laid_push : IsLaid words' count first' used'
-    unfolding many''
+    pub laid_push : IsLaid words' count first' many' used'
     laid_push = record {
       size = w.size;
       within = w.within;
+      aligned = w.aligned;
       apart = w.apart;
       in_use = λ a p. ⊎_elim (λ e. let z = ap used' e in absurd (omega (arith, z, gone, p)))
           (λ n. let o = others a n in w.in_use a (omega (arith, o, p)) ∙ sym o) (cases_eq a b);
-      many = many'';
       place = place';
       head = λ j l. ⊎_elim
-          (λ e. ap first' e ∙ now ∙ sym (new_place j (w.many i) e refl) ∙ sym (ap (place' j) (put_same w.many i (w.many i + 1) j e)))
-          (λ n. lists j n ∙ w.head j l ∙ sym (old_place j (w.many j) (omega arith)) ∙ sym (ap (place' j) (put_other w.many i (w.many i + 1) j n))) (cases_eq j i);
+          (λ e. ap first' e ∙ now ∙ sym (new_place j (many i) e refl) ∙ sym (ap (place' j) (ap many' e ∙ more)))
+          (λ n. lists j n ∙ w.head j l ∙ sym (old_place j (many j) (omega arith)) ∙ sym (ap (place' j) (counts j n))) (cases_eq j i);
       last = λ j. old_place j 0 (omega arith) ∙ w.last j;
       link = λ j h l. ⊎_elim
-          (λ x. ap words' (new_place j h x.0 x.1) ∙ next ∙ w.head i few ∙ sym (ap (λ y. w.place y h) x.0 ∙ ap (w.place i) x.1) ∙ sym (old_place j h (let q = ap w.many x.0 in omega (arith, q, x.1))))
+          (λ x. ap words' (new_place j h x.0 x.1) ∙ next ∙ w.head i few ∙ sym (ap (λ y. w.place y h) x.0 ∙ ap (w.place i) x.1) ∙ sym (old_place j h (let q = ap many x.0 in omega (arith, q, x.1))))
           (λ x. ap words' (old_place j (h + 1) (omega (arith, x))) ∙ same (w.place j (h + 1)) (other' j h x) ∙ w.link j h x ∙ sym (old_place j h (omega (arith, x)))) (longer j h l);
       free = λ j h l. ⊎_elim
           (λ x. ap w.size (new_place j h x.0 x.1) ∙ w.in_use b in_use ∙ size ∙ sym (ap width x.0))
@@ -252,21 +241,23 @@ module _ (words : ℕ → ℕ) (count : ℕ) (first used : ℕ → ℕ) (w : IsL
         (which a)
 
     -- the free blocks are none of the two
-    free_low : (i h : ℕ) → h < w.many i → w.place i (h + 1) ≢ b
+    free_low : (i h : ℕ) → h < many i → w.place i (h + 1) ≢ b
     free_low i h l = free_apart b b i h (omega (arith, size, some)) (omega arith) (omega (arith, size, some)) l
 
-    free_high : (i h : ℕ) → h < w.many i → w.place i (h + 1) ≢ b + s
+    free_high : (i h : ℕ) → h < many i → w.place i (h + 1) ≢ b + s
     free_high i h l = free_apart b (b + s) i h (omega (arith, size, some)) (omega arith) (omega (arith, size, some)) l
 
-    pub laid_split : IsLaid words count first used'
+    pub laid_split : IsLaid words count first many used'
     laid_split = record {
       size = size';
       within = λ a p. let top = w.within b (omega (arith, whole, some)) in ⊎_elim (λ e. let x = size'-low a e in omega (arith, e, x, top, whole))
           (⊎_elim (λ e. let x = size'-high a e in omega (arith, e, x, top, whole)) (λ e. let x = size'-other a e.0 e.1 in let y = w.within a (omega (arith, x, p)) in omega (arith, x, y))) (which a);
+      aligned = λ a p. let h = mod_halves b s (ap (λ x. b % x) (sym whole) ∙ w.aligned b (omega (arith, whole, some))) in
+          ⊎_elim (λ e. ap (λ x. a % x) (size'-low a e) ∙ ap (λ x. x % s) e ∙ h.0)
+          (⊎_elim (λ e. ap (λ x. a % x) (size'-high a e) ∙ ap (λ x. x % s) e ∙ h.1) (λ e. let x = size'-other a e.0 e.1 in ap (λ y. a % y) x ∙ w.aligned a (omega (arith, x, p)))) (which a);
       apart = apart';
       in_use = λ a p. ⊎_elim (λ e. size'-low a e ∙ sym (ap used' e ∙ low))
           (⊎_elim (λ e. size'-high a e ∙ sym (ap used' e ∙ high)) (λ e. let o = others a e.0 e.1 in size'-other a e.0 e.1 ∙ w.in_use a (omega (arith, o, p)) ∙ sym o)) (which a);
-      many = w.many;
       place = w.place;
       head = w.head;
       last = w.last;
@@ -279,7 +270,7 @@ module _ (words : ℕ → ℕ) (count : ℕ) (first used : ℕ → ℕ) (w : IsL
     }
 
   -- a block lies behind the others
-  module _ (words' used' : ℕ → ℕ) (count' s : ℕ) (some : 0 < s) (more : count' ≡ count + s) (same : (k : ℕ) → k < count → words' k ≡ words k) (now : used' count ≡ s)
+  module _ (words' used' : ℕ → ℕ) (count' s : ℕ) (some : 0 < s) (fits : count % s ≡ 0) (more : count' ≡ count + s) (same : (k : ℕ) → k < count → words' k ≡ words k) (now : used' count ≡ s)
       (others : (a : ℕ) → a ≢ count → used' a ≡ used a) where
     size'' : ℕ → ℕ
     size'' = put w.size count s
@@ -296,19 +287,19 @@ module _ (words : ℕ → ℕ) (count : ℕ) (first used : ℕ → ℕ) (w : IsL
     below : (a : ℕ) → a ≢ count → 0 < size'' a → a + size'' a ≤ count
     below a p q = let x = size''-other a p in let y = w.within a (omega (arith, x, q)) in omega (arith, x, y)
 
-    free_below : (i h : ℕ) → h < w.many i → w.place i (h + 1) < count
+    free_below : (i h : ℕ) → h < many i → w.place i (h + 1) < count
     free_below i h l = let f = free_sized i h l in let y = w.within (w.place i (h + 1)) f in omega (arith, f, y)
 
-    pub laid_grow : IsLaid words' count' first used'
+    pub laid_grow : IsLaid words' count' first many used'
     laid_grow = record {
       size = size'';
       within = λ a p. ⊎_elim (λ e. let x = size''-new a e in omega (arith, e, x, more)) (λ e. let y = below a e p in omega (arith, y, more)) (cases_eq a count);
+      aligned = λ a p. ⊎_elim (λ e. ap (λ x. a % x) (size''-new a e) ∙ ap (λ x. x % s) e ∙ fits) (λ e. let x = size''-other a e in ap (λ y. a % y) x ∙ w.aligned a (omega (arith, x, p))) (cases_eq a count);
       apart = λ a c p q l m. ⊎_elim
           (λ e. ⊎_elim (λ f. e ∙ sym f) (λ f. let y = below c f q in absurd (omega (arith, y, e, l, q))) (cases_eq c count))
           (λ e. let y = below a e p in ⊎_elim (λ f. absurd (omega (arith, y, f, m)))
           (λ f. let u = size''-other a e in let v = size''-other c f in w.apart a c (omega (arith, u, p)) (omega (arith, v, q)) l (omega (arith, u, m))) (cases_eq c count)) (cases_eq a count);
       in_use = λ a p. ⊎_elim (λ e. size''-new a e ∙ sym (ap used' e ∙ now)) (λ e. let o = others a e in size''-other a e ∙ w.in_use a (omega (arith, o, p)) ∙ sym o) (cases_eq a count);
-      many = w.many;
       place = w.place;
       head = w.head;
       last = w.last;
@@ -324,23 +315,23 @@ module _ (words : ℕ → ℕ) (count : ℕ) (first used : ℕ → ℕ) (w : IsL
         zero_within = let z = w.zero_used in let e = w.in_use 0 (omega (arith, z)) in let y = w.within 0 (omega (arith, e, z)) in omega (arith, e, z, y)
 
 -- a pool of the block of four zeros alone
-pub laid_start : (words : ℕ → ℕ) (count : ℕ) (first used : ℕ → ℕ) → 4 ≤ count → ((k : ℕ) → k < 4 → words k ≡ 0) → ((i : ℕ) → i < 6 → first i ≡ 0) → used 0 ≡ 4 → ((b : ℕ) → b ≢ 0 → used b ≡ 0)
-    → IsLaid words count first used
-laid_start words count first used four zeros none zero others =
+pub laid_start : (words : ℕ → ℕ) (count : ℕ) (first many used : ℕ → ℕ) → 4 ≤ count → ((k : ℕ) → k < 4 → words k ≡ 0) → ((i : ℕ) → i < 6 → first i ≡ 0) → ((i : ℕ) → many i ≡ 0) → used 0 ≡ 4 → ((b : ℕ) → b ≢ 0 → used b ≡ 0)
+    → IsLaid words count first many used
+laid_start words count first many used four zeros none empty zero others =
     let only : (b : ℕ) → 0 < used b → b ≡ 0 = λ b p. ⊎_elim (λ e. e) (λ n. let z = others b n in absurd (omega (arith, z, p))) (cases_eq b 0) in
     record {
       size = used;
       within = λ b p. let e = only b p in let z = ap used e in omega (arith, e, z, zero, four);
+      aligned = λ b p. ap (λ x. x % used b) (only b p) ∙ zero-mod (used b);
       apart = λ a b p q l m. only a p ∙ sym (only b q);
       in_use = λ b p. refl;
-      many = λ i. 0;
       place = λ i h. 0;
       head = none;
       last = λ i. refl;
-      link = λ i h l. absurd (omega arith);
-      free = λ i h l. absurd (omega arith);
-      unused = λ i h l. absurd (omega arith);
-      distinct = λ i j g h l m e. absurd (omega arith);
+      link = λ i h l. let e = empty i in absurd (omega (arith, e, l));
+      free = λ i h l. let e = empty i in absurd (omega (arith, e, l));
+      unused = λ i h l. let e = empty i in absurd (omega (arith, e, l));
+      distinct = λ i j g h l m e. let z = empty i in absurd (omega (arith, z, l));
       zero_used = zero;
       zeros = zeros;
     }
@@ -349,20 +340,38 @@ laid_start words count first used four zeros none zero others =
 no_proof : (x y : ⊥) → x ≡ y
 no_proof x y = absurd x
 
-module _ (words : ℕ → ℕ) (count : ℕ) (first used : ℕ → ℕ) (laid : ∥ IsLaid words count first used ∥₁) where
+module _ (words : ℕ → ℕ) (count : ℕ) (first many used : ℕ → ℕ) (laid : ∥ IsLaid words count first many used ∥₁) where
   pub used_within : (b : ℕ) → 0 < used b → b + used b ≤ count
   used_within b p = ∥∥₁_elim laid le_prop (λ w. let e = w.in_use b p in let y = w.within b (omega (arith, e, p)) in omega (arith, e, y))
 
   pub used_disjoint : (a b k : ℕ) → a ≢ b → 0 < used a → 0 < used b → a ≤ k → k < a + used a → b ≤ k → k < b + used b → ⊥
-  used_disjoint a b k n p q l m o r = ∥∥₁_elim laid no_proof (λ w. used_apart words count first used w a b k n p q l m o r)
+  used_disjoint a b k n p q l m o r = ∥∥₁_elim laid no_proof (λ w. used_apart words count first many used w a b k n p q l m o r)
+
+  pub head_some : (i : ℕ) → i < 6 → first i ≢ 0 → 0 < many i
+  head_some i l n = ∥∥₁_elim laid le_prop (λ w. some_of_list words count first many used w i l n)
+
+  pub head_none : (i : ℕ) → i < 6 → first i ≡ 0 → many i ≡ 0
+  head_none i l e = ∥∥₁_elim laid (ℕ_set _ _) (λ w. ⊎_elim
+      (λ p. let h : many i ≡ many i - 1 + 1 = omega arith in
+      let u = w.unused i (many i - 1) (omega arith) in
+      let z = ap used (sym (ap (w.place i) h) ∙ sym (w.head i l) ∙ e) ∙ w.zero_used in absurd (omega (arith, u, z)))
+      (λ p. omega arith) (cases_lt 0 (many i)))
+
+  -- the first block of a list, by its number
+  headed : (w : IsLaid words count first many used) (i : ℕ) → i < 6 → first i ≢ 0 → (first i ≡ w.place i (many i - 1 + 1)) × (many i - 1 < many i)
+  headed w i l n = let p = some_of_list words count first many used w i l n in let e : many i ≡ many i - 1 + 1 = omega arith in (w.head i l ∙ ap (w.place i) e, omega arith)
 
   pub head_unused : (i : ℕ) → i < 6 → first i ≢ 0 → used (first i) ≡ 0
-  head_unused i l n = ∥∥₁_elim laid (ℕ_set _ _) (λ w. let f = first_of_list words count first used w i l n in
-      ap used f.2 ∙ w.unused i f.0 (omega (arith, f.1)))
+  head_unused i l n = ∥∥₁_elim laid (ℕ_set _ _) (λ w. let f = headed w i l n in ap used f.0 ∙ w.unused i (many i - 1) f.1)
 
   pub head_within : (i : ℕ) → i < 6 → first i ≢ 0 → first i + width i ≤ count
-  head_within i l n = ∥∥₁_elim laid le_prop (λ w. let f = first_of_list words count first used w i l n in
-      let s = w.free i f.0 (omega (arith, f.1)) in let p = width_some i in let y = w.within (w.place i (f.0 + 1)) (omega (arith, s, p)) in omega (arith, f.2, s, y))
+  head_within i l n = ∥∥₁_elim laid le_prop (λ w. let f = headed w i l n in
+      let s = w.free i (many i - 1) f.1 in let p = width_some i in let y = w.within (w.place i (many i - 1 + 1)) (omega (arith, s, p)) in omega (arith, f.0, s, y))
+
+  pub head_aligned : (i : ℕ) → i < 6 → first i ≢ 0 → first i % width i ≡ 0
+  head_aligned i l n = ∥∥₁_elim laid (ℕ_set _ _) (λ w. let f = headed w i l n in
+      let s = w.free i (many i - 1) f.1 in let p = width_some i in
+      ap (λ x. x % width i) f.0 ∙ ap (λ x. w.place i (many i - 1 + 1) % x) (sym s) ∙ w.aligned (w.place i (many i - 1 + 1)) (omega (arith, s, p)))
 
   pub upper_unused : (b s : ℕ) → 0 < s → used b ≡ s + s → used (b + s) ≡ 0
   upper_unused b s p e = ⊎_elim
@@ -377,3 +386,16 @@ module _ (words : ℕ → ℕ) (count : ℕ) (first used : ℕ → ℕ) (laid : 
 
   pub zero_word : (k : ℕ) → k < 4 → words k ≡ 0
   zero_word k l = ∥∥₁_elim laid (ℕ_set _ _) (λ w. w.zeros k l)
+
+-- a free block lies behind the others
+module _ (words : ℕ → ℕ) (count : ℕ) (first many used first' many' : ℕ → ℕ) (i s : ℕ) (w : IsLaid words count first many used) (few : i < 6) (size : s ≡ width i) (fits : count % s ≡ 0)
+    (next : words count ≡ first i) (now : first' i ≡ count) (lists : (j : ℕ) → j ≢ i → first' j ≡ first j) (more : many' i ≡ many i + 1) (counts : (j : ℕ) → j ≢ i → many' j ≡ many j) where
+  pub laid_more : IsLaid words (count + s) first' many' used
+  laid_more =
+      let p = width_some i in
+      let z = w.zero_used in
+      let e = w.in_use 0 (omega (arith, z)) in
+      let y = w.within 0 (omega (arith, e, z)) in
+      let grown = laid_grow words count first many used w words (put used count s) (count + s) s (omega (arith, size, p)) fits refl (λ k l. refl) (put_same used count s count refl) (λ a n. put_other used count s a n) in
+      laid_push words (count + s) first many (put used count s) grown words first' many' used i count few (λ x. omega (arith, x, y, e, z)) (put_same used count s count refl ∙ size) next (λ k n. refl)
+      now lists more counts (beyond_unused words count first many used ∣ w ∣₁) (λ a n. sym (put_other used count s a n))

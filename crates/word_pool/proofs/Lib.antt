@@ -1,4 +1,5 @@
 pub mod Blocks
 pub mod Laid
 pub mod Pools
-pub mod Zero
+pub mod Start
+pub mod Sizes

@@ -1,5 +1,5 @@
 -- How the words of a pool are laid out in blocks, and how the free blocks of each size are linked.
-use Rattle.std.specs.Prelude.{ℕ, ◌≡◌, ◌≢◌, ◌+◌, ◌*◌, ◌^◌, ◌<◌, ◌≤◌, ◌==◌, if◌then◌else◌, List, [], ◌∷◌, slice_index_or}
+use Rattle.std.specs.Prelude.{ℕ, ◌≡◌, ◌≢◌, ◌+◌, ◌*◌, ◌%◌, ◌^◌, ◌<◌, ◌≤◌, ◌==◌, if◌then◌else◌, List, [], ◌∷◌, slice_index_or}
 
 -- the word at a place; 0 where there is none
 abbrev pub entry : List ℕ → ℕ → ℕ
@@ -15,13 +15,13 @@ noted (p ∷ size ∷ rest) b = if p == b then size else noted rest b
 abbrev pub width : ℕ → ℕ
 width i = 4 * 2 ^ i
 
--- Words are in blocks that lie apart, in use (`used` is their size) or free. The list `i` links the free blocks of its size by their first words: they are numbered from the end, and the number 0 is the end. The block of four zeros at 0 is always in use.
-pub record IsLaid (words : ℕ → ℕ) (count : ℕ) (first used : ℕ → ℕ) : Type 0 where
+-- Words are in blocks that lie apart, each at a multiple of its size, in use (`used` is their size) or free. The list `i` links the `many i` free blocks of its size by their first words: they are numbered from the end, and the number 0 is the end. The block of four zeros at 0 is always in use.
+pub record IsLaid (words : ℕ → ℕ) (count : ℕ) (first many used : ℕ → ℕ) : Type 0 where
   pub size : ℕ → ℕ
   pub within : (b : ℕ) → 0 < size b → b + size b ≤ count
+  pub aligned : (b : ℕ) → 0 < size b → b % size b ≡ 0
   pub apart : (a b : ℕ) → 0 < size a → 0 < size b → a ≤ b → b < a + size a → a ≡ b
   pub in_use : (b : ℕ) → 0 < used b → size b ≡ used b
-  pub many : ℕ → ℕ
   pub place : ℕ → ℕ → ℕ
   pub head : (i : ℕ) → i < 6 → first i ≡ place i (many i)
   pub last : (i : ℕ) → place i 0 ≡ 0

@@ -1,13 +1,14 @@
 //! A pool of words, in which blocks are taken and given back.
 
-ghost use Rattle.std.specs.Prelude.{◌≡◌, ◌≢◌, ℕ, ◌+◌, ◌*◌, ◌/◌, ◌<◌, ◌≤◌, ◌^◌, IsTrue, IfOk, OnOk, OnErr, vec_len, slice_index};
-ghost use Rattle.word_pool.specs.Heap.{is_size, size_of, word_of, SameBlocks, IsEmpty, IsTaken, IsGiven, IsWritten, IsShortened, IsSplit};
+ghost use Rattle.std.specs.Prelude.{◌≡◌, ◌≢◌, ℕ, ◌+◌, ◌*◌, ◌/◌, ◌%◌, ◌<◌, ◌≤◌, ◌^◌, IsTrue, IfOk, OnOk, OnErr, IsOk, vec_len, length};
+ghost use Rattle.word_pool.specs.Heap.{is_size, size_of, word_of, IsEmpty, IsTaken, IsGiven, IsWritten, IsShortened, IsSplit};
 ghost use Rattle.word_pool.specs.Layout.{entry, noted, width, IsLaid};
 
-use crate::used::{again, note, start};
+use crate::known::{again, first_block, first_group, note, one_fewer, one_more};
 use boxcar::tag::Tag;
 use network_model::NoMemory;
 use std::alloc::{Allocator, Global};
+use std::cmp::min;
 
 /// How many words a pool has at most: as many as there are places in a `u32`.
 const MOST_WORDS: usize = 1 << 32;
@@ -25,59 +26,66 @@ pub struct Pool<A: Allocator = Global> {
     words: Vec<u32, A>,
     // The first free block of each size; 0 where there is none.
     free: [u32; 6],
+    // Which blocks are in use, and how many are free: for contracts and proofs alone.
     used: Tag,
+    spare: Tag,
     ghost few: { vec_len words ≤ 2 ^ 32 },
-    ghost laid: { ∥ IsLaid (entry words.items) (vec_len words) (entry free) (noted used.numbers) ∥₁ },
-}
-
-// The list of the free blocks of a size.
-fn list_of(size: usize) -> usize
-    requires { IsTrue (is_size size) }
-    ensures few { result < 6 }
-    ensures size { size ≡ width result }
-{
-    match size {
-        4 => 0,
-        8 => 1,
-        16 => 2,
-        32 => 3,
-        64 => 4,
-        _ => 5,
-    }
+    ghost groups: { vec_len words % 128 ≡ 0 },
+    ghost lists: { length spare.numbers ≡ 6 },
+    ghost laid: { ∥ IsLaid (entry words.items) (vec_len words) (entry free) (entry spare.numbers)
+        (noted used.numbers) ∥₁ },
 }
 
 impl<A: Allocator> Pool<A> {
-    ghost use Rattle.word_pool.specs.Pool.{blocks, room, word_count};
+    ghost use Rattle.word_pool.specs.Pool.{blocks, spare, free_words, list_of_size, word_count, room};
+    ghost use Rattle.word_pool.specs.Pool.{HasSpare, IsNoLarger, SameSpare, KeepsBlocks, HasSameBlocks};
 
     /// A pool with no block in use but the one at 0.
     pub fn new(alloc: A) -> Result<Self, NoMemory>
-        ensures { IfOk result (λ pool. IsEmpty (blocks pool)) }
+        ensures empty { IfOk result (λ pool. IsEmpty (blocks pool)) }
+        ensures free { IfOk result (λ pool. 4 + free_words pool ≡ word_count pool) }
     {
-        let mut pool = Self::zeros(alloc)?;
-        pool.add_free(4)?;
-        pool.add_free(8)?;
-        pool.add_free(16)?;
-        pool.add_free(32)?;
-        pool.add_free(64)?;
-        Ok(pool)
+        let mut words = Vec::new(alloc);
+        words.resize(GROUP, 0)?;
+        Ok(Pool {
+            words,
+            free: [4, 8, 16, 32, 64, 0],
+            used: first_block(),
+            spare: first_group(),
+        })
     }
 
     /// A pool with the same blocks. It takes time and memory by the words.
     pub fn copy(&self, alloc: A) -> Result<Self, NoMemory>
-        ensures { IfOk result (λ pool. SameBlocks (blocks self.now) (blocks pool)) }
+        ensures { IfOk result (λ pool. HasSameBlocks self.now pool) }
     {
         Ok(Pool {
             words: Vec::from_slice(alloc, &self.words)?,
             free: self.free,
             used: again(&self.used),
+            spare: again(&self.spare),
         })
     }
 
-    /// How many groups of 128 words can be added without memory: each take needs at most one.
+    /// How many words there are, in blocks in use and free.
+    pub fn word_count(&self) -> usize
+        ensures { result ≡ word_count self.now }
+    {
+        self.words.len()
+    }
+
+    /// How many groups of 128 words can be added without memory.
     pub fn room(&self) -> usize
         ensures { result ≡ room self.now }
     {
-        (self.words.capacity().min(MOST_WORDS) - self.words.len()) / GROUP
+        (min(self.words.capacity(), MOST_WORDS) - self.words.len()) / GROUP
+    }
+
+    /// How many bytes of memory the words take, with the room for more.
+    pub fn bytes(&self) -> usize
+        ensures { 4 * (word_count self.now + 128 * room self.now) ≤ result }
+    {
+        4 * min(self.words.capacity(), MOST_WORDS)
     }
 
     /// A word of a block in use.
@@ -89,19 +97,20 @@ impl<A: Allocator> Pool<A> {
     }
 
     /// Writes a word of a block in use.
+    #[tactic(auto, unfolding(crate::specs::Pool::spare))]
     pub fn set_word(&mut self, block: u32, i: usize, word: u32)
         requires not_zero { block ≢ 0 }
         requires inside { i < size_of (blocks self.old block) }
         ensures written { IsWritten (blocks self.old) (blocks self.new) block i word }
-        ensures room { room self.new ≡ room self.old }
+        ensures no_larger { IsNoLarger self.old self.new }
+        ensures free { (s : ℕ) → spare self.new s ≡ spare self.old s }
     {
         self.words[block as usize + i] = word;
     }
 
     /// Makes room: after it, this many takes succeed, whatever their sizes.
     pub fn reserve(&mut self, takes: usize) -> Result<(), NoMemory>
-        ensures same { SameBlocks (blocks self.old) (blocks self.new) }
-        ensures no_less { room self.old ≤ room self.new }
+        ensures same { KeepsBlocks self.old self.new }
         ensures ok { OnOk result (takes ≤ room self.new) }
         ensures full { OnErr result (room self.old < takes) }
     {
@@ -112,21 +121,27 @@ impl<A: Allocator> Pool<A> {
         Ok(())
     }
 
-    /// Takes a block of a size. Nothing says which words it has. A free block is taken before the pool
-    /// grows: one of the size, or a larger one, whose upper half is free again until the size fits.
+    /// Takes a block of a size. Nothing says which words it has. Where a free block has the size or
+    /// more, no word is added: a larger one is halved until it fits. Else the pool grows by 128 words.
     pub fn take(&mut self, size: usize) -> Result<u32, NoMemory>
         requires { IsTrue (is_size size) }
         ensures ok { IfOk result (λ block. IsTaken (blocks self.old) (blocks self.new) block size) }
-        ensures err { OnErr result (SameBlocks (blocks self.old) (blocks self.new)) }
+        ensures err { OnErr result (KeepsBlocks self.old self.new) }
+        ensures again { HasSpare self.old size → IsOk result × IsNoLarger self.old self.new }
+
+        // The words that were free, and those that were added, are in the block or free.
+        ensures words { OnOk result (size + free_words self.new + word_count self.old
+            ≡ free_words self.old + word_count self.new) }
+
         ensures room { room self.old ≤ room self.new + 1 }
         ensures full { OnErr result (room self.old ≡ 0) }
     {
-        let list = list_of(size);
+        let list = Self::list_of(size);
         if self.free[list] != 0 {
             return Ok(self.pop(list, size));
         }
         if size == GROUP {
-            return self.add(size);
+            return self.grow();
         }
         let block = self.take(2 * size)?;
         self.halve(block, 2 * size);
@@ -136,94 +151,100 @@ impl<A: Allocator> Pool<A> {
     /// Gives back a block in use of a size. It needs no memory, and nothing is joined.
     pub fn give(&mut self, block: u32, size: usize)
         requires not_zero { block ≢ 0 }
-        requires some { IsTrue (is_size size) }
+        requires one_of_six { IsTrue (is_size size) }
         requires used { size_of (blocks self.old block) ≡ size }
         ensures given { IsGiven (blocks self.old) (blocks self.new) block }
-        ensures room { room self.new ≡ room self.old }
+        ensures no_larger { IsNoLarger self.old self.new }
+        ensures one_more { spare self.new size ≡ spare self.old size + 1 }
+        ensures others { SameSpare self.old self.new size }
+        ensures words { free_words self.new ≡ free_words self.old + size }
     {
-        let list = list_of(size);
+        let list = Self::list_of(size);
         self.words[block as usize] = self.free[list];
         self.free[list] = block;
         self.used = note(&self.used, block, 0);
+        self.spare = one_more(&self.spare, list);
     }
 
     /// Gives back the upper half of a block in use of a size. It needs no memory.
     pub fn halve(&mut self, block: u32, size: usize)
         requires not_zero { block ≢ 0 }
-        requires some { IsTrue (is_size size) }
+        requires one_of_six { IsTrue (is_size size) }
         requires large { 4 < size }
         requires used { size_of (blocks self.old block) ≡ size }
         ensures shortened { IsShortened (blocks self.old) (blocks self.new) block (size / 2) }
-        ensures room { room self.new ≡ room self.old }
+        ensures no_larger { IsNoLarger self.old self.new }
+        ensures one_more { spare self.new (size / 2) ≡ spare self.old (size / 2) + 1 }
+        ensures others { SameSpare self.old self.new (size / 2) }
+        ensures words { free_words self.new ≡ free_words self.old + size / 2 }
     {
         let half = size / 2;
         let upper = self.split(block, half);
         self.give(upper, half);
     }
 
-    // A pool of the four words at 0, with room for the first group.
-    fn zeros(alloc: A) -> Result<Self, NoMemory>
-        ensures { IfOk result (λ pool. IsEmpty (blocks pool)) }
+    // The list of the free blocks of a size.
+    fn list_of(size: usize) -> usize
+        requires { IsTrue (is_size size) }
+        ensures few { result < 6 }
+        ensures list { result ≡ list_of_size size }
+        ensures size { size ≡ width result }
     {
-        let mut words = Vec::with_capacity(alloc, GROUP)?;
-        words.resize(4, 0)?;
-        Ok(Pool {
-            words,
-            free: [0; 6],
-            used: start(),
-        })
+        match size {
+            4 => 0,
+            8 => 1,
+            16 => 2,
+            32 => 3,
+            64 => 4,
+            _ => 5,
+        }
     }
 
     // Takes the first free block of a list.
     fn pop(&mut self, list: usize, size: usize) -> u32
-        requires few { list < 6 }
-        requires size { size ≡ width list }
+        requires one_of_six { IsTrue (is_size size) }
+        requires list { list ≡ list_of_size size }
         requires some { entry self.old.free list ≢ 0 }
         ensures taken { IsTaken (blocks self.old) (blocks self.new) result size }
-        ensures room { room self.new ≡ room self.old }
+        ensures no_larger { IsNoLarger self.old self.new }
+        ensures words { size + free_words self.new ≡ free_words self.old }
     {
         let block = self.free[list];
         self.free[list] = self.words[block as usize];
         self.used = note(&self.used, block, size);
+        self.spare = one_fewer(&self.spare, list);
         block
     }
 
-    // Adds a block of `size` words behind the others.
-    fn add(&mut self, size: usize) -> Result<u32, NoMemory>
-        requires some { 0 < size }
-        requires few { size ≤ 128 }
-        ensures ok { IfOk result (λ block. IsTaken (blocks self.old) (blocks self.new) block size) }
-        ensures err { OnErr result (SameBlocks (blocks self.old) (blocks self.new)) }
+    // Adds a block of 128 words behind the others.
+    #[tactic(auto, unfolding(crate::specs::Pool::spare))]
+    fn grow(&mut self) -> Result<u32, NoMemory>
+        ensures ok { IfOk result (λ block. IsTaken (blocks self.old) (blocks self.new) block 128) }
+        ensures err { OnErr result (KeepsBlocks self.old self.new) }
+        ensures free { (s : ℕ) → spare self.new s ≡ spare self.old s }
+        ensures longer { OnOk result (word_count self.new ≡ word_count self.old + 128) }
         ensures room { room self.old ≤ room self.new + 1 }
         ensures full { OnErr result (room self.old ≡ 0) }
     {
         let len = self.words.len();
-        if size > MOST_WORDS - len {
+        if MOST_WORDS - len < GROUP {
             return Err(NoMemory);
         }
-        self.words.resize(len + size, 0)?;
-        self.used = note(&self.used, len as u32, size);
+        self.words.resize(len + GROUP, 0)?;
+        self.used = note(&self.used, len as u32, GROUP);
         Ok(len as u32)
     }
 
-    // Adds a free block of a size behind the others.
-    fn add_free(&mut self, size: usize) -> Result<(), NoMemory>
-        requires { IsTrue (is_size size) }
-        ensures { SameBlocks (blocks self.old) (blocks self.new) }
-    {
-        let block = self.add(size)?;
-        self.give(block, size);
-        Ok(())
-    }
-
     // Makes two blocks in use of one. The answer is the place of the upper one.
+    #[tactic(auto, unfolding(crate::specs::Pool::spare))]
     fn split(&mut self, block: u32, half: usize) -> u32
         requires not_zero { block ≢ 0 }
         requires some { 0 < half }
         requires used { size_of (blocks self.old block) ≡ half + half }
         ensures place { result ≡ block + half }
         ensures split { IsSplit (blocks self.old) (blocks self.new) block half }
-        ensures room { room self.new ≡ room self.old }
+        ensures no_larger { IsNoLarger self.old self.new }
+        ensures free { (s : ℕ) → spare self.new s ≡ spare self.old s }
     {
         let upper = block + half as u32;
         self.used = note(&note(&self.used, block, half), upper, half);

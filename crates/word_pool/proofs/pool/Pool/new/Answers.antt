@@ -1,8 +1,20 @@
-use Rattle.std.proofs.Common.{◌∙◌}
+use Rattle.std.proofs.Common.{arith, vec_len, refl, ap}
+use Rattle.word_pool.specs.Pool.{blocks, spare}
+use Rattle.word_pool.proofs.Pools.{empty_blocks}
+use Rattle.word_pool.specs.Layout.{entry}
+use Rattle.word_pool.proofs.Sizes.{total}
+use Rattle.word_pool.proofs.Start.{start_laid}
 use Rattle.word_pool.proofs.pool.Pool.new.Goals as goal
 
-pub returns : goal.returns
-returns g c = record {
-  zeros = c.add_free-5.ensures 0 ∙ c.add_free-4.ensures 0 ∙ c.add_free-3.ensures 0 ∙ c.add_free-2.ensures 0 ∙ c.add_free.ensures 0 ∙ c.in_ok-pool.ensures.zeros;
-  others = λ b n. c.add_free-5.ensures b ∙ c.add_free-4.ensures b ∙ c.add_free-3.ensures b ∙ c.add_free-2.ensures b ∙ c.add_free.ensures b ∙ c.in_ok-pool.ensures.others b n;
-}
+pub invariant_of-result-clause-laid : goal.invariant_of-result-clause-laid
+invariant_of-result-clause-laid g c =
+    start_laid c.resize.new.self.items (vec_len c.resize.new.self) c.first_group.result.numbers c.first_block.result.numbers c.in_ok-resize.ensures.len
+    (λ k l. c.in_ok-resize.ensures.by_index.1 k 0 refl (omega (arith, c.new-words.ensures.len)) l) c.first_group.ensures c.first_block.ensures
+
+pub returns-clause-empty : goal.returns-clause-empty
+returns-clause-empty g c = empty_blocks _ c.first_block.ensures
+
+pub returns-clause-free : goal.returns-clause-free
+unfolding spare
+returns-clause-free g c =
+    let w = ap (λ n. total (entry n)) c.first_group.ensures in omega (arith, w, c.in_ok-resize.ensures.len)

@@ -12,12 +12,12 @@ index_mut-requires g c = within-blocks c.args.self.now c.args.block c.args.i c.r
 pub invariant_of-self-clause-laid : goal.invariant_of-self-clause-laid
 invariant_of-self-clause-laid g c =
     let s = size-blocks c.args.self.now c.args.block in
-    set_laid c.args.self.now.words.items (vec_len c.args.self.now.words) c.args.self.now.free c.args.self.now.used.numbers c.args.self.now.laid c.args.block c.args.i c.args.word
+    set_laid c.args.self.now.words.items (vec_len c.args.self.now.words) c.args.self.now.free c.args.self.now.spare.numbers c.args.self.now.used.numbers c.args.self.now.laid c.args.block c.args.i c.args.word
     c.requires.not_zero (omega (arith, s, c.requires.inside))
 
 pub returns-clause-written : goal.returns-clause-written
 unfolding blocks
 returns-clause-written g c =
     let s = size-blocks c.args.self.now c.args.block in
-    set_written c.args.self.now.words.items (vec_len c.args.self.now.words) c.args.self.now.free c.args.self.now.used.numbers c.args.self.now.laid c.args.block c.args.i c.args.word
+    set_written c.args.self.now.words.items (vec_len c.args.self.now.words) c.args.self.now.free c.args.self.now.spare.numbers c.args.self.now.used.numbers c.args.self.now.laid c.args.block c.args.i c.args.word
     c.args.self.now.words.ok.0 (omega (arith, s, c.requires.inside))

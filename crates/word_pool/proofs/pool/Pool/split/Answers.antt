@@ -13,13 +13,13 @@ overflow_add-upper g c =
 
 pub invariant_of-self-clause-laid : goal.invariant_of-self-clause-laid
 invariant_of-self-clause-laid g c =
-    split_laid c.args.self.now.words.items (vec_len c.args.self.now.words) c.args.self.now.free c.args.self.now.used.numbers c.args.self.now.laid
+    split_laid c.args.self.now.words.items (vec_len c.args.self.now.words) c.args.self.now.free c.args.self.now.spare.numbers c.args.self.now.used.numbers c.args.self.now.laid
     c.args.block c.args.half c.requires.some c.requires.not_zero (sym (size-blocks c.args.self.now c.args.block) ∙ c.requires.used)
     c.note.result.numbers c.note-2.result.numbers c.note.ensures c.note-2.ensures
 
 pub returns-clause-split : goal.returns-clause-split
 unfolding blocks
 returns-clause-split g c =
-    split_here c.args.self.now.words.items (vec_len c.args.self.now.words) c.args.self.now.free c.args.self.now.used.numbers c.args.self.now.laid
+    split_here c.args.self.now.words.items (vec_len c.args.self.now.words) c.args.self.now.free c.args.self.now.spare.numbers c.args.self.now.used.numbers c.args.self.now.laid
     c.args.block c.args.half c.requires.some c.requires.not_zero (sym (size-blocks c.args.self.now c.args.block) ∙ c.requires.used)
     c.note.result.numbers c.note-2.result.numbers c.note.ensures c.note-2.ensures
