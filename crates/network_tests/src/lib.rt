@@ -33,4 +33,6 @@ mod tables;
 #[cfg(test)]
 mod values;
 #[cfg(test)]
+mod word_pools;
+#[cfg(test)]
 mod worlds;

@@ -1,7 +1,7 @@
 -- The words of a block, and what stays of them where words are written.
-use Rattle.std.proofs.Common.{ℕ, zero, suc, ◌≡◌, ◌≢◌, ◌⊎◌, inl, inr, ⊎_elim, ◌+◌, ◌%◌, ◌<◌, ◌≤◌, List, [], ◌∷◌, length, take, set, get_or, Option, Some, None, arith, refl, sym, ap, ◌∙◌, cond, eqb}
-use Rattle.std.proofs.lemmas.Bool.{cases_eq, eq-eqb, ne_eqb}
-use Rattle.word_pool.specs.Heap.{size_of, word_of, with_word, first_of, IsTaken, IsGiven, IsWritten, IsSplit, SameOthers}
+use Rattle.std.proofs.Common.{ℕ, zero, suc, ◌≡◌, ◌≢◌, ◌+◌, ◌%◌, ◌<◌, ◌≤◌, List, [], ◌∷◌, length, take, set, get_or, Option, Some, None, arith, refl, sym, ap, ◌∙◌, cond}
+use Rattle.std.proofs.lemmas.Bool.{eq-eqb, ne_eqb}
+use Rattle.word_pool.specs.Heap.{size_of, word_of, with_word, first_of, IsTaken, IsGiven, IsWritten, IsSplit}
 use Rattle.word_pool.specs.Layout.{noted}
 use Rattle.word_pool.specs.Pool.{read, block_at}
 
@@ -107,7 +107,7 @@ module _ (f g u v : ℕ → ℕ) where
     not_zero = some;
     fresh = block_none f p (u p) none;
     aligned = fits;
-    words = size-block_at g p (v p) ∙ size;
+    sized = size-block_at g p (v p) ∙ size;
     others = λ b n. heap_same b (others b n) (λ k l h. same b k n l h);
   }
 

@@ -3,3 +3,4 @@ pub mod Laid
 pub mod Pools
 pub mod Start
 pub mod Sizes
+pub mod Reading

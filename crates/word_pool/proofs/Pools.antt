@@ -1,12 +1,12 @@
 -- What a pool's blocks are by its words and by what was noted of them, and what one step does to them.
-use Rattle.std.proofs.Common.{ℕ, ◌≡◌, ◌≢◌, ◌+◌, ◌-◌, ◌*◌, ◌%◌, ◌<◌, ◌≤◌, List, [], ◌∷◌, length, set, get_or, Some, arith, refl, sym, ap, ◌∙◌, vec_len, get_or-set_same, get_or-set_other}
+use Rattle.std.proofs.Common.{ℕ, ◌≡◌, ◌≢◌, ◌+◌, ◌-◌, ◌%◌, ◌<◌, ◌≤◌, List, [], ◌∷◌, length, set, get_or, Some, arith, refl, sym, ap, ◌∙◌, vec_len, get_or-set_same, get_or-set_other}
 use Rattle.std.proofs.Math.Logic.{∥∥₁_map}
-use Rattle.word_pool.specs.Heap.{size_of, word_of, SameBlocks, IsEmpty, IsTaken, IsGiven, IsWritten, IsSplit}
+use Rattle.word_pool.specs.Heap.{size_of, word_of, IsEmpty, IsTaken, IsGiven, IsWritten, IsSplit}
 use Rattle.word_pool.specs.Layout.{entry, noted, width, IsLaid}
 use Rattle.word_pool.specs.Pool.{blocks, block_at, read}
 use Rattle.word_pool.specs.declared.pool.Pool.{Pool}
 use Rattle.word_pool.proofs.Blocks.{noted_here, noted_other, noted_start, block_none, heap, heap_taken, heap_given, heap_written, heap_split, size-block_at, word-block_at}
-use Rattle.word_pool.proofs.Laid.{width_some, laid_set, laid_pop, laid_push, laid_split, laid_grow, used_within, used_disjoint, head_some, head_unused, head_within, head_aligned, upper_unused, beyond_unused, zero_used, zero_word}
+use Rattle.word_pool.proofs.Laid.{width_some, laid_set, laid_pop, laid_push, laid_split, laid_grow, used_within, used_disjoint, head_some, head_unused, head_aligned, upper_unused, beyond_unused, zero_used, zero_word}
 
 -- four zeros
 four_zeros : (f : ℕ → ℕ) → ((k : ℕ) → k < 4 → f k ≡ 0) → block_at f 0 4 ≡ Some (0 ∷ 0 ∷ 0 ∷ 0 ∷ [])

@@ -1,6 +1,6 @@
 -- The six sizes of blocks, their lists, and the words of the free blocks.
-use Rattle.std.proofs.Common.{ℕ, ◌≡◌, ◌≢◌, ◌⊎◌, inl, inr, ⊎_elim, ◌+◌, ◌-◌, ◌*◌, ◌<◌, ◌≤◌, List, length, set, IsTrue, arith, refl, sym, ap, subst, ◌∙◌, vec_len, get_or-set_same, get_or-set_other}
-use Rattle.std.proofs.lemmas.Bool.{cases_eq, cases_lt}
+use Rattle.std.proofs.Common.{ℕ, ◌≡◌, ◌≢◌, ◌⊎◌, ⊎_elim, ◌+◌, ◌-◌, ◌*◌, ◌<◌, ◌≤◌, List, length, set, IsTrue, arith, refl, sym, ap, subst, ◌∙◌, vec_len, get_or-set_same, get_or-set_other}
+use Rattle.std.proofs.lemmas.Bool.{cases_lt}
 use Rattle.std.proofs.lemmas.Bool.Decides.{nat_tests}
 use Rattle.word_pool.specs.Heap.{is_size}
 use Rattle.word_pool.specs.Layout.{entry, noted, width}

@@ -1,6 +1,6 @@
 -- A new pool: of 128 words, four are in use, and the others are free blocks of five sizes.
-use Rattle.std.proofs.Common.{ℕ, ◌≡◌, ◌≢◌, ⊎_elim, ◌+◌, ◌%◌, ◌<◌, ◌≤◌, List, [], ◌∷◌, length, set, replicate, arith, refl, sym, subst, ◌∙◌, get_or-set_same, get_or-set_other}
-use Rattle.std.proofs.lemmas.List.{get_or-replicate, get_or_past, length-replicate}
+use Rattle.std.proofs.Common.{ℕ, ◌≡◌, ⊎_elim, ◌+◌, ◌%◌, ◌<◌, List, [], ◌∷◌, length, set, replicate, arith, refl, sym, subst, get_or-set_same, get_or-set_other}
+use Rattle.std.proofs.lemmas.List.{get_or-replicate, get_or_past}
 use Rattle.std.proofs.lemmas.Bool.{cases_lt}
 use Rattle.word_pool.specs.Layout.{entry, noted, width, IsLaid}
 use Rattle.word_pool.proofs.Blocks.{noted_here, noted_start}

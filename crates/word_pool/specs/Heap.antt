@@ -1,5 +1,5 @@
 -- What the callers of a pool see: from places to the words of the block in use that begins there, or none. Other blocks are other cells of this heap: nothing about overlaps.
-use Rattle.std.specs.Prelude.{ℕ, zero, suc, ◌≡◌, ◌≢◌, ◌+◌, ◌%◌, ◌==◌, ◌||◌, Bool, List, [], ◌∷◌, length, take, slice_set, slice_index_or, Option, Some, None}
+use Rattle.std.specs.Prelude.{ℕ, ◌≡◌, ◌≢◌, ◌+◌, ◌%◌, ◌==◌, ◌||◌, Bool, List, [], ◌∷◌, length, take, slice_set, slice_index_or, Option, Some, None}
 
 abbrev pub Heap : Type 0
 Heap = ℕ → Option (List ℕ)
@@ -46,7 +46,7 @@ pub record IsTaken (old new : Heap) (block size : ℕ) : Type 0 where
   pub not_zero : block ≢ 0
   pub fresh : old block ≡ None
   pub aligned : block % size ≡ 0
-  pub words : size_of (new block) ≡ size
+  pub sized : size_of (new block) ≡ size
   pub others : SameOthers old new block
 
 -- a block is in use no more

@@ -39,9 +39,13 @@ module _ {A : Type 0} where
   abbrev pub word_count : Pool A → ℕ
   word_count pool = vec_len pool.words
 
-  -- how many groups of 128 words can be added without memory, where a pool has at most 2^32 words
+  -- how many words there is memory for, where a pool has at most 2^32
+  abbrev pub capacity : Pool A → ℕ
+  capacity pool = min (vec_capacity pool.words) (2 ^ 32)
+
+  -- how many groups of 128 words can be added without memory
   abbrev pub room : Pool A → ℕ
-  room pool = (min (vec_capacity pool.words) (2 ^ 32) - word_count pool) / 128
+  room pool = (capacity pool - word_count pool) / 128
 
   -- no word was added
   pub record IsNoLarger (old new : Pool A) : Type 0 where

@@ -1,5 +1,5 @@
-//! What contracts and proofs know of a pool beside its words: the blocks in use, and how many are
-//! free. None of it takes memory, and none of this code does anything when it runs.
+//! What contracts and proofs know of a pool beside its words: the blocks in use, and how many blocks are
+//! free. A `Tag` has no bytes, and only clauses read its numbers. So nothing here runs or takes memory.
 
 ghost use Rattle.std.specs.Prelude.{◌≡◌, ◌+◌, ◌-◌, [], ◌∷◌, slice_set};
 ghost use Rattle.word_pool.specs.Layout.{entry};

@@ -9,6 +9,7 @@ use boxcar::tag::Tag;
 use network_model::NoMemory;
 use std::alloc::{Allocator, Global};
 use std::cmp::min;
+use std::fmt;
 
 /// How many words a pool has at most: as many as there are places in a `u32`.
 const MOST_WORDS: usize = 1 << 32;
@@ -16,17 +17,17 @@ const MOST_WORDS: usize = 1 << 32;
 /// How many words are added at a time: as many as the largest block has.
 const GROUP: usize = 128;
 
-/// Words in blocks of 4, 8, 16, 32, 64 or 128. A block is named by the place of its first word. At 0
-/// there is always a block of four zeros, which is never taken, given back or written: its place can
-/// stand for no block, and be read. `give` needs no memory, since the free blocks of each size are
-/// linked in their own words. There are at most 2^32 words: a pool that would have more refuses to
-/// grow, as the allocator may. `NoMemory` is answered only where there was less room than was asked for.
+/// Words in blocks of 4, 8, 16, 32, 64 or 128. The place of its first word names a block. At 0 there is
+/// always a block of four zeros, which is never taken, given back or written. So its place can stand for
+/// no block, and can be read. The free blocks of each size are linked by their first words, so `give` and
+/// `halve` need no memory. A pool refuses to have more than 2^32 words, and the allocator may refuse
+/// before. `NoMemory` is answered only when there was less room than was asked for.
 #[derive(Drop)]
 pub struct Pool<A: Allocator = Global> {
     words: Vec<u32, A>,
     // The first free block of each size; 0 where there is none.
     free: [u32; 6],
-    // Which blocks are in use, and how many are free: for contracts and proofs alone.
+    // Which blocks are in use, and how many each list has: for contracts and proofs alone.
     used: Tag,
     spare: Tag,
     ghost few: { vec_len words ≤ 2 ^ 32 },
@@ -36,11 +37,20 @@ pub struct Pool<A: Allocator = Global> {
         (noted used.numbers) ∥₁ },
 }
 
+impl<A: Allocator> fmt::Debug for Pool<A> {
+    fn fmt<W: fmt::Write>(&self, f: &mut fmt::Formatter<W>) -> fmt::Result {
+        f.debug_struct("Pool")
+            .field("words", &self.words.len())
+            .field("free", &self.free)
+            .finish()
+    }
+}
+
 impl<A: Allocator> Pool<A> {
-    ghost use Rattle.word_pool.specs.Pool.{blocks, spare, free_words, list_of_size, word_count, room};
+    ghost use Rattle.word_pool.specs.Pool.{blocks, spare, free_words, list_of_size, word_count, capacity, room};
     ghost use Rattle.word_pool.specs.Pool.{HasSpare, IsNoLarger, SameSpare, KeepsBlocks, HasSameBlocks};
 
-    /// A pool with no block in use but the one at 0.
+    /// A pool with no block in use but the one at 0. It has 128 words.
     pub fn new(alloc: A) -> Result<Self, NoMemory>
         ensures empty { IfOk result (λ pool. IsEmpty (blocks pool)) }
         ensures free { IfOk result (λ pool. 4 + free_words pool ≡ word_count pool) }
@@ -74,18 +84,25 @@ impl<A: Allocator> Pool<A> {
         self.words.len()
     }
 
+    /// How many words there is memory for: those that there are, and the room for more.
+    pub fn capacity(&self) -> usize
+        ensures { result ≡ capacity self.now }
+    {
+        min(self.words.capacity(), MOST_WORDS)
+    }
+
     /// How many groups of 128 words can be added without memory.
     pub fn room(&self) -> usize
         ensures { result ≡ room self.now }
     {
-        (min(self.words.capacity(), MOST_WORDS) - self.words.len()) / GROUP
+        (self.capacity() - self.words.len()) / GROUP
     }
 
-    /// How many bytes of memory the words take, with the room for more.
+    /// How many bytes these words take: 4 for each that there is memory for.
     pub fn bytes(&self) -> usize
-        ensures { 4 * (word_count self.now + 128 * room self.now) ≤ result }
+        ensures { result ≡ 4 * capacity self.now }
     {
-        4 * min(self.words.capacity(), MOST_WORDS)
+        4 * self.capacity()
     }
 
     /// A word of a block in use.
@@ -121,8 +138,8 @@ impl<A: Allocator> Pool<A> {
         Ok(())
     }
 
-    /// Takes a block of a size. Nothing says which words it has. Where a free block has the size or
-    /// more, no word is added: a larger one is halved until it fits. Else the pool grows by 128 words.
+    /// Takes a block of a size. Nothing says which words it has. If a free block has the size or more,
+    /// no word is added: a larger one is halved until it fits. Else the pool grows by 128 words.
     pub fn take(&mut self, size: usize) -> Result<u32, NoMemory>
         requires { IsTrue (is_size size) }
         ensures ok { IfOk result (λ block. IsTaken (blocks self.old) (blocks self.new) block size) }
@@ -148,7 +165,7 @@ impl<A: Allocator> Pool<A> {
         Ok(block)
     }
 
-    /// Gives back a block in use of a size. It needs no memory, and nothing is joined.
+    /// Gives back a block in use, of a size. It needs no memory. Free blocks are never joined.
     pub fn give(&mut self, block: u32, size: usize)
         requires not_zero { block ≢ 0 }
         requires one_of_six { IsTrue (is_size size) }
@@ -166,7 +183,7 @@ impl<A: Allocator> Pool<A> {
         self.spare = one_more(&self.spare, list);
     }
 
-    /// Gives back the upper half of a block in use of a size. It needs no memory.
+    /// Gives back the upper half of a block in use, of a size. It needs no memory.
     pub fn halve(&mut self, block: u32, size: usize)
         requires not_zero { block ≢ 0 }
         requires one_of_six { IsTrue (is_size size) }

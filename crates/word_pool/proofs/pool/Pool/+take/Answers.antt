@@ -1,7 +1,6 @@
 use Rattle.std.proofs.Common.{arith, refl, sym, ap, ◌∙◌}
 use Rattle.std.proofs.lemmas.Bool.{false≢true}
 use Rattle.word_pool.specs.Layout.{entry}
-use Rattle.word_pool.specs.Pool.{blocks, spare}
 use Rattle.word_pool.proofs.Sizes.{spare_larger}
 use Rattle.word_pool.proofs.pool.Pool.+take.Goals as goal
 

@@ -1,6 +1,5 @@
-use Rattle.std.proofs.Common.{◌+◌, arith, vec_len, ◌∙◌, ap, sym, get_or-set_same, get_or-set_other}
-use Rattle.word_pool.specs.Layout.{entry}
-use Rattle.word_pool.specs.Pool.{blocks, spare, list_of_size}
+use Rattle.std.proofs.Common.{arith, vec_len, ◌∙◌, sym}
+use Rattle.word_pool.specs.Pool.{blocks, spare}
 use Rattle.word_pool.proofs.Laid.{width_some}
 use Rattle.word_pool.proofs.Pools.{size-blocks, within-blocks, push_laid, push_given}
 use Rattle.word_pool.proofs.Sizes.{count_more, count_other, words_more}

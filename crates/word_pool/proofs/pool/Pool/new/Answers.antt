@@ -1,5 +1,5 @@
 use Rattle.std.proofs.Common.{arith, vec_len, refl, ap}
-use Rattle.word_pool.specs.Pool.{blocks, spare}
+use Rattle.word_pool.specs.Pool.{spare}
 use Rattle.word_pool.proofs.Pools.{empty_blocks}
 use Rattle.word_pool.specs.Layout.{entry}
 use Rattle.word_pool.proofs.Sizes.{total}

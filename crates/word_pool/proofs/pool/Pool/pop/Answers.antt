@@ -1,7 +1,7 @@
-use Rattle.std.proofs.Common.{◌+◌, ◌-◌, ◌≤◌, ◌<◌, arith, vec_len, ◌∙◌, ap, sym, subst, get_or-set_same, get_or-set_other}
-use Rattle.std.proofs.lemmas.List.{get_or_default, length-set}
+use Rattle.std.proofs.Common.{◌<◌, arith, vec_len, ◌∙◌, ap, sym}
+use Rattle.std.proofs.lemmas.List.{get_or_default}
 use Rattle.word_pool.specs.Layout.{entry, noted, width}
-use Rattle.word_pool.specs.Pool.{blocks, spare, list_of_size}
+use Rattle.word_pool.specs.Pool.{blocks, spare}
 use Rattle.word_pool.proofs.Laid.{head_within, head_some, width_some}
 use Rattle.word_pool.proofs.Pools.{pop_laid, pop_taken}
 use Rattle.word_pool.proofs.Sizes.{width_of, few_lists, words_fewer}

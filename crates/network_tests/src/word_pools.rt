@@ -1,0 +1,80 @@
+use linked_list_allocator::LocalHeap;
+use word_pool::Pool;
+
+#[test]
+fn a_new_pool_has_four_zeros(rt: HostRuntime) {
+    let pool = Pool::new(rt.alloc()).expect(&rt, "memory");
+    assert_eq!(rt;
+        (pool.word(0, 0), pool.word(0, 1), pool.word(0, 2)),
+        (0, 0, 0)
+    );
+    assert_eq!(rt; pool.word_count(), 128);
+    assert!(rt; pool.bytes() >= 512);
+}
+
+#[test]
+fn what_was_given_is_taken_again(rt: HostRuntime) {
+    let mut pool = Pool::new(rt.alloc()).expect(&rt, "memory");
+    let first = pool.take(4).expect(&rt, "memory");
+    let second = pool.take(8).expect(&rt, "memory");
+    pool.give(first, 4);
+    let again = pool.take(4).expect(&rt, "memory");
+    assert_eq!(rt; (first, second, again), (4, 8, 4));
+    assert_eq!(rt; pool.word_count(), 128);
+}
+
+#[test]
+fn a_larger_block_is_halved_until_it_fits(rt: HostRuntime) {
+    let mut pool = Pool::new(rt.alloc()).expect(&rt, "memory");
+    let first = pool.take(32).expect(&rt, "memory");
+    // Of the 64 words at 64 the upper half is free again.
+    let second = pool.take(32).expect(&rt, "memory");
+    let third = pool.take(32).expect(&rt, "memory");
+    assert_eq!(rt;
+        (first, second, third, pool.word_count()),
+        (32, 64, 96, 128)
+    );
+    // No block of 32 words is left, so there are 128 words more, and four of them are taken.
+    let large = pool.take(32).expect(&rt, "memory");
+    assert_eq!(rt; (large, pool.word_count()), (128, 256));
+    let whole = pool.take(128).expect(&rt, "memory");
+    assert_eq!(rt; (whole, pool.word_count()), (256, 384));
+}
+
+#[test]
+fn the_upper_half_is_taken_again(rt: HostRuntime) {
+    let mut pool = Pool::new(rt.alloc()).expect(&rt, "memory");
+    let block = pool.take(16).expect(&rt, "memory");
+    pool.set_word(block, 7, 70);
+    pool.halve(block, 16);
+    let upper = pool.take(8).expect(&rt, "memory");
+    assert_eq!(rt; (block, upper, pool.word(block, 7)), (16, 24, 70));
+}
+
+#[test]
+fn words_stay_where_other_blocks_change(rt: HostRuntime) {
+    let mut pool = Pool::new(rt.alloc()).expect(&rt, "memory");
+    let block = pool.take(8).expect(&rt, "memory");
+    pool.set_word(block, 0, u32::MAX);
+    pool.set_word(block, 7, 7);
+    let other = pool.take(8).expect(&rt, "memory");
+    pool.set_word(other, 0, 1);
+    let copy = pool.copy(rt.alloc()).expect(&rt, "memory");
+    pool.give(other, 8);
+    assert_eq!(rt; (pool.word(block, 0), pool.word(block, 7)), (u32::MAX, 7));
+    assert_eq!(rt; (copy.word(block, 0), copy.word(other, 0)), (u32::MAX, 1));
+}
+
+#[test]
+fn takes_have_the_room_that_was_made(rt: HostRuntime) {
+    let heap = LocalHeap::new(rt.alloc(), 4096).expect(&rt, "memory");
+    let mut pool = Pool::new(&heap).expect(&rt, "memory");
+    pool.reserve(2).expect(&rt, "memory");
+    let room = pool.room();
+    let refused = pool.reserve(100).is_err();
+    assert!(rt; room >= 2 && refused);
+    let free = heap.free();
+    let first = pool.take(128).expect(&rt, "memory");
+    let second = pool.take(128).expect(&rt, "memory");
+    assert_eq!(rt; (first, second, heap.free()), (128, 256, free));
+}
