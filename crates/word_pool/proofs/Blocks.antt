@@ -86,7 +86,7 @@ block_first f b zero s p l = absurd (omega arith)
 block_first f b (suc m) zero p l = absurd (omega arith)
 block_first f b (suc m) (suc n) p l = ap Some (read_take f b (suc m) (suc n) l)
 
--- a block that is there has a size
+-- a block of no words is not there
 pub block_none : (f : ℕ → ℕ) (b s : ℕ) → s ≡ 0 → block_at f b s ≡ None
 unfolding block_at
 block_none f b s e = ap (λ x. block_at f b x) e

@@ -336,7 +336,7 @@ laid_start words count first many used four zeros none empty zero others =
       zeros = zeros;
     }
 
--- what follows of some layout
+-- what follows where there is some layout
 no_proof : (x y : ⊥) → x ≡ y
 no_proof x y = absurd x
 
