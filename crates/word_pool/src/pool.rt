@@ -47,7 +47,7 @@ impl<A: Allocator> fmt::Debug for Pool<A> {
 }
 
 impl<A: Allocator> Pool<A> {
-    ghost use Rattle.word_pool.specs.Pool.{blocks, spare, free_words, list_of_size, word_count, capacity, room};
+    ghost use Rattle.word_pool.specs.Pool.{blocks, spare, free_words, list_of_size, word_count, capacity, room, supply};
     ghost use Rattle.word_pool.specs.Pool.{HasSpare, IsNoLarger, SameSpare, KeepsBlocks, HasSameBlocks};
 
     /// A pool with no block in use but the one at 0. It has 128 words.
@@ -150,8 +150,11 @@ impl<A: Allocator> Pool<A> {
         ensures words { OnOk result (size + free_words self.new + word_count self.old
             ≡ free_words self.old + word_count self.new) }
 
+        // A take uses up one group of the room, and of the words that are free or can be added its own.
         ensures room { room self.old ≤ room self.new + 1 }
+        ensures cost { supply self.old ≤ supply self.new + size }
         ensures full { OnErr result (room self.old ≡ 0) }
+        ensures small { size ≡ 4 → 4 ≤ supply self.old → IsOk result }
     {
         let list = Self::list_of(size);
         if self.free[list] != 0 {
