@@ -34,7 +34,7 @@ fn a_larger_block_is_halved_until_it_fits(rt: HostRuntime) {
         (first, second, third, pool.word_count()),
         (32, 64, 96, 128)
     );
-    // No block of 32 words is left, so there are 128 words more, and four of them are taken.
+    // No free block has 32 words, so the pool grows by 128 words.
     let large = pool.take(32).expect(&rt, "memory");
     assert_eq!(rt; (large, pool.word_count()), (128, 256));
     let whole = pool.take(128).expect(&rt, "memory");
