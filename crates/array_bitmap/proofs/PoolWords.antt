@@ -1,0 +1,257 @@
+-- What the calls of a pool leave of the words of its blocks.
+use Rattle.std.proofs.Common.{ℕ, zero, suc, ◌≡◌, ◌≢◌, ◌⊎◌, inl, inr, ⊎_elim, ◌+◌, ◌-◌, ◌*◌, ◌/◌, ◌^◌, ◌<◌, ◌≤◌, List, length, slice_index, slice_set, get_or, Option, Some, None, Bool, true, cond, nat_lt, nat_le, ◌==◌, ◌&&◌, is_some, count_ones, arith, refl, sym, ap, subst, ◌∙◌}
+use Rattle.std.proofs.lemmas.List.{get_or-set_same, get_or-set_other, length-set, get_or-take, length-take}
+use Rattle.std.specs.Int.{bit_at}
+use Rattle.std.proofs.lemmas.Bool.{cases_eq, cases_lt, cond-true, cond-false, lt-ltb, le-ltb, leb-true, eqb-true, and_parts, agree_below_at, false≢true}
+use Rattle.std.proofs.lemmas.Nat.{ones-le}
+use Rattle.std.proofs.lemmas.Nat.Bits.{bit_at-lt}
+use Rattle.word_pool.specs.Heap.{Heap, size_of, word_of, with_word, is_size, first_of, IsWritten, IsTaken, IsGiven, IsShortened, SameOthers}
+use Rattle.array_bitmap.specs.Blocks.{rows_of, kids_of, size_for, used_words, IsBlock}
+use Rattle.array_bitmap.specs.Tree.{words_of}
+use Rattle.array_bitmap.specs.Changes.{Copies, GetsRoom, ShiftsIn, PutsWord, ShiftsOut, TakesWord, IsReworded, IsInserted, IsReplaced}
+use Rattle.array_bitmap.proofs.Ranks.{ones-add, add_lt}
+
+-- a word and the size of a block, by the list of its words
+pub word_listed : (o : Option (List ℕ)) (i : ℕ) → word_of o i ≡ slice_index (words_of o) i
+word_listed None i = refl
+word_listed (Some ws) i = refl
+
+pub size_listed : (o : Option (List ℕ)) → size_of o ≡ length (words_of o)
+size_listed None = refl
+size_listed (Some ws) = refl
+
+-- a block with a size is there
+pub there : (o : Option (List ℕ)) → 0 < size_of o → is_some o ≡ true
+there None h = absurd (omega arith)
+there (Some ws) h = refl
+
+pub is_words : (o : Option (List ℕ)) → is_some o ≡ true → o ≡ Some (words_of o)
+is_words None h = absurd (false≢true h)
+is_words (Some ws) h = refl
+
+-- ---- a word is written
+word_here : (o : Option (List ℕ)) (i w : ℕ) → i < size_of o → word_of (with_word o i w) i ≡ w
+word_here None i w h = absurd (omega arith)
+word_here (Some ws) i w h = get_or-set_same ws i w 0 h
+
+word_other : (o : Option (List ℕ)) (i w k : ℕ) → k ≢ i → word_of (with_word o i w) k ≡ word_of o k
+word_other None i w k n = refl
+word_other (Some ws) i w k n = get_or-set_other ws i k w 0 n
+
+size_same : (o : Option (List ℕ)) (i w : ℕ) → size_of (with_word o i w) ≡ size_of o
+size_same None i w = refl
+size_same (Some ws) i w = length-set ws i w
+
+module _ (old new : Heap) (b i w : ℕ) (wr : IsWritten old new b i w) where
+  pub written_here : i < size_of (old b) → word_of (new b) i ≡ w
+  written_here h = ap (λ o. word_of o i) wr.here ∙ word_here (old b) i w h
+
+  pub written_other : (k : ℕ) → k ≢ i → word_of (new b) k ≡ word_of (old b) k
+  written_other k n = ap (λ o. word_of o k) wr.here ∙ word_other (old b) i w k n
+
+  pub written_size : size_of (new b) ≡ size_of (old b)
+  written_size = ap size_of wr.here ∙ size_same (old b) i w
+
+-- ---- sizes, computed for each number of words
+
+-- a size holds its words, and is one of the sizes
+abbrev holds : ℕ → Bool
+holds n = nat_le n (size_for n) && (is_size (size_for n) && nat_le 4 (size_for n))
+
+size_check : (n : ℕ) → n < 129 → holds n ≡ true
+unfolding size_for
+size_check n h = agree_below_at holds (λ _. true) 129 n refl h
+
+-- the next number of words has the same size, or twice the size
+abbrev next_is : ℕ → Bool
+next_is n = cond (nat_lt n (size_for n)) (size_for (n + 1) == size_for n) ((size_for (n + 1) == 2 * size_for n) && is_size (2 * size_for n))
+
+next_check : (n : ℕ) → n < 97 → next_is n ≡ true
+unfolding size_for
+next_check n h = agree_below_at next_is (λ _. true) 97 n refl h
+
+pub size_holds : (n : ℕ) → n ≤ 128 → n ≤ size_for n
+size_holds n h = leb-true n (size_for n) (and_parts _ _ (size_check n (omega arith))).0
+
+pub size_some : (n : ℕ) → n ≤ 128 → is_size (size_for n) ≡ true
+size_some n h = (and_parts _ _ (and_parts _ _ (size_check n (omega arith))).1).0
+
+pub size_least : (n : ℕ) → n ≤ 128 → 4 ≤ size_for n
+size_least n h = leb-true 4 (size_for n) (and_parts _ _ (and_parts _ _ (size_check n (omega arith))).1).1
+
+pub size_same_next : (n : ℕ) → n ≤ 96 → n < size_for n → size_for (n + 1) ≡ size_for n
+size_same_next n h l = eqb-true _ _ (sym (cond-true _ _ _ (lt-ltb n (size_for n) l)) ∙ next_check n (omega arith))
+
+twice : (n : ℕ) → n ≤ 96 → size_for n ≤ n → ((size_for (n + 1) == 2 * size_for n) && is_size (2 * size_for n)) ≡ true
+twice n h l = sym (cond-false _ _ _ (le-ltb n (size_for n) l)) ∙ next_check n (omega arith)
+
+pub size_twice_next : (n : ℕ) → n ≤ 96 → size_for n ≤ n → size_for (n + 1) ≡ 2 * size_for n
+size_twice_next n h l = eqb-true _ _ (and_parts _ _ (twice n h l)).0
+
+pub twice_some : (n : ℕ) → n ≤ 96 → size_for n ≤ n → is_size (2 * size_for n) ≡ true
+twice_some n h l = (and_parts _ _ (twice n h l)).1
+
+-- ---- a block's words
+module _ (heap : Heap) (b : ℕ) (block : IsBlock (words_of (heap b))) where
+  -- they are few
+  pub few_words : used_words (words_of (heap b)) ≤ 97
+  few_words = omega (arith, ones-le 62 (rows_of (words_of (heap b))) block.few_rows, ones-le 32 (kids_of (words_of (heap b))) block.few_kids)
+
+  pub block_size : size_of (heap b) ≡ size_for (used_words (words_of (heap b)))
+  block_size = size_listed (heap b) ∙ block.size
+
+  -- and all are there
+  pub block_holds : used_words (words_of (heap b)) ≤ size_of (heap b)
+  block_holds = omega (arith, few_words, block_size, size_holds (used_words (words_of (heap b))))
+
+  pub block_head : 3 < size_of (heap b)
+  block_head = omega (arith, few_words, block_size, size_least (used_words (words_of (heap b))))
+
+  -- where a bit is clear, there are fewer
+  pub few_rows : (bit : ℕ) → bit < 62 → bit_at (rows_of (words_of (heap b))) bit ≡ 0 → count_ones (rows_of (words_of (heap b))) ≤ 61
+  few_rows bit small clear =
+      let n = rows_of (words_of (heap b)) in
+      omega (arith, ones-add n bit clear, ones-le 62 (n + 2 ^ bit) (add_lt n bit 62 block.few_rows small clear))
+
+  pub few_kids : (five : ℕ) → five < 32 → bit_at (kids_of (words_of (heap b))) five ≡ 0 → count_ones (kids_of (words_of (heap b))) ≤ 31
+  few_kids five small clear =
+      let n = kids_of (words_of (heap b)) in
+      omega (arith, ones-add n five clear, ones-le 32 (n + 2 ^ five) (add_lt n five 32 block.few_kids small clear))
+
+  pub all_rows : count_ones (rows_of (words_of (heap b))) ≤ 62
+  all_rows = ones-le 62 (rows_of (words_of (heap b))) block.few_rows
+
+  pub all_kids : count_ones (kids_of (words_of (heap b))) ≤ 32
+  all_kids = ones-le 32 (kids_of (words_of (heap b))) block.few_kids
+
+-- a bit that is not set is 0
+pub clear_bit : (n k : ℕ) → (bit_at n k ≡ 1 → ⊥) → bit_at n k ≡ 0
+clear_bit n k h =
+    let l : bit_at n k < 2 = bit_at-lt n k in
+    ⊎_elim (λ e. absurd (h e)) (λ e. omega arith) (cases_eq (bit_at n k) 1)
+
+-- ---- a block gets room
+pub room_there : (old : Heap) (block used : ℕ) → block ≢ 0 → used ≤ 96 → size_of (old block) ≡ size_for used → used < size_for used → GetsRoom old old block block used
+room_there old block used some few size l = record {
+  somewhere = some;
+  fresh = λ n. absurd (n refl);
+  gone = λ n. absurd (n refl);
+  others = λ p n m. refl;
+  size = size ∙ sym (size_same_next used few l);
+  words = λ i h. refl;
+}
+
+pub room_made : (old taken copied new : Heap) (block place used size : ℕ) → used ≤ 96 → size ≡ size_for used → size ≤ used → is_some (old block) ≡ true
+    → IsTaken old taken place (2 * size) → Copies taken copied block place used → IsGiven copied new block → GetsRoom old new block place used
+room_made old taken copied new block place used size few s l there t p v = record {
+  somewhere = t.not_zero;
+  fresh = λ n. t.fresh;
+  gone = λ n. v.gone;
+  others = λ q n m. v.others q n ∙ p.others q m ∙ t.others q m;
+  size = ap size_of (v.others place apart) ∙ p.size ∙ t.sized ∙ ap (λ x. 2 * x) s ∙ sym (size_twice_next used few (subst (λ x. x ≤ used) s l));
+  words = λ i h. ap (λ o. word_of o i) (v.others place apart) ∙ p.words i h ∙ ap (λ o. word_of o i) (t.others block (λ e. apart (sym e)));
+}
+  where
+    apart : place ≢ block
+    apart e = false≢true (sym (ap is_some t.fresh) ∙ ap (λ x. is_some (old x)) e ∙ there)
+
+-- and a word more
+pub word_put : (old mid new : Heap) (block place used at word : ℕ) → at ≤ used → GetsRoom old mid block place used → ShiftsIn mid new place used at word → PutsWord old new block place used at word
+word_put old mid new block place used at word within r s = record {
+  somewhere = r.somewhere;
+  fresh = r.fresh;
+  gone = λ n. s.others block (λ e. n (sym e)) ∙ r.gone n;
+  others = λ p n m. s.others p m ∙ r.others p n m;
+  size = s.size ∙ r.size;
+  low = λ i h. s.low i h ∙ r.words i (omega arith);
+  here = s.here;
+  high = λ i h l. s.high i h l ∙ r.words i l;
+}
+
+-- ---- and other bitmaps
+pub record WritesHead (old new : Heap) (place : ℕ) : Type 0 where
+  pub others : SameOthers old new place
+  pub size : size_of (new place) ≡ size_of (old place)
+  pub words : (i : ℕ) → 3 ≤ i → word_of (new place) i ≡ word_of (old place) i
+
+module _ (old mid new : Heap) (block place used at word : ℕ) (put : PutsWord old mid block place used at word) (head : WritesHead mid new place)
+    (few : used + 1 ≤ 128) (u : used ≡ used_words (words_of (old block))) where
+  -- the block is there
+  is_there : is_some (new place) ≡ true
+  is_there = there (new place) (omega (arith, head.size, put.size, size_least (used + 1) few))
+
+  -- it has its new words
+  pub put_reworded : IsReworded old new block place (words_of (new place))
+  put_reworded = record {
+    here = is_words (new place) is_there;
+    somewhere = put.somewhere;
+    fresh = put.fresh;
+    gone = λ n. head.others block (λ e. n (sym e)) ∙ put.gone n;
+    others = λ p n m. head.others p m ∙ put.others p n m;
+  }
+
+  -- one of them is put in
+  pub put_inserted : 3 ≤ at → IsInserted (words_of (old block)) (words_of (new place)) at word
+  put_inserted behind = record {
+    low = λ i h l. as_word i h ∙ put.low i l ∙ word_listed (old block) i;
+    here = as_word at behind ∙ put.here;
+    high = λ i h l. as_word (i + 1) (omega arith) ∙ put.high i h (omega (arith, l, u)) ∙ word_listed (old block) i;
+    size = sym (size_listed (new place)) ∙ head.size ∙ put.size ∙ ap (λ n. size_for (n + 1)) u;
+  }
+    where
+      as_word : (i : ℕ) → 3 ≤ i → slice_index (words_of (new place)) i ≡ word_of (mid place) i
+      as_word i h = sym (word_listed (new place) i) ∙ head.words i h
+
+-- ---- a block loses a word
+
+-- the words that a half keeps
+pub first_word : (o : Option (List ℕ)) (n i : ℕ) → i < n → word_of (first_of o n) i ≡ word_of o i
+first_word None n i l = refl
+first_word (Some ws) n i l = get_or-take n ws i 0 l
+
+pub first_size : (o : Option (List ℕ)) (n : ℕ) → n ≤ size_of o → size_of (first_of o n) ≡ n
+first_size None n l = omega arith
+first_size (Some ws) n l = length-take n ws ∙ omega (arith, l)
+
+-- one word fewer has the same size, or half of it
+pub size_before : (n : ℕ) → 4 ≤ n → n ≤ 97 → size_for n ≤ size_for (n - 1) → size_for (n - 1) ≡ size_for n
+size_before n some few l =
+    let e : n - 1 + 1 ≡ n = omega arith in
+    elim (cases_lt (n - 1) (size_for (n - 1))) [
+      | inl room ↦ sym (sym (ap size_for e) ∙ size_same_next (n - 1) (omega arith) room)
+      | inr full ↦
+          let twice : size_for n ≡ 2 * size_for (n - 1) = sym (ap size_for e) ∙ size_twice_next (n - 1) (omega arith) full in
+          omega (arith, twice, l)
+    ]
+
+pub size_halved : (n : ℕ) → 4 ≤ n → n ≤ 97 → size_for (n - 1) < size_for n → (size_for n ≡ 2 * size_for (n - 1)) × (4 < size_for n)
+size_halved n some few l =
+    let e : n - 1 + 1 ≡ n = omega arith in
+    elim (cases_lt (n - 1) (size_for (n - 1))) [
+      | inl room ↦ absurd (let same : size_for n ≡ size_for (n - 1) = sym (ap size_for e) ∙ size_same_next (n - 1) (omega arith) room in omega (arith, same, l))
+      | inr full ↦
+          let twice : size_for n ≡ 2 * size_for (n - 1) = sym (ap size_for e) ∙ size_twice_next (n - 1) (omega arith) full in
+          (twice, omega (arith, twice, size_least (n - 1) (omega arith)))
+    ]
+
+pub word_taken : (old new : Heap) (block used at : ℕ) → 3 < used → used ≤ 97 → size_of (old block) ≡ size_for used → size_for used ≤ size_for (used - 1) → ShiftsOut old new block used at → TakesWord old new block used at
+word_taken old new block used at some few size l s = record {
+  others = s.others;
+  size = s.size ∙ size ∙ sym (size_before used (omega arith) few l);
+  low = s.low;
+  high = s.high;
+}
+
+pub word_taken_half : (old mid new : Heap) (block used at size : ℕ) → 3 < used → used ≤ 97 → at < used → size ≡ size_for used → size_of (old block) ≡ size_for used → size_for (used - 1) < size_for used
+    → ShiftsOut old mid block used at → IsShortened mid new block (size / 2) → TakesWord old new block used at
+word_taken_half old mid new block used at size some few within is sized l s h =
+    let halved = size_halved used (omega arith) few l in
+    let half : size / 2 ≡ size_for (used - 1) = omega (arith, is, halved.0) in
+    let fits : size / 2 ≤ size_of (mid block) = omega (arith, half, s.size, sized, halved.0) in
+    let least : used - 1 ≤ size_for (used - 1) = size_holds (used - 1) (omega arith) in
+    record {
+      others = λ p n. h.others p n ∙ s.others p n;
+      size = ap size_of h.here ∙ first_size (mid block) (size / 2) fits ∙ half;
+      low = λ i b. ap (λ o. word_of o i) h.here ∙ first_word (mid block) (size / 2) i (omega (arith, b, within, half, least)) ∙ s.low i b;
+      high = λ i b m. ap (λ o. word_of o i) h.here ∙ first_word (mid block) (size / 2) i (omega (arith, m, half, least)) ∙ s.high i b m;
+    }

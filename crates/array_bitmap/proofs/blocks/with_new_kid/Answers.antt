@@ -1,0 +1,14 @@
+use Rattle.std.proofs.Common.{◌≡◌, ap, sym, subst, ◌∙◌}
+use Rattle.word_pool.specs.Heap.{size_of}
+use Rattle.word_pool.specs.Pool.{blocks}
+use Rattle.array_bitmap.specs.Blocks.{IsBlock}
+use Rattle.array_bitmap.specs.Tree.{words_of}
+use Rattle.array_bitmap.proofs.Puts.{not_taken}
+use Rattle.array_bitmap.proofs.blocks.with_new_kid.Goals as goal
+
+pub with_kid-requires-clause-is_block : goal.with_kid-requires-clause-is_block
+with_kid-requires-clause-is_block g c =
+    rw (c.in_ok-kid.ensures.ok.others c.args.block (not_taken (blocks c.args.pool.now) (blocks c.blank.new.pool) c.in_ok-kid.kid c.args.block c.in_ok-kid.ensures.ok c.requires.used)) c.requires.is_block
+
+pub give-requires-clause-used : goal.give-requires-clause-used
+give-requires-clause-used g c = ap size_of (c.in-Err.ensures.err c.in_ok-kid.kid) ∙ c.in_ok-kid.ensures.ok.size

@@ -1,0 +1,49 @@
+use Rattle.std.proofs.Common.{ℕ, ◌≡◌, ◌+◌, ◌-◌, ◌*◌, ◌/◌, ◌%◌, ◌^◌, ◌<◌, ◌≤◌, refl, arith, ap, sym, subst, ◌∙◌, count_ones}
+use Rattle.std.specs.Int.{bit_at}
+use Rattle.word_pool.specs.Heap.{size_of}
+use Rattle.word_pool.specs.Pool.{blocks}
+use Rattle.array_bitmap.specs.Bits.{rank}
+use Rattle.array_bitmap.specs.Blocks.{rows_of, kids_of, kid_index, size_for, used_words}
+use Rattle.array_bitmap.specs.Tree.{words_of}
+use Rattle.array_bitmap.proofs.Ranks.{rank_lt}
+use Rattle.array_bitmap.proofs.PoolWords.{block_head, few_words, size_least}
+use Rattle.array_bitmap.proofs.Takes.{kid_taken}
+use Rattle.array_bitmap.proofs.blocks.without_kid.Goals as goal
+
+pub kids_of-kids-requires : goal.kids_of-kids-requires
+kids_of-kids-requires g c = block_head (blocks c.args.pool.now) c.args.block c.requires.is_block
+
+pub rows_of-requires : goal.rows_of-requires
+rows_of-requires g c = block_head (blocks c.args.pool.now) c.args.block c.requires.is_block
+
+pub take_word-requires-clause-few : goal.take_word-requires-clause-few
+take_word-requires-clause-few g c =
+    omega (arith, c.count-before.ensures.value, c.count.ensures.value, ap count_ones c.rows_of.ensures, ap count_ones c.kids_of-kids.ensures.value, few_words (blocks c.args.pool.now) c.args.block c.requires.is_block)
+
+pub take_word-requires-clause-head : goal.take_word-requires-clause-head
+take_word-requires-clause-head g c =
+    omega (arith, c.count.ensures.value, ap count_ones c.kids_of-kids.ensures.value, rank_lt (kids_of (words_of (blocks c.args.pool.now c.args.block))) c.args.five c.requires.set)
+
+pub take_word-requires-clause-within : goal.take_word-requires-clause-within
+take_word-requires-clause-within g c =
+    omega (arith, c.rank.ensures.value, c.count.ensures.value, ap count_ones c.kids_of-kids.ensures.value, ap (λ n. rank n c.args.five) c.kids_of-kids.ensures.value, rank_lt (kids_of (words_of (blocks c.args.pool.now c.args.block))) c.args.five c.requires.set)
+
+pub set_word-requires-clause-inside : goal.set_word-requires-clause-inside
+set_word-requires-clause-inside g c =
+    let few : 3 + c.count-before.result + c.count.result ≤ 97 =
+    omega (arith, c.count-before.ensures.value, c.count.ensures.value, ap count_ones c.rows_of.ensures, ap count_ones c.kids_of-kids.ensures.value, few_words (blocks c.args.pool.now) c.args.block c.requires.is_block) in
+    let size = c.take_word.ensures.taken.size in
+    omega (arith, size, size_least (3 + c.count-before.result + c.count.result - 1) (omega (arith, few)))
+
+pub returns-clause-taken : goal.returns-clause-taken
+returns-clause-taken g c =
+    let old = blocks c.args.pool.now in
+    let ws = words_of (blocks c.args.pool.now c.args.block) in
+    let used : 3 + c.count-before.result + c.count.result ≡ used_words ws = omega (arith, c.count-before.ensures.value, c.count.ensures.value, ap count_ones c.rows_of.ensures, ap count_ones c.kids_of-kids.ensures.value) in
+    let few : 3 + c.count-before.result + c.count.result ≤ 97 = omega (arith, used, few_words (blocks c.args.pool.now) c.args.block c.requires.is_block) in
+    let least : 3 < 3 + c.count-before.result + c.count.result = omega (arith, c.count.ensures.value, ap count_ones c.kids_of-kids.ensures.value, rank_lt (kids_of ws) c.args.five c.requires.set) in
+    let index : 3 + c.count-before.result + c.rank.result ≡ kid_index ws c.args.five =
+    omega (arith, c.count-before.ensures.value, ap count_ones c.rows_of.ensures, c.rank.ensures.value, ap (λ n. rank n c.args.five) c.kids_of-kids.ensures.value) in
+    kid_taken old (blocks c.take_word.new.pool) (blocks c.set_word.new.self) c.args.block c.args.five
+    (3 + c.count-before.result + c.count.result) (3 + c.count-before.result + c.rank.result) c.without_bit.result
+    c.requires.is_block c.requires.some c.without_bit.ensures.clear least few used index (sym c.kids_of-kids.ensures.value ∙ c.without_bit.ensures.rest) c.take_word.ensures.taken c.set_word.ensures.written

@@ -1,0 +1,58 @@
+use Rattle.std.proofs.Common.{ℕ, ◌≡◌, ◌+◌, ◌-◌, ◌*◌, ◌/◌, ◌%◌, ◌^◌, ◌<◌, ◌≤◌, refl, arith, ap, sym, subst, ◌∙◌, count_ones}
+use Rattle.std.specs.Int.{bit_at}
+use Rattle.word_pool.specs.Heap.{size_of}
+use Rattle.word_pool.specs.Pool.{blocks}
+use Rattle.array_bitmap.specs.Bits.{rank}
+use Rattle.array_bitmap.specs.Blocks.{rows_of, kids_of, size_for, used_words}
+use Rattle.array_bitmap.specs.Tree.{words_of}
+use Rattle.array_bitmap.proofs.Ranks.{rank_lt}
+use Rattle.array_bitmap.proofs.PoolWords.{block_head, block_size, few_words, size_least, written_size}
+use Rattle.array_bitmap.proofs.Takes.{row_taken}
+use Rattle.array_bitmap.proofs.blocks.without_row.Goals as goal
+
+pub rows_of-rows-requires : goal.rows_of-rows-requires
+rows_of-rows-requires g c = block_head (blocks c.args.pool.now) c.args.block c.requires.is_block
+
+pub kids_of-requires : goal.kids_of-requires
+kids_of-requires g c = block_head (blocks c.args.pool.now) c.args.block c.requires.is_block
+
+pub take_word-requires-clause-few : goal.take_word-requires-clause-few
+take_word-requires-clause-few g c =
+    omega (arith, c.count.ensures.value, c.count-2.ensures.value, ap count_ones c.rows_of-rows.ensures, ap count_ones c.kids_of.ensures.value, few_words (blocks c.args.pool.now) c.args.block c.requires.is_block)
+
+pub take_word-requires-clause-head : goal.take_word-requires-clause-head
+take_word-requires-clause-head g c =
+    omega (arith, c.count.ensures.value, ap count_ones c.rows_of-rows.ensures, rank_lt (rows_of (words_of (blocks c.args.pool.now c.args.block))) c.args.bit c.requires.set)
+
+pub take_word-requires-clause-within : goal.take_word-requires-clause-within
+take_word-requires-clause-within g c =
+    omega (arith, c.rank.ensures.value, c.count.ensures.value, ap count_ones c.rows_of-rows.ensures, ap (λ n. rank n c.args.bit) c.rows_of-rows.ensures, rank_lt (rows_of (words_of (blocks c.args.pool.now c.args.block))) c.args.bit c.requires.set)
+
+-- the block has its first words
+head : (used size n : ℕ) → used ≤ 97 → size ≡ size_for (used - 1) → n < 4 → n < size
+head used size n few e l = omega (arith, e, l, size_least (used - 1) (omega (arith, few)))
+
+pub set_word-requires-clause-inside : goal.set_word-requires-clause-inside
+set_word-requires-clause-inside g c =
+    let few : 3 + c.count.result + c.count-2.result ≤ 97 =
+    omega (arith, c.count.ensures.value, c.count-2.ensures.value, ap count_ones c.rows_of-rows.ensures, ap count_ones c.kids_of.ensures.value, few_words (blocks c.args.pool.now) c.args.block c.requires.is_block) in
+    head (3 + c.count.result + c.count-2.result) (size_of (blocks c.take_word.new.pool c.args.block)) 0 few c.take_word.ensures.taken.size (omega arith)
+
+pub set_word-requires-2-clause-inside : goal.set_word-requires-2-clause-inside
+set_word-requires-2-clause-inside g c =
+    let few : 3 + c.count.result + c.count-2.result ≤ 97 =
+    omega (arith, c.count.ensures.value, c.count-2.ensures.value, ap count_ones c.rows_of-rows.ensures, ap count_ones c.kids_of.ensures.value, few_words (blocks c.args.pool.now) c.args.block c.requires.is_block) in
+    head (3 + c.count.result + c.count-2.result) (size_of (blocks c.set_word.new.self c.args.block)) 1 few
+    (written_size (blocks c.take_word.new.pool) (blocks c.set_word.new.self) c.args.block 0 (c.without_bit-rows.result % 4294967296) c.set_word.ensures.written ∙ c.take_word.ensures.taken.size) (omega arith)
+
+pub returns-clause-taken : goal.returns-clause-taken
+returns-clause-taken g c =
+    let old = blocks c.args.pool.now in
+    let ws = words_of (blocks c.args.pool.now c.args.block) in
+    let used : 3 + c.count.result + c.count-2.result ≡ used_words ws = omega (arith, c.count.ensures.value, c.count-2.ensures.value, ap count_ones c.rows_of-rows.ensures, ap count_ones c.kids_of.ensures.value) in
+    let few : 3 + c.count.result + c.count-2.result ≤ 97 = omega (arith, used, few_words (blocks c.args.pool.now) c.args.block c.requires.is_block) in
+    let least : 3 < 3 + c.count.result + c.count-2.result = omega (arith, c.count.ensures.value, ap count_ones c.rows_of-rows.ensures, rank_lt (rows_of ws) c.args.bit c.requires.set) in
+    row_taken old (blocks c.take_word.new.pool) (blocks c.set_word.new.self) (blocks c.set_word-2.new.self) c.args.block c.args.bit
+    (3 + c.count.result + c.count-2.result) (3 + c.rank.result) c.without_bit-rows.result (c.without_bit-rows.result % 4294967296) (c.without_bit-rows.result / 4294967296)
+    c.requires.is_block c.requires.some c.without_bit-rows.ensures.clear least few used (ap (λ r. 3 + r) (c.rank.ensures.value ∙ ap (λ n. rank n c.args.bit) c.rows_of-rows.ensures))
+    (sym c.rows_of-rows.ensures ∙ c.without_bit-rows.ensures.rest) refl refl c.take_word.ensures.taken c.set_word.ensures.written c.set_word-2.ensures.written

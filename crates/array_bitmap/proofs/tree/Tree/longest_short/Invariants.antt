@@ -1,0 +1,8 @@
+use Rattle.array_bitmap.specs.Words.{found}
+use Rattle.array_bitmap.specs.Greatest.{GreatestBelow}
+use Rattle.array_bitmap.specs.Tree.{word_at}
+use Rattle.array_bitmap.specs.Image.{cells_of}
+use Rattle.array_bitmap.proofs.tree.Tree.longest_short.Given as goal
+
+abbrev pub invariant-loop-above : goal.invariant-loop-above
+invariant-loop-above g l = GreatestBelow (word_at (cells_of l.self) l.path) l.above (found l.best)

@@ -1,0 +1,72 @@
+use Rattle.std.proofs.Common.{ℕ, ◌≡◌, ◌≢◌, ◌+◌, ◌-◌, ◌*◌, ◌/◌, ◌%◌, ◌^◌, ◌<◌, ◌≤◌, Option, Some, None, is_some, arith, ap, sym, subst, ◌∙◌}
+use Rattle.std.specs.Int.{bit_at}
+use Rattle.std.proofs.lemmas.Bool.{both_ways}
+use Rattle.word_pool.specs.Pool.{blocks}
+use Rattle.array_bitmap.specs.Bits.{depth_of, five_bits, row_bit}
+use Rattle.array_bitmap.specs.Blocks.{rows_of, row_index, row_in}
+use Rattle.array_bitmap.specs.Tree.{Cells, words_of, words_at, block_at, word_at, IsSound}
+use Rattle.array_bitmap.specs.Image.{cells_of, IsSoundTree}
+use Rattle.array_bitmap.proofs.Covering.{row-set, row-clear}
+use Rattle.array_bitmap.proofs.Walks.{row-nowhere}
+use Rattle.array_bitmap.proofs.PoolWords.{block_head}
+use Rattle.array_bitmap.proofs.SetsWords.{sets_to}
+use Rattle.array_bitmap.proofs.Stands.{stand_is, word_of_len, nothing_to_take, out_sets, out_sound}
+use Rattle.array_bitmap.proofs.tree.Tree.remove_long.Goals as goal
+
+-- where there is no block, a path has no long word
+none_here : (c : Cells) (sound : IsSound c) (path len : ℕ) → depth_of c.first < len → block_at c path ((len - 5) / 5 - c.first) ≡ 0 → word_at c path len ≡ None
+none_here c sound path len long at =
+    word_of_len c path len 0 (five_bits path ((len - 5) / 5)) (row_bit (five_bits path ((len - 5) / 5)) ((len - 5) % 5)) long at (λ i. five_bits path ((len - 5) / 5)) (λ i. row_bit (five_bits path ((len - 5) / 5)) ((len - 5) % 5))
+    ∙ row-nowhere c sound.nowhere (row_bit (five_bits path ((len - 5) / 5)) ((len - 5) % 5))
+
+pub returns-in_default-clause-gone : goal.returns-in_default-clause-gone
+returns-in_default-clause-gone g c =
+    nothing_to_take (cells_of c.args.self.now) c.args.path c.args.len (omega (arith, c.requires.short)) (none_here (cells_of c.args.self.now) c.requires.sound.cells c.args.path c.args.len c.requires.long c.in_default.ensures)
+
+pub returns-in_default-clause-found : goal.returns-in_default-clause-found
+returns-in_default-clause-found g c = sym (ap is_some (none_here (cells_of c.args.self.now) c.requires.sound.cells c.args.path c.args.len c.requires.long c.in_default.ensures))
+
+pub rows_of-requires : goal.rows_of-requires
+rows_of-requires g c = block_head (blocks c.args.self.now.pool) c.in-Some.stand.block (stand_is (cells_of c.args.self.now) c.requires.sound.cells c.args.path ((c.args.len - 5) / 5 - c.args.self.now.first) c.in-Some.stand c.in-Some.ensures (omega (arith, c.requires.long, c.requires.short)))
+
+pub returns-then-not-is_set-clause-gone : goal.returns-then-not-is_set-clause-gone
+returns-then-not-is_set-clause-gone g c =
+    let t = cells_of c.args.self.now in
+    let st = c.in-Some.ensures in
+    nothing_to_take t c.args.path c.args.len (omega (arith, c.requires.short))
+    (word_of_len t c.args.path c.args.len c.in-Some.stand.block c.five_bits.result c.row_bit-bit.result c.requires.long st.at c.five_bits.ensures.value c.row_bit-bit.ensures.value
+    ∙ row-clear (words_at t c.in-Some.stand.block) c.row_bit-bit.result
+    (λ h. both_ways c.is_set.result c.if-not-is_set.true (c.is_set.ensures.1 (ap (λ n. bit_at n c.row_bit-bit.result) c.rows_of.ensures ∙ h))))
+
+pub returns-then-not-is_set-clause-found : goal.returns-then-not-is_set-clause-found
+returns-then-not-is_set-clause-found g c =
+    let t = cells_of c.args.self.now in
+    let st = c.in-Some.ensures in
+    sym (ap is_some (word_of_len t c.args.path c.args.len c.in-Some.stand.block c.five_bits.result c.row_bit-bit.result c.requires.long st.at c.five_bits.ensures.value c.row_bit-bit.ensures.value
+    ∙ row-clear (words_at t c.in-Some.stand.block) c.row_bit-bit.result
+    (λ h. both_ways c.is_set.result c.if-not-is_set.true (c.is_set.ensures.1 (ap (λ n. bit_at n c.row_bit-bit.result) c.rows_of.ensures ∙ h)))))
+
+pub prune-requires-clause-sound : goal.prune-requires-clause-sound
+prune-requires-clause-sound g c = record {
+  cells = out_sound (cells_of c.args.self.now) (blocks c.without_row.new.pool) c.requires.sound.cells c.args.path ((c.args.len - 5) / 5) ((c.args.len - 5) % 5) c.row_bit-bit.result c.in-Some.stand
+      (omega (arith, c.requires.long)) (omega (arith, c.requires.short)) (omega arith) c.in-Some.ensures (c.row_bit-bit.ensures.value ∙ ap (λ v. row_bit v ((c.args.len - 5) % 5)) c.five_bits.ensures.value) c.without_row.ensures.taken;
+  shorts = c.requires.sound.shorts;
+  tops = c.requires.sound.tops;
+}
+
+pub returns-clause-gone : goal.returns-clause-gone
+returns-clause-gone g c =
+    let whole : depth_of ((c.args.len - 5) / 5) + ((c.args.len - 5) % 5 + 1) ≡ c.args.len = omega (arith, c.requires.long) in
+    let t = cells_of c.args.self.now in
+    let mid : Cells = record t { heap = blocks c.without_row.new.pool } in
+    sets_to (word_at t) (word_at mid) (word_at (cells_of c.prune.new.self)) c.args.path c.args.len (depth_of ((c.args.len - 5) / 5) + ((c.args.len - 5) % 5 + 1)) None c.prune.ensures.same whole
+    (out_sets (cells_of c.args.self.now) (blocks c.without_row.new.pool) c.requires.sound.cells c.args.path ((c.args.len - 5) / 5) ((c.args.len - 5) % 5) c.row_bit-bit.result c.in-Some.stand
+    (omega (arith, c.requires.long)) (omega (arith, c.requires.short)) (omega arith) c.in-Some.ensures (c.row_bit-bit.ensures.value ∙ ap (λ v. row_bit v ((c.args.len - 5) % 5)) c.five_bits.ensures.value) c.without_row.ensures.taken)
+
+pub returns-clause-found : goal.returns-clause-found
+returns-clause-found g c =
+    let t = cells_of c.args.self.now in
+    let st = c.in-Some.ensures in
+    sym (ap is_some (word_of_len t c.args.path c.args.len c.in-Some.stand.block c.five_bits.result c.row_bit-bit.result c.requires.long st.at c.five_bits.ensures.value c.row_bit-bit.ensures.value
+    ∙ row-set (words_at t c.in-Some.stand.block) c.row_bit-bit.result
+    (ap (λ n. bit_at n c.row_bit-bit.result) (sym c.rows_of.ensures) ∙ c.is_set.ensures.0 c.if-not-is_set.false)))

@@ -1,0 +1,10 @@
+pub mod Bits
+pub mod Words
+pub mod Blocks
+pub mod Greatest
+pub mod Tree
+pub mod Changes
+pub mod Image
+pub mod Removal
+pub mod Cursor
+pub mod Lane

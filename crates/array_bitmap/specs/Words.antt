@@ -1,0 +1,44 @@
+-- Answer words of 32 bits: session (bits 0 to 15), port (16 to 23), kind (24 and 25), length (26 to 31). The kinds are 0 for the router itself, 1 for a neighbour and 2 for nowhere; one word of kind 3 says that there is no row.
+use Rattle.std.specs.Prelude.{ℕ, ◌≡◌, ◌+◌, ◌*◌, ◌/◌, ◌%◌, ◌^◌, ◌<◌, ◌==◌, cond, Option, Some, None}
+use Rattle.network_model.specs.declared.route.Entry.{Entry}
+use Rattle.network_model.specs.declared.route.Entry.TheVariants.{Local, Via, Unreachable}
+
+-- the word for no row
+abbrev pub nothing : ℕ
+nothing = 3 * 2 ^ 24
+
+-- the parts of a word
+abbrev pub session_of : ℕ → ℕ
+session_of w = w % 2 ^ 16
+
+abbrev pub port_of : ℕ → ℕ
+port_of w = w / 2 ^ 16 % 2 ^ 8
+
+abbrev pub kind_of : ℕ → ℕ
+kind_of w = w / 2 ^ 24 % 4
+
+abbrev pub len_of : ℕ → ℕ
+len_of w = w / 2 ^ 26
+
+-- the word of a row, by the length of its prefix and its entry
+abbrev pub word_of : ℕ → Entry → ℕ
+word_of len Local = 2 ^ 26 * len
+word_of len (Via port session) = session + 2 ^ 16 * port + 2 ^ 24 + 2 ^ 26 * len
+word_of len Unreachable = 2 * 2 ^ 24 + 2 ^ 26 * len
+
+-- the entry of a row's word
+abbrev pub entry_of : ℕ → Entry
+entry_of w = cond (kind_of w == 0) Local (cond (kind_of w == 1) (Via (port_of w) (session_of w)) Unreachable)
+
+-- a word, if it is that of a row
+abbrev pub shown : ℕ → Option ℕ
+shown w = cond (w == nothing) None (Some w)
+
+-- the length of a word's row, and the word, if it is that of a row
+abbrev pub found : ℕ → Option (ℕ × ℕ)
+found w = cond (w == nothing) None (Some (len_of w, w))
+
+-- a word is that of a row whose prefix has the length
+pub record IsRowWord (len w : ℕ) : Type 0 where
+  pub of_length : len_of w ≡ len
+  pub of_row : kind_of w < 3

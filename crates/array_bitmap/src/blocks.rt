@@ -1,0 +1,314 @@
+//! Blocks of words: what their words say, and how a word more is put into one.
+
+ghost use Rattle.std.specs.Prelude.{◌≡◌, ◌≢◌, ℕ, ◌+◌, ◌*◌, ◌^◌, ◌<◌, ◌≤◌, bit_and, is_some, true, Option, IfOk, OnOk, OnErr};
+ghost use Rattle.std.specs.Int.{bit_at};
+ghost use Rattle.array_bitmap.specs.Bits.{IsHighest};
+ghost use Rattle.array_bitmap.specs.Blocks.{rows_of, kids_of, kid_in, word_after, size_for, used_words, IsBlock};
+ghost use Rattle.array_bitmap.specs.Changes.{Copies, GetsRoom, ShiftsIn, PutsWord, PutsRow, PutsKid, TakesBlank, GetsKid, ShiftsOut, TakesWord, TakesRow, TakesKid};
+ghost use Rattle.array_bitmap.specs.Tree.{words_of};
+ghost use Rattle.word_pool.specs.Heap.{size_of, word_of, SameBlocks, SameOthers};
+ghost use Rattle.word_pool.specs.Pool.{blocks, room};
+
+use crate::bits::{count, highest, is_set, rank, size_for, with_bit, without_bit};
+use network_model::NoMemory;
+use std::alloc::Allocator;
+use word_pool::Pool;
+
+/// How many words stand before those of the rows.
+pub(crate) const HEAD: usize = 3;
+
+/// The rows' bits of a block.
+pub(crate) fn rows_of<A: Allocator>(pool: &Pool<A>, block: u32) -> u64
+    requires { 3 < size_of (blocks pool.now block) }
+    ensures { result ≡ rows_of (words_of (blocks pool.now block)) }
+{
+    u64::from(pool.word(block, 0)) + (u64::from(pool.word(block, 1)) << 32)
+}
+
+/// The kids' bits of a block.
+pub(crate) fn kids_of<A: Allocator>(pool: &Pool<A>, block: u32) -> u64
+    requires { 3 < size_of (blocks pool.now block) }
+    ensures value { result ≡ kids_of (words_of (blocks pool.now block)) }
+    ensures bound { result < 2 ^ 32 }
+{
+    u64::from(pool.word(block, 2))
+}
+
+/// The place of a block's kid; 0 where it has none.
+pub(crate) fn kid_of<A: Allocator>(pool: &Pool<A>, block: u32, five: u32) -> u32
+    requires is_block { IsBlock (words_of (blocks pool.now block)) }
+    requires small { five < 32 }
+    ensures { result ≡ kid_in (words_of (blocks pool.now block)) five }
+{
+    let kids = kids_of(pool, block);
+    if !is_set(kids, five) {
+        return 0;
+    }
+    pool.word(
+        block,
+        HEAD + count(rows_of(pool, block)) + rank(kids, five),
+    )
+}
+
+/// The word of the greatest of a block's rows among some bits, or else the word that was found above.
+pub(crate) fn word_after<A: Allocator>(pool: &Pool<A>, block: u32, cover: u64, best: u32) -> u32
+    requires { IsBlock (words_of (blocks pool.now block)) }
+    ensures { let ws = words_of (blocks pool.now block) in (bit : Option ℕ)
+        × IsHighest (bit_and (rows_of ws) cover) bit
+        × (result ≡ word_after ws best bit) }
+{
+    let rows = rows_of(pool, block);
+    match highest(rows & cover) {
+        Some(bit) => pool.word(block, HEAD + rank(rows, bit)),
+        None => best,
+    }
+}
+
+/// Copies the first words of a block into another.
+fn copy_words<A: Allocator>(pool: &mut Pool<A>, from: u32, to: u32, used: usize)
+    requires some { to ≢ 0 }
+    requires apart { from ≢ to }
+    requires enough { used ≤ size_of (blocks pool.old from) }
+    requires fits { used ≤ size_of (blocks pool.old to) }
+    ensures copied { Copies (blocks pool.old) (blocks pool.new) from to used }
+    ensures room { room pool.new ≡ room pool.old }
+{
+    for i in 0..used {
+        let word = pool.word(from, i);
+        pool.set_word(to, i, word);
+    }
+}
+
+/// Makes room for one word more in a block, which may move for it.
+fn with_room<A: Allocator>(pool: &mut Pool<A>, block: u32, used: usize) -> Result<u32, NoMemory>
+    requires some { block ≢ 0 }
+    requires few { used ≤ 96 }
+    requires head { 3 ≤ used }
+    requires size { size_of (blocks pool.old block) ≡ size_for used }
+    ensures ok { IfOk result (λ place. GetsRoom (blocks pool.old) (blocks pool.new) block place used) }
+    ensures err { OnErr result (SameBlocks (blocks pool.old) (blocks pool.new)) }
+    ensures cost { room pool.old ≤ room pool.new + 1 }
+    ensures full { OnErr result (room pool.old ≡ 0) }
+{
+    let size = size_for(used);
+    if used < size {
+        return Ok(block);
+    }
+    let wider = pool.take(2 * size)?;
+    copy_words(pool, block, wider, used);
+    pool.give(block, size);
+    Ok(wider)
+}
+
+/// Puts a word before those of a block from an index on, where there is room for it.
+fn shift_in<A: Allocator>(pool: &mut Pool<A>, block: u32, used: usize, at: usize, word: u32)
+    requires some { block ≢ 0 }
+    requires within { at ≤ used }
+    requires fits { used < size_of (blocks pool.old block) }
+    ensures shifted { ShiftsIn (blocks pool.old) (blocks pool.new) block used at word }
+    ensures room { room pool.new ≡ room pool.old }
+{
+    let mut end = used;
+    while at < end {
+        end -= 1;
+        let moved = pool.word(block, end);
+        pool.set_word(block, end + 1, moved);
+    }
+    pool.set_word(block, at, word);
+}
+
+/// Puts a word into a block, which may move for it, before those from an index on.
+fn insert<A: Allocator>(
+    pool: &mut Pool<A>,
+    block: u32,
+    used: usize,
+    at: usize,
+    word: u32,
+) -> Result<u32, NoMemory>
+    requires some { block ≢ 0 }
+    requires few { used ≤ 96 }
+    requires head { 3 ≤ used }
+    requires within { at ≤ used }
+    requires size { size_of (blocks pool.old block) ≡ size_for used }
+    ensures ok { IfOk result (λ place.
+        PutsWord (blocks pool.old) (blocks pool.new) block place used at word) }
+    ensures err { OnErr result (SameBlocks (blocks pool.old) (blocks pool.new)) }
+    ensures cost { room pool.old ≤ room pool.new + 1 }
+    ensures full { OnErr result (room pool.old ≡ 0) }
+{
+    let place = with_room(pool, block, used)?;
+    shift_in(pool, place, used, at, word);
+    Ok(place)
+}
+
+/// Sets the row of a bit in a block, which may move for it.
+pub(crate) fn with_row<A: Allocator>(
+    pool: &mut Pool<A>,
+    block: u32,
+    bit: u32,
+    word: u32,
+) -> Result<u32, NoMemory>
+    requires some { block ≢ 0 }
+    requires used { is_some (blocks pool.old block) ≡ true }
+    requires is_block { IsBlock (words_of (blocks pool.old block)) }
+    requires small { bit < 62 }
+    ensures ok { IfOk result (λ place.
+        PutsRow (blocks pool.old) (blocks pool.new) block place bit word) }
+    ensures err { OnErr result (SameBlocks (blocks pool.old) (blocks pool.new)) }
+    ensures cost { room pool.old ≤ room pool.new + 1 }
+    ensures full { OnErr result (room pool.old ≡ 0) }
+{
+    let rows = rows_of(pool, block);
+    let index = HEAD + rank(rows, bit);
+    if is_set(rows, bit) {
+        pool.set_word(block, index, word);
+        return Ok(block);
+    }
+    let used = HEAD + count(rows) + count(kids_of(pool, block));
+    let place = insert(pool, block, used, index, word)?;
+    let rows = with_bit(rows, bit);
+    pool.set_word(place, 0, (rows % 0x1_0000_0000) as u32);
+    pool.set_word(place, 1, (rows >> 32) as u32);
+    Ok(place)
+}
+
+/// Gives a block, which may move for it, a kid at five bits, where it has none.
+pub(crate) fn with_kid<A: Allocator>(
+    pool: &mut Pool<A>,
+    block: u32,
+    five: u32,
+    kid: u32,
+) -> Result<u32, NoMemory>
+    requires some { block ≢ 0 }
+    requires used { is_some (blocks pool.old block) ≡ true }
+    requires is_block { IsBlock (words_of (blocks pool.old block)) }
+    requires small { five < 32 }
+    requires clear { bit_at (kids_of (words_of (blocks pool.old block))) five ≡ 0 }
+    requires real { kid ≢ 0 }
+    ensures ok { IfOk result (λ place.
+        PutsKid (blocks pool.old) (blocks pool.new) block place five kid) }
+    ensures err { OnErr result (SameBlocks (blocks pool.old) (blocks pool.new)) }
+    ensures cost { room pool.old ≤ room pool.new + 1 }
+    ensures full { OnErr result (room pool.old ≡ 0) }
+{
+    let kids = kids_of(pool, block);
+    let before = HEAD + count(rows_of(pool, block));
+    let used = before + count(kids);
+    let place = insert(pool, block, used, before + rank(kids, five), kid)?;
+    pool.set_word(place, 2, with_bit(kids, five) as u32);
+    Ok(place)
+}
+
+/// Takes a block without rows and kids.
+pub(crate) fn blank<A: Allocator>(pool: &mut Pool<A>) -> Result<u32, NoMemory>
+    ensures ok { IfOk result (λ place. TakesBlank (blocks pool.old) (blocks pool.new) place) }
+    ensures err { OnErr result (SameBlocks (blocks pool.old) (blocks pool.new)) }
+    ensures cost { room pool.old ≤ room pool.new + 1 }
+    ensures full { OnErr result (room pool.old ≡ 0) }
+{
+    let place = pool.take(4)?;
+    pool.set_word(place, 0, 0);
+    pool.set_word(place, 1, 0);
+    pool.set_word(place, 2, 0);
+    Ok(place)
+}
+
+/// Where a block stands now, and its new kid.
+#[derive(Clone, Copy, Debug)]
+pub struct NewKid {
+    pub place: u32,
+    pub kid: u32,
+}
+
+/// Gives a block, which may move for it, a new kid without rows and kids at five bits, where it has none.
+pub(crate) fn with_new_kid<A: Allocator>(
+    pool: &mut Pool<A>,
+    block: u32,
+    five: u32,
+) -> Result<NewKid, NoMemory>
+    requires some { block ≢ 0 }
+    requires used { is_some (blocks pool.old block) ≡ true }
+    requires is_block { IsBlock (words_of (blocks pool.old block)) }
+    requires small { five < 32 }
+    requires clear { bit_at (kids_of (words_of (blocks pool.old block))) five ≡ 0 }
+    ensures ok { IfOk result (λ made.
+        GetsKid (blocks pool.old) (blocks pool.new) block made.place five made.kid) }
+    ensures err { OnErr result (SameBlocks (blocks pool.old) (blocks pool.new)) }
+    ensures cost { room pool.old ≤ room pool.new + 2 }
+    ensures full { OnErr result (room pool.old < 2) }
+{
+    let kid = blank(pool)?;
+    match with_kid(pool, block, five, kid) {
+        Ok(place) => Ok(NewKid { place, kid }),
+        Err(error) => {
+            pool.give(kid, 4);
+            Err(error)
+        }
+    }
+}
+
+/// Takes the word at an index out of those of a block.
+fn shift_out<A: Allocator>(pool: &mut Pool<A>, block: u32, used: usize, at: usize)
+    requires some { block ≢ 0 }
+    requires within { at < used }
+    requires fits { used ≤ size_of (blocks pool.old block) }
+    ensures shifted { ShiftsOut (blocks pool.old) (blocks pool.new) block used at }
+    ensures room { room pool.new ≡ room pool.old }
+{
+    for i in at + 1..used {
+        let moved = pool.word(block, i);
+        pool.set_word(block, i - 1, moved);
+    }
+}
+
+/// Takes the word at an index out of a block, and gives its upper half back where the lower one holds
+/// the others.
+fn take_word<A: Allocator>(pool: &mut Pool<A>, block: u32, used: usize, at: usize)
+    requires some { block ≢ 0 }
+    requires few { used ≤ 97 }
+    requires head { 3 < used }
+    requires within { at < used }
+    requires size { size_of (blocks pool.old block) ≡ size_for used }
+    ensures taken { TakesWord (blocks pool.old) (blocks pool.new) block used at }
+    ensures room { room pool.new ≡ room pool.old }
+{
+    shift_out(pool, block, used, at);
+    let size = size_for(used);
+    if size_for(used - 1) < size {
+        pool.halve(block, size);
+    }
+}
+
+/// Takes the row of a bit out of a block. It needs no memory.
+pub(crate) fn without_row<A: Allocator>(pool: &mut Pool<A>, block: u32, bit: u32)
+    requires some { block ≢ 0 }
+    requires used { is_some (blocks pool.old block) ≡ true }
+    requires is_block { IsBlock (words_of (blocks pool.old block)) }
+    requires small { bit < 62 }
+    requires set { bit_at (rows_of (words_of (blocks pool.old block))) bit ≡ 1 }
+    ensures taken { TakesRow (blocks pool.old) (blocks pool.new) block bit }
+    ensures room { room pool.new ≡ room pool.old }
+{
+    let rows = rows_of(pool, block);
+    let used = HEAD + count(rows) + count(kids_of(pool, block));
+    take_word(pool, block, used, HEAD + rank(rows, bit));
+    let rows = without_bit(rows, bit);
+    pool.set_word(block, 0, (rows % 0x1_0000_0000) as u32);
+    pool.set_word(block, 1, (rows >> 32) as u32);
+}
+
+/// Takes the kid at five bits out of a block. It needs no memory.
+pub(crate) fn without_kid<A: Allocator>(pool: &mut Pool<A>, block: u32, five: u32)
+    requires some { block ≢ 0 }
+    requires used { is_some (blocks pool.old block) ≡ true }
+    requires is_block { IsBlock (words_of (blocks pool.old block)) }
+    requires small { five < 32 }
+    requires set { bit_at (kids_of (words_of (blocks pool.old block))) five ≡ 1 }
+    ensures taken { TakesKid (blocks pool.old) (blocks pool.new) block five }
+    ensures room { room pool.new ≡ room pool.old }
+{
+    let kids = kids_of(pool, block);
+    let before = HEAD + count(rows_of(pool, block));
+    take_word(pool, block, before + count(kids), before + rank(kids, five));
+    pool.set_word(block, 2, without_bit(kids, five) as u32);
+}

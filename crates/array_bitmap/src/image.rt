@@ -1,0 +1,88 @@
+//! The rows of one publication, in the form in which a router forwards by them.
+
+ghost use Rattle.std.specs.Prelude.{◌≡◌, ◌≤◌, IfSome, All, None, false, length, map};
+ghost use Rattle.ipv4_prefix.specs.LongestMatch.{IsLongestMatch};
+ghost use Rattle.ipv4_prefix.specs.Prefix.{covers};
+ghost use Rattle.network_model.specs.Publication.{image_answer};
+
+use crate::lanes::{NO_LANE, answer_all};
+use crate::tree::Tree;
+use network_model::{Entry, Prefix};
+use std::alloc::{Allocator, Global};
+use std::cmp::min;
+use std::marker::Model;
+
+/// How many look-ups go down side by side.
+const LANES: usize = 32;
+
+/// The rows that a router published, for looking up addresses: an array on the first 4, 9, 14 or 19
+/// bits of addresses, and tree-bitmap nodes with a stride of five bits below it.
+#[derive(Drop)]
+pub struct Image<A: Allocator = Global> {
+    pub(crate) tree: Tree<A>,
+    pub(crate) generation: u64,
+}
+
+impl<A: Allocator> Model for Image<A> {
+    ghost use Rattle.network_model.specs.Publication.{Image as ImageRows};
+    ghost use Rattle.array_bitmap.specs.Image.{IsSoundTree, rows_in};
+
+    ghost Value = { ImageRows };
+
+    ghost view = { λ i. record { generation = i.generation; rows = rows_in i.tree } };
+
+    ghost invariant = { λ i. IsSoundTree i.tree };
+}
+
+impl<A: Allocator> Image<A> {
+    /// Which publication of its router the image is; 0 before the first.
+    pub fn generation(&self) -> u64
+        ensures { result ≡ (self.now).generation }
+    {
+        self.generation
+    }
+
+    fn answer(&self, addr: u32) -> Option<(Prefix, Entry)>
+        ensures { result ≡ image_answer self.now addr }
+    {
+        self.tree.lookup(addr)
+    }
+
+    /// Of the rows whose prefix covers the address, the one with the longest prefix; None where no
+    /// row covers it (RFC 1812, section 5.2.4.3). It needs no memory.
+    pub fn lookup(&self, addr: u32) -> Option<(Prefix, Entry)>
+        ensures answer { result ≡ image_answer self.now addr }
+        ensures longest { IfSome result (IsLongestMatch addr (self.now).rows) }
+        ensures none { result ≡ None → All (λ row. covers row.0 addr ≡ false) (self.now).rows }
+    {
+        self.answer(addr)
+    }
+
+    // As `lookup` for each of at most 32 addresses, which go down side by side.
+    fn lookup_burst(&self, addrs: &[u32], answers: &mut [Option<(Prefix, Entry)>])
+        requires short { length addrs.now ≤ 32 }
+        requires one_each { length answers.old ≡ length addrs.now }
+        ensures answers { answers.new ≡ map (image_answer self.now) addrs.now }
+    {
+        let mut lanes = [NO_LANE; LANES];
+        answer_all(&self.tree, &mut lanes[..addrs.len()], addrs, answers);
+    }
+
+    /// As `lookup` for each of the addresses, which go down side by side.
+    pub fn lookup_all(&self, addrs: &[u32], answers: &mut [Option<(Prefix, Entry)>])
+        requires { length answers.old ≡ length addrs.now }
+        ensures { answers.new ≡ map (image_answer self.now) addrs.now }
+    {
+        let mut done = 0;
+        while done < addrs.len() {
+            let end = min(done + LANES, addrs.len());
+            self.lookup_burst(&addrs[done..end], &mut answers[done..end]);
+            done = end;
+        }
+    }
+
+    /// The bytes that the image takes, with the room for more rows.
+    pub fn bytes(&self) -> usize {
+        self.tree.bytes()
+    }
+}

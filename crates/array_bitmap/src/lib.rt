@@ -1,0 +1,57 @@
+//! Forwarding: for an address, the published row with the longest prefix that covers it.
+//!
+//! An image keeps its rows in two parts. An array goes by the first 4, 9, 14 or 19 bits of an address.
+//! It has the rows of at most so many bits, and, for each value of the first bits, the answer of the
+//! longest of them and the place of a block. A block is a tree-bitmap node with a stride of five bits
+//! (W. Eatherton, G. Varghese and Z. Dittia, *Tree Bitmap: Hardware/Software IP Lookups with
+//! Incremental Updates*, 2004), whose rows and kids stand beside it in one piece of memory:
+//!
+//! ```text
+//!  [rows, low half] [rows, high half] [kids] [a word for each row ..] [a place for each kid ..]
+//!
+//!  rows, 62 bits: which prefixes of 1 to 5 further bits have a row
+//!      length 1            0       1           the bit of the last l bits with value x
+//!      length 2          2   3   4   5         is 2^l - 2 + x
+//!      length 3          6 7 .. .. 13
+//!      length 4         14 .. .. .. 29
+//!      length 5         30 .. .. .. 61
+//!  kids, 32 bits: which of the 32 blocks below there are, by the next five bits
+//! ```
+//!
+//! A row's word has the whole answer in 32 bits: session, port, kind and length. Where a word stands in
+//! a block follows from the number of bits below its own that are set. A block has 4, 8, .. or 128
+//! words, the least that hold what is in use ([`word_pool`]).
+//!
+//! - A look-up begins with the array's answer. At each block it notes the word of the greatest bit that
+//!   covers the address, if there is one, and goes on to the kid of the next five bits. The last word
+//!   that it noted is the answer: a longer prefix ends in a deeper block, or in the same one at a
+//!   greater bit.
+//! - A row that the array goes by is set there, and becomes the answer of each value of the first bits
+//!   that it covers and that has no longer one.
+//! - A longer row is set from the array down. A block that is missing is made. A block that is full
+//!   moves to one of twice the size, and its one name, in the array or in the block above, is written.
+//! - A row is taken out where it ends. A block whose words fit into its lower half gives the upper half
+//!   back, so this needs no memory. From there up, each block that is left with no row and no kid is
+//!   given back, up to the first that has some.
+//! - Look-ups of many addresses go down side by side, each in a *lane*, 32 at a time and one level at a
+//!   time, so that they wait for memory at once. A lane whose path has ended reads four zeros.
+//! - Rows are listed in the order of their prefixes, from any prefix on. The cursor is a prefix, so it
+//!   needs no memory and stays right when rows change.
+//!
+//! What always holds: each place in the array or in a block is that of a block in use, or 0, and no
+//! block has two names; a block is as large as its words want; the array has the longest of its rows
+//! (`IsSound` in `specs/Tree.antt`). Contracts see an image as its rows and its generation, and no word.
+#![tactic(auto)]
+
+mod bits;
+mod blocks;
+mod cursor;
+mod image;
+mod lanes;
+pub mod parts;
+mod tree;
+mod words;
+
+pub use cursor::next_prefix;
+pub use image::Image;
+pub use network_model::{Entry, Prefix};
