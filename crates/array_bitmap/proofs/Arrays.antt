@@ -76,9 +76,9 @@ module _ (old new : List Top) (s w from to : ℕ) (change : ℕ → ℕ) (some :
   outside x n = elim (cases_lt x from) [
     | inl l ↦ below x l
     | inr g ↦ elim (cases_lt x to) [
-        | inl h ↦ absurd (n (among x s w some (omega (arith, f, g)) (omega (arith, t, h))))
-        | inr k ↦ above x g k
-      ]
+      | inl h ↦ absurd (n (among x s w some (omega (arith, f, g)) (omega (arith, t, h))))
+      | inr k ↦ above x g k
+    ]
   ]
 
   pub best_uncovered : (x : ℕ) → (x / w ≡ s → ⊥) → (top_at new x).best ≡ (top_at old x).best

@@ -141,9 +141,10 @@ agree_at zero e k h = absurd (omega (arith, h))
 agree_at (suc n) e k h =
     let parts = and_parts (slice_index table n == covering n 5) ((bit_and (slice_index table n) 16383 == covering n 3) && agree_below n) e in
     let rest = and_parts (bit_and (slice_index table n) 16383 == covering n 3) (agree_below n) parts.1 in
-    ⊎_elim (λ same.
-        (ap (slice_index table) same ∙ eqb-true (slice_index table n) (covering n 5) parts.0 ∙ ap (λ x. covering x 5) (sym same),
-          ap (λ x. bit_and (slice_index table x) 16383) same ∙ eqb-true (bit_and (slice_index table n) 16383) (covering n 3) rest.0 ∙ ap (λ x. covering x 3) (sym same)))
+    ⊎_elim (λ same. (
+      ap (slice_index table) same ∙ eqb-true (slice_index table n) (covering n 5) parts.0 ∙ ap (λ x. covering x 5) (sym same),
+      ap (λ x. bit_and (slice_index table x) 16383) same ∙ eqb-true (bit_and (slice_index table n) 16383) (covering n 3) rest.0 ∙ ap (λ x. covering x 3) (sym same),
+    ))
     (λ apart. agree_at n rest.1 k (omega (arith, h, apart))) (cases_eq k n)
 
 pub table_entry : (five : ℕ) → five < 32 → (slice_index table five ≡ covering five 5) × (bit_and (slice_index table five) 16383 ≡ covering five 3)

@@ -1,4 +1,5 @@
 pub mod Ranks
+pub mod Picks
 pub mod PathBits
 pub mod Covering
 pub mod Examples
@@ -13,6 +14,7 @@ pub mod ShortRows
 pub mod PoolWords
 pub mod Puts
 pub mod Lookups
+pub mod LanesDown
 pub mod Stands
 pub mod Arrays
 pub mod ShortSet

@@ -195,9 +195,9 @@ module _ (c : Cells) (heap1 : ℕ → Option (List ℕ)) (tops2 : ℕ → ℕ) (
   holders p m some = elim (cases_eq p j') [
     | inl e ↦ inl e
     | inr n ↦ inr (elim (cases_eq p 0) [
-        | inl z ↦ (subst InUse (sym z) zero_used, λ e. real (sym e ∙ z))
-        | inr y ↦ in_use p (with_kid (heap2 p) refl y) n
-      ])
+      | inl z ↦ (subst InUse (sym z) zero_used, λ e. real (sym e ∙ z))
+      | inr y ↦ in_use p (with_kid (heap2 p) refl y) n
+    ])
   ]
     where
       with_kid : (o : Option (List ℕ)) → heap2 p ≡ o → p ≢ 0 → is_some (heap2 p) ≡ true
@@ -389,7 +389,7 @@ module _ (c : Cells) (heap1 : ℕ → Option (List ℕ)) (tops2 : ℕ → ℕ) (
     step_follows x y m (inr s) = inl (
       kid_in_use x m,
       ap (λ z. kid_at c2 z m) (s.1 ∙ sym (moved-other child other)) ∙ kids_other child m used other ∙ ap moved (no_kids m ∙ sym (kid-nowhere c sound.nowhere m))
-      ∙ ap (λ z. moved (kid_at c z m)) (sym s.0),
+          ∙ ap (λ z. moved (kid_at c z m)) (sym s.0),
     )
 
     -- so do walks

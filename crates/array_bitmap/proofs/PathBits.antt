@@ -79,8 +79,11 @@ longer_is_greater f g l m a h b =
 -- two row bits are the same only for the same length and the same first bits
 pub row_bit_same : (f g l m : ℕ) → f < 32 → g < 32 → l < 5 → m < 5 → row_bit f l ≡ row_bit g m → (l ≡ m) × (f / 2 ^ (4 - l) ≡ g / 2 ^ (4 - m))
 row_bit_same f g l m a b h k e = elim (cases_order l m) [
-  | inl same ↦ (same, let p : 2 ^ (l + 1) ≡ 2 ^ (m + 1) = ap (λ x. 2 ^ (x + 1)) same in
-      omega (arith, e, p, two_or_more l))
+  | inl same ↦ (
+    same,
+    let p : 2 ^ (l + 1) ≡ 2 ^ (m + 1) = ap (λ x. 2 ^ (x + 1)) same in
+        omega (arith, e, p, two_or_more l),
+  )
   | inr (inl less) ↦ absurd (omega (arith, e, longer_is_greater f g l m a less k))
   | inr (inr more) ↦ absurd (omega (arith, e, longer_is_greater g f m l b more h))
 ]

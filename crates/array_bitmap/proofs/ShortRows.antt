@@ -110,8 +110,8 @@ module _ (c : Cells) (shorts2 bests2 : ℕ → ℕ) where
       | inr low ↦
           word-short s2 q m low
           ∙ ap shown (others (2 ^ m + path_start q m) (λ e.
-              let n = number_same (path_start q m) (path_start path len) m len (start_small q m small (omega (arith, low, shallow))) (start_small path len fits (omega (arith, short, shallow))) e in
-              out n.0 (n.1 ∙ ap (path_start path) (sym n.0))))
+          let n = number_same (path_start q m) (path_start path len) m len (start_small q m small (omega (arith, low, shallow))) (start_small path len fits (omega (arith, short, shallow))) e in
+          out n.0 (n.1 ∙ ap (path_start path) (sym n.0))))
           ∙ sym (word-short c q m low)
     ]
 
@@ -169,9 +169,11 @@ module _ (c : Cells) (shorts2 bests2 : ℕ → ℕ) where
 
           is_new : len_of (c.bests (path_start q (depth_of c.first))) ≤ len → GreatestBelow (word_at s2 q) (depth_of c.first + 1) (found w)
           is_new l =
-              subst (GreatestBelow (word_at s2 q) (depth_of c.first + 1)) (sym (found-row len w own))
-              (omega (arith, short), short_hit q same ∙ row_shown len w own,
-                λ k m h. at_other q k small (λ e. omega (arith, e, m)) ∙ none_past (word_at c q) (depth_of c.first + 1) (c.bests (path_start q (depth_of c.first))) len old l k m h)
+              subst (GreatestBelow (word_at s2 q) (depth_of c.first + 1)) (sym (found-row len w own)) (
+                omega (arith, short),
+                short_hit q same ∙ row_shown len w own,
+                λ k m h. at_other q k small (λ e. omega (arith, e, m)) ∙ none_past (word_at c q) (depth_of c.first + 1) (c.bests (path_start q (depth_of c.first))) len old l k m h,
+              )
 
           by : (len < len_of (c.bests (path_start q (depth_of c.first)))) ⊎ (len_of (c.bests (path_start q (depth_of c.first))) ≤ len)
               → GreatestBelow (word_at s2 q) (depth_of c.first + 1) (found (bests2 (path_start q (depth_of c.first))))
@@ -219,11 +221,15 @@ module _ (c : Cells) (shorts2 bests2 : ℕ → ℕ) where
             | inr (inl l) ↦ upward k l ∙ g k l
             | inr (inr l) ↦ at_other q k small (λ x. omega (arith, x, l)) ∙ none_past (word_at c q) (depth_of c.first + 1) (c.bests (path_start q (depth_of c.first))) len old (omega (arith, e)) k l h
           ]
-          falls (Some r) e g = (omega (arith, g.0, short), upward r.0 g.0 ∙ g.1, λ k m h. elim (cases_order k len) [
-            | inl at ↦ ap (word_at s2 q) at ∙ none_here
-            | inr (inl l) ↦ upward k l ∙ g.2 k m l
-            | inr (inr l) ↦ at_other q k small (λ x. omega (arith, x, l)) ∙ none_past (word_at c q) (depth_of c.first + 1) (c.bests (path_start q (depth_of c.first))) len old (omega (arith, e)) k l h
-          ])
+          falls (Some r) e g = (
+            omega (arith, g.0, short),
+            upward r.0 g.0 ∙ g.1,
+            λ k m h. elim (cases_order k len) [
+              | inl at ↦ ap (word_at s2 q) at ∙ none_here
+              | inr (inl l) ↦ upward k l ∙ g.2 k m l
+              | inr (inr l) ↦ at_other q k small (λ x. omega (arith, x, l)) ∙ none_past (word_at c q) (depth_of c.first + 1) (c.bests (path_start q (depth_of c.first))) len old (omega (arith, e)) k l h
+            ],
+          )
 
           stays : len_of (c.bests (path_start q (depth_of c.first))) ≢ len → GreatestBelow (word_at s2 q) (depth_of c.first + 1) (found (c.bests (path_start q (depth_of c.first))))
           stays n = elim (cases_eq (c.bests (path_start q (depth_of c.first))) nothing) [
@@ -235,11 +241,14 @@ module _ (c : Cells) (shorts2 bests2 : ℕ → ℕ) where
             | inr some ↦
                 let b = c.bests (path_start q (depth_of c.first)) in
                 let g = greatest_some (word_at c q) (depth_of c.first + 1) b some old in
-                subst (GreatestBelow (word_at s2 q) (depth_of c.first + 1)) (sym (some_found b some))
-                (g.0, at_other q (len_of b) small n ∙ g.1, λ k m h. elim (cases_eq k len) [
-                  | inl at ↦ ap (word_at s2 q) at ∙ none_here
-                  | inr y ↦ at_other q k small y ∙ g.2 k m h
-                ])
+                subst (GreatestBelow (word_at s2 q) (depth_of c.first + 1)) (sym (some_found b some)) (
+                  g.0,
+                  at_other q (len_of b) small n ∙ g.1,
+                  λ k m h. elim (cases_eq k len) [
+                    | inl at ↦ ap (word_at s2 q) at ∙ none_here
+                    | inr y ↦ at_other q k small y ∙ g.2 k m h
+                  ],
+                )
           ]
 
           by : (len_of (c.bests (path_start q (depth_of c.first))) ≡ len) ⊎ (len_of (c.bests (path_start q (depth_of c.first))) ≡ len → ⊥)

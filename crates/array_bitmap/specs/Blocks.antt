@@ -5,6 +5,7 @@
 use Rattle.std.specs.Prelude.{ℕ, ◌≡◌, ◌≢◌, ◌+◌, ◌*◌, ◌^◌, ◌<◌, List, length, slice_index, Option, Some, None, cond, eqb, nat_le, count_ones}
 use Rattle.std.specs.Int.{bit_at}
 use Rattle.array_bitmap.specs.Bits.{rank}
+use Rattle.array_bitmap.specs.declared.blocks.Head.{Head}
 
 -- the rows' bits, and the kids'
 abbrev pub rows_of : List ℕ → ℕ
@@ -47,3 +48,8 @@ pub record IsBlock (ws : List ℕ) : Type 0 where
   pub few_rows : rows_of ws < 2 ^ 62
   pub few_kids : kids_of ws < 2 ^ 32
   pub kids_there : (five : ℕ) → bit_at (kids_of ws) five ≡ 1 → kid_in ws five ≢ 0
+
+-- the bitmaps of a block were read
+pub record IsHead (ws : List ℕ) (head : Head) : Type 0 where
+  pub rows : head.rows ≡ rows_of ws
+  pub kids : head.kids ≡ kids_of ws

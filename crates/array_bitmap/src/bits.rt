@@ -1,6 +1,6 @@
 //! The bits of blocks and of paths.
 
-ghost use Rattle.std.specs.Prelude.{◌≡◌, ℕ, ◌+◌, ◌*◌, ◌^◌, ◌<◌, ◌≤◌, ◌↔◌, IsTrue, Option, Some, None, count_ones};
+ghost use Rattle.std.specs.Prelude.{◌≡◌, ◌≢◌, ℕ, ◌+◌, ◌*◌, ◌^◌, ◌<◌, ◌≤◌, ◌↔◌, IsTrue, Some, count_ones};
 ghost use Rattle.std.specs.Int.{bit_at};
 ghost use Rattle.array_bitmap.specs.Bits.{rank, five_bits, row_bit, width, IsHighest};
 ghost use Rattle.array_bitmap.specs.Blocks.{size_for};
@@ -63,6 +63,15 @@ pub(crate) fn is_set(bits: u64, k: u32) -> bool
     (bits >> k) & 1 == 1
 }
 
+/// A bit: 1 where it is set, else 0.
+pub(crate) fn bit(bits: u64, k: u32) -> u32
+    requires { k < 64 }
+    ensures value { result ≡ bit_at bits k }
+    ensures bound { result < 2 }
+{
+    ((bits >> k) & 1) as u32
+}
+
 /// How many bits below bit `k` are set.
 pub(crate) fn rank(bits: u64, k: u32) -> usize
     requires { k < 64 }
@@ -123,14 +132,23 @@ pub(crate) fn covers(five: u32, level: u32) -> u64
     all
 }
 
-/// The greatest bit that is set.
-pub(crate) fn highest(bits: u64) -> Option<u32>
-    ensures { IsHighest bits result }
+/// The greatest bit that is set; 0 where none is.
+pub(crate) fn highest(bits: u64) -> u32
+    ensures bound { result < 64 }
+    ensures none { bits ≡ 0 → result ≡ 0 }
+    ensures some { bits ≢ 0 → IsHighest bits (Some result) }
 {
-    if bits == 0 {
-        return None;
-    }
-    Some(63 - bits.leading_zeros())
+    63 - (bits | 1).leading_zeros()
+}
+
+/// One of two words: the first where `pick` is 1, the second where it is 0. It is computed without a
+/// branch, which a processor would often guess wrong.
+pub(crate) fn chosen(pick: u32, one: u32, other: u32) -> u32
+    requires { pick < 2 }
+    ensures one { pick ≡ 1 → result ≡ one }
+    ensures other { pick ≡ 0 → result ≡ other }
+{
+    other ^ ((other ^ one) & (pick * u32::MAX))
 }
 
 /// The size of a block for so many words.

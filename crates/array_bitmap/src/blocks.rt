@@ -3,13 +3,13 @@
 ghost use Rattle.std.specs.Prelude.{◌≡◌, ◌≢◌, ℕ, ◌+◌, ◌*◌, ◌^◌, ◌<◌, ◌≤◌, bit_and, is_some, true, Option, IfOk, OnOk, OnErr};
 ghost use Rattle.std.specs.Int.{bit_at};
 ghost use Rattle.array_bitmap.specs.Bits.{IsHighest};
-ghost use Rattle.array_bitmap.specs.Blocks.{rows_of, kids_of, kid_in, word_after, size_for, used_words, IsBlock};
+ghost use Rattle.array_bitmap.specs.Blocks.{rows_of, kids_of, kid_in, word_after, size_for, IsBlock, IsHead};
 ghost use Rattle.array_bitmap.specs.Changes.{Copies, GetsRoom, ShiftsIn, PutsWord, PutsRow, PutsKid, TakesBlank, GetsKid, ShiftsOut, TakesWord, TakesRow, TakesKid};
 ghost use Rattle.array_bitmap.specs.Tree.{words_of};
 ghost use Rattle.word_pool.specs.Heap.{size_of, word_of, SameBlocks, SameOthers};
 ghost use Rattle.word_pool.specs.Pool.{blocks, room};
 
-use crate::bits::{count, highest, is_set, rank, size_for, with_bit, without_bit};
+use crate::bits::{bit, chosen, count, highest, is_set, rank, size_for, with_bit, without_bit};
 use network_model::NoMemory;
 use std::alloc::Allocator;
 use word_pool::Pool;
@@ -34,34 +34,68 @@ pub(crate) fn kids_of<A: Allocator>(pool: &Pool<A>, block: u32) -> u64
     u64::from(pool.word(block, 2))
 }
 
+/// The bitmaps of a block, which have been read.
+#[derive(Clone, Copy, Debug)]
+pub struct Head {
+    pub rows: u64,
+    pub kids: u64,
+}
+
+/// Bitmaps without bits.
+pub(crate) const NO_HEAD: Head = Head { rows: 0, kids: 0 };
+
+/// Reads the bitmaps of a block.
+pub(crate) fn head_of<A: Allocator>(pool: &Pool<A>, block: u32) -> Head
+    requires { 3 < size_of (blocks pool.now block) }
+    ensures { IsHead (words_of (blocks pool.now block)) result }
+{
+    Head {
+        rows: rows_of(pool, block),
+        kids: kids_of(pool, block),
+    }
+}
+
+/// The place of a block's kid, by its bitmaps; 0 where it has none. There is no branch: where there is no
+/// kid, the block's first word is read, and counts for nothing.
+pub(crate) fn kid_by<A: Allocator>(pool: &Pool<A>, block: u32, head: Head, five: u32) -> u32
+    requires is_block { IsBlock (words_of (blocks pool.now block)) }
+    requires head { IsHead (words_of (blocks pool.now block)) head }
+    requires small { five < 32 }
+    ensures { result ≡ kid_in (words_of (blocks pool.now block)) five }
+{
+    let there = bit(head.kids, five);
+    let index = HEAD + count(head.rows) + rank(head.kids, five);
+    pool.word(block, index * there as usize) * there
+}
+
 /// The place of a block's kid; 0 where it has none.
 pub(crate) fn kid_of<A: Allocator>(pool: &Pool<A>, block: u32, five: u32) -> u32
     requires is_block { IsBlock (words_of (blocks pool.now block)) }
     requires small { five < 32 }
     ensures { result ≡ kid_in (words_of (blocks pool.now block)) five }
 {
-    let kids = kids_of(pool, block);
-    if !is_set(kids, five) {
-        return 0;
-    }
-    pool.word(
-        block,
-        HEAD + count(rows_of(pool, block)) + rank(kids, five),
-    )
+    kid_by(pool, block, head_of(pool, block), five)
 }
 
-/// The word of the greatest of a block's rows among some bits, or else the word that was found above.
-pub(crate) fn word_after<A: Allocator>(pool: &Pool<A>, block: u32, cover: u64, best: u32) -> u32
-    requires { IsBlock (words_of (blocks pool.now block)) }
+/// The word of the greatest of a block's rows among some bits, by the block's bitmaps, or else the word
+/// that was found above. There is no branch: where no row is found, the word at the place of the first
+/// is read, and counts for nothing.
+pub(crate) fn word_after<A: Allocator>(
+    pool: &Pool<A>,
+    block: u32,
+    head: Head,
+    cover: u64,
+    best: u32,
+) -> u32
+    requires is_block { IsBlock (words_of (blocks pool.now block)) }
+    requires head { IsHead (words_of (blocks pool.now block)) head }
     ensures { let ws = words_of (blocks pool.now block) in (bit : Option ℕ)
         × IsHighest (bit_and (rows_of ws) cover) bit
         × (result ≡ word_after ws best bit) }
 {
-    let rows = rows_of(pool, block);
-    match highest(rows & cover) {
-        Some(bit) => pool.word(block, HEAD + rank(rows, bit)),
-        None => best,
-    }
+    let hits = head.rows & cover;
+    let word = pool.word(block, HEAD + rank(head.rows, highest(hits)));
+    chosen(u32::from(hits != 0), word, best)
 }
 
 /// Copies the first words of a block into another.

@@ -12,9 +12,9 @@ ghost use Rattle.array_bitmap.specs.Words.{shown};
 ghost use Rattle.array_bitmap.specs.Tree.{block_at, word_at, entry_in};
 ghost use Rattle.array_bitmap.specs.Image.{cells_of, rows_in, IsSoundTree};
 
-use crate::image::Image;
 use crate::bits::{five_bits, is_set, path_of, rank, row_bit};
 use crate::blocks::{HEAD, kid_of, rows_of};
+use crate::image::Image;
 use crate::tree::Tree;
 use crate::words::{NOTHING, entry_of};
 use network_model::{Entry, Prefix};

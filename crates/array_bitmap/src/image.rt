@@ -5,15 +5,12 @@ ghost use Rattle.ipv4_prefix.specs.LongestMatch.{IsLongestMatch};
 ghost use Rattle.ipv4_prefix.specs.Prefix.{covers};
 ghost use Rattle.network_model.specs.Publication.{image_answer};
 
-use crate::lanes::{NO_LANE, answer_all};
+use crate::lanes::{LANES, answer_all};
 use crate::tree::Tree;
 use network_model::{Entry, Prefix};
 use std::alloc::{Allocator, Global};
 use std::cmp::min;
 use std::marker::Model;
-
-/// How many look-ups go down side by side.
-const LANES: usize = 32;
 
 /// The rows that a router published, for looking up addresses: an array on the first 4, 9, 14 or 19
 /// bits of addresses, and tree-bitmap nodes with a stride of five bits below it.
@@ -64,8 +61,7 @@ impl<A: Allocator> Image<A> {
         requires one_each { length answers.old ≡ length addrs.now }
         ensures answers { answers.new ≡ map (image_answer self.now) addrs.now }
     {
-        let mut lanes = [NO_LANE; LANES];
-        answer_all(&self.tree, &mut lanes[..addrs.len()], addrs, answers);
+        answer_all(&self.tree, addrs, answers);
     }
 
     /// As `lookup` for each of the addresses, which go down side by side.

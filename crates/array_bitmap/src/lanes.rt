@@ -1,27 +1,35 @@
 //! Look-ups on their way down an image, side by side.
 
-ghost use Rattle.std.specs.Prelude.{◌≡◌, ◌+◌, ◌*◌, ◌^◌, ◌<◌, ◌≤◌, EachIndex, true, false, length, map};
+ghost use Rattle.std.specs.Prelude.{◌≡◌, ℕ, ◌+◌, ◌*◌, ◌^◌, ◌<◌, ◌≤◌, EachIndex, length, map, slice_index};
+ghost use Rattle.array_bitmap.specs.Blocks.{IsHead};
 ghost use Rattle.array_bitmap.specs.Image.{cells_of, rows_in, IsSoundTree};
+ghost use Rattle.array_bitmap.specs.Tree.{words_at};
 ghost use Rattle.ipv4_prefix.specs.LongestMatch.{longest_match};
-ghost use Rattle.array_bitmap.specs.Lane.{IsLane, IsDone, lane_at};
+ghost use Rattle.array_bitmap.specs.Lane.{IsLane, IsDone, AreLanes, IsCared, lane_at, head_at};
 
 use crate::bits::path_of;
+use crate::blocks::{Head, NO_HEAD};
 use crate::tree::Tree;
 use crate::words::NOTHING;
 use network_model::{Entry, Prefix};
 use std::alloc::Allocator;
 
-/// The look-up of an address on its way down: the next block on its path, or 0 where there is none, and
-/// the word of the longest row that it has found.
+/// How many look-ups go down side by side.
+pub(crate) const LANES: usize = 32;
+
+/// The look-up of an address on its way down: which of the addresses it is for, the next block on its
+/// path, or 0 where there is none, and the word of the longest row that it has found.
 #[derive(Clone, Copy, Debug)]
 pub(crate) struct Lane {
+    pub(crate) at: u32,
     pub(crate) addr: u32,
     pub(crate) block: u32,
     pub(crate) best: u32,
 }
 
 /// A look-up of no address.
-pub(crate) const NO_LANE: Lane = Lane {
+const NO_LANE: Lane = Lane {
+    at: 0,
     addr: 0,
     block: 0,
     best: NOTHING,
@@ -29,88 +37,161 @@ pub(crate) const NO_LANE: Lane = Lane {
 
 impl Lane {
     /// A look-up that stands at the array.
-    pub(crate) fn new<A: Allocator>(tree: &Tree<A>, addr: u32) -> Lane
+    fn new<A: Allocator>(tree: &Tree<A>, at: u32, addr: u32) -> Lane
         requires { IsSoundTree tree.now }
         ensures lane { IsLane (cells_of tree.now) tree.now.first result }
+        ensures at { result.at ≡ at }
         ensures addr { result.addr ≡ addr }
     {
         let top = tree.top(path_of(addr));
         Lane {
+            at,
             addr,
             block: top.block,
             best: top.best,
         }
     }
 
-    /// Reads the next block, at a level.
-    fn descend<A: Allocator>(&mut self, tree: &Tree<A>, level: u32)
+    /// Reads the bitmaps of the next block, at a level.
+    fn head<A: Allocator>(self, tree: &Tree<A>, level: u32) -> Head
+        requires sound { IsSoundTree tree.now }
+        requires lane { IsLane (cells_of tree.now) level self }
+        ensures { IsHead (words_at (cells_of tree.now) self.block) result }
+    {
+        tree.head(path_of(self.addr), level, self.block)
+    }
+
+    /// The look-up below the next block, at a level, whose bitmaps have been read.
+    fn below<A: Allocator>(self, tree: &Tree<A>, level: u32, head: Head) -> Lane
         requires sound { IsSoundTree tree.now }
         requires low { tree.now.first ≤ level }
         requires deep { level ≤ 5 }
-        requires lane { IsLane (cells_of tree.now) level self.old }
-        ensures lane { IsLane (cells_of tree.now) (level + 1) self.new }
-        ensures addr { self.new.addr ≡ self.old.addr }
+        requires lane { IsLane (cells_of tree.now) level self }
+        requires head { IsHead (words_at (cells_of tree.now) self.block) head }
+        ensures lane { IsLane (cells_of tree.now) (level + 1) result }
+        ensures at { result.at ≡ self.at }
+        ensures addr { result.addr ≡ self.addr }
     {
         let path = path_of(self.addr);
-        let block = self.block;
-        self.best = tree.longest_to(path, level, block, self.best);
-        self.block = tree.next(path, level, block);
+        Lane {
+            at: self.at,
+            addr: self.addr,
+            block: tree.next(path, level, self.block, head),
+            best: tree.longest_to(path, level, self.block, head, self.best),
+        }
     }
 }
 
-/// Has look-ups go down one level, and says whether any goes on.
-fn descend_level<A: Allocator>(tree: &Tree<A>, lanes: &mut [Lane], level: u32) -> bool
+/// Reads the bitmaps of the blocks at which the first `live` look-ups stand. No read waits for another.
+fn read_heads<A: Allocator>(
+    tree: &Tree<A>,
+    lanes: &[Lane],
+    live: usize,
+    level: u32,
+    heads: &mut [Head],
+)
+    requires sound { IsSoundTree tree.now }
+    requires lanes { (k : ℕ) → k < live → IsLane (cells_of tree.now) level (lane_at lanes.now k) }
+    requires within { live ≤ length lanes.now }
+    requires room { live ≤ length heads.old }
+    ensures heads { (k : ℕ) → k < live
+        → IsHead (words_at (cells_of tree.now) (lane_at lanes.now k).block) (head_at heads.new k) }
+    ensures count { length heads.new ≡ length heads.old }
+{
+    for i in 0..live {
+        heads[i] = lanes[i].head(tree, level);
+    }
+}
+
+/// Has the first `live` look-ups go down one level, and writes the words that they have found. Those that
+/// go on stand first afterwards. The answer is how many they are.
+fn go_down<A: Allocator>(
+    tree: &Tree<A>,
+    lanes: &mut [Lane],
+    live: usize,
+    heads: &[Head],
+    level: u32,
+    addrs: &[u32],
+    words: &mut [u32],
+) -> usize
     requires sound { IsSoundTree tree.now }
     requires low { tree.now.first ≤ level }
     requires deep { level ≤ 5 }
-    requires lanes { EachIndex lanes.old (λ k. IsLane (cells_of tree.now) level (lane_at lanes.old k)) }
-    ensures lanes { EachIndex lanes.old (λ k. IsLane (cells_of tree.now) (level + 1) (lane_at lanes.new k)) }
-    ensures addrs { EachIndex lanes.old (λ k.
-        (lane_at lanes.new k).addr ≡ (lane_at lanes.old k).addr) }
-    ensures ended { result ≡ false
-        → EachIndex lanes.old (λ k. (lane_at lanes.new k).block ≡ 0) }
+    requires lanes { AreLanes (cells_of tree.now) level addrs.now lanes.old live }
+    requires heads { (k : ℕ) → k < live
+        → IsHead (words_at (cells_of tree.now) (lane_at lanes.old k).block) (head_at heads.now k) }
+    requires read { live ≤ length heads.now }
+    requires room { length addrs.now ≤ length words.old }
+    requires cared { EachIndex addrs.now (IsCared (cells_of tree.now) level addrs.now lanes.old live words.old) }
+    ensures lanes { AreLanes (cells_of tree.now) (level + 1) addrs.now lanes.new result }
+    ensures fewer { result ≤ live }
+    ensures count { length lanes.new ≡ length lanes.old }
+    ensures words { length words.new ≡ length words.old }
+    ensures cared { EachIndex addrs.now
+        (IsCared (cells_of tree.now) (level + 1) addrs.now lanes.new result words.new) }
 {
-    let mut goes_on = false;
-    for lane in lanes.iter_mut() {
-        lane.descend(tree, level);
-        goes_on |= lane.block != 0;
+    let mut still = 0;
+    for i in 0..live {
+        let lane = lanes[i].below(tree, level, heads[i]);
+        words[lane.at as usize] = lane.best;
+        lanes[still] = lane;
+        still += usize::from(lane.block != 0);
     }
-    goes_on
+    still
 }
 
-/// Has look-ups, which stand at the array, go down as far as there are blocks: one level at a time, so
-/// that they wait for memory at once.
-fn descend_all<A: Allocator>(tree: &Tree<A>, lanes: &mut [Lane])
+/// Begins a look-up for each address, at the array.
+fn begin_all<A: Allocator>(tree: &Tree<A>, addrs: &[u32], lanes: &mut [Lane])
     requires sound { IsSoundTree tree.now }
-    requires lanes { EachIndex lanes.old (λ k. IsLane (cells_of tree.now) tree.now.first (lane_at lanes.old k)) }
-    ensures done { EachIndex lanes.old (λ k. IsDone (cells_of tree.now) (lane_at lanes.new k)) }
-    ensures addrs { EachIndex lanes.old (λ k.
-        (lane_at lanes.new k).addr ≡ (lane_at lanes.old k).addr) }
+    requires few { length addrs.now ≤ 32 }
+    requires room { length addrs.now ≤ length lanes.old }
+    ensures lanes { AreLanes (cells_of tree.now) tree.now.first addrs.now lanes.new (length addrs.now) }
+    ensures in_order { (k : ℕ) → k < length addrs.now → (lane_at lanes.new k).at ≡ k }
+    ensures count { length lanes.new ≡ length lanes.old }
 {
+    for i in 0..addrs.len() {
+        lanes[i] = Lane::new(tree, i as u32, addrs[i]);
+    }
+}
+
+/// Writes the word of the longest row of each of at most 32 addresses. They go down by a lane each, one
+/// level at a time, so that they wait for memory at once. What a lane reads does not wait for what
+/// another reads, and no branch depends on it.
+fn words_all<A: Allocator>(tree: &Tree<A>, addrs: &[u32], words: &mut [u32])
+    requires sound { IsSoundTree tree.now }
+    requires few { length addrs.now ≤ 32 }
+    requires room { length addrs.now ≤ length words.old }
+    ensures done { (k : ℕ) → k < length addrs.now → IsDone (cells_of tree.now)
+        (slice_index addrs.now k) (slice_index words.new k) }
+    ensures count { length words.new ≡ length words.old }
+{
+    let mut lanes = [NO_LANE; LANES];
+    let mut heads = [NO_HEAD; LANES];
+    begin_all(tree, addrs, &mut lanes);
+    let mut live = addrs.len();
     for level in tree.first..6 {
-        if !descend_level(tree, lanes, level) {
+        read_heads(tree, &lanes, live, level, &mut heads);
+        live = go_down(tree, &mut lanes, live, &heads, level, addrs, words);
+        if live == 0 {
             return;
         }
     }
 }
 
-/// Answers addresses side by side, by a lane each.
+/// Answers at most 32 addresses side by side.
 pub(crate) fn answer_all<A: Allocator>(
     tree: &Tree<A>,
-    lanes: &mut [Lane],
     addrs: &[u32],
     answers: &mut [Option<(Prefix, Entry)>],
 )
     requires sound { IsSoundTree tree.now }
-    requires lanes { length lanes.old ≡ length addrs.now }
+    requires few { length addrs.now ≤ 32 }
     requires one_each { length answers.old ≡ length addrs.now }
     ensures { answers.new ≡ map (λ addr. longest_match addr (rows_in tree.now)) addrs.now }
 {
-    for i in 0..addrs.len() {
-        lanes[i] = Lane::new(tree, addrs[i]);
-    }
-    descend_all(tree, lanes);
+    let mut words = [NOTHING; LANES];
+    words_all(tree, addrs, &mut words);
     for k in 0..addrs.len() {
-        answers[k] = tree.answer(addrs[k], lanes[k].best);
+        answers[k] = tree.answer(addrs[k], words[k]);
     }
 }

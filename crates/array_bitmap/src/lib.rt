@@ -34,7 +34,10 @@
 //!   back, so this needs no memory. From there up, each block that is left with no row and no kid is
 //!   given back, up to the first that has some.
 //! - Look-ups of many addresses go down side by side, each in a *lane*, 32 at a time and one level at a
-//!   time, so that they wait for memory at once. A lane whose path has ended reads four zeros.
+//!   time. First the bitmaps of all blocks of a level are read, so that they wait for memory at once. Then
+//!   each lane takes its step. A lane whose path has ended writes its word, and leaves.
+//! - A step of a look-up has no branch on what it finds. Where a block has no row or no kid for it, another
+//!   word of the block is read, and a multiplication or a mask drops it.
 //! - Rows are listed in the order of their prefixes, from any prefix on. The cursor is a prefix, so it
 //!   needs no memory and stays right when rows change.
 //!

@@ -6,7 +6,7 @@ ghost use Rattle.array_bitmap.specs.Bits.{depth_of, path_start};
 ghost use Rattle.array_bitmap.specs.Words.{found, len_of};
 ghost use Rattle.array_bitmap.specs.Greatest.{GreatestBelow};
 ghost use Rattle.array_bitmap.specs.Words.{IsRowWord};
-ghost use Rattle.array_bitmap.specs.Blocks.{kids_of, IsBlock};
+ghost use Rattle.array_bitmap.specs.Blocks.{kids_of, IsBlock, IsHead};
 ghost use Rattle.array_bitmap.specs.Tree.{words_of, block_at, word_at, SetsWord};
 ghost use Rattle.array_bitmap.specs.Changes.{WritesName};
 ghost use Rattle.array_bitmap.specs.Image.{cells_of, rows_in, top_at, IsSoundTree, IsStand};
@@ -19,7 +19,8 @@ ghost use Rattle.word_pool.specs.Pool.{blocks, capacity, room};
 
 use crate::bits::{count, covers, five_bits, is_set, path_of, rank, row_bit};
 use crate::blocks::{
-    HEAD, blank, kid_of, kids_of, rows_of, with_new_kid, with_row, without_kid, without_row, word_after,
+    HEAD, Head, blank, head_of, kid_by, kid_of, kids_of, rows_of, with_new_kid, with_row,
+    without_kid, without_row, word_after,
 };
 use crate::words::{NOTHING, entry_of, len_of, word_of};
 use network_model::{Entry, NoMemory, Prefix};
@@ -116,29 +117,46 @@ impl<A: Allocator> Tree<A> {
         self.tops[(path >> (30 - 5 * self.first)) as usize]
     }
 
+    /// Reads the bitmaps of a path's block at a level.
+    pub(crate) fn head(&self, path: u64, level: u32, block: u32) -> Head
+        requires sound { IsSoundTree self.now }
+        requires at { block ≡ block_at (cells_of self.now) path (level - self.now.first) }
+        ensures { IsHead (words_of (blocks self.now.pool block)) result }
+    {
+        head_of(&self.pool, block)
+    }
+
     /// The word of the longest row of a path that ends in its block at a level, or else the one that was
     /// found above.
-    pub(crate) fn longest_to(&self, path: u64, level: u32, block: u32, best: u32) -> u32
+    pub(crate) fn longest_to(&self, path: u64, level: u32, block: u32, head: Head, best: u32) -> u32
         requires sound { IsSoundTree self.now }
         requires fits { path < 2 ^ 34 }
         requires low { self.now.first ≤ level }
         requires deep { level ≤ 5 }
         requires at { block ≡ block_at (cells_of self.now) path (level - self.now.first) }
+        requires head { IsHead (words_of (blocks self.now.pool block)) head }
         requires above { GreatestBelow (word_at (cells_of self.now) path) (depth_of level + 1) (found best) }
         ensures { GreatestBelow (word_at (cells_of self.now) path) (min (depth_of (level + 1) + 1) 33) (found result) }
     {
-        word_after(&self.pool, block, covers(five_bits(path, level), level), best)
+        word_after(
+            &self.pool,
+            block,
+            head,
+            covers(five_bits(path, level), level),
+            best,
+        )
     }
 
     /// The place of the next block of a path, or 0 where there is none.
-    pub(crate) fn next(&self, path: u64, level: u32, block: u32) -> u32
+    pub(crate) fn next(&self, path: u64, level: u32, block: u32, head: Head) -> u32
         requires sound { IsSoundTree self.now }
         requires low { self.now.first ≤ level }
         requires deep { level ≤ 5 }
         requires at { block ≡ block_at (cells_of self.now) path (level - self.now.first) }
+        requires head { IsHead (words_of (blocks self.now.pool block)) head }
         ensures { result ≡ block_at (cells_of self.now) path (level + 1 - self.now.first) }
     {
-        kid_of(&self.pool, block, five_bits(path, level))
+        kid_by(&self.pool, block, head, five_bits(path, level))
     }
 
     /// The word of the longest row of a path, or that for no row.
@@ -151,8 +169,9 @@ impl<A: Allocator> Tree<A> {
         let mut best = top.best;
         let mut block = top.block;
         for level in self.first..6 {
-            best = self.longest_to(path, level, block, best);
-            block = self.next(path, level, block);
+            let head = self.head(path, level, block);
+            best = self.longest_to(path, level, block, head, best);
+            block = self.next(path, level, block, head);
             if block == 0 {
                 return best;
             }
@@ -612,18 +631,14 @@ impl<A: Allocator> Tree<A> {
 }
 
 /// Puts a word in place of those of no longer rows, in a range of the array.
-fn put_longest<A: Allocator>(
-    tops: &mut Vec<Top, A>,
-    from: usize,
-    to: usize,
-    len: u32,
-    word: u32,
-)
+fn put_longest<A: Allocator>(tops: &mut Vec<Top, A>, from: usize, to: usize, len: u32, word: u32)
     requires ordered { from ≤ to }
     requires within { to ≤ vec_len tops.old }
     ensures inside { (x : ℕ) → from ≤ x → x < to
-        → top_at tops.new.items x ≡ record (top_at tops.old.items x) { best =
-            cond (nat_le (len_of (top_at tops.old.items x).best) len) word (top_at tops.old.items x).best } }
+        → top_at tops.new.items x ≡ record (top_at tops.old.items x) {
+          best =
+              cond (nat_le (len_of (top_at tops.old.items x).best) len) word (top_at tops.old.items x).best;
+        } }
     ensures below { (x : ℕ) → x < from → top_at tops.new.items x ≡ top_at tops.old.items x }
     ensures above { (x : ℕ) → from ≤ x → to ≤ x → top_at tops.new.items x ≡ top_at tops.old.items x }
     ensures len { vec_len tops.new ≡ vec_len tops.old }
@@ -636,18 +651,14 @@ fn put_longest<A: Allocator>(
 }
 
 /// Puts a word in place of those of rows of a length, in a range of the array.
-fn put_next<A: Allocator>(
-    tops: &mut Vec<Top, A>,
-    from: usize,
-    to: usize,
-    len: u32,
-    word: u32,
-)
+fn put_next<A: Allocator>(tops: &mut Vec<Top, A>, from: usize, to: usize, len: u32, word: u32)
     requires ordered { from ≤ to }
     requires within { to ≤ vec_len tops.old }
     ensures inside { (x : ℕ) → from ≤ x → x < to
-        → top_at tops.new.items x ≡ record (top_at tops.old.items x) { best =
-            cond (len_of (top_at tops.old.items x).best == len) word (top_at tops.old.items x).best } }
+        → top_at tops.new.items x ≡ record (top_at tops.old.items x) {
+          best =
+              cond (len_of (top_at tops.old.items x).best == len) word (top_at tops.old.items x).best;
+        } }
     ensures below { (x : ℕ) → x < from → top_at tops.new.items x ≡ top_at tops.old.items x }
     ensures above { (x : ℕ) → from ≤ x → to ≤ x → top_at tops.new.items x ≡ top_at tops.old.items x }
     ensures len { vec_len tops.new ≡ vec_len tops.old }

@@ -18,8 +18,15 @@ rows_of-requires g c = block_head (blocks c.args.pool.now) c.args.block c.requir
 pub insert-requires-clause-few : goal.insert-requires-clause-few
 insert-requires-clause-few g c =
     let old = blocks c.args.pool.now in
-    omega (arith, c.count-before.ensures.value, c.count.ensures.value, ap count_ones c.rows_of.ensures, ap count_ones c.kids_of-kids.ensures.value,
-      few_kids old c.args.block c.requires.is_block c.args.five c.requires.small c.requires.clear, all_rows old c.args.block c.requires.is_block)
+    omega (
+      arith,
+      c.count-before.ensures.value,
+      c.count.ensures.value,
+      ap count_ones c.rows_of.ensures,
+      ap count_ones c.kids_of-kids.ensures.value,
+      few_kids old c.args.block c.requires.is_block c.args.five c.requires.small c.requires.clear,
+      all_rows old c.args.block c.requires.is_block,
+    )
 
 pub insert-requires-clause-within : goal.insert-requires-clause-within
 insert-requires-clause-within g c = omega (arith, c.rank.ensures.value, c.count.ensures.value, rank_le c.kids_of-kids.result c.args.five)

@@ -21,7 +21,7 @@ copy_words-requires-clause-apart g c e =
 pub copy_words-requires-clause-enough : goal.copy_words-requires-clause-enough
 copy_words-requires-clause-enough g c =
     let apart : c.args.block ≢ c.in_ok-wider.wider = λ e. false≢true (sym (ap is_some c.in_ok-wider.ensures.ok.fresh) ∙ ap (λ p. is_some (blocks c.args.pool.now p)) (sym e)
-        ∙ there (blocks c.args.pool.now c.args.block) (omega (arith, c.requires.size, size_least c.args.used (omega (arith, c.requires.few))))) in
+    ∙ there (blocks c.args.pool.now c.args.block) (omega (arith, c.requires.size, size_least c.args.used (omega (arith, c.requires.few))))) in
     rw (c.in_ok-wider.ensures.ok.others c.args.block apart) (omega (arith, c.requires.size, size_holds c.args.used (omega (arith, c.requires.few))))
 
 pub copy_words-requires-clause-fits : goal.copy_words-requires-clause-fits

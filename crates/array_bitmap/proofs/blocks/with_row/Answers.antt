@@ -21,8 +21,13 @@ pub set_word-requires-clause-inside : goal.set_word-requires-clause-inside
 set_word-requires-clause-inside g c =
     let rows : c.rows_of-rows.result ≡ rows_of (words_of (blocks c.args.pool.now c.args.block)) = c.rows_of-rows.ensures in
     let set : bit_at (rows_of (words_of (blocks c.args.pool.now c.args.block))) c.args.bit ≡ 1 = ap (λ n. bit_at n c.args.bit) (sym rows) ∙ c.is_set.ensures.0 c.if-is_set.true in
-    omega (arith, c.rank-index.ensures.value, ap (λ n. rank n c.args.bit) rows, rank_lt (rows_of (words_of (blocks c.args.pool.now c.args.block))) c.args.bit set,
-      block_holds (blocks c.args.pool.now) c.args.block c.requires.is_block)
+    omega (
+      arith,
+      c.rank-index.ensures.value,
+      ap (λ n. rank n c.args.bit) rows,
+      rank_lt (rows_of (words_of (blocks c.args.pool.now c.args.block))) c.args.bit set,
+      block_holds (blocks c.args.pool.now) c.args.block c.requires.is_block,
+    )
 
 pub returns-then-is_set-clause-ok : goal.returns-then-is_set-clause-ok
 returns-then-is_set-clause-ok g c =
@@ -52,14 +57,14 @@ head used size n few e l = omega (arith, e, l, size_least (used + 1) (omega (ari
 
 pub set_word-requires-2-clause-inside : goal.set_word-requires-2-clause-inside
 set_word-requires-2-clause-inside g c =
-    let few : 3 + c.count.result + c.count-2.result ≤ 96 = 
+    let few : 3 + c.count.result + c.count-2.result ≤ 96 =
     few_used (blocks c.args.pool.now) c.args.block c.args.bit c.rows_of-rows.result c.kids_of.result c.count.result c.count-2.result c.requires.is_block c.requires.small
     c.rows_of-rows.ensures c.kids_of.ensures.value (λ h. both_ways c.is_set.result c.if-is_set.false (c.is_set.ensures.1 h)) c.count.ensures.value c.count-2.ensures.value in
     head (3 + c.count.result + c.count-2.result) (size_of (blocks c.insert.new.pool c.in_ok-place.place)) 0 few c.in_ok-place.ensures.ok.size (omega arith)
 
 pub set_word-requires-3-clause-inside : goal.set_word-requires-3-clause-inside
 set_word-requires-3-clause-inside g c =
-    let few : 3 + c.count.result + c.count-2.result ≤ 96 = 
+    let few : 3 + c.count.result + c.count-2.result ≤ 96 =
     few_used (blocks c.args.pool.now) c.args.block c.args.bit c.rows_of-rows.result c.kids_of.result c.count.result c.count-2.result c.requires.is_block c.requires.small
     c.rows_of-rows.ensures c.kids_of.ensures.value (λ h. both_ways c.is_set.result c.if-is_set.false (c.is_set.ensures.1 h)) c.count.ensures.value c.count-2.ensures.value in
     head (3 + c.count.result + c.count-2.result) (size_of (blocks c.set_word-2.new.self c.in_ok-place.place)) 1 few

@@ -3,8 +3,8 @@ use Rattle.array_bitmap.proofs.Lookups.{block_is, longest_next}
 use Rattle.std.proofs.Common.{◌-◌}
 use Rattle.array_bitmap.proofs.tree.Tree.longest_to.Goals as goal
 
-pub word_after-requires : goal.word_after-requires
-word_after-requires g c = block_is (cells_of c.args.self.now) c.requires.sound.cells c.args.path (c.args.level - c.args.self.now.first) c.args.block c.requires.at
+pub word_after-requires-clause-is_block : goal.word_after-requires-clause-is_block
+word_after-requires-clause-is_block g c = block_is (cells_of c.args.self.now) c.requires.sound.cells c.args.path (c.args.level - c.args.self.now.first) c.args.block c.requires.at
 
 pub returns : goal.returns
 returns g c =

@@ -20,8 +20,15 @@ pub set_word-requires-clause-inside : goal.set_word-requires-clause-inside
 set_word-requires-clause-inside g c =
     let ws = words_of (blocks c.args.self.now.pool c.args.holder) in
     let set : bit_at (kids_of ws) c.args.index ≡ 1 = c.requires.kid c.if-holder-eq0.false in
-    omega (arith, c.count.ensures.value, ap count_ones c.rows_of.ensures, c.rank.ensures.value, ap (λ n. rank n c.args.index) c.kids_of-kids.ensures.value,
-      rank_lt (kids_of ws) c.args.index set, block_holds (blocks c.args.self.now.pool) c.args.holder c.requires.is_block)
+    omega (
+      arith,
+      c.count.ensures.value,
+      ap count_ones c.rows_of.ensures,
+      c.rank.ensures.value,
+      ap (λ n. rank n c.args.index) c.kids_of-kids.ensures.value,
+      rank_lt (kids_of ws) c.args.index set,
+      block_holds (blocks c.args.self.now.pool) c.args.holder c.requires.is_block,
+    )
 
 pub returns-clause-name : goal.returns-clause-name
 returns-clause-name g c =

@@ -13,9 +13,9 @@ returns-clause-ok g c =
     on_ok_weaker c.set.result
     (λ sets. table_rows-put (entry_in (cells_of c.args.self.now)) c.args.prefix c.args.entry (entry_in (cells_of c.set.new.self)) c.len-2.ensures.valid
     (λ q valid.
-        sets_entry (word_at (cells_of c.args.self.now)) (word_at (cells_of c.set.new.self)) c.args.prefix (Some c.word_of-word.result) c.path_of.result c.from.result c.len-2.ensures.valid
-        (c.path_of.ensures.value ∙ ap (λ a. a * 4) c.addr.ensures.value) (c.from.ensures ∙ c.len-2.ensures.value) sets q valid
-        ∙ ap (λ x. cond (prefix_eq q c.args.prefix) (Some x) (entry_in (cells_of c.args.self.now) q)) c.word_of-word.ensures.back))
+    sets_entry (word_at (cells_of c.args.self.now)) (word_at (cells_of c.set.new.self)) c.args.prefix (Some c.word_of-word.result) c.path_of.result c.from.result c.len-2.ensures.valid
+    (c.path_of.ensures.value ∙ ap (λ a. a * 4) c.addr.ensures.value) (c.from.ensures ∙ c.len-2.ensures.value) sets q valid
+    ∙ ap (λ x. cond (prefix_eq q c.args.prefix) (Some x) (entry_in (cells_of c.args.self.now) q)) c.word_of-word.ensures.back))
     c.set.ensures.ok
 
 pub returns-clause-err : goal.returns-clause-err

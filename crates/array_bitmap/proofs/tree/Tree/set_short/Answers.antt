@@ -24,8 +24,12 @@ put_longest-requires-clause-ordered g c =
     let four = c.requires.sound.cells.four_sizes in
     let s = path_start c.args.path c.args.len in
     let w = 2 ^ (depth_of t.first - c.args.len) in
-    omega (arith, end_whole c.args.path c.args.len t.first c.requires.fits c.requires.short four, begin_whole c.args.path c.args.len t.first c.requires.fits c.requires.short four,
-      mul-le (path_start c.args.path c.args.len) (2 ^ (depth_of t.first - c.args.len)) (path_start c.args.path c.args.len + 1) (2 ^ (depth_of t.first - c.args.len)) (omega arith) (omega arith))
+    omega (
+      arith,
+      end_whole c.args.path c.args.len t.first c.requires.fits c.requires.short four,
+      begin_whole c.args.path c.args.len t.first c.requires.fits c.requires.short four,
+      mul-le (path_start c.args.path c.args.len) (2 ^ (depth_of t.first - c.args.len)) (path_start c.args.path c.args.len + 1) (2 ^ (depth_of t.first - c.args.len)) (omega arith) (omega arith),
+    )
 
 pub returns-clause-sets : goal.returns-clause-sets
 returns-clause-sets g c =
@@ -49,14 +53,14 @@ returns-clause-sound g c =
     let number = number_whole c.args.path c.args.len t.first c.requires.fits c.requires.short four in
     record {
       cells = short_tree_sound t.first (blocks t.pool) t.shorts.items t.tops.items c.put_longest.new.tops.items c.args.path c.args.len c.args.word
-    (1 * 2 ^ c.args.len % 18446744073709551616 + c.args.path / 2 ^ (34 - c.args.len))
-    (c.args.path / 2 ^ (34 - c.args.len) * 2 ^ (4 + 5 * t.first - c.args.len) % 18446744073709551616)
-    ((c.args.path / 2 ^ (34 - c.args.len) + 1) * 2 ^ (4 + 5 * t.first - c.args.len) % 18446744073709551616)
-    c.requires.sound.cells c.requires.fits c.requires.short c.requires.row
-    (omega (arith, number, number_within c.args.path c.args.len t.first c.requires.fits c.requires.short four, c.requires.sound.shorts, t.shorts.ok.0))
-    (ap (λ n. n + path_start c.args.path c.args.len) number)
-    (begin_whole c.args.path c.args.len t.first c.requires.fits c.requires.short four) (end_whole c.args.path c.args.len t.first c.requires.fits c.requires.short four)
-    c.put_longest.ensures.inside c.put_longest.ensures.below c.put_longest.ensures.above;
+          (1 * 2 ^ c.args.len % 18446744073709551616 + c.args.path / 2 ^ (34 - c.args.len))
+          (c.args.path / 2 ^ (34 - c.args.len) * 2 ^ (4 + 5 * t.first - c.args.len) % 18446744073709551616)
+          ((c.args.path / 2 ^ (34 - c.args.len) + 1) * 2 ^ (4 + 5 * t.first - c.args.len) % 18446744073709551616)
+          c.requires.sound.cells c.requires.fits c.requires.short c.requires.row
+          (omega (arith, number, number_within c.args.path c.args.len t.first c.requires.fits c.requires.short four, c.requires.sound.shorts, t.shorts.ok.0))
+          (ap (λ n. n + path_start c.args.path c.args.len) number)
+          (begin_whole c.args.path c.args.len t.first c.requires.fits c.requires.short four) (end_whole c.args.path c.args.len t.first c.requires.fits c.requires.short four)
+          c.put_longest.ensures.inside c.put_longest.ensures.below c.put_longest.ensures.above;
       shorts = c.requires.sound.shorts;
       tops = c.put_longest.ensures.len ∙ c.requires.sound.tops;
     }

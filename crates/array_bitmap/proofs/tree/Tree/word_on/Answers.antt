@@ -30,9 +30,14 @@ pub word-requires : goal.word-requires
 word-requires g c =
     let ws = words_of (blocks c.args.self.now.pool c.in_ok-block.block) in
     let set : bit_at (rows_of ws) c.row_bit-bit.result ≡ 1 = ap (λ n. bit_at n c.row_bit-bit.result) (sym c.rows_of-rows.ensures) ∙ c.is_set.ensures.0 c.if-not-is_set.false in
-    omega (arith, c.rank.ensures.value, ap (λ n. rank n c.row_bit-bit.result) c.rows_of-rows.ensures, rank_lt (rows_of ws) c.row_bit-bit.result set,
+    omega (
+      arith,
+      c.rank.ensures.value,
+      ap (λ n. rank n c.row_bit-bit.result) c.rows_of-rows.ensures,
+      rank_lt (rows_of ws) c.row_bit-bit.result set,
       block_holds (blocks c.args.self.now.pool) c.in_ok-block.block
-      (block_is (cells_of c.args.self.now) c.requires.sound.cells c.args.path ((c.args.len - 5) / 5 - c.args.self.now.first) c.in_ok-block.block (sym c.in_ok-block.ensures.block)))
+          (block_is (cells_of c.args.self.now) c.requires.sound.cells c.args.path ((c.args.len - 5) / 5 - c.args.self.now.first) c.in_ok-block.block (sym c.in_ok-block.ensures.block)),
+    )
 
 pub returns-clause-word : goal.returns-clause-word
 returns-clause-word g c =
