@@ -19,6 +19,8 @@ pub mod Stands
 pub mod Arrays
 pub mod ShortSet
 pub mod PrefixRows
+pub mod Batches
+pub mod Refusals
 pub mod EmptyImage
 pub mod Drops
 pub mod Takes

@@ -8,3 +8,4 @@ pub mod Image
 pub mod Removal
 pub mod Cursor
 pub mod Lane
+pub mod Batch

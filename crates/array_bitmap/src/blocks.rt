@@ -1,13 +1,13 @@
 //! Blocks of words: what their words say, and how a word more is put into one.
 
-ghost use Rattle.std.specs.Prelude.{◌≡◌, ◌≢◌, ℕ, ◌+◌, ◌*◌, ◌^◌, ◌<◌, ◌≤◌, bit_and, is_some, true, Option, IfOk, OnOk, OnErr};
+ghost use Rattle.std.specs.Prelude.{◌≡◌, ◌≢◌, ℕ, ◌+◌, ◌*◌, ◌^◌, ◌<◌, ◌≤◌, bit_and, is_some, true, Option, None, IfOk, OnErr};
 ghost use Rattle.std.specs.Int.{bit_at};
 ghost use Rattle.array_bitmap.specs.Bits.{IsHighest};
-ghost use Rattle.array_bitmap.specs.Blocks.{rows_of, kids_of, kid_in, word_after, size_for, IsBlock, IsHead};
+ghost use Rattle.array_bitmap.specs.Blocks.{rows_of, kids_of, row_in, kid_in, word_after, size_for, IsBlock, IsHead};
 ghost use Rattle.array_bitmap.specs.Changes.{Copies, GetsRoom, ShiftsIn, PutsWord, PutsRow, PutsKid, TakesBlank, GetsKid, ShiftsOut, TakesWord, TakesRow, TakesKid};
 ghost use Rattle.array_bitmap.specs.Tree.{words_of};
 ghost use Rattle.word_pool.specs.Heap.{size_of, word_of, SameBlocks, SameOthers};
-ghost use Rattle.word_pool.specs.Pool.{blocks, room};
+ghost use Rattle.word_pool.specs.Pool.{blocks};
 
 use crate::bits::{bit, chosen, count, highest, is_set, rank, size_for, with_bit, without_bit};
 use network_model::NoMemory;
@@ -104,8 +104,7 @@ fn copy_words<A: Allocator>(pool: &mut Pool<A>, from: u32, to: u32, used: usize)
     requires apart { from ≢ to }
     requires enough { used ≤ size_of (blocks pool.old from) }
     requires fits { used ≤ size_of (blocks pool.old to) }
-    ensures copied { Copies (blocks pool.old) (blocks pool.new) from to used }
-    ensures room { room pool.new ≡ room pool.old }
+    ensures { Copies (blocks pool.old) (blocks pool.new) from to used }
 {
     for i in 0..used {
         let word = pool.word(from, i);
@@ -121,8 +120,6 @@ fn with_room<A: Allocator>(pool: &mut Pool<A>, block: u32, used: usize) -> Resul
     requires size { size_of (blocks pool.old block) ≡ size_for used }
     ensures ok { IfOk result (λ place. GetsRoom (blocks pool.old) (blocks pool.new) block place used) }
     ensures err { OnErr result (SameBlocks (blocks pool.old) (blocks pool.new)) }
-    ensures cost { room pool.old ≤ room pool.new + 1 }
-    ensures full { OnErr result (room pool.old ≡ 0) }
 {
     let size = size_for(used);
     if used < size {
@@ -139,8 +136,7 @@ fn shift_in<A: Allocator>(pool: &mut Pool<A>, block: u32, used: usize, at: usize
     requires some { block ≢ 0 }
     requires within { at ≤ used }
     requires fits { used < size_of (blocks pool.old block) }
-    ensures shifted { ShiftsIn (blocks pool.old) (blocks pool.new) block used at word }
-    ensures room { room pool.new ≡ room pool.old }
+    ensures { ShiftsIn (blocks pool.old) (blocks pool.new) block used at word }
 {
     let mut end = used;
     while at < end {
@@ -167,8 +163,6 @@ fn insert<A: Allocator>(
     ensures ok { IfOk result (λ place.
         PutsWord (blocks pool.old) (blocks pool.new) block place used at word) }
     ensures err { OnErr result (SameBlocks (blocks pool.old) (blocks pool.new)) }
-    ensures cost { room pool.old ≤ room pool.new + 1 }
-    ensures full { OnErr result (room pool.old ≡ 0) }
 {
     let place = with_room(pool, block, used)?;
     shift_in(pool, place, used, at, word);
@@ -189,8 +183,9 @@ pub(crate) fn with_row<A: Allocator>(
     ensures ok { IfOk result (λ place.
         PutsRow (blocks pool.old) (blocks pool.new) block place bit word) }
     ensures err { OnErr result (SameBlocks (blocks pool.old) (blocks pool.new)) }
-    ensures cost { room pool.old ≤ room pool.new + 1 }
-    ensures full { OnErr result (room pool.old ≡ 0) }
+
+    // A row that is there is set again without memory.
+    ensures full { OnErr result (row_in (words_of (blocks pool.old block)) bit ≡ None) }
 {
     let rows = rows_of(pool, block);
     let index = HEAD + rank(rows, bit);
@@ -222,8 +217,6 @@ pub(crate) fn with_kid<A: Allocator>(
     ensures ok { IfOk result (λ place.
         PutsKid (blocks pool.old) (blocks pool.new) block place five kid) }
     ensures err { OnErr result (SameBlocks (blocks pool.old) (blocks pool.new)) }
-    ensures cost { room pool.old ≤ room pool.new + 1 }
-    ensures full { OnErr result (room pool.old ≡ 0) }
 {
     let kids = kids_of(pool, block);
     let before = HEAD + count(rows_of(pool, block));
@@ -237,8 +230,6 @@ pub(crate) fn with_kid<A: Allocator>(
 pub(crate) fn blank<A: Allocator>(pool: &mut Pool<A>) -> Result<u32, NoMemory>
     ensures ok { IfOk result (λ place. TakesBlank (blocks pool.old) (blocks pool.new) place) }
     ensures err { OnErr result (SameBlocks (blocks pool.old) (blocks pool.new)) }
-    ensures cost { room pool.old ≤ room pool.new + 1 }
-    ensures full { OnErr result (room pool.old ≡ 0) }
 {
     let place = pool.take(4)?;
     pool.set_word(place, 0, 0);
@@ -268,8 +259,6 @@ pub(crate) fn with_new_kid<A: Allocator>(
     ensures ok { IfOk result (λ made.
         GetsKid (blocks pool.old) (blocks pool.new) block made.place five made.kid) }
     ensures err { OnErr result (SameBlocks (blocks pool.old) (blocks pool.new)) }
-    ensures cost { room pool.old ≤ room pool.new + 2 }
-    ensures full { OnErr result (room pool.old < 2) }
 {
     let kid = blank(pool)?;
     match with_kid(pool, block, five, kid) {
@@ -286,8 +275,7 @@ fn shift_out<A: Allocator>(pool: &mut Pool<A>, block: u32, used: usize, at: usiz
     requires some { block ≢ 0 }
     requires within { at < used }
     requires fits { used ≤ size_of (blocks pool.old block) }
-    ensures shifted { ShiftsOut (blocks pool.old) (blocks pool.new) block used at }
-    ensures room { room pool.new ≡ room pool.old }
+    ensures { ShiftsOut (blocks pool.old) (blocks pool.new) block used at }
 {
     for i in at + 1..used {
         let moved = pool.word(block, i);
@@ -303,8 +291,7 @@ fn take_word<A: Allocator>(pool: &mut Pool<A>, block: u32, used: usize, at: usiz
     requires head { 3 < used }
     requires within { at < used }
     requires size { size_of (blocks pool.old block) ≡ size_for used }
-    ensures taken { TakesWord (blocks pool.old) (blocks pool.new) block used at }
-    ensures room { room pool.new ≡ room pool.old }
+    ensures { TakesWord (blocks pool.old) (blocks pool.new) block used at }
 {
     shift_out(pool, block, used, at);
     let size = size_for(used);
@@ -320,8 +307,7 @@ pub(crate) fn without_row<A: Allocator>(pool: &mut Pool<A>, block: u32, bit: u32
     requires is_block { IsBlock (words_of (blocks pool.old block)) }
     requires small { bit < 62 }
     requires set { bit_at (rows_of (words_of (blocks pool.old block))) bit ≡ 1 }
-    ensures taken { TakesRow (blocks pool.old) (blocks pool.new) block bit }
-    ensures room { room pool.new ≡ room pool.old }
+    ensures { TakesRow (blocks pool.old) (blocks pool.new) block bit }
 {
     let rows = rows_of(pool, block);
     let used = HEAD + count(rows) + count(kids_of(pool, block));
@@ -338,8 +324,7 @@ pub(crate) fn without_kid<A: Allocator>(pool: &mut Pool<A>, block: u32, five: u3
     requires is_block { IsBlock (words_of (blocks pool.old block)) }
     requires small { five < 32 }
     requires set { bit_at (kids_of (words_of (blocks pool.old block))) five ≡ 1 }
-    ensures taken { TakesKid (blocks pool.old) (blocks pool.new) block five }
-    ensures room { room pool.new ≡ room pool.old }
+    ensures { TakesKid (blocks pool.old) (blocks pool.new) block five }
 {
     let kids = kids_of(pool, block);
     let before = HEAD + count(rows_of(pool, block));

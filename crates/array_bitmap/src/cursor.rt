@@ -5,7 +5,8 @@
 //! longer row, so the walk goes on past those addresses.
 
 ghost use Rattle.std.specs.Prelude.{◌≡◌, ℕ, ◌+◌, ◌*◌, ◌-◌, ◌/◌, ◌^◌, ◌≤◌, IfSome, IfOk, IfErr, Some, None, length, ◌<◌};
-ghost use Rattle.ipv4_prefix.specs.Prefix.{Prefix as Block, IsPrefix};
+ghost use Rattle.std.specs.FinMap.{find as row_of};
+ghost use Rattle.ipv4_prefix.specs.Prefix.{Prefix as Block, IsPrefix, prefix_cmp};
 ghost use Rattle.array_bitmap.specs.Cursor.{IsNextPrefix, IsFirstAt, IsFoundAt, IsHeadFrom, none_until, first_row_from};
 ghost use Rattle.array_bitmap.specs.Bits.{depth_of};
 ghost use Rattle.array_bitmap.specs.Words.{shown};
@@ -129,6 +130,21 @@ impl<A: Allocator> Tree<A> {
             return Ok(NOTHING);
         }
         Ok(self.pool.word(block, HEAD + rank(rows, bit)))
+    }
+
+    /// The entry of a prefix's row, if the prefix has one.
+    pub(crate) fn row(&self, prefix: Prefix) -> Option<Entry>
+        requires { IsSoundTree self.now }
+        ensures { result ≡ row_of prefix_cmp prefix (rows_in self.now) }
+    {
+        let word = match self.word_on(path_of(prefix.addr()), u32::from(prefix.len())) {
+            Ok(word) => word,
+            Err(_end) => return None,
+        };
+        if word == NOTHING {
+            return None;
+        }
+        Some(entry_of(word))
     }
 
     /// What the tree has at a prefix.

@@ -18,6 +18,8 @@ use std::marker::Model;
 pub struct Image<A: Allocator = Global> {
     pub(crate) tree: Tree<A>,
     pub(crate) generation: u64,
+    // What the prefixes of a call's rows had before; empty between calls.
+    pub(crate) notes: Vec<Option<Entry>, A>,
 }
 
 impl<A: Allocator> Model for Image<A> {

@@ -30,6 +30,8 @@
 //!   that it covers and that has no longer one.
 //! - A longer row is set from the array down. A block that is missing is made. A block that is full
 //!   moves to one of twice the size, and its one name, in the array or in the block above, is written.
+//! - Many rows are set one after another. Where one is refused, what each prefix had before is put back,
+//!   the last first. That needs no memory, so no room has to be made before.
 //! - A row is taken out where it ends. A block whose words fit into its lower half gives the upper half
 //!   back, so this needs no memory. From there up, each block that is left with no row and no kid is
 //!   given back, up to the first that has some.
@@ -46,6 +48,7 @@
 //! (`IsSound` in `specs/Tree.antt`). Contracts see an image as its rows and its generation, and no word.
 #![tactic(auto)]
 
+mod batch;
 mod bits;
 mod blocks;
 mod cursor;

@@ -1,11 +1,12 @@
 //! What those need who make images, or change them.
 
-ghost use Rattle.std.specs.Prelude.{◌≡◌, ◌<◌, ◌≤◌, [], length, IfOk, OnOk, OnErr, is_some};
+ghost use Rattle.std.specs.Prelude.{◌≡◌, ◌<◌, ◌≤◌, [], None, length, IfOk, OnOk, OnErr, is_some};
 ghost use Rattle.std.specs.FinMap.{put, find as row_of};
 ghost use Rattle.ipv4_prefix.specs.Prefix.{prefix_cmp};
 ghost use Rattle.array_bitmap.specs.Removal.{without_row};
 ghost use Rattle.network_model.specs.Publication.{with_rows};
 
+use crate::batch::set_all;
 use crate::image::Image;
 use crate::tree::Tree;
 use network_model::{Entry, NoMemory, Prefix};
@@ -55,6 +56,7 @@ pub fn with<A: Allocator + Copy>(alloc: A, bits: FirstBits) -> Result<Image<A>, 
     Ok(Image {
         tree: Tree::new(alloc, bits.level())?,
         generation: 0,
+        notes: Vec::new(alloc),
     })
 }
 
@@ -73,10 +75,11 @@ pub fn copy<A: Allocator + Copy>(image: &Image<A>, alloc: A) -> Result<Image<A>,
     Ok(Image {
         tree: image.tree.copy(alloc)?,
         generation: image.generation,
+        notes: Vec::new(alloc),
     })
 }
 
-/// Sets the row of a prefix.
+/// Sets the row of a prefix. It needs no memory where the prefix has a row.
 pub fn set_row<A: Allocator>(
     image: &mut Image<A>,
     prefix: Prefix,
@@ -85,11 +88,14 @@ pub fn set_row<A: Allocator>(
     ensures ok { OnOk result (image.new
         ≡ record image.old { rows = put prefix_cmp prefix entry image.old.rows }) }
     ensures err { OnErr result (image.new ≡ image.old) }
+    ensures full { OnErr result (row_of prefix_cmp prefix image.old.rows ≡ None) }
 {
     image.tree.set_row(prefix, entry)
 }
 
-/// Sets rows in order. All room is made before the first is set, so a refused call changes nothing.
+/// Sets rows in order. Where one is refused, those before it are taken back, so a refused call changes
+/// nothing. A call with more than one row notes what their prefixes had, in 6 bytes for each row but the
+/// last, and gives that memory back. A call with one row takes no longer than `set_row`.
 pub fn set_rows<A: Allocator>(
     image: &mut Image<A>,
     rows: &[(Prefix, Entry)],
@@ -101,8 +107,10 @@ pub fn set_rows<A: Allocator>(
     // No rows take no memory.
     ensures full { OnErr result (0 < length rows.now) }
 {
-    image.tree.reserve(rows.len())?;
-    image.tree.set_rows(rows)
+    let done = set_all(&mut image.tree, rows, &mut image.notes);
+    image.notes.clear();
+    image.notes.shrink_to_fit();
+    done
 }
 
 /// Says which publication the image is.

@@ -1,6 +1,6 @@
 //! The words of an image: arrays on the first bits of addresses, and blocks below them.
 
-ghost use Rattle.std.specs.Prelude.{◌≡◌, ◌≢◌, ℕ, ◌+◌, ◌-◌, ◌*◌, ◌^◌, ◌<◌, ◌≤◌, min, ◌==◌, vec_len, length, replicate, [], cond, nat_le, is_some, true, Option, Some, None, MatchOption, IfOk, OnOk, OnErr};
+ghost use Rattle.std.specs.Prelude.{◌≡◌, ◌≢◌, ℕ, ◌+◌, ◌-◌, ◌*◌, ◌^◌, ◌<◌, ◌≤◌, min, ◌==◌, vec_len, replicate, [], cond, nat_le, is_some, true, Option, Some, None, MatchOption, IfOk, OnOk, OnErr};
 ghost use Rattle.std.specs.Int.{bit_at};
 ghost use Rattle.array_bitmap.specs.Bits.{depth_of, path_start};
 ghost use Rattle.array_bitmap.specs.Words.{found, len_of};
@@ -14,8 +14,7 @@ ghost use Rattle.std.specs.FinMap.{put, find as row_of};
 ghost use Rattle.array_bitmap.specs.Removal.{without_row};
 ghost use Rattle.ipv4_prefix.specs.Prefix.{prefix_cmp};
 ghost use Rattle.ipv4_prefix.specs.LongestMatch.{longest_match};
-ghost use Rattle.network_model.specs.Publication.{with_rows};
-ghost use Rattle.word_pool.specs.Pool.{blocks, capacity, room};
+ghost use Rattle.word_pool.specs.Pool.{blocks, capacity};
 
 use crate::bits::{count, covers, five_bits, is_set, path_of, rank, row_bit};
 use crate::blocks::{
@@ -190,7 +189,6 @@ impl<A: Allocator> Tree<A> {
         ensures first { self.new.first ≡ self.old.first }
         ensures shorts { vec_len self.new.shorts ≡ vec_len self.old.shorts }
         ensures tops { vec_len self.new.tops ≡ vec_len self.old.tops }
-        ensures room { room self.new.pool ≡ room self.old.pool }
     {
         if holder == 0 {
             self.tops[index as usize].block = place;
@@ -223,8 +221,8 @@ impl<A: Allocator> Tree<A> {
             path (depth_of level + (more + 1)) (Some word)) }
         ensures err { OnErr result ((q : ℕ) → (m : ℕ)
             → word_at (cells_of self.new) q m ≡ word_at (cells_of self.old) q m) }
-        ensures cost { room self.old.pool ≤ room self.new.pool + 1 }
-        ensures full { OnErr result (room self.old.pool < 1) }
+        ensures full { OnErr result
+            (word_at (cells_of self.old) path (depth_of level + (more + 1)) ≡ None) }
     {
         let bit = row_bit(five_bits(path, level), more);
         let place = with_row(&mut self.pool, stand.block, bit, word)?;
@@ -245,8 +243,8 @@ impl<A: Allocator> Tree<A> {
             IsStand (cells_of self.new) path (level + 1 - self.new.first) next) }
         ensures same { (q : ℕ) → (m : ℕ)
             → word_at (cells_of self.new) q m ≡ word_at (cells_of self.old) q m }
-        ensures cost { room self.old.pool ≤ room self.new.pool + 2 }
-        ensures full { OnErr result (room self.old.pool < 2) }
+        ensures full { OnErr result
+            (block_at (cells_of self.old) path (level + 1 - self.old.first) ≡ 0) }
     {
         let five = five_bits(path, level);
         let kid = kid_of(&self.pool, stand.block, five);
@@ -275,8 +273,7 @@ impl<A: Allocator> Tree<A> {
         ensures ok { IfOk result (λ stand. IsStand (cells_of self.new) path 0 stand) }
         ensures same { (q : ℕ) → (m : ℕ)
             → word_at (cells_of self.new) q m ≡ word_at (cells_of self.old) q m }
-        ensures cost { room self.old.pool ≤ room self.new.pool + 1 }
-        ensures full { OnErr result (room self.old.pool < 1) }
+        ensures full { OnErr result (block_at (cells_of self.old) path 0 ≡ 0) }
     {
         let index = (path >> (30 - 5 * self.first)) as u32;
         let top = self.top(path);
@@ -309,8 +306,7 @@ impl<A: Allocator> Tree<A> {
             path len (Some word)) }
         ensures err { OnErr result ((q : ℕ) → (m : ℕ)
             → word_at (cells_of self.new) q m ≡ word_at (cells_of self.old) q m) }
-        ensures cost { room self.old.pool ≤ room self.new.pool + 12 }
-        ensures full { OnErr result (room self.old.pool < 12) }
+        ensures full { OnErr result (word_at (cells_of self.old) path len ≡ None) }
     {
         let level = (len - 5) / 5;
         let mut stand = self.first_stand(path)?;
@@ -330,7 +326,6 @@ impl<A: Allocator> Tree<A> {
         ensures first { self.new.first ≡ self.old.first }
         ensures sets { SetsWord (word_at (cells_of self.old)) (word_at (cells_of self.new))
             path len (Some word) }
-        ensures room { room self.new.pool ≡ room self.old.pool }
     {
         let start = (path >> (34 - len)) as usize;
         let host = 4 + 5 * self.first - len;
@@ -355,8 +350,7 @@ impl<A: Allocator> Tree<A> {
             path len (Some word)) }
         ensures err { OnErr result ((q : ℕ) → (m : ℕ)
             → word_at (cells_of self.new) q m ≡ word_at (cells_of self.old) q m) }
-        ensures cost { room self.old.pool ≤ room self.new.pool + 12 }
-        ensures full { OnErr result (room self.old.pool < 12) }
+        ensures full { OnErr result (word_at (cells_of self.old) path len ≡ None) }
     {
         if len <= 4 + 5 * self.first {
             self.set_short(path, len, word);
@@ -365,15 +359,14 @@ impl<A: Allocator> Tree<A> {
         self.set_long(path, len, word)
     }
 
-    /// Sets the row of a prefix. It needs no memory where the pool has room for 12 takes.
+    /// Sets the row of a prefix. It needs no memory where the prefix has a row.
     pub fn set_row(&mut self, prefix: Prefix, entry: Entry) -> Result<(), NoMemory>
         requires { IsSoundTree self.old }
         ensures sound { IsSoundTree self.new }
         ensures ok { OnOk result (rows_in self.new
             ≡ put prefix_cmp prefix entry (rows_in self.old)) }
         ensures err { OnErr result (rows_in self.new ≡ rows_in self.old) }
-        ensures cost { room self.old.pool ≤ room self.new.pool + 12 }
-        ensures full { OnErr result (room self.old.pool < 12) }
+        ensures full { OnErr result (row_of prefix_cmp prefix (rows_in self.old) ≡ None) }
     {
         let word = word_of(prefix.len(), entry);
         self.set(path_of(prefix.addr()), u32::from(prefix.len()), word)
@@ -385,30 +378,6 @@ impl<A: Allocator> Tree<A> {
         ensures { result ≡ 2 ^ depth_of self.now.first * 16 + 4 * capacity self.now.pool }
     {
         (16 << (4 + 5 * self.first)) + self.pool.bytes()
-    }
-
-    /// Makes room for setting `count` rows.
-    pub fn reserve(&mut self, count: usize) -> Result<(), NoMemory>
-        requires sound { IsSoundTree self.old }
-        ensures sound { IsSoundTree self.new }
-        ensures rows { rows_in self.new ≡ rows_in self.old }
-        ensures ok { OnOk result (12 * count ≤ room self.new.pool) }
-        ensures full { OnErr result (room self.old.pool < 12 * count) }
-    {
-        self.pool.reserve(count.saturating_mul(12))
-    }
-
-    /// Sets rows in order. It needs no memory where the pool has room for 12 takes a row.
-    pub fn set_rows(&mut self, rows: &[(Prefix, Entry)]) -> Result<(), NoMemory>
-        requires { IsSoundTree self.old }
-        ensures sound { IsSoundTree self.new }
-        ensures ok { OnOk result (rows_in self.new ≡ with_rows rows.now (rows_in self.old)) }
-        ensures full { OnErr result (room self.old.pool < 12 * length rows.now) }
-    {
-        for &(prefix, entry) in rows {
-            self.set_row(prefix, entry)?;
-        }
-        Ok(())
     }
 
     /// Of the rows whose prefix covers the address, the one with the longest prefix.
@@ -475,7 +444,6 @@ impl<A: Allocator> Tree<A> {
         ensures first { self.new.first ≡ self.old.first }
         ensures shorts { vec_len self.new.shorts ≡ vec_len self.old.shorts }
         ensures tops { vec_len self.new.tops ≡ vec_len self.old.tops }
-        ensures room { room self.new.pool ≡ room self.old.pool }
     {
         if holder == 0 {
             self.tops[index as usize].block = 0;
@@ -495,7 +463,6 @@ impl<A: Allocator> Tree<A> {
         ensures first { self.new.first ≡ self.old.first }
         ensures same { (q : ℕ) → (m : ℕ)
             → word_at (cells_of self.new) q m ≡ word_at (cells_of self.old) q m }
-        ensures room { room self.new.pool ≡ room self.old.pool }
     {
         let Some(stand) = self.stand_on(path, level) else {
             return false;
@@ -518,7 +485,6 @@ impl<A: Allocator> Tree<A> {
         ensures first { self.new.first ≡ self.old.first }
         ensures same { (q : ℕ) → (m : ℕ)
             → word_at (cells_of self.new) q m ≡ word_at (cells_of self.old) q m }
-        ensures room { room self.new.pool ≡ room self.old.pool }
     {
         let first = self.first;
         for up in 0..level + 1 - first {
@@ -539,7 +505,6 @@ impl<A: Allocator> Tree<A> {
         ensures first { self.new.first ≡ self.old.first }
         ensures gone { SetsWord (word_at (cells_of self.old)) (word_at (cells_of self.new)) path len None }
         ensures found { result ≡ is_some (word_at (cells_of self.old) path len) }
-        ensures room { room self.new.pool ≡ room self.old.pool }
     {
         let level = (len - 5) / 5;
         let Some(stand) = self.stand_on(path, level) else {
@@ -581,7 +546,6 @@ impl<A: Allocator> Tree<A> {
         ensures sound { IsSoundTree self.new }
         ensures gone { SetsWord (word_at (cells_of self.old)) (word_at (cells_of self.new)) path len None }
         ensures found { result ≡ is_some (word_at (cells_of self.old) path len) }
-        ensures room { room self.new.pool ≡ room self.old.pool }
     {
         let start = (path >> (34 - len)) as usize;
         let number = (1 << len) + start;
@@ -609,7 +573,6 @@ impl<A: Allocator> Tree<A> {
         ensures sound { IsSoundTree self.new }
         ensures gone { SetsWord (word_at (cells_of self.old)) (word_at (cells_of self.new)) path len None }
         ensures found { result ≡ is_some (word_at (cells_of self.old) path len) }
-        ensures room { room self.new.pool ≡ room self.old.pool }
     {
         if len <= 4 + 5 * self.first {
             return self.remove_short(path, len);
@@ -624,7 +587,6 @@ impl<A: Allocator> Tree<A> {
         ensures sound { IsSoundTree self.new }
         ensures rows { rows_in self.new ≡ without_row prefix (rows_in self.old) }
         ensures found { result ≡ is_some (row_of prefix_cmp prefix (rows_in self.old)) }
-        ensures room { room self.new.pool ≡ room self.old.pool }
     {
         self.remove(path_of(prefix.addr()), u32::from(prefix.len()))
     }

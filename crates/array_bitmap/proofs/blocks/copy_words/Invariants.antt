@@ -1,10 +1,7 @@
 use Rattle.std.proofs.Common.{◌≡◌, ◌<◌, ℕ}
-use Rattle.word_pool.specs.Pool.{blocks, room}
+use Rattle.word_pool.specs.Pool.{blocks}
 use Rattle.array_bitmap.specs.Changes.{Copies}
 use Rattle.array_bitmap.proofs.blocks.copy_words.Given as goal
 
 abbrev pub invariant-loop-i : goal.invariant-loop-i
-invariant-loop-i g l = record {
-  copied : Copies (blocks l.fn.pool) (blocks l.pool) l.from l.to l.i;
-  room : room l.pool ≡ room l.fn.pool;
-}
+invariant-loop-i g l = Copies (blocks l.fn.pool) (blocks l.pool) l.from l.to l.i

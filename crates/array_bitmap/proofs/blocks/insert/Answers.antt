@@ -11,4 +11,4 @@ shift_in-requires-clause-fits g c =
 pub returns-clause-ok : goal.returns-clause-ok
 returns-clause-ok g c =
     word_put (blocks c.args.pool.now) (blocks c.with_room.new.pool) (blocks c.shift_in.new.pool) c.args.block c.in_ok-place.place c.args.used c.args.at c.args.word
-    c.requires.within c.in_ok-place.ensures.ok c.shift_in.ensures.shifted
+    c.requires.within c.in_ok-place.ensures.ok c.shift_in.ensures

@@ -1,13 +1,12 @@
 use Rattle.std.proofs.Common.{◌≡◌, ◌<◌, ◌≤◌, ◌+◌, ◌-◌, ℕ}
 use Rattle.word_pool.specs.Heap.{size_of, word_of, SameOthers}
-use Rattle.word_pool.specs.Pool.{blocks, room}
+use Rattle.word_pool.specs.Pool.{blocks}
 use Rattle.array_bitmap.proofs.blocks.shift_in.Given as goal
 
 abbrev pub invariant-loop-end : goal.invariant-loop-end
 invariant-loop-end g l = record {
   low : l.at ≤ l.end;
   high : l.end ≤ l.used;
-  room : room l.pool ≡ room l.fn.pool;
   others : SameOthers (blocks l.fn.pool) (blocks l.pool) l.block;
   size : size_of (blocks l.pool l.block) ≡ size_of (blocks l.fn.pool l.block);
   before : (i : ℕ) → i ≤ l.end → word_of (blocks l.pool l.block) i ≡ word_of (blocks l.fn.pool l.block) i;

@@ -1,11 +1,10 @@
 use Rattle.std.proofs.Common.{◌≡◌, ◌<◌, ◌≤◌, ◌+◌, ◌-◌, ℕ}
 use Rattle.word_pool.specs.Heap.{size_of, word_of, SameOthers}
-use Rattle.word_pool.specs.Pool.{blocks, room}
+use Rattle.word_pool.specs.Pool.{blocks}
 use Rattle.array_bitmap.proofs.blocks.shift_out.Given as goal
 
 abbrev pub invariant-loop-i : goal.invariant-loop-i
 invariant-loop-i g l = record {
-  room : room l.pool ≡ room l.fn.pool;
   others : SameOthers (blocks l.fn.pool) (blocks l.pool) l.block;
   size : size_of (blocks l.pool l.block) ≡ size_of (blocks l.fn.pool l.block);
   low : (i : ℕ) → i < l.at → word_of (blocks l.pool l.block) i ≡ word_of (blocks l.fn.pool l.block) i;

@@ -15,12 +15,12 @@ halve-requires-clause-large g c =
     let halved = size_halved c.args.used (omega (arith, c.requires.head)) c.requires.few (omega (arith, c.if-size_for-size.true, c.size_for-size.ensures, c.size_for.ensures)) in
     omega (arith, halved.1, c.size_for-size.ensures)
 
-pub returns-then-size_for-size-clause-taken : goal.returns-then-size_for-size-clause-taken
-returns-then-size_for-size-clause-taken g c =
+pub returns-then-size_for-size : goal.returns-then-size_for-size
+returns-then-size_for-size g c =
     word_taken_half (blocks c.args.pool.now) (blocks c.shift_out.new.pool) (blocks c.halve.new.self) c.args.block c.args.used c.args.at c.size_for-size.result
-    c.requires.head c.requires.few c.requires.within c.size_for-size.ensures c.requires.size (omega (arith, c.if-size_for-size.true, c.size_for-size.ensures, c.size_for.ensures)) c.shift_out.ensures.shifted c.halve.ensures.shortened
+    c.requires.head c.requires.few c.requires.within c.size_for-size.ensures c.requires.size (omega (arith, c.if-size_for-size.true, c.size_for-size.ensures, c.size_for.ensures)) c.shift_out.ensures c.halve.ensures.shortened
 
-pub returns-else-size_for-size-clause-taken : goal.returns-else-size_for-size-clause-taken
-returns-else-size_for-size-clause-taken g c =
+pub returns-else-size_for-size : goal.returns-else-size_for-size
+returns-else-size_for-size g c =
     word_taken (blocks c.args.pool.now) (blocks c.shift_out.new.pool) c.args.block c.args.used c.args.at
-    c.requires.head c.requires.few c.requires.size (omega (arith, c.if-size_for-size.false, c.size_for-size.ensures, c.size_for.ensures)) c.shift_out.ensures.shifted
+    c.requires.head c.requires.few c.requires.size (omega (arith, c.if-size_for-size.false, c.size_for-size.ensures, c.size_for.ensures)) c.shift_out.ensures

@@ -37,4 +37,4 @@ returns-clause-ok g c =
     room_made (blocks c.args.pool.now) (blocks c.take.new.self) (blocks c.copy_words.new.pool) (blocks c.give.new.self) c.args.block c.in_ok-wider.wider c.args.used c.size_for-size.result
     c.requires.few c.size_for-size.ensures c.if-used-size.false
     (there (blocks c.args.pool.now c.args.block) (omega (arith, c.requires.size, size_least c.args.used (omega (arith, c.requires.few)))))
-    c.in_ok-wider.ensures.ok c.copy_words.ensures.copied c.give.ensures.given
+    c.in_ok-wider.ensures.ok c.copy_words.ensures c.give.ensures.given

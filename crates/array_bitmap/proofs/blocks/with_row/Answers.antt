@@ -6,6 +6,8 @@ use Rattle.word_pool.specs.Pool.{blocks}
 use Rattle.array_bitmap.specs.Bits.{rank}
 use Rattle.array_bitmap.specs.Blocks.{rows_of, kids_of, size_for, used_words, IsBlock}
 use Rattle.array_bitmap.specs.Tree.{words_of}
+use Rattle.array_bitmap.proofs.Covering.{row-clear}
+use Rattle.array_bitmap.proofs.Refusals.{refused}
 use Rattle.array_bitmap.proofs.Ranks.{rank_lt, rank_le}
 use Rattle.array_bitmap.proofs.PoolWords.{block_head, block_holds, block_size, few_rows, all_kids, clear_bit, size_least, written_size}
 use Rattle.array_bitmap.proofs.Puts.{row_over, row_new}
@@ -50,6 +52,11 @@ insert-requires-clause-few g c =
 
 pub insert-requires-clause-within : goal.insert-requires-clause-within
 insert-requires-clause-within g c = omega (arith, c.rank-index.ensures.value, c.count.ensures.value, rank_le c.rows_of-rows.result c.args.bit)
+
+pub returns-in_err-place-clause-full : goal.returns-in_err-place-clause-full
+returns-in_err-place-clause-full g c =
+    refused c.from_residual.result (row-clear (words_of (blocks c.args.pool.now c.args.block)) c.args.bit
+    (λ h. both_ways c.is_set.result c.if-is_set.false (c.is_set.ensures.1 (ap (λ n. bit_at n c.args.bit) c.rows_of-rows.ensures ∙ h))))
 
 -- the block is there, and has its first words
 head : (used size n : ℕ) → used ≤ 96 → size ≡ size_for (used + 1) → n < 4 → n < size

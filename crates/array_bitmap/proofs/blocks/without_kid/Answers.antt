@@ -32,11 +32,11 @@ pub set_word-requires-clause-inside : goal.set_word-requires-clause-inside
 set_word-requires-clause-inside g c =
     let few : 3 + c.count-before.result + c.count.result ≤ 97 =
     omega (arith, c.count-before.ensures.value, c.count.ensures.value, ap count_ones c.rows_of.ensures, ap count_ones c.kids_of-kids.ensures.value, few_words (blocks c.args.pool.now) c.args.block c.requires.is_block) in
-    let size = c.take_word.ensures.taken.size in
+    let size = c.take_word.ensures.size in
     omega (arith, size, size_least (3 + c.count-before.result + c.count.result - 1) (omega (arith, few)))
 
-pub returns-clause-taken : goal.returns-clause-taken
-returns-clause-taken g c =
+pub returns : goal.returns
+returns g c =
     let old = blocks c.args.pool.now in
     let ws = words_of (blocks c.args.pool.now c.args.block) in
     let used : 3 + c.count-before.result + c.count.result ≡ used_words ws = omega (arith, c.count-before.ensures.value, c.count.ensures.value, ap count_ones c.rows_of.ensures, ap count_ones c.kids_of-kids.ensures.value) in
@@ -46,4 +46,4 @@ returns-clause-taken g c =
     omega (arith, c.count-before.ensures.value, ap count_ones c.rows_of.ensures, c.rank.ensures.value, ap (λ n. rank n c.args.five) c.kids_of-kids.ensures.value) in
     kid_taken old (blocks c.take_word.new.pool) (blocks c.set_word.new.self) c.args.block c.args.five
     (3 + c.count-before.result + c.count.result) (3 + c.count-before.result + c.rank.result) c.without_bit.result
-    c.requires.is_block c.requires.some c.without_bit.ensures.clear least few used index (sym c.kids_of-kids.ensures.value ∙ c.without_bit.ensures.rest) c.take_word.ensures.taken c.set_word.ensures.written
+    c.requires.is_block c.requires.some c.without_bit.ensures.clear least few used index (sym c.kids_of-kids.ensures.value ∙ c.without_bit.ensures.rest) c.take_word.ensures c.set_word.ensures.written

@@ -36,17 +36,17 @@ pub set_word-requires-clause-inside : goal.set_word-requires-clause-inside
 set_word-requires-clause-inside g c =
     let few : 3 + c.count.result + c.count-2.result ≤ 97 =
     omega (arith, c.count.ensures.value, c.count-2.ensures.value, ap count_ones c.rows_of-rows.ensures, ap count_ones c.kids_of.ensures.value, few_words (blocks c.args.pool.now) c.args.block c.requires.is_block) in
-    head (3 + c.count.result + c.count-2.result) (size_of (blocks c.take_word.new.pool c.args.block)) 0 few c.take_word.ensures.taken.size (omega arith)
+    head (3 + c.count.result + c.count-2.result) (size_of (blocks c.take_word.new.pool c.args.block)) 0 few c.take_word.ensures.size (omega arith)
 
 pub set_word-requires-2-clause-inside : goal.set_word-requires-2-clause-inside
 set_word-requires-2-clause-inside g c =
     let few : 3 + c.count.result + c.count-2.result ≤ 97 =
     omega (arith, c.count.ensures.value, c.count-2.ensures.value, ap count_ones c.rows_of-rows.ensures, ap count_ones c.kids_of.ensures.value, few_words (blocks c.args.pool.now) c.args.block c.requires.is_block) in
     head (3 + c.count.result + c.count-2.result) (size_of (blocks c.set_word.new.self c.args.block)) 1 few
-    (written_size (blocks c.take_word.new.pool) (blocks c.set_word.new.self) c.args.block 0 (c.without_bit-rows.result % 4294967296) c.set_word.ensures.written ∙ c.take_word.ensures.taken.size) (omega arith)
+    (written_size (blocks c.take_word.new.pool) (blocks c.set_word.new.self) c.args.block 0 (c.without_bit-rows.result % 4294967296) c.set_word.ensures.written ∙ c.take_word.ensures.size) (omega arith)
 
-pub returns-clause-taken : goal.returns-clause-taken
-returns-clause-taken g c =
+pub returns : goal.returns
+returns g c =
     let old = blocks c.args.pool.now in
     let ws = words_of (blocks c.args.pool.now c.args.block) in
     let used : 3 + c.count.result + c.count-2.result ≡ used_words ws = omega (arith, c.count.ensures.value, c.count-2.ensures.value, ap count_ones c.rows_of-rows.ensures, ap count_ones c.kids_of.ensures.value) in
@@ -55,4 +55,4 @@ returns-clause-taken g c =
     row_taken old (blocks c.take_word.new.pool) (blocks c.set_word.new.self) (blocks c.set_word-2.new.self) c.args.block c.args.bit
     (3 + c.count.result + c.count-2.result) (3 + c.rank.result) c.without_bit-rows.result (c.without_bit-rows.result % 4294967296) (c.without_bit-rows.result / 4294967296)
     c.requires.is_block c.requires.some c.without_bit-rows.ensures.clear least few used (ap (λ r. 3 + r) (c.rank.ensures.value ∙ ap (λ n. rank n c.args.bit) c.rows_of-rows.ensures))
-    (sym c.rows_of-rows.ensures ∙ c.without_bit-rows.ensures.rest) refl refl c.take_word.ensures.taken c.set_word.ensures.written c.set_word-2.ensures.written
+    (sym c.rows_of-rows.ensures ∙ c.without_bit-rows.ensures.rest) refl refl c.take_word.ensures c.set_word.ensures.written c.set_word-2.ensures.written

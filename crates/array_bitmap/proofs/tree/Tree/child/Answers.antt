@@ -3,6 +3,8 @@ use Rattle.word_pool.specs.Pool.{blocks}
 use Rattle.array_bitmap.specs.Bits.{depth_of}
 use Rattle.array_bitmap.specs.Tree.{words_of, word_at, IsSound}
 use Rattle.array_bitmap.specs.Image.{cells_of, IsSoundTree}
+use Rattle.array_bitmap.proofs.Lookups.{next_block}
+use Rattle.array_bitmap.proofs.Refusals.{refused}
 use Rattle.array_bitmap.proofs.Stands.{holder_index, same_cells, kid_stand, kid_holder_block, kid_holder_bit, kid_put_words, kid_put_sound, kid_put_stand}
 use Rattle.array_bitmap.proofs.tree.Tree.child.Goals as goal
 
@@ -17,6 +19,12 @@ returns-in_err-made-clause-sound g c = record {
   shorts = c.requires.sound.shorts;
   tops = c.requires.sound.tops;
 }
+
+pub returns-in_err-made-clause-full : goal.returns-in_err-made-clause-full
+returns-in_err-made-clause-full g c =
+    refused c.from_residual.result
+    (sym (next_block (cells_of c.args.self.now) c.args.path c.args.level c.five_bits-five.result c.args.stand.block c.kid_of-kid.result c.requires.low (sym c.requires.stand.at) c.five_bits-five.ensures.value c.kid_of-kid.ensures)
+    ∙ c.if-kid-ne0.false)
 
 pub rename-requires-clause-is_block : goal.rename-requires-clause-is_block
 rename-requires-clause-is_block g c =

@@ -1,5 +1,4 @@
 use Rattle.std.proofs.Common.{ℕ, ◌≡◌}
-use Rattle.word_pool.specs.Pool.{room}
 use Rattle.array_bitmap.specs.Tree.{word_at}
 use Rattle.array_bitmap.specs.Image.{cells_of, IsSoundTree}
 use Rattle.array_bitmap.proofs.tree.Tree.prune.Given as goal
@@ -9,5 +8,4 @@ invariant-loop-up g l = record {
   sound : IsSoundTree l.self;
   first : (l.self).first ≡ l.fn.self.first;
   same : (q m : ℕ) → word_at (cells_of l.self) q m ≡ word_at (cells_of l.fn.self) q m;
-  room : room (l.self).pool ≡ room l.fn.self.pool;
 }

@@ -1,9 +1,11 @@
 use Rattle.std.proofs.Common.{◌≡◌, ◌≢◌, ◌+◌, ◌-◌, ◌≤◌, ◌<◌, ◌*◌, ◌^◌, ℕ, arith, ap, sym, subst, ◌∙◌}
 use Rattle.word_pool.specs.Pool.{blocks}
 use Rattle.array_bitmap.specs.Bits.{depth_of, five_bits, row_bit}
-use Rattle.array_bitmap.specs.Tree.{words_of, IsSound}
+use Rattle.array_bitmap.specs.Blocks.{row_in}
+use Rattle.array_bitmap.specs.Tree.{words_of, words_at, IsSound}
 use Rattle.array_bitmap.specs.Image.{cells_of, IsSoundTree}
-use Rattle.array_bitmap.proofs.Stands.{block_there, stand_is, holder_stays_block, holder_stays_bit, holder_index, put_sets, put_sound, same_cells}
+use Rattle.array_bitmap.proofs.Refusals.{refused}
+use Rattle.array_bitmap.proofs.Stands.{block_there, stand_is, holder_stays_block, holder_stays_bit, holder_index, put_sets, put_sound, same_cells, word_of_stand}
 use Rattle.array_bitmap.proofs.tree.Tree.put_row.Goals as goal
 
 -- the bit, by the path
@@ -30,6 +32,13 @@ returns-in_err-place-clause-sound g c = record {
   shorts = c.requires.sound.shorts;
   tops = c.requires.sound.tops;
 }
+
+pub returns-in_err-place-clause-full : goal.returns-in_err-place-clause-full
+returns-in_err-place-clause-full g c =
+    let bit = bit_is c.args.path c.args.level c.args.more c.five_bits.result c.row_bit-bit.result c.five_bits.ensures.value c.row_bit-bit.ensures.value in
+    refused c.from_residual.result
+    (word_of_stand (cells_of c.args.self.now) c.args.path c.args.level c.args.more c.args.stand.block c.requires.low c.requires.few c.requires.stand.at
+    ∙ ap (row_in (words_at (cells_of c.args.self.now) c.args.stand.block)) (sym bit) ∙ c.in_err-place.ensures.full)
 
 pub returns-clause-sound : goal.returns-clause-sound
 returns-clause-sound g c = record {

@@ -7,17 +7,15 @@ use Rattle.array_bitmap.specs.Blocks.{rows_of, row_index, row_in}
 use Rattle.array_bitmap.specs.Tree.{Cells, words_of, words_at, block_at, word_at, IsSound}
 use Rattle.array_bitmap.specs.Image.{cells_of, IsSoundTree}
 use Rattle.array_bitmap.proofs.Covering.{row-set, row-clear}
-use Rattle.array_bitmap.proofs.Walks.{row-nowhere}
 use Rattle.array_bitmap.proofs.PoolWords.{block_head}
 use Rattle.array_bitmap.proofs.SetsWords.{sets_to}
+use Rattle.array_bitmap.proofs.Refusals.{no_word_below}
 use Rattle.array_bitmap.proofs.Stands.{stand_is, word_of_len, nothing_to_take, out_sets, out_sound}
 use Rattle.array_bitmap.proofs.tree.Tree.remove_long.Goals as goal
 
 -- where there is no block, a path has no long word
 none_here : (c : Cells) (sound : IsSound c) (path len : ℕ) → depth_of c.first < len → block_at c path ((len - 5) / 5 - c.first) ≡ 0 → word_at c path len ≡ None
-none_here c sound path len long at =
-    word_of_len c path len 0 (five_bits path ((len - 5) / 5)) (row_bit (five_bits path ((len - 5) / 5)) ((len - 5) % 5)) long at (λ i. five_bits path ((len - 5) / 5)) (λ i. row_bit (five_bits path ((len - 5) / 5)) ((len - 5) % 5))
-    ∙ row-nowhere c sound.nowhere (row_bit (five_bits path ((len - 5) / 5)) ((len - 5) % 5))
+none_here c sound path len long none = no_word_below c sound path len ((len - 5) / 5) (omega (arith, long)) (omega (arith, long)) none
 
 pub returns-in_default-clause-gone : goal.returns-in_default-clause-gone
 returns-in_default-clause-gone g c =
@@ -49,7 +47,7 @@ returns-then-not-is_set-clause-found g c =
 pub prune-requires-clause-sound : goal.prune-requires-clause-sound
 prune-requires-clause-sound g c = record {
   cells = out_sound (cells_of c.args.self.now) (blocks c.without_row.new.pool) c.requires.sound.cells c.args.path ((c.args.len - 5) / 5) ((c.args.len - 5) % 5) c.row_bit-bit.result c.in-Some.stand
-      (omega (arith, c.requires.long)) (omega (arith, c.requires.short)) (omega arith) c.in-Some.ensures (c.row_bit-bit.ensures.value ∙ ap (λ v. row_bit v ((c.args.len - 5) % 5)) c.five_bits.ensures.value) c.without_row.ensures.taken;
+      (omega (arith, c.requires.long)) (omega (arith, c.requires.short)) (omega arith) c.in-Some.ensures (c.row_bit-bit.ensures.value ∙ ap (λ v. row_bit v ((c.args.len - 5) % 5)) c.five_bits.ensures.value) c.without_row.ensures;
   shorts = c.requires.sound.shorts;
   tops = c.requires.sound.tops;
 }
@@ -61,7 +59,7 @@ returns-clause-gone g c =
     let mid : Cells = record t { heap = blocks c.without_row.new.pool } in
     sets_to (word_at t) (word_at mid) (word_at (cells_of c.prune.new.self)) c.args.path c.args.len (depth_of ((c.args.len - 5) / 5) + ((c.args.len - 5) % 5 + 1)) None c.prune.ensures.same whole
     (out_sets (cells_of c.args.self.now) (blocks c.without_row.new.pool) c.requires.sound.cells c.args.path ((c.args.len - 5) / 5) ((c.args.len - 5) % 5) c.row_bit-bit.result c.in-Some.stand
-    (omega (arith, c.requires.long)) (omega (arith, c.requires.short)) (omega arith) c.in-Some.ensures (c.row_bit-bit.ensures.value ∙ ap (λ v. row_bit v ((c.args.len - 5) % 5)) c.five_bits.ensures.value) c.without_row.ensures.taken)
+    (omega (arith, c.requires.long)) (omega (arith, c.requires.short)) (omega arith) c.in-Some.ensures (c.row_bit-bit.ensures.value ∙ ap (λ v. row_bit v ((c.args.len - 5) % 5)) c.five_bits.ensures.value) c.without_row.ensures)
 
 pub returns-clause-found : goal.returns-clause-found
 returns-clause-found g c =

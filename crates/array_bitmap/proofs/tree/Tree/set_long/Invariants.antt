@@ -1,5 +1,4 @@
 use Rattle.std.proofs.Common.{ℕ, ◌≡◌, ◌≤◌, ◌<◌, ◌+◌, ◌-◌, ◌*◌}
-use Rattle.word_pool.specs.Pool.{room}
 use Rattle.array_bitmap.specs.Tree.{word_at}
 use Rattle.array_bitmap.specs.Image.{cells_of, IsSoundTree, IsStand}
 use Rattle.array_bitmap.proofs.tree.Tree.set_long.Given as goal
@@ -10,5 +9,4 @@ invariant-loop-d g l = record {
   first : (l.self).first ≡ l.fn.self.first;
   stand : IsStand (cells_of l.self) l.path (l.d - (l.self).first) l.stand;
   same : (q m : ℕ) → word_at (cells_of l.self) q m ≡ word_at (cells_of l.fn.self) q m;
-  cost : room l.fn.self.pool ≤ room (l.self).pool + 1 + 2 * (l.d - l.fn.self.first);
 }
