@@ -1,12 +1,12 @@
 -- A block without rows and kids loses its name, and is given back.
-use Rattle.std.proofs.Common.{ℕ, zero, suc, ◌≡◌, ◌≢◌, ◌⊎◌, inl, inr, ◌+◌, ◌-◌, ◌*◌, ◌^◌, ◌<◌, ◌≤◌, ◌==◌, List, [], ◌∷◌, Option, Some, None, true, false, cond, is_some, arith, refl, sym, ap, subst, ◌∙◌}
-use Rattle.std.proofs.lemmas.Bool.{cases_eq, cases_lt, false≢true}
-use Rattle.array_bitmap.specs.Bits.{depth_of, five_bits, path_start, row_bit, level_of, more_of}
+use Rattle.std.proofs.Common.{ℕ, zero, suc, ◌≡◌, ◌≢◌, ◌⊎◌, inl, inr, ◌+◌, ◌==◌, List, Option, Some, None, cond, is_some, sym, ap, subst, ◌∙◌}
+use Rattle.std.proofs.lemmas.Bool.{cases_eq}
+use Rattle.array_bitmap.specs.Bits.{depth_of, five_bits, path_start}
 use Rattle.array_bitmap.specs.Words.{found}
-use Rattle.array_bitmap.specs.Blocks.{row_in, kid_in, IsBlock}
+use Rattle.array_bitmap.specs.Blocks.{row_in, kid_in}
 use Rattle.array_bitmap.specs.Tree.{Cells, words_of, words_at, kid_at, block_at, word_at, named, IsSound}
 use Rattle.array_bitmap.specs.Changes.{WritesName}
-use Rattle.array_bitmap.proofs.Walks.{zeros, block-first, block-next, kid-nowhere, row-nowhere, no_kid_none, no_row_none}
+use Rattle.array_bitmap.proofs.Walks.{zeros, block-first, block-next, kid-nowhere, row-nowhere, no_kid_none}
 use Rattle.array_bitmap.proofs.OnePath.{named-kid, named_used, name_of, holder, index_in}
 use Rattle.array_bitmap.proofs.SetsWords.{GreatestBelow-same}
 use Rattle.array_bitmap.proofs.NewBlocks.{words_same}
@@ -61,6 +61,14 @@ module _ (c : Cells) (tops2 : ℕ → ℕ) (heap2 : ℕ → Option (List ℕ)) (
       subst (λ x. Follows x (block_at d2 path (suc steps))) (sym (block-next c path steps))
       (subst (Follows (kid_at c (block_at c path steps) (five_bits path (c.first + steps)))) (sym (block-next d2 path steps))
       (kid_follows (block_at c path steps) (block_at d2 path steps) (five_bits path (c.first + steps)) (walk_follows path steps)))
+
+  -- the walk to the block ends before it
+  pub unnamed_gone : (path steps : ℕ) → block_at c path steps ≡ j → block_at d2 path steps ≡ 0
+  unnamed_gone path steps e = by (walk_follows path steps)
+    where
+      by : Follows (block_at c path steps) (block_at d2 path steps) → block_at d2 path steps ≡ 0
+      by (inl s) = absurd (s.0 e)
+      by (inr s) = s.1
 
   rows_follow : (x y b : ℕ) → Follows x y → row_in (words_at d2 y) b ≡ row_in (words_at c x) b
   rows_follow x y b (inl s) = ap (λ p. row_in (words_at d2 p) b) s.1 ∙ wr.rows x b

@@ -27,3 +27,4 @@ pub mod Takes
 pub mod PrefixNumbers
 pub mod RowsFrom
 pub mod EmptyBlocks
+pub mod Pruned

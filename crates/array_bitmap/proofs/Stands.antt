@@ -1,5 +1,5 @@
 -- A block that stands on a path is changed, and its name is written.
-use Rattle.std.proofs.Common.{ℕ, zero, suc, ◌≡◌, ◌≢◌, ◌⊎◌, inl, inr, ⊎_elim, ◌+◌, ◌-◌, ◌*◌, ◌/◌, ◌%◌, ◌^◌, ◌<◌, ◌≤◌, List, length, Option, Some, None, true, cond, is_some, count_ones, ◌==◌, arith, refl, sym, ap, subst, ◌∙◌}
+use Rattle.std.proofs.Common.{ℕ, suc, ◌≡◌, ◌≢◌, inl, inr, ◌+◌, ◌-◌, ◌*◌, ◌/◌, ◌%◌, ◌^◌, ◌<◌, ◌≤◌, List, length, Option, Some, None, true, cond, is_some, count_ones, ◌==◌, arith, refl, sym, ap, subst, ◌∙◌}
 use Rattle.std.specs.Int.{bit_at}
 use Rattle.std.proofs.lemmas.Bool.{cases_eq, cases_lt, false≢true}
 use Rattle.std.proofs.lemmas.Nat.Bits.{bit_at-zero, bit_at_above}
@@ -7,21 +7,21 @@ use Rattle.std.proofs.Math.Nat.{pow-le-pow_right}
 use mathlib.Core.Path.{fun_ext}
 use Rattle.array_bitmap.specs.Bits.{depth_of, five_bits, path_start, row_bit}
 use Rattle.array_bitmap.specs.Words.{IsRowWord}
-use Rattle.array_bitmap.specs.Blocks.{rows_of, kids_of, used_words, size_for, row_in, kid_in, IsBlock}
+use Rattle.array_bitmap.specs.Blocks.{rows_of, kids_of, size_for, row_in, kid_in, IsBlock}
 use Rattle.array_bitmap.specs.Tree.{Cells, words_of, words_at, kid_at, block_at, word_at, named, IsSound, SetsWord}
-use Rattle.array_bitmap.specs.Changes.{IsReworded, WritesName, PutsRow, PutsKid, TakesBlank, GetsKid, TakesRow}
+use Rattle.array_bitmap.specs.Changes.{IsReworded, WritesName, PutsRow, PutsKid, TakesBlank, TakesRow}
 use Rattle.array_bitmap.specs.Image.{IsStand}
 use Rattle.array_bitmap.specs.declared.tree.Stand.{Stand}
 use Rattle.array_bitmap.proofs.Covering.{row-clear}
 use Rattle.array_bitmap.proofs.Walks.{some-from, kid-clear, kid_is_set, block-first, block-next, word_in, gone}
 use Rattle.array_bitmap.proofs.ShortRows.{start_small}
 use Rattle.array_bitmap.proofs.PrefixRows.{word_covers}
-use Rattle.array_bitmap.proofs.Drops.{unnamed_sound, unnamed_words, has_no_name, given_sound, given_words}
+use Rattle.array_bitmap.proofs.Drops.{unnamed_sound, unnamed_words, unnamed_gone, has_no_name, given_sound, given_words, given_walks}
 use Rattle.array_bitmap.proofs.Puts.{ones_of_zero, four}
 use Rattle.array_bitmap.proofs.OnePath.{named-kid, holder, index_in, name_of, named_used, not_its_own}
 use Rattle.array_bitmap.proofs.PoolWords.{is_words}
-use Rattle.array_bitmap.proofs.Moves.{holder_used, row_sets, row_sound, kid_words, kid_place, kid_sound}
-use Rattle.array_bitmap.proofs.NewBlocks.{taken_some, taken_names, taken_walks, taken_words, taken_unnamed, taken_sound, first_words, first_place, first_sound}
+use Rattle.array_bitmap.proofs.Moves.{row_sets, row_sound, kid_words, kid_place, kid_sound}
+use Rattle.array_bitmap.proofs.NewBlocks.{taken_names, taken_walks, taken_words, taken_unnamed, taken_sound, first_words, first_place, first_sound}
 
 -- what is there is one
 pub same_place : (o : Option (List ℕ)) → is_some o ≡ true → (x : List ℕ) × (o ≡ Some x)
@@ -402,6 +402,13 @@ module _ (c mid : Cells) (heap2 : ℕ → Option (List ℕ)) (sound : IsSound c)
       ap (λ x. word_at x q m) back
       ∙ given_words nameless heap2 stand.block nameless_sound st.real no_names gone others still_no_kids q m
       ∙ unnamed_words c mid.tops mid.heap stand.holder stand.index stand.block sound st.name st.real as_nameless dropped_kids dropped_rows q m
+
+  -- and the path has no block there
+  pub dropped_gone : block_at (record mid { heap = heap2 }) path steps ≡ 0
+  dropped_gone =
+      ap (λ x. block_at x path steps) back
+      ∙ given_walks nameless heap2 stand.block nameless_sound st.real no_names gone others still_no_kids path steps
+      ∙ unnamed_gone c mid.tops mid.heap stand.holder stand.index stand.block sound st.name st.real as_nameless dropped_kids dropped_rows path steps st.at
 
 -- a block without rows and kids has the least size
 pub dropped_size : (ws : List ℕ) → IsBlock ws → rows_of ws ≡ 0 → kids_of ws ≡ 0 → length ws ≡ 4

@@ -1,5 +1,5 @@
 -- The words of a tree of the code, as functions, and its rows.
-use Rattle.std.specs.Prelude.{ℕ, ◌≡◌, ◌≢◌, ◌+◌, ◌-◌, ◌*◌, ◌^◌, List, slice_index, slice_index_or, vec_len, Option}
+use Rattle.std.specs.Prelude.{ℕ, ◌≡◌, ◌≢◌, ◌+◌, ◌^◌, List, slice_index_or, vec_len}
 use Rattle.word_pool.specs.Pool.{blocks}
 use Rattle.ipv4_prefix.specs.Prefix.{Prefix}
 use Rattle.network_model.specs.declared.route.Entry.{Entry}

@@ -4,7 +4,7 @@
 //! put back what each prefix had, the last one first. That needs no memory: a prefix that had a row has
 //! one now too, and one that had none loses it.
 
-ghost use Rattle.std.specs.Prelude.{◌≡◌, ◌≤◌, ◌<◌, [], List, is_some, true, length, vec_len, vec_capacity, OnOk, OnErr};
+ghost use Rattle.std.specs.Prelude.{◌≡◌, ◌≤◌, ◌<◌, [], List, is_some, true, length, vec_capacity, OnOk, OnErr};
 ghost use Rattle.std.specs.FinMap.{put, find as row_of};
 ghost use Rattle.ipv4_prefix.specs.Prefix.{Prefix as Block, prefix_cmp};
 ghost use Rattle.network_model.specs.Publication.{with_rows};

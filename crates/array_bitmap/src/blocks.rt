@@ -6,7 +6,7 @@ ghost use Rattle.array_bitmap.specs.Bits.{IsHighest};
 ghost use Rattle.array_bitmap.specs.Blocks.{rows_of, kids_of, row_in, kid_in, word_after, size_for, IsBlock, IsHead};
 ghost use Rattle.array_bitmap.specs.Changes.{Copies, GetsRoom, ShiftsIn, PutsWord, PutsRow, PutsKid, TakesBlank, GetsKid, ShiftsOut, TakesWord, TakesRow, TakesKid};
 ghost use Rattle.array_bitmap.specs.Tree.{words_of};
-ghost use Rattle.word_pool.specs.Heap.{size_of, word_of, SameBlocks, SameOthers};
+ghost use Rattle.word_pool.specs.Heap.{size_of, SameBlocks};
 ghost use Rattle.word_pool.specs.Pool.{blocks};
 
 use crate::bits::{bit, chosen, count, highest, is_set, rank, size_for, with_bit, without_bit};

@@ -4,7 +4,7 @@
 //! prefix. If the path has no block at a level, no address with the path's bits down to there has a
 //! longer row, so the walk goes on past those addresses.
 
-ghost use Rattle.std.specs.Prelude.{◌≡◌, ℕ, ◌+◌, ◌*◌, ◌-◌, ◌/◌, ◌^◌, ◌≤◌, IfSome, IfOk, IfErr, Some, None, length, ◌<◌};
+ghost use Rattle.std.specs.Prelude.{◌≡◌, ◌+◌, ◌*◌, ◌-◌, ◌/◌, ◌^◌, ◌≤◌, IfSome, IfOk, IfErr, Some, None, length, ◌<◌};
 ghost use Rattle.std.specs.FinMap.{find as row_of};
 ghost use Rattle.ipv4_prefix.specs.Prefix.{Prefix as Block, IsPrefix, prefix_cmp};
 ghost use Rattle.array_bitmap.specs.Cursor.{IsNextPrefix, IsFirstAt, IsFoundAt, IsHeadFrom, none_until, first_row_from};

@@ -29,7 +29,8 @@
 //! - A row that the array goes by is set there, and becomes the answer of each value of the first bits
 //!   that it covers and that has no longer one.
 //! - A longer row is set from the array down. A block that is missing is made. A block that is full
-//!   moves to one of twice the size, and its one name, in the array or in the block above, is written.
+//!   moves to one of twice the size, and its one name, in the array or in the block above, is written. A
+//!   row that is refused leaves none of the blocks that were made for it.
 //! - Many rows are set one after another. Where one is refused, what each prefix had before is put back,
 //!   the last first. That needs no memory, so no room has to be made before.
 //! - A row is taken out where it ends. A block whose words fit into its lower half gives the upper half

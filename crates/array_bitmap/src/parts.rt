@@ -79,7 +79,8 @@ pub fn copy<A: Allocator + Copy>(image: &Image<A>, alloc: A) -> Result<Image<A>,
     })
 }
 
-/// Sets the row of a prefix. It needs no memory where the prefix has a row.
+/// Sets the row of a prefix. It needs no memory where the prefix has a row. A refused call gives back what
+/// it took.
 pub fn set_row<A: Allocator>(
     image: &mut Image<A>,
     prefix: Prefix,

@@ -1,8 +1,8 @@
 //! The words of an image: arrays on the first bits of addresses, and blocks below them.
 
-ghost use Rattle.std.specs.Prelude.{◌≡◌, ◌≢◌, ℕ, ◌+◌, ◌-◌, ◌*◌, ◌^◌, ◌<◌, ◌≤◌, min, ◌==◌, vec_len, replicate, [], cond, nat_le, is_some, true, Option, Some, None, MatchOption, IfOk, OnOk, OnErr};
+ghost use Rattle.std.specs.Prelude.{◌≡◌, ◌≢◌, ℕ, ◌+◌, ◌-◌, ◌*◌, ◌^◌, ◌<◌, ◌≤◌, min, ◌==◌, vec_len, replicate, [], cond, nat_le, is_some, true, false, Option, Some, None, MatchOption, IfOk, OnOk, OnErr};
 ghost use Rattle.std.specs.Int.{bit_at};
-ghost use Rattle.array_bitmap.specs.Bits.{depth_of, path_start};
+ghost use Rattle.array_bitmap.specs.Bits.{depth_of};
 ghost use Rattle.array_bitmap.specs.Words.{found, len_of};
 ghost use Rattle.array_bitmap.specs.Greatest.{GreatestBelow};
 ghost use Rattle.array_bitmap.specs.Words.{IsRowWord};
@@ -11,7 +11,7 @@ ghost use Rattle.array_bitmap.specs.Tree.{words_of, block_at, word_at, SetsWord}
 ghost use Rattle.array_bitmap.specs.Changes.{WritesName};
 ghost use Rattle.array_bitmap.specs.Image.{cells_of, rows_in, top_at, IsSoundTree, IsStand};
 ghost use Rattle.std.specs.FinMap.{put, find as row_of};
-ghost use Rattle.array_bitmap.specs.Removal.{without_row};
+ghost use Rattle.array_bitmap.specs.Removal.{without_row, HasUse, IsPruned};
 ghost use Rattle.ipv4_prefix.specs.Prefix.{prefix_cmp};
 ghost use Rattle.ipv4_prefix.specs.LongestMatch.{longest_match};
 ghost use Rattle.word_pool.specs.Pool.{blocks, capacity};
@@ -293,8 +293,9 @@ impl<A: Allocator> Tree<A> {
         })
     }
 
-    /// Sets the row of a path's first `len` bits, which ends in a block.
-    fn set_long(&mut self, path: u64, len: u32, word: u32) -> Result<(), NoMemory>
+    /// Sets the row of a path's first `len` bits, which ends in a block. A refusal may leave blocks that
+    /// it made.
+    fn put_long(&mut self, path: u64, len: u32, word: u32) -> Result<(), NoMemory>
         requires sound { IsSoundTree self.old }
         requires fits { path < 2 ^ 34 }
         requires long { depth_of self.old.first < len }
@@ -314,6 +315,30 @@ impl<A: Allocator> Tree<A> {
             stand = self.child(stand, path, d)?;
         }
         self.put_row(stand, path, level, (len - 5) % 5, word)
+    }
+
+    /// Sets the row of a path's first `len` bits, which ends in a block. A refusal leaves no block that it
+    /// made.
+    fn set_long(&mut self, path: u64, len: u32, word: u32) -> Result<(), NoMemory>
+        requires sound { IsSoundTree self.old }
+        requires fits { path < 2 ^ 34 }
+        requires long { depth_of self.old.first < len }
+        requires short { len ≤ 32 }
+        requires row { IsRowWord len word }
+        ensures sound { IsSoundTree self.new }
+        ensures first { self.new.first ≡ self.old.first }
+        ensures ok { OnOk result (SetsWord (word_at (cells_of self.old)) (word_at (cells_of self.new))
+            path len (Some word)) }
+        ensures err { OnErr result ((q : ℕ) → (m : ℕ)
+            → word_at (cells_of self.new) q m ≡ word_at (cells_of self.old) q m) }
+        ensures full { OnErr result (word_at (cells_of self.old) path len ≡ None) }
+        ensures pruned { OnErr result (IsPruned (cells_of self.new) path len) }
+    {
+        if let Err(error) = self.put_long(path, len, word) {
+            self.prune(path, (len - 5) / 5);
+            return Err(error);
+        }
+        Ok(())
     }
 
     /// Sets the row of a path's first `len` bits, which are no more than the array goes by.
@@ -351,6 +376,7 @@ impl<A: Allocator> Tree<A> {
         ensures err { OnErr result ((q : ℕ) → (m : ℕ)
             → word_at (cells_of self.new) q m ≡ word_at (cells_of self.old) q m) }
         ensures full { OnErr result (word_at (cells_of self.old) path len ≡ None) }
+        ensures pruned { OnErr result (IsPruned (cells_of self.new) path len) }
     {
         if len <= 4 + 5 * self.first {
             self.set_short(path, len, word);
@@ -367,6 +393,8 @@ impl<A: Allocator> Tree<A> {
             ≡ put prefix_cmp prefix entry (rows_in self.old)) }
         ensures err { OnErr result (rows_in self.new ≡ rows_in self.old) }
         ensures full { OnErr result (row_of prefix_cmp prefix (rows_in self.old) ≡ None) }
+        ensures pruned { OnErr result
+            (IsPruned (cells_of self.new) (prefix.addr * 4) prefix.len) }
     {
         let word = word_of(prefix.len(), entry);
         self.set(path_of(prefix.addr()), u32::from(prefix.len()), word)
@@ -452,8 +480,8 @@ impl<A: Allocator> Tree<A> {
         without_kid(&mut self.pool, holder, index);
     }
 
-    /// Gives the block of a path at a level back, where it has no row and no kid, and says whether it
-    /// did.
+    /// Gives the block of a path at a level back, where it has no row and no kid, and says whether there is
+    /// none now.
     fn drop_block(&mut self, path: u64, level: u32) -> bool
         requires sound { IsSoundTree self.old }
         requires fits { path < 2 ^ 34 }
@@ -463,9 +491,15 @@ impl<A: Allocator> Tree<A> {
         ensures first { self.new.first ≡ self.old.first }
         ensures same { (q : ℕ) → (m : ℕ)
             → word_at (cells_of self.new) q m ≡ word_at (cells_of self.old) q m }
+        ensures dropped { result ≡ true
+            → block_at (cells_of self.new) path (level - self.new.first) ≡ 0 }
+        ensures kept { result ≡ false → ((steps : ℕ)
+            → block_at (cells_of self.new) path steps ≡ block_at (cells_of self.old) path steps)
+            × (block_at (cells_of self.new) path (level - self.new.first) ≢ 0)
+            × HasUse (cells_of self.new) path level }
     {
         let Some(stand) = self.stand_on(path, level) else {
-            return false;
+            return true;
         };
         if rows_of(&self.pool, stand.block) != 0 || kids_of(&self.pool, stand.block) != 0 {
             return false;
@@ -485,6 +519,8 @@ impl<A: Allocator> Tree<A> {
         ensures first { self.new.first ≡ self.old.first }
         ensures same { (q : ℕ) → (m : ℕ)
             → word_at (cells_of self.new) q m ≡ word_at (cells_of self.old) q m }
+        ensures pruned { (d : ℕ) → self.new.first ≤ d → d ≤ level
+            → HasUse (cells_of self.new) path d }
     {
         let first = self.first;
         for up in 0..level + 1 - first {
@@ -505,6 +541,7 @@ impl<A: Allocator> Tree<A> {
         ensures first { self.new.first ≡ self.old.first }
         ensures gone { SetsWord (word_at (cells_of self.old)) (word_at (cells_of self.new)) path len None }
         ensures found { result ≡ is_some (word_at (cells_of self.old) path len) }
+        ensures pruned { result ≡ true → IsPruned (cells_of self.new) path len }
     {
         let level = (len - 5) / 5;
         let Some(stand) = self.stand_on(path, level) else {
@@ -544,6 +581,7 @@ impl<A: Allocator> Tree<A> {
         requires fits { path < 2 ^ 34 }
         requires short { len ≤ depth_of self.old.first }
         ensures sound { IsSoundTree self.new }
+        ensures first { self.new.first ≡ self.old.first }
         ensures gone { SetsWord (word_at (cells_of self.old)) (word_at (cells_of self.new)) path len None }
         ensures found { result ≡ is_some (word_at (cells_of self.old) path len) }
     {
@@ -573,6 +611,7 @@ impl<A: Allocator> Tree<A> {
         ensures sound { IsSoundTree self.new }
         ensures gone { SetsWord (word_at (cells_of self.old)) (word_at (cells_of self.new)) path len None }
         ensures found { result ≡ is_some (word_at (cells_of self.old) path len) }
+        ensures pruned { result ≡ true → IsPruned (cells_of self.new) path len }
     {
         if len <= 4 + 5 * self.first {
             return self.remove_short(path, len);
@@ -587,6 +626,8 @@ impl<A: Allocator> Tree<A> {
         ensures sound { IsSoundTree self.new }
         ensures rows { rows_in self.new ≡ without_row prefix (rows_in self.old) }
         ensures found { result ≡ is_some (row_of prefix_cmp prefix (rows_in self.old)) }
+        ensures pruned { result ≡ true
+            → IsPruned (cells_of self.new) (prefix.addr * 4) prefix.len }
     {
         self.remove(path_of(prefix.addr()), u32::from(prefix.len()))
     }

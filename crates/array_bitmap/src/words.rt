@@ -1,7 +1,7 @@
 //! Answer words: what a row answers, in 32 bits.
 
-ghost use Rattle.std.specs.Prelude.{◌≡◌, ◌≤◌, ◌<◌, ◌^◌};
-ghost use Rattle.array_bitmap.specs.Words.{nothing, len_of, word_of, entry_of, IsRowWord};
+ghost use Rattle.std.specs.Prelude.{◌≡◌, ◌≤◌, ◌<◌};
+ghost use Rattle.array_bitmap.specs.Words.{len_of, word_of, entry_of, IsRowWord};
 
 use network_model::Entry;
 

@@ -1,8 +1,6 @@
-use Rattle.std.proofs.Common.{◌∙◌, ◌≡◌, ◌*◌, sym, ap, Some, None}
+use Rattle.std.proofs.Common.{◌∙◌, sym, ap, Some, None}
 use Rattle.ipv4_prefix.proofs.TableRows.{longest_in_table}
-use Rattle.array_bitmap.specs.Words.{found}
-use Rattle.array_bitmap.specs.Greatest.{GreatestBelow}
-use Rattle.array_bitmap.specs.Tree.{word_at, entry_in}
+use Rattle.array_bitmap.specs.Tree.{entry_in}
 use Rattle.array_bitmap.specs.Image.{cells_of}
 use Rattle.array_bitmap.proofs.PrefixRows.{longest_on_path, none_on_path}
 use Rattle.array_bitmap.proofs.tree.Tree.answer.Goals as goal

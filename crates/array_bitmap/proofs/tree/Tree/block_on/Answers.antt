@@ -1,4 +1,4 @@
-use Rattle.std.proofs.Common.{◌-◌, ◌+◌, ◌≡◌, ◌≤◌, arith, sym}
+use Rattle.std.proofs.Common.{◌-◌, arith, sym}
 use Rattle.array_bitmap.specs.Image.{cells_of}
 use Rattle.array_bitmap.proofs.Lookups.{block_is, next_block}
 use Rattle.array_bitmap.proofs.tree.Tree.block_on.Goals as goal

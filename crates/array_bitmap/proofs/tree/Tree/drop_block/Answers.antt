@@ -1,11 +1,11 @@
-use Rattle.std.proofs.Common.{◌≡◌, ◌≢◌, ◌+◌, ◌-◌, ◌*◌, ◌^◌, ◌≤◌, arith, ap, sym, ◌∙◌}
+use Rattle.std.proofs.Common.{◌+◌, ◌-◌, ◌^◌, arith, ap, sym, ◌∙◌}
 use Rattle.word_pool.specs.Heap.{size_of}
 use Rattle.word_pool.specs.Pool.{blocks}
 use Rattle.array_bitmap.specs.Bits.{depth_of}
-use Rattle.array_bitmap.specs.Tree.{words_of}
+use Rattle.array_bitmap.specs.Tree.{words_of, block_at}
 use Rattle.array_bitmap.specs.Image.{cells_of}
 use Rattle.array_bitmap.proofs.PoolWords.{block_head, size_listed}
-use Rattle.array_bitmap.proofs.Stands.{stand_apart, stand_is, holder_there, holder_is, holder_bit, holder_index, dropped_size, dropped_sound, dropped_words}
+use Rattle.array_bitmap.proofs.Stands.{stand_apart, stand_is, holder_there, holder_is, holder_bit, holder_index, dropped_size, dropped_sound, dropped_words, dropped_gone}
 use Rattle.array_bitmap.proofs.tree.Tree.drop_block.Goals as goal
 
 pub rows_of-requires : goal.rows_of-requires
@@ -44,4 +44,10 @@ returns-clause-sound g c = record {
 pub returns-clause-same : goal.returns-clause-same
 returns-clause-same g c =
     dropped_words (cells_of c.args.self.now) (cells_of c.unname.new.self) (blocks c.give.new.self) c.requires.sound.cells c.args.path (c.args.level - c.args.self.now.first) c.in-Some.stand c.in-Some.ensures (omega (arith, c.requires.low, c.requires.deep))
+    c.unname.ensures.name (sym c.rows_of.ensures ∙ c.if-rows_of-ne0.false) (sym c.kids_of.ensures.value ∙ c.if-kids_of-ne0.false) c.give.ensures.given.gone c.give.ensures.given.others
+
+pub returns-clause-dropped : goal.returns-clause-dropped
+returns-clause-dropped g c = λ _.
+    ap (λ f. block_at (record (cells_of c.unname.new.self) { heap = blocks c.give.new.self }) c.args.path (c.args.level - f)) c.unname.ensures.first
+    ∙ dropped_gone (cells_of c.args.self.now) (cells_of c.unname.new.self) (blocks c.give.new.self) c.requires.sound.cells c.args.path (c.args.level - c.args.self.now.first) c.in-Some.stand c.in-Some.ensures (omega (arith, c.requires.low, c.requires.deep))
     c.unname.ensures.name (sym c.rows_of.ensures ∙ c.if-rows_of-ne0.false) (sym c.kids_of.ensures.value ∙ c.if-kids_of-ne0.false) c.give.ensures.given.gone c.give.ensures.given.others

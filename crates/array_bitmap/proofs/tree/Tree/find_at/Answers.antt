@@ -1,6 +1,4 @@
-use Rattle.std.proofs.Common.{◌≡◌, ◌+◌, ◌-◌, ◌*◌, ◌∙◌, None, option_map, ap, sym, subst, arith}
-use Rattle.ipv4_prefix.specs.Prefix.{Prefix}
-use Rattle.array_bitmap.specs.Bits.{depth_of}
+use Rattle.std.proofs.Common.{◌≡◌, ◌-◌, ◌*◌, ◌∙◌, option_map, ap, sym, subst, arith}
 use Rattle.array_bitmap.specs.Words.{entry_of, shown}
 use Rattle.array_bitmap.specs.Cursor.{IsFoundAt}
 use Rattle.array_bitmap.specs.Tree.{block_at, word_at, entry_in}

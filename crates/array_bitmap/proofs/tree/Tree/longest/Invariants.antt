@@ -1,4 +1,4 @@
-use Rattle.std.proofs.Common.{◌≡◌, ◌≤◌, ◌+◌, ◌-◌, min}
+use Rattle.std.proofs.Common.{◌≡◌, ◌+◌, ◌-◌, min}
 use Rattle.array_bitmap.specs.Bits.{depth_of}
 use Rattle.array_bitmap.specs.Words.{found}
 use Rattle.array_bitmap.specs.Greatest.{GreatestBelow}

@@ -1,4 +1,4 @@
-use Rattle.std.proofs.Common.{ℕ, ◌≡◌, ◌+◌, ◌*◌, ◌/◌, ◌%◌, ◌^◌, ◌-◌, ◌<◌, ◌≤◌, arith, ap, sym, subst}
+use Rattle.std.proofs.Common.{◌≡◌, ◌+◌, ◌*◌, ◌/◌, ◌%◌, ◌^◌, ◌-◌, ◌≤◌, arith, ap, sym, subst}
 use Rattle.array_bitmap.specs.Bits.{depth_of, path_start}
 use Rattle.array_bitmap.specs.Words.{found}
 use Rattle.array_bitmap.specs.Greatest.{GreatestBelow}

@@ -1,5 +1,5 @@
-use Rattle.std.proofs.Common.{ℕ, ◌≡◌}
-use Rattle.array_bitmap.specs.Tree.{word_at}
+use Rattle.std.proofs.Common.{ℕ, ◌≡◌, ◌+◌, ◌-◌, ◌<◌, ◌≤◌}
+use Rattle.array_bitmap.specs.Tree.{block_at, word_at}
 use Rattle.array_bitmap.specs.Image.{cells_of, IsSoundTree}
 use Rattle.array_bitmap.proofs.tree.Tree.prune.Given as goal
 
@@ -8,4 +8,5 @@ invariant-loop-up g l = record {
   sound : IsSoundTree l.self;
   first : (l.self).first ≡ l.fn.self.first;
   same : (q m : ℕ) → word_at (cells_of l.self) q m ≡ word_at (cells_of l.fn.self) q m;
+  gone : (d : ℕ) → (l.self).first ≤ d → l.level < d + l.up → d ≤ l.level → block_at (cells_of l.self) l.path (d - (l.self).first) ≡ 0;
 }

@@ -1,11 +1,10 @@
-use Rattle.std.proofs.Common.{ℕ, ◌≡◌, ◌≢◌, ◌+◌, ◌-◌, ◌*◌, ◌/◌, ◌%◌, ◌^◌, ◌<◌, ◌≤◌, Option, Some, None, is_some, arith, ap, sym, subst, ◌∙◌}
+use Rattle.std.proofs.Common.{ℕ, ◌≡◌, ◌+◌, ◌-◌, ◌/◌, ◌%◌, ◌<◌, None, is_some, arith, ap, sym, ◌∙◌}
 use Rattle.std.specs.Int.{bit_at}
 use Rattle.std.proofs.lemmas.Bool.{both_ways}
 use Rattle.word_pool.specs.Pool.{blocks}
-use Rattle.array_bitmap.specs.Bits.{depth_of, five_bits, row_bit}
-use Rattle.array_bitmap.specs.Blocks.{rows_of, row_index, row_in}
-use Rattle.array_bitmap.specs.Tree.{Cells, words_of, words_at, block_at, word_at, IsSound}
-use Rattle.array_bitmap.specs.Image.{cells_of, IsSoundTree}
+use Rattle.array_bitmap.specs.Bits.{depth_of, row_bit}
+use Rattle.array_bitmap.specs.Tree.{Cells, words_at, block_at, word_at, IsSound}
+use Rattle.array_bitmap.specs.Image.{cells_of}
 use Rattle.array_bitmap.proofs.Covering.{row-set, row-clear}
 use Rattle.array_bitmap.proofs.PoolWords.{block_head}
 use Rattle.array_bitmap.proofs.SetsWords.{sets_to}

@@ -1,6 +1,5 @@
-use Rattle.std.proofs.Common.{None, ◌*◌, ◌∙◌, ap, cond, option_map, is_some, sym, ◌≡◌}
+use Rattle.std.proofs.Common.{None, ◌*◌, ◌∙◌, ap, is_some, sym}
 use Rattle.ipv4_prefix.proofs.TableRows.{row_of-table}
-use Rattle.array_bitmap.specs.Words.{entry_of}
 use Rattle.array_bitmap.specs.Tree.{word_at, entry_in}
 use Rattle.array_bitmap.specs.Image.{cells_of}
 use Rattle.array_bitmap.proofs.PrefixRows.{sets_entry, table_rows-without, is_some-map}

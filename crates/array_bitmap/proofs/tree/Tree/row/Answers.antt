@@ -1,7 +1,6 @@
-use Rattle.std.proofs.Common.{ℕ, ◌≡◌, ◌≢◌, ◌+◌, ◌-◌, ◌*◌, ◌∙◌, Some, None, option_map, ap, sym, arith}
+use Rattle.std.proofs.Common.{ℕ, ◌≡◌, ◌≢◌, ◌*◌, ◌∙◌, Some, option_map, ap, sym}
 use Rattle.std.proofs.lemmas.Bool.{cond-false, ne_eqb}
 use Rattle.ipv4_prefix.proofs.TableRows.{row_of-table}
-use Rattle.array_bitmap.specs.Bits.{depth_of}
 use Rattle.array_bitmap.specs.Words.{entry_of, shown, nothing}
 use Rattle.array_bitmap.specs.Tree.{word_at, entry_in}
 use Rattle.array_bitmap.specs.Image.{cells_of}

@@ -1,4 +1,4 @@
-use Rattle.std.proofs.Common.{Some, ◌*◌, ◌∙◌, ap, cond, option_map, sym, subst, ◌≡◌}
+use Rattle.std.proofs.Common.{Some, ◌*◌, ◌∙◌, ap, cond, option_map, sym}
 use Rattle.std.proofs.lemmas.Result.{on_ok_weaker, on_err_weaker}
 use Rattle.ipv4_prefix.specs.Prefix.{prefix_eq}
 use Rattle.ipv4_prefix.proofs.TableRows.{table_rows-put, table_rows-same, row_of-table}

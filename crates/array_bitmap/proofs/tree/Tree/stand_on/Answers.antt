@@ -1,7 +1,6 @@
-use Rattle.std.proofs.Common.{◌≡◌, ◌+◌, ◌-◌, ◌*◌, ◌/◌, ◌^◌, ◌≤◌, arith, ap, sym, ◌∙◌}
+use Rattle.std.proofs.Common.{◌≡◌, ◌-◌, arith, ap, sym, ◌∙◌}
 use Rattle.array_bitmap.specs.Tree.{block_at}
 use Rattle.array_bitmap.specs.Image.{cells_of, top_at}
-use Rattle.array_bitmap.specs.declared.tree.Top.{Top}
 use Rattle.array_bitmap.proofs.Walks.{block-first}
 use Rattle.array_bitmap.proofs.OnePath.{named-kid}
 use Rattle.array_bitmap.proofs.Lookups.{next_block}

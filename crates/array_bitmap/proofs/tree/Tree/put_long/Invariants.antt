@@ -1,7 +1,7 @@
-use Rattle.std.proofs.Common.{ℕ, ◌≡◌, ◌≤◌, ◌<◌, ◌+◌, ◌-◌, ◌*◌}
+use Rattle.std.proofs.Common.{ℕ, ◌≡◌, ◌-◌}
 use Rattle.array_bitmap.specs.Tree.{word_at}
 use Rattle.array_bitmap.specs.Image.{cells_of, IsSoundTree, IsStand}
-use Rattle.array_bitmap.proofs.tree.Tree.set_long.Given as goal
+use Rattle.array_bitmap.proofs.tree.Tree.put_long.Given as goal
 
 abbrev pub invariant-loop-d : goal.invariant-loop-d
 invariant-loop-d g l = record {
