@@ -1,12 +1,10 @@
 -- The arrays of an image, as the code writes them.
-use Rattle.std.proofs.Common.{ℕ, zero, suc, ◌≡◌, ◌≢◌, ◌⊎◌, inl, inr, ◌+◌, ◌-◌, ◌*◌, ◌/◌, ◌%◌, ◌^◌, ◌<◌, ◌≤◌, List, length, get_or, slice_set, slice_index_or, cond, nat_le, arith, refl, sym, ap, subst, ◌∙◌}
+use Rattle.std.proofs.Common.{ℕ, ◌≡◌, inl, inr, ◌+◌, ◌-◌, ◌*◌, ◌/◌, ◌%◌, ◌^◌, ◌<◌, ◌≤◌, List, arith, sym, ap, ◌∙◌}
 use Rattle.std.proofs.lemmas.Bool.{cases_lt, cases_eq}
-use Rattle.std.proofs.lemmas.List.{get_or-set_same, get_or-set_other, get_or_read}
-use Rattle.std.proofs.lemmas.Nat.{one_shl, pow_pos, pow-add, le-div, div_below, div-add-mod', mod_below, mul-le}
+use Rattle.std.proofs.lemmas.Nat.{one_shl, pow-add, le-div, div_below, div-add-mod', mod_below, mul-le}
 use Rattle.std.proofs.Math.Nat.{pow-le-pow_right}
 use mathlib.Core.Path.{fun_ext}
 use Rattle.array_bitmap.specs.Bits.{depth_of, path_start}
-use Rattle.array_bitmap.specs.Words.{nothing, len_of}
 use Rattle.array_bitmap.specs.Tree.{Cells}
 use Rattle.array_bitmap.specs.Image.{top_at}
 use Rattle.array_bitmap.specs.declared.tree.Top.{Top}

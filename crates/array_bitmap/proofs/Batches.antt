@@ -1,5 +1,5 @@
 -- Rows that are set in order, and taken back.
-use Rattle.std.proofs.Common.{ℕ, ◌≡◌, ◌≢◌, inl, inr, ◌+◌, ◌-◌, ◌<◌, ◌≤◌, Bool, true, false, cond, not, T, List, [], ◌∷◌, ◌++◌, length, take, get_or, Option, Some, None, is_some, arith, refl, sym, ap, subst, ◌∙◌, length-append}
+use Rattle.std.proofs.Common.{ℕ, ◌≡◌, inl, inr, ◌+◌, ◌<◌, Bool, true, false, cond, not, T, List, [], ◌∷◌, ◌++◌, length, take, get_or, Option, Some, None, is_some, arith, refl, sym, ap, subst, ◌∙◌, length-append}
 use Rattle.std.specs.FinMap.{put, find as row_of, is_sorted}
 use Rattle.std.specs.FinMap.Entries.{is_sorted-put, is_sorted-where_key, find-put, find-where_key, same_entries}
 use Rattle.std.proofs.Math.Seq.{get_or-append_seam}

@@ -1,5 +1,5 @@
 -- The longest prefix of a path that ends in a block.
-use Rattle.std.proofs.Common.{ℕ, zero, suc, ◌≡◌, ◌⊎◌, inl, inr, ⊎_elim, ◌↔◌, ◌+◌, ◌-◌, ◌*◌, ◌/◌, ◌%◌, ◌^◌, ◌<◌, ◌≤◌, min, max, bit_and, bit_or, List, [], ◌∷◌, slice_index, slice_index_or, Bool, true, ◌==◌, ◌&&◌, Option, Some, None, arith, refl, sym, ap, subst, ◌∙◌}
+use Rattle.std.proofs.Common.{ℕ, zero, suc, ◌≡◌, inl, inr, ⊎_elim, ◌↔◌, ◌+◌, ◌-◌, ◌*◌, ◌/◌, ◌%◌, ◌^◌, ◌<◌, ◌≤◌, min, max, bit_and, bit_or, List, [], ◌∷◌, slice_index, Bool, true, ◌==◌, ◌&&◌, Some, None, arith, refl, sym, ap, subst, ◌∙◌}
 use Rattle.std.specs.Int.{bit_at}
 use Rattle.std.specs.Int.Count.{count_leading_zeros}
 use Rattle.std.proofs.lemmas.Bool.{cases_eq, and_parts, eqb-true, cond-true, cond-false, eq-eqb, ne_eqb}
@@ -8,7 +8,7 @@ use Rattle.std.proofs.lemmas.Nat.Bits.{bit_at-zero, bit_at-lt, bit_at_and, bit_a
 use Rattle.array_bitmap.specs.Greatest.{GreatestBelow}
 use Rattle.array_bitmap.specs.Bits.{row_bit, IsHighest, width}
 use Rattle.array_bitmap.specs.Blocks.{rows_of, row_index, row_in}
-use Rattle.array_bitmap.proofs.PathBits.{row_bit_small, longer_is_greater}
+use Rattle.array_bitmap.proofs.PathBits.{longer_is_greater}
 
 -- ---- the greatest bit
 

@@ -1,5 +1,5 @@
 -- What an image has at a prefix, and which prefixes after it have no row.
-use Rattle.std.proofs.Common.{ℕ, ◌≡◌, ◌≢◌, inl, inr, ◌+◌, ◌-◌, ◌*◌, ◌/◌, ◌%◌, ◌^◌, ◌<◌, ◌≤◌, false, Option, Some, None, option_map, arith, sym, ap, subst, ◌∙◌}
+use Rattle.std.proofs.Common.{ℕ, ◌≡◌, inl, inr, ◌+◌, ◌-◌, ◌*◌, ◌/◌, ◌%◌, ◌^◌, ◌<◌, ◌≤◌, false, Option, Some, None, option_map, arith, sym, ap, subst, ◌∙◌}
 use Rattle.std.proofs.lemmas.Bool.{cases_lt, cases_eq, true≢false}
 use Rattle.std.proofs.lemmas.Nat.{div-mul-add, pow_pos}
 use Rattle.std.proofs.Math.Nat.{div-add-mod, div-mul-le_self, lt-div-mul-add}
@@ -7,7 +7,7 @@ use Rattle.ipv4_prefix.specs.Prefix.{Prefix, IsPrefix}
 use Rattle.array_bitmap.specs.Bits.{depth_of, path_start}
 use Rattle.array_bitmap.specs.Words.{entry_of}
 use Rattle.array_bitmap.specs.Cursor.{is_before, IsNextPrefix, IsFirstAt, IsFoundAt, none_until}
-use Rattle.array_bitmap.specs.Tree.{Cells, block_at, word_at, entry_in, IsSound}
+use Rattle.array_bitmap.specs.Tree.{Cells, block_at, entry_in, IsSound}
 use Rattle.array_bitmap.proofs.Walks.{block-same, none_below}
 use Rattle.array_bitmap.proofs.PrefixNumbers.{number_before, number_not_before, before_from_number, same_where_neither, cases_before, longer_writable}
 use Rattle.array_bitmap.proofs.PrefixRows.{path_bits}

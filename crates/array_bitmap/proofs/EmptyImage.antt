@@ -1,24 +1,21 @@
 -- An image without rows, and one with the same words.
-use Rattle.std.proofs.Common.{ℕ, zero, suc, ◌≡◌, ◌≢◌, inl, inr, ◌+◌, ◌-◌, ◌*◌, ◌^◌, ◌<◌, ◌≤◌, ◌==◌, List, [], ◌∷◌, length, get_or, replicate, slice_index_or, Option, Some, None, true, cond, option_map, is_some, arith, refl, sym, ap, subst, ◌∙◌}
+use Rattle.std.proofs.Common.{ℕ, zero, suc, ◌≡◌, inl, inr, ◌+◌, ◌-◌, ◌*◌, ◌^◌, ◌≤◌, List, [], get_or, replicate, Option, None, option_map, arith, refl, sym, ap, subst, ◌∙◌}
 use Rattle.std.specs.Int.{bit_at}
 use Rattle.std.specs.Int.RustNames.{count_ones}
 use Rattle.std.proofs.lemmas.Bool.{cases_eq, cases_lt, cond-true, cond-false, eq-eqb, ne_eqb}
 use Rattle.std.proofs.lemmas.Nat.Bits.{bit_at-zero}
 use mathlib.Core.Path.{fun_ext}
 use Rattle.word_pool.specs.Heap.{IsEmpty}
-use Rattle.ipv4_prefix.specs.Prefix.{Prefix}
-use Rattle.ipv4_prefix.specs.Tables.{table_rows}
 use Rattle.ipv4_prefix.proofs.TableRows.{table_rows-empty}
 use Rattle.array_bitmap.specs.Bits.{depth_of, five_bits, path_start, row_bit, level_of, more_of}
 use Rattle.array_bitmap.specs.Words.{nothing, entry_of, found}
-use Rattle.array_bitmap.specs.Blocks.{size_for, used_words, row_in, kid_in, IsBlock}
+use Rattle.array_bitmap.specs.Blocks.{size_for, row_in, kid_in, IsBlock}
 use Rattle.array_bitmap.specs.Greatest.{GreatestBelow}
-use Rattle.array_bitmap.specs.Tree.{Cells, words_of, words_at, kid_at, block_at, short_word, long_word, word_at, named, entry_in, rows_of_cells, IsSound}
-use Rattle.array_bitmap.specs.Image.{top_at}
+use Rattle.array_bitmap.specs.Tree.{Cells, words_of, words_at, block_at, short_word, long_word, word_at, named, entry_in, rows_of_cells, IsSound}
 use Rattle.array_bitmap.specs.declared.tree.Top.{Top}
 use Rattle.array_bitmap.proofs.ShortRows.{nothing_shown, nothing_found}
 use Rattle.array_bitmap.proofs.ShortSet.{array_cells}
-use Rattle.array_bitmap.proofs.Walks.{zeros, none≢some, Some_same, no_kid_none, row-nowhere, kid-nowhere, gone, block-first, word-short, word-long}
+use Rattle.array_bitmap.proofs.Walks.{zeros, none≢some, Some_same, no_kid_none, row-nowhere, gone, block-first, word-short, word-long}
 
 -- what is read of copies of a value is the value, also past their end
 pub copies_are : {T : Type 0} (n k : ℕ) (a : T) → get_or (replicate n a) k a ≡ a

@@ -1,11 +1,11 @@
 -- The definitions, worked on small examples.
-use Rattle.std.proofs.Common.{ℕ, ◌≡◌, ◌+◌, ◌*◌, ◌^◌, ◌==◌, List, [], ◌∷◌, length, cond, Option, Some, None, refl}
+use Rattle.std.proofs.Common.{ℕ, ◌≡◌, ◌+◌, ◌*◌, ◌^◌, ◌==◌, List, [], ◌∷◌, length, cond, Some, None, refl}
 use Rattle.network_model.specs.declared.route.Entry.TheVariants.{Local, Via, Unreachable}
 use Rattle.std.specs.Int.RustNames.{count_ones}
-use Rattle.array_bitmap.specs.Bits.{rank, five_bits, path_start, row_bit, level_of, more_of, width}
-use Rattle.array_bitmap.specs.Words.{nothing, len_of, kind_of, word_of, entry_of, shown, found}
+use Rattle.array_bitmap.specs.Bits.{five_bits, path_start, row_bit, level_of, more_of, width}
+use Rattle.array_bitmap.specs.Words.{nothing, len_of, word_of, entry_of, shown, found}
 use Rattle.array_bitmap.specs.Blocks.{used_words, size_for, row_in, kid_in}
-use Rattle.array_bitmap.specs.Tree.{Cells, block_at, short_word, long_word, word_at, row_at, named, kid_at}
+use Rattle.array_bitmap.specs.Tree.{Cells, block_at, short_word, long_word, word_at, row_at, named}
 
 -- ---- words
 

@@ -1,9 +1,9 @@
 -- The longest row on a path.
-use Rattle.std.proofs.Common.{ℕ, zero, suc, ◌≡◌, ◌≢◌, ◌⊎◌, inl, inr, ⊎_elim, ◌↔◌, ◌+◌, ◌-◌, ◌*◌, ◌/◌, ◌%◌, ◌^◌, ◌<◌, ◌≤◌, min, bit_and, slice_index, Option, Some, None, arith, refl, sym, ap, subst, ◌∙◌}
+use Rattle.std.proofs.Common.{ℕ, ◌≡◌, ⊎_elim, ◌↔◌, ◌+◌, ◌-◌, ◌^◌, ◌<◌, ◌≤◌, bit_and, Option, Some, None, arith, sym, ap, subst, ◌∙◌}
 use Rattle.std.specs.Int.{bit_at}
-use Rattle.std.proofs.lemmas.Bool.{cases_lt, cond-false, cond-true, ne_eqb, eq-eqb}
-use Rattle.array_bitmap.specs.Bits.{depth_of, five_bits, path_start, row_bit, width, IsHighest}
-use Rattle.array_bitmap.specs.Words.{kind_of, len_of, found, nothing, IsRowWord}
+use Rattle.std.proofs.lemmas.Bool.{cases_lt, cond-false, ne_eqb}
+use Rattle.array_bitmap.specs.Bits.{depth_of, five_bits, row_bit, width, IsHighest}
+use Rattle.array_bitmap.specs.Words.{kind_of, found, nothing, IsRowWord}
 use Rattle.array_bitmap.specs.Blocks.{rows_of, row_in, word_after}
 use Rattle.array_bitmap.specs.Greatest.{GreatestBelow}
 use Rattle.array_bitmap.specs.Tree.{Cells, words_at, kid_at, block_at, word_at, IsSound}

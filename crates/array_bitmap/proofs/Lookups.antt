@@ -1,13 +1,12 @@
 -- What the code reads of an image.
-use Rattle.std.proofs.Common.{ℕ, zero, suc, ◌≡◌, ◌≢◌, inl, inr, ◌↔◌, ◌+◌, ◌-◌, ◌*◌, ◌/◌, ◌%◌, ◌^◌, ◌<◌, ◌≤◌, min, bit_and, List, Option, Some, None, true, is_some, arith, refl, sym, ap, subst, ◌∙◌}
+use Rattle.std.proofs.Common.{ℕ, suc, ◌≡◌, ◌↔◌, ◌+◌, ◌-◌, ◌^◌, ◌<◌, ◌≤◌, min, bit_and, Option, true, is_some, arith, sym, ap, subst, ◌∙◌}
 use Rattle.std.specs.Int.{bit_at}
-use Rattle.std.proofs.lemmas.Bool.{cases_eq}
-use Rattle.array_bitmap.specs.Bits.{depth_of, five_bits, path_start, row_bit, width, IsHighest}
+use Rattle.array_bitmap.specs.Bits.{depth_of, five_bits, row_bit, width, IsHighest}
 use Rattle.array_bitmap.specs.Words.{found}
 use Rattle.array_bitmap.specs.Blocks.{rows_of, kid_in, word_after, IsBlock}
 use Rattle.array_bitmap.specs.Greatest.{GreatestBelow}
-use Rattle.array_bitmap.specs.Tree.{Cells, words_of, words_at, kid_at, block_at, word_at, IsSound}
-use Rattle.array_bitmap.proofs.Walks.{some-from, block-first, block-next}
+use Rattle.array_bitmap.specs.Tree.{Cells, words_of, kid_at, block_at, word_at, IsSound}
+use Rattle.array_bitmap.proofs.Walks.{some-from, block-next}
 use Rattle.array_bitmap.proofs.OnePath.{block_used}
 use Rattle.array_bitmap.proofs.LongestRow.{best_after, best_at_end}
 

@@ -1,5 +1,5 @@
 -- What the calls of a pool leave of the words of its blocks.
-use Rattle.std.proofs.Common.{ℕ, zero, suc, ◌≡◌, ◌≢◌, ◌⊎◌, inl, inr, ⊎_elim, ◌+◌, ◌-◌, ◌*◌, ◌/◌, ◌^◌, ◌<◌, ◌≤◌, List, length, slice_index, slice_set, get_or, Option, Some, None, Bool, true, cond, nat_lt, nat_le, ◌==◌, ◌&&◌, is_some, count_ones, arith, refl, sym, ap, subst, ◌∙◌}
+use Rattle.std.proofs.Common.{ℕ, ◌≡◌, ◌≢◌, inl, inr, ⊎_elim, ◌+◌, ◌-◌, ◌*◌, ◌/◌, ◌^◌, ◌<◌, ◌≤◌, List, length, slice_index, Option, Some, None, Bool, true, cond, nat_lt, nat_le, ◌==◌, ◌&&◌, is_some, count_ones, arith, refl, sym, ap, subst, ◌∙◌}
 use Rattle.std.proofs.lemmas.List.{get_or-set_same, get_or-set_other, length-set, get_or-take, length-take}
 use Rattle.std.specs.Int.{bit_at}
 use Rattle.std.proofs.lemmas.Bool.{cases_eq, cases_lt, cond-true, cond-false, lt-ltb, le-ltb, leb-true, eqb-true, and_parts, agree_below_at, false≢true}
@@ -8,7 +8,7 @@ use Rattle.std.proofs.lemmas.Nat.Bits.{bit_at-lt}
 use Rattle.word_pool.specs.Heap.{Heap, size_of, word_of, with_word, is_size, first_of, IsWritten, IsTaken, IsGiven, IsShortened, SameOthers}
 use Rattle.array_bitmap.specs.Blocks.{rows_of, kids_of, size_for, used_words, IsBlock}
 use Rattle.array_bitmap.specs.Tree.{words_of}
-use Rattle.array_bitmap.specs.Changes.{Copies, GetsRoom, ShiftsIn, PutsWord, ShiftsOut, TakesWord, IsReworded, IsInserted, IsReplaced}
+use Rattle.array_bitmap.specs.Changes.{Copies, GetsRoom, ShiftsIn, PutsWord, ShiftsOut, TakesWord, IsReworded, IsInserted}
 use Rattle.array_bitmap.proofs.Ranks.{ones-add, add_lt}
 
 -- a word and the size of a block, by the list of its words

@@ -1,7 +1,7 @@
 -- Rows of an image by prefixes.
 use Rattle.std.specs.FinMap.{put, find as row_of}
 use Rattle.std.specs.FinMap.Entries.{is_sorted-where_key, find-where_key}
-use Rattle.std.proofs.Common.{List, [], ◌∷◌, ◌++◌, length, take, get_or, ℕ, ◌≡◌, ◌≢◌, inl, inr, ◌+◌, ◌-◌, ◌*◌, ◌/◌, ◌%◌, ◌^◌, ◌<◌, ◌≤◌, Bool, true, false, cond, not, Option, Some, None, IfSome, is_some, option_map, arith, refl, sym, ap, subst, ◌∙◌, Result, Err, IsOk, shr-shr}
+use Rattle.std.proofs.Common.{List, [], ◌∷◌, ◌++◌, length, take, get_or, ℕ, ◌≡◌, ◌≢◌, inl, inr, ◌+◌, ◌-◌, ◌*◌, ◌/◌, ◌^◌, ◌<◌, ◌≤◌, Bool, true, false, cond, not, Option, Some, None, IfSome, is_some, option_map, arith, refl, sym, ap, subst, ◌∙◌, Result, Err, IsOk, shr-shr}
 use Rattle.std.specs.Result.{is_ok}
 use Rattle.std.proofs.lemmas.List.{take_more}
 use Rattle.std.proofs.Math.Seq.{take-length}

@@ -1,18 +1,17 @@
 -- A row or a kid is put into a block of a pool.
-use Rattle.std.proofs.Common.{ℕ, zero, suc, ◌≡◌, ◌≢◌, inl, inr, ◌+◌, ◌-◌, ◌*◌, ◌/◌, ◌%◌, ◌^◌, ◌<◌, ◌≤◌, List, [], ◌∷◌, length, slice_index, Option, Some, None, true, cond, is_some, ◌==◌, arith, refl, sym, ap, subst, ◌∙◌}
+use Rattle.std.proofs.Common.{ℕ, ◌≡◌, ◌≢◌, inl, inr, ◌+◌, ◌*◌, ◌/◌, ◌%◌, ◌^◌, ◌<◌, ◌≤◌, List, slice_index, Some, true, cond, is_some, ◌==◌, arith, refl, sym, ap, subst, ◌∙◌}
 use Rattle.std.specs.Int.{bit_at}
 use Rattle.std.specs.Int.RustNames.{count_ones}
 use Rattle.std.proofs.lemmas.Bool.{cases_eq, false≢true}
 use Rattle.std.proofs.lemmas.Nat.Bits.{bit_at-zero}
-use Rattle.word_pool.specs.Heap.{Heap, size_of, word_of, IsWritten, IsTaken, SameOthers}
-use Rattle.array_bitmap.specs.Bits.{rank}
+use Rattle.word_pool.specs.Heap.{Heap, size_of, IsWritten, IsTaken, SameOthers}
 use Rattle.array_bitmap.specs.Blocks.{rows_of, kids_of, row_index, kid_index, size_for, used_words, row_in, kid_in, IsBlock}
 use Rattle.array_bitmap.specs.Tree.{Cells, words_of, words_at, named}
 use Rattle.array_bitmap.specs.Changes.{PutsWord, PutsRow, PutsKid, TakesBlank, ChangesKid, IsReplaced, IsReworded, IsInserted, WritesName}
-use Rattle.array_bitmap.proofs.Ranks.{rank_lt, rank_le, ones-add}
+use Rattle.array_bitmap.proofs.Ranks.{rank_lt}
 use Rattle.array_bitmap.proofs.BlockWords.{row_inserted, row_inserted_block, kid_inserted, kid_inserted_block, row_replaced, row_replaced_block, kid_replaced, kid_replaced_block}
 use Rattle.array_bitmap.proofs.OnePath.{named-kid}
-use Rattle.array_bitmap.proofs.PoolWords.{word_listed, size_listed, there, is_words, written_here, written_other, written_size, size_least, few_words, block_size, block_holds, WritesHead, put_reworded, put_inserted}
+use Rattle.array_bitmap.proofs.PoolWords.{word_listed, size_listed, there, is_words, written_here, written_other, written_size, size_least, block_holds, WritesHead, put_reworded, put_inserted}
 
 -- one of the first words is written
 pub head_written : (old new : Heap) (place i w : ℕ) → i < 3 → IsWritten old new place i w → WritesHead old new place

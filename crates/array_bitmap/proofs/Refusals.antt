@@ -1,5 +1,5 @@
 -- Where a path has no block, it has no row there or below, so a row that is refused is not one that is set again.
-use Rattle.std.proofs.Common.{ℕ, ◌≡◌, ◌+◌, ◌-◌, ◌*◌, ◌/◌, ◌%◌, ◌<◌, ◌≤◌, None, Result, Ok, Err, OnErr, refl, arith, ◌∙◌}
+use Rattle.std.proofs.Common.{ℕ, ◌≡◌, ◌-◌, ◌/◌, ◌%◌, ◌<◌, ◌≤◌, None, Result, Ok, Err, OnErr, refl, arith, ◌∙◌}
 use Rattle.array_bitmap.specs.Bits.{depth_of, five_bits, row_bit}
 use Rattle.array_bitmap.specs.Tree.{Cells, block_at, word_at, IsSound}
 use Rattle.array_bitmap.proofs.Walks.{row-nowhere}

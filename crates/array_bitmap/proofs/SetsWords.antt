@@ -1,11 +1,10 @@
 -- One word is set, or taken out, and what that leaves of all words.
-use Rattle.std.proofs.Common.{ℕ, zero, suc, ◌≡◌, ◌≢◌, ◌⊎◌, inl, inr, ◌+◌, ◌-◌, ◌*◌, ◌^◌, ◌<◌, ◌≤◌, Option, Some, None, IfSome, arith, refl, sym, ap, subst, ◌∙◌}
+use Rattle.std.proofs.Common.{ℕ, ◌≡◌, ◌⊎◌, inl, inr, ◌^◌, ◌<◌, ◌≤◌, Option, Some, None, sym, ap, subst, ◌∙◌}
 use Rattle.std.proofs.lemmas.Bool.{cases_eq}
 use Rattle.array_bitmap.specs.Bits.{path_start}
 use Rattle.array_bitmap.specs.Words.{IsRowWord}
 use Rattle.array_bitmap.specs.Greatest.{GreatestBelow}
 use Rattle.array_bitmap.specs.Tree.{SetsWord}
-use Rattle.array_bitmap.proofs.Walks.{Some_same}
 
 -- words of rows stay such words
 pub row_words_stay : (old new : ℕ → ℕ → Option ℕ) (path len : ℕ) (word : Option ℕ) → SetsWord old new path len word

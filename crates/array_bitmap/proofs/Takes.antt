@@ -1,15 +1,14 @@
 -- A row or a kid is taken out of a block of a pool.
-use Rattle.std.proofs.Common.{ℕ, zero, suc, ◌≡◌, ◌≢◌, inl, inr, ◌+◌, ◌-◌, ◌*◌, ◌/◌, ◌%◌, ◌^◌, ◌<◌, ◌≤◌, List, length, slice_index, Option, Some, None, true, cond, is_some, count_ones, ◌==◌, arith, refl, sym, ap, subst, ◌∙◌}
+use Rattle.std.proofs.Common.{ℕ, ◌≡◌, ◌≢◌, inl, inr, ◌+◌, ◌-◌, ◌/◌, ◌%◌, ◌^◌, ◌<◌, ◌≤◌, slice_index, true, cond, is_some, ◌==◌, arith, refl, sym, ap, subst, ◌∙◌}
 use Rattle.std.specs.Int.{bit_at}
-use Rattle.std.proofs.lemmas.Bool.{cases_eq, false≢true}
-use Rattle.word_pool.specs.Heap.{Heap, size_of, word_of, IsWritten, SameOthers}
-use Rattle.array_bitmap.specs.Bits.{rank}
+use Rattle.std.proofs.lemmas.Bool.{cases_eq}
+use Rattle.word_pool.specs.Heap.{Heap, size_of, word_of, IsWritten}
 use Rattle.array_bitmap.specs.Blocks.{rows_of, kids_of, row_index, kid_index, size_for, used_words, row_in, kid_in, IsBlock}
 use Rattle.array_bitmap.specs.Tree.{Cells, words_of, words_at, named}
 use Rattle.array_bitmap.specs.Changes.{TakesWord, TakesRow, TakesKid, IsRemoved, IsReworded, WritesName}
 use Rattle.array_bitmap.proofs.OnePath.{named-kid}
 use Rattle.array_bitmap.proofs.BlockWords.{row_removed, row_removed_block, kid_removed, kid_removed_block}
-use Rattle.array_bitmap.proofs.PoolWords.{word_listed, size_listed, there, is_words, written_here, written_other, written_size, size_least, WritesHead}
+use Rattle.array_bitmap.proofs.PoolWords.{word_listed, size_listed, there, written_here, written_other, written_size, size_least, WritesHead}
 use Rattle.array_bitmap.proofs.Puts.{head_written, head_twice, stays_reworded}
 
 -- the block has a word less where its bitmaps are written

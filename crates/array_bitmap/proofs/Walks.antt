@@ -1,11 +1,11 @@
 -- Walks down from the array.
-use Rattle.std.proofs.Common.{ℕ, zero, suc, ◌≡◌, ◌≢◌, ◌⊎◌, inl, inr, ◌+◌, ◌-◌, ◌*◌, ◌/◌, ◌%◌, ◌^◌, ◌<◌, ◌≤◌, ◌==◌, List, [], ◌∷◌, slice_index, Option, Some, None, true, cond, eqb, nat_le, is_some, arith, refl, sym, ap, subst, ◌∙◌}
+use Rattle.std.proofs.Common.{ℕ, zero, suc, ◌≡◌, ◌≢◌, ◌⊎◌, inl, inr, ◌+◌, ◌-◌, ◌<◌, ◌≤◌, List, [], ◌∷◌, slice_index, Option, Some, None, true, is_some, arith, refl, sym, ap, subst, ◌∙◌}
 use Rattle.std.specs.Int.{bit_at}
 use Rattle.std.proofs.lemmas.Bool.{cond-true, cond-false, eq-eqb, ne_eqb, le-leb, lt-leb, cases_eq, false≢true}
 use Rattle.std.proofs.lemmas.Nat.Bits.{bit_at-zero}
 use Rattle.array_bitmap.specs.Bits.{depth_of, five_bits, path_start, row_bit, level_of, more_of}
-use Rattle.array_bitmap.specs.Blocks.{rows_of, kids_of, kid_index, row_in, kid_in}
-use Rattle.array_bitmap.specs.Tree.{Cells, words_of, words_at, kid_at, block_at, short_word, long_word, word_at, named, IsSound}
+use Rattle.array_bitmap.specs.Blocks.{kids_of, kid_index, row_in, kid_in}
+use Rattle.array_bitmap.specs.Tree.{Cells, words_of, words_at, kid_at, block_at, short_word, long_word, word_at}
 use Rattle.array_bitmap.proofs.PathBits.{before_level, level_from_parts, more_from_parts}
 use Rattle.array_bitmap.proofs.Covering.{row-clear}
 

@@ -1,5 +1,5 @@
-use Rattle.std.proofs.Common.{ℕ, ◌≡◌, ◌+◌, ◌<◌, ◌∙◌, ◌++◌, ◌∷◌, [], length, refl, arith, ap, sym, subst, length-append}
-use Rattle.std.specs.FinMap.{put, find as row_of}
+use Rattle.std.proofs.Common.{◌≡◌, ◌∙◌, ◌++◌, ◌∷◌, [], length, refl, arith, ap, sym, subst, length-append}
+use Rattle.std.specs.FinMap.{find as row_of}
 use Rattle.ipv4_prefix.specs.Prefix.{prefix_cmp}
 use Rattle.ipv4_prefix.proofs.TableRows.{table_rows-sorted}
 use Rattle.array_bitmap.specs.Batch.{IsNoted}

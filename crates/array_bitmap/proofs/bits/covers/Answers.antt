@@ -1,4 +1,4 @@
-use Rattle.std.proofs.Common.{ℕ, ◌≡◌, ◌<◌, ◌↔◌, arith, sym, subst}
+use Rattle.std.proofs.Common.{ℕ, ◌≡◌, ◌<◌, ◌↔◌, arith, subst}
 use Rattle.std.specs.Int.{bit_at}
 use Rattle.array_bitmap.specs.Bits.{width, row_bit}
 use Rattle.array_bitmap.proofs.Covering.{covers_level, table_entry, covering}

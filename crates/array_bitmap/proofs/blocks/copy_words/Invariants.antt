@@ -1,4 +1,3 @@
-use Rattle.std.proofs.Common.{◌≡◌, ◌<◌, ℕ}
 use Rattle.word_pool.specs.Pool.{blocks}
 use Rattle.array_bitmap.specs.Changes.{Copies}
 use Rattle.array_bitmap.proofs.blocks.copy_words.Given as goal

@@ -1,4 +1,4 @@
-use Rattle.std.proofs.Common.{◌≡◌, ◌<◌, ◌≤◌, ◌+◌, ◌-◌, ℕ}
+use Rattle.std.proofs.Common.{◌≡◌, ◌<◌, ◌≤◌, ◌+◌, ℕ}
 use Rattle.word_pool.specs.Heap.{size_of, word_of, SameOthers}
 use Rattle.word_pool.specs.Pool.{blocks}
 use Rattle.array_bitmap.proofs.blocks.shift_out.Given as goal

@@ -1,6 +1,5 @@
-use Rattle.std.proofs.Common.{◌-◌, ◌*◌, ◌≡◌, ◌<◌, ◌≤◌, arith}
+use Rattle.std.proofs.Common.{arith}
 use Rattle.word_pool.specs.Pool.{blocks}
-use Rattle.array_bitmap.specs.Blocks.{size_for}
 use Rattle.array_bitmap.proofs.PoolWords.{size_holds, size_some, size_halved, word_taken, word_taken_half}
 use Rattle.array_bitmap.proofs.blocks.take_word.Goals as goal
 

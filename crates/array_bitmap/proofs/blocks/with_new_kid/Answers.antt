@@ -1,8 +1,6 @@
-use Rattle.std.proofs.Common.{◌≡◌, ap, sym, subst, ◌∙◌}
+use Rattle.std.proofs.Common.{ap, ◌∙◌}
 use Rattle.word_pool.specs.Heap.{size_of}
 use Rattle.word_pool.specs.Pool.{blocks}
-use Rattle.array_bitmap.specs.Blocks.{IsBlock}
-use Rattle.array_bitmap.specs.Tree.{words_of}
 use Rattle.array_bitmap.proofs.Puts.{not_taken}
 use Rattle.array_bitmap.proofs.blocks.with_new_kid.Goals as goal
 

@@ -1,8 +1,6 @@
-use Rattle.std.proofs.Common.{◌≡◌, ◌≢◌, ◌*◌, ◌≤◌, ◌<◌, true, is_some, arith, ap, subst, sym, ◌∙◌}
+use Rattle.std.proofs.Common.{◌≡◌, ◌≢◌, true, is_some, arith, ap, sym, ◌∙◌}
 use Rattle.std.proofs.lemmas.Bool.{false≢true}
-use Rattle.word_pool.specs.Heap.{is_size, size_of}
 use Rattle.word_pool.specs.Pool.{blocks}
-use Rattle.array_bitmap.specs.Blocks.{size_for}
 use Rattle.array_bitmap.proofs.PoolWords.{there, size_least, size_holds, size_some, twice_some, room_there, room_made}
 use Rattle.array_bitmap.proofs.blocks.with_room.Goals as goal
 

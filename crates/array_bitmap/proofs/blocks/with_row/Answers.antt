@@ -1,4 +1,4 @@
-use Rattle.std.proofs.Common.{ℕ, ◌≡◌, ◌+◌, ◌*◌, ◌/◌, ◌%◌, ◌^◌, ◌<◌, ◌≤◌, refl, arith, ap, sym, subst, ◌∙◌, count_ones}
+use Rattle.std.proofs.Common.{ℕ, ◌≡◌, ◌+◌, ◌/◌, ◌%◌, ◌^◌, ◌<◌, ◌≤◌, refl, arith, ap, sym, ◌∙◌, count_ones}
 use Rattle.std.specs.Int.{bit_at}
 use Rattle.std.proofs.lemmas.Bool.{both_ways}
 use Rattle.word_pool.specs.Heap.{Heap, size_of}
@@ -9,7 +9,7 @@ use Rattle.array_bitmap.specs.Tree.{words_of}
 use Rattle.array_bitmap.proofs.Covering.{row-clear}
 use Rattle.array_bitmap.proofs.Refusals.{refused}
 use Rattle.array_bitmap.proofs.Ranks.{rank_lt, rank_le}
-use Rattle.array_bitmap.proofs.PoolWords.{block_head, block_holds, block_size, few_rows, all_kids, clear_bit, size_least, written_size}
+use Rattle.array_bitmap.proofs.PoolWords.{block_head, block_holds, few_rows, all_kids, clear_bit, size_least, written_size}
 use Rattle.array_bitmap.proofs.Puts.{row_over, row_new}
 use Rattle.array_bitmap.proofs.blocks.with_row.Goals as goal
 

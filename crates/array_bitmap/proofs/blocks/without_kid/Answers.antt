@@ -1,9 +1,7 @@
-use Rattle.std.proofs.Common.{ℕ, ◌≡◌, ◌+◌, ◌-◌, ◌*◌, ◌/◌, ◌%◌, ◌^◌, ◌<◌, ◌≤◌, refl, arith, ap, sym, subst, ◌∙◌, count_ones}
-use Rattle.std.specs.Int.{bit_at}
-use Rattle.word_pool.specs.Heap.{size_of}
+use Rattle.std.proofs.Common.{◌≡◌, ◌+◌, ◌-◌, ◌<◌, ◌≤◌, arith, ap, sym, ◌∙◌, count_ones}
 use Rattle.word_pool.specs.Pool.{blocks}
 use Rattle.array_bitmap.specs.Bits.{rank}
-use Rattle.array_bitmap.specs.Blocks.{rows_of, kids_of, kid_index, size_for, used_words}
+use Rattle.array_bitmap.specs.Blocks.{kids_of, kid_index, used_words}
 use Rattle.array_bitmap.specs.Tree.{words_of}
 use Rattle.array_bitmap.proofs.Ranks.{rank_lt}
 use Rattle.array_bitmap.proofs.PoolWords.{block_head, few_words, size_least}

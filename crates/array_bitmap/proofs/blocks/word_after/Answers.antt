@@ -1,7 +1,6 @@
-use Rattle.std.proofs.Common.{ℕ, ◌≡◌, ◌≢◌, inl, inr, ◌+◌, ◌<◌, arith, ap, sym, subst, ◌∙◌, slice_index, bit_and, Some, None}
+use Rattle.std.proofs.Common.{◌≡◌, inl, inr, ◌+◌, arith, ap, sym, subst, ◌∙◌, slice_index, bit_and, Some, None}
 use Rattle.std.specs.Int.{bit_at}
 use Rattle.std.proofs.lemmas.Bool.{cases_eq}
-use Rattle.word_pool.specs.Heap.{size_of}
 use Rattle.word_pool.specs.Pool.{blocks}
 use Rattle.array_bitmap.specs.Bits.{rank, IsHighest}
 use Rattle.array_bitmap.specs.Blocks.{rows_of, row_index}

@@ -1,4 +1,4 @@
-use Rattle.std.proofs.Common.{◌≡◌, ◌<◌, ◌∙◌, arith, sym, get_or, length, map, None}
+use Rattle.std.proofs.Common.{◌<◌, ◌∙◌, arith, sym, length, map, None}
 use Rattle.std.proofs.lemmas.List.{ext_get_or, get_or-map, length-map}
 use Rattle.ipv4_prefix.specs.LongestMatch.{longest_match}
 use Rattle.array_bitmap.specs.Image.{rows_in}

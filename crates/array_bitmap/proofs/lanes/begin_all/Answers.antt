@@ -1,5 +1,4 @@
-use Rattle.std.proofs.Common.{ℕ, ◌≡◌, ◌<◌, ◌≤◌, ◌∙◌, length, slice_index, arith, sym, ap}
-use Rattle.array_bitmap.specs.Lane.{lane_at}
+use Rattle.std.proofs.Common.{◌<◌, ◌∙◌, slice_index, arith, sym, ap}
 use Rattle.array_bitmap.proofs.lanes.begin_all.Goals as goal
 
 pub returns-clause-lanes : goal.returns-clause-lanes
