@@ -1,6 +1,6 @@
 //! A pool of words, in which blocks are taken and given back.
 
-ghost use Rattle.std.specs.Prelude.{◌≡◌, ◌≢◌, ℕ, ◌+◌, ◌*◌, ◌/◌, ◌%◌, ◌<◌, ◌≤◌, ◌^◌, IsTrue, IfOk, OnOk, OnErr, IsOk, vec_len, length};
+ghost use Rattle.std.specs.Prelude.{◌≡◌, ◌≢◌, ℕ, ◌+◌, ◌*◌, ◌/◌, ◌%◌, ◌<◌, ◌≤◌, ◌^◌, ◌↔◌, IsTrue, IfOk, OnOk, OnErr, IsOk, vec_len, length};
 ghost use Rattle.word_pool.specs.Heap.{is_size, size_of, word_of, IsEmpty, IsTaken, IsGiven, IsWritten, IsShortened, IsSplit};
 ghost use Rattle.word_pool.specs.Layout.{entry, noted, width, IsLaid};
 
@@ -103,6 +103,14 @@ impl<A: Allocator> Pool<A> {
         ensures { result ≡ 4 * capacity self.now }
     {
         4 * self.capacity()
+    }
+
+    /// Whether a block of a size is free.
+    pub fn has_free(&self, size: usize) -> bool
+        requires { IsTrue (is_size size) }
+        ensures { IsTrue result ↔ (0 < spare self.now size) }
+    {
+        self.free[Self::list_of(size)] != 0
     }
 
     /// A word of a block in use.
