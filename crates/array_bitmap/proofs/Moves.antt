@@ -471,3 +471,157 @@ module _ (c : Cells) (heap1 : ℕ → Option (List ℕ)) (tops2 : ℕ → ℕ) (
           | inl e ↦ by_index p m e (cases_eq m five)
           | inr o ↦ inl (p, o.0, sym (moved-other p o.1), names_other p m o.0 o.1)
         ]
+
+  -- ---- a kid without rows and kids has lost its name
+  module _ (five child : ℕ) (changes : ChangesKid ws ws' five 0) (was : kid_in ws five ≡ child) (some : child ≢ 0)
+      (no_kids : (m : ℕ) → kid_at c child m ≡ 0) (no_rows : (b : ℕ) → row_in (words_at c child) b ≡ None) where
+    -- its name
+    was_named : named c j five ≡ child
+    was_named = names_before five ∙ was
+
+    only_name : (p m : ℕ) → named c p m ≡ child → (p ≡ j) × (m ≡ five)
+    only_name p m e = sound.names_apart p j m five (λ z. some (sym e ∙ z)) (e ∙ sym was_named)
+
+    -- it is in use, and is another block
+    pub lost_used : InUse child
+    lost_used = subst InUse was_named (named_used c sound j five)
+
+    pub lost_other : child ≢ j
+    lost_other e = not_itself five (was_named ∙ e)
+
+    -- it does not hold the name of the block
+    pub lost_holds_none : child ≢ q
+    lost_holds_none e = real (sym name ∙ ap (λ x. named c x k) (sym e) ∙ named-kid c child k some ∙ no_kids k)
+
+    -- where a walk stood, and where it stands now: at the same block, or nowhere, where it stood at the kid
+    abbrev Follows' : ℕ → ℕ → Type 0
+    Follows' x y = (InUse x × (x ≢ child) × (y ≡ moved x)) ⊎ ((x ≡ child) × (y ≡ 0))
+
+    -- what stands at a name follows
+    name_follows : (p m : ℕ) → InUse p → Follows' (named c p m) (named c2 (moved p) m)
+    name_follows p m u = by (cases_eq p j) (cases_eq m five)
+      where
+        by : (p ≡ j) ⊎ (p ≡ j → ⊥) → (m ≡ five) ⊎ (m ≡ five → ⊥) → Follows' (named c p m) (named c2 (moved p) m)
+        by (inl e) (inl f) = inr (
+          ap (λ x. named c x m) e ∙ ap (named c j) f ∙ was_named,
+          ap (λ x. named c2 x m) (moved-here p e) ∙ names_here m ∙ ap (kid_in ws') f ∙ changes.here,
+        )
+        by (inl e) (inr n) = inl (
+          named_used c sound p m,
+          λ z. n (only_name p m z).1,
+          ap (λ x. named c2 x m) (moved-here p e) ∙ names_here m ∙ changes.others m n ∙ sym (names_before m)
+          ∙ sym (moved-other (named c j m) (not_itself m)) ∙ ap (λ x. moved (named c x m)) (sym e),
+        )
+        by (inr n) f = inl (named_used c sound p m, λ z. n (only_name p m z).0, ap (λ x. named c2 x m) (moved-other p n) ∙ names_other p m u n)
+
+    -- no kid stands at 0
+    zero_follows : (x y m : ℕ) → x ≡ 0 → y ≡ 0 → Follows' (kid_at c x m) (kid_at c2 y m)
+    zero_follows x y m e f =
+        let old : kid_at c x m ≡ 0 = ap (λ z. kid_at c z m) e ∙ kid-nowhere c sound.nowhere m in
+        let new : kid_at c2 y m ≡ 0 = ap (λ z. kid_at c2 z m) f ∙ kid-nowhere c2 zeros_stay m in
+        inl (subst InUse (sym old) zero_used, λ z. some (sym z ∙ old), new ∙ sym moved-zero ∙ ap moved (sym old))
+
+    -- a step keeps that
+    kid_follows : (x y m : ℕ) → Follows' x y → Follows' (kid_at c x m) (kid_at c2 y m)
+    kid_follows x y m (inl s) = elim (cases_eq x 0) [
+      | inl z ↦ zero_follows x y m z (s.2 ∙ ap moved z ∙ moved-zero)
+      | inr n ↦
+          let still : moved x ≢ 0 = λ z. n (moved_apart x 0 s.0 zero_used (z ∙ sym moved-zero)) in
+          subst (λ v. Follows' v (kid_at c2 y m)) (named-kid c x m n)
+          (subst (Follows' (named c x m)) (named-kid c2 (moved x) m still ∙ ap (λ p. kid_at c2 p m) (sym s.2)) (name_follows x m s.0))
+    ]
+    kid_follows x y m (inr s) =
+        let old : kid_at c x m ≡ 0 = ap (λ z. kid_at c z m) s.0 ∙ no_kids m in
+        let new : kid_at c2 y m ≡ 0 = ap (λ z. kid_at c2 z m) s.1 ∙ kid-nowhere c2 zeros_stay m in
+        inl (subst InUse (sym old) zero_used, λ z. some (sym z ∙ old), new ∙ sym moved-zero ∙ ap moved (sym old))
+
+    -- so do walks
+    lost_follows : (path steps : ℕ) → Follows' (block_at c path steps) (block_at c2 path steps)
+    lost_follows path zero =
+        subst (λ x. Follows' x (block_at c2 path 0)) (sym (block-first c path))
+        (subst (Follows' (named c 0 (path_start path (depth_of c.first)))) (ap (λ x. named c2 x (path_start path (depth_of c.first))) moved-zero ∙ sym (block-first c2 path))
+        (name_follows 0 (path_start path (depth_of c.first)) zero_used))
+    lost_follows path (suc steps) =
+        subst (λ x. Follows' x (block_at c2 path (suc steps))) (sym (block-next c path steps))
+        (subst (Follows' (kid_at c (block_at c path steps) (five_bits path (c.first + steps)))) (sym (block-next c2 path steps))
+        (kid_follows (block_at c path steps) (block_at c2 path steps) (five_bits path (c.first + steps)) (lost_follows path steps)))
+
+    -- and those to the kid end before it
+    pub lost_gone : (path steps : ℕ) → block_at c path steps ≡ child → block_at c2 path steps ≡ 0
+    lost_gone path steps e = by (lost_follows path steps)
+      where
+        by : Follows' (block_at c path steps) (block_at c2 path steps) → block_at c2 path steps ≡ 0
+        by (inl s) = absurd (s.1 e)
+        by (inr s) = s.1
+
+    -- rows are the same where walks stand
+    rows_left : (x y b : ℕ) → Follows' x y → row_in (words_at c2 y) b ≡ row_in (words_at c x) b
+    rows_left x y b (inl s) = elim (cases_eq x j) [
+      | inl e ↦
+          ap (λ z. row_in (words_at c2 z) b) (s.2 ∙ moved-here x e) ∙ rows_here b ∙ changes.rows b
+          ∙ ap (λ o. row_in (words_of o) b) (sym at) ∙ ap (λ z. row_in (words_at c z) b) (sym e)
+      | inr n ↦ ap (λ z. row_in (words_at c2 z) b) (s.2 ∙ moved-other x n) ∙ rows_other x b s.0 n
+    ]
+    rows_left x y b (inr s) =
+        ap (λ z. row_in (words_at c2 z) b) s.1 ∙ row-nowhere c2 zeros_stay b ∙ sym (ap (λ z. row_in (words_at c z) b) s.0 ∙ no_rows b)
+
+    -- no row has changed
+    pub lost_words : (path len : ℕ) → word_at c2 path len ≡ word_at c path len
+    unfolding long_word
+    lost_words path len = elim (cases_lt (depth_of c.first) len) [
+      | inl long ↦
+          let down : ℕ = level_of len - c.first in
+          word-long c2 path len long
+          ∙ rows_left (block_at c path down) (block_at c2 path down) (row_bit (five_bits path (level_of len)) (more_of len)) (lost_follows path down)
+          ∙ sym (word-long c path len long)
+      | inr low ↦ shorts_stay path len low
+    ]
+
+    -- each name is an old one
+    lost_by_index : (p m : ℕ) → named c2 p m ≢ 0 → p ≡ j' → (m ≡ five) ⊎ (m ≡ five → ⊥) → Source Never 0 p m
+    lost_by_index p m n e (inl f) = absurd (n (ap (λ x. named c2 x m) e ∙ names_here m ∙ ap (kid_in ws') f ∙ changes.here))
+    lost_by_index p m n e (inr o) = inl (
+      j,
+      ap is_some at,
+      e ∙ sym (moved-here j refl),
+      ap (λ x. named c2 x m) e ∙ names_here m ∙ changes.others m o ∙ sym (names_before m) ∙ sym (moved-other (named c j m) (not_itself m)),
+    )
+
+    lost_sources : (p m : ℕ) → named c2 p m ≢ 0 → Source Never 0 p m
+    lost_sources p m n = elim (holders p m n) [
+      | inl e ↦ lost_by_index p m n e (cases_eq m five)
+      | inr o ↦ inl (p, o.0, sym (moved-other p o.1), names_other p m o.0 o.1)
+    ]
+
+    -- none is that of the kid
+    pub lost_unnamed : (p m : ℕ) → named c2 p m ≢ child
+    lost_unnamed p m e = elim (lost_sources p m (λ z. some (sym e ∙ z))) [
+      | inl s ↦
+          let one : named c s.0 m ≡ child = moved_apart (named c s.0 m) child (named_used c sound s.0 m) lost_used (sym s.3 ∙ e ∙ sym (moved-other child lost_other)) in
+          let both = only_name s.0 m one in
+          let here : p ≡ j' = s.2 ∙ moved-here s.0 both.0 in
+          some (sym e ∙ ap (λ x. named c2 x m) here ∙ names_here m ∙ ap (kid_in ws') both.1 ∙ changes.here)
+      | inr s ↦ absurd s.2
+    ]
+
+    -- its words have stayed
+    pub lost_stays : heap2 child ≡ c.heap child
+    lost_stays = wr.elsewhere child lost_holds_none ∙ other_heap child lost_used lost_other
+
+    -- the image is sound
+    pub lost_sound : IsBlock ws' → IsSound c2
+    lost_sound new = record {
+      four_sizes = sound.four_sizes;
+      nowhere = zeros_stay;
+      blocks_there = there_still Never 0 lost_sources lost_used_never lost_apart_never;
+      names_apart = apart_still Never 0 lost_sources lost_used_never lost_apart_never;
+      blocks = blocks_stay new;
+      row_words = λ path len w fits short e. sound.row_words path len w fits short (sym (lost_words path len) ∙ e);
+      longest_shorts = λ p fits. shorts_found p (c.bests (path_start p (depth_of c.first))) (sound.longest_shorts p fits);
+    }
+      where
+        lost_used_never : (x : ℕ) → Never x → is_some (heap2 x) ≡ true
+        lost_used_never x h = absurd h
+
+        lost_apart_never : (x o m : ℕ) → Never x → x ≢ moved (named c o m)
+        lost_apart_never x o m h = absurd h

@@ -8,7 +8,7 @@ use Rattle.std.proofs.lemmas.Nat.Bits.{bit_at-lt}
 use Rattle.word_pool.specs.Heap.{Heap, size_of, word_of, with_word, is_size, first_of, IsWritten, IsTaken, IsGiven, IsShortened, SameOthers}
 use Rattle.array_bitmap.specs.Blocks.{rows_of, kids_of, size_for, used_words, IsBlock}
 use Rattle.array_bitmap.specs.Tree.{words_of}
-use Rattle.array_bitmap.specs.Changes.{Copies, GetsRoom, ShiftsIn, PutsWord, ShiftsOut, TakesWord, IsReworded, IsInserted}
+use Rattle.array_bitmap.specs.Changes.{Copies, GetsRoom, ShiftsIn, PutsWord, ShiftsOut, TakesWord, IsReworded, IsInserted, Narrows}
 use Rattle.array_bitmap.proofs.Ranks.{ones-add, add_lt}
 
 -- a word and the size of a block, by the list of its words
@@ -234,24 +234,64 @@ size_halved n some few l =
           (twice, omega (arith, twice, size_least (n - 1) (omega arith)))
     ]
 
-pub word_taken : (old new : Heap) (block used at : ℕ) → 3 < used → used ≤ 97 → size_of (old block) ≡ size_for used → size_for used ≤ size_for (used - 1) → ShiftsOut old new block used at → TakesWord old new block used at
-word_taken old new block used at some few size l s = record {
-  others = s.others;
+-- the block keeps its lower half
+pub narrow_halved : (old new : Heap) (block half used : ℕ) → block ≢ 0 → size_of (old block) ≡ 2 * half → used ≤ half → IsShortened old new block (2 * half / 2) → Narrows old new block block half used
+narrow_halved old new block half used some size fits h =
+    let e : 2 * half / 2 ≡ half = omega arith in
+    record {
+      somewhere = some;
+      fresh = λ n. absurd (n refl);
+      gone = λ n. absurd (n refl);
+      others = λ p n m. h.others p n;
+      size = ap size_of h.here ∙ first_size (old block) (2 * half / 2) (omega (arith, size)) ∙ e;
+      words = λ i l. ap (λ o. word_of o i) h.here ∙ first_word (old block) (2 * half / 2) i (omega (arith, l, fits));
+    }
+
+-- or goes into another one
+pub narrow_moved : (old taken copied new : Heap) (block place half used : ℕ) → is_some (old block) ≡ true
+    → IsTaken old taken place half → Copies taken copied block place used → IsGiven copied new block → Narrows old new block place half used
+narrow_moved old taken copied new block place half used there t p v = record {
+  somewhere = t.not_zero;
+  fresh = λ n. t.fresh;
+  gone = λ n. v.gone;
+  others = λ q n m. v.others q n ∙ p.others q m ∙ t.others q m;
+  size = ap size_of (v.others place apart) ∙ p.size ∙ t.sized;
+  words = λ i h. ap (λ o. word_of o i) (v.others place apart) ∙ p.words i h ∙ ap (λ o. word_of o i) (t.others block (λ e. apart (sym e)));
+}
+  where
+    apart : place ≢ block
+    apart e = false≢true (sym (ap is_some t.fresh) ∙ ap (λ x. is_some (old x)) e ∙ there)
+
+-- a block where all stayed
+pub narrow_after : (old mid new : Heap) (block place half used : ℕ) → ((p : ℕ) → mid p ≡ old p) → Narrows mid new block place half used → Narrows old new block place half used
+narrow_after old mid new block place half used same n = record {
+  somewhere = n.somewhere;
+  fresh = λ a. sym (same place) ∙ n.fresh a;
+  gone = n.gone;
+  others = λ p a b. n.others p a b ∙ same p;
+  size = n.size;
+  words = λ i l. n.words i l ∙ ap (λ o. word_of o i) (same block);
+}
+
+pub word_taken : (old new : Heap) (block used at : ℕ) → block ≢ 0 → 3 < used → used ≤ 97 → size_of (old block) ≡ size_for used → size_for used ≤ size_for (used - 1) → ShiftsOut old new block used at → TakesWord old new block block used at
+word_taken old new block used at there some few size l s = record {
+  somewhere = there;
+  fresh = λ n. absurd (n refl);
+  gone = λ n. absurd (n refl);
+  others = λ p n m. s.others p n;
   size = s.size ∙ size ∙ sym (size_before used (omega arith) few l);
   low = s.low;
   high = s.high;
 }
 
-pub word_taken_half : (old mid new : Heap) (block used at size : ℕ) → 3 < used → used ≤ 97 → at < used → size ≡ size_for used → size_of (old block) ≡ size_for used → size_for (used - 1) < size_for used
-    → ShiftsOut old mid block used at → IsShortened mid new block (size / 2) → TakesWord old new block used at
-word_taken_half old mid new block used at size some few within is sized l s h =
-    let halved = size_halved used (omega arith) few l in
-    let half : size / 2 ≡ size_for (used - 1) = omega (arith, is, halved.0) in
-    let fits : size / 2 ≤ size_of (mid block) = omega (arith, half, s.size, sized, halved.0) in
-    let least : used - 1 ≤ size_for (used - 1) = size_holds (used - 1) (omega arith) in
-    record {
-      others = λ p n. h.others p n ∙ s.others p n;
-      size = ap size_of h.here ∙ first_size (mid block) (size / 2) fits ∙ half;
-      low = λ i b. ap (λ o. word_of o i) h.here ∙ first_word (mid block) (size / 2) i (omega (arith, b, within, half, least)) ∙ s.low i b;
-      high = λ i b m. ap (λ o. word_of o i) h.here ∙ first_word (mid block) (size / 2) i (omega (arith, m, half, least)) ∙ s.high i b m;
-    }
+pub word_taken_half : (old mid new : Heap) (block place used at : ℕ) → 3 < used → at < used
+    → ShiftsOut old mid block used at → Narrows mid new block place (size_for (used - 1)) (used - 1) → TakesWord old new block place used at
+word_taken_half old mid new block place used at some within s n = record {
+  somewhere = n.somewhere;
+  fresh = λ a. sym (s.others place a) ∙ n.fresh a;
+  gone = n.gone;
+  others = λ p a b. n.others p a b ∙ s.others p a;
+  size = n.size;
+  low = λ i b. n.words i (omega (arith, b, within)) ∙ s.low i b;
+  high = λ i b m. n.words i (omega (arith, m)) ∙ s.high i b m;
+}

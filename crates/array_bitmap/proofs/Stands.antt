@@ -1,5 +1,5 @@
 -- A block that stands on a path is changed, and its name is written.
-use Rattle.std.proofs.Common.{ℕ, suc, ◌≡◌, ◌≢◌, inl, inr, ◌+◌, ◌-◌, ◌*◌, ◌/◌, ◌%◌, ◌^◌, ◌<◌, ◌≤◌, List, length, Option, Some, None, true, cond, is_some, count_ones, ◌==◌, arith, refl, sym, ap, subst, ◌∙◌}
+use Rattle.std.proofs.Common.{ℕ, suc, ◌≡◌, ◌≢◌, inl, inr, ◌+◌, ◌-◌, ◌*◌, ◌/◌, ◌%◌, ◌^◌, ◌<◌, ◌≤◌, List, length, Option, Some, None, true, is_some, count_ones, arith, refl, sym, ap, subst, ◌∙◌, zero}
 use Rattle.std.specs.Int.{bit_at}
 use Rattle.std.proofs.lemmas.Bool.{cases_eq, cases_lt, false≢true}
 use Rattle.std.proofs.lemmas.Nat.Bits.{bit_at-zero, bit_at_above}
@@ -9,8 +9,8 @@ use Rattle.array_bitmap.specs.Bits.{depth_of, five_bits, path_start, row_bit}
 use Rattle.array_bitmap.specs.Words.{IsRowWord}
 use Rattle.array_bitmap.specs.Blocks.{rows_of, kids_of, size_for, row_in, kid_in, IsBlock}
 use Rattle.array_bitmap.specs.Tree.{Cells, words_of, words_at, kid_at, block_at, word_at, named, IsSound, SetsWord}
-use Rattle.array_bitmap.specs.Changes.{IsReworded, WritesName, PutsRow, PutsKid, TakesBlank, TakesRow}
-use Rattle.array_bitmap.specs.Image.{IsStand}
+use Rattle.array_bitmap.specs.Changes.{IsReworded, WritesName, PutsRow, PutsKid, TakesBlank, TakesRow, TakesKid}
+use Rattle.array_bitmap.specs.Image.{IsStand, LosesBlock}
 use Rattle.array_bitmap.specs.declared.tree.Stand.{Stand}
 use Rattle.array_bitmap.proofs.Covering.{row-clear}
 use Rattle.array_bitmap.proofs.Walks.{some-from, kid-clear, kid_is_set, block-first, block-next, word_in, gone}
@@ -20,7 +20,7 @@ use Rattle.array_bitmap.proofs.Drops.{unnamed_sound, unnamed_words, unnamed_gone
 use Rattle.array_bitmap.proofs.Puts.{ones_of_zero, four}
 use Rattle.array_bitmap.proofs.OnePath.{named-kid, holder, index_in, name_of, named_used, not_its_own}
 use Rattle.array_bitmap.proofs.PoolWords.{is_words}
-use Rattle.array_bitmap.proofs.Moves.{row_sets, row_sound, kid_words, kid_place, kid_sound}
+use Rattle.array_bitmap.proofs.Moves.{row_sets, row_sound, kid_words, kid_place, kid_sound, lost_sound, lost_words, lost_unnamed, lost_stays, lost_gone}
 use Rattle.array_bitmap.proofs.NewBlocks.{taken_names, taken_walks, taken_words, taken_unnamed, taken_sound, first_words, first_place, first_sound}
 
 -- what is there is one
@@ -308,25 +308,15 @@ index_fits path first four fits =
     let few : 2 ^ depth_of first ≤ 2 ^ 19 = pow-le-pow_right {n = 2} (omega arith) {j = 19} (omega arith) in
     omega (arith, few, index_small path first four fits)
 
--- ---- a row is taken out of the block, which stays where it is
-module _ (c : Cells) (heap1 : ℕ → Option (List ℕ)) (sound : IsSound c) (path level more bit : ℕ) (stand : Stand)
+-- ---- a row is taken out of the block
+module _ (c new : Cells) (heap1 : ℕ → Option (List ℕ)) (sound : IsSound c) (path level more bit place : ℕ) (stand : Stand)
     (low : c.first ≤ level) (deep : level ≤ 5) (few : more < 5) (st : IsStand c path (level - c.first) stand) (b : bit ≡ row_bit (five_bits path level) more)
-    (takes : TakesRow c.heap heap1 stand.block bit) where
+    (takes : TakesRow c.heap heap1 stand.block place bit) (wr : WritesName (record c { heap = heap1 }) new stand.holder stand.index place) where
   at_level : c.first + (level - c.first) ≡ level
   at_level = omega arith
 
-  name_kept : WritesName (record c { heap = heap1 }) (record c { tops = c.tops; heap = heap1 }) stand.holder stand.index stand.block
-  name_kept = record {
-    kept = refl;
-    here = ap (λ o. cond (stand.holder == 0) (c.tops stand.index) (kid_in (words_of o) stand.index))
-        (holder_stays c sound path (level - c.first) stand st (omega (arith, low, deep)) heap1 stand.block (words_of (heap1 stand.block)) takes.reworded) ∙ st.name;
-    others = λ q m out. refl;
-    rows = λ q m. refl;
-    used = λ q. refl;
-    blocks = λ q before. before;
-    elsewhere = λ q n. refl;
-    zeros = refl;
-  }
+  renamed : WritesName (record c { heap = heap1 }) (record c { tops = new.tops; heap = new.heap }) stand.holder stand.index place
+  renamed = subst (λ x. WritesName (record c { heap = heap1 }) x stand.holder stand.index place) wr.kept wr
 
   block_words : c.heap stand.block ≡ Some (words_at c stand.block)
   block_words = is_words (c.heap stand.block) (block_there c sound path (level - c.first) stand st (omega (arith, low, deep)))
@@ -334,17 +324,19 @@ module _ (c : Cells) (heap1 : ℕ → Option (List ℕ)) (sound : IsSound c) (pa
   bit_at_level : bit ≡ row_bit (five_bits path (c.first + (level - c.first))) more
   bit_at_level = b ∙ ap (λ l. row_bit (five_bits path l) more) (sym at_level)
 
-  pub out_sets : SetsWord (word_at c) (word_at (record c { heap = heap1 })) path (depth_of level + (more + 1)) None
+  pub out_sets : SetsWord (word_at c) (word_at new) path (depth_of level + (more + 1)) None
   out_sets =
-      let s = row_sets c heap1 c.tops heap1 stand.block stand.block stand.holder stand.index (words_at c stand.block) (words_of (heap1 stand.block)) sound block_words st.real st.name
-      (stand_apart c sound path (level - c.first) stand st (omega (arith, low, deep))) takes.reworded name_kept bit None takes.changes path (level - c.first) more (omega (arith, at_level, deep)) few st.at bit_at_level in
-      subst (λ l. SetsWord (word_at c) (word_at (record c { heap = heap1 })) path (depth_of l + (more + 1)) None) at_level s
+      let s = row_sets c heap1 new.tops new.heap stand.block place stand.holder stand.index (words_at c stand.block) (words_of (heap1 place)) sound block_words st.real st.name
+      (stand_apart c sound path (level - c.first) stand st (omega (arith, low, deep))) takes.reworded renamed bit None takes.changes path (level - c.first) more (omega (arith, at_level, deep)) few st.at bit_at_level in
+      subst (λ x. SetsWord (word_at c) (word_at x) path (depth_of level + (more + 1)) None) (sym wr.kept)
+      (subst (λ l. SetsWord (word_at c) (word_at (record c { tops = new.tops; heap = new.heap })) path (depth_of l + (more + 1)) None) at_level s)
 
-  pub out_sound : IsSound (record c { heap = heap1 })
+  pub out_sound : IsSound new
   out_sound =
-      row_sound c heap1 c.tops heap1 stand.block stand.block stand.holder stand.index (words_at c stand.block) (words_of (heap1 stand.block)) sound block_words st.real st.name
-      (stand_apart c sound path (level - c.first) stand st (omega (arith, low, deep))) takes.reworded name_kept bit None takes.changes path (level - c.first) more (omega (arith, at_level, deep)) few st.at bit_at_level
-      takes.is_block (λ w e. absurd (let z : None ≡ Some w = e in cc))
+      subst IsSound (sym wr.kept)
+      (row_sound c heap1 new.tops new.heap stand.block place stand.holder stand.index (words_at c stand.block) (words_of (heap1 place)) sound block_words st.real st.name
+      (stand_apart c sound path (level - c.first) stand st (omega (arith, low, deep))) takes.reworded renamed bit None takes.changes path (level - c.first) more (omega (arith, at_level, deep)) few st.at bit_at_level
+      takes.is_block (λ w e. absurd (let z : None ≡ Some w = e in cc)))
 
 -- a word of a path, by the block at its level
 pub word_of_stand : (c : Cells) (path level more block : ℕ) → c.first ≤ level → more < 5 → block_at c path (level - c.first) ≡ block
@@ -361,54 +353,89 @@ nothing_to_take c path len short none = record {
   miss = λ q m l b out. refl;
 }
 
--- ---- the block has lost its name, and is given back
-module _ (c mid : Cells) (heap2 : ℕ → Option (List ℕ)) (sound : IsSound c) (path steps : ℕ) (stand : Stand) (st : IsStand c path steps stand) (deep : c.first + steps ≤ 6)
-    (wr : WritesName c mid stand.holder stand.index 0) (rows : rows_of (words_at c stand.block) ≡ 0) (kids : kids_of (words_at c stand.block) ≡ 0)
-    (gone : heap2 stand.block ≡ None) (others : (p : ℕ) → p ≢ stand.block → heap2 p ≡ mid.heap p) where
-  abbrev nameless : Cells
-  nameless = record c { tops = mid.tops; heap = mid.heap }
+-- ---- the block has lost its name
+module _ (c : Cells) (sound : IsSound c) (path steps : ℕ) (stand : Stand) (st : IsStand c path steps stand)
+    (rows : rows_of (words_at c stand.block) ≡ 0) (kids : kids_of (words_at c stand.block) ≡ 0) where
+  lost_kids : (m : ℕ) → kid_at c stand.block m ≡ 0
+  lost_kids = no_kids_in (words_at c stand.block) kids
 
-  as_nameless : WritesName c (record c { tops = mid.tops; heap = mid.heap }) stand.holder stand.index 0
-  as_nameless = subst (λ x. WritesName c x stand.holder stand.index 0) wr.kept wr
+  lost_rows : (b : ℕ) → row_in (words_at c stand.block) b ≡ None
+  lost_rows = no_rows_in (words_at c stand.block) rows
 
-  dropped_kids : (m : ℕ) → kid_at c stand.block m ≡ 0
-  dropped_kids = no_kids_in (words_at c stand.block) kids
+  -- in the array
+  module _ (new : Cells) (wr : WritesName c new stand.holder stand.index 0) (deep : c.first + steps ≤ 6) where
+    in_array : WritesName c (record c { tops = new.tops; heap = new.heap }) stand.holder stand.index 0
+    in_array = subst (λ x. WritesName c x stand.holder stand.index 0) wr.kept wr
 
-  dropped_rows : (b : ℕ) → row_in (words_at c stand.block) b ≡ None
-  dropped_rows = no_rows_in (words_at c stand.block) rows
+    pub top_lost : LosesBlock c new stand.block
+    top_lost = record {
+      sound = subst IsSound (sym wr.kept) (unnamed_sound c new.tops new.heap stand.holder stand.index stand.block sound st.name st.real in_array lost_kids lost_rows);
+      same = λ q m. ap (λ x. word_at x q m) wr.kept ∙ unnamed_words c new.tops new.heap stand.holder stand.index stand.block sound st.name st.real in_array lost_kids lost_rows q m;
+      unnamed = λ p m e. has_no_name c new.tops new.heap stand.holder stand.index stand.block sound st.name st.real in_array lost_kids lost_rows p m (sym (ap (λ x. named x p m) wr.kept) ∙ e);
+      stays = wr.elsewhere stand.block (λ e. stand_apart c sound path steps stand st deep (sym e));
+      gone = λ p n e. ap (λ x. block_at x p n) wr.kept ∙ unnamed_gone c new.tops new.heap stand.holder stand.index stand.block sound st.name st.real in_array lost_kids lost_rows p n e;
+    }
 
-  -- its words have stayed
-  pub dropped_stays : mid.heap stand.block ≡ c.heap stand.block
-  dropped_stays = wr.elsewhere stand.block (λ e. stand_apart c sound path steps stand st deep (sym e))
+  -- or in a block, which may have moved, and whose name is written
+  module _ (new : Cells) (heap1 : ℕ → Option (List ℕ)) (place up : ℕ) (above : Stand) (sa : IsStand c path up above) (deep : c.first + up ≤ 6)
+      (here : stand.holder ≡ above.block) (takes : TakesKid c.heap heap1 above.block place stand.index)
+      (wr : WritesName (record c { heap = heap1 }) new above.holder above.index place) where
+    in_block : WritesName (record c { heap = heap1 }) (record c { tops = new.tops; heap = new.heap }) above.holder above.index place
+    in_block = subst (λ x. WritesName (record c { heap = heap1 }) x above.holder above.index place) wr.kept wr
 
-  still_no_kids : (m : ℕ) → kid_at nameless stand.block m ≡ 0
-  still_no_kids m = ap (λ o. kid_in (words_of o) m) dropped_stays ∙ dropped_kids m
+    holder_words : c.heap above.block ≡ Some (words_at c above.block)
+    holder_words = is_words (c.heap above.block) (block_there c sound path up above sa deep)
 
-  nameless_sound : IsSound nameless
-  nameless_sound = unnamed_sound c mid.tops mid.heap stand.holder stand.index stand.block sound st.name st.real as_nameless dropped_kids dropped_rows
+    kid_was : kid_in (words_at c above.block) stand.index ≡ stand.block
+    kid_was = sym (named-kid c above.block stand.index sa.real) ∙ ap (λ p. named c p stand.index) (sym here) ∙ st.name
 
-  -- all names are those of others
-  no_names : (p m : ℕ) → named nameless p m ≢ stand.block
-  no_names = has_no_name c mid.tops mid.heap stand.holder stand.index stand.block sound st.name st.real as_nameless dropped_kids dropped_rows
+    holder_apart : above.holder ≢ above.block
+    holder_apart = stand_apart c sound path up above sa deep
 
-  back : record mid { heap = heap2 } ≡ record nameless { heap = heap2 }
-  back = ap (λ (x : Cells). record x { heap = heap2 }) wr.kept
+    pub kid_lost : LosesBlock c new stand.block
+    kid_lost = record {
+      sound = subst IsSound (sym wr.kept)
+          (lost_sound c heap1 new.tops new.heap above.block place above.holder above.index (words_at c above.block) (words_of (heap1 place)) sound holder_words sa.real sa.name holder_apart
+          takes.reworded in_block stand.index stand.block takes.changes kid_was st.real lost_kids lost_rows takes.is_block);
+      same = λ q m. ap (λ x. word_at x q m) wr.kept
+          ∙ lost_words c heap1 new.tops new.heap above.block place above.holder above.index (words_at c above.block) (words_of (heap1 place)) sound holder_words sa.real sa.name holder_apart
+          takes.reworded in_block stand.index stand.block takes.changes kid_was st.real lost_kids lost_rows q m;
+      unnamed = λ p m e. lost_unnamed c heap1 new.tops new.heap above.block place above.holder above.index (words_at c above.block) (words_of (heap1 place)) sound holder_words sa.real sa.name holder_apart
+          takes.reworded in_block stand.index stand.block takes.changes kid_was st.real lost_kids lost_rows p m (sym (ap (λ x. named x p m) wr.kept) ∙ e);
+      stays = lost_stays c heap1 new.tops new.heap above.block place above.holder above.index (words_at c above.block) (words_of (heap1 place)) sound holder_words sa.real sa.name holder_apart
+          takes.reworded in_block stand.index stand.block takes.changes kid_was st.real lost_kids lost_rows;
+      gone = λ p n e. ap (λ x. block_at x p n) wr.kept
+          ∙ lost_gone c heap1 new.tops new.heap above.block place above.holder above.index (words_at c above.block) (words_of (heap1 place)) sound holder_words sa.real sa.name holder_apart
+          takes.reworded in_block stand.index stand.block takes.changes kid_was st.real lost_kids lost_rows p n e;
+    }
+
+-- ---- and is given back
+module _ (c mid : Cells) (heap2 : ℕ → Option (List ℕ)) (block : ℕ) (lost : LosesBlock c mid block) (real : block ≢ 0) (kids : kids_of (words_at c block) ≡ 0)
+    (gone : heap2 block ≡ None) (others : (p : ℕ) → p ≢ block → heap2 p ≡ mid.heap p) where
+  still_no_kids : (m : ℕ) → kid_at mid block m ≡ 0
+  still_no_kids m = ap (λ o. kid_in (words_of o) m) lost.stays ∙ no_kids_in (words_at c block) kids m
 
   pub dropped_sound : IsSound (record mid { heap = heap2 })
-  dropped_sound = subst IsSound (sym back) (given_sound nameless heap2 stand.block nameless_sound st.real no_names gone others still_no_kids)
+  dropped_sound = given_sound mid heap2 block lost.sound real lost.unnamed gone others still_no_kids
 
   pub dropped_words : (q m : ℕ) → word_at (record mid { heap = heap2 }) q m ≡ word_at c q m
-  dropped_words q m =
-      ap (λ x. word_at x q m) back
-      ∙ given_words nameless heap2 stand.block nameless_sound st.real no_names gone others still_no_kids q m
-      ∙ unnamed_words c mid.tops mid.heap stand.holder stand.index stand.block sound st.name st.real as_nameless dropped_kids dropped_rows q m
+  dropped_words q m = given_words mid heap2 block lost.sound real lost.unnamed gone others still_no_kids q m ∙ lost.same q m
 
-  -- and the path has no block there
-  pub dropped_gone : block_at (record mid { heap = heap2 }) path steps ≡ 0
-  dropped_gone =
-      ap (λ x. block_at x path steps) back
-      ∙ given_walks nameless heap2 stand.block nameless_sound st.real no_names gone others still_no_kids path steps
-      ∙ unnamed_gone c mid.tops mid.heap stand.holder stand.index stand.block sound st.name st.real as_nameless dropped_kids dropped_rows path steps st.at
+  -- and a path that led to it ends before it
+  pub dropped_gone : (path steps : ℕ) → block_at c path steps ≡ block → block_at (record mid { heap = heap2 }) path steps ≡ 0
+  dropped_gone path steps at = given_walks mid heap2 block lost.sound real lost.unnamed gone others still_no_kids path steps ∙ lost.gone path steps at
+
+-- a block that has a holder stands below the array, and its holder is the block above it on the path
+pub holder_above : (c : Cells) (sound : IsSound c) (path steps : ℕ) (stand : Stand) → IsStand c path steps stand → stand.holder ≢ 0 → (0 < steps) × (block_at c path (steps - 1) ≡ stand.holder)
+holder_above c sound path zero stand st some =
+    let at = st.at in
+    let same = sound.names_apart stand.holder 0 stand.index (index_in c path 0) (λ z. st.real (sym st.name ∙ z)) (st.name ∙ sym at ∙ sym (name_of c sound path 0 (λ z. st.real (sym at ∙ z)))) in
+    absurd (some same.0)
+holder_above c sound path (suc steps) stand st some =
+    let at = st.at in
+    let same = sound.names_apart stand.holder (block_at c path steps) stand.index (five_bits path (c.first + steps)) (λ z. st.real (sym st.name ∙ z)) (st.name ∙ sym at ∙ sym (name_of c sound path (suc steps) (λ z. st.real (sym at ∙ z)))) in
+    let e : suc steps - 1 ≡ steps = omega arith in
+    (omega arith, ap (block_at c path) e ∙ sym same.0)
 
 -- a block without rows and kids has the least size
 pub dropped_size : (ws : List ℕ) → IsBlock ws → rows_of ws ≡ 0 → kids_of ws ≡ 0 → length ws ≡ 4

@@ -124,21 +124,33 @@ pub record ShiftsOut (old new : ℕ → Option (List ℕ)) (block used at : ℕ)
   pub low : (i : ℕ) → i < at → word_of (new block) i ≡ word_of (old block) i
   pub high : (i : ℕ) → at ≤ i → i + 1 < used → word_of (new block) i ≡ word_of (old block) (i + 1)
 
--- a block has the word at an index less, and is as large as the others want
-pub record TakesWord (old new : ℕ → Option (List ℕ)) (block used at : ℕ) : Type 0 where
-  pub others : SameOthers old new block
-  pub size : size_of (new block) ≡ size_for (used - 1)
-  pub low : (i : ℕ) → i < at → word_of (new block) i ≡ word_of (old block) i
-  pub high : (i : ℕ) → at ≤ i → i + 1 < used → word_of (new block) i ≡ word_of (old block) (i + 1)
+-- a block has half of its size now, and may stand elsewhere; its first words stay
+pub record Narrows (old new : ℕ → Option (List ℕ)) (block place half used : ℕ) : Type 0 where
+  pub somewhere : place ≢ 0
+  pub fresh : place ≢ block → old place ≡ None
+  pub gone : place ≢ block → new block ≡ None
+  pub others : (p : ℕ) → p ≢ block → p ≢ place → new p ≡ old p
+  pub size : size_of (new place) ≡ half
+  pub words : (i : ℕ) → i < used → word_of (new place) i ≡ word_of (old block) i
 
--- a block has no row at a bit now
-pub record TakesRow (old new : ℕ → Option (List ℕ)) (block bit : ℕ) : Type 0 where
-  pub reworded : IsReworded old new block block (words_of (new block))
-  pub changes : ChangesRow (words_of (old block)) (words_of (new block)) bit None
-  pub is_block : IsBlock (words_of (new block))
+-- a block has the word at an index less, is as large as the others want, and may stand elsewhere
+pub record TakesWord (old new : ℕ → Option (List ℕ)) (block place used at : ℕ) : Type 0 where
+  pub somewhere : place ≢ 0
+  pub fresh : place ≢ block → old place ≡ None
+  pub gone : place ≢ block → new block ≡ None
+  pub others : (p : ℕ) → p ≢ block → p ≢ place → new p ≡ old p
+  pub size : size_of (new place) ≡ size_for (used - 1)
+  pub low : (i : ℕ) → i < at → word_of (new place) i ≡ word_of (old block) i
+  pub high : (i : ℕ) → at ≤ i → i + 1 < used → word_of (new place) i ≡ word_of (old block) (i + 1)
 
--- a block has no kid at five bits now
-pub record TakesKid (old new : ℕ → Option (List ℕ)) (block five : ℕ) : Type 0 where
-  pub reworded : IsReworded old new block block (words_of (new block))
-  pub changes : ChangesKid (words_of (old block)) (words_of (new block)) five 0
-  pub is_block : IsBlock (words_of (new block))
+-- a block has no row at a bit now, and may stand elsewhere
+pub record TakesRow (old new : ℕ → Option (List ℕ)) (block place bit : ℕ) : Type 0 where
+  pub reworded : IsReworded old new block place (words_of (new place))
+  pub changes : ChangesRow (words_of (old block)) (words_of (new place)) bit None
+  pub is_block : IsBlock (words_of (new place))
+
+-- a block has no kid at five bits now, and may stand elsewhere
+pub record TakesKid (old new : ℕ → Option (List ℕ)) (block place five : ℕ) : Type 0 where
+  pub reworded : IsReworded old new block place (words_of (new place))
+  pub changes : ChangesKid (words_of (old block)) (words_of (new place)) five 0
+  pub is_block : IsBlock (words_of (new place))

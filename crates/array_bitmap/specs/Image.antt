@@ -5,7 +5,7 @@ use Rattle.ipv4_prefix.specs.Prefix.{Prefix}
 use Rattle.network_model.specs.declared.route.Entry.{Entry}
 use Rattle.array_bitmap.specs.Bits.{depth_of}
 use Rattle.array_bitmap.specs.Words.{nothing}
-use Rattle.array_bitmap.specs.Tree.{Cells, IsSound, block_at, named, rows_of_cells}
+use Rattle.array_bitmap.specs.Tree.{Cells, IsSound, block_at, word_at, named, rows_of_cells}
 use Rattle.array_bitmap.specs.declared.tree.Tree.{Tree}
 use Rattle.array_bitmap.specs.declared.tree.Top.{Top}
 use Rattle.array_bitmap.specs.declared.tree.Stand.{Stand}
@@ -39,3 +39,11 @@ pub record IsStand (c : Cells) (path steps : ℕ) (stand : Stand) : Type 0 where
   pub at : block_at c path steps ≡ stand.block
   pub real : stand.block ≢ 0
   pub name : named c stand.holder stand.index ≡ stand.block
+
+-- a block has no name now, and has its words still; the image is sound, and no row has changed
+pub record LosesBlock (old new : Cells) (block : ℕ) : Type 0 where
+  pub sound : IsSound new
+  pub same : (path len : ℕ) → word_at new path len ≡ word_at old path len
+  pub unnamed : (p m : ℕ) → named new p m ≢ block
+  pub stays : new.heap block ≡ old.heap block
+  pub gone : (path steps : ℕ) → block_at old path steps ≡ block → block_at new path steps ≡ 0

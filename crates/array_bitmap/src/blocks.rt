@@ -1,12 +1,12 @@
 //! Blocks of words: what their words say, and how a word more is put into one.
 
-ghost use Rattle.std.specs.Prelude.{◌≡◌, ◌≢◌, ℕ, ◌+◌, ◌*◌, ◌^◌, ◌<◌, ◌≤◌, bit_and, is_some, true, Option, None, IfOk, OnErr};
+ghost use Rattle.std.specs.Prelude.{◌≡◌, ◌≢◌, ℕ, ◌+◌, ◌*◌, ◌^◌, ◌<◌, ◌≤◌, bit_and, is_some, true, IsTrue, Option, None, IfOk, OnErr};
 ghost use Rattle.std.specs.Int.{bit_at};
 ghost use Rattle.array_bitmap.specs.Bits.{IsHighest};
 ghost use Rattle.array_bitmap.specs.Blocks.{rows_of, kids_of, row_in, kid_in, word_after, size_for, IsBlock, IsHead};
-ghost use Rattle.array_bitmap.specs.Changes.{Copies, GetsRoom, ShiftsIn, PutsWord, PutsRow, PutsKid, TakesBlank, GetsKid, ShiftsOut, TakesWord, TakesRow, TakesKid};
+ghost use Rattle.array_bitmap.specs.Changes.{Copies, GetsRoom, ShiftsIn, PutsWord, PutsRow, PutsKid, TakesBlank, GetsKid, ShiftsOut, Narrows, TakesWord, TakesRow, TakesKid};
 ghost use Rattle.array_bitmap.specs.Tree.{words_of};
-ghost use Rattle.word_pool.specs.Heap.{size_of, SameBlocks};
+ghost use Rattle.word_pool.specs.Heap.{size_of, SameBlocks, is_size, word_of, SameOthers};
 ghost use Rattle.word_pool.specs.Pool.{blocks};
 
 use crate::bits::{bit, chosen, count, highest, is_set, rank, size_for, with_bit, without_bit};
@@ -283,51 +283,78 @@ fn shift_out<A: Allocator>(pool: &mut Pool<A>, block: u32, used: usize, at: usiz
     }
 }
 
-/// Takes the word at an index out of a block, and gives its upper half back where the lower one holds
-/// the others.
-fn take_word<A: Allocator>(pool: &mut Pool<A>, block: u32, used: usize, at: usize)
+/// Has a block go into half of its size, where its first `used` words fit. Where a block of that size is
+/// free, it moves there, and what it had is free as a whole. So rows that come and go take the same blocks
+/// each time. Else its upper half is given back. It needs no memory.
+fn narrow<A: Allocator>(pool: &mut Pool<A>, block: u32, half: usize, used: usize) -> u32
+    requires some { block ≢ 0 }
+    requires one_of_six { IsTrue (is_size half) }
+    requires twice { IsTrue (is_size (2 * half)) }
+    requires size { size_of (blocks pool.old block) ≡ 2 * half }
+    requires head { 3 ≤ used }
+    requires fits { used ≤ half }
+    ensures { Narrows (blocks pool.old) (blocks pool.new) block result half used }
+{
+    if !pool.has_free(half) {
+        pool.halve(block, 2 * half);
+        return block;
+    }
+    let Ok(place) = pool.take(half) else {
+        pool.halve(block, 2 * half);
+        return block;
+    };
+    copy_words(pool, block, place, used);
+    pool.give(block, 2 * half);
+    place
+}
+
+/// Takes the word at an index out of a block, which may move where the others fit into half of its size.
+fn take_word<A: Allocator>(pool: &mut Pool<A>, block: u32, used: usize, at: usize) -> u32
     requires some { block ≢ 0 }
     requires few { used ≤ 97 }
     requires head { 3 < used }
     requires within { at < used }
     requires size { size_of (blocks pool.old block) ≡ size_for used }
-    ensures { TakesWord (blocks pool.old) (blocks pool.new) block used at }
+    ensures { TakesWord (blocks pool.old) (blocks pool.new) block result used at }
 {
     shift_out(pool, block, used, at);
-    let size = size_for(used);
-    if size_for(used - 1) < size {
-        pool.halve(block, size);
+    let size = size_for(used - 1);
+    if size < size_for(used) {
+        return narrow(pool, block, size, used - 1);
     }
+    block
 }
 
-/// Takes the row of a bit out of a block. It needs no memory.
-pub(crate) fn without_row<A: Allocator>(pool: &mut Pool<A>, block: u32, bit: u32)
+/// Takes the row of a bit out of a block, which may move. It needs no memory.
+pub(crate) fn without_row<A: Allocator>(pool: &mut Pool<A>, block: u32, bit: u32) -> u32
     requires some { block ≢ 0 }
     requires used { is_some (blocks pool.old block) ≡ true }
     requires is_block { IsBlock (words_of (blocks pool.old block)) }
     requires small { bit < 62 }
     requires set { bit_at (rows_of (words_of (blocks pool.old block))) bit ≡ 1 }
-    ensures { TakesRow (blocks pool.old) (blocks pool.new) block bit }
+    ensures { TakesRow (blocks pool.old) (blocks pool.new) block result bit }
 {
     let rows = rows_of(pool, block);
     let used = HEAD + count(rows) + count(kids_of(pool, block));
-    take_word(pool, block, used, HEAD + rank(rows, bit));
+    let place = take_word(pool, block, used, HEAD + rank(rows, bit));
     let rows = without_bit(rows, bit);
-    pool.set_word(block, 0, (rows % 0x1_0000_0000) as u32);
-    pool.set_word(block, 1, (rows >> 32) as u32);
+    pool.set_word(place, 0, (rows % 0x1_0000_0000) as u32);
+    pool.set_word(place, 1, (rows >> 32) as u32);
+    place
 }
 
-/// Takes the kid at five bits out of a block. It needs no memory.
-pub(crate) fn without_kid<A: Allocator>(pool: &mut Pool<A>, block: u32, five: u32)
+/// Takes the kid at five bits out of a block, which may move. It needs no memory.
+pub(crate) fn without_kid<A: Allocator>(pool: &mut Pool<A>, block: u32, five: u32) -> u32
     requires some { block ≢ 0 }
     requires used { is_some (blocks pool.old block) ≡ true }
     requires is_block { IsBlock (words_of (blocks pool.old block)) }
     requires small { five < 32 }
     requires set { bit_at (kids_of (words_of (blocks pool.old block))) five ≡ 1 }
-    ensures { TakesKid (blocks pool.old) (blocks pool.new) block five }
+    ensures { TakesKid (blocks pool.old) (blocks pool.new) block result five }
 {
     let kids = kids_of(pool, block);
     let before = HEAD + count(rows_of(pool, block));
-    take_word(pool, block, before + count(kids), before + rank(kids, five));
-    pool.set_word(block, 2, without_bit(kids, five) as u32);
+    let place = take_word(pool, block, before + count(kids), before + rank(kids, five));
+    pool.set_word(place, 2, without_bit(kids, five) as u32);
+    place
 }

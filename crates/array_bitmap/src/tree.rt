@@ -6,10 +6,10 @@ ghost use Rattle.array_bitmap.specs.Bits.{depth_of};
 ghost use Rattle.array_bitmap.specs.Words.{found, len_of};
 ghost use Rattle.array_bitmap.specs.Greatest.{GreatestBelow};
 ghost use Rattle.array_bitmap.specs.Words.{IsRowWord};
-ghost use Rattle.array_bitmap.specs.Blocks.{kids_of, IsBlock, IsHead};
+ghost use Rattle.array_bitmap.specs.Blocks.{rows_of, kids_of, IsBlock, IsHead};
 ghost use Rattle.array_bitmap.specs.Tree.{words_of, block_at, word_at, SetsWord};
 ghost use Rattle.array_bitmap.specs.Changes.{WritesName};
-ghost use Rattle.array_bitmap.specs.Image.{cells_of, rows_in, top_at, IsSoundTree, IsStand};
+ghost use Rattle.array_bitmap.specs.Image.{cells_of, rows_in, top_at, IsSoundTree, IsStand, LosesBlock};
 ghost use Rattle.std.specs.FinMap.{put, find as row_of};
 ghost use Rattle.array_bitmap.specs.Removal.{without_row, HasUse, IsPruned};
 ghost use Rattle.ipv4_prefix.specs.Prefix.{prefix_cmp};
@@ -461,23 +461,41 @@ impl<A: Allocator> Tree<A> {
         Some(stand)
     }
 
-    /// Takes the place of a block out of where its name stands.
-    fn unname(&mut self, holder: u32, index: u32)
-        requires within { holder ≡ 0 → index < vec_len self.old.tops }
-        requires used { is_some (blocks self.old.pool holder) ≡ true }
-        requires is_block { IsBlock (words_of (blocks self.old.pool holder)) }
-        requires kid { holder ≢ 0 → bit_at (kids_of (words_of (blocks self.old.pool holder))) index ≡ 1 }
-        requires five { holder ≢ 0 → index < 32 }
-        ensures name { WritesName (cells_of self.old) (cells_of self.new) holder index 0 }
+    /// Takes the place of a block out of the array.
+    fn forget_top(&mut self, index: u32)
+        requires { index < vec_len self.old.tops }
+        ensures name { WritesName (cells_of self.old) (cells_of self.new) 0 index 0 }
         ensures first { self.new.first ≡ self.old.first }
         ensures shorts { vec_len self.new.shorts ≡ vec_len self.old.shorts }
         ensures tops { vec_len self.new.tops ≡ vec_len self.old.tops }
     {
-        if holder == 0 {
-            self.tops[index as usize].block = 0;
+        self.tops[index as usize].block = 0;
+    }
+
+    /// Takes the place of a path's block at a level, which has no row and no kid, out of where its name
+    /// stands. If that is another block, that one may move.
+    fn unname(&mut self, path: u64, level: u32, stand: Stand)
+        requires sound { IsSoundTree self.old }
+        requires fits { path < 2 ^ 34 }
+        requires low { self.old.first ≤ level }
+        requires deep { level ≤ 5 }
+        requires stand { IsStand (cells_of self.old) path (level - self.old.first) stand }
+        requires no_rows { rows_of (words_of (blocks self.old.pool stand.block)) ≡ 0 }
+        requires no_kids { kids_of (words_of (blocks self.old.pool stand.block)) ≡ 0 }
+        ensures lost { LosesBlock (cells_of self.old) (cells_of self.new) stand.block }
+        ensures first { self.new.first ≡ self.old.first }
+        ensures shorts { vec_len self.new.shorts ≡ vec_len self.old.shorts }
+        ensures tops { vec_len self.new.tops ≡ vec_len self.old.tops }
+    {
+        if stand.holder == 0 {
+            self.forget_top(stand.index);
             return;
         }
-        without_kid(&mut self.pool, holder, index);
+        let Some(above) = self.stand_on(path, level - 1) else {
+            return;
+        };
+        let place = without_kid(&mut self.pool, above.block, stand.index);
+        self.rename(above.holder, above.index, place);
     }
 
     /// Gives the block of a path at a level back, where it has no row and no kid, and says whether there is
@@ -504,7 +522,7 @@ impl<A: Allocator> Tree<A> {
         if rows_of(&self.pool, stand.block) != 0 || kids_of(&self.pool, stand.block) != 0 {
             return false;
         }
-        self.unname(stand.holder, stand.index);
+        self.unname(path, level, stand);
         self.pool.give(stand.block, 4);
         true
     }
@@ -551,7 +569,8 @@ impl<A: Allocator> Tree<A> {
         if !is_set(rows_of(&self.pool, stand.block), bit) {
             return false;
         }
-        without_row(&mut self.pool, stand.block, bit);
+        let place = without_row(&mut self.pool, stand.block, bit);
+        self.rename(stand.holder, stand.index, place);
         self.prune(path, level);
         true
     }

@@ -14,23 +14,23 @@ kids_of-kids-requires g c = block_head (blocks c.args.pool.now) c.args.block c.r
 pub rows_of-requires : goal.rows_of-requires
 rows_of-requires g c = block_head (blocks c.args.pool.now) c.args.block c.requires.is_block
 
-pub take_word-requires-clause-few : goal.take_word-requires-clause-few
-take_word-requires-clause-few g c =
+pub take_word-place-requires-clause-few : goal.take_word-place-requires-clause-few
+take_word-place-requires-clause-few g c =
     omega (arith, c.count-before.ensures.value, c.count.ensures.value, ap count_ones c.rows_of.ensures, ap count_ones c.kids_of-kids.ensures.value, few_words (blocks c.args.pool.now) c.args.block c.requires.is_block)
 
-pub take_word-requires-clause-head : goal.take_word-requires-clause-head
-take_word-requires-clause-head g c =
+pub take_word-place-requires-clause-head : goal.take_word-place-requires-clause-head
+take_word-place-requires-clause-head g c =
     omega (arith, c.count.ensures.value, ap count_ones c.kids_of-kids.ensures.value, rank_lt (kids_of (words_of (blocks c.args.pool.now c.args.block))) c.args.five c.requires.set)
 
-pub take_word-requires-clause-within : goal.take_word-requires-clause-within
-take_word-requires-clause-within g c =
+pub take_word-place-requires-clause-within : goal.take_word-place-requires-clause-within
+take_word-place-requires-clause-within g c =
     omega (arith, c.rank.ensures.value, c.count.ensures.value, ap count_ones c.kids_of-kids.ensures.value, ap (λ n. rank n c.args.five) c.kids_of-kids.ensures.value, rank_lt (kids_of (words_of (blocks c.args.pool.now c.args.block))) c.args.five c.requires.set)
 
 pub set_word-requires-clause-inside : goal.set_word-requires-clause-inside
 set_word-requires-clause-inside g c =
     let few : 3 + c.count-before.result + c.count.result ≤ 97 =
     omega (arith, c.count-before.ensures.value, c.count.ensures.value, ap count_ones c.rows_of.ensures, ap count_ones c.kids_of-kids.ensures.value, few_words (blocks c.args.pool.now) c.args.block c.requires.is_block) in
-    let size = c.take_word.ensures.size in
+    let size = c.take_word-place.ensures.size in
     omega (arith, size, size_least (3 + c.count-before.result + c.count.result - 1) (omega (arith, few)))
 
 pub returns : goal.returns
@@ -42,6 +42,6 @@ returns g c =
     let least : 3 < 3 + c.count-before.result + c.count.result = omega (arith, c.count.ensures.value, ap count_ones c.kids_of-kids.ensures.value, rank_lt (kids_of ws) c.args.five c.requires.set) in
     let index : 3 + c.count-before.result + c.rank.result ≡ kid_index ws c.args.five =
     omega (arith, c.count-before.ensures.value, ap count_ones c.rows_of.ensures, c.rank.ensures.value, ap (λ n. rank n c.args.five) c.kids_of-kids.ensures.value) in
-    kid_taken old (blocks c.take_word.new.pool) (blocks c.set_word.new.self) c.args.block c.args.five
+    kid_taken old (blocks c.take_word-place.new.pool) (blocks c.set_word.new.self) c.args.block c.take_word-place.result c.args.five
     (3 + c.count-before.result + c.count.result) (3 + c.count-before.result + c.rank.result) c.without_bit.result
-    c.requires.is_block c.requires.some c.without_bit.ensures.clear least few used index (sym c.kids_of-kids.ensures.value ∙ c.without_bit.ensures.rest) c.take_word.ensures c.set_word.ensures.written
+    c.requires.is_block c.without_bit.ensures.clear least few used index (sym c.kids_of-kids.ensures.value ∙ c.without_bit.ensures.rest) c.take_word-place.ensures c.set_word.ensures.written

@@ -1,15 +1,15 @@
-use Rattle.std.proofs.Common.{ℕ, ◌≡◌, ◌+◌, ◌-◌, ◌/◌, ◌%◌, ◌<◌, None, is_some, arith, ap, sym, ◌∙◌}
+use Rattle.std.proofs.Common.{ℕ, ◌≡◌, ◌+◌, ◌-◌, ◌/◌, ◌%◌, ◌<◌, None, is_some, arith, ap, sym, ◌∙◌, ◌^◌}
 use Rattle.std.specs.Int.{bit_at}
 use Rattle.std.proofs.lemmas.Bool.{both_ways}
 use Rattle.word_pool.specs.Pool.{blocks}
 use Rattle.array_bitmap.specs.Bits.{depth_of, row_bit}
-use Rattle.array_bitmap.specs.Tree.{Cells, words_at, block_at, word_at, IsSound}
+use Rattle.array_bitmap.specs.Tree.{Cells, words_at, block_at, word_at, IsSound, words_of}
 use Rattle.array_bitmap.specs.Image.{cells_of}
 use Rattle.array_bitmap.proofs.Covering.{row-set, row-clear}
 use Rattle.array_bitmap.proofs.PoolWords.{block_head}
 use Rattle.array_bitmap.proofs.SetsWords.{sets_to}
 use Rattle.array_bitmap.proofs.Refusals.{no_word_below}
-use Rattle.array_bitmap.proofs.Stands.{stand_is, word_of_len, nothing_to_take, out_sets, out_sound}
+use Rattle.array_bitmap.proofs.Stands.{stand_is, holder_stays_block, holder_stays_bit, holder_index, word_of_len, nothing_to_take, out_sets, out_sound}
 use Rattle.array_bitmap.proofs.tree.Tree.remove_long.Goals as goal
 
 -- where there is no block, a path has no long word
@@ -43,22 +43,36 @@ returns-then-not-is_set-clause-found g c =
     ∙ row-clear (words_at t c.in-Some.stand.block) c.row_bit-bit.result
     (λ h. both_ways c.is_set.result c.if-not-is_set.true (c.is_set.ensures.1 (ap (λ n. bit_at n c.row_bit-bit.result) c.rows_of.ensures ∙ h)))))
 
+pub rename-requires-clause-is_block : goal.rename-requires-clause-is_block
+rename-requires-clause-is_block g c =
+    holder_stays_block (cells_of c.args.self.now) c.requires.sound.cells c.args.path ((c.args.len - 5) / 5 - c.args.self.now.first) c.in-Some.stand c.in-Some.ensures (omega (arith, c.requires.long, c.requires.short))
+    (blocks c.without_row-place.new.pool) c.without_row-place.result (words_of (blocks c.without_row-place.new.pool c.without_row-place.result)) c.without_row-place.ensures.reworded
+
+pub rename-requires-clause-kid : goal.rename-requires-clause-kid
+rename-requires-clause-kid g c =
+    holder_stays_bit (cells_of c.args.self.now) c.requires.sound.cells c.args.path ((c.args.len - 5) / 5 - c.args.self.now.first) c.in-Some.stand c.in-Some.ensures (omega (arith, c.requires.long, c.requires.short))
+    (blocks c.without_row-place.new.pool) c.without_row-place.result (words_of (blocks c.without_row-place.new.pool c.without_row-place.result)) c.without_row-place.ensures.reworded
+
+pub rename-requires-clause-five : goal.rename-requires-clause-five
+rename-requires-clause-five g c =
+    holder_index (cells_of c.args.self.now) c.requires.sound.cells c.args.path ((c.args.len - 5) / 5 - c.args.self.now.first) c.in-Some.stand c.in-Some.ensures (omega (arith, c.requires.long, c.requires.short))
+
 pub prune-requires-clause-sound : goal.prune-requires-clause-sound
 prune-requires-clause-sound g c = record {
-  cells = out_sound (cells_of c.args.self.now) (blocks c.without_row.new.pool) c.requires.sound.cells c.args.path ((c.args.len - 5) / 5) ((c.args.len - 5) % 5) c.row_bit-bit.result c.in-Some.stand
-      (omega (arith, c.requires.long)) (omega (arith, c.requires.short)) (omega arith) c.in-Some.ensures (c.row_bit-bit.ensures.value ∙ ap (λ v. row_bit v ((c.args.len - 5) % 5)) c.five_bits.ensures.value) c.without_row.ensures;
-  shorts = c.requires.sound.shorts;
-  tops = c.requires.sound.tops;
+  cells = out_sound (cells_of c.args.self.now) (cells_of c.rename.new.self) (blocks c.without_row-place.new.pool) c.requires.sound.cells c.args.path ((c.args.len - 5) / 5) ((c.args.len - 5) % 5) c.row_bit-bit.result c.without_row-place.result c.in-Some.stand
+      (omega (arith, c.requires.long)) (omega (arith, c.requires.short)) (omega arith) c.in-Some.ensures (c.row_bit-bit.ensures.value ∙ ap (λ v. row_bit v ((c.args.len - 5) % 5)) c.five_bits.ensures.value)
+      c.without_row-place.ensures c.rename.ensures.name;
+  shorts = c.rename.ensures.shorts ∙ c.requires.sound.shorts ∙ ap (λ f. 2 ^ (depth_of f + 1)) (sym c.rename.ensures.first);
+  tops = c.rename.ensures.tops ∙ c.requires.sound.tops ∙ ap (λ f. 2 ^ depth_of f) (sym c.rename.ensures.first);
 }
 
 pub returns-clause-gone : goal.returns-clause-gone
 returns-clause-gone g c =
     let whole : depth_of ((c.args.len - 5) / 5) + ((c.args.len - 5) % 5 + 1) ≡ c.args.len = omega (arith, c.requires.long) in
-    let t = cells_of c.args.self.now in
-    let mid : Cells = record t { heap = blocks c.without_row.new.pool } in
-    sets_to (word_at t) (word_at mid) (word_at (cells_of c.prune.new.self)) c.args.path c.args.len (depth_of ((c.args.len - 5) / 5) + ((c.args.len - 5) % 5 + 1)) None c.prune.ensures.same whole
-    (out_sets (cells_of c.args.self.now) (blocks c.without_row.new.pool) c.requires.sound.cells c.args.path ((c.args.len - 5) / 5) ((c.args.len - 5) % 5) c.row_bit-bit.result c.in-Some.stand
-    (omega (arith, c.requires.long)) (omega (arith, c.requires.short)) (omega arith) c.in-Some.ensures (c.row_bit-bit.ensures.value ∙ ap (λ v. row_bit v ((c.args.len - 5) % 5)) c.five_bits.ensures.value) c.without_row.ensures)
+    sets_to (word_at (cells_of c.args.self.now)) (word_at (cells_of c.rename.new.self)) (word_at (cells_of c.prune.new.self)) c.args.path c.args.len (depth_of ((c.args.len - 5) / 5) + ((c.args.len - 5) % 5 + 1)) None c.prune.ensures.same whole
+    (out_sets (cells_of c.args.self.now) (cells_of c.rename.new.self) (blocks c.without_row-place.new.pool) c.requires.sound.cells c.args.path ((c.args.len - 5) / 5) ((c.args.len - 5) % 5) c.row_bit-bit.result c.without_row-place.result c.in-Some.stand
+    (omega (arith, c.requires.long)) (omega (arith, c.requires.short)) (omega arith) c.in-Some.ensures (c.row_bit-bit.ensures.value ∙ ap (λ v. row_bit v ((c.args.len - 5) % 5)) c.five_bits.ensures.value)
+    c.without_row-place.ensures c.rename.ensures.name)
 
 pub returns-clause-found : goal.returns-clause-found
 returns-clause-found g c =
