@@ -164,7 +164,7 @@ impl<A: Allocator> Tree<A> {
     }
 
     /// The first row at a prefix or after it.
-    fn first_row_from(&self, at: Prefix) -> Option<(Prefix, Entry)>
+    pub(crate) fn first_row_from(&self, at: Prefix) -> Option<(Prefix, Entry)>
         requires { IsSoundTree self.now }
         ensures first { result ≡ first_row_from at (rows_in self.now) }
         ensures head { IfSome result (IsHeadFrom at (rows_in self.now)) }

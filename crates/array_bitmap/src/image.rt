@@ -20,6 +20,9 @@ pub struct Image<A: Allocator = Global> {
     pub(crate) generation: u64,
     // What the prefixes of a call's rows had before; empty between calls.
     pub(crate) notes: Vec<Option<Entry>, A>,
+
+    // How many words the pool has before the image is made anew from its rows.
+    pub(crate) most_words: usize,
 }
 
 impl<A: Allocator> Model for Image<A> {

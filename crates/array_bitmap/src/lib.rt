@@ -33,14 +33,17 @@
 //!   row that is refused leaves none of the blocks that were made for it.
 //! - Many rows are set one after another. Where one is refused, what each prefix had before is put back,
 //!   the last first. That needs no memory, so no room has to be made before.
-//! - A row is taken out where it ends. A block whose words fit into its lower half gives the upper half
-//!   back, so this needs no memory. From there up, each block that is left with no row and no kid is
-//!   given back, up to the first that has some.
+//! - A row is taken out where it ends. A block whose words fit into half of its size moves to a free
+//!   block of that size. Where none is free, it gives its upper half back. So this needs no memory, and
+//!   rows that come and go take the same blocks each time. From there up, each block that is left with
+//!   no row and no kid is given back, up to the first that has some.
 //! - Look-ups of many addresses go down side by side, each in a *lane*, 32 at a time and one level at a
 //!   time. First the bitmaps of all blocks of a level are read, so that they wait for memory at once. Then
 //!   each lane takes its step. A lane whose path has ended writes its word, and leaves.
 //! - A step of a look-up has no branch on what it finds. Where a block has no row or no kid for it, another
 //!   word of the block is read, and a multiplication or a mask drops it.
+//! - An image whose rows have become many is made anew from its rows, with an array that goes by more
+//!   bits.
 //! - Rows are listed in the order of their prefixes, from any prefix on. The cursor is a prefix, so it
 //!   needs no memory and stays right when rows change.
 //!
@@ -57,6 +60,7 @@ mod image;
 mod lanes;
 pub mod parts;
 mod tree;
+mod widen;
 mod words;
 
 pub use cursor::next_prefix;

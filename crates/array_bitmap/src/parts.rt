@@ -9,8 +9,11 @@ ghost use Rattle.network_model.specs.Publication.{with_rows};
 use crate::batch::set_all;
 use crate::image::Image;
 use crate::tree::Tree;
+use crate::widen::most_words;
 use network_model::{Entry, NoMemory, Prefix};
 use std::alloc::Allocator;
+
+pub use crate::widen::{widen, widened};
 
 /// How many of the first bits of an address an image's array goes by. More make look-ups of many rows
 /// faster. An image takes 16 bytes for each number of so many bits, beside those of its rows.
@@ -37,7 +40,7 @@ impl FirstBits {
     }
 
     /// The level of the first blocks.
-    fn level(self) -> u32
+    pub(crate) fn level(self) -> u32
         ensures { result ≤ 3 }
     {
         match self {
@@ -57,6 +60,7 @@ pub fn with<A: Allocator + Copy>(alloc: A, bits: FirstBits) -> Result<Image<A>, 
         tree: Tree::new(alloc, bits.level())?,
         generation: 0,
         notes: Vec::new(alloc),
+        most_words: most_words(bits.level(), 0),
     })
 }
 
@@ -76,6 +80,7 @@ pub fn copy<A: Allocator + Copy>(image: &Image<A>, alloc: A) -> Result<Image<A>,
         tree: image.tree.copy(alloc)?,
         generation: image.generation,
         notes: Vec::new(alloc),
+        most_words: image.most_words,
     })
 }
 
