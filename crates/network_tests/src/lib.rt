@@ -5,6 +5,8 @@
 #[cfg(test)]
 mod addresses;
 #[cfg(test)]
+mod array_images;
+#[cfg(test)]
 mod compiled;
 #[cfg(test)]
 mod gates;

@@ -1,6 +1,7 @@
 //! Calls that take memory. Each is refused, and changes nothing, where a heap has too little left, be it
 //! 0, 16, 32 or more bytes; once there is room it ends as if it had never been refused.
 
+use crate::array_images::{copy_five, set_two};
 use crate::gates::held;
 use crate::links::one_link;
 use crate::routers::{one_port, take, up};
@@ -37,6 +38,9 @@ enum Call {
     Up,
     // An image of a table of two rows.
     Compile,
+    // An image of an array takes two rows, is copied, or made anew.
+    SetTwo,
+    CopyFive(bool),
     // A router takes the notice that its link came up.
     AcceptNotice,
     // A router takes the first message of a prefix.
@@ -54,6 +58,8 @@ impl Call {
             Call::Hold => hold(rt, &heap, left),
             Call::Up => come_up(rt, &heap, left),
             Call::Compile => compile_two(rt, alloc, &heap, left),
+            Call::SetTwo => set_two(rt, &heap, left),
+            Call::CopyFive(anew) => copy_five(rt, &heap, left, anew),
             Call::AcceptNotice => accept_notice(rt, &heap, left),
             Call::AcceptMessage => accept_message(rt, &heap, left),
         }
@@ -73,7 +79,7 @@ fn needs_room(rt: &impl Abort, alloc: Global, call: Call) {
 }
 
 // Takes all of the heap but so many bytes, until it is dropped.
-fn ballast<'h>(rt: &impl Abort, heap: &'h LocalHeap, left: usize) -> Vec<u8, &'h LocalHeap> {
+pub(crate) fn ballast<'h>(rt: &impl Abort, heap: &'h LocalHeap, left: usize) -> Vec<u8, &'h LocalHeap> {
     Vec::with_capacity(heap, heap.free().saturating_sub(left)).expect(rt, "memory")
 }
 
@@ -287,6 +293,13 @@ fn a_link_needs_room_for_its_notices(rt: HostRuntime) {
 #[test]
 fn an_image_needs_room_for_its_nodes(rt: HostRuntime) {
     needs_room(&rt, rt.alloc(), Call::Compile);
+}
+
+#[test]
+fn an_image_of_an_array_needs_room_for_its_blocks(rt: HostRuntime) {
+    needs_room(&rt, rt.alloc(), Call::SetTwo);
+    needs_room(&rt, rt.alloc(), Call::CopyFive(false));
+    needs_room(&rt, rt.alloc(), Call::CopyFive(true));
 }
 
 #[test]
