@@ -4,8 +4,8 @@
  * The functions are those of the static library `lookup_ffi`. It is proved what each answers, and what
  * it leaves in its handles and lists, for every call that keeps to these rules:
  *
- *   - A handle begins as TUHVONDI_NO_IMAGE, and goes to these functions alone: its fields are never
- *     read or written, and it is never copied. It may be moved to another place where the old one is
+ *   - A handle begins as TUHVONDI_NO_IMAGE, TUHVONDI_NO_WRITER or TUHVONDI_NO_READER, and goes to these
+ *     functions alone: its fields are never read or written, and it is never copied. It may be moved to another place where the old one is
  *     not used again.
  *   - A handle is given to one call at a time, and no two arguments of a call overlap. Threads that
  *     look up at once have a handle each: tuhvondi_image_share has one more handle hold an image, and
@@ -51,7 +51,7 @@ enum tuhvondi_status {
     TUHVONDI_NO_ROUTER_HELD = 7,
     /* A list has another length than the call can use. */
     TUHVONDI_BAD_COUNT = 8,
-    /* Other handles hold the image too. */
+    /* Other handles hold the image too, or a reader is still in the copy that would change. */
     TUHVONDI_SHARED = 9,
     /* The router has no such port. */
     TUHVONDI_UNKNOWN_PORT = 11,
@@ -104,7 +104,7 @@ static inline const char *tuhvondi_status_text(uint32_t status)
     case TUHVONDI_BAD_COUNT:
         return "a list has another length than the call can use";
     case TUHVONDI_SHARED:
-        return "other handles hold the image too";
+        return "others still hold the image";
     case TUHVONDI_UNKNOWN_PORT:
         return "the router has no such port";
     case TUHVONDI_ALREADY_UP:
@@ -255,6 +255,72 @@ uint32_t tuhvondi_image_generation(struct tuhvondi_image *image, uint64_t *gener
 
 /* Lets go of the image, if there is one. The handle then holds none. */
 void tuhvondi_image_free(struct tuhvondi_image *image);
+
+/* ---- a table that changes while it forwards
+ *
+ * A writer holds two copies of an image: one is shown, and the other is hidden. It changes the hidden copy
+ * and then shows that one. Its readers look up in the copy that is shown, each in a thread of its own: they
+ * take no lock, wait for nobody, and see only images that were published. */
+
+/* A handle, which holds a writer or none. */
+struct tuhvondi_writer {
+    void *writer_;
+    bool holds_;
+};
+
+TUHVONDI_ASSERT(sizeof(struct tuhvondi_writer) == 16, "a handle takes 16 bytes");
+
+/* The handle that holds no writer, to begin with. */
+#define TUHVONDI_NO_WRITER {NULL, false}
+
+/* A handle, which holds a reader or none. */
+struct tuhvondi_reader {
+    void *reader_;
+    bool holds_;
+};
+
+TUHVONDI_ASSERT(sizeof(struct tuhvondi_reader) == 16, "a handle takes 16 bytes");
+
+/* The handle that holds no reader, to begin with. */
+#define TUHVONDI_NO_READER {NULL, false}
+
+/* Has a writer hold two copies of the image, with room for so many readers, at most 1,024. The image stays
+ * as it is, and the writer that the handle held is freed.
+ * Refused: TUHVONDI_NO_IMAGE_HELD, TUHVONDI_BAD_COUNT, TUHVONDI_NO_MEMORY. */
+uint32_t tuhvondi_writer_new(struct tuhvondi_image *image, size_t reader_count,
+                             struct tuhvondi_writer *writer);
+
+/* Publishes: sets rows over those of the image in order, then takes the rows of the prefixes out, and sets
+ * the generation. Readers see all of it or nothing. Each change is made twice, once in each copy: in the
+ * second by the next publication, which is why rows and prefixes are kept till then. A writer that is
+ * refused has published nothing.
+ * Refused, in this order: TUHVONDI_BAD_LENGTH, TUHVONDI_HOST_BITS, TUHVONDI_BAD_KIND; TUHVONDI_NO_IMAGE_HELD
+ * where the handle holds no writer; TUHVONDI_NO_MEMORY; TUHVONDI_SHARED while a look-up goes on that began
+ * before the last publication: call again. */
+uint32_t tuhvondi_writer_publish(struct tuhvondi_writer *writer, uint64_t generation,
+                                 const struct tuhvondi_row *rows, size_t row_count,
+                                 const struct tuhvondi_prefix *prefixes, size_t prefix_count);
+
+/* Has a reader's handle hold a reader of the writer, and frees the one that it held. The reader may go to
+ * another thread.
+ * Refused: TUHVONDI_NO_IMAGE_HELD where the handle holds no writer, TUHVONDI_BAD_COUNT where handles hold
+ * all readers, TUHVONDI_NO_MEMORY. */
+uint32_t tuhvondi_writer_reader(struct tuhvondi_writer *writer, struct tuhvondi_reader *reader);
+
+/* Looks up as tuhvondi_image_lookup does, and writes the generation of the image that answered. That image
+ * was published, and no other call by this reader saw a later one before. It takes no memory.
+ * Refused, and then nothing is written: TUHVONDI_NO_IMAGE_HELD where the handle holds no reader,
+ * TUHVONDI_BAD_COUNT, and TUHVONDI_SHARED if the writer published a thousand times during the call. */
+uint32_t tuhvondi_reader_lookup(struct tuhvondi_reader *reader,
+                                const uint32_t *addrs, size_t addr_count,
+                                struct tuhvondi_row *answers, size_t answer_count,
+                                uint64_t *generation);
+
+/* Frees the reader, if there is one. Another may then be made in its place. */
+void tuhvondi_reader_free(struct tuhvondi_reader *reader);
+
+/* Frees the writer, if there is one. Its readers go on with the image that it published last. */
+void tuhvondi_writer_free(struct tuhvondi_writer *writer);
 
 #ifdef __cplusplus
 }

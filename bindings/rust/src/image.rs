@@ -328,6 +328,10 @@ impl Image {
         })
     }
 
+    pub(crate) fn handle(&mut self) -> &mut sys::Handle {
+        &mut self.handle
+    }
+
     /// Which publication of its router the image is; 0 for a new one.
     ///
     /// ```

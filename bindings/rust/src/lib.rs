@@ -31,12 +31,14 @@ mod router;
 mod row;
 mod status;
 mod sys;
+mod table;
 
 pub use image::{Answer, Image, Reader, Rows};
 pub use prefix::{BadPrefix, Prefix};
 pub use router::{Counts, Distance, Message, MessageKind, PrefixState, Publication, Router};
 pub use row::{Row, Target};
 pub use status::Status;
+pub use table::{TableReader, TableWriter};
 
 #[cfg(doctest)]
 #[doc = include_str!("../README.md")]

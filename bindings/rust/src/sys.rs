@@ -70,6 +70,30 @@ pub(crate) struct State {
 }
 
 unsafe extern "C" {
+    pub(crate) fn tuhvondi_writer_new(
+        image: *mut Handle,
+        readers: usize,
+        writer: *mut Handle,
+    ) -> u32;
+    pub(crate) fn tuhvondi_writer_publish(
+        writer: *mut Handle,
+        generation: u64,
+        rows: *const Row,
+        count: usize,
+        prefixes: *const Prefix,
+        prefix_count: usize,
+    ) -> u32;
+    pub(crate) fn tuhvondi_writer_reader(writer: *mut Handle, reader: *mut Handle) -> u32;
+    pub(crate) fn tuhvondi_writer_free(writer: *mut Handle);
+    pub(crate) fn tuhvondi_reader_lookup(
+        reader: *mut Handle,
+        addrs: *const u32,
+        count: usize,
+        answers: *mut Answer,
+        answer_count: usize,
+        generation: *mut u64,
+    ) -> u32;
+    pub(crate) fn tuhvondi_reader_free(reader: *mut Handle);
     pub(crate) fn tuhvondi_image_new(rows: *const Row, count: usize, image: *mut Handle) -> u32;
     pub(crate) fn tuhvondi_image_apply(
         image: *mut Handle,

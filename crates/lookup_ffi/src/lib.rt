@@ -18,11 +18,19 @@ ghost use Rattle.lookup_ffi.specs.Prefixes.{cursor_fault, cursor_prefix, first_b
 use c_interface::{Fault, Row, status};
 use std::alloc::Global;
 
+mod board;
+mod change;
 mod handle;
 mod images;
+mod past;
 mod prefixes;
+mod reader;
+mod reader_handle;
+mod readers;
 mod rows;
 mod shared;
+mod writer;
+mod writer_handle;
 
 use handle::ImageHandle;
 use images::{copy_image, image_of_rows, share_image};

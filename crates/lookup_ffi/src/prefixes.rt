@@ -1,11 +1,12 @@
 //! Prefixes as C writes them: to take rows out of an image, and as a cursor through its rows.
 
-ghost use Rattle.std.specs.Prelude.{◌≡◌, ◌≤◌, None, IfOk, IfErr, OnOk, length};
+ghost use Rattle.std.specs.Prelude.{◌≡◌, ◌≤◌, None, IfOk, IfErr, IsOkUnless, OnOk, length};
 ghost use Rattle.tree_bitmap.specs.Cursor.{rows_onward};
 ghost use Rattle.lookup_ffi.specs.Prefixes.{block_of, block_fault, first_block_fault, cursor_fault, cursor_prefix, without_rows, IsFilledIn};
 
 use c_interface::{Fault, Row, read_prefix};
 use network_model::Prefix;
+use std::alloc::Global;
 use tree_bitmap::parts::remove_row;
 use tree_bitmap::{Image, next_prefix};
 
@@ -65,6 +66,18 @@ pub fn check_blocks(blocks: &[Block]) -> Result<(), Fault>
         let _ = block.read()?;
     }
     Ok(())
+}
+
+/// A copy of a list of prefixes.
+pub fn copy_blocks(alloc: Global, blocks: &[Block]) -> Result<Vec<Block>, Fault>
+    ensures ok { IfOk result (λ v. v.items ≡ blocks.now) }
+    ensures err { IsOkUnless result Fault.NoMemory }
+{
+    let mut copied = Vec::with_capacity(alloc, blocks.len())?;
+    for &block in blocks {
+        copied.push(block)?;
+    }
+    Ok(copied)
 }
 
 /// Takes the rows of prefixes out of an image.

@@ -88,4 +88,21 @@ impl Shared {
         image.apply(&Patch { generation, rows })?;
         Ok(())
     }
+
+    /// Sets rows over those of the image, in order, then takes those of prefixes out, and sets its
+    /// generation, where nobody else holds it.
+    pub fn change(&mut self, patch: &Patch, blocks: &[Block]) -> Result<(), Fault>
+        requires { first_block_fault blocks.now ≡ None }
+        ensures ok { OnOk result (self.new ≡ withdrawn patch.now.generation blocks.now
+            (patched patch.now.generation patch.now.rows.items self.old)) }
+        ensures unchanged { OnErr result (self.new ≡ self.old) }
+        ensures err { IfErr result IsPatchFault }
+    {
+        let Some(image) = Arc::get_mut(&mut self.image) else {
+            return Err(Fault::Shared);
+        };
+        image.apply(patch)?;
+        remove_rows(image, blocks);
+        Ok(())
+    }
 }

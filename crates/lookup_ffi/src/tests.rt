@@ -4,6 +4,12 @@ ghost use Rattle.std.specs.Prelude.{◌-◌, ◌^◌, ◌<◌};
 
 use crate::handle::ImageHandle;
 use crate::prefixes::Block;
+use crate::reader_handle::ReaderHandle;
+use crate::readers::{
+    tuhvondi_reader_free, tuhvondi_reader_lookup, tuhvondi_writer_free, tuhvondi_writer_new,
+    tuhvondi_writer_publish, tuhvondi_writer_reader,
+};
+use crate::writer_handle::WriterHandle;
 use crate::{
     tuhvondi_image_apply, tuhvondi_image_bytes, tuhvondi_image_copy, tuhvondi_image_free,
     tuhvondi_image_generation, tuhvondi_image_lookup, tuhvondi_image_new, tuhvondi_image_remove,
@@ -299,4 +305,102 @@ fn each_fault_has_its_number(rt: HostRuntime) {
     assert_eq!(rt; answers[0], NOTHING);
     assert_eq!(rt; tuhvondi_image_lookup(alloc, &mut image, &[], &mut []), 0);
     assert_eq!(rt; Fault::NoMemory.number(), 20);
+}
+
+// What the reader answers for one address, and by which generation, or the number of a fault.
+fn read(alloc: Global, reader: &mut ReaderHandle, addr: u32) -> Result<(Row, u64), u32> {
+    let mut answers = [NOTHING];
+    let mut generation = 99;
+    match tuhvondi_reader_lookup(alloc, reader, &[addr], &mut answers, &mut generation) {
+        0 => Ok((answers[0], generation)),
+        fault => Err(fault),
+    }
+}
+
+#[test]
+fn readers_see_what_is_published(rt: HostRuntime) {
+    let alloc = rt.alloc();
+    let mut image = ImageHandle::none(alloc);
+    let mut writer = WriterHandle::none(alloc);
+    let mut one = ReaderHandle::none(alloc);
+    let mut two = ReaderHandle::none(alloc);
+    let rows = [via(0x0a00_0000, 8, 1), via(0x0b00_0000, 8, 1)];
+    assert_eq!(rt; tuhvondi_writer_new(alloc, &mut image, 2, &mut writer), 7);
+    assert_eq!(rt; tuhvondi_image_new(alloc, &rows, &mut image), 0);
+    assert_eq!(rt;
+        tuhvondi_writer_new(alloc, &mut image, 1025, &mut writer),
+        8
+    );
+    assert_eq!(rt; tuhvondi_writer_reader(alloc, &mut writer, &mut one), 7);
+    assert_eq!(rt; tuhvondi_writer_publish(alloc, &mut writer, 1, &[], &[]), 7);
+    assert_eq!(rt; read(alloc, &mut one, 0x0a00_0001), Err(7));
+    assert_eq!(rt; tuhvondi_writer_new(alloc, &mut image, 2, &mut writer), 0);
+    assert_eq!(rt; tuhvondi_writer_reader(alloc, &mut writer, &mut one), 0);
+    assert_eq!(rt; tuhvondi_writer_reader(alloc, &mut writer, &mut two), 0);
+    assert_eq!(rt;
+        read(alloc, &mut one, 0x0a00_0001),
+        Ok((via(0x0a00_0000, 8, 1), 0))
+    );
+    // Four publications, so that each copy is changed by two of them, and misses two.
+    for generation in 1..=4u8 {
+        let rows = [
+            via(0x0a00_0000, 8, generation),
+            via(u32::from(generation) << 28, 4, 7),
+        ];
+        let gone = [Block {
+            addr: 0x0b00_0000,
+            len: 8,
+        }];
+        let number = u64::from(generation);
+        assert_eq!(rt;
+            tuhvondi_writer_publish(alloc, &mut writer, number, &rows, &gone),
+            0
+        );
+        assert_eq!(rt;
+            read(alloc, &mut one, 0x0a00_0001),
+            Ok((via(0x0a00_0000, 8, generation), number))
+        );
+        assert_eq!(rt; read(alloc, &mut two, 0x0b00_0001), Ok((NOTHING, number)));
+    }
+    for generation in 1..=4u32 {
+        assert_eq!(rt;
+            read(alloc, &mut two, generation << 28),
+            Ok((via(generation << 28, 4, 7), 4))
+        );
+    }
+    // A fault of a row, and then one of a prefix: nothing is published.
+    let bad = [Block { addr: 1, len: 8 }];
+    assert_eq!(rt;
+        tuhvondi_writer_publish(alloc, &mut writer, 5, &[via(1, 33, 1)], &bad),
+        3
+    );
+    assert_eq!(rt;
+        tuhvondi_writer_publish(alloc, &mut writer, 5, &[], &bad),
+        4
+    );
+    assert_eq!(rt;
+        read(alloc, &mut one, 0x0a00_0001),
+        Ok((via(0x0a00_0000, 8, 4), 4))
+    );
+    // Handles have both readers; one that is freed makes room.
+    let mut three = ReaderHandle::none(alloc);
+    assert_eq!(rt; tuhvondi_writer_reader(alloc, &mut writer, &mut three), 8);
+    tuhvondi_reader_free(alloc, &mut two);
+    assert_eq!(rt; tuhvondi_writer_reader(alloc, &mut writer, &mut three), 0);
+    let mut generation = 99;
+    assert_eq!(rt;
+        tuhvondi_reader_lookup(alloc, &mut three, &[1], &mut [], &mut generation),
+        8
+    );
+    assert_eq!(rt; generation, 99);
+    // Readers outlive their writer, and the image that it was made of is as it was.
+    tuhvondi_writer_free(alloc, &mut writer);
+    assert_eq!(rt;
+        read(alloc, &mut three, 0x0a00_0001),
+        Ok((via(0x0a00_0000, 8, 4), 4))
+    );
+    assert_eq!(rt;
+        answer(alloc, &mut image, 0x0b00_0001),
+        Ok(via(0x0b00_0000, 8, 1))
+    );
 }

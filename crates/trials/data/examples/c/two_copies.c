@@ -1,14 +1,9 @@
-/* A table that changes while it forwards, under no lock: two images with the same rows, and C11 atomics.
+/* A table that changes while it forwards: one writer publishes, and three readers look bursts up, under no lock.
  *
  *     cc -o two_copies examples/c/two_copies.c $(pkg-config --cflags --libs tuhvondi) -pthread && ./two_copies
  *
- * Readers look bursts up in the image that is shown. The writer patches the hidden one, shows it, waits until
- * each reader has begun a burst since, so that none has the other image any more, and patches that too. It
- * prints what examples/c/two_copies.out has.
- *
- * Each image has a handle for each reader, since a handle is for one thread at a time: the shown image and all
- * its handles stay as they are while it is shown, and before a patch the writer lets go of the readers' handles
- * of the hidden one, which patches it alone.
+ * Each publication sets two rows and takes a third out. A reader answers a burst by one image: the two rows
+ * always have the same port, and generations never go back. It prints what examples/c/two_copies.out has.
  */
 #include <tuhvondi.h>
 
@@ -18,18 +13,9 @@
 #include <stdio.h>
 #include <stdlib.h>
 
-enum { READERS = 3, BURST = 32, PATCHES = 1000 };
+enum { READERS = 3, BURST = 32, PUBLICATIONS = 1000 };
 
-/* A copy: the writer's handle, and one for each reader. */
-struct copy {
-    struct tuhvondi_image image;
-    struct tuhvondi_image readers[READERS];
-};
-
-static struct copy copies[2];
-/* Which copy is shown, and for each reader which burst it is in: odd inside, even outside. */
-static atomic_uint shown;
-static atomic_ulong bursts[READERS];
+static struct tuhvondi_reader readers[READERS];
 static atomic_bool stopping;
 
 static void need(uint32_t status)
@@ -40,26 +26,31 @@ static void need(uint32_t status)
     exit(1);
 }
 
-static struct tuhvondi_row row(uint8_t port)
+static struct tuhvondi_row row(uint32_t addr, uint64_t generation)
 {
-    return (struct tuhvondi_row){.addr = 0x0a000000, .len = 8, .kind = TUHVONDI_VIA, .port = port, .session = 1};
+    return (struct tuhvondi_row){.addr = addr, .len = 8, .kind = TUHVONDI_VIA,
+                                 .port = (uint8_t)(generation % 32), .session = 1};
 }
 
-/* Looks bursts up; each is answered by one image: all its answers are the same. */
+/* Looks bursts up, half of them below each of the two rows. */
 static void *read_bursts(void *word)
 {
     size_t me = (size_t)word;
     uint32_t addrs[BURST];
     struct tuhvondi_row answers[BURST];
+    uint64_t last = 0;
     for (uint32_t i = 0; i < BURST; i++)
-        addrs[i] = 0x0a000000 + i;
+        addrs[i] = (i % 2 == 0 ? 0x0a000000 : 0x0b000000) + i;
     while (!atomic_load(&stopping)) {
-        atomic_fetch_add(&bursts[me], 1);
-        struct copy *copy = &copies[atomic_load(&shown)];
-        need(tuhvondi_image_lookup(&copy->readers[me], addrs, BURST, answers, BURST));
-        atomic_fetch_add(&bursts[me], 1);
-        for (size_t i = 1; i < BURST; i++)
-            if (answers[i].port != answers[0].port) {
+        uint64_t generation;
+        need(tuhvondi_reader_lookup(&readers[me], addrs, BURST, answers, BURST, &generation));
+        if (generation < last) {
+            fprintf(stderr, "two_copies: an older image than before\n");
+            exit(1);
+        }
+        last = generation;
+        for (size_t i = 0; i < BURST; i++)
+            if (answers[i].port != generation % 32) {
                 fprintf(stderr, "two_copies: a burst has answers of two images\n");
                 exit(1);
             }
@@ -67,67 +58,47 @@ static void *read_bursts(void *word)
     return NULL;
 }
 
-/* Waits until no reader is in a burst that began before this call. */
-static void wait_for_readers(void)
+/* Publishes, as soon as the readers that are in the hidden copy have left it. */
+static void publish(struct tuhvondi_writer *writer, uint64_t generation)
 {
-    for (size_t i = 0; i < READERS; i++) {
-        unsigned long burst = atomic_load(&bursts[i]);
-        while (burst % 2 == 1 && atomic_load(&bursts[i]) == burst)
-            sched_yield();
-    }
-}
-
-/* Patches a copy that no reader has. */
-static void patch(struct copy *copy, uint64_t generation, const struct tuhvondi_row *rows, size_t count)
-{
-    for (size_t i = 0; i < READERS; i++)
-        tuhvondi_image_free(&copy->readers[i]);
-    need(tuhvondi_image_apply(&copy->image, generation, rows, count));
-    for (size_t i = 0; i < READERS; i++)
-        need(tuhvondi_image_share(&copy->image, &copy->readers[i]));
-}
-
-static void publish(uint64_t generation, const struct tuhvondi_row *rows, size_t count)
-{
-    unsigned now = atomic_load(&shown);
-    patch(&copies[1 - now], generation, rows, count);
-    atomic_store(&shown, 1 - now);
-    wait_for_readers();
-    patch(&copies[now], generation, rows, count);
+    struct tuhvondi_row rows[] = {row(0x0a000000, generation), row(0x0b000000, generation)};
+    struct tuhvondi_prefix gone = {0x0c000000, 8};
+    uint32_t status;
+    while ((status = tuhvondi_writer_publish(writer, generation, rows, 2, &gone, 1)) == TUHVONDI_SHARED)
+        sched_yield();
+    need(status);
 }
 
 int main(void)
 {
+    struct tuhvondi_image image = TUHVONDI_NO_IMAGE;
+    struct tuhvondi_writer writer = TUHVONDI_NO_WRITER;
     pthread_t threads[READERS];
-    struct tuhvondi_row first = row(0);
-    need(tuhvondi_image_new(&first, 1, &copies[0].image));
-    need(tuhvondi_image_copy(&copies[0].image, &copies[1].image));
-    for (size_t i = 0; i < READERS; i++) {
-        need(tuhvondi_image_share(&copies[0].image, &copies[0].readers[i]));
-        need(tuhvondi_image_share(&copies[1].image, &copies[1].readers[i]));
-    }
+    struct tuhvondi_row first[] = {row(0x0a000000, 0), row(0x0b000000, 0), row(0x0c000000, 0)};
+    need(tuhvondi_image_new(first, 3, &image));
+    need(tuhvondi_writer_new(&image, READERS, &writer));
+    tuhvondi_image_free(&image);
+    for (size_t i = 0; i < READERS; i++)
+        need(tuhvondi_writer_reader(&writer, &readers[i]));
     for (size_t i = 0; i < READERS; i++)
         if (pthread_create(&threads[i], NULL, read_bursts, (void *)i)) {
             fprintf(stderr, "two_copies: no thread\n");
             return 1;
         }
-    for (uint64_t generation = 1; generation <= PATCHES; generation++) {
-        struct tuhvondi_row next = row((uint8_t)(generation % 32));
-        publish(generation, &next, 1);
-    }
+    for (uint64_t generation = 1; generation <= PUBLICATIONS; generation++)
+        publish(&writer, generation);
     atomic_store(&stopping, true);
     for (size_t i = 0; i < READERS; i++)
         pthread_join(threads[i], NULL);
-    for (size_t i = 0; i < 2; i++) {
+    for (size_t i = 0; i < READERS; i++) {
+        uint32_t addrs[] = {0x0a000001, 0x0c000001};
+        struct tuhvondi_row answers[2];
         uint64_t generation;
-        uint32_t addr = 0x0a000001;
-        struct tuhvondi_row answer;
-        need(tuhvondi_image_generation(&copies[i].image, &generation));
-        need(tuhvondi_image_lookup(&copies[i].image, &addr, 1, &answer, 1));
-        printf("copy %zu: generation %d, by port %u\n", i, (int)generation, answer.port);
-        for (size_t k = 0; k < READERS; k++)
-            tuhvondi_image_free(&copies[i].readers[k]);
-        tuhvondi_image_free(&copies[i].image);
+        need(tuhvondi_reader_lookup(&readers[i], addrs, 2, answers, 2, &generation));
+        printf("reader %zu: generation %d, by port %u, and %s\n", i, (int)generation, answers[0].port,
+               answers[1].kind == TUHVONDI_NO_ROW ? "no row" : "a row");
+        tuhvondi_reader_free(&readers[i]);
     }
+    tuhvondi_writer_free(&writer);
     return 0;
 }

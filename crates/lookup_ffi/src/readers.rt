@@ -1,0 +1,250 @@
+//! The calls of C by which one thread changes an image while others look up in it, under no lock.
+
+ghost use Rattle.std.specs.Prelude.{◌≡◌, ◌≢◌, ◌≤◌, ◌∷◌, [], IfErr, IfOk, IfSome, IsOkUnless, None, OnErr, OnOk, Some, length};
+ghost use Rattle.c_interface.specs.Faults.{first_of, fault_number};
+ghost use Rattle.lookup_ffi.specs.Handles.{handle_image};
+ghost use Rattle.lookup_ffi.specs.Histories.{GoesOn, changed, last_image, with_image};
+ghost use Rattle.lookup_ffi.specs.Prefixes.{first_block_fault};
+ghost use Rattle.lookup_ffi.specs.Readers.{handle_reader, handle_writer, IsOpenStatus, IsPublishStatus, IsReadStatus, IsSeatStatus};
+ghost use Rattle.lookup_ffi.specs.Rows.{answer_rows, first_row_fault};
+
+use crate::change::Change;
+use crate::handle::ImageHandle;
+use crate::prefixes::{Block, check_blocks};
+use crate::reader::ImageReader;
+use crate::reader_handle::ReaderHandle;
+use crate::rows::check_rows;
+use crate::writer::ImageWriter;
+use crate::writer_handle::WriterHandle;
+use c_interface::{Fault, Row, status};
+use std::alloc::Global;
+use tree_bitmap::Image;
+
+/// The most readers that a writer may have.
+const MOST_READERS: usize = 1024;
+
+// A writer in a box of its own.
+fn make_writer(alloc: Global, image: &Image, readers: usize) -> Result<Box<ImageWriter>, Fault>
+    requires { readers ≤ 1024 }
+    ensures ok { IfOk result (λ w. w.value.images ≡ image.now ∷ []) }
+    ensures err { IsOkUnless result Fault.NoMemory }
+{
+    Ok(Box::new(alloc, ImageWriter::new(alloc, image, readers)?)?)
+}
+
+// Makes a writer of an image like a handle's.
+fn open(
+    alloc: Global,
+    image: &mut ImageHandle,
+    readers: usize,
+    writer: &mut WriterHandle,
+) -> Result<(), Fault>
+    ensures image { handle_image image.new ≡ handle_image image.old }
+    ensures ok { OnOk result (IsOpenStatus (handle_image image.old) readers 0) }
+    ensures made { OnOk result (IfSome (handle_image image.old)
+        (λ i. IfSome (handle_writer writer.new) (λ h. h.images ≡ i ∷ []))) }
+    ensures unchanged { OnErr result (handle_writer writer.new ≡ handle_writer writer.old) }
+    ensures err { IfErr result
+        (λ f. IsOpenStatus (handle_image image.old) readers (fault_number f)) }
+{
+    let Some(held) = image.take(alloc) else {
+        return Err(Fault::Empty);
+    };
+    let made = if readers > MOST_READERS {
+        Err(Fault::BadCount)
+    } else {
+        make_writer(alloc, held.get(), readers)
+    };
+    image.put(held);
+    writer.put(made?);
+    Ok(())
+}
+
+/// Has a writer hold two copies of the image, with room for so many readers; the one that its handle held
+/// is freed. 7: the handle holds no image. 8: more than 1,024 readers. 20: memory was refused.
+#[unsafe(no_mangle)]
+pub extern "C" fn tuhvondi_writer_new(
+    alloc: Global,
+    image: &mut ImageHandle,
+    readers: usize,
+    writer: &mut WriterHandle,
+) -> u32
+    ensures status { IsOpenStatus (handle_image image.old) readers result }
+    ensures done { result ≡ 0 → IfSome (handle_image image.old)
+        (λ i. IfSome (handle_writer writer.new) (λ h. h.images ≡ i ∷ [])) }
+    ensures refused { result ≢ 0 → handle_writer writer.new ≡ handle_writer writer.old }
+    ensures image { handle_image image.new ≡ handle_image image.old }
+{
+    status(open(alloc, image, readers, writer))
+}
+
+// Publishes a change of a handle's writer.
+fn publish(
+    alloc: Global,
+    writer: &mut WriterHandle,
+    generation: u64,
+    rows: &[Row],
+    prefixes: &[Block],
+) -> Result<(), Fault>
+    ensures ok { OnOk result (IsPublishStatus (first_of (first_row_fault rows.now)
+        (first_block_fault prefixes.now)) (handle_writer writer.old) 0) }
+    ensures published { OnOk result (IfSome (handle_writer writer.old)
+        (λ h. IfSome (last_image h.images) (λ i. handle_writer writer.new
+        ≡ Some (with_image h (changed generation rows.now prefixes.now i))))) }
+    ensures unchanged { OnErr result (handle_writer writer.new ≡ handle_writer writer.old) }
+    ensures err { IfErr result (λ f. IsPublishStatus (first_of (first_row_fault rows.now)
+        (first_block_fault prefixes.now)) (handle_writer writer.old) (fault_number f)) }
+{
+    check_rows(rows)?;
+    check_blocks(prefixes)?;
+    let Some(mut held) = writer.take(alloc) else {
+        return Err(Fault::Empty);
+    };
+    let outcome = match Change::of(alloc, generation, rows, prefixes) {
+        Ok(change) => held.publish(change),
+        Err(fault) => Err(fault),
+    };
+    writer.put(held);
+    outcome
+}
+
+/// Sets rows over those of the image, in order, then takes the rows of prefixes out, sets its generation,
+/// and has readers take the image from now on: all or nothing. 3, 4 or 6: the first row, or else the
+/// first prefix, that has a fault has this one. 7: the handle holds no writer. 9: a reader is still in a
+/// look-up that began before the last publication. 20: memory was refused.
+#[unsafe(no_mangle)]
+pub extern "C" fn tuhvondi_writer_publish(
+    alloc: Global,
+    writer: &mut WriterHandle,
+    generation: u64,
+    rows: &[Row],
+    prefixes: &[Block],
+) -> u32
+    ensures status { IsPublishStatus (first_of (first_row_fault rows.now)
+        (first_block_fault prefixes.now)) (handle_writer writer.old) result }
+    ensures done { result ≡ 0 → IfSome (handle_writer writer.old)
+        (λ h. IfSome (last_image h.images) (λ i. handle_writer writer.new
+        ≡ Some (with_image h (changed generation rows.now prefixes.now i)))) }
+    ensures refused { result ≢ 0 → handle_writer writer.new ≡ handle_writer writer.old }
+{
+    status(publish(alloc, writer, generation, rows, prefixes))
+}
+
+// Makes a reader of a handle's writer.
+fn seat(alloc: Global, writer: &mut WriterHandle, reader: &mut ReaderHandle) -> Result<(), Fault>
+    ensures writer { handle_writer writer.new ≡ handle_writer writer.old }
+    ensures ok { OnOk result (IsSeatStatus (handle_writer writer.old) 0) }
+    ensures made { OnOk result (handle_reader reader.new ≡ handle_writer writer.old) }
+    ensures unchanged { OnErr result (handle_reader reader.new ≡ handle_reader reader.old) }
+    ensures err { IfErr result (λ f. IsSeatStatus (handle_writer writer.old) (fault_number f)) }
+{
+    let Some(held) = writer.take(alloc) else {
+        return Err(Fault::Empty);
+    };
+    let made = match held.reader() {
+        Ok(one) => box_reader(alloc, one),
+        Err(fault) => Err(fault),
+    };
+    writer.put(held);
+    reader.put(made?);
+    Ok(())
+}
+
+// A reader in a box of its own.
+fn box_reader(alloc: Global, reader: ImageReader) -> Result<Box<ImageReader>, Fault>
+    ensures ok { IfOk result (λ b. b.value ≡ reader) }
+    ensures err { IsOkUnless result Fault.NoMemory }
+{
+    Ok(Box::new(alloc, reader)?)
+}
+
+/// Has a reader's handle hold a reader of the writer; the one that it held is freed. 7: the handle holds
+/// no writer. 8: handles hold all readers. 20: memory was refused.
+#[unsafe(no_mangle)]
+pub extern "C" fn tuhvondi_writer_reader(
+    alloc: Global,
+    writer: &mut WriterHandle,
+    reader: &mut ReaderHandle,
+) -> u32
+    ensures status { IsSeatStatus (handle_writer writer.old) result }
+    ensures done { result ≡ 0 → handle_reader reader.new ≡ handle_writer writer.old }
+    ensures refused { result ≢ 0 → handle_reader reader.new ≡ handle_reader reader.old }
+    ensures writer { handle_writer writer.new ≡ handle_writer writer.old }
+{
+    status(seat(alloc, writer, reader))
+}
+
+// Answers addresses by a handle's reader.
+fn read(
+    alloc: Global,
+    reader: &mut ReaderHandle,
+    addrs: &[u32],
+    answers: &mut [Row],
+    generation: &mut u64,
+) -> Result<(), Fault>
+    ensures later { IfSome (handle_reader reader.old)
+        (λ h. IfSome (handle_reader reader.new) (λ k. GoesOn h k)) }
+    ensures ok { OnOk result
+        (IsReadStatus (handle_reader reader.old) (length addrs.now) (length answers.old) 0) }
+    ensures answers { OnOk result (IfSome (handle_reader reader.new)
+        (λ h. IfSome (last_image h.images)
+        (λ i. (answers.new ≡ answer_rows i addrs.now) × (generation.new ≡ i.generation)))) }
+    ensures unchanged { OnErr result
+        ((answers.new ≡ answers.old) × (generation.new ≡ generation.old)) }
+    ensures err { IfErr result (λ f. IsReadStatus
+        (handle_reader reader.old) (length addrs.now) (length answers.old) (fault_number f)) }
+{
+    let Some(mut held) = reader.take(alloc) else {
+        return Err(Fault::Empty);
+    };
+    let outcome = if addrs.len() != answers.len() {
+        Err(Fault::BadCount)
+    } else if held.lookup(addrs, answers, generation) {
+        Ok(())
+    } else {
+        Err(Fault::Shared)
+    };
+    reader.put(held);
+    outcome
+}
+
+/// Writes, for each address, the row of the image that is published with the longest prefix that covers
+/// it, or kind 3 where none does, and the generation of that image. It takes no memory and waits for
+/// nobody. 7: the handle holds no reader. 8: there are not as many answers as addresses. 9: the writer
+/// published a thousand times while the call looked for the image. Refused, it writes nothing.
+#[unsafe(no_mangle)]
+pub extern "C" fn tuhvondi_reader_lookup(
+    alloc: Global,
+    reader: &mut ReaderHandle,
+    addrs: &[u32],
+    answers: &mut [Row],
+    generation: &mut u64,
+) -> u32
+    ensures status { IsReadStatus
+        (handle_reader reader.old) (length addrs.now) (length answers.old) result }
+    ensures later { IfSome (handle_reader reader.old)
+        (λ h. IfSome (handle_reader reader.new) (λ k. GoesOn h k)) }
+    ensures done { result ≡ 0 → IfSome (handle_reader reader.new)
+        (λ h. IfSome (last_image h.images)
+        (λ i. (answers.new ≡ answer_rows i addrs.now) × (generation.new ≡ i.generation))) }
+    ensures refused { result ≢ 0
+        → (answers.new ≡ answers.old) × (generation.new ≡ generation.old) }
+{
+    status(read(alloc, reader, addrs, answers, generation))
+}
+
+/// Frees the writer, if there is one. Its readers go on with the image that was published last.
+#[unsafe(no_mangle)]
+pub extern "C" fn tuhvondi_writer_free(alloc: Global, writer: &mut WriterHandle)
+    ensures { handle_writer writer.new ≡ None }
+{
+    *writer = WriterHandle::none(alloc);
+}
+
+/// Frees the reader, if there is one: another may be made in its place.
+#[unsafe(no_mangle)]
+pub extern "C" fn tuhvondi_reader_free(alloc: Global, reader: &mut ReaderHandle)
+    ensures { handle_reader reader.new ≡ None }
+{
+    *reader = ReaderHandle::none(alloc);
+}
