@@ -302,7 +302,7 @@ uint32_t tuhvondi_writer_publish(struct tuhvondi_writer *writer, uint64_t genera
                                  const struct tuhvondi_prefix *prefixes, size_t prefix_count);
 
 /* Has a reader's handle hold a reader of the writer, and frees the one that it held. The reader may go to
- * another thread.
+ * another thread. Each call writes the handle, so keep those of two threads 128 bytes apart.
  * Refused: TUHVONDI_NO_IMAGE_HELD where the handle holds no writer, TUHVONDI_BAD_COUNT where handles hold
  * all readers, TUHVONDI_NO_MEMORY. */
 uint32_t tuhvondi_writer_reader(struct tuhvondi_writer *writer, struct tuhvondi_reader *reader);
