@@ -4,7 +4,7 @@ use Rattle.std.proofs.Crossing.{frees, crosses}
 use Rattle.std_alloc.proofs.arc.Arc.TheSendSync as arc
 use Rattle.std_alloc.proofs.vec.Vec.TheSendSync as vec
 use Rattle.std_heap.proofs.Global.TheSendSync as heap
-use Rattle.tree_bitmap.proofs.image.Image.TheSendSync as tree
+use Rattle.array_bitmap.proofs.image.Image.TheSendSync as tree
 use Rattle.logbook.proofs.tokens.Seen.TheSendSync as seen
 use Rattle.logbook.proofs.word.Word.TheSendSync as word
 use Rattle.counted_slot.proofs.Counted.TheSendSync as counted

@@ -6,7 +6,7 @@ use Rattle.ipv4_prefix.specs.Prefix.{Prefix}
 use Rattle.network_model.specs.declared.route.Entry.{Entry}
 use Rattle.c_interface.specs.Rows.{entry_row}
 use Rattle.c_interface.specs.declared.row.Row.{Row}
-use Rattle.tree_bitmap.specs.Cursor.{rows_onward}
+use Rattle.array_bitmap.specs.Cursor.{rows_onward}
 use Rattle.lookup_ffi.specs.Prefixes.{IsFilledIn}
 
 -- a row, as C has it

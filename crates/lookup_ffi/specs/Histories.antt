@@ -3,9 +3,9 @@ use Rattle.std.specs.Prelude.{◌≡◌, ℕ, ◌==◌, true, List, [], ◌∷�
 use mathlib.Core.List.{IsPrefix}
 use Rattle.logbook.specs.Pages.{Cell, Step, View, Book, Named}
 use Rattle.network_model.specs.Publication.{Image}
-use Rattle.image_patch.specs.Patches.{patched}
 use Rattle.c_interface.specs.Rows.{row_entry}
 use Rattle.c_interface.specs.declared.row.Row.{Row}
+use Rattle.lookup_ffi.specs.Images.{patched}
 use Rattle.lookup_ffi.specs.Prefixes.{withdrawn}
 use Rattle.lookup_ffi.specs.declared.change.Change.{Change}
 use Rattle.lookup_ffi.specs.declared.prefixes.Block.{Block}

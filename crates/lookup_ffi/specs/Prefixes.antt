@@ -3,8 +3,8 @@ use Rattle.std.specs.Prelude.{◌≡◌, ℕ, ◌⊎◌, ◌==◌, if◌then◌e
 use Rattle.ipv4_prefix.specs.Prefix.{Prefix}
 use Rattle.network_model.specs.Publication.{Image}
 use Rattle.network_model.specs.declared.route.Entry.{Entry}
-use Rattle.tree_bitmap.specs.Cursor.{rows_onward}
-use Rattle.tree_bitmap.specs.Removal.{without_row}
+use Rattle.array_bitmap.specs.Cursor.{rows_onward}
+use Rattle.array_bitmap.specs.Removal.{without_row}
 use Rattle.c_interface.specs.Faults.{fault_number, first_of}
 use Rattle.c_interface.specs.Rows.{prefix_fault, entry_row}
 use Rattle.c_interface.specs.declared.fault.Fault.{Fault}

@@ -3,11 +3,11 @@
 ghost use Rattle.std.specs.Prelude.{◌≡◌, None, Some, IfErr, IfOk, IsOkUnless, OnErr, OnOk, map};
 ghost use Rattle.lookup_ffi.specs.Prefixes.{first_block_fault};
 
+use crate::patch::Patch;
 use crate::prefixes::{Block, copy_blocks};
 use crate::rows::read_rows;
 use crate::shared::Shared;
 use c_interface::{Fault, Row};
-use image_patch::Patch;
 use std::alloc::Global;
 
 /// Rows to set, and prefixes whose rows are then taken out.

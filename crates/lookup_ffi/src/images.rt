@@ -6,9 +6,9 @@ ghost use Rattle.c_interface.specs.Rows.{row_entry};
 ghost use Rattle.lookup_ffi.specs.Rows.{first_row_fault};
 
 use crate::shared::Shared;
+use array_bitmap::parts::{FirstBits, copy, set_row, with};
 use c_interface::{Fault, Row};
 use std::alloc::Global;
-use tree_bitmap::parts::{copy, empty, set_row};
 
 /// An image of generation 0 of these rows, set in order.
 pub fn image_of_rows(alloc: Global, rows: &[Row]) -> Result<Box<Shared>, Fault>
@@ -16,7 +16,7 @@ pub fn image_of_rows(alloc: Global, rows: &[Row]) -> Result<Box<Shared>, Fault>
     ensures ok { IfOk result (λ image. image.value ≡ new_image (map row_entry rows.now)) }
     ensures err { IsOkUnless result Fault.NoMemory }
 {
-    let mut image = empty(alloc)?;
+    let mut image = with(alloc, FirstBits::for_rows(rows.len()))?;
     // One by one: room for all at once would be room for the longest way of each.
     for &row in rows {
         let (prefix, entry) = row.read()?;

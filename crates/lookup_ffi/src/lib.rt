@@ -7,8 +7,7 @@
 ghost use Rattle.std.specs.Prelude.{◌≡◌, ◌≢◌, ◌<◌, None, Some, OnOk, OnErr, IfOk, IfErr, IfSome, IfNone, length, map};
 ghost use Rattle.std.specs.Option.{option_map};
 ghost use Rattle.lookup_ffi.specs.Handles.{handle_image};
-ghost use Rattle.image_patch.specs.Patches.{patched};
-ghost use Rattle.lookup_ffi.specs.Images.{new_image};
+ghost use Rattle.lookup_ffi.specs.Images.{new_image, patched};
 ghost use Rattle.c_interface.specs.Faults.{fault_number, IsStatusBy};
 ghost use Rattle.c_interface.specs.Rows.{row_entry};
 ghost use Rattle.lookup_ffi.specs.Faults.{IsApplyStatus, IsGiveStatus, IsLookupStatus};
@@ -23,6 +22,7 @@ mod change;
 mod handle;
 mod images;
 mod past;
+mod patch;
 mod prefixes;
 mod reader;
 mod reader_handle;

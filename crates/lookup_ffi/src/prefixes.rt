@@ -1,14 +1,14 @@
 //! Prefixes as C writes them: to take rows out of an image, and as a cursor through its rows.
 
 ghost use Rattle.std.specs.Prelude.{◌≡◌, ◌≤◌, None, IfOk, IfErr, IsOkUnless, OnOk, length};
-ghost use Rattle.tree_bitmap.specs.Cursor.{rows_onward};
+ghost use Rattle.array_bitmap.specs.Cursor.{rows_onward};
 ghost use Rattle.lookup_ffi.specs.Prefixes.{block_of, block_fault, first_block_fault, cursor_fault, cursor_prefix, without_rows, IsFilledIn};
 
+use array_bitmap::parts::remove_row;
+use array_bitmap::{Image, next_prefix};
 use c_interface::{Fault, Row, read_prefix};
 use network_model::Prefix;
 use std::alloc::Global;
-use tree_bitmap::parts::remove_row;
-use tree_bitmap::{Image, next_prefix};
 
 /// The length of the cursor at the end of all rows.
 const NO_MORE: u8 = 33;

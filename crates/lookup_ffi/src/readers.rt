@@ -16,9 +16,9 @@ use crate::reader_handle::ReaderHandle;
 use crate::rows::check_rows;
 use crate::writer::ImageWriter;
 use crate::writer_handle::WriterHandle;
+use array_bitmap::Image;
 use c_interface::{Fault, Row, status};
 use std::alloc::Global;
-use tree_bitmap::Image;
 
 /// The most readers that a writer may have.
 const MOST_READERS: usize = 1024;

@@ -4,11 +4,11 @@ ghost use Rattle.std.specs.Prelude.{◌≡◌, None, Some, IfOk, IfErr, OnOk, Is
 ghost use Rattle.c_interface.specs.Rows.{row_entry};
 ghost use Rattle.lookup_ffi.specs.Rows.{answer_rows, first_row_fault};
 
+use array_bitmap::Image;
 use c_interface::{Fault, Row};
 use network_model::{Entry, Prefix};
 use std::alloc::Global;
 use std::cmp::min;
-use tree_bitmap::Image;
 
 /// How many answers are on their way to C at once.
 const FOUND: usize = 64;

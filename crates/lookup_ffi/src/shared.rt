@@ -2,15 +2,15 @@
 
 ghost use Rattle.std.specs.Prelude.{◌≡◌, None, IfOk, IfErr, OnOk, OnErr, map};
 
+use crate::patch::Patch;
 use crate::prefixes::{Block, remove_rows};
 use crate::rows::read_rows;
+use array_bitmap::Image;
+use array_bitmap::parts::set_generation;
 use c_interface::{Fault, Row};
-use image_patch::{Apply, Patch};
 use std::alloc::{AllocError, Global};
 use std::marker::Model;
 use std::sync::Arc;
-use tree_bitmap::Image;
-use tree_bitmap::parts::set_generation;
 
 /// An image that others may hold too: while they do, it does not change.
 #[derive(Drop)]
@@ -29,7 +29,7 @@ impl Model for Shared {
 
 impl Shared {
     ghost use Rattle.lookup_ffi.specs.Faults.{IsPatchFault};
-    ghost use Rattle.image_patch.specs.Patches.{patched};
+    ghost use Rattle.lookup_ffi.specs.Images.{patched};
     ghost use Rattle.c_interface.specs.Rows.{row_entry};
     ghost use Rattle.lookup_ffi.specs.Rows.{first_row_fault};
     ghost use Rattle.lookup_ffi.specs.Prefixes.{first_block_fault, withdrawn};
@@ -85,7 +85,7 @@ impl Shared {
             return Err(Fault::Shared);
         };
         let rows = read_rows(alloc, rows)?;
-        image.apply(&Patch { generation, rows })?;
+        Patch { generation, rows }.apply_to(image)?;
         Ok(())
     }
 
@@ -101,7 +101,7 @@ impl Shared {
         let Some(image) = Arc::get_mut(&mut self.image) else {
             return Err(Fault::Shared);
         };
-        image.apply(patch)?;
+        patch.apply_to(image)?;
         remove_rows(image, blocks);
         Ok(())
     }

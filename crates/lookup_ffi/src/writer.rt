@@ -9,14 +9,14 @@ use crate::change::Change;
 use crate::past::{Head, Past};
 use crate::reader::ImageReader;
 use crate::shared::Shared;
+use array_bitmap::Image;
+use array_bitmap::parts::copy;
 use c_interface::Fault;
 use core::mem::replace_with;
 use std::alloc::Global;
 use std::marker::Model;
 use std::sync::Arc;
 use std::sync::atomic::{AtomicU64, Ordering};
-use tree_bitmap::Image;
-use tree_bitmap::parts::copy;
 
 /// Publishes images. Contracts see those that it has published.
 #[derive(Drop)]

@@ -1,7 +1,7 @@
 use Rattle.std.proofs.Common.{rules, ◌≡◌, ◌+◌, ◌<◌, ◌∷◌, ◌∙◌, set, take, drop, arith, sym, ap}
 use Rattle.std.proofs.lemmas.List.{drop-set-lt}
 use Rattle.std.proofs.lemmas.Grind.{drop_more_same}
-use Rattle.tree_bitmap.specs.Cursor.{rows_from, rows_onward}
+use Rattle.array_bitmap.specs.Cursor.{rows_from, rows_onward}
 use Rattle.lookup_ffi.proofs.Listing.{filled_at_end, none_of_first, one_more_there, one_more_written, others_follow}
 use Rattle.lookup_ffi.proofs.prefixes.list_rows.Goals as goal
 

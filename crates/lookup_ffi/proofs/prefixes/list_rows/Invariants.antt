@@ -1,6 +1,6 @@
 use Rattle.std.proofs.Common.{◌≡◌, ◌≤◌, ◌-◌, map, length, take, drop}
 use Rattle.c_interface.specs.Rows.{entry_row}
-use Rattle.tree_bitmap.specs.Cursor.{rows_onward}
+use Rattle.array_bitmap.specs.Cursor.{rows_onward}
 use Rattle.lookup_ffi.proofs.prefixes.list_rows.Given as goal
 
 abbrev pub invariant-loop-count : goal.invariant-loop-count

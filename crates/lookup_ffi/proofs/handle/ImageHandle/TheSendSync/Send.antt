@@ -12,8 +12,8 @@ use Rattle.std_alloc.proofs.boxed.Box.TheSendSync as box
 use Rattle.std_heap.specs.contracts.Global as Heap
 use Rattle.std_heap.specs.contracts.GlobalAllocator.TheImpl.{ghosts}
 use Rattle.std_heap.proofs.Global.TheSendSync as heap
-use Rattle.tree_bitmap.specs.contracts.image.Image as Tree
-use Rattle.tree_bitmap.proofs.image.Image.TheSendSync as tree
+use Rattle.array_bitmap.specs.contracts.image.Image as Tree
+use Rattle.array_bitmap.proofs.image.Image.TheSendSync as tree
 use Rattle.c_interface.specs.Handles.{held_owns}
 use Rattle.lookup_ffi.specs.contracts.shared.Shared as Shared
 use Rattle.lookup_ffi.specs.contracts.shared.Shared.TheInside as inside
