@@ -1,6 +1,6 @@
 //! A pool of words, in which blocks are taken and given back.
 
-ghost use Rattle.std.specs.Prelude.{◌≡◌, ◌≢◌, ℕ, ◌+◌, ◌*◌, ◌/◌, ◌%◌, ◌<◌, ◌≤◌, ◌^◌, ◌↔◌, IsTrue, IfOk, OnOk, OnErr, IsOk, vec_len, length};
+ghost use Rattle.std.specs.Prelude.{◌≡◌, ◌≢◌, ℕ, ◌+◌, ◌*◌, ◌/◌, ◌%◌, ◌<◌, ◌≤◌, ◌^◌, ◌↔◌, IsTrue, IfOk, OnOk, OnErr, IsOk, vec_len, vec_capacity, length};
 ghost use Rattle.word_pool.specs.Heap.{is_size, size_of, word_of, IsEmpty, IsTaken, IsGiven, IsWritten, IsShortened, IsSplit};
 ghost use Rattle.word_pool.specs.Layout.{entry, noted, width, IsLaid};
 
@@ -244,7 +244,7 @@ impl<A: Allocator> Pool<A> {
         block
     }
 
-    // Adds a block of 128 words behind the others.
+    // Adds a block of 128 words behind the others. Where there is no room for it, the pool gets more.
     #[tactic(auto, unfolding(crate::specs::Pool::spare))]
     fn grow(&mut self) -> Result<u32, NoMemory>
         ensures ok { IfOk result (λ block. IsTaken (blocks self.old) (blocks self.new) block 128) }
@@ -258,6 +258,7 @@ impl<A: Allocator> Pool<A> {
         if MOST_WORDS - len < GROUP {
             return Err(NoMemory);
         }
+        make_room(&mut self.words)?;
         self.words.resize(len + GROUP, 0)?;
         self.used = note(&self.used, len as u32, GROUP);
         Ok(len as u32)
@@ -278,4 +279,19 @@ impl<A: Allocator> Pool<A> {
         self.used = note(&note(&self.used, block, half), upper, half);
         upper
     }
+}
+
+/// Makes room for 128 words more. Where there is none, it makes room for an eighth of the words beside
+/// them: a pool has little memory that it does not use, and its words are moved about eight times.
+fn make_room<A: Allocator>(words: &mut Vec<u32, A>) -> Result<(), NoMemory>
+    ensures items { words.new.items ≡ words.old.items }
+    ensures len { vec_len words.new ≡ vec_len words.old }
+    ensures capacity { vec_capacity words.old ≤ vec_capacity words.new }
+    ensures full { OnErr result (vec_capacity words.old < vec_len words.old + 128) }
+{
+    let len = words.len();
+    if words.capacity() - len < GROUP {
+        words.reserve_exact(len / 8 + GROUP)?;
+    }
+    Ok(())
 }
