@@ -15,6 +15,7 @@ pub mod PoolWords
 pub mod Puts
 pub mod Lookups
 pub mod LanesDown
+pub mod AnswerWords
 pub mod Stands
 pub mod Arrays
 pub mod ShortSet

@@ -1,5 +1,6 @@
 -- Answer words of 32 bits: session (bits 0 to 15), port (16 to 23), kind (24 and 25), length (26 to 31). The kinds are 0 for the router itself, 1 for a neighbour and 2 for nowhere; one word of kind 3 says that there is no row.
-use Rattle.std.specs.Prelude.{ℕ, ◌≡◌, ◌+◌, ◌*◌, ◌/◌, ◌%◌, ◌^◌, ◌<◌, ◌==◌, cond, Option, Some, None}
+use Rattle.std.specs.Prelude.{ℕ, ◌≡◌, ◌+◌, ◌*◌, ◌/◌, ◌%◌, ◌^◌, ◌-◌, ◌<◌, ◌≤◌, ◌==◌, cond, Option, Some, None}
+use Rattle.ipv4_prefix.specs.Prefix.{Prefix}
 use Rattle.network_model.specs.declared.route.Entry.{Entry}
 use Rattle.network_model.specs.declared.route.Entry.TheVariants.{Local, Via, Unreachable}
 
@@ -38,7 +39,22 @@ shown w = cond (w == nothing) None (Some w)
 abbrev pub found : ℕ → Option (ℕ × ℕ)
 found w = cond (w == nothing) None (Some (len_of w, w))
 
--- a word is that of a row whose prefix has the length
+-- the word of an answer: that of the row that was found, or the word for no row
+abbrev pub answer_word : Option (Prefix × Entry) → ℕ
+answer_word None = nothing
+answer_word (Some row) = word_of row.0.len row.1
+
+-- what a word answers for an address: the prefix of the word's length that covers the address, and the word's entry
+abbrev pub word_answer : ℕ → ℕ → Option (Prefix × Entry)
+word_answer addr w = cond (w == nothing) None (Some (record { addr = addr / 2 ^ (32 - len_of w) * 2 ^ (32 - len_of w); len = len_of w }, entry_of w))
+
+-- the word of an answer for an address says the whole answer, to those who know the address
+pub record IsReadBack (addr : ℕ) (answer : Option (Prefix × Entry)) : Type 0 where
+  pub short : len_of (answer_word answer) ≤ 32
+  pub back : word_answer addr (answer_word answer) ≡ answer
+
+-- a word is that of a row whose prefix has the length, and has nothing besides its length and its entry
 pub record IsRowWord (len w : ℕ) : Type 0 where
   pub of_length : len_of w ≡ len
   pub of_row : kind_of w < 3
+  pub whole : word_of len (entry_of w) ≡ w

@@ -1,11 +1,12 @@
 //! The rows of one publication, in the form in which a router forwards by them.
 
-ghost use Rattle.std.specs.Prelude.{◌≡◌, ◌≤◌, IfSome, All, None, false, length, map};
+ghost use Rattle.std.specs.Prelude.{◌≡◌, ℕ, ◌<◌, ◌≤◌, ◌^◌, IfSome, All, None, false, length, map};
+ghost use Rattle.array_bitmap.specs.Words.{answer_word, IsReadBack};
 ghost use Rattle.ipv4_prefix.specs.LongestMatch.{IsLongestMatch};
 ghost use Rattle.ipv4_prefix.specs.Prefix.{covers};
 ghost use Rattle.network_model.specs.Publication.{image_answer};
 
-use crate::lanes::{LANES, answer_all};
+use crate::lanes::{LANES, answer_all, answer_one, answer_words, words_say_all};
 use crate::tree::Tree;
 use network_model::{Entry, Prefix};
 use std::alloc::{Allocator, Global};
@@ -78,6 +79,49 @@ impl<A: Allocator> Image<A> {
         while done < addrs.len() {
             let end = min(done + LANES, addrs.len());
             self.lookup_burst(&addrs[done..end], &mut answers[done..end]);
+            done = end;
+        }
+    }
+
+    /// The word of what `lookup` answers for the address: session (bits 0 to 15), port (16 to 23), kind (24
+    /// and 25: 0 for the router itself, 1 for a neighbour, 2 for nowhere, 3 for no row) and length (26 to
+    /// 31). For one address it is faster than `lookup_words`.
+    pub fn lookup_word(&self, addr: u32) -> u32
+        ensures word { result ≡ answer_word (image_answer self.now addr) }
+        ensures read { IsReadBack addr (image_answer self.now addr) }
+    {
+        answer_one(&self.tree, addr)
+    }
+
+    // A law: with its address, each answer's word says the whole answer.
+    fn words_say_all(&self)
+        ensures { (addr : ℕ) → addr < 2 ^ 32 → IsReadBack addr (image_answer self.now addr) }
+    {
+        words_say_all(&self.tree);
+    }
+
+    // As `lookup_word` for each of at most 32 addresses, which go down side by side.
+    fn burst_words(&self, addrs: &[u32], words: &mut [u32])
+        requires short { length addrs.now ≤ 32 }
+        requires one_each { length words.old ≡ length addrs.now }
+        ensures words { words.new ≡ map (λ addr. answer_word (image_answer self.now addr)) addrs.now }
+    {
+        answer_words(&self.tree, addrs, words);
+    }
+
+    /// As `lookup_word` for each of the addresses, which go down side by side.
+    pub fn lookup_words(&self, addrs: &[u32], words: &mut [u32])
+        requires { length words.old ≡ length addrs.now }
+        ensures words { words.new ≡ map (λ addr. answer_word (image_answer self.now addr)) addrs.now }
+
+        // With its address, each word says the whole answer.
+        ensures read { (addr : ℕ) → addr < 2 ^ 32 → IsReadBack addr (image_answer self.now addr) }
+    {
+        self.words_say_all();
+        let mut done = 0;
+        while done < addrs.len() {
+            let end = min(done + LANES, addrs.len());
+            self.burst_words(&addrs[done..end], &mut words[done..end]);
             done = end;
         }
     }

@@ -4,6 +4,7 @@ ghost use Rattle.std.specs.Prelude.{◌≡◌, ℕ, ◌+◌, ◌<◌, ◌≤◌,
 ghost use Rattle.array_bitmap.specs.Blocks.{IsHead};
 ghost use Rattle.array_bitmap.specs.Image.{cells_of, rows_in, IsSoundTree};
 ghost use Rattle.array_bitmap.specs.Tree.{words_at};
+ghost use Rattle.array_bitmap.specs.Words.{answer_word, IsReadBack};
 ghost use Rattle.ipv4_prefix.specs.LongestMatch.{longest_match};
 ghost use Rattle.array_bitmap.specs.Lane.{IsLane, IsDone, AreLanes, IsCared, lane_at, head_at};
 
@@ -176,6 +177,34 @@ fn words_all<A: Allocator>(tree: &Tree<A>, addrs: &[u32], words: &mut [u32])
             return;
         }
     }
+}
+
+/// Answers an address by its word.
+pub(crate) fn answer_one<A: Allocator>(tree: &Tree<A>, addr: u32) -> u32
+    requires { IsSoundTree tree.now }
+    ensures word { result ≡ answer_word (longest_match addr (rows_in tree.now)) }
+    ensures read { IsReadBack addr (longest_match addr (rows_in tree.now)) }
+{
+    tree.longest(path_of(addr))
+}
+
+/// A law: with its address, each answer's word says the whole answer.
+pub(crate) fn words_say_all<A: Allocator>(tree: &Tree<A>)
+    requires { IsSoundTree tree.now }
+    ensures { (addr : ℕ) → addr < 2 ^ 32 → IsReadBack addr (longest_match addr (rows_in tree.now)) }
+{
+    let _ = tree;
+}
+
+/// Answers at most 32 addresses side by side, by their words.
+pub(crate) fn answer_words<A: Allocator>(tree: &Tree<A>, addrs: &[u32], words: &mut [u32])
+    requires sound { IsSoundTree tree.now }
+    requires few { length addrs.now ≤ 32 }
+    requires one_each { length words.old ≡ length addrs.now }
+    ensures { words.new
+        ≡ map (λ addr. answer_word (longest_match addr (rows_in tree.now))) addrs.now }
+{
+    words_all(tree, addrs, words);
 }
 
 /// Answers at most 32 addresses side by side.
