@@ -5,3 +5,4 @@ pub mod Announcing
 pub mod WriterWords
 pub mod ReaderWords
 pub mod Crossing
+pub mod AnswerRows

@@ -1,10 +1,12 @@
 //! Rows that are set in an image, in place.
 
-ghost use Rattle.std.specs.Prelude.{◌≡◌, OnErr, OnOk};
+ghost use Rattle.std.specs.Prelude.{◌≡◌, [], ◌∷◌, None, IsOkUnless, OnErr, OnOk};
+ghost use Rattle.c_interface.specs.Rows.{row_entry, row_fault};
 ghost use Rattle.lookup_ffi.specs.Images.{patched};
 
 use array_bitmap::Image;
-use array_bitmap::parts::{set_generation, set_rows};
+use array_bitmap::parts::{set_generation, set_row, set_rows};
+use c_interface::{Fault, Row};
 use network_model::{Entry, NoMemory, Prefix};
 
 /// Rows to set, one after another, and the generation that they make.
@@ -25,4 +27,17 @@ impl Patch {
         set_generation(image, self.generation);
         Ok(())
     }
+}
+
+/// Sets one row in an image, and its generation, with no list of rows. Refused, it changes nothing.
+pub fn apply_row(image: &mut Image, generation: u64, row: Row) -> Result<(), Fault>
+    requires { row_fault row ≡ None }
+    ensures ok { OnOk result (image.new ≡ patched generation (row_entry row ∷ []) image.old) }
+    ensures unchanged { OnErr result (image.new ≡ image.old) }
+    ensures err { IsOkUnless result Fault.NoMemory }
+{
+    let (prefix, entry) = row.read()?;
+    set_row(image, prefix, entry)?;
+    set_generation(image, generation);
+    Ok(())
 }

@@ -2,7 +2,7 @@
 
 ghost use Rattle.std.specs.Prelude.{◌≡◌, None, IfOk, IfErr, OnOk, OnErr, map};
 
-use crate::patch::Patch;
+use crate::patch::{Patch, apply_row};
 use crate::prefixes::{Block, remove_rows};
 use crate::rows::read_rows;
 use array_bitmap::Image;
@@ -84,6 +84,9 @@ impl Shared {
         let Some(image) = Arc::get_mut(&mut self.image) else {
             return Err(Fault::Shared);
         };
+        if rows.len() == 1 {
+            return apply_row(image, generation, rows[0]);
+        }
         let rows = read_rows(alloc, rows)?;
         Patch { generation, rows }.apply_to(image)?;
         Ok(())

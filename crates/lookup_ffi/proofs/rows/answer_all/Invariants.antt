@@ -1,4 +1,4 @@
-use Rattle.std.proofs.Common.{ℕ, ◌≡◌, ◌<◌, ◌≤◌, ◌+◌, ◌-◌, length, get_or, None}
+use Rattle.std.proofs.Common.{◌≡◌, ◌≤◌, ◌-◌, length, map, take}
 use Rattle.network_model.specs.Publication.{image_answer}
 use Rattle.c_interface.specs.Rows.{answer_row}
 use Rattle.lookup_ffi.proofs.rows.answer_all.Given as goal
@@ -6,16 +6,8 @@ use Rattle.lookup_ffi.proofs.rows.answer_all.Given as goal
 abbrev pub invariant-loop-done : goal.invariant-loop-done
 invariant-loop-done l = record {
   within : l.done ≤ length l.addrs;
-  found : length l.found ≡ 64;
   count : length l.answers ≡ length l.addrs;
-  answered : (j : ℕ) → j < l.done → get_or l.answers j (answer_row None) ≡ answer_row (image_answer l.image (get_or l.addrs j 0));
-}
-
-abbrev pub invariant-loop-k : goal.invariant-loop-k
-invariant-loop-k l = record {
-  found : length l.found ≡ 64;
-  count : length l.answers ≡ length l.addrs;
-  answered : (j : ℕ) → j < l.done + l.k → get_or l.answers j (answer_row None) ≡ answer_row (image_answer l.image (get_or l.addrs j 0));
+  answered : take l.done l.answers ≡ map (λ addr. answer_row (image_answer l.image addr)) (take l.done l.addrs);
 }
 
 abbrev pub decreases-loop-done : goal.decreases-loop-done
