@@ -120,9 +120,9 @@ impl<A: Allocator> Image<A> {
         self.words_say_all();
         let mut done = 0;
         while done < addrs.len() {
-            let end = min(done + LANES, addrs.len());
-            self.burst_words(&addrs[done..end], &mut words[done..end]);
-            done = end;
+            let next = min(done + LANES, addrs.len());
+            self.burst_words(&addrs[done..next], &mut words[done..next]);
+            done = next;
         }
     }
 
