@@ -1,12 +1,12 @@
 -- Look-ups go down one level, one after another.
-use Rattle.std.proofs.Common.{ℕ, ◌≡◌, ◌≢◌, ◌⊎◌, inl, inr, ◌+◌, ◌*◌, ◌<◌, ◌≤◌, List, length, slice_index, slice_set, min, arith, sym, ap, subst, ◌∙◌}
+use Rattle.std.proofs.Common.{ℕ, suc, ◌≡◌, ◌≢◌, ◌⊎◌, inl, inr, ◌+◌, ◌-◌, ◌*◌, ◌^◌, ◌<◌, ◌≤◌, List, length, slice_index, slice_set, min, arith, refl, sym, ap, subst, ◌∙◌}
 use Rattle.std.proofs.lemmas.Bool.{cases_eq, cases_lt}
 use Rattle.std.proofs.lemmas.List.{get_or-set_same, get_or-set_other}
 use Rattle.array_bitmap.specs.Bits.{depth_of}
 use Rattle.array_bitmap.specs.Words.{found}
 use Rattle.array_bitmap.specs.Greatest.{GreatestBelow}
-use Rattle.array_bitmap.specs.Tree.{Cells, word_at, IsSound}
-use Rattle.array_bitmap.specs.Lane.{IsLane, IsDone, IsCared, lane_at}
+use Rattle.array_bitmap.specs.Tree.{Cells, block_at, word_at, IsSound}
+use Rattle.array_bitmap.specs.Lane.{IsLane, IsStep, IsDone, IsCared, lane_at}
 use Rattle.array_bitmap.specs.declared.lanes.Lane.{Lane}
 use Rattle.array_bitmap.proofs.Lookups.{longest_ends}
 
@@ -16,9 +16,10 @@ AreCared c level addrs lanes words live still i a =
     IsCared c (level + 1) addrs lanes still words a ⊎ ((k : ℕ) × (i ≤ k) × (k < live) × ((lane_at lanes k).at ≡ a))
 
 -- a look-up whose path has no next block is done, and so is each after the last level
-pub lane_done : (c : Cells) (sound : IsSound c) (level : ℕ) (lane : Lane) → c.first ≤ level → level ≤ 5 → IsLane c (level + 1) lane → (level + 1 ≤ 5 → lane.block ≡ 0) → IsDone c lane.addr lane.best
-lane_done c sound level lane low deep is none = elim (cases_lt level 5) [
-  | inl above ↦ longest_ends c sound (lane.addr * 4) level lane.block lane.best low deep is.at (none (omega (arith, above))) is.best
+pub step_done : (c : Cells) (sound : IsSound c) (level : ℕ) (lane : Lane) (goes_on : ℕ) → c.first ≤ level → level ≤ 5 → IsStep c level lane goes_on → (level + 1 ≤ 5 → goes_on ≡ 0) → IsDone c lane.addr lane.best
+step_done c sound level lane goes_on low deep is none = elim (cases_lt level 5) [
+  | inl above ↦
+      longest_ends c sound (lane.addr * 4) level (block_at c (lane.addr * 4) (level + 1 - c.first)) lane.best low deep refl (is.end (none (omega (arith, above)))) is.best
   | inr last ↦
       let n : min (depth_of (level + 1) + 1) 33 ≡ 33 = omega (arith, last) in
       subst (λ x. GreatestBelow (word_at c (lane.addr * 4)) x (found lane.best)) n is.best
@@ -40,9 +41,9 @@ all_done c level addrs lanes live words a (inl none) (inr on) = absurd (omega (a
 all_done c level addrs lanes live words a (inr last) (inr on) = absurd (omega (arith, last, on.0))
 
 -- one look-up goes down: its word is written, and it stands behind those that go on
-module _ (c : Cells) (sound : IsSound c) (level : ℕ) (addrs : List ℕ) (lanes : List Lane) (words : List ℕ) (live still i : ℕ) (lane : Lane)
+module _ (c : Cells) (sound : IsSound c) (level : ℕ) (addrs : List ℕ) (lanes : List Lane) (words : List ℕ) (live still i : ℕ) (lane : Lane) (goes_on : ℕ)
     (low : c.first ≤ level) (deep : level ≤ 5) (fewer : still ≤ i) (inside : still < length lanes) (within : lane.at < length words)
-    (is : IsLane c (level + 1) lane) (addr : lane.addr ≡ slice_index addrs lane.at) (same : lane.at ≡ (lane_at lanes i).at) where
+    (is : IsStep c level lane goes_on) (addr : lane.addr ≡ slice_index addrs lane.at) (same : lane.at ≡ (lane_at lanes i).at) where
   abbrev lanes' : List Lane
   lanes' = slice_set lanes still lane
 
@@ -56,11 +57,11 @@ module _ (c : Cells) (sound : IsSound c) (level : ℕ) (addrs : List ℕ) (lanes
   lane_other k n = get_or-set_other lanes still k lane _ n
 
   -- its own address
-  own : (a still' : ℕ) → a ≡ lane.at → (lane.block ≡ 0 → still' ≡ still) → (lane.block ≢ 0 → still' ≡ still + 1) → IsCared c (level + 1) addrs lanes' still' words' a
-  own a still' e stays more = elim (cases_eq lane.block 0) [
+  own : (a still' : ℕ) → a ≡ lane.at → still' ≡ still + goes_on → IsCared c (level + 1) addrs lanes' still' words' a
+  own a still' e sum = elim (cases_eq goes_on 0) [
     | inl none ↦ inl (done (λ l. none))
     | inr some ↦ elim (cases_lt level 5) [
-      | inl above ↦ inr (omega (arith, above), (still, omega (arith, more some), ap (λ (x : Lane). x.at) lane_here ∙ sym e))
+      | inl above ↦ inr (omega (arith, above), (still, omega (arith, sum, some), ap (λ (x : Lane). x.at) lane_here ∙ sym e))
       | inr last ↦ inl (done (λ l. absurd (omega (arith, l, last))))
     ]
   ]
@@ -71,18 +72,18 @@ module _ (c : Cells) (sound : IsSound c) (level : ℕ) (addrs : List ℕ) (lanes
       at_addr : lane.addr ≡ slice_index addrs a
       at_addr = addr ∙ ap (λ n. slice_index addrs n) (sym e)
 
-      done : (level + 1 ≤ 5 → lane.block ≡ 0) → IsDone c (slice_index addrs a) (slice_index words' a)
-      done none = subst (IsDone c (slice_index addrs a)) (sym word) (subst (λ x. IsDone c x lane.best) at_addr (lane_done c sound level lane low deep is none))
+      done : (level + 1 ≤ 5 → goes_on ≡ 0) → IsDone c (slice_index addrs a) (slice_index words' a)
+      done none = subst (IsDone c (slice_index addrs a)) (sym word) (subst (λ x. IsDone c x lane.best) at_addr (step_done c sound level lane goes_on low deep is none))
 
-  pub cared_next : (a still' : ℕ) → (lane.block ≡ 0 → still' ≡ still) → (lane.block ≢ 0 → still' ≡ still + 1) → AreCared c level addrs lanes words live still i a
+  pub cared_next : (a still' : ℕ) → still' ≡ still + goes_on → AreCared c level addrs lanes words live still i a
       → AreCared c level addrs lanes' words' live still' (i + 1) a
-  cared_next a still' stays more before = elim (cases_eq a lane.at) [
-    | inl e ↦ inl (own a still' e stays more)
+  cared_next a still' sum before = elim (cases_eq a lane.at) [
+    | inl e ↦ inl (own a still' e sum)
     | inr n ↦ others n before
   ]
     where
       least : still ≤ still'
-      least = elim (cases_eq lane.block 0) [ inl none ↦ omega (arith, stays none) | inr some ↦ omega (arith, more some) ]
+      least = omega (arith, sum)
 
       others : a ≢ lane.at → AreCared c level addrs lanes words live still i a → AreCared c level addrs lanes' words' live still' (i + 1) a
       others n (inl (inl done)) = inl (inl (subst (IsDone c (slice_index addrs a)) (sym (get_or-set_other words lane.at a lane.best 0 n)) done))
@@ -93,8 +94,8 @@ module _ (c : Cells) (sound : IsSound c) (level : ℕ) (addrs : List ℕ) (lanes
       ]
 
   -- those that go on, and this one
-  pub each_next : (P : Lane → Type 0) (still' : ℕ) → still' ≤ still + 1 → ((k : ℕ) → k < still → P (lane_at lanes k)) → P lane → (k : ℕ) → k < still' → P (lane_at lanes' k)
-  each_next P still' most before here k l = elim (cases_eq k still) [
-    | inl e ↦ subst P (sym (ap (lane_at lanes') e ∙ lane_here)) here
-    | inr n ↦ subst P (sym (lane_other k n)) (before k (omega (arith, l, most, n)))
+  pub each_next : (P : Lane → Type 0) (still' : ℕ) → still' ≡ still + goes_on → ((k : ℕ) → k < still → P (lane_at lanes k)) → (goes_on ≡ 1 → P lane) → (k : ℕ) → k < still' → P (lane_at lanes' k)
+  each_next P still' sum before here k l = elim (cases_eq k still) [
+    | inl e ↦ subst P (sym (ap (lane_at lanes') e ∙ lane_here)) (here (omega (arith, l, sum, e, is.bit)))
+    | inr n ↦ subst P (sym (lane_other k n)) (before k (omega (arith, l, sum, n, is.bit)))
   ]

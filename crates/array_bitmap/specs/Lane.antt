@@ -19,6 +19,13 @@ pub record IsLane (c : Cells) (level : ℕ) (lane : Lane) : Type 0 where
   pub at : lane.block ≡ block_at c (lane.addr * 4) (level - c.first)
   pub best : GreatestBelow (word_at c (lane.addr * 4)) (min (depth_of level + 1) 33) (found lane.best)
 
+-- the block at a level has been read too: the bit says whether there is a next one on the path, at which the look-up then stands
+pub record IsStep (c : Cells) (level : ℕ) (lane : Lane) (goes_on : ℕ) : Type 0 where
+  pub bit : goes_on < 2
+  pub best : GreatestBelow (word_at c (lane.addr * 4)) (min (depth_of (level + 1) + 1) 33) (found lane.best)
+  pub on : goes_on ≡ 1 → lane.block ≡ block_at c (lane.addr * 4) (level + 1 - c.first)
+  pub end : goes_on ≡ 0 → block_at c (lane.addr * 4) (level + 1 - c.first) ≡ 0
+
 -- the first so many look-ups are at a level, each for the address of its index
 pub record AreLanes (c : Cells) (level : ℕ) (addrs : List ℕ) (lanes : List Lane) (live : ℕ) : Type 0 where
   pub within : live ≤ length lanes

@@ -1,19 +1,21 @@
 //! Look-ups on their way down an image, side by side.
 
-ghost use Rattle.std.specs.Prelude.{◌≡◌, ℕ, ◌+◌, ◌<◌, ◌≤◌, EachIndex, length, map, slice_index};
-ghost use Rattle.array_bitmap.specs.Blocks.{IsHead};
+ghost use Rattle.std.specs.Prelude.{◌≡◌, ℕ, ◌+◌, ◌-◌, ◌*◌, ◌^◌, ◌<◌, ◌≤◌, EachIndex, length, map, slice_index};
+ghost use Rattle.array_bitmap.specs.Blocks.{kid_in, IsBlock, IsHead};
 ghost use Rattle.array_bitmap.specs.Image.{cells_of, rows_in, IsSoundTree};
-ghost use Rattle.array_bitmap.specs.Tree.{words_at};
+ghost use Rattle.array_bitmap.specs.Tree.{block_at, words_at, words_of};
 ghost use Rattle.array_bitmap.specs.Words.{answer_word, IsReadBack};
 ghost use Rattle.ipv4_prefix.specs.LongestMatch.{longest_match};
-ghost use Rattle.array_bitmap.specs.Lane.{IsLane, IsDone, AreLanes, IsCared, lane_at, head_at};
+ghost use Rattle.word_pool.specs.Pool.{blocks};
+ghost use Rattle.array_bitmap.specs.Lane.{IsLane, IsStep, IsDone, AreLanes, IsCared, lane_at, head_at};
 
-use crate::bits::path_of;
-use crate::blocks::{Head, NO_HEAD};
+use crate::bits::{bit, count, five_bits, path_of, rank};
+use crate::blocks::{HEAD, Head, NO_HEAD};
 use crate::tree::Tree;
 use crate::words::NOTHING;
 use network_model::{Entry, Prefix};
 use std::alloc::Allocator;
+use word_pool::Pool;
 
 /// How many look-ups go down side by side.
 pub(crate) const LANES: usize = 32;
@@ -63,24 +65,78 @@ impl Lane {
     }
 
     /// The look-up below the next block, at a level, whose bitmaps have been read.
-    fn below<A: Allocator>(self, tree: &Tree<A>, level: u32, head: Head) -> Lane
+    fn below<A: Allocator>(self, tree: &Tree<A>, level: u32, head: Head) -> Step
         requires sound { IsSoundTree tree.now }
         requires low { tree.now.first ≤ level }
         requires deep { level ≤ 5 }
         requires lane { IsLane (cells_of tree.now) level self }
         requires head { IsHead (words_at (cells_of tree.now) self.block) head }
-        ensures lane { IsLane (cells_of tree.now) (level + 1) result }
-        ensures at { result.at ≡ self.at }
-        ensures addr { result.addr ≡ self.addr }
+        ensures step { IsStep (cells_of tree.now) level result.lane result.goes_on }
+        ensures at { result.lane.at ≡ self.at }
+        ensures addr { result.lane.addr ≡ self.addr }
     {
         let path = path_of(self.addr);
-        Lane {
+        let kid = next_kid(tree, path, level, self.block, head);
+        let lane = Lane {
             at: self.at,
             addr: self.addr,
-            block: tree.next(path, level, self.block, head),
+            block: kid.place,
             best: tree.longest_to(path, level, self.block, head, self.best),
+        };
+        Step {
+            lane,
+            goes_on: kid.there,
         }
     }
+}
+
+/// A look-up that has read a block, and whether its path goes on: 1 where it does, else 0. Where it ends,
+/// nothing says at which block the look-up stands.
+#[derive(Clone, Copy, Debug)]
+struct Step {
+    lane: Lane,
+    goes_on: u32,
+}
+
+/// Whether a block has a kid, as 1 or 0, and its place; where it has none, any word.
+#[derive(Clone, Copy, Debug)]
+struct Kid {
+    there: u32,
+    place: u32,
+}
+
+/// Reads the place of a block's kid, by its bitmaps. There is no branch: where there is no kid, the block's
+/// first word is read.
+fn read_kid<A: Allocator>(pool: &Pool<A>, block: u32, head: Head, five: u32) -> Kid
+    requires is_block { IsBlock (words_of (blocks pool.now block)) }
+    requires head { IsHead (words_of (blocks pool.now block)) head }
+    requires small { five < 32 }
+    ensures bit { result.there < 2 }
+    ensures some { result.there ≡ 1 → result.place ≡ kid_in (words_of (blocks pool.now block)) five }
+    ensures none { result.there ≡ 0 → kid_in (words_of (blocks pool.now block)) five ≡ 0 }
+{
+    let there = bit(head.kids, five);
+    let index = HEAD + count(head.rows) + rank(head.kids, five);
+    Kid {
+        there,
+        place: pool.word(block, index * there as usize),
+    }
+}
+
+/// Reads the place of the next block of a path.
+fn next_kid<A: Allocator>(tree: &Tree<A>, path: u64, level: u32, block: u32, head: Head) -> Kid
+    requires sound { IsSoundTree tree.now }
+    requires low { tree.now.first ≤ level }
+    requires deep { level ≤ 5 }
+    requires at { block ≡ block_at (cells_of tree.now) path (level - tree.now.first) }
+    requires head { IsHead (words_of (blocks tree.now.pool block)) head }
+    ensures bit { result.there < 2 }
+    ensures some { result.there ≡ 1
+        → result.place ≡ block_at (cells_of tree.now) path (level + 1 - tree.now.first) }
+    ensures none { result.there ≡ 0
+        → block_at (cells_of tree.now) path (level + 1 - tree.now.first) ≡ 0 }
+{
+    read_kid(&tree.pool, block, head, five_bits(path, level))
 }
 
 /// Reads the bitmaps of the blocks at which the first `live` look-ups stand. No read waits for another.
@@ -133,10 +189,10 @@ fn go_down<A: Allocator>(
 {
     let mut still = 0;
     for i in 0..live {
-        let lane = lanes[i].below(tree, level, heads[i]);
-        words[lane.at as usize] = lane.best;
-        lanes[still] = lane;
-        still += usize::from(lane.block != 0);
+        let step = lanes[i].below(tree, level, heads[i]);
+        words[step.lane.at as usize] = step.lane.best;
+        lanes[still] = step.lane;
+        still += step.goes_on as usize;
     }
     still
 }
