@@ -1,5 +1,5 @@
 -- Beginnings of lists, and the last of a list of images.
-use Rattle.std.proofs.Common.{◌≡◌, ◌∙◌, ◌≤◌, List, [], ◌∷◌, ◌++◌, Some, length, refl, ap, sym, arith, append_assoc, length-append, append-nil}
+use Rattle.std.proofs.Common.{◌≡◌, ◌∙◌, ◌≤◌, List, [], ◌∷◌, ◌++◌, Some, length, refl, ap, sym, arith, length-append, append-nil}
 use mathlib.Core.List.{IsPrefix}
 use Rattle.network_model.specs.Publication.{Image}
 use Rattle.lookup_ffi.specs.Histories.{History, GoesOn, last_or, last_image}

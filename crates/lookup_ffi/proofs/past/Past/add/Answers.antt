@@ -1,5 +1,5 @@
 use Rattle.std.proofs.Common.{◌≡◌, ◌++◌, ◌∷◌, [], refl, sym, ◌∙◌, ap, arith, length-append}
-use Rattle.lookup_ffi.specs.Histories.{History, head_of}
+use Rattle.lookup_ffi.specs.Histories.{History}
 use Rattle.lookup_ffi.proofs.Announcing.{adds_moves, adds_match}
 use Rattle.lookup_ffi.proofs.past.Past.add.Goals as goal
 

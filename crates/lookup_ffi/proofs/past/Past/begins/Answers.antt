@@ -1,4 +1,4 @@
-use Rattle.std.proofs.Common.{◌≤◌, refl, ap, subst, sym, ◌∙◌, arith, length, List}
+use Rattle.std.proofs.Common.{◌≤◌, ap, subst, sym, ◌∙◌, arith, length, List}
 use mathlib.Core.List.{IsPrefix}
 use Rattle.network_model.specs.Publication.{Image}
 use Rattle.lookup_ffi.specs.Histories.{History}
