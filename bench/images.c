@@ -1,26 +1,40 @@
-/* Makes the calls of images (include/tuhvondi.h) with hostile arguments, beside a plain list of rows.
+/* Makes the calls of images, writers and readers (include/tuhvondi.h) with hostile arguments, beside a plain
+ * list of rows.
  *
- *     cc -g -fsanitize=address,undefined -Iinclude bench/images.c libtuhvondi.a \
+ *     cc -g -fsanitize=address,undefined -Iinclude bench/images.c libtuhvondi.a -pthread \
  *         -Wl,--wrap=malloc,--wrap=realloc,--wrap=free && ./a.out [STEPS [SEED]]
  *
- * Each call is made with an empty handle, with empty lists at null, with lists of other lengths, with prefixes
- * that are none, with cursors past the end and with images that are shared, and its status has to be the one of
- * the header. Then rows are drawn that lie in each other, set, taken out, listed from anywhere by any number and
- * looked up in bursts of any length, STEPS times, and what the image answers has to be what the list has. At
- * last each call that takes memory is refused its first allocation, its second and so on, until it is done: it
- * has to answer TUHVONDI_NO_MEMORY, and leave what was there. It ends with status 1 where anything is not as it
- * has to be, or memory is not given back.
+ *   1. Hostile arguments: empty handles, empty lists at null, lists of other lengths, prefixes that are none,
+ *      cursors past the end, shared images, numbers of readers up to SIZE_MAX. Each call has to answer the
+ *      status of the header.
+ *   2. Refused memory: each call that takes memory is refused its first allocation, then its second and so on,
+ *      until it is done. It has to answer TUHVONDI_NO_MEMORY and leave what was there. Readers have to answer
+ *      as before, and the call has to be done when it is made again.
+ *   3. A look-up that stands still while its writer publishes, and one while its writer is freed.
+ *   4. Image, writer and two readers freed in each order.
+ *   5. STEPS random steps: rows that lie in each other are set, taken out, listed from anywhere by any number,
+ *      and looked up in bursts of any length. Image and readers have to answer what the list has.
+ *
+ * It ends with status 1 if anything is not as it has to be, or if memory is not given back.
  */
+#define _DEFAULT_SOURCE
+
 #include "tuhvondi.h"
 
 #include <inttypes.h>
+#include <pthread.h>
+#include <sched.h>
+#include <signal.h>
+#include <stdatomic.h>
 #include <stdio.h>
 #include <stdlib.h>
 #include <string.h>
+#include <sys/mman.h>
 
 enum {
     MOST_ROWS = 16384,
     MOST_ADDRS = 100,
+    MOST_READERS = 1024,
     SPREAD = 10000, /* rows to begin with, so that look-ups go down side by side */
 };
 
@@ -202,6 +216,24 @@ static void need_rows(struct tuhvondi_image *image, const struct list *list, uin
 
 /* Arguments that no program should give, and that any may. */
 
+/* Rows that are none. */
+static const struct {
+    struct tuhvondi_row row;
+    uint32_t fault;
+} bad[] = {
+    {{.addr = 1, .len = 33, .kind = 9}, TUHVONDI_BAD_LENGTH},
+    {{.addr = 0, .len = 255}, TUHVONDI_BAD_LENGTH},
+    {{.addr = 1, .len = 31, .kind = 9}, TUHVONDI_HOST_BITS},
+    {{.addr = 1, .len = 0}, TUHVONDI_HOST_BITS},
+    {{.addr = 0x80000000, .len = 0}, TUHVONDI_HOST_BITS},
+    {{.addr = 0, .len = 0, .kind = TUHVONDI_NO_ROW}, TUHVONDI_BAD_KIND},
+    {{.addr = 0, .len = 32, .kind = 255}, TUHVONDI_BAD_KIND},
+};
+
+#define BAD_ROWS (sizeof bad / sizeof bad[0])
+
+static const struct list none = {.count = 0};
+
 static void refuse_arguments(void)
 {
     struct tuhvondi_image image = TUHVONDI_NO_IMAGE, other = TUHVONDI_NO_IMAGE;
@@ -244,20 +276,7 @@ static void refuse_arguments(void)
         NEED(is_same(&answers[i], &(struct tuhvondi_row){.kind = TUHVONDI_NO_ROW}));
 
     /* Rows and prefixes that are none: the first with a fault is named, and nothing is done. */
-    static const struct {
-        struct tuhvondi_row row;
-        uint32_t fault;
-    } bad[] = {
-        {{.addr = 1, .len = 33, .kind = 9}, TUHVONDI_BAD_LENGTH},
-        {{.addr = 0, .len = 255}, TUHVONDI_BAD_LENGTH},
-        {{.addr = 1, .len = 31, .kind = 9}, TUHVONDI_HOST_BITS},
-        {{.addr = 1, .len = 0}, TUHVONDI_HOST_BITS},
-        {{.addr = 0x80000000, .len = 0}, TUHVONDI_HOST_BITS},
-        {{.addr = 0, .len = 0, .kind = TUHVONDI_NO_ROW}, TUHVONDI_BAD_KIND},
-        {{.addr = 0, .len = 32, .kind = 255}, TUHVONDI_BAD_KIND},
-    };
-    struct list none = {.count = 0};
-    for (size_t i = 0; i < sizeof bad / sizeof bad[0]; i++) {
+    for (size_t i = 0; i < BAD_ROWS; i++) {
         struct tuhvondi_row rows[3] = {via(0, 0, 1), bad[i].row, {.addr = 5, .len = 40}};
         struct tuhvondi_prefix prefixes[3] = {{0, 0}, {bad[i].row.addr, bad[i].row.len}, {1, 0}};
         NEED(tuhvondi_image_apply(&image, 9, rows, 3) == bad[i].fault);
@@ -427,7 +446,7 @@ static void refuse_memory(void)
             if (call == 0 && !done)
                 NEED(tuhvondi_image_row_count(&other, &(size_t){0}) == TUHVONDI_NO_IMAGE_HELD);
             else if (!applies)
-                need_rows(&other, done ? &before : &(struct list){.count = 0}, 0);
+                need_rows(&other, done ? &before : &none, 0);
             tuhvondi_image_free(&image);
             tuhvondi_image_free(&other);
             NEED(blocks_out == 0);
@@ -450,12 +469,448 @@ static void refuse_memory(void)
     printf("%zu allocations refused\n", refused);
 }
 
+/* ---- a writer and its readers */
+
+/* The reader answers what the list has, by an image of this generation. */
+static void need_answers(struct tuhvondi_reader *reader, const struct list *list, uint64_t generation)
+{
+    uint32_t addrs[MOST_ADDRS];
+    struct tuhvondi_row answers[MOST_ADDRS];
+    for (size_t from = 0; from == 0 || from < list->count; from += MOST_ADDRS) {
+        uint64_t its = ~generation;
+        for (size_t i = 0; i < MOST_ADDRS; i++)
+            addrs[i] = from + i < list->count ? list->rows[from + i].addr + (uint32_t)(i % 3) : (uint32_t)i << 24;
+        NEED(tuhvondi_reader_lookup(reader, addrs, MOST_ADDRS, answers, MOST_ADDRS, &its) == TUHVONDI_DONE);
+        NEED(its == generation);
+        for (size_t i = 0; i < MOST_ADDRS; i++) {
+            struct tuhvondi_row found = longest(list, addrs[i]);
+            NEED(is_same(&answers[i], &found));
+        }
+    }
+}
+
+static void refuse_reader_arguments(void)
+{
+    static struct tuhvondi_reader readers[MOST_READERS];
+    struct tuhvondi_image image = TUHVONDI_NO_IMAGE;
+    struct tuhvondi_writer writer = TUHVONDI_NO_WRITER;
+    struct tuhvondi_reader reader = TUHVONDI_NO_READER, other = TUHVONDI_NO_READER;
+    struct tuhvondi_row answers[3] = {via(1, 2, 3), via(1, 2, 3), via(1, 2, 3)};
+    uint32_t addrs[3] = {0, 1, UINT32_MAX};
+    uint64_t generation = 7;
+
+    /* Empty handles. */
+    NEED(tuhvondi_writer_new(&image, 1, &writer) == TUHVONDI_NO_IMAGE_HELD);
+    NEED(tuhvondi_writer_new(&image, SIZE_MAX, &writer) == TUHVONDI_NO_IMAGE_HELD);
+    NEED(tuhvondi_writer_publish(&writer, 1, NULL, 0, NULL, 0) == TUHVONDI_NO_IMAGE_HELD);
+    NEED(tuhvondi_writer_reader(&writer, &reader) == TUHVONDI_NO_IMAGE_HELD);
+    NEED(tuhvondi_reader_lookup(&reader, addrs, 3, answers, 3, &generation) == TUHVONDI_NO_IMAGE_HELD);
+    NEED(tuhvondi_reader_lookup(&reader, addrs, 3, answers, 2, &generation) == TUHVONDI_NO_IMAGE_HELD);
+    NEED(generation == 7 && answers[0].port == 3);
+    tuhvondi_reader_free(&reader);
+    tuhvondi_writer_free(&writer);
+
+    /* Numbers of readers. A writer may have none. */
+    size_t numbers[] = {MOST_READERS + 1, (size_t)1 << 32, SIZE_MAX / 2, SIZE_MAX};
+    NEED(tuhvondi_image_new(NULL, 0, &image) == TUHVONDI_DONE);
+    for (size_t i = 0; i < sizeof numbers / sizeof numbers[0]; i++)
+        NEED(tuhvondi_writer_new(&image, numbers[i], &writer) == TUHVONDI_BAD_COUNT);
+    NEED(tuhvondi_writer_publish(&writer, 1, NULL, 0, NULL, 0) == TUHVONDI_NO_IMAGE_HELD);
+    NEED(tuhvondi_writer_new(&image, 0, &writer) == TUHVONDI_DONE);
+    for (uint64_t i = 1; i <= 3; i++)
+        NEED(tuhvondi_writer_publish(&writer, i, NULL, 0, NULL, 0) == TUHVONDI_DONE);
+    NEED(tuhvondi_writer_reader(&writer, &reader) == TUHVONDI_BAD_COUNT);
+
+    /* As many readers as there may be, and one more. The image stays, and the writer before goes. */
+    NEED(tuhvondi_writer_new(&image, MOST_READERS, &writer) == TUHVONDI_DONE);
+    need_rows(&image, &none, 0);
+    for (size_t i = 0; i < MOST_READERS; i++)
+        NEED(tuhvondi_writer_reader(&writer, &readers[i]) == TUHVONDI_DONE);
+    NEED(tuhvondi_writer_reader(&writer, &reader) == TUHVONDI_BAD_COUNT);
+    /* A handle keeps the reader that it has until another is made: none can be. */
+    NEED(tuhvondi_writer_reader(&writer, &readers[0]) == TUHVONDI_BAD_COUNT);
+    struct list list = {.count = 0};
+    for (uint64_t i = 1; i <= 4; i++) {
+        struct tuhvondi_row row = via(0x0a000000, 8, (uint8_t)i);
+        set(&list, row);
+        NEED(tuhvondi_writer_publish(&writer, i, &row, 1, NULL, 0) == TUHVONDI_DONE);
+        for (size_t k = 0; k < MOST_READERS; k++)
+            need_answers(&readers[k], &list, i);
+    }
+    for (size_t i = 0; i < 3; i++) {
+        size_t k = i * (MOST_READERS / 2) - (i == 2);
+        tuhvondi_reader_free(&readers[k]);
+        NEED(tuhvondi_writer_reader(&writer, &reader) == TUHVONDI_DONE);
+        need_answers(&reader, &list, 4);
+        NEED(tuhvondi_writer_reader(&writer, &readers[k]) == TUHVONDI_BAD_COUNT);
+        tuhvondi_reader_free(&reader);
+        NEED(tuhvondi_writer_reader(&writer, &readers[k]) == TUHVONDI_DONE);
+    }
+    for (size_t k = 0; k < MOST_READERS; k++)
+        tuhvondi_reader_free(&readers[k]);
+
+    /* Empty lists, at null. */
+    NEED(tuhvondi_writer_new(&image, 1, &writer) == TUHVONDI_DONE);
+    NEED(tuhvondi_writer_reader(&writer, &reader) == TUHVONDI_DONE);
+    NEED(tuhvondi_writer_publish(&writer, 4, NULL, 0, NULL, 0) == TUHVONDI_DONE);
+    NEED(tuhvondi_reader_lookup(&reader, NULL, 0, NULL, 0, &generation) == TUHVONDI_DONE && generation == 4);
+
+    /* Counts that differ. */
+    generation = 7;
+    NEED(tuhvondi_reader_lookup(&reader, addrs, 3, answers, 2, &generation) == TUHVONDI_BAD_COUNT);
+    NEED(tuhvondi_reader_lookup(&reader, addrs, 2, answers, 3, &generation) == TUHVONDI_BAD_COUNT);
+    NEED(tuhvondi_reader_lookup(&reader, NULL, 0, answers, 3, &generation) == TUHVONDI_BAD_COUNT);
+    NEED(tuhvondi_reader_lookup(&reader, addrs, 3, NULL, 0, &generation) == TUHVONDI_BAD_COUNT);
+    NEED(generation == 7 && answers[0].port == 3 && answers[1].port == 3 && answers[2].port == 3);
+
+    /* Rows and prefixes that are none: the first row with a fault, or else the first prefix. */
+    struct tuhvondi_prefix later[2] = {{0, 0}, {1, 0}};
+    for (size_t i = 0; i < BAD_ROWS; i++) {
+        struct tuhvondi_row rows[3] = {via(0, 0, 1), bad[i].row, {.addr = 5, .len = 40}};
+        struct tuhvondi_prefix prefixes[3] = {{0, 0}, {bad[i].row.addr, bad[i].row.len}, {1, 0}};
+        struct tuhvondi_writer empty = TUHVONDI_NO_WRITER;
+        NEED(tuhvondi_writer_publish(&writer, 9, rows, 3, later, 2) == bad[i].fault);
+        NEED(tuhvondi_writer_publish(&empty, 9, rows, 3, later, 2) == bad[i].fault);
+        if (bad[i].fault != TUHVONDI_BAD_KIND) {
+            NEED(tuhvondi_writer_publish(&writer, 9, rows, 1, prefixes, 3) == bad[i].fault);
+            NEED(tuhvondi_writer_publish(&empty, 9, rows, 1, prefixes, 3) == bad[i].fault);
+        }
+        need_answers(&reader, &none, 4);
+    }
+
+    /* A row that is set and taken out by one call is not there. Generations may go back: they are the caller's. */
+    struct tuhvondi_row row = via(0xffffffff, 32, 5);
+    struct tuhvondi_prefix prefix = {0xffffffff, 32};
+    for (uint64_t i = 4; i-- > 0;) {
+        NEED(tuhvondi_writer_publish(&writer, i, &row, 1, &prefix, 1) == TUHVONDI_DONE);
+        need_answers(&reader, &none, i);
+    }
+
+    /* A handle that has a reader may have one of another writer. */
+    struct tuhvondi_writer second = TUHVONDI_NO_WRITER;
+    NEED(tuhvondi_writer_new(&image, 1, &second) == TUHVONDI_DONE);
+    NEED(tuhvondi_writer_publish(&second, 8, &row, 1, NULL, 0) == TUHVONDI_DONE);
+    NEED(tuhvondi_writer_reader(&second, &reader) == TUHVONDI_DONE);
+    list.count = 0;
+    set(&list, row);
+    need_answers(&reader, &list, 8);
+    NEED(tuhvondi_writer_reader(&writer, &other) == TUHVONDI_DONE);
+    need_answers(&other, &none, 0);
+    tuhvondi_writer_free(&second);
+    need_answers(&reader, &list, 8);
+
+    tuhvondi_image_free(&image);
+    for (int twice = 0; twice < 2; twice++) {
+        tuhvondi_reader_free(&reader);
+        tuhvondi_reader_free(&other);
+        tuhvondi_writer_free(&writer);
+    }
+    NEED(blocks_out == 0);
+}
+
+/* Each call of a writer that takes memory is refused each of its allocations. */
+static void refuse_writers_memory(void)
+{
+    static struct list lists[4];
+    static struct tuhvondi_row rows[200], more[2][50];
+    struct tuhvondi_prefix gone[2][5];
+    size_t refused = 0;
+    for (size_t i = 0; i < 200; i++) {
+        rows[i] = via(0x0a000000 + (uint32_t)i * 0x00010000, 16, (uint8_t)(i % 32));
+        set(&lists[0], rows[i]);
+    }
+    for (size_t k = 0; k < 2; k++) {
+        lists[k + 1] = lists[k];
+        for (size_t i = 0; i < 50; i++) {
+            more[k][i] = via(0x0a000000 + (uint32_t)(i + 50 * k) * 0x01010100, 32, (uint8_t)(i % 32));
+            set(&lists[k + 1], more[k][i]);
+        }
+        for (size_t i = 0; i < 5; i++) {
+            gone[k][i] = (struct tuhvondi_prefix){rows[5 * k + i].addr, rows[5 * k + i].len};
+            take_out(&lists[k + 1], gone[k][i].addr, gone[k][i].len);
+        }
+    }
+    /* 0 makes a writer, 1 a reader, 2 publishes, and 3 publishes when the hidden copy is wanting a change. */
+    for (int call = 0; call < 4; call++) {
+        uint32_t status = TUHVONDI_NO_MEMORY;
+        for (size_t allowed = 0; status != TUHVONDI_DONE; allowed++) {
+            struct tuhvondi_image image = TUHVONDI_NO_IMAGE;
+            struct tuhvondi_writer writer = TUHVONDI_NO_WRITER, other = TUHVONDI_NO_WRITER;
+            struct tuhvondi_reader first = TUHVONDI_NO_READER, second = TUHVONDI_NO_READER;
+            int at = call == 3;
+            NEED(tuhvondi_image_new(rows, 200, &image) == TUHVONDI_DONE);
+            NEED(tuhvondi_writer_new(&image, 2, &writer) == TUHVONDI_DONE);
+            NEED(tuhvondi_writer_reader(&writer, &first) == TUHVONDI_DONE);
+            if (at)
+                NEED(tuhvondi_writer_publish(&writer, 1, more[0], 50, gone[0], 5) == TUHVONDI_DONE);
+            for (int again = 0; again < 2 && status != TUHVONDI_DONE; again++) {
+                until_refused = again ? SIZE_MAX : allowed;
+                uint32_t its = call == 0 ? tuhvondi_writer_new(&image, 1, &other)
+                    : call == 1          ? tuhvondi_writer_reader(&writer, &second)
+                                         : tuhvondi_writer_publish(&writer, (uint64_t)at + 1, more[at], 50, gone[at], 5);
+                until_refused = SIZE_MAX;
+                NEED(its == TUHVONDI_DONE || (its == TUHVONDI_NO_MEMORY && !again));
+                refused += its == TUHVONDI_NO_MEMORY;
+                bool done = its == TUHVONDI_DONE;
+                int now = at + (call > 1 && done);
+                need_answers(&first, &lists[now], (uint64_t)now);
+                need_rows(&image, &lists[0], 0);
+                if (call == 0 && !done)
+                    NEED(tuhvondi_writer_publish(&other, 1, NULL, 0, NULL, 0) == TUHVONDI_NO_IMAGE_HELD);
+                if (call == 1 && !done)
+                    NEED(tuhvondi_reader_lookup(&second, NULL, 0, NULL, 0, &(uint64_t){0}) == TUHVONDI_NO_IMAGE_HELD);
+                if (call == 1 && done)
+                    need_answers(&second, &lists[0], 0);
+                if (again || !done)
+                    continue;
+                status = its;
+            }
+            /* Both copies have all changes, and no reader was lost. */
+            for (int now = at + (call > 1); now < 2; now++)
+                NEED(tuhvondi_writer_publish(&writer, (uint64_t)now + 1, more[now], 50, gone[now], 5) == TUHVONDI_DONE);
+            for (uint64_t more_yet = 2; more_yet < 5; more_yet++) {
+                need_answers(&first, &lists[2], more_yet);
+                NEED(tuhvondi_writer_publish(&writer, more_yet + 1, NULL, 0, NULL, 0) == TUHVONDI_DONE);
+            }
+            if (call != 1)
+                NEED(tuhvondi_writer_reader(&writer, &second) == TUHVONDI_DONE);
+            need_answers(&second, &lists[2], 5);
+            tuhvondi_image_free(&image);
+            tuhvondi_writer_free(&writer);
+            tuhvondi_writer_free(&other);
+            tuhvondi_reader_free(&first);
+            tuhvondi_reader_free(&second);
+            NEED(blocks_out == 0);
+        }
+    }
+    /* A look-up takes no memory. */
+    struct tuhvondi_image image = TUHVONDI_NO_IMAGE;
+    struct tuhvondi_writer writer = TUHVONDI_NO_WRITER;
+    struct tuhvondi_reader reader = TUHVONDI_NO_READER;
+    NEED(tuhvondi_image_new(rows, 200, &image) == TUHVONDI_DONE);
+    NEED(tuhvondi_writer_new(&image, 1, &writer) == TUHVONDI_DONE);
+    NEED(tuhvondi_writer_reader(&writer, &reader) == TUHVONDI_DONE);
+    until_refused = 0;
+    need_answers(&reader, &lists[0], 0);
+    until_refused = SIZE_MAX;
+    tuhvondi_image_free(&image);
+    tuhvondi_writer_free(&writer);
+    tuhvondi_reader_free(&reader);
+    NEED(blocks_out == 0);
+    printf("%zu allocations of writers and readers refused\n", refused);
+}
+
+/* A look-up that stands still: the first write of an answer faults, and the handler waits. */
+
+enum { PAGE = 4096, STILL = 64 };
+
+static atomic_bool stands, may_go_on;
+static struct tuhvondi_row *still_answers;
+
+static void stand_still(int signal)
+{
+    (void)signal;
+    atomic_store(&stands, true);
+    while (!atomic_load(&may_go_on))
+        sched_yield();
+    if (mprotect(still_answers, PAGE, PROT_READ | PROT_WRITE))
+        _Exit(1);
+}
+
+struct still {
+    struct tuhvondi_reader *reader;
+    uint64_t generation;
+    uint32_t status;
+};
+
+static void *look_up_still(void *argument)
+{
+    struct still *still = argument;
+    uint32_t addrs[STILL];
+    for (uint32_t i = 0; i < STILL; i++)
+        addrs[i] = 0x0a000000 + i;
+    still->status = tuhvondi_reader_lookup(still->reader, addrs, STILL, still_answers, STILL, &still->generation);
+    return NULL;
+}
+
+/* While one reader stands still in its look-up, the writer publishes once, and is then refused until the
+ * look-up has ended. Other readers go on. In the second turn the writer is freed meanwhile. */
+static void publish_beside_a_look_up(void)
+{
+    struct sigaction action = {.sa_handler = stand_still}, before;
+    still_answers = mmap(NULL, PAGE, PROT_NONE, MAP_PRIVATE | MAP_ANONYMOUS, -1, 0);
+    NEED(still_answers != MAP_FAILED && sigaction(SIGSEGV, &action, &before) == 0);
+    for (int freed = 0; freed < 2; freed++) {
+        struct tuhvondi_image image = TUHVONDI_NO_IMAGE;
+        struct tuhvondi_writer writer = TUHVONDI_NO_WRITER;
+        struct tuhvondi_reader reader = TUHVONDI_NO_READER, other = TUHVONDI_NO_READER;
+        struct tuhvondi_row row[4];
+        struct list lists[4] = {{.count = 0}};
+        for (uint8_t i = 0; i < 4; i++) {
+            row[i] = via(0x0a000000, 8, i);
+            set(&lists[i], row[i]);
+        }
+        NEED(tuhvondi_image_new(row, 1, &image) == TUHVONDI_DONE);
+        NEED(tuhvondi_writer_new(&image, 2, &writer) == TUHVONDI_DONE);
+        NEED(tuhvondi_writer_reader(&writer, &reader) == TUHVONDI_DONE);
+        NEED(tuhvondi_writer_reader(&writer, &other) == TUHVONDI_DONE);
+        struct still still = {.reader = &reader, .generation = 99};
+        pthread_t thread;
+        atomic_store(&stands, false);
+        atomic_store(&may_go_on, false);
+        NEED(mprotect(still_answers, PAGE, PROT_NONE) == 0);
+        NEED(pthread_create(&thread, NULL, look_up_still, &still) == 0);
+        while (!atomic_load(&stands))
+            sched_yield();
+        NEED(tuhvondi_writer_publish(&writer, 1, &row[1], 1, NULL, 0) == TUHVONDI_DONE);
+        need_answers(&other, &lists[1], 1);
+        for (int i = 0; i < 3; i++) {
+            NEED(tuhvondi_writer_publish(&writer, 2, &row[2], 1, NULL, 0) == TUHVONDI_SHARED);
+            need_answers(&other, &lists[1], 1);
+        }
+        if (freed) {
+            tuhvondi_writer_free(&writer);
+            tuhvondi_reader_free(&other);
+        }
+        atomic_store(&may_go_on, true);
+        NEED(pthread_join(thread, NULL) == 0);
+        NEED(still.status == TUHVONDI_DONE && still.generation == 0);
+        for (size_t i = 0; i < STILL; i++)
+            NEED(is_same(&still_answers[i], &row[0]));
+        need_answers(&reader, &lists[1], 1);
+        for (uint8_t i = 2; !freed && i < 4; i++) {
+            NEED(tuhvondi_writer_publish(&writer, i, &row[i], 1, NULL, 0) == TUHVONDI_DONE);
+            need_answers(&reader, &lists[i], i);
+            need_answers(&other, &lists[i], i);
+        }
+        tuhvondi_reader_free(&reader);
+        tuhvondi_reader_free(&other);
+        tuhvondi_writer_free(&writer);
+        tuhvondi_image_free(&image);
+    }
+    NEED(sigaction(SIGSEGV, &before, NULL) == 0 && munmap(still_answers, PAGE) == 0);
+}
+
+/* An image, its writer and two readers, freed in each of the 24 orders. */
+static void free_in_each_order(void)
+{
+    struct tuhvondi_row row = via(0x0a000000, 8, 1), next = via(0x0a000000, 8, 2);
+    struct list lists[2] = {{.count = 0}};
+    set(&lists[0], row);
+    set(&lists[1], next);
+    for (int order = 0; order < 4 * 4 * 4 * 4; order++) {
+        int turn[4] = {order % 4, order / 4 % 4, order / 16 % 4, order / 64};
+        bool is_gone[4] = {false};
+        if ((1 << turn[0] | 1 << turn[1] | 1 << turn[2] | 1 << turn[3]) != 15)
+            continue;
+        struct tuhvondi_image image = TUHVONDI_NO_IMAGE;
+        struct tuhvondi_writer writer = TUHVONDI_NO_WRITER;
+        struct tuhvondi_reader readers[2] = {TUHVONDI_NO_READER, TUHVONDI_NO_READER};
+        NEED(tuhvondi_image_new(&row, 1, &image) == TUHVONDI_DONE);
+        NEED(tuhvondi_writer_new(&image, 2, &writer) == TUHVONDI_DONE);
+        for (int i = 0; i < 2; i++)
+            NEED(tuhvondi_writer_reader(&writer, &readers[i]) == TUHVONDI_DONE);
+        NEED(tuhvondi_writer_publish(&writer, 1, &next, 1, NULL, 0) == TUHVONDI_DONE);
+        for (int i = 0; i < 4; i++) {
+            is_gone[turn[i]] = true;
+            if (turn[i] == 0)
+                tuhvondi_image_free(&image);
+            else if (turn[i] == 1)
+                tuhvondi_writer_free(&writer);
+            else
+                tuhvondi_reader_free(&readers[turn[i] - 2]);
+            if (!is_gone[0])
+                need_rows(&image, &lists[0], 0);
+            for (int k = 0; k < 2; k++)
+                if (!is_gone[2 + k])
+                    need_answers(&readers[k], &lists[1], 1);
+        }
+        NEED(blocks_out == 0);
+    }
+}
+
+/* Steps of a writer, with memory refused now and then, and of two readers, beside the list. */
+static void compare_readers(uint64_t steps)
+{
+    static struct list list, changed;
+    struct tuhvondi_image image = TUHVONDI_NO_IMAGE;
+    struct tuhvondi_writer writer = TUHVONDI_NO_WRITER;
+    struct tuhvondi_reader readers[2] = {TUHVONDI_NO_READER, TUHVONDI_NO_READER};
+    uint64_t generation = 0, refused = 0, looked_up = 0;
+    list.count = 0;
+    NEED(tuhvondi_image_new(NULL, 0, &image) == TUHVONDI_DONE);
+    NEED(tuhvondi_writer_new(&image, 2, &writer) == TUHVONDI_DONE);
+    tuhvondi_image_free(&image);
+    for (int k = 0; k < 2; k++)
+        NEED(tuhvondi_writer_reader(&writer, &readers[k]) == TUHVONDI_DONE);
+    for (step = 1; step <= steps; step++) {
+        struct tuhvondi_row rows[8];
+        struct tuhvondi_prefix gone[8];
+        uint32_t sets = below(8), takes = list.count > MOST_ROWS - 100 ? 8 : below(6);
+        changed.count = list.count;
+        memcpy(changed.rows, list.rows, list.count * sizeof list.rows[0]);
+        for (uint32_t i = 0; i < sets; i++) {
+            struct tuhvondi_prefix at = draw_prefix();
+            rows[i] = via(at.addr, at.len, (uint8_t)below(256));
+            set(&changed, rows[i]);
+        }
+        for (uint32_t i = 0; i < takes; i++) {
+            gone[i] = draw_prefix();
+            if (changed.count > 0 && below(2) == 0) {
+                const struct tuhvondi_row *row = &changed.rows[below((uint32_t)changed.count)];
+                gone[i] = (struct tuhvondi_prefix){row->addr, row->len};
+            }
+            take_out(&changed, gone[i].addr, gone[i].len);
+        }
+        until_refused = below(4) == 0 ? below(6) : SIZE_MAX;
+        bool is_open = until_refused == SIZE_MAX;
+        uint32_t status = tuhvondi_writer_publish(&writer, step, rows, sets, gone, takes);
+        until_refused = SIZE_MAX;
+        NEED(status == TUHVONDI_DONE || (status == TUHVONDI_NO_MEMORY && !is_open));
+        refused += status == TUHVONDI_NO_MEMORY;
+        if (status == TUHVONDI_DONE) {
+            generation = step;
+            list.count = changed.count;
+            memcpy(list.rows, changed.rows, changed.count * sizeof list.rows[0]);
+        }
+        for (int k = 0; k < 2; k++) {
+            uint32_t addrs[MOST_ADDRS], burst = below(MOST_ADDRS + 1);
+            struct tuhvondi_row answers[MOST_ADDRS];
+            uint64_t its = ~generation;
+            if (below(64) == 0) {
+                tuhvondi_reader_free(&readers[k]);
+                NEED(tuhvondi_writer_reader(&writer, &readers[k]) == TUHVONDI_DONE);
+            }
+            for (uint32_t i = 0; i < burst; i++)
+                addrs[i] = draw_prefix().addr + below(3);
+            NEED(tuhvondi_reader_lookup(&readers[k], addrs, burst, answers, burst, &its) == TUHVONDI_DONE);
+            NEED(its == generation);
+            for (uint32_t i = 0; i < burst; i++) {
+                struct tuhvondi_row found = longest(&list, addrs[i]);
+                NEED(is_same(&answers[i], &found));
+            }
+            looked_up += burst;
+        }
+    }
+    printf("%" PRIu64 " steps of a writer, %" PRIu64 " refused, %" PRIu64 " look-ups by its readers; %zu rows\n",
+        steps, refused, looked_up, list.count);
+    tuhvondi_writer_free(&writer);
+    for (int k = 0; k < 2; k++)
+        tuhvondi_reader_free(&readers[k]);
+    NEED(blocks_out == 0);
+}
+
 int main(int argc, char **argv)
 {
     uint64_t steps = argc > 1 ? strtoull(argv[1], NULL, 10) : 20000;
     random_state = argc > 2 ? strtoull(argv[2], NULL, 10) : 1;
     refuse_arguments();
     refuse_memory();
+    refuse_reader_arguments();
+    refuse_writers_memory();
+    publish_beside_a_look_up();
+    free_in_each_order();
+    compare_readers(steps);
     compare(steps, 0);
     compare(steps / 10, SPREAD);
     puts("all as they have to be");

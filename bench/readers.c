@@ -1,7 +1,8 @@
 /* Readers that never wait, in C11 atomics: the protocol of crates/lookup_ffi (board.rt, reader.rt, writer.rt), for
  * ThreadSanitizer, which sees no accesses of the archive, and for times.
  *
- *     bench/readers [LIB]
+ *     bench/readers [LIB]       runs it in all its forms
+ *     ./readers [READERS [BURST [SECONDS [claims|words]]]]
  *
  * -DSTAND_IN  takes plain memory for images, so that a race is seen
  * -DPLANT=N   plants an error: 1 a writer that waits for nobody; 2 a reader that claims nothing; 3 claims
@@ -80,7 +81,7 @@ static _Alignas(128) _Atomic uint64_t shown;
 static _Alignas(128) _Atomic uint64_t told;
 static _Alignas(128) atomic_bool stopping;
 static int readers, burst, way;
-/* The way of examples/c/two_copies.c: odd inside. */
+/* Another way, for comparison: a reader's word is odd during a burst, and the writer waits till it is even. */
 static struct { _Alignas(128) _Atomic uint64_t word; } bursts[MOST];
 
 #define CLAIM (PLANT == 3 ? memory_order_relaxed : memory_order_seq_cst)

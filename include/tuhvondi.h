@@ -5,14 +5,15 @@
  * it leaves in its handles and lists, for every call that keeps to these rules:
  *
  *   - A handle begins as TUHVONDI_NO_IMAGE, TUHVONDI_NO_WRITER or TUHVONDI_NO_READER, and goes to these
- *     functions alone: its fields are never read or written, and it is never copied. It may be moved to another place where the old one is
- *     not used again.
+ *     functions alone: its fields are never read or written, and it is never copied. It may be moved to
+ *     another place if the old one is not used again.
  *   - A handle is given to one call at a time, and no two arguments of a call overlap. Threads that
  *     look up at once have a handle each: tuhvondi_image_share has one more handle hold an image, and
  *     all read the same one. A handle's way from one thread to another is ordered by a lock, a
  *     thread's start or join, or a sequentially consistent atomic.
- *   - A handle that holds an image holds memory until tuhvondi_image_free. The image itself is freed
- *     with the last handle that holds it.
+ *   - A handle that holds something holds memory until tuhvondi_image_free, tuhvondi_writer_free or
+ *     tuhvondi_reader_free. An image is freed with the last handle that holds it. What a writer and its
+ *     readers hold is freed with the last of them, in whichever order they go.
  *   - `malloc`, `realloc` and `free` are those of one allocator, and align a block to each power of
  *     two up to 16 that divides its size. No call is made from a signal handler, nor from the forked
  *     child of a process with threads.
@@ -46,7 +47,7 @@ enum tuhvondi_status {
     TUHVONDI_BAD_COST = 5,
     /* A row's or a message's kind is above 2. */
     TUHVONDI_BAD_KIND = 6,
-    /* The handle holds no image, or no router. */
+    /* The handle is empty: it holds no image, writer, reader or router. */
     TUHVONDI_NO_IMAGE_HELD = 7,
     TUHVONDI_NO_ROUTER_HELD = 7,
     /* A list has another length than the call can use. */
