@@ -404,3 +404,41 @@ fn readers_see_what_is_published(rt: HostRuntime) {
         Ok(via(0x0b00_0000, 8, 1))
     );
 }
+
+// As many readers as a writer may have: each answers by a publication in the next look-up after it.
+#[test]
+fn a_thousand_readers_answer_by_the_last_publication(rt: HostRuntime) {
+    let alloc = rt.alloc();
+    let mut image = ImageHandle::none(alloc);
+    let mut writer = WriterHandle::none(alloc);
+    let mut other = ReaderHandle::none(alloc);
+    let mut readers = Vec::with_capacity(alloc, 1024).expect(&rt, "memory");
+    assert_eq!(rt; tuhvondi_image_new(alloc, &[via(0, 0, 0)], &mut image), 0);
+    assert_eq!(rt;
+        tuhvondi_writer_new(alloc, &mut image, 1024, &mut writer),
+        0
+    );
+    for _ in 0..1024 {
+        let mut reader = ReaderHandle::none(alloc);
+        assert_eq!(rt; tuhvondi_writer_reader(alloc, &mut writer, &mut reader), 0);
+        readers.push(reader).expect(&rt, "memory");
+    }
+    assert_eq!(rt; tuhvondi_writer_reader(alloc, &mut writer, &mut other), 8);
+    for number in 1..=4u8 {
+        let generation = u64::from(number);
+        let rows = [via(0, 0, number)];
+        assert_eq!(rt;
+            tuhvondi_writer_publish(alloc, &mut writer, generation, &rows, &[]),
+            0
+        );
+        for reader in &mut readers {
+            assert_eq!(rt; read(alloc, reader, 7), Ok((rows[0], generation)));
+        }
+    }
+    // Any one that is freed makes room for one more, which begins with what is published.
+    let mut last = readers.pop().expect(&rt, "1,024 readers");
+    tuhvondi_reader_free(alloc, &mut last);
+    assert_eq!(rt; tuhvondi_writer_reader(alloc, &mut writer, &mut other), 0);
+    assert_eq!(rt; read(alloc, &mut other, 7), Ok((via(0, 0, 4), 4)));
+    assert_eq!(rt; tuhvondi_writer_reader(alloc, &mut writer, &mut last), 8);
+}
