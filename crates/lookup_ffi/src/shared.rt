@@ -6,7 +6,7 @@ use crate::patch::{Patch, apply_row};
 use crate::prefixes::{Block, remove_rows};
 use crate::rows::read_rows;
 use array_bitmap::Image;
-use array_bitmap::parts::set_generation;
+use array_bitmap::parts::{set_generation, widen};
 use c_interface::{Fault, Row};
 use std::alloc::{AllocError, Global};
 use std::marker::Model;
@@ -85,10 +85,12 @@ impl Shared {
             return Err(Fault::Shared);
         };
         if rows.len() == 1 {
-            return apply_row(image, generation, rows[0]);
+            apply_row(image, generation, rows[0])?;
+        } else {
+            let rows = read_rows(alloc, rows)?;
+            Patch { generation, rows }.apply_to(image)?;
         }
-        let rows = read_rows(alloc, rows)?;
-        Patch { generation, rows }.apply_to(image)?;
+        widen(image, alloc);
         Ok(())
     }
 
@@ -106,6 +108,7 @@ impl Shared {
         };
         patch.apply_to(image)?;
         remove_rows(image, blocks);
+        widen(image, *patch.rows.allocator());
         Ok(())
     }
 }
