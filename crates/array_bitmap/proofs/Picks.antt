@@ -30,9 +30,3 @@ pick_none n pick p e = p ∙ ap (λ b. from_bool (not b)) (eq-eqb n 0 e)
 
 pub pick_some : (n pick : ℕ) → pick ≡ from_bool (not (eqb n 0)) → n ≢ 0 → pick ≡ 1
 pick_some n pick p h = p ∙ ap (λ b. from_bool (not b)) (ne_eqb n 0 h)
-
-pub pick_few : (n pick : ℕ) → pick ≡ from_bool (not (eqb n 0)) → pick ≤ 1
-pick_few n pick p = elim (cases_eq n 0) [
-  | inl e ↦ omega (arith, pick_none n pick p e)
-  | inr h ↦ omega (arith, pick_some n pick p h)
-]
