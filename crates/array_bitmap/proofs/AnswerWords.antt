@@ -1,16 +1,15 @@
 -- The words of answers, and the answers of words.
-use Rattle.std.proofs.Common.{ℕ, zero, suc, ◌≡◌, ◌≢◌, inl, inr, ◌+◌, ◌-◌, ◌*◌, ◌/◌, ◌%◌, ◌^◌, ◌<◌, ◌≤◌, Option, Some, None, true, false, cond, arith, refl, sym, ap, subst, ◌∙◌, eq-eqb}
+use Rattle.std.proofs.Common.{ℕ, zero, suc, ◌≡◌, ◌≢◌, inl, inr, ◌-◌, ◌*◌, ◌/◌, ◌^◌, ◌<◌, ◌≤◌, Option, Some, None, true, arith, refl, sym, ap, subst, ◌∙◌, eq-eqb}
 use Rattle.std.proofs.Math.Nat.{div-mul-le_self, mul-mod_left}
 use Rattle.std.proofs.lemmas.Nat.{shl-shr}
 use Rattle.std.proofs.lemmas.Bool.{cases_eq, cond-true, cond-false, ne_eqb}
 use Rattle.ipv4_prefix.specs.Prefix.{Prefix, IsPrefix, covers}
 use Rattle.ipv4_prefix.specs.LongestMatch.{longest_match}
 use Rattle.ipv4_prefix.proofs.TableRows.{longest_in_table}
-use Rattle.network_model.specs.declared.route.Entry.{Entry}
-use Rattle.array_bitmap.specs.Words.{nothing, found, len_of, entry_of, word_of, answer_word, word_answer, IsRowWord, IsReadBack}
+use Rattle.array_bitmap.specs.Words.{nothing, found, len_of, entry_of, answer_word, word_answer, IsRowWord, IsReadBack}
 use Rattle.array_bitmap.specs.Greatest.{GreatestBelow}
 use Rattle.array_bitmap.specs.Tree.{Cells, word_at, entry_in, rows_of_cells, IsSound}
-use Rattle.array_bitmap.proofs.ShortRows.{some_found, nothing_found}
+use Rattle.array_bitmap.proofs.ShortRows.{some_found}
 use Rattle.array_bitmap.proofs.LongestRow.{found-row, GreatestBelow-end}
 use Rattle.array_bitmap.proofs.PrefixRows.{longest_on_path, none_on_path}
 
