@@ -510,7 +510,7 @@ module _ (c : Cells) (heap1 : ℕ → Option (List ℕ)) (tops2 : ℕ → ℕ) (
           named_used c sound p m,
           λ z. n (only_name p m z).1,
           ap (λ x. named c2 x m) (moved-here p e) ∙ names_here m ∙ changes.others m n ∙ sym (names_before m)
-          ∙ sym (moved-other (named c j m) (not_itself m)) ∙ ap (λ x. moved (named c x m)) (sym e),
+              ∙ sym (moved-other (named c j m) (not_itself m)) ∙ ap (λ x. moved (named c x m)) (sym e),
         )
         by (inr n) f = inl (named_used c sound p m, λ z. n (only_name p m z).0, ap (λ x. named c2 x m) (moved-other p n) ∙ names_other p m u n)
 

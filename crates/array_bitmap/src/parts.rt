@@ -10,10 +10,9 @@ use crate::batch::set_all;
 use crate::image::Image;
 use crate::tree::Tree;
 use crate::widen::most_words;
+pub use crate::widen::{widen, widened};
 use network_model::{Entry, NoMemory, Prefix};
 use std::alloc::Allocator;
-
-pub use crate::widen::{widen, widened};
 
 /// How many of the first bits of an address an image's array goes by. More make look-ups of many rows
 /// faster. An image takes 16 bytes for each number of so many bits, beside those of its rows.

@@ -1,12 +1,11 @@
 -- The rows of answer words.
-use Rattle.std.proofs.Common.{ℕ, ◌≡◌, ◌≢◌, inl, inr, ◌+◌, ◌-◌, ◌*◌, ◌/◌, ◌%◌, ◌^◌, ◌<◌, ◌≤◌, Option, Some, None, cond, arith, refl, sym, ap, subst, ◌∙◌, eq-eqb}
+use Rattle.std.proofs.Common.{ℕ, ◌≡◌, ◌≢◌, inl, inr, ◌+◌, ◌-◌, ◌*◌, ◌/◌, ◌^◌, ◌<◌, ◌≤◌, Option, Some, None, arith, refl, sym, ap, subst, ◌∙◌, eq-eqb}
 use Rattle.std.proofs.lemmas.Bool.{cases_eq, cond-true, cond-false, ne_eqb}
 use Rattle.ipv4_prefix.specs.Prefix.{Prefix}
 use Rattle.network_model.specs.declared.route.Entry.{Entry}
 use Rattle.network_model.specs.declared.route.Entry.TheVariants.{Local, Via, Unreachable}
 use Rattle.array_bitmap.specs.Words.{nothing, len_of, kind_of, port_of, session_of, entry_of, word_of, answer_word, word_answer, IsReadBack}
 use Rattle.c_interface.specs.Rows.{answer_row, entry_row}
-use Rattle.c_interface.specs.declared.row.Row.{Row}
 use Rattle.lookup_ffi.specs.Rows.{word_row}
 
 -- the entry of a word, by its kind

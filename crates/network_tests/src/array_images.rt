@@ -171,7 +171,10 @@ struct Draws {
 impl Draws {
     // A number below 65,536.
     fn draw(&mut self) -> u32 {
-        self.state = self.state.wrapping_mul(1_664_525).wrapping_add(1_013_904_223);
+        self.state = self
+            .state
+            .wrapping_mul(1_664_525)
+            .wrapping_add(1_013_904_223);
         self.state >> 16
     }
 
@@ -275,7 +278,10 @@ fn array_rows_are_set_in_order(rt: HostRuntime) {
     let mut image = empty(rt.alloc()).expect(&rt, "memory");
     set_rows(&mut image, &[]).expect(&rt, "memory");
     set_rows(&mut image, &[(block, via(1)), (block, Entry::Local)]).expect(&rt, "memory");
-    assert_eq!(rt; image.lookup(addr(&rt, "10.0.0.2")), Some((block, Entry::Local)));
+    assert_eq!(rt;
+        image.lookup(addr(&rt, "10.0.0.2")),
+        Some((block, Entry::Local))
+    );
 }
 
 // Addresses far apart.
@@ -315,7 +321,10 @@ fn an_image_that_cannot_be_widened_stays(rt: HostRuntime) {
     let image = grown(&rt, rt.alloc(), 120);
     assert_eq!(rt; small.bytes() + 8192 - 256, image.bytes());
     assert_eq!(rt; (small.row_count(), image.row_count()), (120, 120));
-    assert_eq!(rt; small.lookup(far(119).addr()), Some((far(119), Entry::Local)));
+    assert_eq!(rt;
+        small.lookup(far(119).addr()),
+        Some((far(119), Entry::Local))
+    );
 }
 
 // An image with five rows, which fill its pool.
@@ -355,7 +364,10 @@ pub(crate) fn copy_five(rt: &impl Abort, heap: &LocalHeap, left: usize, anew: bo
     };
     drop(weight);
     if let Ok(other) = &first {
-        assert_eq!(rt; (other.row_count(), other.lookup(far(4).addr())), (5, Some((far(4), Entry::Local))));
+        assert_eq!(rt;
+            (other.row_count(), other.lookup(far(4).addr())),
+            (5, Some((far(4), Entry::Local)))
+        );
         return false;
     }
     assert_eq!(rt; (heap.used(), image.row_count()), (used, 5));

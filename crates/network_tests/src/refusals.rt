@@ -79,7 +79,11 @@ fn needs_room(rt: &impl Abort, alloc: Global, call: Call) {
 }
 
 // Takes all of the heap but so many bytes, until it is dropped.
-pub(crate) fn ballast<'h>(rt: &impl Abort, heap: &'h LocalHeap, left: usize) -> Vec<u8, &'h LocalHeap> {
+pub(crate) fn ballast<'h>(
+    rt: &impl Abort,
+    heap: &'h LocalHeap,
+    left: usize,
+) -> Vec<u8, &'h LocalHeap> {
     Vec::with_capacity(heap, heap.free().saturating_sub(left)).expect(rt, "memory")
 }
 

@@ -1,6 +1,5 @@
-use Rattle.std.proofs.Common.{ℕ, ◌≡◌, ◌<◌, ◌+◌, length, get_or, None}
+use Rattle.std.proofs.Common.{ℕ, ◌≡◌, ◌<◌, length, get_or, None}
 use Rattle.network_model.specs.Publication.{image_answer}
-use Rattle.array_bitmap.specs.Words.{answer_word}
 use Rattle.c_interface.specs.Rows.{answer_row}
 use Rattle.lookup_ffi.proofs.rows.answer_burst.Given as goal
 

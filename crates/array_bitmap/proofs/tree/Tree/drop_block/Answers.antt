@@ -29,7 +29,7 @@ give-requires-clause-used g c =
 pub returns-clause-sound : goal.returns-clause-sound
 returns-clause-sound g c = record {
   cells = dropped_sound (cells_of c.args.self.now) (cells_of c.unname.new.self) (blocks c.give.new.self) c.in-Some.stand.block c.unname.ensures.lost c.in-Some.ensures.real
-    (sym c.kids_of.ensures.value ∙ c.if-kids_of-ne0.false) c.give.ensures.given.gone c.give.ensures.given.others;
+      (sym c.kids_of.ensures.value ∙ c.if-kids_of-ne0.false) c.give.ensures.given.gone c.give.ensures.given.others;
   shorts = c.unname.ensures.shorts ∙ c.requires.sound.shorts ∙ ap (λ f. 2 ^ (depth_of f + 1)) (sym c.unname.ensures.first);
   tops = c.unname.ensures.tops ∙ c.requires.sound.tops ∙ ap (λ f. 2 ^ depth_of f) (sym c.unname.ensures.first);
 }

@@ -16,8 +16,7 @@ pub returns : goal.returns
 unfolding spare
 returns g c =
     let self = c.args.self.now in
-    let i = c.list_of.result in
-    (
+    let i = c.list_of.result in (
       λ t. subst (λ k. 0 < entry self.spare.numbers k) c.list_of.ensures.list
           (head_some (entry self.words.items) (vec_len self.words) (entry self.free) (entry self.spare.numbers) (noted self.used.numbers) self.laid i c.list_of.ensures.few (some_test (entry self.free i) t)),
       λ p. elim (cases_eq (entry self.free i) 0) [
