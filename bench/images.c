@@ -608,10 +608,17 @@ static void refuse_reader_arguments(void)
     NEED(blocks_out == 0);
 }
 
+/* Publishes generation 1 or 2: rows that are set, and prefixes whose rows are taken out. */
+static uint32_t publish_part(struct tuhvondi_writer *writer, int part, struct tuhvondi_row rows[2][50],
+                             struct tuhvondi_prefix gone[2][5])
+{
+    return tuhvondi_writer_publish(writer, (uint64_t)part + 1, rows[part], 50, gone[part], 5);
+}
+
 /* Each call of a writer that takes memory is refused each of its allocations. */
 static void refuse_writers_memory(void)
 {
-    static struct list lists[4];
+    static struct list lists[3];
     static struct tuhvondi_row rows[200], more[2][50];
     struct tuhvondi_prefix gone[2][5];
     size_t refused = 0;
@@ -642,12 +649,12 @@ static void refuse_writers_memory(void)
             NEED(tuhvondi_writer_new(&image, 2, &writer) == TUHVONDI_DONE);
             NEED(tuhvondi_writer_reader(&writer, &first) == TUHVONDI_DONE);
             if (at)
-                NEED(tuhvondi_writer_publish(&writer, 1, more[0], 50, gone[0], 5) == TUHVONDI_DONE);
+                NEED(publish_part(&writer, 0, more, gone) == TUHVONDI_DONE);
             for (int again = 0; again < 2 && status != TUHVONDI_DONE; again++) {
                 until_refused = again ? SIZE_MAX : allowed;
                 uint32_t its = call == 0 ? tuhvondi_writer_new(&image, 1, &other)
                     : call == 1          ? tuhvondi_writer_reader(&writer, &second)
-                                         : tuhvondi_writer_publish(&writer, (uint64_t)at + 1, more[at], 50, gone[at], 5);
+                                         : publish_part(&writer, at, more, gone);
                 until_refused = SIZE_MAX;
                 NEED(its == TUHVONDI_DONE || (its == TUHVONDI_NO_MEMORY && !again));
                 refused += its == TUHVONDI_NO_MEMORY;
@@ -661,16 +668,15 @@ static void refuse_writers_memory(void)
                     NEED(tuhvondi_reader_lookup(&second, NULL, 0, NULL, 0, &(uint64_t){0}) == TUHVONDI_NO_IMAGE_HELD);
                 if (call == 1 && done)
                     need_answers(&second, &lists[0], 0);
-                if (again || !done)
-                    continue;
-                status = its;
+                if (!again)
+                    status = its;
             }
             /* Both copies have all changes, and no reader was lost. */
             for (int now = at + (call > 1); now < 2; now++)
-                NEED(tuhvondi_writer_publish(&writer, (uint64_t)now + 1, more[now], 50, gone[now], 5) == TUHVONDI_DONE);
-            for (uint64_t more_yet = 2; more_yet < 5; more_yet++) {
-                need_answers(&first, &lists[2], more_yet);
-                NEED(tuhvondi_writer_publish(&writer, more_yet + 1, NULL, 0, NULL, 0) == TUHVONDI_DONE);
+                NEED(publish_part(&writer, now, more, gone) == TUHVONDI_DONE);
+            for (uint64_t generation = 2; generation < 5; generation++) {
+                need_answers(&first, &lists[2], generation);
+                NEED(tuhvondi_writer_publish(&writer, generation + 1, NULL, 0, NULL, 0) == TUHVONDI_DONE);
             }
             if (call != 1)
                 NEED(tuhvondi_writer_reader(&writer, &second) == TUHVONDI_DONE);
