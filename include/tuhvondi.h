@@ -1,24 +1,38 @@
-/* Forwarding images for C and C++ programs: rows of prefixes, and for an address the row with the
- * longest prefix that covers it (RFC 1812, section 5.2.4.3; RFC 4632).
+/* Forwarding images for C and C++ programs.
  *
- * The functions are those of the static library `lookup_ffi`. It is proved what each answers, and what
- * it leaves in its handles and lists, for every call that keeps to these rules:
+ * For each packet a router needs the row of its table with the longest prefix that covers the packet's
+ * address (RFC 1812, section 5.2.4.3; RFC 4632). An image holds rows of prefixes, and looks addresses up.
  *
- *   - A handle begins as TUHVONDI_NO_IMAGE, TUHVONDI_NO_WRITER or TUHVONDI_NO_READER, and goes to these
- *     functions alone: its fields are never read or written, and it is never copied. It may be moved to
- *     another place if the old one is not used again.
- *   - A handle is given to one call at a time, and no two arguments of a call overlap. Threads that
- *     look up at once have a handle each: tuhvondi_image_share has one more handle hold an image, and
- *     all read the same one. A handle's way from one thread to another is ordered by a lock, a
- *     thread's start or join, or a sequentially consistent atomic.
+ * For example, these lines make an image of one row, and look 10.1.2.3 up. They do not test the statuses:
+ *
+ *   struct tuhvondi_row row = {.addr = 0x0a000000, .len = 8, .kind = TUHVONDI_VIA, .port = 1, .session = 4};
+ *   struct tuhvondi_row answer;
+ *   struct tuhvondi_image image = TUHVONDI_NO_IMAGE;
+ *   uint32_t addr = 0x0a010203;
+ *   tuhvondi_image_new(&row, 1, &image);
+ *   tuhvondi_image_lookup(&image, &addr, 1, &answer, 1);
+ *   tuhvondi_image_free(&image);
+ *
+ * The answer is that row: 10.0.0.0/8 via port 1, in session 4. examples/c/lookup.c has more.
+ *
+ * The functions are those of the static library `lookup_ffi`. It is proved what each answers, and what it
+ * leaves in its handles and lists. The proof holds for every call that keeps to these rules:
+ *
+ *   - A handle begins as TUHVONDI_NO_IMAGE, TUHVONDI_NO_WRITER or TUHVONDI_NO_READER. Give it to these
+ *     functions alone. Never read or write its fields, and never copy it. You may move it to another place
+ *     if you do not use the old one again.
+ *   - Give a handle to one call at a time. No two arguments of a call overlap. If threads look up at once,
+ *     each needs a handle of its own: tuhvondi_image_share has one more handle hold an image, and all read
+ *     the same one. If a handle goes to another thread, order that by a lock, by a thread's start or join,
+ *     or by a sequentially consistent atomic.
  *   - A handle that holds something holds memory until tuhvondi_image_free, tuhvondi_writer_free or
  *     tuhvondi_reader_free. An image is freed with the last handle that holds it. What a writer and its
  *     readers hold is freed with the last of them, in whichever order they go.
- *   - `malloc`, `realloc` and `free` are those of one allocator, and align a block to each power of
- *     two up to 16 that divides its size. No call is made from a signal handler, nor from the forked
- *     child of a process with threads.
- *   - A list is a pointer, which is aligned and is null at most where the list is empty, and then the
- *     number of its elements. Other pointers are not null.
+ *   - `malloc`, `realloc` and `free` are those of one allocator. They align a block to each power of two up
+ *     to 16 that divides its size. Make no call from a signal handler. Make none from the forked child of a
+ *     process with threads.
+ *   - A list is a pointer, and then the number of its elements. The pointer is aligned. It may be null only
+ *     if the list is empty. Other pointers are not null.
  */
 #ifndef TUHVONDI_H
 #define TUHVONDI_H
@@ -34,9 +48,9 @@ extern "C" {
 #define TUHVONDI_ASSERT(test, text) _Static_assert(test, text)
 #endif
 
-/* What a call answers: done, or why it is refused. A refused call leaves what its handle holds as it is.
- * Faults are tested in the order of their numbers, but for want of memory, which comes last, and where a
- * function says another order; those of a list's elements at the first that has one. */
+/* What a call answers: done, or why it is refused. If a call is refused, what its handle holds stays as it
+ * is. A call tests for faults in the order of their numbers, and for want of memory last. If it has another
+ * order, its comment says so. Of a list, the first element that has a fault counts. */
 enum tuhvondi_status {
     TUHVONDI_DONE = 0,
     /* A prefix's length is above 32. */
@@ -141,22 +155,22 @@ static inline const char *tuhvondi_status_text(uint32_t status)
     }
 }
 
-/* Where packets go that a row's prefix matches. */
+/* What happens to the packets that a row's prefix matches. */
 enum tuhvondi_kind {
-    /* To this router itself. */
+    /* They go to this router itself. */
     TUHVONDI_LOCAL = 0,
-    /* To the neighbour at `port`, while its link is up in `session`. */
+    /* They go to the neighbour at `port`, while its link is up in `session`. */
     TUHVONDI_VIA = 1,
-    /* Nowhere. */
+    /* They go nowhere. */
     TUHVONDI_UNREACHABLE = 2,
     /* In answers only: no row covers the address. */
     TUHVONDI_NO_ROW = 3
 };
 
-/* A row: the prefix of the first `len` bits, 0 to 32, of `addr`, which is in the machine's own byte
- * order (10.0.0.0 is 0x0a000000), and where packets go. `port` and `session` are those of a row of
- * kind TUHVONDI_VIA. In rows of other kinds they are not read, and in answers they are 0. In an
- * answer of kind TUHVONDI_NO_ROW all other fields are 0. */
+/* A row: a prefix, and where packets go. The prefix is the first `len` bits, 0 to 32, of `addr`. The
+ * address is in the machine's own byte order: for example, 10.0.0.0 is 0x0a000000. A row of kind
+ * TUHVONDI_VIA has a `port` and a `session`. In rows of other kinds they are not read, and in answers they
+ * are 0. In an answer of kind TUHVONDI_NO_ROW all other fields are 0. */
 struct tuhvondi_row {
     uint32_t addr;
     uint8_t len;
@@ -168,9 +182,9 @@ struct tuhvondi_row {
 TUHVONDI_ASSERT(sizeof(struct tuhvondi_row) == 12, "a row takes 12 bytes");
 TUHVONDI_ASSERT(offsetof(struct tuhvondi_row, session) == 8, "a row's session stands at byte 8");
 
-/* A prefix: the first `len` bits, 0 to 32, of `addr`, with no bit set after them. As a cursor through
- * rows it begins as TUHVONDI_FIRST_PREFIX, or as the prefix from which on rows are wanted; a `len` of
- * TUHVONDI_NO_PREFIX is the end, after all rows. */
+/* A prefix: the first `len` bits, 0 to 32, of `addr`, with no bit set after them.
+ * It is also a cursor through rows. A cursor begins as TUHVONDI_FIRST_PREFIX, or as the prefix from which on
+ * you want rows. If its `len` is TUHVONDI_NO_PREFIX, it stands at the end, after all rows. */
 struct tuhvondi_prefix {
     uint32_t addr;
     uint8_t len;
@@ -193,26 +207,26 @@ struct tuhvondi_image {
 TUHVONDI_ASSERT(sizeof(struct tuhvondi_image) == 16, "a handle takes 16 bytes");
 TUHVONDI_ASSERT(offsetof(struct tuhvondi_image, holds_) == 8, "a handle's flag stands at byte 8");
 
-/* The handle that holds no image, to begin with. */
+/* What a handle begins with: it holds no image. */
 #define TUHVONDI_NO_IMAGE {NULL, false}
 
-/* Makes an image of generation 0 of the rows, set in order: of rows with one prefix the last stays.
- * Puts it into the handle, and lets go of the image that the handle held.
+/* Makes an image of generation 0 of the rows, set in order. If several rows have one prefix, the last stays.
+ * Puts the image into the handle, and lets go of the one that the handle held.
  * Refused: TUHVONDI_BAD_LENGTH, TUHVONDI_HOST_BITS, TUHVONDI_BAD_KIND, TUHVONDI_NO_MEMORY. */
 uint32_t tuhvondi_image_new(const struct tuhvondi_row *rows, size_t row_count,
                             struct tuhvondi_image *image);
 
-/* Sets rows in place over those of the image, in order, and its generation: all, or none where it is
- * refused. It takes time by the number of rows that are given, and not by those that are there, and asks
- * for room of 488 bytes a row before it sets the first.
+/* Sets rows in place over those of the image, in order, and sets its generation. If it is refused, it sets
+ * none. Its time grows with the number of rows that you give, and not of those that are there. It asks for
+ * room of 488 bytes a row before it sets the first.
  * Refused: as tuhvondi_image_new, TUHVONDI_NO_IMAGE_HELD, and TUHVONDI_SHARED while other handles hold
  * the image. */
 uint32_t tuhvondi_image_apply(struct tuhvondi_image *image, uint64_t generation,
                               const struct tuhvondi_row *rows, size_t row_count);
 
-/* Takes the rows of the prefixes out of the image, where it has them, and sets its generation. An
- * address that such a row answered is then answered by the row with the next shorter prefix. It takes no
- * memory, and what only those rows needed serves later ones.
+/* Takes the rows of the prefixes out of the image, if it has them, and sets its generation. If such a row
+ * answered an address, the row with the next shorter prefix then answers it. The call takes no memory. Room
+ * that only those rows needed serves later ones.
  * Refused: TUHVONDI_BAD_LENGTH, TUHVONDI_HOST_BITS, TUHVONDI_NO_IMAGE_HELD, and TUHVONDI_SHARED while other
  * handles hold the image. */
 uint32_t tuhvondi_image_remove(struct tuhvondi_image *image, uint64_t generation,
@@ -223,26 +237,29 @@ uint32_t tuhvondi_image_remove(struct tuhvondi_image *image, uint64_t generation
 uint32_t tuhvondi_image_share(struct tuhvondi_image *image, struct tuhvondi_image *other);
 
 /* Has `other` hold an image of its own with the same rows and generation, and lets go of the image that
- * `other` held. It takes time and memory by the rows. Of two images one can change while the other is read.
+ * `other` held. Its time and memory grow with the number of rows. You can change one of the two images while
+ * others read the other one.
  * Refused: TUHVONDI_NO_IMAGE_HELD, TUHVONDI_NO_MEMORY. */
 uint32_t tuhvondi_image_copy(struct tuhvondi_image *image, struct tuhvondi_image *other);
 
-/* Writes into answers[i] the row with the longest prefix that covers addrs[i], or TUHVONDI_NO_ROW.
- * It takes no memory, and reads at most nine nodes of the image for each address.
- * Refused, and then nothing is written: TUHVONDI_NO_IMAGE_HELD, TUHVONDI_BAD_COUNT. */
+/* Writes into answers[i] the row with the longest prefix that covers addrs[i]. If no row covers it, the
+ * kind is TUHVONDI_NO_ROW. It takes no memory, and reads at most nine nodes of the image for each address.
+ * Refused, and then nothing is written: TUHVONDI_NO_IMAGE_HELD, and TUHVONDI_BAD_COUNT if there are not as
+ * many answers as addresses. */
 uint32_t tuhvondi_image_lookup(struct tuhvondi_image *image,
                                const uint32_t *addrs, size_t addr_count,
                                struct tuhvondi_row *answers, size_t answer_count);
 
-/* Writes the rows of the image from the cursor on, in the order of their prefixes, by address and then by
- * length, as many as there is room for, and how many they are. The cursor then stands where the others
- * begin, so that calls with the same cursor give all rows, until one writes fewer than row_count. The rows
- * below a prefix are those from it on, as long as it covers them. It takes no memory.
+/* Writes rows of the image from the cursor on, as many as there is room for, and how many they are. They are
+ * in the order of their prefixes, by address and then by length. It takes no memory.
+ * The cursor then stands at the next row. So go on with the same cursor until a call writes fewer than
+ * row_count: then you have all rows. If you want the rows below a prefix, begin there, and stop at the
+ * first row that the prefix does not cover.
  * Refused, and then nothing is written: TUHVONDI_BAD_LENGTH, TUHVONDI_HOST_BITS, TUHVONDI_NO_IMAGE_HELD. */
 uint32_t tuhvondi_image_rows(struct tuhvondi_image *image, struct tuhvondi_prefix *from,
                              struct tuhvondi_row *rows, size_t row_count, size_t *written);
 
-/* Writes how many rows the image has. It takes the time of going through all of them.
+/* Writes how many rows the image has. It goes through all of them.
  * Refused, and then nothing is written: TUHVONDI_NO_IMAGE_HELD. */
 uint32_t tuhvondi_image_row_count(struct tuhvondi_image *image, size_t *count);
 
@@ -259,9 +276,10 @@ void tuhvondi_image_free(struct tuhvondi_image *image);
 
 /* ---- a table that changes while it forwards
  *
- * A writer holds two copies of an image: one is shown, and the other is hidden. It changes the hidden copy
- * and then shows that one. Its readers look up in the copy that is shown, each in a thread of its own: they
- * take no lock, wait for nobody, and see only images that were published. */
+ * You cannot change an image that several handles hold: the call is refused. If you lock it, packets wait.
+ * So a writer holds two copies of an image: one is shown, and the other is hidden. This is a double buffer.
+ * The writer changes the hidden copy, and then shows that one. Readers look up in the copy that is shown,
+ * each in a thread of its own. They take no lock, wait for nobody, and see only published images. */
 
 /* A handle, which holds a writer or none. */
 struct tuhvondi_writer {
@@ -271,7 +289,7 @@ struct tuhvondi_writer {
 
 TUHVONDI_ASSERT(sizeof(struct tuhvondi_writer) == 16, "a handle takes 16 bytes");
 
-/* The handle that holds no writer, to begin with. */
+/* What a handle begins with: it holds no writer. */
 #define TUHVONDI_NO_WRITER {NULL, false}
 
 /* A handle, which holds a reader or none. */
@@ -282,42 +300,44 @@ struct tuhvondi_reader {
 
 TUHVONDI_ASSERT(sizeof(struct tuhvondi_reader) == 16, "a handle takes 16 bytes");
 
-/* The handle that holds no reader, to begin with. */
+/* What a handle begins with: it holds no reader. */
 #define TUHVONDI_NO_READER {NULL, false}
 
-/* Has a writer hold two copies of the image, with room for so many readers, at most 1,024. The image stays
- * as it is, and the writer that the handle held is freed.
- * Refused: TUHVONDI_NO_IMAGE_HELD, TUHVONDI_BAD_COUNT, TUHVONDI_NO_MEMORY. */
+/* Makes a writer that holds two copies of the image, with room for so many readers, at most 1,024. The image
+ * stays as it is. The writer that the handle held is freed.
+ * Refused: TUHVONDI_NO_IMAGE_HELD, TUHVONDI_BAD_COUNT if reader_count is above 1,024, TUHVONDI_NO_MEMORY. */
 uint32_t tuhvondi_writer_new(struct tuhvondi_image *image, size_t reader_count,
                              struct tuhvondi_writer *writer);
 
 /* Publishes: sets rows over those of the image in order, then takes the rows of the prefixes out, and sets
- * the generation. Readers see all of it or nothing. Each change is made twice, once in each copy: in the
- * second by the next publication, which is why rows and prefixes are kept till then. A writer that is
- * refused has published nothing.
+ * the generation. Readers see all of it or nothing. If the call is refused, nothing was published.
+ * What is tricky: each change is made twice, once in each copy. The next publication makes it in the second
+ * copy. So the writer keeps rows and prefixes until then, in memory of its own.
  * Refused, in this order: TUHVONDI_BAD_LENGTH, TUHVONDI_HOST_BITS, TUHVONDI_BAD_KIND; TUHVONDI_NO_IMAGE_HELD
- * where the handle holds no writer; TUHVONDI_NO_MEMORY; TUHVONDI_SHARED while a look-up goes on that began
- * before the last publication: call again. */
+ * if the handle holds no writer; TUHVONDI_NO_MEMORY; TUHVONDI_SHARED while a look-up goes on that began
+ * before the last publication. After TUHVONDI_SHARED, call again. */
 uint32_t tuhvondi_writer_publish(struct tuhvondi_writer *writer, uint64_t generation,
                                  const struct tuhvondi_row *rows, size_t row_count,
                                  const struct tuhvondi_prefix *prefixes, size_t prefix_count);
 
-/* Has a reader's handle hold a reader of the writer, and frees the one that it held. The reader may go to
- * another thread. Each call writes the handle, so keep those of two threads 128 bytes apart.
- * Refused: TUHVONDI_NO_IMAGE_HELD where the handle holds no writer, TUHVONDI_BAD_COUNT where handles hold
- * all readers, TUHVONDI_NO_MEMORY. */
+/* Makes a reader of the writer, puts it into the reader's handle, and frees the one that the handle held.
+ * The reader may go to another thread. Each call writes the handle, so keep those of two threads 128 bytes
+ * apart.
+ * Refused: TUHVONDI_NO_IMAGE_HELD if the handle holds no writer, TUHVONDI_BAD_COUNT if handles hold all
+ * readers, TUHVONDI_NO_MEMORY. */
 uint32_t tuhvondi_writer_reader(struct tuhvondi_writer *writer, struct tuhvondi_reader *reader);
 
 /* Looks up as tuhvondi_image_lookup does, and writes the generation of the image that answered. That image
- * was published, and no other call by this reader saw a later one before. It takes no memory.
- * Refused, and then nothing is written: TUHVONDI_NO_IMAGE_HELD where the handle holds no reader,
- * TUHVONDI_BAD_COUNT, and TUHVONDI_SHARED if the writer published a thousand times during the call. */
+ * was published. No earlier call by this reader saw a later one. It takes no memory.
+ * Refused, and then nothing is written: TUHVONDI_NO_IMAGE_HELD if the handle holds no reader,
+ * TUHVONDI_BAD_COUNT if there are not as many answers as addresses, and TUHVONDI_SHARED if the writer
+ * published a thousand times during the call. */
 uint32_t tuhvondi_reader_lookup(struct tuhvondi_reader *reader,
                                 const uint32_t *addrs, size_t addr_count,
                                 struct tuhvondi_row *answers, size_t answer_count,
                                 uint64_t *generation);
 
-/* Frees the reader, if there is one. Another may then be made in its place. */
+/* Frees the reader, if there is one. You may then make another in its place. */
 void tuhvondi_reader_free(struct tuhvondi_reader *reader);
 
 /* Frees the writer, if there is one. Its readers go on with the image that it published last. */

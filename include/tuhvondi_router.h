@@ -1,30 +1,41 @@
-/* One router of a network for C and C++ programs: DUAL (Garcia-Luna-Aceves, Loop-Free Routing Using
- * Diffusing Computations, 1993), whose neighbours are other processes or other machines.
+/* One router of a network, for C and C++ programs.
  *
- * The functions are those of the static library `router_ffi`. It is proved what each answers and what
- * it makes of the router, for every call that keeps to the rules of "tuhvondi.h": a handle begins as
- * TUHVONDI_NO_ROUTER, goes to these functions alone, and is given to one call at a time; lists are
- * pointers that are not null, and numbers of elements; no two arguments overlap.
+ * When a link fails, routers change their routes one after another, and packets can circle meanwhile. DUAL
+ * avoids that (Garcia-Luna-Aceves, Loop-Free Routing Using Diffusing Computations, 1993). Here is one router
+ * that routes by DUAL. Its neighbours are other processes or other machines.
  *
- * A program tells its router what its links bring, then publishes where that is due, puts the rows that
- * it is given into its table (tuhvondi_image_apply takes them as they are), and only then tells it more,
- * or releases messages and puts them on their links:
+ * The functions are those of the static library `router_ffi`. It is proved what each answers, and what it
+ * makes of the router. The proof holds for every call that keeps to the rules of "tuhvondi.h":
  *
- *     tell one or more of: link_up, link_down, link_cost, message, attached, detached
+ *   - A handle begins as TUHVONDI_NO_ROUTER. Give it to these functions alone, and to one call at a time.
+ *   - A list is a pointer that is not null, and then the number of its elements.
+ *   - No two arguments overlap.
+ *
+ * A program goes through these steps, again and again:
+ *
+ *     tell the router what its links bring, by one or more of:
+ *         link_up, link_down, link_cost, message, attached, detached
  *     while tuhvondi_router_publish answers TUHVONDI_DONE: forward by its rows
- *     while tuhvondi_router_release answers TUHVONDI_DONE: send the message, or drop it where the
+ *     while tuhvondi_router_release answers TUHVONDI_DONE: send the message, or drop it if the
  *         connection of its port is of another session
  *
- * If every router of a network is of this library, and every program keeps the five duties of
- * docs/8-daemons.md (order within a session, later sessions, forwarding first, letting in, one call at a
- * time), it is proved of the network as a whole that no packet meets a router twice, also while links fail,
- * messages are lost and processes begin anew (`no_packet_circles` of crates/daemon_laws), and that it comes
- * to rest at least cost where no message is lost and the ends of each link agree (`processes_converge` of
- * crates/daemons_come_to_rest).
+ * To forward by the rows, put them into your table: tuhvondi_image_apply takes them as they are. Only then
+ * tell the router more, or release messages and put them on their links. For example, examples/c/router.c
+ * does so with three routers in one process.
  *
- * What no router sends is refused (TUHVONDI_UNASKED, TUHVONDI_ASKED_TWICE, TUHVONDI_OTHER_SESSION), and so is
- * a prefix more than the router may know (TUHVONDI_TOO_MANY_PREFIXES). If a message is refused, but for
- * another session or want of memory, end the session of its link: the two ends no longer know the same.
+ * Suppose that every router of a network is of this library, and that every program keeps the five duties of
+ * docs/8-daemons.md: order within a session, later sessions, forwarding first, letting in, one call at a
+ * time. Then it is proved of the network as a whole:
+ *
+ *   - No packet meets a router twice. This also holds while links fail, messages are lost and processes begin
+ *     anew (`no_packet_circles` of crates/daemon_laws).
+ *   - The network comes to rest at least cost, if no message is lost and the ends of each link agree
+ *     (`processes_converge` of crates/daemons_come_to_rest).
+ *
+ * The library refuses what no router sends (TUHVONDI_UNASKED, TUHVONDI_ASKED_TWICE, TUHVONDI_OTHER_SESSION).
+ * It also refuses a prefix more than the router may know (TUHVONDI_TOO_MANY_PREFIXES). If a message is
+ * refused, end the session of its link, because the two ends no longer know the same. You need not end it
+ * if the message is of another session, or if memory was refused.
  */
 #ifndef TUHVONDI_ROUTER_H
 #define TUHVONDI_ROUTER_H
@@ -50,18 +61,18 @@ struct tuhvondi_attachment {
 
 TUHVONDI_ASSERT(sizeof(struct tuhvondi_attachment) == 12, "an attachment takes 12 bytes");
 
-/* What a message is. */
+/* What a message asks for. */
 enum tuhvondi_message_kind {
-    /* News that wants no answer. */
+    /* It is news, and needs no answer. */
     TUHVONDI_UPDATE = 0,
-    /* A question: the receiver owes a reply. */
+    /* It is a question: the receiver owes a reply. */
     TUHVONDI_QUERY = 1,
-    /* The answer to a query. */
+    /* It is the answer to a query. */
     TUHVONDI_REPLY = 2
 };
 
-/* A message: the sender's distance to a prefix, the port by which it leaves or came, and the session of
- * the link in which it was sent. */
+/* A message: `value` is the sender's distance to the prefix of `addr` and `len`. `port` is the port by which
+ * the message leaves or came. `session` is the session of the link in which it was sent. */
 struct tuhvondi_message {
     uint32_t addr;
     uint32_t value;
@@ -74,9 +85,13 @@ struct tuhvondi_message {
 TUHVONDI_ASSERT(sizeof(struct tuhvondi_message) == 16, "a message takes 16 bytes");
 TUHVONDI_ASSERT(offsetof(struct tuhvondi_message, port) == 12, "a message's port stands at byte 12");
 
-/* What a router has: the prefixes that it has heard of, the rows that a publication would put in force,
- * the messages that it holds and how many of them may leave, how often it published, and 1 where a
- * publication is due, else 0. */
+/* What a router has:
+ *   prefixes    how many prefixes it has heard of
+ *   changed     how many rows a publication would put in force
+ *   held        how many messages it holds
+ *   ripe        how many of these may leave
+ *   generation  how often it published
+ *   due         1 if a publication is due, else 0 */
 struct tuhvondi_counts {
     size_t prefixes;
     size_t changed;
@@ -91,16 +106,16 @@ struct tuhvondi_prefix_state {
     /* Its distance as it tells its neighbours, and its feasible distance. */
     uint32_t rd;
     uint32_t fd;
-    /* The cost of its own attachment; 0 where it has none. */
+    /* The cost of its own attachment. If it has none: 0. */
     uint32_t attached;
-    /* The row that it chose, and the one that it published: of kind TUHVONDI_NO_ROW where there is none. */
+    /* The row that it chose, and the one that it published. If there is none, the kind is TUHVONDI_NO_ROW. */
     struct tuhvondi_row chosen;
     struct tuhvondi_row published;
     /* 1 while a diffusing computation is under way, else 0. */
     uint8_t active;
-    /* The port to which the computation owes a reply; 255: none. */
+    /* The port to which the computation owes a reply. If there is none: 255. */
     uint8_t owed;
-    /* For each port: 1 where the computation awaits its reply, else 0. */
+    /* For each port: 1 if the computation awaits its reply, else 0. */
     uint8_t awaited[TUHVONDI_PORTS];
 };
 
@@ -112,46 +127,49 @@ struct tuhvondi_router {
 
 TUHVONDI_ASSERT(sizeof(struct tuhvondi_router) == 16, "a handle takes 16 bytes");
 
-/* The handle that holds no router, to begin with. */
+/* What a handle begins with: it holds no router. */
 #define TUHVONDI_NO_ROUTER {NULL, false}
 
-/* Makes a router with a port for each of these costs, that of the port's link from here, and with these
- * attachments, and puts it into the handle; the router that it held is freed. All links are down, and
- * the attachments are published: a table begins with their rows, of kind TUHVONDI_LOCAL. Of a prefix that
- * stands twice the first cost counts. The router may know most_prefixes prefixes: one that it has heard of
- * counts until it is forgotten (tuhvondi_router_forget).
- * Refused: TUHVONDI_TOO_MANY_PORTS, TUHVONDI_BAD_COST, TUHVONDI_BAD_LENGTH, TUHVONDI_HOST_BITS,
- * TUHVONDI_TOO_MANY_PREFIXES where there are more attachments than that, TUHVONDI_NO_MEMORY; faults of costs
- * come before those of attachments. */
+/* Makes a router with these attachments and with a port for each of these costs. The cost is that of the
+ * port's link from here. Puts the router into the handle, and frees the one that the handle held.
+ * All links are down. The attachments are published, so a table begins with their rows, of kind
+ * TUHVONDI_LOCAL. If a prefix stands twice, its first cost counts. The router may know most_prefixes
+ * prefixes. If it has heard of a prefix, that counts until it is forgotten (tuhvondi_router_forget).
+ * Refused, in this order: TUHVONDI_TOO_MANY_PORTS; TUHVONDI_BAD_COST of a port; of an attachment
+ * TUHVONDI_BAD_LENGTH, TUHVONDI_HOST_BITS, TUHVONDI_BAD_COST; TUHVONDI_TOO_MANY_PREFIXES if there are more
+ * attachments than most_prefixes; TUHVONDI_NO_MEMORY. */
 uint32_t tuhvondi_router_new(const uint32_t *costs, size_t cost_count,
                              const struct tuhvondi_attachment *attachments, size_t attachment_count,
                              size_t most_prefixes, struct tuhvondi_router *router);
 
-/* The link of the port came up. The session is later than each that it had before, and the same at both
- * ends. Refused: TUHVONDI_BAD_COST, TUHVONDI_NO_ROUTER_HELD, TUHVONDI_UNKNOWN_PORT,
- * TUHVONDI_ALREADY_UP, TUHVONDI_OTHER_SESSION where it is not later, TUHVONDI_NO_MEMORY. */
+/* Tells the router that the link of the port came up, at this cost from here. The session is later than each
+ * that the link had before, and the same at both ends.
+ * Refused: TUHVONDI_BAD_COST, TUHVONDI_NO_ROUTER_HELD, TUHVONDI_UNKNOWN_PORT, TUHVONDI_ALREADY_UP,
+ * TUHVONDI_OTHER_SESSION if the session is not later, TUHVONDI_NO_MEMORY. */
 uint32_t tuhvondi_router_link_up(struct tuhvondi_router *router, uint8_t port, uint16_t session,
                                  uint32_t cost);
 
-/* The link of the port went down, with all that was on its way.
+/* Tells the router that the link of the port went down, with all that was on its way.
  * Refused: TUHVONDI_NO_ROUTER_HELD, TUHVONDI_UNKNOWN_PORT, TUHVONDI_IS_DOWN, TUHVONDI_NO_MEMORY. */
 uint32_t tuhvondi_router_link_down(struct tuhvondi_router *router, uint8_t port);
 
-/* The cost from here of the port's link, which is up, is now this.
+/* Tells the router that the cost from here of the port's link is now this. The link is up.
  * Refused: TUHVONDI_BAD_COST, and as tuhvondi_router_link_down. */
 uint32_t tuhvondi_router_link_cost(struct tuhvondi_router *router, uint8_t port, uint32_t cost);
 
-/* The message came to its port. One of another session than the port's is refused, which discards it.
- * Refused: TUHVONDI_BAD_LENGTH, TUHVONDI_HOST_BITS, TUHVONDI_BAD_KIND, TUHVONDI_NO_ROUTER_HELD,
- * TUHVONDI_UNKNOWN_PORT, TUHVONDI_IS_DOWN, TUHVONDI_OTHER_SESSION, TUHVONDI_UNASKED, TUHVONDI_ASKED_TWICE,
- * TUHVONDI_TOO_MANY_PREFIXES, TUHVONDI_NO_MEMORY, after which the message may be told again. If the router has
- * heard of the prefix and `held` of tuhvondi_router_counts is 0, it takes no memory. */
+/* Tells the router that the message came to its port.
+ * If the message is of another session than the port's, it is refused, and so discarded. After
+ * TUHVONDI_NO_MEMORY you may tell the message again. If the router has heard of the prefix, and `held` of
+ * tuhvondi_router_counts is 0, the call takes no memory.
+ * Refused, in this order: TUHVONDI_BAD_LENGTH, TUHVONDI_HOST_BITS, TUHVONDI_BAD_KIND,
+ * TUHVONDI_NO_ROUTER_HELD, TUHVONDI_UNKNOWN_PORT, TUHVONDI_IS_DOWN, TUHVONDI_OTHER_SESSION,
+ * TUHVONDI_UNASKED, TUHVONDI_ASKED_TWICE, TUHVONDI_TOO_MANY_PREFIXES, TUHVONDI_NO_MEMORY. */
 uint32_t tuhvondi_router_message(struct tuhvondi_router *router,
                                  const struct tuhvondi_message *message);
 
-/* The router itself is attached to the prefix at this cost from now on, or no more.
+/* Tells the router of its own attachment to the prefix: it has this cost from now on, or is no more.
  * Refused: TUHVONDI_BAD_LENGTH, TUHVONDI_HOST_BITS, TUHVONDI_BAD_COST, TUHVONDI_NO_ROUTER_HELD,
- * TUHVONDI_TOO_MANY_PREFIXES, TUHVONDI_NOT_ATTACHED where it was not, TUHVONDI_NO_MEMORY. */
+ * TUHVONDI_TOO_MANY_PREFIXES, TUHVONDI_NOT_ATTACHED if it was not attached, TUHVONDI_NO_MEMORY. */
 uint32_t tuhvondi_router_attached(struct tuhvondi_router *router, uint32_t addr, uint8_t len,
                                   uint32_t cost);
 uint32_t tuhvondi_router_detached(struct tuhvondi_router *router, uint32_t addr, uint8_t len);
@@ -159,36 +177,42 @@ uint32_t tuhvondi_router_detached(struct tuhvondi_router *router, uint32_t addr,
 /* Writes what the router has. Refused: TUHVONDI_NO_ROUTER_HELD. */
 uint32_t tuhvondi_router_counts(struct tuhvondi_router *router, struct tuhvondi_counts *counts);
 
-/* Publishes: writes the rows that are in force from now on and were not, in the order of their prefixes,
- * how many they are, and how often the router has published. All that it holds may then leave.
- * If there is no room for all rows, it writes the first row_count of them, and 1 to `more`, else 0. These
- * rows are in force from now on, but the router has not published yet, and nothing may leave for it: put
- * them into the table, and publish again. It takes no memory.
- * Refused, and then nothing is written: TUHVONDI_NO_ROUTER_HELD, TUHVONDI_BAD_COUNT where there are rows and
+/* Publishes: writes the rows that are in force from now on and were not, in the order of their prefixes. It
+ * also writes how many they are, and how often the router has published. All that the router holds may then
+ * leave. It takes no memory.
+ * What is tricky: if there is no room for all rows, it writes the first row_count of them, and 1 to `more`.
+ * Otherwise it writes 0 there. These rows are in force from now on, but the router has not published yet, so
+ * no more messages may leave. Put the rows into your table, and publish again.
+ * Refused, and then nothing is written: TUHVONDI_NO_ROUTER_HELD, TUHVONDI_BAD_COUNT if there are rows and
  * row_count is 0, TUHVONDI_NOTHING_DUE, TUHVONDI_GENERATIONS_SPENT. */
 uint32_t tuhvondi_router_publish(struct tuhvondi_router *router, struct tuhvondi_row *rows,
                                  size_t row_count, size_t *written, uint8_t *more, uint64_t *generation);
 
-/* Takes the oldest message that may leave. It is for the connection of its port and session alone: where
- * that has ended it is dropped. Refused: TUHVONDI_NO_ROUTER_HELD, TUHVONDI_NOTHING_RIPE. */
+/* Takes the oldest message that may leave. It is for the connection of its port and session alone. If that
+ * connection has ended, drop the message. Refused: TUHVONDI_NO_ROUTER_HELD, TUHVONDI_NOTHING_RIPE. */
 uint32_t tuhvondi_router_release(struct tuhvondi_router *router, struct tuhvondi_message *message);
 
 /* Writes what the router knows of a prefix. Refused: TUHVONDI_BAD_LENGTH, TUHVONDI_HOST_BITS,
- * TUHVONDI_NO_ROUTER_HELD, TUHVONDI_UNKNOWN_PREFIX where it has not heard of it. */
+ * TUHVONDI_NO_ROUTER_HELD, TUHVONDI_UNKNOWN_PREFIX if it has not heard of it. */
 uint32_t tuhvondi_router_state(struct tuhvondi_router *router, uint32_t addr, uint8_t len,
                                struct tuhvondi_prefix_state *state);
 
 /* Writes the row that the router chose for each prefix that it has heard of, in the order of the
  * prefixes, and how many they are. It takes no memory. Refused, and then nothing is written:
- * TUHVONDI_NO_ROUTER_HELD, TUHVONDI_BAD_COUNT where `prefixes` of tuhvondi_router_counts is above row_count. */
+ * TUHVONDI_NO_ROUTER_HELD, TUHVONDI_BAD_COUNT if `prefixes` of tuhvondi_router_counts is above row_count. */
 uint32_t tuhvondi_router_rows(struct tuhvondi_router *router, struct tuhvondi_row *rows,
                               size_t row_count, size_t *written);
 
-/* Forgets a prefix of which the router knows nothing any more: it is not attached to it, no computation is
- * under way, no neighbour whose link is up has reported a distance, and its row, of kind
- * TUHVONDI_UNREACHABLE, is in force. Take that row out of the table then (tuhvondi_image_remove): an address
- * that it answered is answered by the row with the next shorter prefix. A message about the prefix has the
- * router know it again.
+/* Forgets a prefix of which the router knows nothing any more. That is so if:
+ *
+ *   - the router is not attached to the prefix
+ *   - no computation is under way
+ *   - no neighbour whose link is up has reported a distance
+ *   - the row of the prefix, of kind TUHVONDI_UNREACHABLE, is in force
+ *
+ * A prefix that nobody reaches any more keeps its row, which hides the rows of shorter prefixes. After this
+ * call take that row out of your table (tuhvondi_image_remove). The row with the next shorter prefix then
+ * answers the addresses that it answered. If a message tells of the prefix, the router knows it again.
  * Refused: TUHVONDI_BAD_LENGTH, TUHVONDI_HOST_BITS, TUHVONDI_NO_ROUTER_HELD, TUHVONDI_UNKNOWN_PREFIX,
  * TUHVONDI_STILL_USED. */
 uint32_t tuhvondi_router_forget(struct tuhvondi_router *router, uint32_t addr, uint8_t len);
