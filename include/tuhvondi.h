@@ -329,9 +329,9 @@ uint32_t tuhvondi_writer_reader(struct tuhvondi_writer *writer, struct tuhvondi_
 
 /* Looks up as tuhvondi_image_lookup does, and writes the generation of the image that answered. That image
  * was published. No earlier call by this reader saw a later one. It takes no memory.
- * Refused, and then nothing is written: TUHVONDI_NO_IMAGE_HELD if the handle holds no reader,
- * TUHVONDI_BAD_COUNT if there are not as many answers as addresses, and TUHVONDI_SHARED if the writer
- * published a thousand times during the call. */
+ * Refused, and then nothing is written: TUHVONDI_NO_IMAGE_HELD if the handle holds no reader;
+ * TUHVONDI_BAD_COUNT if there are not as many answers as addresses; TUHVONDI_SHARED if the writer published
+ * a thousand times during the call. */
 uint32_t tuhvondi_reader_lookup(struct tuhvondi_reader *reader,
                                 const uint32_t *addrs, size_t addr_count,
                                 struct tuhvondi_row *answers, size_t answer_count,

@@ -197,9 +197,10 @@ uint32_t tuhvondi_router_release(struct tuhvondi_router *router, struct tuhvondi
 uint32_t tuhvondi_router_state(struct tuhvondi_router *router, uint32_t addr, uint8_t len,
                                struct tuhvondi_prefix_state *state);
 
-/* Writes the row that the router chose for each prefix that it has heard of, in the order of the
- * prefixes, and how many they are. It takes no memory. Refused, and then nothing is written:
- * TUHVONDI_NO_ROUTER_HELD, TUHVONDI_BAD_COUNT if `prefixes` of tuhvondi_router_counts is above row_count. */
+/* Writes the row that the router chose for each prefix that it has heard of, and how many rows they are.
+ * They are in the order of the prefixes. It takes no memory.
+ * Refused, and then nothing is written: TUHVONDI_NO_ROUTER_HELD, and TUHVONDI_BAD_COUNT if `prefixes` of
+ * tuhvondi_router_counts is above row_count. */
 uint32_t tuhvondi_router_rows(struct tuhvondi_router *router, struct tuhvondi_row *rows,
                               size_t row_count, size_t *written);
 
