@@ -216,9 +216,9 @@ TUHVONDI_ASSERT(offsetof(struct tuhvondi_image, holds_) == 8, "a handle's flag s
 uint32_t tuhvondi_image_new(const struct tuhvondi_row *rows, size_t row_count,
                             struct tuhvondi_image *image);
 
-/* Sets rows in place over those of the image, in order, and sets its generation. If it is refused, it sets
- * none. Its time grows with the number of rows that you give, and not of those that are there. It asks for
- * room of 488 bytes a row before it sets the first.
+/* Sets rows in place over those of the image, in order, and sets its generation. If it is refused, it changes
+ * nothing. Its time grows with the number of rows that you give, and not with the number that are there. It
+ * asks for room of 488 bytes a row before it sets the first.
  * Refused: as tuhvondi_image_new, TUHVONDI_NO_IMAGE_HELD, and TUHVONDI_SHARED while other handles hold
  * the image. */
 uint32_t tuhvondi_image_apply(struct tuhvondi_image *image, uint64_t generation,
