@@ -217,8 +217,10 @@ uint32_t tuhvondi_image_new(const struct tuhvondi_row *rows, size_t row_count,
                             struct tuhvondi_image *image);
 
 /* Sets rows in place over those of the image, in order, and sets its generation. If it is refused, it changes
- * nothing. Its time grows with the number of rows that you give, and not with the number that are there. It
- * asks for room of 488 bytes a row before it sets the first.
+ * nothing. Its time grows with the number of rows that you give, and not with the number that are there, with
+ * two exceptions. A row of at most 19 bits is written for each part of the image's array that it covers: a
+ * default route takes a millisecond in a large image. And an image that has outgrown its array is made anew
+ * from its rows now and then, in the time that tuhvondi_image_new would take.
  * Refused: as tuhvondi_image_new, TUHVONDI_NO_IMAGE_HELD, and TUHVONDI_SHARED while other handles hold
  * the image. */
 uint32_t tuhvondi_image_apply(struct tuhvondi_image *image, uint64_t generation,
