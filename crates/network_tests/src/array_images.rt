@@ -326,7 +326,7 @@ fn close(one: usize, other: usize) -> bool {
 // Such an image takes as much memory as one that was made for so many rows.
 #[test]
 fn images_are_widened_as_they_grow(rt: HostRuntime) {
-    for count in [60, 100, 2000] {
+    for count in [60, 200, 2000] {
         let image = grown(&rt, rt.alloc(), count);
         let bits = FirstBits::for_rows(count as usize);
         let mut whole = with(rt.alloc(), bits).expect(&rt, "memory");
