@@ -1,4 +1,39 @@
-//! What holds of routers in processes of their own, whatever happens: no packet meets a router twice, and at rest rows lead at least cost.
+//! What holds of routers in processes of their own, whatever happens: no packet meets a router twice, and at
+//! rest rows lead at least cost.
+//!
+//! The problem: the laws of networks speak of one world, in which a link is up or down at both ends at once
+//! (`packet_loops`). Between daemons each end of a link begins and ends its sessions by itself. A process can
+//! end and begin anew, a message can be lost, and rows are written into a table one by one.
+//!
+//! So these laws are of *processes* (`Processes` in `specs/Processes.antt`). These are routers, and for each
+//! end of a link what is on its way there and its sessions. A *happening* (`Happening` in
+//! `specs/Happenings.antt`) is a call of `SingleRouter`, by the definitions that its contracts cite, or the
+//! loss of a message. The five duties of a daemon are in docs/8-daemons.md.
+//!
+//! ```text
+//!    router a                                     router b
+//!     port up in session 4                         port down: it has left session 4
+//!     row via b, session 4    -- packet -->        not let in
+//! ```
+//!
+//! The law ([`no_packet_circles`]): whatever has happened, no packet meets a router twice. That holds if
+//! packets tell the session of the row by which they were sent. It also holds if they tell none, and routers
+//! test what comes in. A router lets in what comes by a link while it is in the session of the message that
+//! it took there last. The law holds of half-written tables, too.
+//!
+//! Why it is true: for each prefix, each link and each session that neither end has left, the invariant of
+//! `loop_freedom` holds (`proofs/Invariant.antt`). An end that is not in the session makes a step that
+//! changes nothing. So a link that comes up needs no case of its own, and of one that fails nothing is left
+//! to say. Feasible distances fall along rows, as in networks, and the argument of `all_packets` gives the
+//! rest.
+//!
+//! The hard step is a row whose own router has left the session, while the other end is still in it
+//! (`proofs/Gone.antt`). The other end cannot come to a greater feasible distance than the row's in that
+//! session. It would have to end a computation for which it awaits the router that has left.
+//!
+//! [`none_refused`]: the tests that keep out what no router sends keep out nothing that one does.
+//! [`rest_is_best`]: at rest, if nothing was lost and the ends of each link agree, each router has its best
+//! row.
 #![tactic(auto)]
 
 ghost use Rattle.daemon_laws.specs.Facts.{FourFactsAlwaysHold};
