@@ -1,5 +1,41 @@
-//! What a network of DUAL routers is: the plain types that code and definitions share, and, in
-//! `specs/`, the definitions that every contract above cites.
+//! What a network of DUAL routers is: the plain types that code and definitions share, and the definitions
+//! that every contract above cites.
+//!
+//! The problem: a theorem about a model says nothing of a program that was written beside it. So both use one
+//! set of definitions. The code's contracts cite them, and so do the laws. There is no translation in
+//! between: a `Vec<Outgoing>` of the code is the `List Outgoing` of the definition. So a law of the
+//! definitions is a law of the program.
+//!
+//! ```text
+//!   specs/Machine       one router's machine for one prefix: what an event makes of it, and what it sends
+//!   specs/World         links, routers and attachments, and with what a network opens
+//!   specs/Network       which faults a network may have
+//!   specs/Step          the eight steps: when each is lawful, why it is refused, and what it makes
+//!   specs/Run, Turns    lists of steps; what a router does next, and when nothing is left to do
+//!   specs/Forwarding    longest match by published rows, traces, walks, and when a network is quiet
+//!   specs/Publication   patches and images            specs/Journal   steps as numbers, and their sum
+//!   specs/View          a network as one prefix sees it, for the laws
+//! ```
+//!
+//! Four steps of a network in which router 1 is attached to a prefix:
+//!
+//! ```text
+//! LinkUp { link: 0 }                 // the link is up in session 1, and both ends have a notice to take
+//! Deliver { router: 1, port: 0 }     // router 1 takes its notice; what its machines send is held back
+//! Publish { router: 1 }              // its chosen rows are in force; what it holds may leave
+//! Release { router: 1 }              // its oldest message goes onto the link
+//! ```
+//!
+//! What always holds: worked examples hold of the definitions by computation (`proofs/MachineRows.antt`,
+//! `proofs/NetworkRows.antt`). And a step that can be asked for is lawful exactly if it is not refused
+//! (`proofs/Lawful.antt`).
+//!
+//! The machine is that of J. J. Garcia-Luna-Aceves, *Loop-Free Routing Using Diffusing Computations*, 1993.
+//! docs/2-model.md says how it differs. Forwarding is that of RFC 1812, section 5.2.4.3. The gate, which
+//! holds messages back until rows are published, is this project's own.
+//!
+//! What is tricky: nearly all crates stand on this one, so a change here proves them all again. And a mistake
+//! here is in every law, so read a definition aloud before you change it.
 #![tactic(auto)]
 
 mod item;
