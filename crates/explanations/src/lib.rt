@@ -1,4 +1,32 @@
-//! A page for each number that the program prints: what it says, when it comes, and what to do.
+//! The numbers that the program prints, and a page for each: what it says, when it comes, and what to do.
+//!
+//! The problem: a fault is told in a few letters, as `45 BadCommand`, so that people and programs can tell it
+//! from others. That is too short for somebody who meets it for the first time. So `dualnet explain 45`
+//! prints the page of that number, and `--explain` prints it below a fault:
+//!
+//! ```text
+//! 4 HostBits
+//! when:    a prefix has a bit that is set behind its length
+//! example: `10.0.0.1/8`, which should be `10.0.0.0/8`
+//! do:      clear the bits behind the length, or give the length that is meant: `10.0.0.1/32` is one address
+//! ```
+//!
+//! A [`Kind`] is a number with its name and its [`Page`]. The numbers have gaps, because some are for the
+//! libraries of C alone (`c_interface`). For example, 7 is there an empty handle, and no kind here.
+//!
+//! ```text
+//! let kind = Kind::of(45)?;                    // None for a number that is never printed
+//! kind.name()                                  // "BadCommand"
+//! write!(out, "{}", kind.page())?;             // all four lines
+//! write!(out, "{}", kind.page().brief())?;     // the lines of when and do
+//! ```
+//!
+//! What always holds: `Kind::of` finds a kind exactly for each number that some kind has. Its number and its
+//! name are those of one table (`kind_number`, `name_of` in `specs/Numbers.antt`). Each kind has a page,
+//! because `page` has no way to give none.
+//!
+//! What is tricky: this crate stands on no other, so it cannot know which fault has which number. Each fault
+//! displays its own number and name, and `plans` says which kind it is. That these agree is tested.
 #![tactic(auto)]
 
 mod kind;

@@ -1,4 +1,39 @@
-//! Reads the lines of a scenario: the parts of a network, and the commands to do on it.
+//! What the lines of a scenario say: names, links, prefixes and commands; and the texts that name routers.
+//!
+//! The problem: people call routers by names, and the network by numbers. Each command, fault and printed row
+//! has to be translated, and a wrong number would be a wrong router. So a name becomes a number once, when a
+//! line is read ([`Names`]), and a number a name once, when a line is written ([`Directory`]).
+//!
+//! ```text
+//!   "a b 5 5"           ->  LinkSpec { a: 0, b: 1, from_a: 5, from_b: 5 }
+//!   "10.0.0.0/8 a 1"    ->  (10.0.0.0/8, 0, 1)                             a prefix, its router, the cost
+//!   "deliver b a"       ->  Command::Step(Step::Deliver { router: 1, port: 0 })
+//!   "lookup b 10.1.2.3" ->  Command::Lookup { router: 1, addr: .. }
+//!
+//!   Directory::row      ->  "b 10.0.0.0/8 via a 1"                         port 0 is the one to a; session 1
+//! ```
+//!
+//! ```text
+//! let reading = read_script(alloc, &routers, &links, &prefixes, &commands)?;
+//! if let Some(at) = reading.fault { .. }       // displayed as `43 BadLine at links 0`
+//! ```
+//!
+//! [`read_script`] reads the lists in this order, and stops at the first fault. What stands before the fault
+//! was read, so a caller can first look for faults of the network.
+//!
+//! What always holds: what was read is what the first lines say, in order, and nothing else (`AreParts` in
+//! `specs/Reading.antt`). The fault is that of the line behind them, at its position in its list
+//! (`ReadingStops`). The names are 1 to 16 small letters and digits, a letter first, and no two are the same
+//! (`AreNames` in `specs/Routers.antt`). A line that is written is the text of its definition (`row_text` and
+//! others in `specs/Directories.antt`, `specs/Lines.antt`).
+//!
+//! What is tricky:
+//!
+//! - A link may name a router that is not known. That end is read as 65535, which no network has. So the
+//!   fault is found when the network is opened, after the faults of all lines.
+//! - In a command, an unknown name or link is `45 BadCommand`. It comes before the fault of a cost or an
+//!   address, but a prefix that the scenario does not have comes last.
+//! - `deliver a a` asks for the port of a's own attachments, which has the number after its last link's.
 #![tactic(auto)]
 
 mod attachment;
