@@ -1,5 +1,39 @@
-//! What is told more of a fault, where it is asked for: where it stands, what was expected, and what to
-//! do.
+//! What is told more of a fault, if it is asked for: its line, what is wrong there, and what to do.
+//!
+//! The problem: a fault is one line, as `45 BadCommand at script 3`. Whoever wrote the scenario has to count
+//! lines, and to guess what the program expected. With `--explain` this crate says it:
+//!
+//! ```text
+//! dualnet: 45 BadCommand at script 3
+//!   ring.toml:8:5: delivr a b
+//!   unknown command `delivr`: is it `deliver`?
+//!   when: ..
+//!   do:   ..
+//! ```
+//!
+//! ```text
+//! if let Some(file) = file_to_explain(&words) { .. }      // the scenario, if `--explain` was asked for
+//! advise(alloc, Faulty { file, text, kind, place, is_check }, &mut err)?;
+//! ```
+//!
+//! - [`advise`] finds the line in the file (`src/position.rt`), and reads it again to see what is wrong
+//!   (`src/command.rt`, `src/line.rt`). For example, a word is too many, a name is not known, or no link
+//!   joins two routers. Of a text that is no TOML document it tells the place, and of a document which keys
+//!   are missing or unknown.
+//! - If the scenario was only to be checked, it also tells of other faults, 20 in all (`src/others.rt`). It
+//!   tells those that it need not guess.
+//! - [`advise_journal`] does the same for a line of a journal.
+//!
+//! What always holds: more is told only if it is asked for, and then of the scenario that the words name (the
+//! clause of [`file_to_explain`]). Nothing else of this crate has a contract. What it prints is tested by
+//! files of cases.
+//!
+//! What is tricky: the fault itself is never decided here. `plans` has decided it, and this crate only looks
+//! for words that explain it. If it finds none, it prints the line and the page of the number. The place of a
+//! string is found by a scan of the text, which gives up at strings of several lines. Then no line number is
+//! told.
+//!
+//! The nearest command is found by the edit distance of V. I. Levenshtein, of 2 at most (`strsim`).
 #![tactic(auto)]
 
 mod asked;

@@ -1,4 +1,31 @@
 //! The program: a network of IPv4 routers, run by the script of a scenario.
+//!
+//! The problem: contracts and tests cannot see files, streams and the arguments of a process. So this crate
+//! has these alone, and as little else as it can. All that can be proved or tested stands in crates below:
+//! `words` reads the command line, `play` does what it asks for, `advice` tells more of a fault.
+//!
+//! ```text
+//!   arguments  -->  read_words  -->  Words
+//!   files      -->  open_file   -->  Source, kept as it is read  --.
+//!                                                                   +-->  play  -->  status, output, fault
+//!   standard input (commands of a shell)  -------------------------'
+//!   journal    <--  fs::write   <--  what `play` kept, if the status is 0
+//! ```
+//!
+//! ```text
+//! ./dualnet run examples/ring.toml --journal ring.journal      # status 0
+//! ./dualnet replay examples/ring.toml ring.journal             # replay agrees: 106 steps
+//! ```
+//!
+//! - Output is written line by line to a terminal, and else a block at a time.
+//! - The bytes of both files are kept as they are read, so that advice can show the line at fault.
+//! - A journal that would be written over the scenario is refused before the run begins (49).
+//!
+//! What always holds: the exit status is the one that `play` promises for these words and files. If the
+//! journal cannot be written after that, it is 2. No function here has a contract of its own.
+//!
+//! What is tricky: what was printed before a fault has to be seen before it, although output may come in
+//! blocks. So `play` flushes the output first.
 #![tactic(auto)]
 
 use advice::{Faulty, advise, advise_journal, file_to_explain, is_check};

@@ -1,6 +1,39 @@
-//! What a scenario asks for, and what can be wrong: the text of a file is read, and a [`Plan`] is made of it, which is a
-//! network that can be opened, the names of its routers, and the commands of its script. A [`Fault`] is why a program
-//! stops, with the place in the scenario where there is one, and its exit status.
+//! What a scenario asks for, and what can be wrong: the text of a file is read, and a [`Plan`] is made of it.
+//!
+//! The problem: a scenario can be wrong in many ways, and often in several at once. Whoever wrote it has to
+//! be told one fault, always the same one, with its place. So the tests have a fixed order, and each has its
+//! number:
+//!
+//! ```text
+//!   file            47 Unreadable, 46 TooLarge (above 4,194,304 bytes)
+//!   document        40 BadToml, 41 BadKey                             `scenario`
+//!   names           42 BadName
+//!   network         24 BadRouters, 25 to 27 with their place          `world`
+//!   other lines     1 to 5, 43, 45, 46 (more than 10,000 commands)    `script`
+//! ```
+//!
+//! A [`Plan`] is a network that can be opened, the names of its routers, and the commands of its script. A
+//! [`Fault`] is a [`Cause`] with the place in the scenario, if it has one. It is displayed as `25 BadLink at
+//! links 0`.
+//!
+//! ```text
+//! let text = read_text(alloc, file)?;
+//! let Plan { network, directory, commands } = read_plan(alloc, &text)?;
+//! // or, at the end of a program:
+//! return refuse(fault, &mut err);      // prints `dualnet: 25 BadLink at links 0`, and answers 1
+//! ```
+//!
+//! What always holds: a plan is made only of a text that is a scenario without faults (`IsScenario` in
+//! `specs/Scenarios.antt`). If none is made, the fault is the first in this order (`IsScenarioFault`), or
+//! want of memory. The exit status is 1 for a fault in the input. It is 2 if a step or a job was refused, the
+//! output could not be written, or memory ran out (`status_of` in `specs/Faults.antt`).
+//!
+//! What is tricky: the network's faults come before those of lines, although lines are read first. The
+//! network is made of what was read before the first faulty line. Only a name that is no router's name comes
+//! first.
+//!
+//! `Cause` has a variant for each crate's faults, and `kind` says by which number of `explanations` it is
+//! told. No clause says that this number is the one which is displayed; the tests do.
 #![tactic(auto)]
 
 mod fault;

@@ -1,5 +1,40 @@
-//! What the program does, over any readers and writers: it does the commands of scripts and of shells on the network
-//! of a scenario, and by [`play`] whatever the command line asks for. Tests watch its threads by [`play_by`].
+//! What the program does, over any readers and writers.
+//!
+//! The problem: a program reads files, prints, starts threads and ends with a status. If its code opened
+//! these itself, no test could hold what it reads and writes, and no contract could speak of it. So `main`
+//! opens files and streams, and [`play`] does the rest with whatever it is handed:
+//!
+//! ```text
+//!   words, scenario, journal  -->  play  -->  out, err, kept, told     and the exit status
+//!
+//!   check     reads a scenario, and says what it holds                          `reports`
+//!   run       opens its network, and does its script, command by command
+//!   shell     opens its network, and does the commands of lines as they come
+//!   replay    does the steps of a journal, and compares the reports             `reports`
+//!   explain   prints the page of a number                                       `explanations`
+//! ```
+//!
+//! ```text
+//! let mut told = None;
+//! let status = play(&rt, alloc, &words, scenario, journal, &mut out, &mut err, &mut kept, &mut told);
+//! ```
+//!
+//! `kept` gets the text of the journal of a run or a shell that ended with 0. `told` is the fault for which
+//! the program stopped, so that its caller can give advice.
+//!
+//! A script's commands are done on a `Fabric` (`src/session.rt`). A step is `Fabric::step`. `settle` is the
+//! call `settle` of `control`, which may start threads. A look-up or a trace asks the images in force. Jobs
+//! go to a `Dispatcher`.
+//!
+//! What always holds: each command of the command line comes to an end that its definition names, with the
+//! status of that end. Or it stops for a fault that holds of what was read, with the status of that fault
+//! (`IsPlayed` in `specs/Outcomes.antt`). So a run ends with 0 only if its script was done to the end, each
+//! step lawful (`IsRunToEnd` in `specs/Runs.antt`). `AreDone` in `specs/Commands.antt` says what each command
+//! does.
+//!
+//! What is tricky: a write that fails is lost, and changes nothing else. What is printed is not in these
+//! clauses, but for the texts of single lines. [`play_by`] is the same with other thresholds for threads and
+//! a gate that they call, so tests can start threads in a small network.
 #![tactic(auto)]
 
 mod commands;

@@ -1,6 +1,35 @@
-//! What is told of a network, and the commands that need no script: lines in a format ([`Printer`]), the rows, states
-//! and reports of a network, what a scenario holds ([`check`]), and the journal of a run, which is kept with its report
-//! ([`keep`]) and done again ([`replay`]).
+//! What is told of a network, line by line, and the commands that need no script.
+//!
+//! The problem: a run, a shell and a replay print the same lines, as text or as JSON, and a journal keeps
+//! some of them. If each wrote its own, a replay could not compare them. So the lines of a network are
+//! printed here alone, by a [`Printer`] that knows the names and the format.
+//!
+//! - [`print_report`] prints each link, then each router with its machines, in the order of the prefixes.
+//! - [`print_state`] prints one machine, and why it is at that, if more is to be told. [`show_table`] prints
+//!   a router's published rows.
+//! - [`check`] says what a scenario holds, or its first fault.
+//! - [`keep`] adds the text of a run's journal, with the report, to a list of bytes.
+//! - [`replay`] does the steps of a journal from the opening of its network, and compares the reports.
+//!
+//! ```text
+//! let printer = Printer { directory: &directory, format: Format::Text };
+//! print_report(&fabric, &printer, &mut out)?;
+//!
+//!   link a b up 1 5 5 queued 0 0                  costs from both ends, items to be taken at both
+//!   a gen 1 held 0 ripe 0 attach 0                publications, messages held and ripe, notices
+//!   a 10.0.0.0/8 passive RD 1 FD 1 local          its machine for the prefix
+//! ```
+//!
+//! What always holds: `print` writes the text or the JSON that it is given, by the format (`in_format` in
+//! `specs/Formats.antt`). What is told of a machine is the machine's (`IsMachineLine` in
+//! `specs/Report.antt`). A replay that ends `Done` or `Differs` has done all steps of the journal, each
+//! lawful. One that ends `Refused` stopped at a step, for its cause or for want of memory (`Replays` in
+//! `specs/Ends.antt`).
+//!
+//! The statuses ([`End`]): 0 done, 2 a step of the journal was refused, 3 the reports differ.
+//!
+//! What is tricky: both files are read whole before the first step of a replay is done. And no clause says
+//! that a report tells of all links and routers, or if a replay ends with 0 or with 3. The tests do.
 #![tactic(auto)]
 
 mod checking;
