@@ -1,4 +1,27 @@
 //! The program that shows the run of a network: its states in a page, or as lines of JSON.
+//!
+//! The problem is that of `dualnet`: contracts and tests cannot see files and arguments. So this crate has
+//! these alone, and `view` does the rest over readers and writers.
+//!
+//! ```text
+//! ./dualnet-view examples/ring.toml -o ring.html           # a page of the run of its script
+//! ./dualnet-view examples/ring.toml ring.journal --json    # the states of that journal's steps, as lines
+//! ```
+//!
+//! The words: *states* are the network before the first step and after each. FILE is the scenario, JOURNAL a
+//! journal of a run of it. Without a journal the script is run. Without `-o` the page goes to the standard
+//! output.
+//!
+//! - With `-o` all is first made in memory, and written if it is not empty. So a fault in the input leaves
+//!   the file as it was.
+//! - A path that leads to the scenario or to the journal is not written over (49).
+//!
+//! What always holds: the exit status is that of `view::show`, and status 0 says that the states of lawful
+//! steps were written. If the file or the standard output cannot be written, the status is 2. No function
+//! here has a contract of its own.
+//!
+//! What is tricky: if a step of the journal is refused, the states before it are written nevertheless, and
+//! the status is 2.
 #![tactic(auto)]
 
 use play::{Cause, Fault, Host, Source, refuse};

@@ -1,5 +1,31 @@
 //! What the program `dualnet-view` does, over any readers and writers: it writes the states of a run, as
-//! lines of JSON or in a page that shows them.
+//! lines of JSON or in a page.
+//!
+//! The problem: a run is a list of steps, and a picture needs the network after each of them. The steps come
+//! from a journal, or from a run of the scenario's script. In both cases the picture must be of lawful steps
+//! of that scenario's network, and of nothing else.
+//!
+//! ```text
+//!   scenario --------------------> network --.
+//!   journal, or the one that a                +--> states (`run_states`) --> lines, or a page (`view_page`)
+//!   run of the script keeps -----> steps  ----'
+//! ```
+//!
+//! ```text
+//! let status = show(&rt, alloc, &words, scenario, journal, &mut out, &mut err);
+//! ```
+//!
+//! [`show`] reads the scenario. Without a journal it runs the script by `play`, and takes the journal that is
+//! kept. What the script prints is lost. Then it reads the journal, and does its steps.
+//!
+//! What always holds (`IsShown` in `specs/Shown.antt`): status 0 is answered only if the bytes are those of a
+//! scenario, and all steps are lawful. Then their states were written. Lines have the state after each step.
+//! If a step is refused, the states before it are written, a line on `err` tells of it, and the status is 2.
+//!
+//! What is tricky: a page has at most 20,000,000 bytes of states. If the states after all steps are more, it
+//! has those after every second step, or every fourth, and so on. So the states are written into a list that
+//! refuses to grow beyond (`src/limited.rt`), and written anew if it refuses. If even few states are too
+//! many, the page has the first and the last.
 #![tactic(auto)]
 
 mod limited;
