@@ -1,7 +1,36 @@
-//! Forwarding images for C programs.
+//! Forwarding images for C programs, behind handles.
 //!
-//! C sees `include/tuhvondi.h`. Each call answers 0, or the number of the fault for which it is
-//! refused. A refused call leaves the image of its handle as it is.
+//! The problem: a data plane in C wants the longest match of many addresses, also in several threads, while
+//! routes change. C sees `include/tuhvondi.h`. Each call answers 0, or the number of the fault for which it
+//! is refused.
+//!
+//! ```text
+//! struct tuhvondi_image image = TUHVONDI_NO_IMAGE, other = TUHVONDI_NO_IMAGE;
+//! tuhvondi_image_new(rows, 2, &image);                          /* 0: done */
+//! tuhvondi_image_lookup(&image, addrs, 3, answers, 3);          /* a row for each address */
+//! tuhvondi_image_share(&image, &other);                         /* for a second thread: the same image */
+//! tuhvondi_image_apply(&image, 2, changed, 1);                  /* 9: another handle holds it, too */
+//! tuhvondi_image_free(&other);                                  /* now it can be patched */
+//! ```
+//!
+//! - An image is made of rows (`tuhvondi_image_new`), changed by rows (`tuhvondi_image_apply`), and rows are
+//!   taken out of it (`tuhvondi_image_remove`).
+//! - Addresses are looked up many at a time. Rows are counted, and listed from a cursor on, which is a
+//!   prefix.
+//! - Two handles can *share* one image, and each looks up in a thread of its own. While it is shared it is
+//!   not patched (9). A *copy* has the same rows in memory of its own.
+//!
+//! What always holds: the answers are those of the longest match over the rows that were given, set in order
+//! (`answer_rows` in `specs/Rows.antt`). The first row with a fault gives the status (`first_row_fault`), and
+//! comes before an empty handle. A refused call leaves the image of its handle, and the answers, as they are.
+//!
+//! What is tricky: a handle is for one call at a time, also for a look-up. The reason is that a call takes
+//! the box out of the handle, and puts it back. So only three small functions touch a pointer
+//! (`src/handle.rt`). A program that may not stop its readers makes a copy, patches that, and lets readers
+//! change over: `examples/c/two_copies.c`.
+//!
+//! The proofs take for granted that C keeps the rules of the header. For example, lists are as long as a call
+//! is told, and no two arguments overlap.
 #![tactic(auto)]
 
 ghost use Rattle.std.specs.Prelude.{◌≡◌, ◌≢◌, ◌<◌, None, Some, OnOk, OnErr, IfOk, IfErr, IfSome, IfNone, length, map};

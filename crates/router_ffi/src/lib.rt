@@ -1,7 +1,34 @@
-//! One router for C programs.
+//! One router for C programs, behind handles.
 //!
-//! C sees `include/tuhvondi_router.h`. Each call answers 0, or the number of the fault for which it is
-//! refused. A refused call leaves the router of its handle as it is, and writes nothing.
+//! The problem: a routing daemon in C wants one router whose neighbours are other processes
+//! (`single_router`). It has no types that keep it from giving a wrong number, or from using a router that is
+//! not there. So each call tests what it is given, in a fixed order, and answers a number. C sees
+//! `include/tuhvondi_router.h`, which has the rules for callers.
+//!
+//! ```text
+//! struct tuhvondi_router r = TUHVONDI_NO_ROUTER;
+//! tuhvondi_router_new(costs, 2, attachments, 1, 4096, &r);      /* 0: done */
+//! tuhvondi_router_link_up(&r, 0, 1, 10);                        /* port 0, session 1, cost 10 */
+//! while (tuhvondi_router_publish(..) == TUHVONDI_DONE) ..       /* its rows forward packets from now on */
+//! while (tuhvondi_router_release(..) == TUHVONDI_DONE) ..       /* only then messages leave */
+//! tuhvondi_router_free(&r);
+//! ```
+//!
+//! The words: a *handle* is a pointer to a router in a box, and a flag if there is one. A *status* is 0, or
+//! the number of the fault for which a call is refused (`c_interface`).
+//!
+//! What always holds: the tests have an order (`tell_fault` and `IsTold` in `specs/Calls.antt`). Faults of
+//! the numbers come first, then an empty handle, then the router's own, and want of memory last. If a call is
+//! done, the router is the network's after that input, by the very definitions that `single_router` cites. If
+//! it is refused, the router stays as it was, and nothing is written. Only `tuhvondi_router_new` and the
+//! calls that tell the router something ask for memory.
+//!
+//! What is tricky is the pointer. Each call takes the box out of the handle, works on what is in it, and puts
+//! it back. So only three small functions touch the pointer (`src/handle.rt`), and these are proved by hand.
+//! A handle is for one call at a time. It has no lock, and may go to another thread.
+//!
+//! The proofs take for granted that C keeps the rules of the header. For example, lists are as long as a call
+//! is told, and no two arguments overlap.
 #![tactic(auto)]
 
 ghost use Rattle.std.specs.Prelude.{◌≡◌, ◌≢◌, None, Some, OnOk, OnErr, IfErr, IfOk, IfSome, IfNone, length, option_map};
