@@ -1,5 +1,37 @@
-//! Tests of publications, queues, workers, fabrics, control threads and traces, each through its
-//! public surface.
+//! Tests of publications, queues, workers, fabrics, control threads and traces, each through its public
+//! surface.
+//!
+//! The problem: some facts of threads and of memory are in no clause. For example, a reader sees what its
+//! writer publishes while both go on. Two workers answer at the same time. A turn lets the lock go while it
+//! publishes. A body that does none of this meets every contract. So these tests make it happen: at a *gate*
+//! a thread waits until another has come so far.
+//!
+//! ```text
+//!   publications, tickets         what readers see meanwhile, and what is refused while a writer is out
+//!   queues, workers, jobs         jobs through queues, and what readers answer
+//!   worker_pools                  200 jobs for one, two and sixteen threads
+//!   fabrics, controls, outside    steps, turns, threads that serve and settle side by side
+//!   traces                        packets along the images in force
+//!   scripts, refusals, rooms      want of memory; `refusing` is an allocator that refuses the n-th time
+//! ```
+//!
+//! Want of memory is tried on scripts of two and three routers. Of each step the first, second, third ..
+//! allocation is refused, alone or with all behind it. That goes on until an attempt meets no refusal:
+//!
+//! ```text
+//!   attempt 1   its first allocation is refused      nothing has changed
+//!   attempt 2   its second allocation is refused     nothing has changed
+//!   attempt 3   it meets no refusal                  the step is done, as in a run that is never refused
+//! ```
+//!
+//! After a refused attempt all that can be read is as it was: the journal, what is on links, machines, rows,
+//! and each router's answers. The end is that of a run without refusals.
+//!
+//! What is tricky: a call that takes the lock does not say what it did. Only what its share gained says so,
+//! and the fabric that comes back. So such tests close the control, and look at both.
+//!
+//! What a test expects is taken from the definitions, and never from what the program gave. The crate
+//! promises nothing, and no crate stands on it.
 #![tactic(auto)]
 
 #[cfg(test)]

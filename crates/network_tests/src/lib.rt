@@ -1,5 +1,35 @@
-//! Tests of addresses, costs, links, machines, routers, worlds and images, each through its public
-//! surface, and of calls that are refused for want of memory.
+//! Tests of addresses, costs, tables, images, machines, links, routers and worlds, each through its public
+//! surface.
+//!
+//! The problem: a body that gives up for want of memory meets any contract, because such a refusal is always
+//! allowed. So calls that take memory are run here on a path on which they have to succeed. And some facts
+//! have no clause. For example, rows that come and go take no more memory from their second round on.
+//!
+//! The tests stand in a crate above those that they test, because a crate with tests is checked a second time
+//! with them. So they see public surfaces alone, as a user does.
+//!
+//! ```text
+//!   addresses, values                 texts that are no prefixes; values of several tests
+//!   pools, node_pools, word_pools     blocks that are taken and given back
+//!   images, rows, patches, compiled   rows that are set, listed and taken out, and looked up
+//!   machines, replies                 worked tables of one machine, with origin states and awaited ports
+//!   links, tables, gates, routers, worlds
+//!   refusals                          want of memory
+//! ```
+//!
+//! ```text
+//! let mut table = RouteTable::new(rt.alloc());
+//! table.set(prefix(&rt, "240.0.0.0/4"), Entry::Unreachable).expect(&rt, "memory");
+//! let image = compile(rt.alloc(), &table).expect(&rt, "memory");
+//! assert_eq!(rt; image.generation(), 0);
+//! ```
+//!
+//! Want of memory (`src/refusals.rt`): a call is made over a heap with 0, 16, 32 .. bytes left, until it is
+//! done. A refused call leaves what can be read as it was. Done again with room, it ends as if it had never
+//! been refused.
+//!
+//! What a test expects is taken from the definitions or from an outside source, and never from what the
+//! program gave. The crate promises nothing, and no crate stands on it.
 #![tactic(auto)]
 
 #[cfg(test)]

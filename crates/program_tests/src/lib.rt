@@ -1,5 +1,34 @@
-//! What no file of cases can say: files that cannot be read or written, texts that are not UTF-8, the
-//! limits, numbers that no run reaches, and a network that several threads settle.
+//! Tests of the program that no file of cases can say.
+//!
+//! The problem: most of what the program does is tested by files of cases, which `trials` reads: a scenario,
+//! words, and what is printed. But such a file cannot say that another file is unreadable, that a write
+//! fails, or that a text is not UTF-8. Nor does a small scenario reach the limits, or the threads that only a
+//! large network starts. These stand here, as code:
+//!
+//! ```text
+//!   files     files that cannot be read or written, and texts that are not UTF-8
+//!   limits    the largest file, network and script that are taken, and larger ones that are refused
+//!   lines     lines with numbers that no run reaches
+//!   written   what faults, costs and distances are written as
+//!   json      lines of JSON, read by another reader (`serde_json`)
+//!   views     the states of a run, as lines and in a page
+//!   crowds    a network of 4,096 prefixes, which 1, 2, 4 and 16 threads settle
+//! ```
+//!
+//! Most run the program in memory (`trial`), and look at what it gave:
+//!
+//! ```text
+//! let got = run_in_memory(&rt, alloc, &CHECK, MISSING);     // a scenario that cannot be read
+//! tells(&rt, &got, "dualnet: 47 Unreadable\n");             // printed nothing but this, and kept nothing
+//! ```
+//!
+//! What a test expects comes from the definitions, from the man page or from the plain model in `bench`. It
+//! never comes from what the program printed. For example, the lines of `views` were reckoned by that model.
+//!
+//! What is tricky: a fault displays its number and name by a derive, which has no contract. So `written` has
+//! the texts that they have to be.
+//!
+//! The crate promises nothing, and no crate stands on it.
 #![tactic(auto)]
 
 #[cfg(test)]

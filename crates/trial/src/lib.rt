@@ -1,5 +1,34 @@
-//! What the program does, held in memory, and what is found of it: for examples, cases, random scenarios
-//! and tests.
+//! What the program does, held in memory, and what is found of it: for examples, cases, random scenarios and
+//! tests.
+//!
+//! The problem: a test of a program has to know its status, its output, its faults and its journal, all at
+//! once. A program that opens files and prints cannot be asked for these. But `play` runs over any readers
+//! and writers, so here it runs over lists of bytes:
+//!
+//! ```text
+//! let ran = play_in_memory(&rt, alloc, &words, b"routers = [..", journal);
+//! ran.status       // 0
+//! ran.out          // what it printed
+//! ran.err          // what it printed of a fault; `ran.fault` is the fault itself
+//! ran.kept         // the journal's text, if a run or a shell ended with 0
+//! ```
+//!
+//! Beside the [`Outcome`] stand the verdicts, each with its rule in a contract. So a trial cannot be called
+//! right by mistake:
+//!
+//! - `example::judge`: the run and the shell ended with 0 and printed what is wanted, to the byte. And the
+//!   replay of the run's journal ended with 0.
+//! - `case::judge`: status, output and fault are those that the case says, and so are journal and words, if
+//!   it asks for them (`IsAsWanted` in `specs/Wanted.antt`). A [`case::Tally`] is right only if a case was
+//!   counted and none was wrong.
+//! - `soak::is_good`: the run and its replay ended with 0, and no packet met a router twice.
+//!
+//! What always holds: what [`play_in_memory`] gives is an end or a fault of that command (`Gave` in
+//! `specs/Outcomes.antt`), as `play` promises.
+//!
+//! What is tricky: a case with a wrong file would pass if nobody counted. So `Tally::is_right` is false if
+//! there was no case at all. And `soak::is_good` only says what is made of two statuses. That they are those
+//! of a run and its replay is seen in the code of `trials`.
 #![tactic(auto)]
 
 pub mod case;

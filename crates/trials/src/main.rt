@@ -1,13 +1,38 @@
-//! Tries the program, in memory, on what the words of the command line name, one after another, and
-//! tells what it finds: `trials WORD..`. The words are
+//! The program of the gate: tries the program, in memory, on what its words name, and tells what it finds.
 //!
-//!     FILE.toml               an example: the scenario of that file
-//!     FILE.cases              the cases of that file
-//!     FILE.faults             the table of faults of that file
-//!     soak SEED COUNT         so many random scenarios
-//!     load WORKERS ANSWERS    1 to 16 workers, each of which answers so many jobs
+//! The problem: examples, cases and random runs are many, and each has to be tried in several ways. A test
+//! for each would say the same again and again. So they are data, and this program tries them: `trials
+//! WORD..`. The words are
 //!
-//! The modules say what is tried of each. The exit status is 0 where all is as it should be, else 1.
+//! ```text
+//!   FILE.toml               an example: the scenario of that file
+//!   FILE.cases              the cases of that file
+//!   FILE.faults             the table of faults of that file
+//!   soak SEED COUNT         so many random scenarios
+//!   load WORKERS ANSWERS    1 to 16 workers, each of which answers so many jobs
+//! ```
+//!
+//! An example has to print what stands beside it in a run and in a shell, and its journal has to be replayed.
+//! A case has to give what its file says. A random scenario is run by several threads, replayed, and packets
+//! are traced after each of its steps. The head of each module says how its files are written.
+//!
+//! ```text
+//! === a link that is up is refused                     a case: its name,
+//! $ dualnet run scenario.toml                          its words,
+//! --- scenario                                         a block: what stands in the scenario
+//! ..
+//! --- err                                              a block: what is told of the fault
+//! ..
+//! ```
+//!
+//! What always holds: what is right is said by the contracts of `trial`, so this program cannot call a case
+//! right that is not. Words that are done are not done again (the clause of `first_task`). A number that is
+//! drawn is below its bound (the clause of `Dice::below`).
+//!
+//! The exit status is 0 if all is as it should be, else 1. Without words it is 1, too.
+//!
+//! What is tricky: networks of cases are too small for the program to start threads. So cases that ask for
+//! threads get thresholds at which these are started whenever there is something to publish.
 #![tactic(auto)]
 
 mod asking;
