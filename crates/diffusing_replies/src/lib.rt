@@ -1,17 +1,16 @@
 //! What one router keeps of a diffusing computation.
 //!
-//! A router that finds no neighbour which it may safely take as its successor asks all of them: it
-//! sends each a query with its distance, and keeps that distance and its successor until each has
-//! replied. A neighbour that need not ask replies at once. One whose own successor asks it, and
-//! which finds no other, asks its neighbours first, and owes its reply until they have replied. So
-//! the queries spread as far as they must, and the replies come back on the same ways: the
-//! computation diffuses, and ends where it began. A router is in at most one for a destination at a
-//! time.
+//! The problem: a router finds no neighbour that it may safely take as its successor. So it asks all of them:
+//! it sends each a query with its distance, and keeps that distance and its successor until each has replied.
+//! A neighbour that need not ask replies at once. If its own successor asks it, and it finds no other, it
+//! asks its neighbours first, and owes its reply until they have replied. So queries spread as far as they
+//! must, and replies come back on the same ways. The computation diffuses, and ends at the router that began
+//! it. A router is in at most one for a destination at a time.
 //!
 //! Of a computation under way a router keeps
 //!
-//! - the ports whose reply it awaits ([`Replies`]): at first all that are up, then one less with
-//!   each reply, and with each link that is lost;
+//! - the ports whose reply it awaits ([`Replies`]): at first all that are up, then one less with each reply
+//!   or lost link;
 //! - the port to which it owes a reply itself, or none ([`Debt`]);
 //! - how the computation began and what has happened since ([`Origin`]), a number 0 to 3:
 //!
@@ -30,16 +29,15 @@
 //!  +-------+---------------------------------+-----------+-----------+------------+
 //! ```
 //!
-//! The last three columns are the state after an event: the distance by way of the successor is
-//! above the one with which the computation began; a query came from the successor; the successor's
-//! link is lost. A loss counts before a query, and a query before the distance. At any other event
+//! The last three columns are the state after an event. *Distance rose*: the distance by way of the successor
+//! is above the one with which the computation began. *Successor asked*: a query came from it. *Successor
+//! lost*: its link is lost. A loss counts before a query, and a query before the distance. At any other event
 //! the state stays.
 //!
-//! When no reply is awaited any more the computation is over. In the states 1 and 3 the router may
-//! take its nearest neighbour then, without a test: the source node condition holds. In the states 0
-//! and 2 it tests the condition first, and where it fails, the next computation begins at once: from
-//! 0 in state 1, and from 2 in state 3, with the reply owed still. A reply that is owed is sent when
-//! the router is passive again.
+//! When no reply is awaited any more, the computation is over. In the states 1 and 3 the router may take its
+//! nearest neighbour without a test. In the states 0 and 2 it tests the condition first. If that fails, the
+//! next computation begins at once: from 0 in state 1, and from 2 in state 3 with the reply still owed. For
+//! example, a computation of its own start (1) whose distance rose (0) is tested at its end.
 #![tactic(auto)]
 
 mod origin;

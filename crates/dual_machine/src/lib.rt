@@ -1,13 +1,15 @@
 //! The machine of DUAL: what one router keeps for one prefix, and what it does at each event.
 //!
-//! A machine knows, port by port, whether the link is up, what it costs, and which distance the
-//! neighbour reported last; the *distance by way of* a port is that report and the cost. It takes the
-//! neighbour with the least such distance as its successor where the source node condition allows it:
-//! the report is below the machine's *feasible distance*, FD: the least distance that it had since its
-//! last computation ended, that of the computation included. While that is so it is *passive*, and reports
-//! its distance, RD, as it changes. Where the condition fails it becomes *active*: it keeps its
-//! successor, asks every neighbour with a query, and chooses anew when all have replied
-//! ([`diffusing_replies`] has what it keeps of that, and the numbers of the origin states).
+//! The problem: a router that takes whatever neighbour is nearest can take one that goes through itself. So
+//! DUAL asks for more than a short way. The *distance by way of* a port is what the neighbour reported there,
+//! and the link's cost. A router takes the neighbour with the least such distance only under the *source node
+//! condition*: its report is below the router's *feasible distance*, FD. That is the least distance that the
+//! router had since its last computation ended, that of the computation included.
+//!
+//! While the condition holds, the machine is *passive*, and reports its distance, RD, as it changes. If it
+//! fails, the machine becomes *active*: it keeps its successor, asks every neighbour by a query, and chooses
+//! anew when all have replied. [`diffusing_replies`] has what it keeps of that, and the numbers of the origin
+//! states.
 //!
 //! ```text
 //!   passive --- the condition fails at the successor's query ------> 3  (a reply is owed)
@@ -24,15 +26,16 @@
 //!           else the next computation begins: 0 becomes 1, and 2 becomes 3
 //! ```
 //!
-//! [`Machine::event`] takes one event (a message, a notice of a link, or one of the router's own
-//! attachment) and puts what the router sends into a [`Sends`]: a reply first, then queries or updates by
-//! ascending port. An attachment is one more port, numbered by how many ports there are, that reports 0
-//! and is never asked.
+//! [`Machine::event`] takes one event: a message, a notice of a link, or one of the router's own attachment.
+//! It puts what the router sends into a [`Sends`]: a reply first, then queries or updates by ascending port.
+//! An attachment is one more port, numbered by how many ports there are. It reports 0, and is never asked.
 //!
-//! What always holds (`specs/Parts.antt`): at most 32 ports, each at a cost; and while a computation is
-//! under way some port is awaited, and a reply is owed just in the states 2 and 3, to the successor. That
-//! FD is at most RD, and what else every machine of a run keeps, is a law of the definition
-//! (`machine_laws`).
+//! What always holds (`IsMachine` in `specs/Parts.antt`): there are at most 32 ports, each at a cost. While a
+//! computation is under way, some port is awaited. A reply is owed just in the states 2 and 3, to the
+//! successor. That FD is at most RD is a law of the definition (`machine_laws`).
+//!
+//! What is tricky: in the states 1 and 3 the code makes no test when a computation ends, because the
+//! condition holds then. That it does is proved (`proofs/Costs.antt`).
 #![tactic(auto)]
 
 mod distances;

@@ -1,9 +1,13 @@
 //! No loop along published successors, over every run of a network of router machines.
 //!
-//! A network is seen as one prefix sees it (`network_model/specs/View.antt`): a machine for each router,
-//! and at each end of each link what the router has yet to take and what it holds for the other end. Its
-//! steps are those of the world (`specs/Network.antt`). Four facts hold of the two ends x and y of each
-//! link that is up, after every run (`LinkFacts` in `specs/Facts.antt` has their exact words):
+//! The problem: routers decide one by one, by what they heard some time ago. So why can three of them not
+//! send a packet round in a circle? The answer has to hold at every moment, also while computations go on,
+//! links fail, and one router has published what another has only chosen.
+//!
+//! A network is seen as one prefix sees it (`network_model/specs/View.antt`). It has a machine for each
+//! router. At each end of each link it has what is still to be taken there, and what is held for the other
+//! end. Its steps are those of the world (`specs/Network.antt`). After every run, four facts hold of the two
+//! ends x and y of each link that is up (`LinkFacts` in `specs/Facts.antt`):
 //!
 //! ```text
 //!   x ---- link that is up, in its present session ---- y
@@ -17,13 +21,23 @@
 //!                              <  that of x too, unless y awaits x and no reply of x is on its way
 //! ```
 //!
-//! By fact 3 feasible distances fall along a walk, whether each router uses what it published or what it
-//! has chosen since, so no router is met twice. Facts 1 and 2 carry it over a step: what a neighbour takes
-//! as a report is no less than what it was feasible by. Fact 4 is what a router relies on that becomes
-//! passive: who was asked and has replied goes on at a distance below its own.
+//! The law ([`no_loop`]): no walk along published successors meets a router twice, nor along a mixture of
+//! published and chosen ones. By fact 3 feasible distances fall along such a walk, so no router is met twice.
+//! For example, rows lead from c to b and from b to a, at feasible distances 3, 2 and 1. A row from a back to
+//! c would need 3 to be below 1.
 //!
-//! The proofs treat a step at the two ends of one link alone (`proofs/Link.antt`, `LinkSteps.antt`), and
-//! then each kind of step of the network (`Taking.antt`, `Publishing.antt`, `Linking.antt`, ..).
+//! Why the facts stay true: what x sends is its distance, which is no less than its feasible one. So fact 1
+//! can break only if a feasible distance rises. It rises at the end of a computation alone, and then each
+//! neighbour that was asked has answered. Fact 2 says the same of what was published last. Fact 1, read from
+//! y, gives fact 3 for a neighbour that x chooses.
+//!
+//! The hard step is a router y that ends a computation while x's row leads to it. Its feasible distance may
+//! rise then, to the distance of the computation at most. It awaited x, so x has answered, and by fact 4 that
+//! distance is below x's. Fact 4 holds because x answers its successor only when its own computation ends.
+//!
+//! The proofs treat a step at the two ends of one link alone (`proofs/Link.antt`, `proofs/LinkSteps.antt`).
+//! Then they treat each kind of step of the network (`proofs/Taking.antt`, `proofs/Publishing.antt`,
+//! `proofs/Linking.antt` and others).
 #![tactic(auto)]
 
 ghost use Rattle.loop_freedom.specs.Facts.{HasFacts};

@@ -1,10 +1,13 @@
 //! A network of routers and links, and its atomic steps.
 //!
-//! A [`Network`] is what can be opened: so many routers, links with a cost from each end, and which
-//! routers are attached to which prefixes; `Network::new` refuses the first fault with its place. A
-//! [`World`] is such a network at one moment: each router, each link, and for each router the record of
-//! its attachments with the notices of it that it has yet to take. Nobody moves but by one of eight steps,
-//! each done whole or refused:
+//! The problem: what a network does is a mixture of what many routers do at once. To speak of all mixtures,
+//! one takes steps that are so small that each is done whole or not at all. Then a run is a list of steps, in
+//! any order, and a law has to hold after each list.
+//!
+//! A [`Network`] is what can be opened: so many routers, links with a cost from each end, and which routers
+//! are attached to which prefixes. `Network::new` refuses the first fault with its place. A [`World`] is such
+//! a network at one moment: routers, links, and each router's attachments with the notices that it has yet to
+//! take. It changes by eight steps alone:
 //!
 //! ```text
 //!   LinkUp    Down    SetCost       of a link: the link changes, and its ends are told
@@ -14,21 +17,27 @@
 //!   Release   the router's front message, if ripe -> its link (or nowhere: the session is over)
 //! ```
 //!
-//! A router's ports are the ends of the links that join it, in the order of the links; the port after the
+//! A router's ports are the ends of the links that join it, in the order of the links. The port after the
 //! last is that of its own notices.
 //!
-//! What always holds of a world (`IsWorld` in `specs/Kept.antt`): each port lies at an end of a link that
-//! no other port has, each router has as many ports as such places, and what it has yet to take at a port
-//! leads from what it knows of the link there, up or down, to what the link is. A step is refused for
-//! its first cause (`causes` of `network_model/specs/Step.antt`), and for want of memory last; a refused
-//! step changes nothing.
+//! What always holds of a world (`IsWorld` in `specs/Kept.antt`): each port lies at an end of a link that no
+//! other port has. What a router has yet to take at a port leads from up or down, as it knows the link, to
+//! what the link is. So a delivery needs no test of the item.
 //!
-//! A [`WatchedWorld`] counts besides what is not at rest, so that whether a world has settled is one
-//! comparison.
+//! A step is refused for its first cause (`causes` of `network_model/specs/Step.antt`), and for want of
+//! memory last. A refused step changes nothing.
 //!
-//! To whom lawful steps lead from the opening of a network without faults, the laws apply: no packet
-//! circles along the published rows, where all is quiet rows lead at least cost, and a network that is left alone comes to rest
-//! there (`headline` of [`World::run`]).
+//! ```text
+//! let mut world = World::open(alloc, &network)?;
+//! world.step(Step::LinkUp { link: 0 })?;
+//! while let Some(step) = world.next_step(0) { world.step(step)?; }     // all that router 0 can do now
+//! ```
+//!
+//! A [`WatchedWorld`] counts besides what is not at rest, so one comparison tells if a world has settled.
+//!
+//! If lawful steps lead to a world from the opening of a network without faults, the laws apply (`headline`
+//! of [`World::run`]). No packet circles along the published rows. In a quiet world rows lead at least cost.
+//! And a network that is left alone comes to rest there.
 #![tactic(auto)]
 
 mod attachments;
