@@ -1,5 +1,9 @@
 //! A network that runs, with each router's image in force and the journal of all steps done.
 //!
+//! The problem: a world knows which rows a router has published, and packets are forwarded by images, which
+//! readers use while they change. What the one says and what the others do must never part, also if memory is
+//! refused in between.
+//!
 //! ```text
 //!   Fabric
 //!     network   the network that was opened, without faults
@@ -9,22 +13,29 @@
 //!     readers   one a router, by which the fabric looks up itself; workers are given others
 //! ```
 //!
-//! A step other than a publication is the world's, and is written into the journal. A publication makes
-//! the patch of the rows that differ, and of those that a refused publication left waiting, hands it to
-//! the router's writer, and only then does the world's step, which cannot fail any more: what is in force
-//! and what the world says of it never part.
+//! A step other than a publication is the world's, and is written into the journal. A publication first makes
+//! the patch of the rows that differ, and of those that a refused publication left waiting. Then it hands the
+//! patch to the router's writer. Only then it does the world's step, which cannot fail any more.
 //!
-//! A writer may *go out*: [`Fabric::ticket`] hands it over with the patch that is due, a holder publishes
-//! it with no hand on the fabric, and [`Fabric::give_back`] makes that the step `Publish`, or leaves all
-//! as it was where nothing was published. Meanwhile deliveries and publications at that router are refused
+//! A writer may *go out*. [`Fabric::ticket`] hands it over with the patch that is due, and its holder
+//! publishes that while the fabric goes on. [`Fabric::give_back`] makes that the step `Publish`, or leaves
+//! all as it was if nothing was published. Meanwhile deliveries and publications at that router are refused
 //! with `Busy`, and all other steps go on.
 //!
-//! What always holds of a fabric (`IsFabric` in `specs/Fabric.antt`, and the files beside it): the world
-//! is the run of the journal; each image in force has the rows that its router published; each writer that
-//! is out has a patch that is still due. From that come the four parts of the headline, which `open`,
-//! `step`, `run` and `holds` hand on: `forwards`, `no_loop`, `least_cost` and `converges`.
+//! ```text
+//! let (mut fabric, readers) = Fabric::<B>::open(&rt, alloc, network, unnamed, 0)?;
+//! fabric.step(&rt, Step::LinkUp { link: 0 })?;
+//! fabric.lookup(0, addr)?                   // what router 0's image in force answers
+//! fabric.close(&rt);
+//! ```
 //!
-//! A fabric is not `Drop`, since a writer ends only by `close`, which waits for its readers.
+//! What always holds of a fabric (`IsFabric` in `specs/Fabric.antt`): the world is the run of the journal.
+//! Each image in force has the rows that its router published. Each writer that is out has a patch that is
+//! still due (`LentAreDue` in `specs/Writers.antt`). From these come the four parts of the headline, which
+//! `open`, `step`, `run` and `holds` hand on: `forwards`, `no_loop`, `least_cost` and `converges`.
+//!
+//! What is tricky: a fabric is not `Drop`, because a writer ends only by `close`, which waits for its
+//! readers.
 #![tactic(auto)]
 
 ghost use Rattle.fabric.specs.Ahead.{SomePacketGoesAhead};

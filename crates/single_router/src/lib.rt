@@ -1,9 +1,13 @@
 //! One router of a network whose other routers are elsewhere: in other processes, or on other machines.
 //!
-//! A program hands a [`SingleRouter`] what its links bring (an [`Input`] each: a link that comes up or
-//! goes down, a cost, a message, an attachment), publishes where that is due, and puts the messages on
-//! their links that the router then releases. All comes and goes as numbers, as a program in C has them;
-//! each is tested, and what is refused changes nothing.
+//! The problem: a daemon has one router, and no world. Its links are connections, which begin and end by
+//! themselves, and its neighbours may be wrong or hostile. So it needs the network's router by itself, which
+//! tests whatever it is told.
+//!
+//! A program hands a [`SingleRouter`] what its links bring, an [`Input`] each. That is a link that comes up
+//! or goes down, a cost, a message, or an attachment. It publishes when that is due, and puts the messages on
+//! their links that the router then releases. All comes and goes as numbers, as a program in C has them. Each
+//! is tested, and what is refused changes nothing.
 //!
 //! ```text
 //!   connection, timer ──> Input ──> tell ──> ┌────────────┐ ──> publish ──> rows ──> the program's image
@@ -11,13 +15,24 @@
 //!   connection <──────── Frame <── release ──└────────────┘
 //! ```
 //!
-//! What the router does with an input is what the network's definitions say of the router that takes such
-//! an item or notice (`router_accepting`, `router_at_home` in `network_model/specs/Step.antt`).
+//! ```text
+//! router.tell(&Input::up(0, 1, 10)?)?;             // port 0 came up in session 1, at cost 10
+//! let published = router.publish(&mut rows)?;      // put these rows in force before you go on
+//! let frame = router.release()?;                   // for a port and a session; 18 if nothing may leave
+//! ```
+//!
+//! What always holds: an input does to the router what such an item or notice does to one of a network
+//! (`router_accepting`, `router_at_home` in `network_model/specs/Step.antt`). It knows at most as many
+//! prefixes as it was made for.
+//!
+//! What is tricky: three kinds of message are refused though they are well formed, because no router sends
+//! them. These are a reply that is not awaited (38), a second query before the first is answered (39), and a
+//! message of another session (36).
 //!
 //! What is proved of many such routers, each in a process of its own, stands above this crate, because it
-//! speaks of its definitions: `daemon_laws::no_packet_circles` (no packet meets a router twice, whatever
-//! happens), `daemon_laws::none_refused`, `daemons_come_to_rest::processes_converge`. docs/8-daemons.md has
-//! the five duties that these laws ask of a program.
+//! speaks of its definitions. `daemon_laws::no_packet_circles`: no packet meets a router twice, whatever
+//! happens. `daemon_laws::none_refused` and `daemons_come_to_rest::processes_converge` say the rest.
+//! docs/8-daemons.md has the five duties that these laws ask of a program.
 #![tactic(auto)]
 
 mod frame;
