@@ -29,9 +29,9 @@
 //! files of cases.
 //!
 //! What is tricky: the fault itself is never decided here. `plans` has decided it, and this crate only looks
-//! for words that explain it. If it finds none, it prints the line and the page of the number. The place of a
-//! string is found by a scan of the text, which gives up at strings of several lines. Then no line number is
-//! told.
+//! for words that explain it. If it finds none, it prints the line, when the number comes, and what to do.
+//! The place of a string is found by a scan of the text, which gives up at strings of several lines. Then no
+//! line number is told.
 //!
 //! The nearest command is found by the edit distance of V. I. Levenshtein, of 2 at most (`strsim`).
 #![tactic(auto)]

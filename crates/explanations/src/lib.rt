@@ -2,7 +2,7 @@
 //!
 //! The problem: a fault is told in a few letters, as `45 BadCommand`, so that people and programs can tell it
 //! from others. That is too short for somebody who meets it for the first time. So `dualnet explain 45`
-//! prints the page of that number, and `--explain` prints it below a fault:
+//! prints the page of that number, and `--explain` prints two of its lines below a fault:
 //!
 //! ```text
 //! 4 HostBits

@@ -1,8 +1,8 @@
 //! A network that runs, with each router's image in force and the journal of all steps done.
 //!
-//! The problem: a world knows which rows a router has published, and packets are forwarded by images, which
-//! readers use while they change. What the one says and what the others do must never part, also if memory is
-//! refused in between.
+//! The problem: a world knows which rows a router has published, and packets are forwarded by images, in
+//! which readers look up at any moment. What the one says and what the others do must never part, also if
+//! memory is refused in between.
 //!
 //! ```text
 //!   Fabric

@@ -17,7 +17,7 @@
 //! - A distance is null if no way is known (`distance_json`), and a row's prefix and entry are null if none
 //!   was found.
 //! - What `--explain` adds has kinds of its own: `awaits`, `owes`, `attached`, `neighbour`.
-//! - The last line of a run or of a replay is an [`EndLine`].
+//! - The last line of a run, or of a replay of which no step is refused, is an [`EndLine`].
 //!
 //! What always holds: a line is the text of its definition, to the byte (`row_json`, `trace_json`,
 //! `machine_json` and others in `specs/Lines.antt`). There are no spaces between the parts. A line is written

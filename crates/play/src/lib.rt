@@ -28,9 +28,9 @@
 //!
 //! What always holds: each command of the command line comes to an end that its definition names, with the
 //! status of that end. Or it stops for a fault that holds of what was read, with the status of that fault
-//! (`IsPlayed` in `specs/Outcomes.antt`). So a run ends with 0 only if its script was done to the end, each
-//! step lawful (`IsRunToEnd` in `specs/Runs.antt`). `AreDone` in `specs/Commands.antt` says what each command
-//! does.
+//! (`IsPlayed` in `specs/Outcomes.antt`). So a run ends with 0 only if its script was done to the end, and
+//! each step that was done was lawful (`IsRunToEnd` in `specs/Runs.antt`). `AreDone` in `specs/Commands.antt`
+//! says what each command does.
 //!
 //! What is tricky: a write that fails is lost, and changes nothing else. What is printed is not in these
 //! clauses, but for the texts of single lines. [`play_by`] is the same with other thresholds for threads and

@@ -14,7 +14,7 @@
 //! - `scenario_path`, `replayed_path` and `kept_path` say which file is which: the scenario, the journal that
 //!   is read, and the journal that is written. [`is_read`] says so for `dualnet-view`.
 //! - [`open_file`] never fails. A file that cannot be opened is `Source::Missing`, and each read of it fails.
-//!   So that it is unreadable is found where all other faults of the scenario are found (`plans`).
+//!   So `plans` finds that it is unreadable, as it finds all other faults of a scenario.
 //! - [`tell`] prints an error of the command line, or the help that was asked for, and answers the status.
 //!
 //! What always holds: the paths are those that the definition reads off the words (`specs/Paths.antt`). Two

@@ -15,7 +15,7 @@
 //! The second law ([`quiet_routes`]): in a quiet network each router has its best row for each prefix
 //! (`HasBestRow` in `specs/Routes.antt`). If links that are up lead to an attached router, its row is
 //! `Local`, or begins a chain of rows to a `Local` one. The chain costs what the router reports, and no way
-//! to an attached router costs less. The cost of the attachment counts. If no link leads to one, the row is
+//! to an attached router costs less. The cost of the attachment counts. If no links lead to one, the row is
 //! `Unreachable`, or the prefix is unheard.
 //!
 //! Why it is true: what a prefix sees of a quiet world is a quiet network of one destination

@@ -5,7 +5,7 @@
 //! stays as it was in a step. So a line has only what is new, and whoever reads the lines in order has the
 //! whole state.
 //!
-//! - A *book* has what was shown last of a link or of a router, and a *mark* if that may have changed. A
+//! - A *book* has what was shown last of a link or of a router. Its *mark* says if that may have changed. A
 //!   router's book has a mark for each of its machines, too.
 //! - A *recorder* has a book for each link and each router, and the prefixes in their order.
 //! - A *change* says what became of a link or a router since it was shown. Of a queue it says: so many items

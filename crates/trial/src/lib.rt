@@ -26,9 +26,9 @@
 //! What always holds: what [`play_in_memory`] gives is an end or a fault of that command (`Gave` in
 //! `specs/Outcomes.antt`), as `play` promises.
 //!
-//! What is tricky: a case with a wrong file would pass if nobody counted. So `Tally::is_right` is false if
-//! there was no case at all. And `soak::is_good` only says what is made of two statuses. That they are those
-//! of a run and its replay is seen in the code of `trials`.
+//! What is tricky: in a file without cases no case is wrong. So `Tally::is_right` is false if there was none.
+//! And `soak::is_good` only says what is made of two statuses. That they are those of a run and its replay is
+//! seen in the code of `trials`.
 #![tactic(auto)]
 
 pub mod case;

@@ -1,8 +1,8 @@
 //! A network of routers and links, and its atomic steps.
 //!
 //! The problem: what a network does is a mixture of what many routers do at once. To speak of all mixtures,
-//! one takes steps that are so small that each is done whole or not at all. Then a run is a list of steps, in
-//! any order, and a law has to hold after each list.
+//! you need steps so small that each is done whole or not at all. Then a run is a list of steps, in any
+//! order, and a law has to hold after each list.
 //!
 //! A [`Network`] is what can be opened: so many routers, links with a cost from each end, and which routers
 //! are attached to which prefixes. `Network::new` refuses the first fault with its place. A [`World`] is such
