@@ -1,0 +1,132 @@
+-- Packets that are followed along the images in force.
+use Rattle.std.proofs.Common.{refl, sym, ap, subst, ◌∙◌, arith, ◌≡◌, ◌≢◌, ℕ, zero, suc, ◌<◌, ◌≤◌, List, [], ◌∷◌, ◌++◌, append_assoc, length, take, drop, Option, Some, None, option_map, option_and_then, slice_get}
+use Rattle.packet_loops.proofs.Common.{slice_get-map, IsNetwork, Prefix, Entry, Local, Via, Unreachable, Ending, Router, World, Image, image_answer, longest_match, row_for, entry_leads, Onward, Ends, Goes, over_link, by_entry, by_row, onward, Trace, traced_by, None_not_Some, Some_injective}
+use Rattle.packet_loops.proofs.Traces.{by_entry-goes}
+use Rattle.network_model.specs.Forwarding.{hop}
+use Rattle.all_packets.specs.Packets.{IsWay}
+use Rattle.all_packets.specs.Through.{through_from}
+use Rattle.simulation.specs.InForce.{image_in_force, images_in_force}
+use Rattle.simulation.specs.Runs.{LeadsToRouters}
+use Rattle.all_packets.proofs.Ways.{always_no_circles, always_ways_end, way_moves}
+use Rattle.simulation.specs.Simulation.{Simulation, IsSimulation}
+use Rattle.simulation.proofs.Headline.{along_images}
+use Rattle.simulation.specs.Tracing.{HasShortWays, IsTraced, passed}
+
+-- what the image in force at a router answers is the row that the router published
+pub row_is : (w : World) (i addr : ℕ) (images : List Image) (image : Image) → images ≡ images_in_force w → slice_get images i ≡ Some image → image_answer image addr ≡ row_for w i addr
+row_is w i addr images image shown here = by_router (slice_get w.routers i) (sym (slice_get-map image_in_force w.routers i) ∙ ap (λ xs. slice_get xs i) (sym shown) ∙ here)
+  where
+    by_router : (o : Option Router) → option_map image_in_force o ≡ Some image → image_answer image addr ≡ option_and_then (λ (r : Router). longest_match addr (r.table).published) o
+    by_router None at = absurd (None_not_Some at)
+    by_router (Some r) at = ap (λ x. image_answer x addr) (sym (Some_injective at))
+
+-- ---- where a packet goes on, and how it ends
+
+-- where it goes on by a row, the row leads there
+row_leads : (w : World) (i : ℕ) (row : Option (Prefix × Entry)) (q : Prefix) (k : ℕ) → by_row w i None row ≡ Goes q k → (option_and_then (λ r. entry_leads w i r.1) row ≡ Some k) × ((e : Entry) × (entry_leads w i e ≡ Some k))
+row_leads w i None q k h = absurd (let none : ⊥ = cc in none)
+row_leads w i (Some r) q k h = let leads = (by_entry-goes w i r.0 r.1 q k h).1 in (leads, (r.1, leads))
+
+-- a packet that goes on goes to a router of the world
+pub goes_known : (w : World) → LeadsToRouters w → (addr i : ℕ) (q : Prefix) (k : ℕ) → onward w addr None i ≡ Goes q k → k < length w.routers
+goes_known w known addr i q k is = let G = (row_leads w i (row_for w i addr) q k is).1 in known i G.0 k G.1
+
+entry_ends : (w : World) (i : ℕ) (p : Prefix) (e : Entry) (end : Ending) → by_entry w i p e ≡ Ends end → end ≢ Ending.Crossed
+entry_ends w i p Local end h = λ crossed. (let none : ⊥ = cc in none)
+entry_ends w i p Unreachable end h = λ crossed. (let none : ⊥ = cc in none)
+entry_ends w i p (Via q session) end h = by_far (entry_leads w i (Via q session)) h
+  where
+    by_far : (o : Option ℕ) → over_link p o ≡ Ends end → end ≢ Ending.Crossed
+    by_far None is = λ crossed. (let none : ⊥ = cc in none)
+    by_far (Some k) is = absurd (let none : ⊥ = cc in none)
+
+row_ends : (w : World) (i : ℕ) (row : Option (Prefix × Entry)) (end : Ending) → by_row w i None row ≡ Ends end → end ≢ Ending.Crossed
+row_ends w i None end h = λ crossed. (let none : ⊥ = cc in none)
+row_ends w i (Some r) end h = entry_ends w i r.0 r.1 end h
+
+-- a packet that ends at a router does not end because another prefix matches
+pub real_end : (w : World) (addr i : ℕ) (end : Ending) → onward w addr None i ≡ Ends end → end ≢ Ending.Crossed
+real_end w addr i end is = row_ends w i (row_for w i addr) end is
+
+-- ---- traces of at most so many routers
+
+-- the trace that does this at router i, and then may pass n routers more
+abbrev onwards : ℕ → World → ℕ → ℕ → Onward → Trace
+onwards n w addr i o = traced_by (λ p k. through_from n w addr k) i o
+
+-- a trace with these routers passed before it
+abbrev pub behind : List ℕ → Trace → Trace
+behind before t = record { path = before ++ t.path; end = t.end }
+
+module _ (w : World) (addr : ℕ) where
+  -- where it ends at the router
+  pub ends_here : (n i : ℕ) (before : List ℕ) (end : Ending) → onward w addr None i ≡ Ends end → behind before (through_from (suc n) w addr i) ≡ passed (before ++ i ∷ []) (Some end)
+  ends_here n i before end is = ap (λ o. behind before (onwards n w addr i o)) is
+
+  -- where it goes on from the router
+  pub goes_on : (n i : ℕ) (before : List ℕ) (p : Prefix) (k : ℕ) → onward w addr None i ≡ Goes p k → behind before (through_from (suc n) w addr i) ≡ behind (before ++ i ∷ []) (through_from n w addr k)
+  goes_on n i before p k is =
+      let rest : Trace = through_from n w addr k in
+      ap (λ o. behind before (onwards n w addr i o)) is ∙ ap (λ (xs : List ℕ). passed xs rest.end) (sym (append_assoc before (i ∷ []) rest.path))
+
+  ahead : (n i k : ℕ) → hop w addr i ≡ Some k → IsWay w addr (through_from n w addr k).path → IsWay w addr (i ∷ (through_from n w addr k).path)
+  ahead zero i k goes h = tt
+  ahead (suc n) i k goes h = by_onward (onward w addr None k) h
+    where
+      by_onward : (o : Onward) → IsWay w addr (onwards n w addr k o).path → IsWay w addr (i ∷ (onwards n w addr k o).path)
+      by_onward (Ends end) way = (goes, way)
+      by_onward (Goes q j) way = (goes, way)
+
+  -- the path of a trace is a way
+  pub is_way : (n i : ℕ) → IsWay w addr (through_from n w addr i).path
+  is_way zero i = tt
+  is_way (suc n) i = by_onward (onward w addr None i) refl (is_way n)
+    where
+      by_onward : (o : Onward) → onward w addr None i ≡ o → ((k : ℕ) → IsWay w addr (through_from n w addr k).path) → IsWay w addr (onwards n w addr i o).path
+      by_onward (Ends end) is rest = tt
+      by_onward (Goes q k) is rest = ahead n i k (row_leads w i (row_for w i addr) q k is).0 (rest k)
+
+  -- a trace that is left unfinished after n routers is a way of one more
+  abbrev Long : ℕ → ℕ → Type 0
+  Long n i = (ks : List ℕ) × (length ks ≡ n) × IsWay w addr (i ∷ ks)
+
+  pub long : (n i : ℕ) → (through_from n w addr i).end ≡ None → Long n i
+  long zero i h = ([], refl, tt)
+  long (suc n) i h = by_onward (onward w addr None i) refl h (long n)
+    where
+      by_onward : (o : Onward) → onward w addr None i ≡ o → (onwards n w addr i o).end ≡ None → ((k : ℕ) → (through_from n w addr k).end ≡ None → Long n k) → Long (suc n) i
+      by_onward (Ends end) is none rest = absurd (None_not_Some (sym none))
+      by_onward (Goes q k) is none rest =
+          let (ks, count, way) = rest k none in
+          (k ∷ ks, ap suc count, ((row_leads w i (row_for w i addr) q k is).0, way))
+
+-- ---- what is told of a packet that was followed
+
+-- a trace that was written
+pub traced : (s : Simulation) → HasShortWays s → (addr i : ℕ) (old new : List ℕ) (count : ℕ) (end : Option Ending) → count ≤ length old → drop count new ≡ drop count old
+    → passed (take count new) end ≡ through_from (length old) s.world addr i → IsTraced s addr i old new count end
+traced s ways addr i old new count end room rest is =
+    let way : IsWay s.world addr (take count new) = subst (λ (t : Trace). IsWay s.world addr t.path) (sym is) (is_way s.world addr (length old) i) in
+    record {
+      trace = is;
+      room = room;
+      rest = rest;
+      way = ways.in_force addr (take count new) way;
+      no_loop = ways.none_twice addr (take count new) way;
+    }
+
+-- where there is room for all routers it does not end before the packet
+pub unfinished : (s : Simulation) → HasShortWays s → (addr i : ℕ) (old new : List ℕ) → i < length s.world.routers → length s.world.routers ≤ length old → passed new None ≡ through_from (length old) s.world addr i → ⊥
+unfinished s ways addr i old new known room is =
+    let (ks, count, way) = long s.world addr (length old) i (sym (ap (λ (t : Trace). t.end) is)) in
+    let short = ways.short addr i ks known way in
+    omega (arith, count, short, room)
+
+-- ---- what holds of the ways of every simulation
+
+pub short_ways : (s : Simulation) → IsSimulation s → IsNetwork s.network → HasShortWays s
+short_ways s kept valid = record {
+  in_force = along_images s kept;
+  none_twice = always_no_circles s.network kept.done s.world valid kept.runs;
+  short = λ addr i ks known way. always_ways_end s.network kept.done s.world valid kept.runs addr i ks known (way_moves s.world addr (i ∷ ks) way);
+}

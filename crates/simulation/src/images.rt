@@ -1,0 +1,110 @@
+//! The images by which routers forward.
+
+ghost use Rattle.std.specs.Prelude.{ℕ, None, Err, ◌≡◌, ◌+◌, ◌^◌, ◌<◌, map, IfOk, IfErr, IsSome, IsOk, OnOk, OnErr, MatchOption};
+ghost use Rattle.network_model.specs.Step as steps;
+ghost use Rattle.network_model.specs.Step.{router_publishing};
+ghost use Rattle.world.specs.Steps.{DeliversWithRoom, DiscardsStale, HasRoomForSteps, IsDoneOr};
+ghost use Rattle.simulation.specs.InForce.{chosen_image, due_at, image_in_force, images_in_force, IsPatchDue};
+ghost use Rattle.image_patch.specs.Patches.{patched};
+
+use image_compiler::compile;
+use image_patch::{Apply, Patch};
+use network_model::{NoMemory, Refusal, SmallAllocator, Step};
+use router_core::Router;
+use tree_bitmap::Image;
+use world::{WatchedWorld, World};
+
+// What a publication of the router would set in its image, did it publish now.
+fn next_patch<A: SmallAllocator>(alloc: A, router: &Router<A>) -> Result<Patch<A>, NoMemory>
+    requires { router.now.generation + 1 < 2 ^ 64 }
+    ensures { IfOk result (λ patch. patched patch.generation patch.rows.items
+        (image_in_force router.now) ≡ image_in_force (router_publishing router.now)) }
+{
+    let rows = router.patch_rows(alloc)?;
+    Ok(Patch {
+        generation: router.generation() + 1,
+        rows,
+    })
+}
+
+// What a publication of the router would set in its image; None where it would be refused.
+fn patch_due<A: SmallAllocator>(
+    alloc: A,
+    world: &World<A>,
+    router: u16,
+) -> Result<Option<Patch<A>>, NoMemory>
+    requires { HasRoomForSteps 1 world.now }
+    ensures due { IfOk result (IsPatchDue world.now router) }
+    ensures err { IfErr result (λ e. IsSome (due_at world.now router)) }
+{
+    let Some(publisher) = world.routers().get(usize::from(router)) else {
+        return Ok(None);
+    };
+    if !publisher.due() {
+        return Ok(None);
+    }
+    Ok(Some(next_patch(alloc, publisher)?))
+}
+
+// Does a step of the world; a publication puts the router's image in force, too. Refused, it leaves both as
+// they were.
+pub fn forward<A: SmallAllocator>(
+    alloc: A,
+    world: &mut WatchedWorld<A>,
+    images: &mut Vec<Image<A>, A>,
+    step: Step,
+) -> Result<(), Refusal>
+    requires room { HasRoomForSteps 1 world.old }
+    requires in_force { images.old.items ≡ images_in_force world.old }
+    ensures ok { OnOk result (steps.Lawful world.old step × (world.new ≡ steps.next world.old step)) }
+    ensures err { OnErr result (world.new ≡ world.old) }
+    ensures in_force { images.new.items ≡ images_in_force world.new }
+    ensures cause { IsDoneOr (steps.refusal world.old step) result }
+    ensures down { (l : ℕ) → step ≡ Step.LinkDown l
+        → MatchOption (steps.refusal world.old step) (IsOk result) (λ e. result ≡ Err e) }
+    ensures stale { DiscardsStale world.old step result }
+    ensures room { DeliversWithRoom world.old step result }
+{
+    match step {
+        Step::Publish { router } => publish(alloc, world, images, router),
+        _ => world.step(step),
+    }
+}
+
+// Patches a router's image with what is due there, and does the world's step `Publish` then, which cannot
+// fail any more. Refused, it leaves both as they were.
+fn publish<A: SmallAllocator>(
+    alloc: A,
+    world: &mut WatchedWorld<A>,
+    images: &mut Vec<Image<A>, A>,
+    router: u16,
+) -> Result<(), Refusal>
+    requires room { HasRoomForSteps 1 world.old }
+    requires in_force { images.old.items ≡ images_in_force world.old }
+    ensures ok { OnOk result (steps.Lawful world.old (Step.Publish router)
+        × (world.new ≡ steps.next world.old (Step.Publish router))) }
+    ensures err { OnErr result (world.new ≡ world.old) }
+    ensures in_force { images.new.items ≡ images_in_force world.new }
+    ensures cause { IsDoneOr (steps.refusal world.old (Step.Publish router)) result }
+{
+    let Some(patch) = patch_due(alloc, world.world(), router)? else {
+        return world.step(Step::Publish { router });
+    };
+    images[usize::from(router)].apply(&patch)?;
+    world.step(Step::Publish { router }).unwrap();
+    Ok(())
+}
+
+// The image of the rows that each router has chosen, of generation 0.
+pub fn opening_images<A: SmallAllocator>(
+    alloc: A,
+    world: &World<A>,
+) -> Result<Vec<Image<A>, A>, NoMemory>
+    ensures { IfOk result (λ images. images.items ≡ map chosen_image (world.now).routers) }
+{
+    let mut images = Vec::new(alloc);
+    for router in world.routers() {
+        images.push(compile(alloc, router.table())?)?;
+    }
+    Ok(images)
+}

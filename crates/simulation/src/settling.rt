@@ -1,0 +1,131 @@
+//! Turns of routers until nothing is left to do.
+
+ghost use Rattle.std.specs.Prelude.{ℕ, ◌≡◌, ◌<◌, None, Some, IfSome};
+ghost use Rattle.network_model.specs.Turns as turns;
+
+use crate::watch::Watch;
+use network_model::{SmallAllocator, Step};
+use world::World;
+
+/// In which order routers take turns.
+#[derive(Clone, Copy, Debug, PartialEq, Eq)]
+pub enum Order {
+    /// In ascending cyclic order, from router 0 on.
+    Cyclic,
+    /// In a pseudo-random order, which the seed determines: after each turn a router is drawn, and from it on
+    /// the first that has something to do is next.
+    Seeded(u64),
+}
+
+// The generator xorshift of 64 bits (G. Marsaglia, Xorshift RNGs, 2003). Its state is never 0.
+#[derive(Clone, Copy)]
+struct Draws {
+    state: u64,
+}
+
+impl Draws {
+    fn new(seed: u64) -> Draws {
+        Draws {
+            state: if seed == 0 { u64::MAX } else { seed },
+        }
+    }
+
+    fn draw(&mut self) -> u16 {
+        let mut state = self.state;
+        state ^= state << 13;
+        state ^= state >> 7;
+        state ^= state << 17;
+        self.state = state;
+        u16::try_from(state >> 48).unwrap_or(0)
+    }
+}
+
+/// From where on a router is looked for that takes the next turn.
+#[derive(Clone, Copy)]
+pub struct Turns {
+    order: Order,
+    draws: Draws,
+    routers: u16,
+    from: u16,
+}
+
+impl Turns {
+    /// The first turn, in a network of so many routers.
+    pub fn new(order: Order, routers: u16) -> Turns {
+        let seed = match order {
+            Order::Cyclic => 0,
+            Order::Seeded(seed) => seed,
+        };
+        let mut turns = Turns {
+            order,
+            draws: Draws::new(seed),
+            routers: routers.max(1),
+            from: 0,
+        };
+        turns.after(u16::MAX);
+        turns
+    }
+
+    /// From where on.
+    pub fn from(&self) -> u16 {
+        self.from
+    }
+
+    /// The turn after that of this router.
+    pub fn after(&mut self, router: u16) {
+        self.from = match self.order {
+            Order::Cyclic => router.wrapping_add(1),
+            Order::Seeded(_) => self.draws.draw() % self.routers.max(1),
+        };
+    }
+}
+
+// Of the routers that may have something to do the first from this one on that has, and what that is. Those that
+// have nothing to do are taken out.
+fn first_watched<A: SmallAllocator>(
+    world: &World<A>,
+    watch: &mut Watch<A>,
+    from: u16,
+) -> Option<(u16, Step)>
+    ensures { IfSome result (λ d. turns.next_step world.now d.0 ≡ Some d.1) }
+{
+    for _ in 0..=u16::MAX {
+        let router = watch.next(from)?;
+        if let Some(step) = world.next_step(router) {
+            return Some((router, step));
+        }
+        watch.remove(router);
+    }
+    None
+}
+
+// The first of all routers that has something to do, and what that is.
+fn first_of_all<A: SmallAllocator>(world: &World<A>, routers: u16) -> Option<(u16, Step)>
+    ensures some { IfSome result (λ d. turns.next_step world.now d.0 ≡ Some d.1) }
+    ensures none { result ≡ None → (i : ℕ) → i < routers → turns.next_step world.now i ≡ None }
+{
+    for router in 0..routers {
+        match world.next_step(router) {
+            Some(step) => return Some((router, step)),
+            None => {}
+        }
+    }
+    None
+}
+
+// A router that has something to do, and what that is. Where the hint has none, all are asked.
+pub fn first_due<A: SmallAllocator>(
+    world: &World<A>,
+    watch: &mut Watch<A>,
+    routers: u16,
+    from: u16,
+) -> Option<(u16, Step)>
+    ensures some { IfSome result (λ d. turns.next_step world.now d.0 ≡ Some d.1) }
+    ensures none { result ≡ None → (i : ℕ) → i < routers → turns.next_step world.now i ≡ None }
+{
+    let found = first_watched(world, watch, from);
+    if found.is_some() {
+        return found;
+    }
+    first_of_all(world, routers)
+}
