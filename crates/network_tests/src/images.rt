@@ -11,13 +11,13 @@ fn set(rt: &impl Abort, image: &mut Image, text: &str, port: u8) {
 }
 
 // The longest match of an address is this row.
-pub(crate) fn finds(rt: &impl Abort, image: &Image, at: &str, text: &str, entry: Entry) {
+fn finds(rt: &impl Abort, image: &Image, at: &str, text: &str, entry: Entry) {
     let row = (prefix(rt, text), entry);
     assert_eq!(rt; image.lookup(addr(rt, at)), Some(row), "at {at}");
 }
 
 // Six rows, of which some lie in others, each by way of a port of its own.
-pub const NESTED: [(&str, u8); 6] = [
+pub(crate) const NESTED: [(&str, u8); 6] = [
     ("192.0.0.0/3", 1),
     ("192.0.0.0/4", 2),
     ("192.0.2.224/27", 3),
@@ -26,7 +26,7 @@ pub const NESTED: [(&str, u8); 6] = [
     ("192.0.2.255/32", 6),
 ];
 
-pub fn set_nested(rt: &impl Abort, image: &mut Image) {
+fn set_nested(rt: &impl Abort, image: &mut Image) {
     for (prefix, port) in NESTED {
         set(rt, image, prefix, port);
     }

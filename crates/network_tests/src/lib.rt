@@ -11,7 +11,8 @@
 //! ```text
 //!   addresses, values                 texts that are no prefixes; values of several tests
 //!   pools, node_pools, word_pools     blocks that are taken and given back
-//!   images, rows, patches, compiled   rows that are set, listed and taken out, and looked up
+//!   images, array_images              rows that are set, listed and taken out, and looked up
+//!   patches, compiled                 images of tables, and what patches make of them
 //!   machines, replies                 worked tables of one machine, with origin states and awaited ports
 //!   links, tables, gates, routers, worlds
 //!   refusals                          want of memory
@@ -58,8 +59,6 @@ mod refusals;
 mod replies;
 #[cfg(test)]
 mod routers;
-#[cfg(test)]
-mod rows;
 #[cfg(test)]
 mod tables;
 #[cfg(test)]

@@ -1,4 +1,3 @@
-pub mod Shrinking
 pub mod Writes
 pub mod Links
 pub mod Blocks

@@ -73,30 +73,3 @@ module _ {T : Type 0} where
     pub high : (t : ℕ) → place ≤ t → t < size → new (base' + (t + 1)) ≡ old (base + t)
     pub freed : (k : ℕ) → base ≤ k → k < base + size → new k ≡ None
     pub other : (k : ℕ) → (base ≤ k → k < base + size → ⊥) → (base' ≤ k → k < base' + (size + 1) → ⊥) → new k ≡ old k
-
-  -- a block of `size` cells at `base` stands without its cell at `place` from `base'` on now, which may be `base`; what is left of it is free
-  pub record IsShrunk (old new : ℕ → Option T) (base size place base' : ℕ) : Type 0 where
-    pub low : (t : ℕ) → t < place → new (base' + t) ≡ old (base + t)
-    pub high : (t : ℕ) → place ≤ t → t + 1 < size → new (base' + t) ≡ old (base + (t + 1))
-    pub fresh : (k : ℕ) → base' ≤ k → k + 1 < base' + size → (base ≤ k → k < base + size → ⊥) → old k ≡ None
-    pub freed : (k : ℕ) → base ≤ k → k < base + size → (base' ≤ k → k + 1 < base' + size → ⊥) → new k ≡ None
-    pub other : (k : ℕ) → (base ≤ k → k < base + size → ⊥) → (base' ≤ k → k + 1 < base' + size → ⊥) → new k ≡ old k
-
-  -- the cells of a block after `place` have moved down by one
-  pub record IsClosed (old new : ℕ → Option T) (base size place : ℕ) : Type 0 where
-    pub moved : (t : ℕ) → place ≤ t → t + 1 < size → new (base + t) ≡ old (base + (t + 1))
-    pub below : (k : ℕ) → k < base + place → new k ≡ old k
-    pub above : (k : ℕ) → base + size ≤ k + 1 → new k ≡ old k
-
-  -- a block of `size` cells was copied; what is outside the copy stays
-  pub record IsCopied (old new : ℕ → Option T) (from size to : ℕ) : Type 0 where
-    pub inside : (t : ℕ) → t < size → new (to + t) ≡ old (from + t)
-    pub below : (k : ℕ) → k < to → new k ≡ old k
-    pub above : (k : ℕ) → to + size ≤ k → new k ≡ old k
-
-module _ {T A : Type 0} where
-  -- as many cells, as much room and as many free blocks of each size
-  pub record HasSameBlocks (old new : Pool T A) : Type 0 where
-    pub count : cell_count new ≡ cell_count old
-    pub same_room : room new ≡ room old
-    pub blocks : (size : ℕ) → spare new size ≡ spare old size

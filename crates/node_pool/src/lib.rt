@@ -1,8 +1,7 @@
 //! Memory for the nodes and results of a tree: blocks of cells, taken and given back.
 //!
 //! The problem: an image changes row by row for as long as its router runs. A new row makes blocks of
-//! children or results a cell larger, and a row that goes makes them smaller. To take a row out must never be
-//! refused for want of memory.
+//! children or results a cell larger. The block that it leaves must be found again without memory.
 //!
 //! So all cells of one kind stand in one vector, a [`Pool`]. The *place* of its first cell, a number of 32
 //! bits, names a block. A free block names the next free one of its size in its own first cell, so to give a
@@ -13,14 +12,11 @@
 //! let a = pool.take(2, x)?;           // cells 0 and 1         [x x]
 //! let b = pool.grow(a, 2, 1, y)?;     // cells 2, 3 and 4      (f f)[x y x]     (f) is a free cell
 //! let c = pool.take(2, z)?;           // cells 0 and 1 again   [z z][x y x]     it takes no memory
-//! let b = pool.shrink(b, 3, 1);       // the same place        [z z][x x](f)
 //! ```
 //!
 //! - `take` uses a free block of the very size, if there is one. If not, the pool gets more cells at its end.
 //! - `grow` moves a block to one that is a cell larger, with a gap for the new value. The old block is free
 //!   then.
-//! - `shrink` moves a block to a free one that is a cell smaller. If there is none, the block stays, and only
-//!   its last cell is free. So it needs no memory.
 //! - `reserve` makes room first. Then takes that ask for no more cells than this are not refused.
 //!
 //! The words: the *spare* of a size is how many free blocks of it there are. The *room* is how many cells can

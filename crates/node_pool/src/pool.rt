@@ -1,6 +1,6 @@
 //! A pool of cells, in which blocks are taken and given back.
 
-ghost use Rattle.std.specs.Prelude.{◌≡◌, ◌≢◌, ℕ, ◌+◌, ◌-◌, ◌*◌, ◌<◌, ◌≤◌, ◌^◌, ◌⊎◌, Some, None, IsOk, IfOk, OnOk, OnErr, is_some, true, vec_len};
+ghost use Rattle.std.specs.Prelude.{◌≡◌, ◌≢◌, ℕ, ◌+◌, ◌-◌, ◌<◌, ◌≤◌, ◌^◌, Some, None, IsOk, IfOk, OnOk, OnErr, is_some, true, vec_len};
 ghost use Rattle.node_pool.specs.FreeLists.{IsLinked};
 
 use crate::cells::{Cell, FreeList, fill, next_of, shift};
@@ -29,7 +29,6 @@ impl<T: Copy, A: Allocator> Pool<T, A> {
     ghost use Rattle.node_pool.specs.Pool.{cell, cell_count, room, spare, HasNoCells, KeepsBlocks};
     ghost use Rattle.node_pool.specs.Pool.{IsNoLarger, IsBehind, IsTaken, IsGrown};
     ghost use Rattle.node_pool.specs.Pool.{IsWritten, IsUsedBlock, HasSameCells};
-    ghost use Rattle.node_pool.specs.Pool.{IsShrunk, IsClosed, IsCopied, HasSameBlocks};
     ghost use Rattle.node_pool.specs.Cell.{IsFilled};
 
     /// A pool with no cells.
@@ -212,72 +211,5 @@ impl<T: Copy, A: Allocator> Pool<T, A> {
             self.give(base, size);
         }
         Ok(to)
-    }
-
-    // Moves the cells of a block after the offset `gap` down by one.
-    fn close_gap(&mut self, base: u32, size: usize, gap: usize)
-        requires gap_in { gap < size }
-        requires few { size ≤ 16 }
-        requires used { IsUsedBlock (cell self.old) base size }
-        ensures closed { IsClosed (cell self.old) (cell self.new) base size gap }
-        ensures used { IsUsedBlock (cell self.new) base size }
-        ensures same { HasSameBlocks self.old self.new }
-    {
-        for i in gap..size - 1 {
-            let next = self.get(self.place(base, i as u32 + 1));
-            self.set(self.place(base, i as u32), next);
-        }
-    }
-
-    // Copies a block to one that lies apart from it.
-    fn copy_block(&mut self, from: u32, size: usize, to: u32)
-        requires few { size ≤ 16 }
-        requires from { IsUsedBlock (cell self.old) from size }
-        requires to { IsUsedBlock (cell self.old) to size }
-        requires apart { (from + size ≤ to) ⊎ (to + size ≤ from) }
-        ensures copied { IsCopied (cell self.old) (cell self.new) from size to }
-        ensures same { HasSameBlocks self.old self.new }
-    {
-        for i in 0..size {
-            let value = self.get(self.place(from, i as u32));
-            self.set(self.place(to, i as u32), value);
-        }
-    }
-
-    /// Moves a block of `size` cells in use to one a cell smaller, without the cell at the offset
-    /// `gap`, and gives the old block back. Where no block of the smaller size was given back before,
-    /// the block stays, and its last cell is given back. It needs no memory.
-    pub fn shrink(&mut self, base: u32, size: usize, gap: usize) -> u32
-        requires gap_in { gap < size }
-        requires few { size ≤ 16 }
-        requires used { IsUsedBlock (cell self.old) base size }
-        ensures cells { IsShrunk (cell self.old) (cell self.new) base size gap result }
-        ensures count { cell_count self.new ≡ cell_count self.old }
-        ensures room { room self.new ≡ room self.old }
-
-        // A free block of the smaller size is taken, where there is one, and then the old one is free.
-        ensures fewer { 1 < size → 0 < spare self.old (size - 1)
-            → spare self.new (size - 1) ≡ spare self.old (size - 1) - 1 }
-        ensures one_more { 1 < size → 0 < spare self.old (size - 1)
-            → spare self.new size ≡ spare self.old size + 1 }
-
-        // Else there is one free cell more.
-        ensures cell_more { (1 < size → spare self.old (size - 1) ≡ 0)
-            → spare self.new 1 ≡ spare self.old 1 + 1 }
-    {
-        self.close_gap(base, size, gap);
-        let rest = size - 1;
-        if rest == 0 || self.spare(rest) == 0 {
-            let last = self.place(base, rest as u32);
-            self.give(last, 1);
-            return base;
-        }
-        let first = self.get(base);
-        let Ok(to) = self.take(rest, first) else {
-            unreachable!()
-        };
-        self.copy_block(base, rest, to);
-        self.give(base, size);
-        to
     }
 }

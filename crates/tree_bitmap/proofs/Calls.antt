@@ -5,7 +5,7 @@ use Rattle.std.proofs.lemmas.Nat.{ones-le}
 use Rattle.std.proofs.lemmas.Nat.Bits.{bit_at-lt}
 use Rattle.std.proofs.lemmas.Bool.{cases_order}
 use mathlib.Core.Path.{fun_ext}
-use Rattle.node_pool.specs.Pool.{IsGrown, IsShrunk, IsWritten}
+use Rattle.node_pool.specs.Pool.{IsGrown, IsWritten}
 use Rattle.tree_bitmap.specs.Bits.{rank, nibble, path_start, internal_bit}
 use Rattle.tree_bitmap.specs.Tree.{blank, node_at, row_at, IsLaidOut, SetsRow, with_child, with_result, IsChild, IsResult}
 use Rattle.tree_bitmap.specs.declared.node.Node.{Node}
@@ -167,8 +167,3 @@ module _ (N : ℕ → Option Node) (G G' : ℕ → Option Entry) (index bit : �
   -- the result is set, and nothing else
   pub over_sets : IsWritten G G' (a.result_base + below) entry → SetsBit N N G G' index bit (Some entry) a a
   over_sets w = replace_sets N G G' index bit entry a sound here has (written_over w)
-
--- a block that was shrunk, by other numbers that are the same
-pub shrunk_as : {T : Type 0} (f g : ℕ → Option T) (base size size' place place' base' : ℕ) → size ≡ size' → place ≡ place' → IsShrunk f g base size place base' → IsShrunk f g base size' place' base'
-shrunk_as f g base size size' place place' base' s p w =
-    subst (λ r. IsShrunk f g base size' r base') p (subst (λ n. IsShrunk f g base n place base') s w)

@@ -12,10 +12,4 @@ pub mod Calls
 pub mod LongestRow
 pub mod EmptyTree
 pub mod PrefixRows
-pub mod SideBySide
-pub mod LessChild
-pub mod Pruned
-pub mod LessResult
-pub mod PrefixNumbers
-pub mod RowsFrom
-pub mod EmptyBlocks
+pub mod Descent

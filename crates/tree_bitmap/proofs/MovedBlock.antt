@@ -1,10 +1,10 @@
 -- A block has one cell for each set bit of a bitmap, and moves as bits are set or cleared.
-use Rattle.std.proofs.Common.{ℕ, ◌≡◌, ◌≢◌, ◌⊎◌, inl, inr, ⊎_elim, ◌+◌, ◌-◌, ◌^◌, ◌<◌, ◌≤◌, Option, None, count_ones, arith, sym, ap, ◌∙◌}
+use Rattle.std.proofs.Common.{ℕ, ◌≡◌, ◌⊎◌, inl, inr, ⊎_elim, ◌+◌, ◌-◌, ◌^◌, ◌<◌, ◌≤◌, Option, None, count_ones, arith, ap, ◌∙◌}
 use Rattle.std.specs.Int.{bit_at}
 use Rattle.std.proofs.lemmas.Bool.{cases_order, cases_lt}
-use Rattle.node_pool.specs.Pool.{IsGrown, IsShrunk}
+use Rattle.node_pool.specs.Pool.{IsGrown}
 use Rattle.tree_bitmap.specs.Bits.{rank}
-use Rattle.tree_bitmap.proofs.Ranks.{rank_lt, rank_mono, rank_mono_lt, bit_at-add_same, bit_at-add_other, ones-add, rank-add_below, rank-add_above, select}
+use Rattle.tree_bitmap.proofs.Ranks.{rank_lt, rank_mono, rank_mono_lt, ones-add, rank-add_below, rank-add_above, select}
 
 -- a cell is that of a set bit
 abbrev pub InBlock : ℕ → ℕ → ℕ → Type 0
@@ -49,34 +49,3 @@ module _ {T : Type 0} where
           ap (λ r. g (base' + r)) (rank-add_below bits bit b clear (omega arith)) ∙ w.low (rank bits b) (rank_mono_lt bits b bit l h)
       kept b h (inr (inr l)) =
           ap (λ r. g (base' + r)) (rank-add_above bits bit b clear l) ∙ w.high (rank bits b) (rank_mono bits bit b (omega arith)) (rank_lt bits b h)
-
-  -- a bit was cleared
-  pub moved_by_loss : (f g : ℕ → Option T) (base bits bit base' bits' : ℕ) → bit_at bits' bit ≡ 0 → bits ≡ bits' + 2 ^ bit
-      → IsShrunk f g base (count_ones bits) (rank bits bit) base' → IsMoved f g base bits base' bits'
-  moved_by_loss f g base bits bit base' bits' clear whole w = record {
-    kept = λ b h h'. kept b h h' (cases_order b bit);
-    fresh = λ k q out. w.fresh k q.0 (omega (arith, q.1, one_less)) (λ l h. out (l, h));
-    freed = λ k q out. w.freed k q.0 q.1 (λ l h. out (l, omega (arith, h, one_less)));
-    other = λ k out out'. w.other k (λ l h. out (l, h)) (λ l h. out' (l, omega (arith, h, one_less)));
-  }
-    where
-      one_less : count_ones bits ≡ count_ones bits' + 1
-      one_less = ap count_ones whole ∙ ones-add bits' bit clear
-
-      kept : (b : ℕ) → bit_at bits b ≡ 1 → bit_at bits' b ≡ 1 → (b ≡ bit) ⊎ ((b < bit) ⊎ (bit < b)) → g (base' + rank bits' b) ≡ f (base + rank bits b)
-      kept b h h' (inl e) = absurd (omega (arith, h', ap (bit_at bits') e, clear))
-      kept b h h' (inr (inl l)) =
-          let same : rank bits b ≡ rank bits' b = ap (λ n. rank n b) whole ∙ rank-add_below bits' bit b clear (omega arith) in
-          ap (λ r. g (base' + r)) (sym same) ∙ w.low (rank bits b) (rank_mono_lt bits b bit l h)
-      kept b h h' (inr (inr l)) =
-          let own : rank bits bit ≡ rank bits' bit = ap (λ n. rank n bit) whole ∙ rank-add_below bits' bit bit clear (omega arith) in
-          let next : rank bits b ≡ rank bits' b + 1 = ap (λ n. rank n b) whole ∙ rank-add_above bits' bit b clear l in
-          w.high (rank bits' b) (omega (arith, own, rank_mono bits' bit b (omega arith))) (omega (arith, next, rank_lt bits b h))
-          ∙ ap (λ r. f (base + r)) (sym next)
-
--- where a bit was cleared, it had been set, and the others stay
-pub bit_lost : (bits bits' bit : ℕ) → bit_at bits' bit ≡ 0 → bits ≡ bits' + 2 ^ bit → (bit_at bits bit ≡ 1) × ((b : ℕ) → b ≢ bit → bit_at bits' b ≡ bit_at bits b)
-bit_lost bits bits' bit clear whole = (
-  ap (λ n. bit_at n bit) whole ∙ bit_at-add_same bits' bit clear,
-  λ b n. sym (ap (λ m. bit_at m b) whole ∙ bit_at-add_other bits' bit b clear n),
-)

@@ -248,10 +248,6 @@ module _ (N N' : ℕ → Option Node) (G : ℕ → Option Entry) (index external
     | inr ((f, h, n, p), w) ↦ absurd (not_in_old f h (sym p))
   ]
 
-  -- where it has no child for the next four bits, the path ends at it
-  pub ends_at : (path depth : ℕ) → node_at N path depth ≡ Some index → bit_at external (nibble path depth) ≢ 1 → node_at N' path (suc depth) ≡ None
-  ends_at path depth at unset = step_no N' path depth index b (index_on path depth at) moved.after unset
-
   -- a row of a node that was there stays
   row_of : (path len j : ℕ) (c : Node) → node_at N path (len / 4) ≡ Some j → N j ≡ Some c → After path (len / 4) j
       → (j ≡ index) ⊎ (j ≡ index → ⊥) → row_at N' G path len ≡ row_at N G path len

@@ -1,7 +1,6 @@
 -- Rows of a tree by prefixes.
-use Rattle.std.specs.FinMap.{put, find as row_of}
-use Rattle.std.specs.FinMap.Entries.{is_sorted-where_key, find-where_key}
-use Rattle.std.proofs.Common.{List, [], ◌∷◌, ◌++◌, length, take, get_or, ℕ, ◌≡◌, ◌+◌, ◌-◌, ◌*◌, ◌/◌, ◌^◌, ◌<◌, ◌≤◌, Bool, true, false, cond, not, Option, Some, None, IfSome, arith, refl, sym, ap, subst, ◌∙◌, Result, Err, IsOk, shr-shr}
+use Rattle.std.specs.FinMap.{put}
+use Rattle.std.proofs.Common.{List, [], ◌∷◌, ◌++◌, length, take, get_or, ℕ, ◌≡◌, ◌+◌, ◌-◌, ◌*◌, ◌/◌, ◌^◌, ◌<◌, ◌≤◌, Bool, true, false, cond, Option, Some, None, IfSome, arith, refl, sym, ap, subst, ◌∙◌, Result, Err, IsOk, shr-shr}
 use Rattle.std.specs.Result.{is_ok}
 use Rattle.std.proofs.lemmas.List.{take_more}
 use Rattle.std.proofs.Math.Seq.{take-length}
@@ -10,8 +9,7 @@ use mathlib.Core.Path.{fun_ext}
 use Rattle.ipv4_prefix.specs.Prefix.{Prefix, IsPrefix, covers, prefix_cmp, prefix_eq}
 use Rattle.ipv4_prefix.specs.LongestMatch.{IsLongestIn, IsLongestMatch, longest_match}
 use Rattle.ipv4_prefix.specs.Tables.{table_rows}
-use Rattle.ipv4_prefix.proofs.PrefixOrder.{prefix_eq-Decides, prefix_cmp-tied}
-use Rattle.ipv4_prefix.proofs.TableRows.{table_rows-sorted, table_rows_unique, row_of-table, row_of-unwritable}
+use Rattle.ipv4_prefix.proofs.PrefixOrder.{prefix_eq-Decides}
 use Rattle.ipv4_prefix.proofs.LongestMatches.{covering_same, longest_match-found}
 use Rattle.network_model.specs.declared.route.Entry.{Entry}
 use Rattle.network_model.specs.Publication.{with_rows}
@@ -19,7 +17,6 @@ use Rattle.network_model.proofs.RowLaws.{with_rows-push}
 use Rattle.tree_bitmap.specs.Bits.{path_start}
 use Rattle.tree_bitmap.specs.Greatest.{GreatestBelow}
 use Rattle.tree_bitmap.specs.Tree.{row_at, SetsRow}
-use Rattle.tree_bitmap.specs.Removal.{without_row}
 use Rattle.tree_bitmap.specs.declared.node.Node.{Node}
 use Rattle.tree_bitmap.proofs.LongestRow.{row_covers}
 
@@ -113,33 +110,3 @@ not_ok {T} {E} is ok = false≢true (subst (λ (x : Result T E). is_ok x ≡ tru
 pub longest_where_some : (addr : ℕ) (rows : List (Prefix × Entry)) (found : Option (Prefix × Entry)) → found ≡ longest_match addr rows → IfSome found (IsLongestMatch addr rows)
 longest_where_some addr rows None e = tt
 longest_where_some addr rows (Some f) e = longest_match-found addr rows f (sym e)
-
--- ---- a row taken out
-
--- the rows of a table in which one entry was taken out are its rows without that one
-pub table_rows-without : (entry : Prefix → Option Entry) (p : Prefix) (after : Prefix → Option Entry) → ((q : Prefix) → IsPrefix q → after q ≡ cond (prefix_eq q p) None (entry q))
-    → table_rows after ≡ without_row p (table_rows entry)
-table_rows-without entry p after taken =
-    table_rows_unique after (without_row p (table_rows entry)) (is_sorted-where_key prefix_cmp (λ q. not (prefix_eq q p)) (table_rows entry) (table_rows-sorted entry))
-    (λ q h. found q ∙ ap (cond (prefix_eq q p) None) (row_of-unwritable entry q h) ∙ either (prefix_eq q p))
-    (λ q valid. found q ∙ ap (cond (prefix_eq q p) None) (row_of-table entry q valid) ∙ sym (taken q valid))
-  where
-    turned : (b : Bool) (o : Option Entry) → cond (not b) o None ≡ cond b None o
-    turned true o = refl
-    turned false o = refl
-
-    either : (b : Bool) → cond {A = Option Entry} b None None ≡ None
-    either true = refl
-    either false = refl
-
-    found : (q : Prefix) → row_of prefix_cmp q (without_row p (table_rows entry)) ≡ cond (prefix_eq q p) None (row_of prefix_cmp q (table_rows entry))
-    found q = find-where_key prefix_cmp (λ x. not (prefix_eq x p)) q (λ x tied. ap (λ y. not (prefix_eq y p)) (sym (prefix_cmp-tied q x tied))) (table_rows entry)
-        ∙ turned (prefix_eq q p) (row_of prefix_cmp q (table_rows entry))
-
--- where a path has no row, taking it out changes nothing
-pub nothing_to_take : (nodes : ℕ → Option Node) (results : ℕ → Option Entry) (path len : ℕ) → len < 36 → row_at nodes results path len ≡ None
-    → SetsRow (row_at nodes results) (row_at nodes results) path len None
-nothing_to_take nodes results path len short none = record {
-  hit = λ q same. row_covers nodes results q path len short same ∙ none;
-  miss = λ q m l b out. refl;
-}

@@ -1,5 +1,5 @@
 -- A look-up on its way down a tree.
-use Rattle.std.specs.Prelude.{ℕ, List, ◌≡◌, ◌*◌, ◌==◌, min, Option, Some, true, false, if◌then◌else◌, slice_index_or}
+use Rattle.std.specs.Prelude.{ℕ, ◌≡◌, ◌*◌, ◌==◌, min, Option, Some, true, false, if◌then◌else◌}
 use Rattle.node_pool.specs.Pool.{cell}
 use Rattle.tree_bitmap.specs.Bits.{IsHighest}
 use Rattle.tree_bitmap.specs.Tree.{node_at, place_at}
@@ -22,10 +22,6 @@ longer_hit matched a depth above =
 -- the look-up of an address, at the root
 abbrev pub root_lane : ℕ → Lane
 root_lane addr = record { addr = addr; index = 0; hit = no_hit; live = true }
-
--- the look-up at an index
-abbrev pub lane_at : List Lane → ℕ → Lane
-lane_at lanes k = slice_index_or lanes k (root_lane 0)
 
 -- the longest prefix that was found is the longest of the path that has a row, of those shorter than n
 abbrev pub IsBest : {A : Type 0} → Tree A → ℕ → ℕ → Hit → Type 0

@@ -1,22 +1,15 @@
 //! The rows of one publication, in the form in which a router forwards by them.
 
-ghost use Rattle.std.specs.Prelude.{◌≡◌, ◌+◌, ◌*◌, ◌<◌, ◌≤◌, ◌^◌, IfSome, All, None, false, length, map};
+ghost use Rattle.std.specs.Prelude.{◌≡◌, ◌+◌, ◌<◌, ◌≤◌, ◌^◌, IfSome, All, None, false, length, map};
 ghost use Rattle.ipv4_prefix.specs.LongestMatch.{IsLongestMatch};
 ghost use Rattle.ipv4_prefix.specs.Prefix.{covers};
 ghost use Rattle.network_model.specs.Publication.{image_answer};
 
-use crate::lanes::{Lane, descend_all};
+use crate::lanes::Lane;
 use crate::tree::{Tree, Visits};
 use network_model::{Entry, Prefix};
 use std::alloc::{Allocator, Global};
-use std::cmp::min;
 use std::marker::Model;
-
-/// From so many nodes on, of 16 bytes each, look-ups wait for memory more than for the processor.
-const FAR_NODES: usize = 32_768;
-
-/// How many look-ups go down side by side.
-const LANES: usize = 8;
 
 /// The rows that a router published, for looking up addresses: a tree bitmap with a stride of four
 /// bits (Eatherton, Varghese and Dittia, 2004).
@@ -67,78 +60,18 @@ impl<A: Allocator> Image<A> {
         lane.answer(&self.tree)
     }
 
-    // Answers addresses side by side, by a lane each.
-    fn answer_lanes(
-        &self,
-        lanes: &mut [Lane],
-        addrs: &[u32],
-        answers: &mut [Option<(Prefix, Entry)>],
-        visits: &mut Visits,
-    )
-        requires lanes { length lanes.old ≡ length addrs.now }
-        requires one_each { length answers.old ≡ length addrs.now }
-        requires fits { visits.old.count + 9 * length addrs.now < 2 ^ 64 }
-        ensures answers { answers.new ≡ map (image_answer self.now) addrs.now }
-        ensures few { visits.new.count ≤ visits.old.count + 9 * length addrs.now }
+    /// As `lookup` for each of the addresses, one after another.
+    pub fn lookup_all(&self, addrs: &[u32], answers: &mut [Option<(Prefix, Entry)>])
+        requires { length answers.old ≡ length addrs.now }
+        ensures { answers.new ≡ map (image_answer self.now) addrs.now }
     {
         for i in 0..addrs.len() {
-            lanes[i] = Lane::new(addrs[i]);
+            answers[i] = self.lookup(addrs[i]);
         }
-        descend_all(&self.tree, lanes, visits);
-        for k in 0..addrs.len() {
-            answers[k] = lanes[k].answer(&self.tree);
-        }
-    }
-
-    /// As `lookup` for each of at most eight addresses, which go down the tree side by side; it counts
-    /// the nodes that it reads, at most nine for each.
-    pub fn lookup_burst_counted(
-        &self,
-        addrs: &[u32],
-        answers: &mut [Option<(Prefix, Entry)>],
-        visits: &mut Visits,
-    )
-        requires short { length addrs.now ≤ 8 }
-        requires one_each { length answers.old ≡ length addrs.now }
-        requires fits { visits.old.count + 72 < 2 ^ 64 }
-        ensures answers { answers.new ≡ map (image_answer self.now) addrs.now }
-        ensures few { visits.new.count ≤ visits.old.count + 9 * length addrs.now }
-    {
-        let mut lanes = [Lane::new(0); LANES];
-        self.answer_lanes(&mut lanes[..addrs.len()], addrs, answers, visits);
     }
 
     /// The bytes that the image takes, with the room for more rows.
     pub fn bytes(&self) -> usize {
         self.tree.bytes()
-    }
-
-    // Whether the nodes fit into a processor's near caches: then one address after another is the
-    // faster way.
-    fn is_small(&self) -> bool {
-        self.tree.pool.nodes.cell_count() < FAR_NODES
-    }
-
-    /// As `lookup` for each of the addresses: side by side where the image is not small.
-    pub fn lookup_all(&self, addrs: &[u32], answers: &mut [Option<(Prefix, Entry)>])
-        requires { length answers.old ≡ length addrs.now }
-        ensures { answers.new ≡ map (image_answer self.now) addrs.now }
-    {
-        if self.is_small() {
-            for i in 0..addrs.len() {
-                answers[i] = self.lookup(addrs[i]);
-            }
-            return;
-        }
-        let mut done = 0;
-        while done < addrs.len() {
-            let end = min(done + LANES, addrs.len());
-            self.lookup_burst_counted(
-                &addrs[done..end],
-                &mut answers[done..end],
-                &mut Visits { count: 0 },
-            );
-            done = end;
-        }
     }
 }

@@ -1,10 +1,10 @@
-//! Look-ups on their way down a tree, alone or side by side.
+//! Look-ups on their way down a tree.
 
-ghost use Rattle.std.specs.Prelude.{◌≡◌, ◌+◌, ◌*◌, ◌^◌, ◌<◌, ◌≤◌, EachIndex, true, false, length};
+ghost use Rattle.std.specs.Prelude.{◌≡◌, ◌+◌, ◌*◌, ◌^◌, ◌<◌, ◌≤◌, true};
 ghost use Rattle.ipv4_prefix.specs.LongestMatch.{longest_match};
 ghost use Rattle.tree_bitmap.specs.Tree.{IsSoundTree, rows, rows_in};
 ghost use Rattle.tree_bitmap.specs.Greatest.{GreatestBelow};
-ghost use Rattle.tree_bitmap.specs.Lane.{IsLane, root_lane, lane_at, longer_hit};
+ghost use Rattle.tree_bitmap.specs.Lane.{IsLane, root_lane, longer_hit};
 
 use crate::node::{Node, covers, highest, is_set, length_of, nibble, rank};
 use crate::tree::{Tree, Visits, path_of};
@@ -131,49 +131,5 @@ impl Lane {
     {
         let (len, entry) = self.found(tree)?;
         Some((Prefix::covering(self.addr, len), entry))
-    }
-}
-
-/// Has look-ups go down one level, and says whether any goes on.
-fn descend_level<A: Allocator>(
-    tree: &Tree<A>,
-    lanes: &mut [Lane],
-    depth: u32,
-    visits: &mut Visits,
-) -> bool
-    requires sound { IsSoundTree tree.now }
-    requires deep { depth ≤ 8 }
-    requires fits { visits.old.count + length lanes.old < 2 ^ 64 }
-    requires lanes { EachIndex lanes.old (λ k. IsLane tree.now depth (lane_at lanes.old k)) }
-    ensures lanes { EachIndex lanes.old (λ k. IsLane tree.now (depth + 1) (lane_at lanes.new k)) }
-    ensures addrs { EachIndex lanes.old (λ k.
-        (lane_at lanes.new k).addr ≡ (lane_at lanes.old k).addr) }
-    ensures ended { result ≡ false
-        → EachIndex lanes.old (λ k. (lane_at lanes.new k).live ≡ false) }
-    ensures few { visits.new.count ≤ visits.old.count + length lanes.old }
-{
-    let mut goes_on = false;
-    for lane in lanes.iter_mut() {
-        lane.descend(tree, depth, visits);
-        goes_on |= lane.live;
-    }
-    goes_on
-}
-
-/// Has look-ups, which stand at the root, go down as far as there are nodes: one level at a time, so
-/// that they wait for memory at once.
-pub(crate) fn descend_all<A: Allocator>(tree: &Tree<A>, lanes: &mut [Lane], visits: &mut Visits)
-    requires sound { IsSoundTree tree.now }
-    requires fits { visits.old.count + 9 * length lanes.old < 2 ^ 64 }
-    requires lanes { EachIndex lanes.old (λ k. IsLane tree.now 0 (lane_at lanes.old k)) }
-    ensures lanes { EachIndex lanes.old (λ k. IsLane tree.now 9 (lane_at lanes.new k)) }
-    ensures addrs { EachIndex lanes.old (λ k.
-        (lane_at lanes.new k).addr ≡ (lane_at lanes.old k).addr) }
-    ensures few { visits.new.count ≤ visits.old.count + 9 * length lanes.old }
-{
-    for depth in 0..9 {
-        if !descend_level(tree, lanes, depth, visits) {
-            return;
-        }
     }
 }

@@ -20,36 +20,26 @@
 //! *rank*; so is a result's. Depths 0 to 8 stand after 0, 4, .., 32 bits; at depth 8 a node has internal
 //! bit 0 alone, the prefixes of 32 bits, and no children.
 //!
-//! - A look-up notes at each node the longest prefix that ends there and covers the address, and goes on
-//!   to the child of the next four bits. The last that it noted is the answer: a longer prefix ends
+//! - A look-up notes at each node the longest prefix that ends there and covers the address. Then it goes on
+//!   to the child of the next four bits. The last that it noted is the answer, because a longer prefix ends
 //!   deeper, or in the same node at a higher bit.
-//! - A row is set from the root down: where a child or a result is missing, a block of one cell more
-//!   takes the place of the old block ([`node_pool`]), with what stood to its right moved up by one. The
-//!   cells are reserved before the first is written, so that a refusal leaves the image as it was.
-//! - A row is taken out where it ends: a block of one cell fewer takes the place of the old one, or the
-//!   old one stays and its last cell is given back. Then, from there up, each node that is left with no
-//!   row and no child is taken out of its parent's block in the same way, up to the first that has some.
-//!   The root stays.
-//! - Look-ups of many addresses go down side by side, each in a *lane*, eight at a time and one level at
-//!   a time, so that they wait for memory at once. A lane whose path ends keeps what it noted, and the
-//!   others go on. Where the nodes are few, one address after another is faster.
-//! - Rows are listed in the order of their prefixes, from any prefix on. The cursor is a prefix, so it
-//!   needs no memory and stays right when rows change; where a path ends, the search goes on past the
-//!   whole block of its bits.
+//! - A row is set from the root down. If a child or a result is missing, a block of one cell more takes the
+//!   place of the old block ([`node_pool`]), with what stood to its right moved up by one. The cells are
+//!   reserved before the first is written. So a refusal leaves the image as it was.
+//! - A row stays. A router publishes that a prefix has no route by a row with a null entry, so it takes no row
+//!   out of its image. (`array_bitmap` does take rows out, for programs that keep a table of their own.)
 //!
 //! What always holds of a tree: its root is in use, the children and results of every node that is in
 //! use are there, no two nodes share any, and the root is no one's child (`IsLaidOut` in
 //! `specs/Tree.antt`). Contracts see an image as its rows and its generation, and no cell.
 #![tactic(auto)]
 
-mod cursor;
 mod image;
 mod lanes;
 mod node;
 pub mod parts;
 mod tree;
 
-pub use cursor::next_prefix;
 pub use image::Image;
 pub use network_model::{Entry, Prefix};
 pub use tree::Visits;

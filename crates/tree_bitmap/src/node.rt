@@ -1,6 +1,6 @@
 //! The nodes of a tree bitmap with a stride of four bits.
 
-ghost use Rattle.std.specs.Prelude.{◌≡◌, ℕ, ◌+◌, ◌*◌, ◌^◌, ◌<◌, ◌≤◌, ◌↔◌, IsTrue, Option, Some, None, IfSome, IfNone, count_ones, min};
+ghost use Rattle.std.specs.Prelude.{◌≡◌, ℕ, ◌+◌, ◌*◌, ◌^◌, ◌<◌, ◌≤◌, ◌↔◌, IsTrue, Option, Some, None, count_ones};
 ghost use Rattle.std.specs.Int.{bit_at};
 ghost use Rattle.tree_bitmap.specs.Bits.{rank, nibble, internal_bit, length_of, IsHighest, width};
 
@@ -70,16 +70,6 @@ pub(crate) fn with_bit(bits: u16, k: u32) -> u16
     ensures { result ≡ bits + 2 ^ k }
 {
     bits | (1 << k)
-}
-
-/// The bitmap with one bit less.
-pub(crate) fn without_bit(bits: u16, k: u32) -> u16
-    requires within { k < 16 }
-    requires set { bit_at bits k ≡ 1 }
-    ensures rest { bits ≡ result + 2 ^ k }
-    ensures clear { bit_at result k ≡ 0 }
-{
-    bits - (1 << k)
 }
 
 /// How many bits are set.

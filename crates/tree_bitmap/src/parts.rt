@@ -1,10 +1,9 @@
 //! What those need who make images, or change them.
 
-ghost use Rattle.std.specs.Prelude.{◌≡◌, ◌<◌, [], length, IfOk, OnOk, OnErr, is_some};
-ghost use Rattle.std.specs.FinMap.{put, find as row_of};
+ghost use Rattle.std.specs.Prelude.{◌≡◌, ◌<◌, [], length, IfOk, OnOk, OnErr};
+ghost use Rattle.std.specs.FinMap.{put};
 ghost use Rattle.ipv4_prefix.specs.Prefix.{prefix_cmp};
 ghost use Rattle.network_model.specs.Publication.{with_rows};
-ghost use Rattle.tree_bitmap.specs.Removal.{without_row};
 
 use crate::image::Image;
 use crate::tree::Tree;
@@ -59,16 +58,6 @@ pub fn set_rows<A: Allocator>(
 {
     image.tree.reserve(rows.len())?;
     image.tree.set_rows(rows)
-}
-
-/// Takes the row of a prefix out of an image, and says whether there was one: an address that it
-/// answered falls to the next shorter prefix. It needs no memory, and gives back what only that row
-/// needed.
-pub fn remove_row<A: Allocator>(image: &mut Image<A>, prefix: Prefix) -> bool
-    ensures rows { image.new ≡ record image.old { rows = without_row prefix image.old.rows } }
-    ensures found { result ≡ is_some (row_of prefix_cmp prefix image.old.rows) }
-{
-    image.tree.remove_row(prefix)
 }
 
 /// Says which publication the image is.

@@ -1,10 +1,9 @@
 //! The tree of nodes, in a pool.
 
-ghost use Rattle.std.specs.Prelude.{◌≡◌, ℕ, ◌+◌, ◌-◌, ◌*◌, ◌/◌, ◌%◌, ◌^◌, ◌<◌, ◌≤◌, ◌⊎◌, length, Option, Some, None, IfOk, IfErr, IfSome, OnOk, OnErr, IsOk, is_some, true, false};
-ghost use Rattle.std.specs.Int.{bit_at};
+ghost use Rattle.std.specs.Prelude.{◌≡◌, ℕ, ◌+◌, ◌*◌, ◌^◌, ◌<◌, ◌≤◌, ◌⊎◌, length, Some, None, IfOk, OnOk, OnErr, IsOk, is_some, true};
 ghost use Rattle.node_pool.specs.Pool.{cell, cell_count, room};
 
-use crate::node::{BLANK, Node, count, internal_bit, is_set, nibble, rank, with_bit, without_bit};
+use crate::node::{BLANK, Node, count, internal_bit, is_set, nibble, rank, with_bit};
 use network_model::{Entry, NoMemory, Prefix};
 use node_pool::{Cell, NodePool};
 use std::alloc::{Allocator, Global};
@@ -54,8 +53,7 @@ impl<A: Allocator + Copy> Tree<A> {
 impl<A: Allocator> Tree<A> {
     ghost use Rattle.tree_bitmap.specs.Tree.{nibble, internal_bit, rows, node_place, IsSoundTree, SetsRow, IsChildCost, blank};
     ghost use Rattle.tree_bitmap.specs.Tree.{rows_in};
-    ghost use Rattle.tree_bitmap.specs.Removal.{without_row, HasAsManyCells, HasUse, IsPruned};
-    ghost use Rattle.std.specs.FinMap.{put, find as row_of};
+    ghost use Rattle.std.specs.FinMap.{put};
     ghost use Rattle.ipv4_prefix.specs.Prefix.{prefix_cmp};
     ghost use Rattle.network_model.specs.Publication.{with_rows};
 
@@ -217,163 +215,6 @@ impl<A: Allocator> Tree<A> {
             self.set_row(prefix, entry)?;
         }
         Ok(())
-    }
-
-    /// The place of the node on a path at a depth, or a depth up to there at which the path has none.
-    pub(crate) fn node_on(&self, path: u64, depth: u32) -> Result<u32, u32>
-        requires sound { IsSoundTree self.now }
-        requires deep { depth ≤ 8 }
-        ensures place { IfOk result (λ place. node_place self.now path depth ≡ Some place) }
-        ensures none { IfErr result (λ end.
-            (end ≤ depth) × (node_place self.now path end ≡ None)) }
-    {
-        let mut index = 0;
-        for d in 0..depth {
-            let node = self.pool.nodes.get(index);
-            let four = nibble(path, d);
-            let below = rank(node.external, four);
-            if !is_set(node.external, four) {
-                return Err(d + 1);
-            }
-            index = self.pool.nodes.place(node.child_base, below);
-        }
-        Ok(index)
-    }
-
-    /// Takes the entry at a bit out of a node.
-    fn clear_at(&mut self, index: u32, node: Node, bit: u32, path: u64, depth: u32, len: u8)
-        requires sound { IsSoundTree self.old }
-        requires at { node_place self.old path depth ≡ Some index }
-        requires node { cell self.old.pool.nodes index ≡ Some node }
-        requires deep { depth ≤ 8 }
-        requires short { len < 4 }
-        requires fits { path < 2 ^ 36 }
-        requires bit { bit ≡ internal_bit (nibble path depth) len }
-        requires small { bit < 15 }
-        requires set { bit_at node.internal bit ≡ 1 }
-        ensures sound { IsSoundTree self.new }
-        ensures gone { SetsRow (rows self.old) (rows self.new) path (4 * depth + len) None }
-        ensures stays { node_place self.new path depth ≡ Some index }
-        ensures cells { HasAsManyCells self.old self.new }
-    {
-        let below = rank(node.internal, bit);
-        let internal = without_bit(node.internal, bit);
-        let size = count(node.internal);
-        let base = self
-            .pool
-            .results
-            .shrink(node.result_base, size, below as usize);
-        self.pool.nodes.set(
-            index,
-            Node {
-                internal,
-                result_base: base,
-                ..node
-            },
-        );
-    }
-
-    /// Gives the child on a path back, below a depth, where there is one with nothing in it, and says
-    /// whether there was.
-    fn drop_child(&mut self, path: u64, depth: u32) -> bool
-        requires sound { IsSoundTree self.old }
-        requires deep { depth < 8 }
-        ensures sound { IsSoundTree self.new }
-        ensures rows { (q : ℕ) → (m : ℕ) → rows self.new q m ≡ rows self.old q m }
-        ensures cells { HasAsManyCells self.old self.new }
-        ensures used { HasUse self.new path (depth + 1) }
-        ensures same { result ≡ false → self.new ≡ self.old }
-        ensures above { result ≡ true → is_some (node_place self.new path depth) ≡ true }
-        ensures gone { result ≡ true → node_place self.new path (depth + 1) ≡ None }
-    {
-        let Ok(index) = self.node_on(path, depth) else {
-            return false;
-        };
-        let node = self.pool.nodes.get(index);
-        let four = nibble(path, depth);
-        if !is_set(node.external, four) {
-            return false;
-        }
-        let below = rank(node.external, four);
-        let child = self
-            .pool
-            .nodes
-            .get(self.pool.nodes.place(node.child_base, below));
-        if child.external != 0 || child.internal != 0 {
-            return false;
-        }
-        let external = without_bit(node.external, four);
-        let size = count(node.external);
-        let base = self
-            .pool
-            .nodes
-            .shrink(node.child_base, size, below as usize);
-        self.pool.nodes.set(
-            index,
-            Node {
-                external,
-                child_base: base,
-                ..node
-            },
-        );
-        true
-    }
-
-    /// Gives back the nodes on a path with nothing in them, from a depth up.
-    fn prune(&mut self, path: u64, depth: u32)
-        requires sound { IsSoundTree self.old }
-        requires deep { depth ≤ 8 }
-        ensures sound { IsSoundTree self.new }
-        ensures rows { (q : ℕ) → (m : ℕ) → rows self.new q m ≡ rows self.old q m }
-        ensures cells { HasAsManyCells self.old self.new }
-        ensures pruned { is_some (node_place self.old path depth) ≡ true
-            → IsPruned self.new path depth }
-    {
-        for up in 0..depth {
-            if !self.drop_child(path, depth - 1 - up) {
-                return;
-            }
-        }
-    }
-
-    /// Takes the row of a path's first `len` bits out, and says whether there was one.
-    fn remove(&mut self, path: u64, len: u8) -> bool
-        requires sound { IsSoundTree self.old }
-        requires fits { path < 2 ^ 36 }
-        requires short { len ≤ 32 }
-        ensures sound { IsSoundTree self.new }
-        ensures gone { SetsRow (rows self.old) (rows self.new) path len None }
-        ensures found { result ≡ is_some (rows self.old path len) }
-        ensures cells { HasAsManyCells self.old self.new }
-        ensures pruned { result ≡ true → IsPruned self.new path (len / 4) }
-    {
-        let depth = (len / 4) as u32;
-        let rest = len % 4;
-        let Ok(index) = self.node_on(path, depth) else {
-            return false;
-        };
-        let node = self.pool.nodes.get(index);
-        let bit = internal_bit(nibble(path, depth), rest);
-        if !is_set(node.internal, bit) {
-            return false;
-        }
-        self.clear_at(index, node, bit, path, depth, rest);
-        self.prune(path, depth);
-        true
-    }
-
-    /// Takes the row of a prefix out, and says whether there was one. It needs no memory: what only
-    /// that row needed is given back.
-    pub fn remove_row(&mut self, prefix: Prefix) -> bool
-        requires { IsSoundTree self.old }
-        ensures sound { IsSoundTree self.new }
-        ensures rows { rows_in self.new ≡ without_row prefix (rows_in self.old) }
-        ensures found { result ≡ is_some (row_of prefix_cmp prefix (rows_in self.old)) }
-        ensures cells { HasAsManyCells self.old self.new }
-        ensures pruned { result ≡ true
-            → IsPruned self.new (prefix.addr * 16) (prefix.len / 4) }
-    {
-        self.remove(path_of(prefix.addr()), prefix.len())
     }
 
     /// The bytes that nodes and results take, with the room for more.

@@ -1,6 +1,6 @@
 use Rattle.std.proofs.Common.{sym, subst}
 use Rattle.tree_bitmap.specs.Lane.{IsLane}
-use Rattle.tree_bitmap.proofs.SideBySide.{root_is_lane}
+use Rattle.tree_bitmap.proofs.Descent.{root_is_lane}
 use Rattle.tree_bitmap.proofs.image.Image.lookup_counted.Goals as goal
 
 pub descend_to_end-requires-clause-lane : goal.descend_to_end-requires-clause-lane

@@ -5,7 +5,7 @@ use Rattle.tree_bitmap.specs.Tree.{nibble}
 use Rattle.tree_bitmap.specs.Lane.{IsBest}
 use Rattle.tree_bitmap.proofs.Paths.{node_used}
 use Rattle.tree_bitmap.proofs.Calls.{child_place_after, child_used}
-use Rattle.tree_bitmap.proofs.SideBySide.{hit_after, hit_last}
+use Rattle.tree_bitmap.proofs.Descent.{hit_after, hit_last}
 use Rattle.tree_bitmap.proofs.lanes.Lane.descend.Given as given
 use Rattle.tree_bitmap.proofs.lanes.Lane.descend.Goals as goal
 use Rattle.tree_bitmap.proofs.lanes.Lane.descend.Goals.{After-is_set}

@@ -2,7 +2,7 @@ use Rattle.std.proofs.Common.{◌≡◌, ◌+◌, ◌*◌, ◌∙◌, sym, ap, s
 use Rattle.node_pool.specs.Pool.{cell}
 use Rattle.tree_bitmap.specs.Bits.{rank, length_of}
 use Rattle.tree_bitmap.proofs.LongestRow.{best_row, no_row, place_used}
-use Rattle.tree_bitmap.proofs.SideBySide.{lane_best}
+use Rattle.tree_bitmap.proofs.Descent.{lane_best}
 use Rattle.tree_bitmap.proofs.lanes.Lane.found.Goals as goal
 
 pub returns-in_err-bit : goal.returns-in_err-bit
