@@ -11,7 +11,7 @@ fn set(rt: &impl Abort, image: &mut Image, text: &str, port: u8) {
 }
 
 // The longest match of an address is this row.
-fn finds(rt: &impl Abort, image: &Image, at: &str, text: &str, entry: Entry) {
+pub(crate) fn finds(rt: &impl Abort, image: &Image, at: &str, text: &str, entry: Entry) {
     let row = (prefix(rt, text), entry);
     assert_eq!(rt; image.lookup(addr(rt, at)), Some(row), "at {at}");
 }
