@@ -1,12 +1,13 @@
 //! Why a line is no command.
 
+use crate::number::tell_number;
+use crate::shown::{SafeLetter, odd_space, shown};
 use network_model::LinkSpec;
 use script::Names;
 use std::alloc::Global;
 use std::io;
 use std::io::Write;
 use strsim::levenshtein;
-use texts::read_number;
 
 // The forms of all commands but `try STEP`.
 const FORMS: [&str; 14] = [
@@ -37,11 +38,8 @@ pub fn tell_command<W: Write>(
     line: &str,
     out: &mut W,
 ) -> io::Result<()> {
-    if has_empty_word(line) {
-        return writeln!(
-            out,
-            "  words stand between single spaces, and none at an end"
-        );
+    if tell_spaces(line, out)? {
+        return Ok(());
     }
     let line = line.strip_prefix("try ").unwrap_or(line);
     let verb = line.split(' ').next().unwrap_or("");
@@ -54,9 +52,25 @@ pub fn tell_command<W: Write>(
     tell_words(names, links, form, line, out)
 }
 
-/// Whether two spaces stand in a row, or one at an end.
-pub fn has_empty_word(line: &str) -> bool {
-    line.split(' ').any(|word| word.is_empty())
+/// Tells of two spaces in a row, of one at an end, or of a character that looks like one; answers whether it
+/// told of any.
+pub fn tell_spaces<W: Write>(line: &str, out: &mut W) -> io::Result<bool> {
+    if let Some(letter) = odd_space(line) {
+        writeln!(
+            out,
+            "  `{}` cannot stand here: words stand between single spaces",
+            SafeLetter { letter }
+        )?;
+        return Ok(true);
+    }
+    if line.split(' ').any(|word| word.is_empty()) {
+        writeln!(
+            out,
+            "  words stand between single spaces, and none at an end"
+        )?;
+        return Ok(true);
+    }
+    Ok(false)
 }
 
 fn form_of(verb: &str) -> Option<&'static str> {
@@ -83,8 +97,8 @@ fn tell_unknown<W: Write>(alloc: Global, verb: &str, out: &mut W) -> io::Result<
         nearest = nearer(alloc, verb, form, nearest)?;
     }
     match nearest.0 {
-        "" => writeln!(out, "  unknown command `{verb}`"),
-        word => writeln!(out, "  unknown command `{verb}`: is it `{word}`?"),
+        "" => writeln!(out, "  unknown command `{}`", shown(verb)),
+        word => writeln!(out, "  unknown command `{}`: is it `{word}`?", shown(verb)),
     }
 }
 
@@ -118,7 +132,7 @@ fn tell_words<W: Write>(
         match wanted {
             "A" | "B" => {
                 let Some(router) = names.number(word) else {
-                    return writeln!(out, "  unknown router `{word}`");
+                    return writeln!(out, "  unknown router `{}`", shown(word));
                 };
                 if let Some(other) = first
                     && !links.iter().any(|link| link.joins(other, router))
@@ -127,15 +141,17 @@ fn tell_words<W: Write>(
                 }
                 first = Some(router);
             }
-            "C" | "COST" if read_number(word).is_none() => {
-                return writeln!(out, "  `{word}` is no whole number");
+            "C" | "COST" => {
+                if tell_number(word, out)? {
+                    return Ok(());
+                }
             }
             "PREFIX" => prefix = Some(word),
             _ => {}
         }
     }
     match prefix {
-        Some(prefix) => writeln!(out, "  the scenario has no prefix `{prefix}`"),
+        Some(prefix) => writeln!(out, "  the scenario has no prefix `{}`", shown(prefix)),
         None => writeln!(out, "  it is `{form}`"),
     }
 }

@@ -1,6 +1,7 @@
 //! Why a text is no scenario.
 
-use crate::position::position_at;
+use crate::position::{key_at, position_at};
+use crate::shown::shown;
 use std::alloc::Global;
 use std::io;
 use std::io::Write;
@@ -15,6 +16,12 @@ pub fn tell_document<W: Write>(
     text: &str,
     out: &mut W,
 ) -> io::Result<()> {
+    if text.contains('\0') {
+        return writeln!(
+            out,
+            "  {file}: it has zero bytes: is it UTF-16? Save it as UTF-8"
+        );
+    }
     match toml::table_from_str(alloc, text) {
         Ok(_) => Ok(()),
         Err(error) => match error.span() {
@@ -30,27 +37,45 @@ pub fn tell_document<W: Write>(
 }
 
 /// Tells which keys of a document are not those of a scenario.
-pub fn tell_keys<W: Write>(alloc: Global, text: &str, out: &mut W) -> io::Result<()> {
+pub fn tell_keys<W: Write>(alloc: Global, file: &str, text: &str, out: &mut W) -> io::Result<()> {
     let Ok(table) = toml::table_from_str(alloc, text) else {
         return Ok(());
     };
     for key in KEYS {
-        tell_key(&table, key, out)?;
+        tell_key(&table, key, file, text, out)?;
     }
     for (key, _) in table.iter() {
         let key = key.as_str();
         if !KEYS.contains(&key) {
-            writeln!(out, "  unknown key `{key}`")?;
+            tell_place(file, text, key, out)?;
+            writeln!(out, "unknown key `{}`", shown(key))?;
         }
     }
     Ok(())
 }
 
-fn tell_key<W: Write>(table: &Table, key: &str, out: &mut W) -> io::Result<()> {
+fn tell_key<W: Write>(
+    table: &Table,
+    key: &str,
+    file: &str,
+    text: &str,
+    out: &mut W,
+) -> io::Result<()> {
     match table.get(key) {
         None => writeln!(out, "  the key `{key}` is missing"),
-        Some(value) if !is_list(value) => writeln!(out, "  `{key}` is no array of strings"),
+        Some(value) if !is_list(value) => {
+            tell_place(file, text, key, out)?;
+            writeln!(out, "`{key}` is no array of strings")
+        }
         Some(_) => Ok(()),
+    }
+}
+
+// Tells where a key stands, if it is written without quotes.
+fn tell_place<W: Write>(file: &str, text: &str, key: &str, out: &mut W) -> io::Result<()> {
+    match key_at(text, key) {
+        Some(at) => write!(out, "  {file}:{at}: "),
+        None => write!(out, "  {file}: "),
     }
 }
 

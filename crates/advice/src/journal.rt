@@ -1,5 +1,6 @@
 //! Why a line is none of a journal.
 
+use crate::shown::shown;
 use std::io;
 use std::io::Write;
 
@@ -12,7 +13,7 @@ pub fn advise_journal<W: Write>(
     out: &mut W,
 ) -> io::Result<()> {
     match text.split('\n').nth(line.saturating_sub(1)) {
-        Some(found) if !found.is_empty() => writeln!(out, "  {file}:{line}:1: {found}")?,
+        Some(found) if !found.is_empty() => writeln!(out, "  {file}:{line}:1: {}", shown(found))?,
         _ => writeln!(out, "  {file}:{line}:1: nothing stands there")?,
     }
     if line == 1 {

@@ -22,7 +22,9 @@
 //!   are missing or unknown.
 //! - If the scenario was only to be checked, it also tells of other faults, 20 in all (`src/others.rt`). It
 //!   tells those that it need not guess.
-//! - [`advise_journal`] does the same for a line of a journal.
+//! - [`advise_journal`] does the same for a line of a journal, and [`advise_bytes`] for a file that is no UTF-8.
+//! - What is shown of a file is safe for a terminal (`src/shown.rt`): at most 60 characters, and those that
+//!   cannot be seen by their numbers.
 //!
 //! What always holds: more is told only if it is asked for, and then of the scenario that the words name (the
 //! clause of [`file_to_explain`]). Nothing else of this crate has a contract. What it prints is tested by
@@ -37,14 +39,19 @@
 #![tactic(auto)]
 
 mod asked;
+mod bytes;
 mod command;
 mod document;
 mod journal;
 mod line;
+mod name;
+mod number;
 mod others;
 mod position;
+mod shown;
 mod told;
 
 pub use asked::{file_to_explain, is_check};
+pub use bytes::advise_bytes;
 pub use journal::advise_journal;
 pub use told::{Faulty, advise};

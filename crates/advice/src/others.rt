@@ -131,6 +131,7 @@ fn tell_other<W: Write>(
     writeln!(out, "dualnet: {located}")?;
     let kind = match fault {
         Fault::BadLine => Kind::BadLine,
+        Fault::BadCost => Kind::BadCost,
         Fault::BadCommand => Kind::BadCommand,
         _ => Kind::BadName,
     };

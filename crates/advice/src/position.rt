@@ -57,6 +57,20 @@ pub fn string_at(text: &str, key: &str, number: usize) -> Option<Position> {
     None
 }
 
+/// Where a key begins its line. None if it begins none: if it stands in a table, or in quotes.
+pub fn key_at(text: &str, key: &str) -> Option<Position> {
+    for (place, line) in text.lines().enumerate() {
+        if is_at_key(line, key) {
+            let rest = line.trim_start().chars().count();
+            return Some(Position {
+                line: place.saturating_add(1),
+                column: line.chars().count().saturating_sub(rest).saturating_add(1),
+            });
+        }
+    }
+    None
+}
+
 fn is_at_key(line: &str, key: &str) -> bool {
     match line.trim_start().strip_prefix(key) {
         Some(rest) => rest.trim_start().starts_with('='),

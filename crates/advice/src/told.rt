@@ -3,8 +3,10 @@
 use crate::command::tell_command;
 use crate::document::{tell_document, tell_keys};
 use crate::line::{tell_link, tell_prefix};
+use crate::name::tell_name;
 use crate::others::tell_others;
 use crate::position::string_at;
+use crate::shown::shown;
 use explanations::Kind;
 use scenario::{Lines, read_scenario};
 use script::{Key, Place, read_script};
@@ -31,7 +33,7 @@ pub struct Faulty<'a> {
 pub fn advise<W: Write>(alloc: Global, faulty: Faulty<'_>, out: &mut W) -> io::Result<()> {
     match faulty.kind {
         Kind::BadToml => tell_document(alloc, faulty.file, faulty.text, out)?,
-        Kind::BadKey => tell_keys(alloc, faulty.text, out)?,
+        Kind::BadKey => tell_keys(alloc, faulty.file, faulty.text, out)?,
         _ => tell_place(alloc, faulty, out)?,
     }
     write!(out, "{}", faulty.kind.page().brief())?;
@@ -64,10 +66,10 @@ pub fn tell_line<W: Write>(
         return Ok(());
     };
     match string_at(faulty.text, key_text(place.key), place.position) {
-        Some(at) => writeln!(out, "  {}:{at}: {line}", faulty.file)?,
-        None => writeln!(out, "  {}: {line}", faulty.file)?,
+        Some(at) => writeln!(out, "  {}:{at}: {}", faulty.file, shown(line))?,
+        None => writeln!(out, "  {}: {}", faulty.file, shown(line))?,
     }
-    tell_reason(alloc, kind, lines, place.key, line, out)
+    tell_reason(alloc, kind, lines, place, line, out)
 }
 
 fn line_at<'a>(lines: &'a Lines, place: Place) -> Option<&'a str> {
@@ -95,21 +97,29 @@ fn tell_reason<W: Write>(
     alloc: Global,
     kind: Kind,
     lines: &Lines,
-    key: Key,
+    place: Place,
     line: &str,
     out: &mut W,
 ) -> io::Result<()> {
+    let position = place.position;
+    if place.key == Key::Routers {
+        return tell_name(&lines.routers, position, out);
+    }
     let none: &[String] = &[];
     let Ok(reading) = read_script(alloc, &lines.routers, &lines.links, none, none) else {
         return Ok(());
     };
     let script = reading.script;
-    match (kind, key) {
-        (Kind::BadCommand, _) => { tell_command(alloc, &script.names, &script.links, line, out) }
-        (Kind::BadLine, Key::Links) => tell_link(&script.names, line, out),
-        (Kind::BadLink, _) => tell_link(&script.names, line, out),
-        (Kind::BadLine, _) => tell_prefix(&script.names, line, out),
-        (Kind::BadOwner, _) => tell_prefix(&script.names, line, out),
+    match (kind, place.key) {
+        (Kind::BadCommand | Kind::BadCost, Key::Script) => {
+            tell_command(alloc, &script.names, &script.links, line, out)
+        }
+        (Kind::BadLine | Kind::BadLink | Kind::BadCost, Key::Links) => {
+            tell_link(&script.names, &lines.links, position, out)
+        }
+        (Kind::BadLine | Kind::BadOwner | Kind::BadCost, Key::Prefixes) => {
+            tell_prefix(&script.names, &lines.prefixes, position, out)
+        }
         _ => Ok(()),
     }
 }

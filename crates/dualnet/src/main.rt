@@ -28,7 +28,7 @@
 //! blocks. So `play` flushes the output first.
 #![tactic(auto)]
 
-use advice::{Faulty, advise, advise_journal, file_to_explain, is_check};
+use advice::{Faulty, advise, advise_bytes, advise_journal, file_to_explain, is_check};
 use journal::JournalFault;
 use play::{Cause, Fault, Host, Source, play, refuse};
 use program_files::{
@@ -118,6 +118,7 @@ fn run_over<H: Host, W: Write>(
 fn tell_more(rt: &HostRuntime, words: &Words<'_>, fault: Fault, scenario: &[u8], second: &[u8]) {
     if let Some(file) = file_to_explain(words) {
         tell_line(rt, words, fault, second);
+        let _ = advise_bytes(file, scenario, &mut rt.stderr());
         let faulty = Faulty {
             file,
             text: str::from_utf8(scenario).unwrap_or(""),
