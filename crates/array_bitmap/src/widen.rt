@@ -107,7 +107,7 @@ fn fitting<A: Allocator + Copy>(image: &Image<A>, alloc: A) -> Result<Image<A>, 
     let first = level_for(image.tree.pool.word_count());
     let other = image.tree.rebuilt(alloc, first)?;
     let right = max(FirstBits::for_rows(other.rows).level(), image.tree.first);
-    if first <= right {
+    if first == right {
         return Ok(image_of(other.tree, alloc, image.generation));
     }
     drop(other);
