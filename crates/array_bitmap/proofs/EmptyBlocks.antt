@@ -4,6 +4,7 @@ use Rattle.std.proofs.lemmas.Bool.{cases_lt, cases_eq, true≢false}
 use Rattle.std.proofs.lemmas.Nat.{div-mul-add, pow_pos}
 use Rattle.std.proofs.Math.Nat.{div-add-mod, div-mul-le_self, lt-div-mul-add}
 use Rattle.ipv4_prefix.specs.Prefix.{Prefix, IsPrefix}
+use Rattle.network_model.specs.declared.route.Entry.{Entry}
 use Rattle.array_bitmap.specs.Bits.{depth_of, path_start}
 use Rattle.array_bitmap.specs.Words.{entry_of}
 use Rattle.array_bitmap.specs.Cursor.{is_before, IsNextPrefix, IsFirstAt, IsFoundAt, none_until}
@@ -40,21 +41,17 @@ in_block c r len valid_c valid_r deep from below =
       ],
     )
 
-module _ (t : Cells) (sound : IsSound t) where
-  -- where there is no block at a level, no prefix of the addresses there has a longer row
-  none_in_block : (c r : Prefix) (level : ℕ) → IsPrefix c → IsPrefix r → t.first ≤ level → level ≤ 5 → depth_of level < c.len → block_at t (c.addr * 4) (level - t.first) ≡ 0 → is_before r c ≡ false
-      → r.addr < (c.addr / 2 ^ (32 - depth_of level) + 1) * 2 ^ (32 - depth_of level) → entry_in t r ≡ None
-  none_in_block c r level valid_c valid_r low high deep none from below =
-      let short = valid_c.short in
-      let short_r = valid_r.short in
-      let on : t.first + (level - t.first) ≡ level = omega (arith, low) in
-      let block = in_block c r (depth_of level) valid_c valid_r (omega (arith, deep)) from below in
-      let bits : path_start (r.addr * 4) (depth_of level) ≡ path_start (c.addr * 4) (depth_of level) =
-      path_bits r.addr (depth_of level) (omega (arith, deep, short)) ∙ block.0 ∙ sym (path_bits c.addr (depth_of level) (omega (arith, deep, short))) in
-      let ended : block_at t (r.addr * 4) (level - t.first) ≡ 0 =
-      block-same t (r.addr * 4) (c.addr * 4) (level - t.first) (omega (arith, on, high)) (subst (λ l. path_start (r.addr * 4) (depth_of l) ≡ path_start (c.addr * 4) (depth_of l)) (sym on) bits) ∙ none in
-      let order = number_not_before r c short_r short from in
-      let longer : depth_of level < r.len = elim (cases_eq r.len (depth_of level)) [
+-- so it has the same bits before a level, and is longer than these, where that one is
+pub in_level : (c r : Prefix) (level : ℕ) → IsPrefix c → IsPrefix r → depth_of level < c.len → is_before r c ≡ false
+    → r.addr < (c.addr / 2 ^ (32 - depth_of level) + 1) * 2 ^ (32 - depth_of level)
+    → (path_start (r.addr * 4) (depth_of level) ≡ path_start (c.addr * 4) (depth_of level)) × (depth_of level < r.len)
+in_level c r level valid_c valid_r deep from below =
+    let short = valid_c.short in
+    let short_r = valid_r.short in
+    let block = in_block c r (depth_of level) valid_c valid_r (omega (arith, deep)) from below in
+    let order = number_not_before r c short_r short from in (
+      path_bits r.addr (depth_of level) (omega (arith, deep, short)) ∙ block.0 ∙ sym (path_bits c.addr (depth_of level) (omega (arith, deep, short))),
+      elim (cases_eq r.len (depth_of level)) [
         | inl same ↦
             let zero : r.addr % 2 ^ (32 - depth_of level) ≡ 0 = subst (λ n. r.addr % 2 ^ (32 - n) ≡ 0) same valid_r.no_host_bits in
             let whole = div-add-mod r.addr (2 ^ (32 - depth_of level)) in
@@ -62,30 +59,48 @@ module _ (t : Cells) (sound : IsSound t) where
             let again : r.addr / 2 ^ (32 - depth_of level) * 2 ^ (32 - depth_of level) ≡ c.addr / 2 ^ (32 - depth_of level) * 2 ^ (32 - depth_of level) = ap (λ n. n * 2 ^ (32 - depth_of level)) block.0 in
             absurd (omega (arith, same, zero, whole, start, again, order, deep))
         | inr apart ↦ (let least = block.1 in omega (arith, least, apart))
-      ] in
+      ],
+    )
+
+-- where no prefix from one on has an entry before the end of a block in which that one is, the first that may have one comes after the block
+pub none_until_end : (entry : Prefix → Option Entry) (c : Prefix) (addr len : ℕ) (next : Option Prefix) → IsPrefix c → addr ≡ c.addr
+    → ((r : Prefix) → IsPrefix r → is_before r c ≡ false → r.addr < (c.addr / 2 ^ (32 - len) + 1) * 2 ^ (32 - len) → entry r ≡ None)
+    → IsFirstAt ((addr / 2 ^ (32 - len) + 1) * 2 ^ (32 - len)) next → IsFoundAt entry c (none_until next)
+none_until_end entry c addr len next valid same none first = by_next next (subst (λ a. IsFirstAt ((a / 2 ^ (32 - len) + 1) * 2 ^ (32 - len)) next) same first)
+  where
+    by_next : (next : Option Prefix) → IsFirstAt ((c.addr / 2 ^ (32 - len) + 1) * 2 ^ (32 - len)) next → IsFoundAt entry c (none_until next)
+    by_next None past = λ r valid_r from. let fits = valid_r.fits in none r valid_r from (omega (arith, fits, past))
+    by_next (Some q) (valid_q, at, shortest) =
+        let short_c = valid.short in
+        let short_q = valid_q.short in
+        let after : c.addr < c.addr / 2 ^ (32 - len) * 2 ^ (32 - len) + 2 ^ (32 - len) = lt-div-mul-add (pow_pos (32 - len)) in (
+          valid_q,
+          before_from_number c q short_c short_q (omega (arith, at, after, short_c)),
+          λ r valid_r from before.
+              let short_r = valid_r.short in
+              let order = number_before r q short_r short_q before in
+              none r valid_r from (elim (cases_eq r.addr q.addr) [
+                | inl here ↦ absurd (omega (arith, order, here, shortest r valid_r (here ∙ at)))
+                | inr apart ↦ omega (arith, order, apart, at, short_r, short_q)
+              ]),
+        )
+
+module _ (t : Cells) (sound : IsSound t) where
+  -- where there is no block at a level, no prefix of the addresses there has a longer row
+  none_in_block : (c r : Prefix) (level : ℕ) → IsPrefix c → IsPrefix r → t.first ≤ level → level ≤ 5 → depth_of level < c.len → block_at t (c.addr * 4) (level - t.first) ≡ 0 → is_before r c ≡ false
+      → r.addr < (c.addr / 2 ^ (32 - depth_of level) + 1) * 2 ^ (32 - depth_of level) → entry_in t r ≡ None
+  none_in_block c r level valid_c valid_r low high deep none from below =
+      let on : t.first + (level - t.first) ≡ level = omega (arith, low) in
+      let (bits, longer) = in_level c r level valid_c valid_r deep from below in
+      let ended : block_at t (r.addr * 4) (level - t.first) ≡ 0 =
+      block-same t (r.addr * 4) (c.addr * 4) (level - t.first) (omega (arith, on, high)) (subst (λ l. path_start (r.addr * 4) (depth_of l) ≡ path_start (c.addr * 4) (depth_of l)) (sym on) bits) ∙ none in
       ap (option_map entry_of) (none_below t sound.nowhere (r.addr * 4) (level - t.first) r.len ended (omega (arith, on, longer)))
 
   -- so the first that may have one comes after them
   pub none_until_past : (c : Prefix) (addr level : ℕ) (next : Option Prefix) → IsPrefix c → addr ≡ c.addr → t.first ≤ level → level ≤ 5 → depth_of level < c.len → block_at t (c.addr * 4) (level - t.first) ≡ 0
       → IsFirstAt ((addr / 2 ^ (32 - depth_of level) + 1) * 2 ^ (32 - depth_of level)) next → IsFoundAt (entry_in t) c (none_until next)
-  none_until_past c addr level next valid same low high deep none first = by_next next (subst (λ a. IsFirstAt ((a / 2 ^ (32 - depth_of level) + 1) * 2 ^ (32 - depth_of level)) next) same first)
-    where
-      by_next : (next : Option Prefix) → IsFirstAt ((c.addr / 2 ^ (32 - depth_of level) + 1) * 2 ^ (32 - depth_of level)) next → IsFoundAt (entry_in t) c (none_until next)
-      by_next None past = λ r valid_r from. let fits = valid_r.fits in none_in_block c r level valid valid_r low high deep none from (omega (arith, fits, past))
-      by_next (Some q) (valid_q, at, shortest) =
-          let short_c = valid.short in
-          let short_q = valid_q.short in
-          let after : c.addr < c.addr / 2 ^ (32 - depth_of level) * 2 ^ (32 - depth_of level) + 2 ^ (32 - depth_of level) = lt-div-mul-add (pow_pos (32 - depth_of level)) in (
-            valid_q,
-            before_from_number c q short_c short_q (omega (arith, at, after, short_c)),
-            λ r valid_r from before.
-                let short_r = valid_r.short in
-                let order = number_before r q short_r short_q before in
-                none_in_block c r level valid valid_r low high deep none from (elim (cases_eq r.addr q.addr) [
-                  | inl here ↦ absurd (omega (arith, order, here, shortest r valid_r (here ∙ at)))
-                  | inr apart ↦ omega (arith, order, apart, at, short_r, short_q)
-                ]),
-          )
+  none_until_past c addr level next valid same low high deep none first =
+      none_until_end (entry_in t) c addr (depth_of level) next valid same (λ r valid_r from below. none_in_block c r level valid valid_r low high deep none from below) first
 
   -- where a prefix has no row, the first that may have one is the next
   pub none_until_next : (c : Prefix) (next : Option Prefix) → (entry_in t) c ≡ None → IsNextPrefix c next → IsFoundAt (entry_in t) c (none_until next)

@@ -28,4 +28,6 @@ pub mod Takes
 pub mod PrefixNumbers
 pub mod RowsFrom
 pub mod EmptyBlocks
+pub mod NextSpots
+pub mod BlockSteps
 pub mod Pruned

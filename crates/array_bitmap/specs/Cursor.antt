@@ -1,9 +1,13 @@
 -- The rows of a table in the order of their prefixes, from a prefix on.
-use Rattle.std.specs.Prelude.{ℕ, ◌≡◌, ◌≤◌, ◌^◌, Bool, not, true, false, List, [], ◌∷◌, Option, Some, None, slice_get}
+use Rattle.std.specs.Prelude.{ℕ, ◌≡◌, ◌+◌, ◌-◌, ◌*◌, ◌%◌, ◌<◌, ◌≤◌, ◌^◌, Bool, not, true, false, List, [], ◌∷◌, Option, Some, None, slice_get}
+use Rattle.std.specs.Int.{bit_at}
 use Rattle.std.specs.List.{filter}
 use Rattle.std.specs.Ordering.{is_lt}
 use Rattle.ipv4_prefix.specs.Prefix.{Prefix, IsPrefix, prefix_cmp}
 use Rattle.network_model.specs.declared.route.Entry.{Entry}
+use Rattle.array_bitmap.specs.Bits.{depth_of, row_bit, width}
+use Rattle.array_bitmap.specs.declared.blocks.Head.{Head}
+use Rattle.array_bitmap.specs.declared.cursor.Spot.{Spot}
 use Rattle.array_bitmap.specs.declared.cursor.Found.{Found}
 use Rattle.array_bitmap.specs.declared.cursor.Found.TheVariants.{Row, NoneBefore, NoMore}
 
@@ -49,3 +53,17 @@ abbrev pub IsFoundAt : (Prefix → Option Entry) → Prefix → Found → Type 0
 IsFoundAt entry at (Row found) = entry at ≡ Some found
 IsFoundAt entry at (NoneBefore q) = IsPrefix q × (is_before at q ≡ true) × ((r : Prefix) → IsPrefix r → is_before r at ≡ false → is_before r q ≡ true → entry r ≡ None)
 IsFoundAt entry at NoMore = (r : Prefix) → IsPrefix r → is_before r at ≡ false → entry r ≡ None
+
+-- the number of a place in a block: places are in the order of prefixes, by the five bits and then by the length
+abbrev pub spot_number : ℕ → ℕ → ℕ
+spot_number five more = five * 8 + more
+
+-- a place comes after that of the prefix of `more + 1` further bits which begin at `five`; no prefix between has a row in the block, and at none of the fives between there is a kid
+pub record IsNextSpot (head : Head) (level five more : ℕ) (spot : Spot) : Type 0 where
+  pub within : spot.five ≤ 32
+  pub few : spot.more ≤ 5
+  pub after : spot_number five more < spot_number spot.five spot.more
+  pub short : depth_of level + (spot.more + 1) ≤ 32
+  pub start : spot.five % 2 ^ (4 - spot.more) ≡ 0
+  pub no_row : (v m : ℕ) → m < width level → v % 2 ^ (4 - m) ≡ 0 → spot_number five more < spot_number v m → spot_number v m < spot_number spot.five spot.more → bit_at head.rows (row_bit v m) ≡ 0
+  pub no_kid : level < 5 → (v : ℕ) → five ≤ v → v < spot.five → bit_at head.kids v ≡ 0

@@ -141,6 +141,15 @@ pub(crate) fn highest(bits: u64) -> u32
     63 - (bits | 1).leading_zeros()
 }
 
+/// The first bit that is set from a bit on; 64 where none is.
+pub(crate) fn next_set(bits: u64, from: u32) -> u32
+    requires { from < 64 }
+    ensures from { from ≤ result }
+    ensures none { (k : ℕ) → from ≤ k → k < result → bit_at bits k ≡ 0 }
+{
+    (bits >> from << from).trailing_zeros()
+}
+
 /// One of two words: the first where `pick` is 1, the second where it is 0. It is computed without a
 /// branch, which a processor would often guess wrong.
 pub(crate) fn chosen(pick: u32, one: u32, other: u32) -> u32
