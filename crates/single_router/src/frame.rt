@@ -20,8 +20,8 @@ pub struct Frame {
 }
 
 impl Frame {
-    // The frame of a message that a router releases.
-    pub(crate) fn of(held: Held) -> Frame
+    /// The frame of a message that a router holds.
+    pub fn of(held: Held) -> Frame
         ensures { result ≡ frame_of held }
     {
         let message = held.message;

@@ -42,8 +42,8 @@ pub struct State {
 }
 
 impl State {
-    // What stands at a prefix, by its machine and its rows.
-    pub(crate) fn of(prefix: Prefix, machine: &Machine, table: &RouteTable) -> State
+    /// What stands at a prefix, by a router's machine and its rows.
+    pub fn of(prefix: Prefix, machine: &Machine, table: &RouteTable) -> State
         ensures { result ≡ state_of (table.now).table prefix (machine.now).machine }
     {
         State {

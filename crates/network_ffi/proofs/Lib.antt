@@ -1,0 +1,4 @@
+pub mod Words
+pub mod Lists
+pub mod Ran
+pub mod Positive

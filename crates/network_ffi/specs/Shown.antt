@@ -1,0 +1,88 @@
+-- What a machine, a link, a queue and a gate have, as C is shown it.
+use Rattle.std.specs.Prelude.{◌≡◌, ℕ, nat_lt, List, map, take, drop, length, Option, Some, None, option_and_then, option_map, slice_get, unwrap_or, IfSome}
+use Rattle.std.specs.List.{range_with_len}
+use Rattle.std.specs.Option.{option_map_or}
+use Rattle.std.specs.FinMap.{find as row_of}
+use Rattle.ipv4_prefix.specs.Prefix.{Prefix, prefix_cmp}
+use Rattle.network_model.specs.Machine.{Machine}
+use Rattle.network_model.specs.Step.{is_due, ripe_front}
+use Rattle.network_model.specs.World.{Link, Router, World, side_at}
+use Rattle.network_model.specs.declared.item.Item.{Item}
+use Rattle.network_model.specs.declared.item.Item.TheVariants.{Up, Down, Cost, Message}
+use Rattle.single_router.specs.Frames.{frame_of, message_kind_number}
+use Rattle.single_router.specs.States.{flag, state_of}
+use Rattle.single_router.specs.declared.frame.Frame.{Frame}
+use Rattle.network_ffi.specs.declared.gate.GateShown.{GateShown}
+use Rattle.network_ffi.specs.declared.link.ItemShown.{ItemShown}
+use Rattle.network_ffi.specs.declared.link.LinkShown.{LinkShown}
+use Rattle.network_ffi.specs.declared.machine.MachineShown.{MachineShown}
+use Rattle.network_ffi.specs.declared.machine.NeighbourShown.{NeighbourShown}
+
+-- ---- machines
+
+-- what a machine keeps of the neighbour at a port; nothing of a port that is not there
+abbrev pub neighbour_shown : Machine → ℕ → NeighbourShown
+neighbour_shown m q = option_map_or (λ n. record { reported = n.reported; cost = n.cost; up = flag n.up }) (slice_get m.ports q) (record { reported = 0; cost = 0; up = 0 })
+
+-- the successor, a port or the attachment; 255 where there is none
+abbrev pub successor_shown : Machine → ℕ
+successor_shown m = unwrap_or m.successor 255
+
+abbrev pub machine_shown : Router → Prefix → Machine → MachineShown
+machine_shown r p m = record { state = state_of r.table p m; neighbours = map (neighbour_shown m) (range_with_len 0 32); successor = successor_shown m }
+
+-- a router's machine for a prefix, where the router has heard of it
+abbrev pub machine_at : Prefix → Router → Option MachineShown
+machine_at p r = option_map (machine_shown r p) (row_of prefix_cmp p r.machines)
+
+-- ---- links and queues
+
+abbrev pub link_shown : Link → LinkShown
+link_shown k = record {
+  to_a = length (k.a).inbox;
+  to_b = length (k.b).inbox;
+  from_a = (k.a).cost;
+  from_b = (k.b).cost;
+  a = (k.a).router;
+  b = (k.b).router;
+  session = k.session;
+  up = flag k.up;
+}
+
+-- an item as C has it: a message, or a notice of the link
+abbrev pub item_shown : Item → ItemShown
+item_shown (Up session cost) = record { addr = 0; value = cost; session = session; kind = 3; len = 0 }
+item_shown (Down session) = record { addr = 0; value = 0; session = session; kind = 4; len = 0 }
+item_shown (Cost session cost) = record { addr = 0; value = cost; session = session; kind = 5; len = 0 }
+item_shown (Message m) = record { addr = (m.prefix).addr; value = m.value; session = 0; kind = message_kind_number m.kind; len = (m.prefix).len }
+
+-- of these items, oldest first, as many as there is room for were written over the first of those that were there: so many, and whether there are more
+pub record AreItemsOver (inbox : List Item) (old new : List ItemShown) (written more : ℕ) : Type 0 where
+  pub count : written ≡ length (take (length old) inbox)
+  pub first : take written new ≡ map item_shown (take (length old) inbox)
+  pub rest : drop written new ≡ drop written old
+  pub more_is : more ≡ flag (nat_lt (length old) (length inbox))
+
+-- so of the items that a router has yet to take from a port
+abbrev pub IsQueueShown : World → ℕ → ℕ → List ItemShown → List ItemShown → ℕ → ℕ → Type 0
+IsQueueShown w i q old new written more = IfSome (side_at w i q) (λ d. AreItemsOver d.inbox old new written more)
+
+-- ---- gates
+
+-- the message that leaves next; of none kind 255
+abbrev pub front_shown : Router → Frame
+front_shown r = option_map_or frame_of (ripe_front r) (record { addr = 0; value = 0; session = 0; len = 0; kind = 255; port = 0 })
+
+-- what a router holds back, which has yet to take so many notices
+abbrev pub gate_shown : Router → ℕ → GateShown
+gate_shown r notices = record {
+  held = length (r.gate).held;
+  ripe = (r.gate).ripe;
+  notices = notices;
+  generation = r.generation;
+  front = front_shown r;
+  due = flag (is_due r);
+}
+
+abbrev pub gate_at : ℕ → World → Option GateShown
+gate_at i w = option_and_then (λ r. option_map (λ a. gate_shown r (length a.notices)) (slice_get w.attachments i)) (slice_get w.routers i)

@@ -1,0 +1,65 @@
+//! What a router holds back, as C is shown it.
+
+ghost use Rattle.std.specs.Prelude.{◌≡◌};
+ghost use Rattle.network_ffi.specs.Shown.{front_shown, gate_at, gate_shown};
+
+use router_core::Router;
+use simulation::World;
+use single_router::Frame;
+
+/// What a router holds back: how many messages, how many of them may leave, how many notices of its own
+/// attachments it has yet to take, how often it has published, the message that leaves next (kind 255: none
+/// may), and whether a publication is due (1, else 0).
+#[repr(C)]
+#[derive(Clone, Copy, Debug, PartialEq, Eq)]
+pub struct GateShown {
+    pub held: usize,
+    pub ripe: usize,
+    pub notices: usize,
+    pub generation: u64,
+    pub front: Frame,
+    pub due: u8,
+}
+
+const NO_MESSAGE: Frame = Frame {
+    addr: 0,
+    value: 0,
+    session: 0,
+    len: 0,
+    kind: 255,
+    port: 0,
+};
+
+impl GateShown {
+    /// That of a router; none where there is no such router.
+    pub fn at(world: &World, router: u16) -> Option<GateShown>
+        ensures { result ≡ gate_at router world.now }
+    {
+        let found = world.routers().get(usize::from(router))?;
+        Some(GateShown::of(found, world.notices(router)))
+    }
+
+    // That of a router which has yet to take so many notices.
+    fn of(router: &Router, notices: usize) -> GateShown
+        ensures { result ≡ gate_shown router.now notices }
+    {
+        GateShown {
+            held: router.held(),
+            ripe: router.ripe(),
+            notices,
+            generation: router.generation(),
+            front: front_of(router),
+            due: u8::from(router.due()),
+        }
+    }
+}
+
+// The message that leaves next.
+fn front_of(router: &Router) -> Frame
+    ensures { result ≡ front_shown router.now }
+{
+    match router.front() {
+        Some(held) => Frame::of(held),
+        None => NO_MESSAGE,
+    }
+}

@@ -1,0 +1,169 @@
+//! The calls that show what is on a machine, a link, a queue and a gate.
+
+ghost use Rattle.std.specs.Prelude.{◌≡◌, ◌≢◌, None, Some, IfErr, IfOk, IfSome, OnErr, OnOk, option_map, slice_get};
+ghost use Rattle.single_router.specs.States.{flag};
+ghost use Rattle.world.specs.Steps.{port_refusal};
+ghost use Rattle.network_ffi.specs.Calls.{at_link, at_machine, at_port, at_router, machine_refusal, shown_machine};
+ghost use Rattle.network_ffi.specs.Failures.{status_by};
+ghost use Rattle.network_ffi.specs.Handles.{handle_network};
+ghost use Rattle.network_ffi.specs.Parts.{as_prefix};
+ghost use Rattle.network_ffi.specs.Shown.{gate_at, link_shown, IsQueueShown};
+
+use crate::failure::Failure;
+use crate::gate::GateShown;
+use crate::handle::NetworkHandle;
+use crate::link::{ItemShown, LinkShown, port_place, write_items};
+use crate::machine::MachineShown;
+use c_interface::{Fault, read_prefix};
+use network_model::{Prefix, Refusal};
+use simulation::World;
+use std::alloc::Global;
+
+/// Writes what a router's machine for a prefix has. It takes no memory.
+#[unsafe(no_mangle)]
+pub extern "C" fn tuhvondi_network_machine(
+    alloc: Global,
+    network: &mut NetworkHandle,
+    router: u16,
+    addr: u32,
+    len: u8,
+    machine: &mut MachineShown,
+) -> u32
+    ensures status { result ≡ status_by (at_machine router addr len (handle_network network.old)) }
+    ensures done { result ≡ 0 → IfSome (handle_network network.old) (λ s.
+        shown_machine s.world router (as_prefix addr len) ≡ Some machine.new) }
+    ensures refused { result ≢ 0 → machine.new ≡ machine.old }
+    ensures network { handle_network network.new ≡ handle_network network.old }
+{
+    let prefix = match read_prefix(addr, len) {
+        Ok(prefix) => prefix,
+        Err(fault) => return fault.number(),
+    };
+    let Some(held) = network.take(alloc) else {
+        return Fault::Empty.number();
+    };
+    let found = machine_of(held.get().world(), router, prefix);
+    network.put(held);
+    match found {
+        Ok(shown) => {
+            *machine = shown;
+            0
+        }
+        Err(refusal) => Failure::Refused(refusal).number(),
+    }
+}
+
+// What a router's machine for a prefix has.
+fn machine_of(world: &World, router: u16, prefix: Prefix) -> Result<MachineShown, Refusal>
+    ensures ok { IfOk result (λ m. shown_machine world.now router prefix ≡ Some m) }
+    ensures known { OnOk result (machine_refusal world.now router prefix ≡ None) }
+    ensures err { IfErr result (λ e. machine_refusal world.now router prefix ≡ Some e) }
+{
+    let Some(found) = world.routers().get(usize::from(router)) else {
+        return Err(Refusal::UnknownRouter);
+    };
+    MachineShown::at(found, prefix).ok_or(Refusal::UnknownPrefix)
+}
+
+/// Writes what a link has now. It takes no memory.
+#[unsafe(no_mangle)]
+pub extern "C" fn tuhvondi_network_link(
+    alloc: Global,
+    network: &mut NetworkHandle,
+    link: u16,
+    shown: &mut LinkShown,
+) -> u32
+    ensures status { result ≡ status_by (at_link link (handle_network network.old)) }
+    ensures done { result ≡ 0 → IfSome (handle_network network.old) (λ s.
+        option_map link_shown (slice_get s.world.links link) ≡ Some shown.new) }
+    ensures refused { result ≢ 0 → shown.new ≡ shown.old }
+    ensures network { handle_network network.new ≡ handle_network network.old }
+{
+    let Some(held) = network.take(alloc) else {
+        return Fault::Empty.number();
+    };
+    let found = LinkShown::at(held.get().world(), link);
+    network.put(held);
+    let Some(found) = found else {
+        return Failure::Refused(Refusal::UnknownLink).number();
+    };
+    *shown = found;
+    0
+}
+
+/// Writes the items that a router has yet to take from a port, oldest first and as many as there is room for,
+/// how many these are, and whether there are more (1, else 0). It takes no memory.
+#[unsafe(no_mangle)]
+pub extern "C" fn tuhvondi_network_queue(
+    alloc: Global,
+    network: &mut NetworkHandle,
+    router: u16,
+    port: u8,
+    items: &mut [ItemShown],
+    written: &mut usize,
+    more: &mut u8,
+) -> u32
+    ensures status { result ≡ status_by (at_port router port (handle_network network.old)) }
+    ensures done { result ≡ 0 → IfSome (handle_network network.old) (λ s. IsQueueShown
+        s.world router port items.old items.new written.new more.new) }
+    ensures refused { result ≢ 0 →
+        (items.new ≡ items.old) × (written.new ≡ written.old) × (more.new ≡ more.old) }
+    ensures network { handle_network network.new ≡ handle_network network.old }
+{
+    let Some(held) = network.take(alloc) else {
+        return Fault::Empty.number();
+    };
+    let told = queue_of(held.get().world(), router, port, items);
+    network.put(held);
+    match told {
+        Ok((count, left)) => {
+            *written = count;
+            *more = u8::from(left);
+            0
+        }
+        Err(refusal) => Failure::Refused(refusal).number(),
+    }
+}
+
+// Writes the items that a router has yet to take from a port.
+fn queue_of(
+    world: &World,
+    router: u16,
+    port: u8,
+    items: &mut [ItemShown],
+) -> Result<(usize, bool), Refusal>
+    ensures ok { IfOk result (λ t. IsQueueShown
+        world.now router port items.old items.new t.0 (flag t.1)) }
+    ensures known { OnOk result (port_refusal world.now router port ≡ None) }
+    ensures unchanged { OnErr result (items.new ≡ items.old) }
+    ensures err { IfErr result (λ e. port_refusal world.now router port ≡ Some e) }
+{
+    let place = port_place(world, router, port)?;
+    Ok(write_items(world, place, items))
+}
+
+/// Writes what a router holds back. It takes no memory.
+#[unsafe(no_mangle)]
+pub extern "C" fn tuhvondi_network_gate(
+    alloc: Global,
+    network: &mut NetworkHandle,
+    router: u16,
+    gate: &mut GateShown,
+) -> u32
+    ensures status { result ≡ status_by (at_router router (handle_network network.old)) }
+    ensures done { result ≡ 0 → IfSome (handle_network network.old) (λ s.
+        gate_at router s.world ≡ Some gate.new) }
+    ensures refused { result ≢ 0 → gate.new ≡ gate.old }
+    ensures network { handle_network network.new ≡ handle_network network.old }
+{
+    let Some(held) = network.take(alloc) else {
+        return Fault::Empty.number();
+    };
+    let found = GateShown::at(held.get().world(), router);
+    network.put(held);
+    let Some(found) = found else {
+        return Failure::Refused(Refusal::UnknownRouter).number();
+    };
+    *gate = found;
+    0
+}

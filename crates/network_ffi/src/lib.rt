@@ -1,0 +1,404 @@
+//! A whole network for C programs, behind a handle.
+//!
+//! The problem: a simulator in C wants a network that it changes and looks at (`simulation`). It has no
+//! types that keep it from giving a wrong number, or from using a network that is not there. So each call
+//! tests what it is given, in a fixed order, and answers a number. C sees `include/tuhvondi_network.h`, which
+//! has the rules for callers.
+//!
+//! ```text
+//! struct tuhvondi_network n = TUHVONDI_NO_NETWORK;
+//! tuhvondi_network_new(2, links, 1, owners, 1, &place, &n);     /* 0: done */
+//! tuhvondi_network_step(&n, &up);                               /* a link comes up */
+//! tuhvondi_network_settle(&n, 0, 1000, &done);                  /* routers go on until all is done */
+//! tuhvondi_network_trace(&n, 1, addr, hops, 2, &count, &end);   /* the way of a packet */
+//! tuhvondi_network_free(&n);
+//! ```
+//!
+//! The words: a *handle* is a pointer to a network in a box, and a flag if there is one. A *status* is 0, or
+//! the number of why a call is refused (`failure_number` in `specs/Failures.antt`).
+//!
+//! What always holds: the tests have an order. Faults of the numbers come first, then an empty handle, then
+//! the network's own refusal, and want of memory last (`step_fault` in `specs/Calls.antt`). If a call is
+//! done, the network is what `simulation` says, by the very definitions that its contracts cite. So all that
+//! is proved of a simulation holds of it, for example that no packet circles. If a call is refused, the
+//! network stays as it was, and nothing is written but what the contract names. Only `tuhvondi_network_new`
+//! and the calls that do steps ask for memory.
+//!
+//! What is tricky is the pointer. Each call takes the box out of the handle, works on what is in it, and puts
+//! it back. So only three small functions touch the pointer (`src/handle.rt`), and these are proved by hand.
+//! A handle is for one call at a time. It has no lock, and may go to another thread.
+//!
+//! The proofs take for granted that C keeps the rules of the header. For example, lists are as long as a call
+//! is told, and no two arguments overlap.
+#![tactic(auto)]
+
+ghost use Rattle.std.specs.Prelude.{◌≡◌, ◌≢◌, None, Some, OnOk, OnErr, IfErr, IfOk, IfSome, IfNone, is_some, length, option_map, slice_get};
+ghost use Rattle.network_model.specs.Turns as turns;
+ghost use Rattle.c_interface.specs.Faults.{fault_number};
+ghost use Rattle.single_router.specs.States.{flag};
+ghost use Rattle.simulation.specs.Simulation.{after_step, opening_simulation};
+ghost use Rattle.network_ffi.specs.Handles.{handle_network};
+ghost use Rattle.network_ffi.specs.Failures.{failure_number, status_by, IsStatusBy};
+ghost use Rattle.network_ffi.specs.Parts.{list_fault, network_failure, parts_network, IsNotOpened};
+ghost use Rattle.network_ffi.specs.Steps.{parts_of_step, step_of};
+ghost use Rattle.network_ffi.specs.Calls.{at_router, counts_of, ending_number, lookup_fault, step_fault, IsAnswered, IsFollowed, IsListed, IsRun, IsSettling};
+
+use c_interface::{Fault, Row};
+use network_model::{Ending, Refusal};
+use simulation::Order;
+use std::alloc::Global;
+
+mod counts;
+mod failure;
+mod gate;
+mod handle;
+mod inspecting;
+mod link;
+mod machine;
+mod opening;
+mod parts;
+mod rows;
+mod running;
+mod step;
+
+use counts::Counts;
+use failure::{Failure, status};
+use handle::NetworkHandle;
+use opening::open;
+use parts::{AttachmentParts, FaultPlace, LinkParts};
+use rows::{answer_all, write_published};
+use step::StepParts;
+
+/// Opens the network of so many routers, with these links and attachments, and puts it into the handle; the
+/// network that the handle held is freed. If none is opened, it answers why, and writes where that stands.
+#[unsafe(no_mangle)]
+pub extern "C" fn tuhvondi_network_new(
+    alloc: Global,
+    routers: u16,
+    links: &[LinkParts],
+    attachments: &[AttachmentParts],
+    place: &mut FaultPlace,
+    network: &mut NetworkHandle,
+) -> u32
+    ensures lists { result ≡ 0 → list_fault links.now attachments.now ≡ None }
+    ensures valid { result ≡ 0 → network_failure routers links.now attachments.now ≡ None }
+    ensures done { result ≡ 0 → handle_network network.new
+        ≡ Some (opening_simulation (parts_network routers links.now attachments.now)) }
+    ensures refused { result ≢ 0 → handle_network network.new ≡ handle_network network.old }
+    ensures cause { result ≢ 0 → IsNotOpened routers links.now attachments.now result place.new }
+{
+    match open(alloc, routers, links, attachments) {
+        Ok(running) => {
+            network.put(running);
+            0
+        }
+        Err((failure, at)) => {
+            *place = at;
+            failure.number()
+        }
+    }
+}
+
+// Does a step of a handle's network.
+fn do_step(alloc: Global, network: &mut NetworkHandle, parts: StepParts) -> Result<(), Failure>
+    ensures ok { OnOk result (IsStatusBy (step_fault parts (handle_network network.old)) 0) }
+    ensures stepped { OnOk result (handle_network network.new
+        ≡ option_map (λ s. after_step s (step_of parts)) (handle_network network.old)) }
+    ensures unchanged { OnErr result (handle_network network.new ≡ handle_network network.old) }
+    ensures err { IfErr result (λ f. IsStatusBy
+        (step_fault parts (handle_network network.old)) (failure_number f)) }
+{
+    if let Err(fault) = parts.read() {
+        return Err(Failure::Given(fault));
+    }
+    let Some(mut held) = network.take(alloc) else {
+        return Err(Failure::Given(Fault::Empty));
+    };
+    let outcome = held.read_and_step(parts);
+    network.put(held);
+    outcome
+}
+
+/// Does a step.
+#[unsafe(no_mangle)]
+pub extern "C" fn tuhvondi_network_step(
+    alloc: Global,
+    network: &mut NetworkHandle,
+    parts: &StepParts,
+) -> u32
+    ensures status { IsStatusBy (step_fault parts.now (handle_network network.old)) result }
+    ensures done { result ≡ 0 → handle_network network.new
+        ≡ option_map (λ s. after_step s (step_of parts.now)) (handle_network network.old) }
+    ensures refused { result ≢ 0 → handle_network network.new ≡ handle_network network.old }
+{
+    status(do_step(alloc, network, *parts))
+}
+
+/// Does steps in order, up to the first that has a fault or is refused, and writes how many were done.
+#[unsafe(no_mangle)]
+pub extern "C" fn tuhvondi_network_run(
+    alloc: Global,
+    network: &mut NetworkHandle,
+    steps: &[StepParts],
+    done: &mut usize,
+) -> u32
+    ensures some { IfSome (handle_network network.old) (λ s. IfSome (handle_network network.new)
+        (λ t. IsRun steps.now s t done.new result)) }
+    ensures kept { is_some (handle_network network.new) ≡ is_some (handle_network network.old) }
+    ensures none { IfNone (handle_network network.old)
+        ((result ≡ fault_number Fault.Empty) × (done.new ≡ done.old)) }
+{
+    let Some(mut held) = network.take(alloc) else {
+        return Fault::Empty.number();
+    };
+    let (count, outcome) = held.run(steps);
+    network.put(held);
+    *done = count;
+    status(outcome)
+}
+
+/// Writes what a router has to do next. If it has nothing to do, the kind is 255.
+#[unsafe(no_mangle)]
+pub extern "C" fn tuhvondi_network_next_step(
+    alloc: Global,
+    network: &mut NetworkHandle,
+    router: u16,
+    step: &mut StepParts,
+) -> u32
+    ensures status { result ≡ status_by (at_router router (handle_network network.old)) }
+    ensures done { result ≡ 0 → IfSome (handle_network network.old) (λ s. step.new
+        ≡ parts_of_step (turns.next_step s.world router)) }
+    ensures refused { result ≢ 0 → step.new ≡ step.old }
+    ensures network { handle_network network.new ≡ handle_network network.old }
+{
+    let Some(held) = network.take(alloc) else {
+        return Fault::Empty.number();
+    };
+    let known = usize::from(router) < held.get().world().routers().len();
+    let next = held.get().next_step(router);
+    network.put(held);
+    if !known {
+        return Failure::Refused(Refusal::UnknownRouter).number();
+    }
+    *step = StepParts::of(next);
+    0
+}
+
+/// Lets routers take turns, at most so many, until nothing is left to do, and writes how many were taken.
+/// With seed 0 they do so in cyclic order, and else in a pseudo-random order that the seed determines.
+#[unsafe(no_mangle)]
+pub extern "C" fn tuhvondi_network_settle(
+    alloc: Global,
+    network: &mut NetworkHandle,
+    seed: u64,
+    most: usize,
+    done: &mut usize,
+) -> u32
+    ensures some { IfSome (handle_network network.old) (λ s. IfSome (handle_network network.new)
+        (λ t. IsSettling s t most done.new result)) }
+    ensures kept { is_some (handle_network network.new) ≡ is_some (handle_network network.old) }
+    ensures none { IfNone (handle_network network.old)
+        ((result ≡ fault_number Fault.Empty) × (done.new ≡ done.old)) }
+{
+    let Some(mut held) = network.take(alloc) else {
+        return Fault::Empty.number();
+    };
+    let order = if seed == 0 {
+        Order::Cyclic
+    } else {
+        Order::Seeded(seed)
+    };
+    let ran = held.settle(order, most);
+    network.put(held);
+    *done = ran.done;
+    match ran.refusal {
+        None => 0,
+        Some(refusal) => Failure::Refused(refusal).number(),
+    }
+}
+
+/// Writes 1 where nothing is left to do, else 0.
+#[unsafe(no_mangle)]
+pub extern "C" fn tuhvondi_network_is_settled(
+    alloc: Global,
+    network: &mut NetworkHandle,
+    settled: &mut u8,
+) -> u32
+    ensures some { IfSome (handle_network network.old) (λ s.
+        (result ≡ 0) × (settled.new ≡ flag (turns.is_settled s.world))) }
+    ensures none { IfNone (handle_network network.old)
+        ((result ≡ fault_number Fault.Empty) × (settled.new ≡ settled.old)) }
+    ensures network { handle_network network.new ≡ handle_network network.old }
+{
+    let Some(held) = network.take(alloc) else {
+        return Fault::Empty.number();
+    };
+    *settled = u8::from(held.get().is_settled());
+    network.put(held);
+    0
+}
+
+// Answers addresses by the image in force at a router.
+fn look_up(
+    alloc: Global,
+    network: &mut NetworkHandle,
+    router: u16,
+    addrs: &[u32],
+    answers: &mut [Row],
+) -> Result<(), Failure>
+    ensures network { handle_network network.new ≡ handle_network network.old }
+    ensures ok { OnOk result (lookup_fault
+        router (length addrs.now) (length answers.old) (handle_network network.old) ≡ None) }
+    ensures answers { OnOk result
+        (IfSome (handle_network network.old) (IsAnswered router addrs.now answers.new)) }
+    ensures unchanged { OnErr result (answers.new ≡ answers.old) }
+    ensures err { IfErr result (λ f. lookup_fault
+        router (length addrs.now) (length answers.old) (handle_network network.old) ≡ Some f) }
+{
+    let Some(held) = network.take(alloc) else {
+        return Err(Failure::Given(Fault::Empty));
+    };
+    let outcome = match held.get().images().get(usize::from(router)) {
+        None => Err(Failure::Refused(Refusal::UnknownRouter)),
+        Some(image) if addrs.len() == answers.len() => {
+            answer_all(image, addrs, answers);
+            Ok(())
+        }
+        Some(_) => Err(Failure::Given(Fault::BadCount)),
+    };
+    network.put(held);
+    outcome
+}
+
+/// Writes, for each address, the row with the longest prefix that covers it, of the image in force at a
+/// router. If no row does, the kind is 3. It takes no memory.
+#[unsafe(no_mangle)]
+pub extern "C" fn tuhvondi_network_lookup(
+    alloc: Global,
+    network: &mut NetworkHandle,
+    router: u16,
+    addrs: &[u32],
+    answers: &mut [Row],
+) -> u32
+    ensures status { result ≡ status_by (lookup_fault
+        router (length addrs.now) (length answers.old) (handle_network network.old)) }
+    ensures done { result ≡ 0 →
+        IfSome (handle_network network.old) (IsAnswered router addrs.now answers.new) }
+    ensures refused { result ≢ 0 → answers.new ≡ answers.old }
+    ensures network { handle_network network.new ≡ handle_network network.old }
+{
+    status(look_up(alloc, network, router, addrs, answers))
+}
+
+/// Writes the routers that a packet for an address passes from a router on, along the images in force, as
+/// many as there is room for, how many these are, and why the packet ends at the last: 0 delivered, 1 no row,
+/// 2 unreachable, 3 a link that is down or up in another session, 255 there is no room. It takes no memory.
+#[unsafe(no_mangle)]
+pub extern "C" fn tuhvondi_network_trace(
+    alloc: Global,
+    network: &mut NetworkHandle,
+    router: u16,
+    addr: u32,
+    hops: &mut [u16],
+    count: &mut usize,
+    end: &mut u8,
+) -> u32
+    ensures status { result ≡ status_by (at_router router (handle_network network.old)) }
+    ensures done { result ≡ 0 → IfSome (handle_network network.old) (λ s. IsFollowed
+        s addr router hops.old hops.new count.new end.new) }
+    ensures refused { result ≢ 0 →
+        (hops.new ≡ hops.old) × (count.new ≡ count.old) × (end.new ≡ end.old) }
+    ensures network { handle_network network.new ≡ handle_network network.old }
+{
+    let Some(held) = network.take(alloc) else {
+        return Fault::Empty.number();
+    };
+    let followed = held.get().trace(router, addr, hops);
+    network.put(held);
+    let Some(traced) = followed else {
+        return Failure::Refused(Refusal::UnknownRouter).number();
+    };
+    *count = traced.count;
+    *end = ending_number(traced.end);
+    0
+}
+
+fn ending_number(end: Option<Ending>) -> u8
+    ensures { result ≡ ending_number end }
+{
+    match end {
+        Some(Ending::Delivered) => 0,
+        Some(Ending::NoRoute) => 1,
+        Some(Ending::Unreachable) => 2,
+        Some(Ending::DeadLink) => 3,
+        Some(Ending::Crossed) => 4,
+        None => 255,
+    }
+}
+
+/// Writes the rows that a router has in force, in the order of their prefixes, as many as there is room for,
+/// how many these are, and whether there are more (1, else 0). It takes no memory.
+#[unsafe(no_mangle)]
+pub extern "C" fn tuhvondi_network_rows(
+    alloc: Global,
+    network: &mut NetworkHandle,
+    router: u16,
+    rows: &mut [Row],
+    written: &mut usize,
+    more: &mut u8,
+) -> u32
+    ensures status { result ≡ status_by (at_router router (handle_network network.old)) }
+    ensures done { result ≡ 0 → IfSome (handle_network network.old) (λ s.
+        IfSome (slice_get s.world.routers router)
+        (λ r. IsListed r rows.old rows.new written.new more.new)) }
+    ensures refused { result ≢ 0 →
+        (rows.new ≡ rows.old) × (written.new ≡ written.old) × (more.new ≡ more.old) }
+    ensures network { handle_network network.new ≡ handle_network network.old }
+{
+    let Some(held) = network.take(alloc) else {
+        return Fault::Empty.number();
+    };
+    let told = match held.get().world().routers().get(usize::from(router)) {
+        Some(found) => Some(write_published(found.table().published_rows(), rows)),
+        None => None,
+    };
+    network.put(held);
+    let Some((count, left)) = told else {
+        return Failure::Refused(Refusal::UnknownRouter).number();
+    };
+    *written = count;
+    *more = u8::from(left);
+    0
+}
+
+/// Writes how many steps were done since the opening, and how many messages of each kind they put on links.
+#[unsafe(no_mangle)]
+pub extern "C" fn tuhvondi_network_counts(
+    alloc: Global,
+    network: &mut NetworkHandle,
+    counts: &mut Counts,
+) -> u32
+    ensures some { IfSome (handle_network network.old) (λ s.
+        (result ≡ 0) × (counts.new ≡ counts_of s)) }
+    ensures none { IfNone (handle_network network.old)
+        ((result ≡ fault_number Fault.Empty) × (counts.new ≡ counts.old)) }
+    ensures network { handle_network network.new ≡ handle_network network.old }
+{
+    let Some(held) = network.take(alloc) else {
+        return Fault::Empty.number();
+    };
+    *counts = Counts::of(held.get());
+    network.put(held);
+    0
+}
+
+/// Frees the network, if there is one. The handle then holds none.
+#[unsafe(no_mangle)]
+pub extern "C" fn tuhvondi_network_free(alloc: Global, network: &mut NetworkHandle)
+    ensures { handle_network network.new ≡ None }
+{
+    *network = NetworkHandle::none(alloc);
+}
+
+#[cfg(test)]
+mod tests;

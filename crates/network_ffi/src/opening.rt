@@ -1,0 +1,70 @@
+//! Networks that are opened for C.
+
+ghost use Rattle.std.specs.Prelude.{◌≡◌, None, IfOk, IfErr, OnOk};
+ghost use Rattle.simulation.specs.Simulation.{opening_simulation};
+ghost use Rattle.network_ffi.specs.Parts.{list_fault, network_failure, parts_network, IsOpeningFault};
+
+use crate::failure::Failure;
+use crate::parts::{
+    AttachmentParts, FaultPlace, LinkParts, check_attachments, check_links, read_attachments,
+    read_links,
+};
+use crate::running::Running;
+use c_interface::Fault;
+use network_model::NoMemory;
+use simulation::Network;
+use std::alloc::Global;
+
+// Where no list has the fault.
+const NOWHERE: FaultPlace = FaultPlace {
+    position: 0,
+    list: 0,
+};
+
+// What is refused for want of memory.
+const FULL: (Failure, FaultPlace) = (Failure::Given(Fault::NoMemory), NOWHERE);
+
+/// Opens the network of these parts. The first fault of the lists is answered with its place; then memory may
+/// be refused, or else the first fault of the network is answered.
+pub fn open(
+    alloc: Global,
+    routers: u16,
+    links: &[LinkParts],
+    attachments: &[AttachmentParts],
+) -> Result<Box<Running>, (Failure, FaultPlace)>
+    ensures ok { OnOk result ((list_fault links.now attachments.now ≡ None)
+        × (network_failure routers links.now attachments.now ≡ None)) }
+    ensures opened { IfOk result (λ b. b.value
+        ≡ opening_simulation (parts_network routers links.now attachments.now)) }
+    ensures err { IfErr result (IsOpeningFault (list_fault links.now attachments.now)
+        (network_failure routers links.now attachments.now)) }
+{
+    if let Err((fault, position)) = check_links(links) {
+        return Err((Failure::Given(fault), FaultPlace { position, list: 1 }));
+    }
+    if let Err((fault, position)) = check_attachments(attachments) {
+        return Err((Failure::Given(fault), FaultPlace { position, list: 2 }));
+    }
+    let Ok(read) = read_links(alloc, links) else {
+        return Err(FULL);
+    };
+    let Ok(rows) = read_attachments(alloc, attachments) else {
+        return Err(FULL);
+    };
+    match Network::new(routers, read, rows) {
+        Ok(network) => match run(alloc, network) {
+            Ok(running) => Ok(running),
+            Err(_) => Err(FULL),
+        },
+        Err(fault) => Err((Failure::Network(fault), FaultPlace::of(fault))),
+    }
+}
+
+// Opens a network, in a box.
+fn run(alloc: Global, network: Network) -> Result<Box<Running>, NoMemory>
+    ensures { IfOk result (λ b. b.value ≡ opening_simulation network) }
+{
+    let running = Running::open(alloc, network)?;
+    let boxed = Box::new(alloc, running)?;
+    Ok(boxed)
+}

@@ -1,0 +1,514 @@
+//! The calls, as C makes them.
+
+use crate::counts::Counts;
+use crate::gate::GateShown;
+use crate::handle::NetworkHandle;
+use crate::inspecting::{
+    tuhvondi_network_gate, tuhvondi_network_link, tuhvondi_network_machine, tuhvondi_network_queue,
+};
+use crate::link::{ItemShown, LinkShown};
+use crate::machine::{MachineShown, NeighbourShown};
+use crate::parts::{AttachmentParts, FaultPlace, LinkParts};
+use crate::step::StepParts;
+use crate::{
+    tuhvondi_network_counts, tuhvondi_network_free, tuhvondi_network_is_settled,
+    tuhvondi_network_lookup, tuhvondi_network_new, tuhvondi_network_next_step,
+    tuhvondi_network_rows, tuhvondi_network_run, tuhvondi_network_settle, tuhvondi_network_step,
+    tuhvondi_network_trace,
+};
+use c_interface::Row;
+use single_router::{Frame, State};
+use std::alloc::Global;
+
+const NOWHERE: FaultPlace = FaultPlace {
+    position: 9,
+    list: 9,
+};
+
+const NO_ROW: Row = Row {
+    addr: 0,
+    len: 0,
+    kind: 3,
+    port: 0,
+    session: 0,
+};
+
+// Two routers and a third in a line, each link at cost 1, and router 0 attached to 10.0.0.0/8 at cost 1.
+const LINE: [LinkParts; 2] = [
+    LinkParts {
+        from_a: 1,
+        from_b: 1,
+        a: 0,
+        b: 1,
+    },
+    LinkParts {
+        from_a: 1,
+        from_b: 1,
+        a: 1,
+        b: 2,
+    },
+];
+
+const OWNER: [AttachmentParts; 1] = [AttachmentParts {
+    addr: 0x0a00_0000,
+    cost: 1,
+    router: 0,
+    len: 8,
+}];
+
+fn row(kind: u8, port: u8, session: u16) -> Row {
+    Row {
+        addr: 0x0a00_0000,
+        len: 8,
+        kind,
+        port,
+        session,
+    }
+}
+
+fn plain(kind: u8, subject: u16) -> StepParts {
+    StepParts {
+        addr: 0,
+        cost: 0,
+        subject,
+        kind,
+        port: 0,
+        len: 0,
+    }
+}
+
+fn line(alloc: Global) -> NetworkHandle {
+    let mut network = NetworkHandle::none(alloc);
+    let mut place = NOWHERE;
+    let _ = tuhvondi_network_new(alloc, 3, &LINE, &OWNER, &mut place, &mut network);
+    network
+}
+
+fn look_up(alloc: Global, network: &mut NetworkHandle, router: u16) -> Row {
+    let mut answers = [NO_ROW];
+    let _ = tuhvondi_network_lookup(alloc, network, router, &[0x0a01_0203], &mut answers);
+    answers[0]
+}
+
+#[test]
+fn line_settles_and_a_cut_is_heard(rt: HostRuntime) {
+    let alloc = rt.alloc();
+    let mut network = line(alloc);
+    let mut done = 0;
+    assert_eq!(rt;
+        tuhvondi_network_run(alloc, &mut network, &[plain(0, 0), plain(0, 1)], &mut done),
+        0
+    );
+    assert_eq!(rt; done, 2);
+    for seed in [0, 1, 7] {
+        assert_eq!(rt;
+            tuhvondi_network_settle(alloc, &mut network, seed, 10_000, &mut done),
+            0
+        );
+    }
+    let mut settled = 9;
+    assert_eq!(rt;
+        tuhvondi_network_is_settled(alloc, &mut network, &mut settled),
+        0
+    );
+    assert_eq!(rt; settled, 1);
+    assert_eq!(rt; look_up(alloc, &mut network, 0), row(0, 0, 0));
+    assert_eq!(rt; look_up(alloc, &mut network, 1), row(1, 0, 1));
+    assert_eq!(rt; look_up(alloc, &mut network, 2), row(1, 0, 1));
+    let (mut hops, mut count, mut end) = ([9, 9, 9, 9], 0, 9);
+    assert_eq!(rt;
+        tuhvondi_network_trace(
+            alloc,
+            &mut network,
+            2,
+            0x0a01_0203,
+            &mut hops,
+            &mut count,
+            &mut end
+        ),
+        0
+    );
+    assert_eq!(rt; (count, end), (3, 0));
+    assert_eq!(rt; hops, [2, 1, 0, 9]);
+    let (mut rows, mut more) = ([NO_ROW; 2], 9);
+    assert_eq!(rt;
+        tuhvondi_network_rows(alloc, &mut network, 2, &mut rows, &mut count, &mut more),
+        0
+    );
+    assert_eq!(rt; (count, more), (1, 0));
+    assert_eq!(rt; rows, [row(1, 0, 1), NO_ROW]);
+    // The link of routers 0 and 1 goes down: until router 1 hears of that, its row leads over a dead link.
+    assert_eq!(rt; tuhvondi_network_step(alloc, &mut network, &plain(1, 0)), 0);
+    assert_eq!(rt;
+        tuhvondi_network_trace(
+            alloc,
+            &mut network,
+            2,
+            0x0a01_0203,
+            &mut hops,
+            &mut count,
+            &mut end
+        ),
+        0
+    );
+    assert_eq!(rt; (count, end), (2, 3));
+    assert_eq!(rt;
+        tuhvondi_network_settle(alloc, &mut network, 0, 10_000, &mut done),
+        0
+    );
+    assert_eq!(rt; look_up(alloc, &mut network, 1), row(2, 0, 0));
+    assert_eq!(rt; look_up(alloc, &mut network, 2), row(2, 0, 0));
+    let mut counts = Counts {
+        steps: 0,
+        updates: 0,
+        queries: 0,
+        replies: 0,
+    };
+    assert_eq!(rt;
+        tuhvondi_network_counts(alloc, &mut network, &mut counts),
+        0
+    );
+    // Each query is answered once.
+    assert_eq!(rt; counts.queries, counts.replies);
+    tuhvondi_network_free(alloc, &mut network);
+}
+
+// What router 1 is shown of its machine, or the number of a fault.
+fn machine(alloc: Global, network: &mut NetworkHandle) -> Result<MachineShown, u32> {
+    let mut shown = MachineShown {
+        state: State {
+            rd: 9,
+            fd: 9,
+            attached: 9,
+            chosen: NO_ROW,
+            published: NO_ROW,
+            active: 9,
+            owed: 9,
+            awaited: [9; 32],
+        },
+        neighbours: [NeighbourShown {
+            reported: 9,
+            cost: 9,
+            up: 9,
+        }; 32],
+        successor: 9,
+    };
+    match tuhvondi_network_machine(alloc, network, 1, 0x0a00_0000, 8, &mut shown) {
+        0 => Ok(shown),
+        fault => Err(fault),
+    }
+}
+
+const NO_MESSAGE: Frame = Frame {
+    addr: 0,
+    value: 0,
+    session: 0,
+    len: 0,
+    kind: 255,
+    port: 0,
+};
+
+// What router 1 holds back, or the number of a fault.
+fn gate(alloc: Global, network: &mut NetworkHandle, router: u16) -> Result<GateShown, u32> {
+    let mut shown = GateShown {
+        held: 9,
+        ripe: 9,
+        notices: 9,
+        generation: 9,
+        front: NO_MESSAGE,
+        due: 9,
+    };
+    match tuhvondi_network_gate(alloc, network, router, &mut shown) {
+        0 => Ok(shown),
+        fault => Err(fault),
+    }
+}
+
+fn link(alloc: Global, network: &mut NetworkHandle, number: u16) -> Result<LinkShown, u32> {
+    let mut shown = LinkShown {
+        to_a: 9,
+        to_b: 9,
+        from_a: 9,
+        from_b: 9,
+        a: 9,
+        b: 9,
+        session: 9,
+        up: 9,
+    };
+    match tuhvondi_network_link(alloc, network, number, &mut shown) {
+        0 => Ok(shown),
+        fault => Err(fault),
+    }
+}
+
+const NO_ITEM: ItemShown = ItemShown {
+    addr: 0,
+    value: 0,
+    session: 0,
+    kind: 255,
+    len: 0,
+};
+
+// The item that a router takes next from its port, how many were shown, and whether there are more.
+fn item(
+    alloc: Global,
+    network: &mut NetworkHandle,
+    router: u16,
+    port: u8,
+    room: usize,
+) -> Result<(ItemShown, usize, u8), u32> {
+    let mut items = [NO_ITEM; 2];
+    let (mut written, mut more) = (9, 9);
+    match tuhvondi_network_queue(
+        alloc,
+        network,
+        router,
+        port,
+        &mut items[..room],
+        &mut written,
+        &mut more,
+    ) {
+        0 => Ok((items[0], written, more)),
+        fault => Err(fault),
+    }
+}
+
+#[test]
+fn a_query_is_shown_on_its_way(rt: HostRuntime) {
+    let alloc = rt.alloc();
+    let mut network = line(alloc);
+    let mut done = 0;
+    assert_eq!(rt; machine(alloc, &mut network), Err(28));
+    assert_eq!(rt;
+        tuhvondi_network_run(alloc, &mut network, &[plain(0, 0), plain(0, 1)], &mut done),
+        0
+    );
+    let came_up = ItemShown {
+        value: 1,
+        session: 1,
+        kind: 3,
+        ..NO_ITEM
+    };
+    assert_eq!(rt; item(alloc, &mut network, 1, 0, 2), Ok((came_up, 1, 0)));
+    assert_eq!(rt; item(alloc, &mut network, 1, 0, 0), Ok((NO_ITEM, 0, 1)));
+    assert_eq!(rt;
+        tuhvondi_network_settle(alloc, &mut network, 0, 10_000, &mut done),
+        0
+    );
+    // Router 1 loses its successor, and router 2 is no feasible one. So router 1 asks it, and waits until its
+    // row is in force.
+    assert_eq!(rt;
+        tuhvondi_network_run(alloc, &mut network, &[plain(1, 0), plain(3, 1)], &mut done),
+        0
+    );
+    let shown = machine(alloc, &mut network);
+    assert!(rt;
+        shown.is_ok_and(|m| m.successor == 255
+            && m.neighbours[0].up == 0
+            && m.neighbours[1]
+                == NeighbourShown {
+                    reported: 3,
+                    cost: 1,
+                    up: 1
+                })
+    );
+    assert!(rt;
+        shown.is_ok_and(|m| m.state.rd == u32::MAX
+            && m.state.fd == 2
+            && m.state.active == 1
+            && m.state.awaited[1] == 1
+            && m.state.published == row(1, 0, 1))
+    );
+    let cut = LinkShown {
+        to_a: 1,
+        to_b: 0,
+        from_a: 1,
+        from_b: 1,
+        a: 0,
+        b: 1,
+        session: 1,
+        up: 0,
+    };
+    assert_eq!(rt; link(alloc, &mut network, 0), Ok(cut));
+    let mut waits = GateShown {
+        held: 1,
+        ripe: 0,
+        notices: 0,
+        generation: 1,
+        front: NO_MESSAGE,
+        due: 1,
+    };
+    assert_eq!(rt; gate(alloc, &mut network, 1), Ok(waits));
+    // Router 1 publishes, and then its query leaves: it has no distance any more.
+    assert_eq!(rt; tuhvondi_network_step(alloc, &mut network, &plain(4, 1)), 0);
+    waits.ripe = 1;
+    waits.generation = 2;
+    waits.due = 0;
+    waits.front = Frame {
+        addr: 0x0a00_0000,
+        value: u32::MAX,
+        session: 1,
+        len: 8,
+        kind: 1,
+        port: 1,
+    };
+    assert_eq!(rt; gate(alloc, &mut network, 1), Ok(waits));
+    assert_eq!(rt; tuhvondi_network_step(alloc, &mut network, &plain(5, 1)), 0);
+    let query = ItemShown {
+        addr: 0x0a00_0000,
+        value: u32::MAX,
+        session: 0,
+        kind: 1,
+        len: 8,
+    };
+    assert_eq!(rt; item(alloc, &mut network, 2, 0, 2), Ok((query, 1, 0)));
+    // Hostile arguments.
+    assert_eq!(rt; item(alloc, &mut network, 3, 0, 2), Err(10));
+    assert_eq!(rt; item(alloc, &mut network, 2, 1, 2), Err(11));
+    assert_eq!(rt; link(alloc, &mut network, 2), Err(11));
+    assert_eq!(rt; gate(alloc, &mut network, 3), Err(10));
+    tuhvondi_network_free(alloc, &mut network);
+    assert_eq!(rt; machine(alloc, &mut network), Err(7));
+    assert_eq!(rt; gate(alloc, &mut network, 0), Err(7));
+}
+
+#[test]
+fn faults_are_told_with_their_place(rt: HostRuntime) {
+    let alloc = rt.alloc();
+    let mut network = NetworkHandle::none(alloc);
+    let mut place = NOWHERE;
+    // No router; the second link joins the same two; the first link has no cost from its second end.
+    assert_eq!(rt;
+        tuhvondi_network_new(alloc, 0, &[], &[], &mut place, &mut network),
+        24
+    );
+    assert_eq!(rt;
+        place,
+        FaultPlace {
+            position: 0,
+            list: 0
+        }
+    );
+    assert_eq!(rt;
+        tuhvondi_network_new(
+            alloc,
+            3,
+            &[LINE[0], LINE[0]],
+            &OWNER,
+            &mut place,
+            &mut network
+        ),
+        25
+    );
+    assert_eq!(rt;
+        place,
+        FaultPlace {
+            position: 1,
+            list: 1
+        }
+    );
+    let costless = LinkParts {
+        from_b: 0,
+        ..LINE[1]
+    };
+    assert_eq!(rt;
+        tuhvondi_network_new(
+            alloc,
+            3,
+            &[LINE[0], costless],
+            &OWNER,
+            &mut place,
+            &mut network
+        ),
+        5
+    );
+    assert_eq!(rt;
+        place,
+        FaultPlace {
+            position: 1,
+            list: 1
+        }
+    );
+    let long = AttachmentParts {
+        len: 33,
+        ..OWNER[0]
+    };
+    assert_eq!(rt;
+        tuhvondi_network_new(alloc, 3, &LINE, &[OWNER[0], long], &mut place, &mut network),
+        3
+    );
+    assert_eq!(rt;
+        place,
+        FaultPlace {
+            position: 1,
+            list: 2
+        }
+    );
+    let nobody = AttachmentParts {
+        router: 3,
+        ..OWNER[0]
+    };
+    assert_eq!(rt;
+        tuhvondi_network_new(alloc, 3, &LINE, &[nobody], &mut place, &mut network),
+        27
+    );
+    assert_eq!(rt;
+        place,
+        FaultPlace {
+            position: 0,
+            list: 2
+        }
+    );
+    // The handle is empty still.
+    assert_eq!(rt; tuhvondi_network_step(alloc, &mut network, &plain(0, 0)), 7);
+    tuhvondi_network_free(alloc, &mut network);
+}
+
+#[test]
+fn refused_steps_are_told(rt: HostRuntime) {
+    let alloc = rt.alloc();
+    let mut network = line(alloc);
+    assert_eq!(rt; tuhvondi_network_step(alloc, &mut network, &plain(8, 0)), 6);
+    assert_eq!(rt;
+        tuhvondi_network_step(alloc, &mut network, &plain(0, 2)),
+        11
+    );
+    assert_eq!(rt;
+        tuhvondi_network_step(alloc, &mut network, &plain(1, 0)),
+        14
+    );
+    assert_eq!(rt;
+        tuhvondi_network_step(alloc, &mut network, &plain(4, 3)),
+        10
+    );
+    assert_eq!(rt;
+        tuhvondi_network_step(alloc, &mut network, &plain(4, 0)),
+        17
+    );
+    assert_eq!(rt;
+        tuhvondi_network_step(alloc, &mut network, &plain(5, 0)),
+        18
+    );
+    let mut done = 9;
+    assert_eq!(rt;
+        tuhvondi_network_run(alloc, &mut network, &[plain(0, 0), plain(0, 0)], &mut done),
+        13
+    );
+    assert_eq!(rt; done, 1);
+    let mut next = plain(9, 9);
+    assert_eq!(rt;
+        tuhvondi_network_next_step(alloc, &mut network, 0, &mut next),
+        0
+    );
+    assert_eq!(rt; next, plain(3, 0));
+    assert_eq!(rt;
+        tuhvondi_network_next_step(alloc, &mut network, 2, &mut next),
+        0
+    );
+    assert_eq!(rt; next, plain(255, 0));
+    assert_eq!(rt;
+        tuhvondi_network_next_step(alloc, &mut network, 3, &mut next),
+        10
+    );
+    tuhvondi_network_free(alloc, &mut network);
+}

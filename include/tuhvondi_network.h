@@ -1,0 +1,384 @@
+/* A whole network of routers in one process, for C and C++ programs.
+ *
+ * A simulator wants to see what happens while a network changes: which packets are lost, how many messages it
+ * takes, when it is over. Here is such a network. Its routers route by DUAL (Garcia-Luna-Aceves, Loop-Free
+ * Routing Using Diffusing Computations, 1993), and each forwards by an image of the rows that it published.
+ *
+ * For example, these lines make two routers with a link, and let them learn routes. They test no status:
+ *
+ *   struct tuhvondi_link link = {.from_a = 5, .from_b = 5, .a = 0, .b = 1};
+ *   struct tuhvondi_owner owner = {.addr = 0x0a000000, .len = 8, .cost = 1, .router = 0};
+ *   struct tuhvondi_step up = {.kind = TUHVONDI_LINK_UP, .subject = 0};
+ *   struct tuhvondi_network network = TUHVONDI_NO_NETWORK;
+ *   struct tuhvondi_fault_place place;
+ *   size_t done;
+ *   tuhvondi_network_new(2, &link, 1, &owner, 1, &place, &network);
+ *   tuhvondi_network_step(&network, &up);
+ *   tuhvondi_network_settle(&network, 0, 1000, &done);
+ *
+ * Router 1 then has a row for 10.0.0.0/8 via its port 0. examples/c/network.c has more.
+ *
+ * Nothing happens but by steps. There are three ways to do them:
+ *
+ *   - You do the steps that you choose, one (tuhvondi_network_step) or many (tuhvondi_network_run).
+ *   - You ask a router what it has to do next (tuhvondi_network_next_step), and do that when you like. So a
+ *     simulator with a clock does, which delays messages.
+ *   - You let routers take turns until nothing is left to do (tuhvondi_network_settle).
+ *
+ * The functions are those of the static library `network_ffi`. It is proved what each answers, and what it
+ * makes of the network. The proof holds for every call that keeps to the rules of "tuhvondi.h":
+ *
+ *   - A handle begins as TUHVONDI_NO_NETWORK. Give it to these functions alone, and to one call at a time,
+ *     also to look something up. It may go to another thread.
+ *   - A list is a pointer that is not null, and then the number of its elements.
+ *   - No two arguments overlap.
+ *
+ * Whatever steps are done, and in whatever order, it is proved of the network (docs/6-network.md):
+ *
+ *   - An image answers each address by the longest match over the rows that its router published.
+ *   - No packet meets a router twice along the images in force.
+ *   - If nothing is left to do, rows lead at least cost, that of the attachment at the end included.
+ *   - Once links, costs and attachments stay as they are, finitely many steps are left, in any order.
+ *
+ * A network takes no lock and starts no thread. It takes memory by its routers, links, rows and messages, and
+ * not by its steps. The number of its steps is limited by 2^64 - 1 alone.
+ */
+#ifndef TUHVONDI_NETWORK_H
+#define TUHVONDI_NETWORK_H
+
+#include "tuhvondi.h"
+#include "tuhvondi_router.h"
+
+#ifdef __cplusplus
+extern "C" {
+#endif
+
+/* Why a call on a network is refused. Other causes are in `tuhvondi_status`: TUHVONDI_BAD_LENGTH,
+ * TUHVONDI_HOST_BITS, TUHVONDI_BAD_COST, TUHVONDI_BAD_KIND (of a step it is above 7), TUHVONDI_BAD_COUNT,
+ * TUHVONDI_ALREADY_UP, TUHVONDI_IS_DOWN, TUHVONDI_NOTHING_DUE, TUHVONDI_NOTHING_RIPE, TUHVONDI_NO_MEMORY,
+ * TUHVONDI_UNKNOWN_PREFIX, TUHVONDI_NOT_ATTACHED. */
+enum tuhvondi_network_status {
+    /* The handle is empty: it holds no network. */
+    TUHVONDI_NO_NETWORK_HELD = 7,
+    /* There is no router of this number. */
+    TUHVONDI_UNKNOWN_ROUTER = 10,
+    /* There is no link of this number, or the router has no port of this number. */
+    TUHVONDI_UNKNOWN_LINK = 11,
+    /* The link has come up 65535 times. */
+    TUHVONDI_SESSIONS_SPENT = 15,
+    /* Nothing is on its way to the port. */
+    TUHVONDI_NOTHING_TO_DELIVER = 16,
+    /* 2^64 - 1 steps were done. */
+    TUHVONDI_STEPS_SPENT = 19,
+    /* There is no router, or there are more than 256. */
+    TUHVONDI_BAD_ROUTERS = 24,
+    /* An end of the link is no router, both ends are one router, or an earlier link joins the same two. */
+    TUHVONDI_BAD_LINK = 25,
+    /* It is the 1025th link, or the 33rd of one of its routers. */
+    TUHVONDI_TOO_MANY_LINKS = 26,
+    /* There is no such router, an earlier attachment is of the same prefix and router, it is the 4097th
+     * prefix, or it is the 16385th attachment. */
+    TUHVONDI_BAD_OWNER = 27
+};
+
+/* A status of a network in words, for messages: never null, and not to be freed. */
+static inline const char *tuhvondi_network_status_text(uint32_t status)
+{
+    switch (status) {
+    case TUHVONDI_BAD_KIND:
+        return "a step's kind is above 7";
+    case TUHVONDI_UNKNOWN_ROUTER:
+        return "there is no such router";
+    case TUHVONDI_UNKNOWN_LINK:
+        return "there is no such link";
+    case TUHVONDI_SESSIONS_SPENT:
+        return "the link has come up as often as it can";
+    case TUHVONDI_NOTHING_TO_DELIVER:
+        return "nothing is on its way to the port";
+    case TUHVONDI_STEPS_SPENT:
+        return "as many steps were done as can be counted";
+    case TUHVONDI_BAD_ROUTERS:
+        return "a network has 1 to 256 routers";
+    case TUHVONDI_BAD_LINK:
+        return "the link does not join two routers that no earlier link joins";
+    case TUHVONDI_TOO_MANY_LINKS:
+        return "a network has at most 1024 links, and a router 32";
+    case TUHVONDI_BAD_OWNER:
+        return "the attachment is of no router, was given before, or is one too many";
+    case TUHVONDI_UNKNOWN_PREFIX:
+        return "the prefix is not known there";
+    default:
+        return tuhvondi_status_text(status);
+    }
+}
+
+/* A link: the cost from each of its two routers, 1 to 65535, and their numbers, from 0. A router's ports are
+ * its ends of links, in the order of the links. */
+struct tuhvondi_link {
+    uint32_t from_a;
+    uint32_t from_b;
+    uint16_t a;
+    uint16_t b;
+};
+
+TUHVONDI_ASSERT(sizeof(struct tuhvondi_link) == 12, "a link takes 12 bytes");
+
+/* A router that is attached to a prefix, at a cost of 1 to 65535: packets for the prefix end there. */
+struct tuhvondi_owner {
+    uint32_t addr;
+    uint32_t cost;
+    uint16_t router;
+    uint8_t len;
+};
+
+TUHVONDI_ASSERT(sizeof(struct tuhvondi_owner) == 12, "an attachment of a router takes 12 bytes");
+
+/* Where the fault of a network stands: its position, from 0, in the list of links (`list` is 1) or of
+ * attachments (2). If it stands in neither, both are 0. */
+struct tuhvondi_fault_place {
+    size_t position;
+    uint8_t list;
+};
+
+/* What a step does. */
+enum tuhvondi_step_kind {
+    /* The link `subject` comes up, in its next session. */
+    TUHVONDI_LINK_UP = 0,
+    /* It goes down, and the messages on it are lost. */
+    TUHVONDI_LINK_DOWN = 1,
+    /* The cost from router `subject` of the link at its `port` becomes `cost`. */
+    TUHVONDI_SET_COST = 2,
+    /* Router `subject` takes the oldest item from its `port`. A router with n ports takes the notices of its
+     * own attachments from port n. */
+    TUHVONDI_DELIVER = 3,
+    /* Router `subject` puts the rows that it has chosen in force, and what it holds may leave. */
+    TUHVONDI_PUBLISH = 4,
+    /* Router `subject` puts the oldest message that it holds on its link. */
+    TUHVONDI_RELEASE = 5,
+    /* Router `subject` is attached to the prefix `addr` and `len` at this `cost`. */
+    TUHVONDI_ATTACH = 6,
+    /* It is attached to the prefix no more. */
+    TUHVONDI_DETACH = 7,
+    /* In answers of tuhvondi_network_next_step only: there is nothing to do. */
+    TUHVONDI_NO_STEP = 255
+};
+
+/* A step. Fields that its kind does not need are not read, and are 0 in answers. */
+struct tuhvondi_step {
+    uint32_t addr;
+    uint32_t cost;
+    uint16_t subject;
+    uint8_t kind;
+    uint8_t port;
+    uint8_t len;
+};
+
+TUHVONDI_ASSERT(sizeof(struct tuhvondi_step) == 16, "a step takes 16 bytes");
+TUHVONDI_ASSERT(offsetof(struct tuhvondi_step, len) == 12, "a step's length stands at byte 12");
+
+/* Why a packet goes no further. */
+enum tuhvondi_end {
+    /* It has arrived: the last router is attached to the prefix of its row. */
+    TUHVONDI_DELIVERED = 0,
+    /* No row of the last router covers the address. */
+    TUHVONDI_NO_ROUTE = 1,
+    /* The last router's row says unreachable. */
+    TUHVONDI_NO_WAY = 2,
+    /* The link of the row is down, or up in another session than the row's. */
+    TUHVONDI_DEAD_LINK = 3,
+    /* There is no room for more routers. */
+    TUHVONDI_NOT_ENDED = 255
+};
+
+/* How many steps were done since the opening, and how many messages of each kind they put on links. If the
+ * session of a message is over when it is released, it is dropped, and not counted. */
+struct tuhvondi_network_counts {
+    uint64_t steps;
+    uint64_t updates;
+    uint64_t queries;
+    uint64_t replies;
+};
+
+/* What a router keeps of the neighbour at a port: the distance that the neighbour reported last for the
+ * prefix, the cost of the link from here, and 1 if the link is up, else 0. What was reported counts only
+ * while the link is up. If the router has no such port, all are 0. */
+struct tuhvondi_neighbour {
+    uint32_t reported;
+    uint32_t cost;
+    uint8_t up;
+};
+
+/* What a router has of a prefix. */
+struct tuhvondi_machine {
+    struct tuhvondi_prefix_state state;
+    struct tuhvondi_neighbour neighbours[TUHVONDI_PORTS];
+    /* The port of its successor. For its own attachment: how many ports it has. For none: 255. */
+    uint8_t successor;
+};
+
+/* What a link is now: how many items each of its routers has yet to take, the cost from each, their numbers,
+ * how often the link came up, and 1 if it is up, else 0. */
+struct tuhvondi_link_state {
+    size_t to_a;
+    size_t to_b;
+    uint32_t from_a;
+    uint32_t from_b;
+    uint16_t a;
+    uint16_t b;
+    uint16_t session;
+    uint8_t up;
+};
+
+/* What an item is, if it is no message (TUHVONDI_UPDATE, TUHVONDI_QUERY, TUHVONDI_REPLY). */
+enum tuhvondi_item_kind {
+    /* The link came up in this session. `value` is the cost from the router that takes the item. */
+    TUHVONDI_CAME_UP = 3,
+    /* The link of this session went down. */
+    TUHVONDI_WENT_DOWN = 4,
+    /* In this session the cost from the router that takes the item became `value`. */
+    TUHVONDI_NEW_COST = 5
+};
+
+/* An item on its way over a link. Of a message, `addr` and `len` are the prefix, and `value` is the sender's
+ * distance. Fields that its kind does not need are 0. */
+struct tuhvondi_item {
+    uint32_t addr;
+    uint32_t value;
+    uint16_t session;
+    uint8_t kind;
+    uint8_t len;
+};
+
+TUHVONDI_ASSERT(sizeof(struct tuhvondi_item) == 12, "an item takes 12 bytes");
+
+/* The kind of a message that is not there. */
+#define TUHVONDI_NO_MESSAGE 255
+
+/* What a router holds back: how many messages, how many of these may leave, how many notices of its own
+ * attachments it has yet to take, how often it has published, and the message that leaves next. If none may
+ * leave, the kind of that message is TUHVONDI_NO_MESSAGE, and its other fields are 0. `due` is 1 if the
+ * router has something to publish, else 0. */
+struct tuhvondi_gate {
+    size_t held;
+    size_t ripe;
+    size_t notices;
+    uint64_t generation;
+    struct tuhvondi_message front;
+    uint8_t due;
+};
+
+/* A handle, which holds a network or none. */
+struct tuhvondi_network {
+    void *network_;
+    bool holds_;
+};
+
+TUHVONDI_ASSERT(sizeof(struct tuhvondi_network) == 16, "a handle takes 16 bytes");
+
+/* What a handle begins with: it holds no network. */
+#define TUHVONDI_NO_NETWORK {NULL, false}
+
+/* Opens a network of so many routers, with these links and attachments. Puts it into the handle, and frees
+ * the network that the handle held. All links are down. The attachments are published, so each router has a
+ * row of kind TUHVONDI_LOCAL for each of its own. No other prefix can be attached later.
+ * Refused, in this order, and then `place` says where: TUHVONDI_BAD_COST of the first link that has it; of
+ * the first attachment that has one of them TUHVONDI_BAD_LENGTH, TUHVONDI_HOST_BITS, TUHVONDI_BAD_COST; then
+ * TUHVONDI_NO_MEMORY, or else the first of TUHVONDI_BAD_ROUTERS, of TUHVONDI_BAD_LINK and
+ * TUHVONDI_TOO_MANY_LINKS link by link, of TUHVONDI_BAD_OWNER. */
+uint32_t tuhvondi_network_new(uint16_t routers, const struct tuhvondi_link *links, size_t link_count,
+                              const struct tuhvondi_owner *owners, size_t owner_count,
+                              struct tuhvondi_fault_place *place, struct tuhvondi_network *network);
+
+/* Does a step.
+ * Refused, in this order: TUHVONDI_BAD_LENGTH, TUHVONDI_HOST_BITS, TUHVONDI_BAD_COST, TUHVONDI_BAD_KIND,
+ * TUHVONDI_NO_NETWORK_HELD, TUHVONDI_STEPS_SPENT; then what the kind of step can meet of
+ * TUHVONDI_UNKNOWN_ROUTER, TUHVONDI_UNKNOWN_LINK, TUHVONDI_UNKNOWN_PREFIX if no router was attached to the
+ * prefix at the opening, TUHVONDI_ALREADY_UP, TUHVONDI_IS_DOWN, TUHVONDI_SESSIONS_SPENT,
+ * TUHVONDI_NOTHING_TO_DELIVER, TUHVONDI_NOTHING_DUE, TUHVONDI_NOTHING_RIPE, TUHVONDI_NOT_ATTACHED;
+ * TUHVONDI_NO_MEMORY. */
+uint32_t tuhvondi_network_step(struct tuhvondi_network *network, const struct tuhvondi_step *step);
+
+/* Does steps in their order, up to the first that is refused, and writes how many were done. It answers why
+ * that step is refused, as tuhvondi_network_step does, or TUHVONDI_DONE if all were done.
+ * If the handle is empty, nothing is written: TUHVONDI_NO_NETWORK_HELD. */
+uint32_t tuhvondi_network_run(struct tuhvondi_network *network, const struct tuhvondi_step *steps,
+                              size_t step_count, size_t *done);
+
+/* Writes what a router has to do next: a release; if it has none, a publication; else a delivery from the
+ * lowest port that has an item. If there is nothing to do, the kind is TUHVONDI_NO_STEP.
+ * Refused, and then nothing is written: TUHVONDI_NO_NETWORK_HELD, TUHVONDI_UNKNOWN_ROUTER. */
+uint32_t tuhvondi_network_next_step(struct tuhvondi_network *network, uint16_t router,
+                                    struct tuhvondi_step *step);
+
+/* Lets routers do what they have to do next, at most so many steps, until nothing is left to do. Writes how
+ * many were done. With seed 0 they take turns in the order of their numbers, again and again, and else in a
+ * pseudo-random order that the seed determines.
+ * Stopped by TUHVONDI_STEPS_SPENT or TUHVONDI_NO_MEMORY, it keeps the steps that were done. If the handle is
+ * empty, nothing is written: TUHVONDI_NO_NETWORK_HELD. */
+uint32_t tuhvondi_network_settle(struct tuhvondi_network *network, uint64_t seed, size_t most,
+                                 size_t *done);
+
+/* Writes 1 if nothing is left to do, else 0. It does not go through the network.
+ * Refused, and then nothing is written: TUHVONDI_NO_NETWORK_HELD. */
+uint32_t tuhvondi_network_is_settled(struct tuhvondi_network *network, uint8_t *settled);
+
+/* Writes into answers[i] the row with the longest prefix that covers addrs[i], of the image in force at the
+ * router. If no row does, its kind is TUHVONDI_NO_ROW. It takes no memory.
+ * Refused, and then nothing is written: TUHVONDI_NO_NETWORK_HELD, TUHVONDI_UNKNOWN_ROUTER,
+ * TUHVONDI_BAD_COUNT if the two numbers differ. */
+uint32_t tuhvondi_network_lookup(struct tuhvondi_network *network, uint16_t router,
+                                 const uint32_t *addrs, size_t addr_count,
+                                 struct tuhvondi_row *answers, size_t answer_count);
+
+/* Follows a packet for an address from a router on, along the images in force. Writes the routers that it
+ * passes, as many as there is room for, how many these are, and why it goes no further than the last (enum
+ * tuhvondi_end). No router is written twice. If there is room for all routers, the packet is followed to its
+ * end. It takes no memory.
+ * Refused, and then nothing is written: TUHVONDI_NO_NETWORK_HELD, TUHVONDI_UNKNOWN_ROUTER. */
+uint32_t tuhvondi_network_trace(struct tuhvondi_network *network, uint16_t router, uint32_t addr,
+                                uint16_t *hops, size_t hop_count, size_t *count, uint8_t *end);
+
+/* Writes the rows that a router has in force, in the order of their prefixes, as many as there is room for.
+ * Writes how many these are, and 1 to `more` if there are more, else 0. It takes no memory.
+ * Refused, and then nothing is written: TUHVONDI_NO_NETWORK_HELD, TUHVONDI_UNKNOWN_ROUTER. */
+uint32_t tuhvondi_network_rows(struct tuhvondi_network *network, uint16_t router,
+                               struct tuhvondi_row *rows, size_t row_count, size_t *written,
+                               uint8_t *more);
+
+/* Writes what a router has of a prefix. It takes no memory.
+ * Refused, and then nothing is written: TUHVONDI_BAD_LENGTH, TUHVONDI_HOST_BITS, TUHVONDI_NO_NETWORK_HELD,
+ * TUHVONDI_UNKNOWN_ROUTER, TUHVONDI_UNKNOWN_PREFIX if the router has not heard of the prefix. */
+uint32_t tuhvondi_network_machine(struct tuhvondi_network *network, uint16_t router, uint32_t addr,
+                                  uint8_t len, struct tuhvondi_machine *machine);
+
+/* Writes what a link is now. It takes no memory.
+ * Refused, and then nothing is written: TUHVONDI_NO_NETWORK_HELD, TUHVONDI_UNKNOWN_LINK. */
+uint32_t tuhvondi_network_link(struct tuhvondi_network *network, uint16_t link,
+                               struct tuhvondi_link_state *state);
+
+/* Writes the items that a router has yet to take from its port, oldest first, as many as there is room for.
+ * Writes how many these are, and 1 to `more` if there are more, else 0. It takes no memory.
+ * Refused, and then nothing is written: TUHVONDI_NO_NETWORK_HELD, TUHVONDI_UNKNOWN_ROUTER,
+ * TUHVONDI_UNKNOWN_LINK if the router has no such port. */
+uint32_t tuhvondi_network_queue(struct tuhvondi_network *network, uint16_t router, uint8_t port,
+                                struct tuhvondi_item *items, size_t item_count, size_t *written,
+                                uint8_t *more);
+
+/* Writes what a router holds back. It takes no memory.
+ * Refused, and then nothing is written: TUHVONDI_NO_NETWORK_HELD, TUHVONDI_UNKNOWN_ROUTER. */
+uint32_t tuhvondi_network_gate(struct tuhvondi_network *network, uint16_t router,
+                               struct tuhvondi_gate *gate);
+
+/* Writes how many steps were done, and how many messages of each kind they put on links.
+ * Refused, and then nothing is written: TUHVONDI_NO_NETWORK_HELD. */
+uint32_t tuhvondi_network_counts(struct tuhvondi_network *network,
+                                 struct tuhvondi_network_counts *counts);
+
+/* Frees the network, if there is one. The handle then holds none. */
+void tuhvondi_network_free(struct tuhvondi_network *network);
+
+#ifdef __cplusplus
+}
+#endif
+
+#endif
