@@ -2,3 +2,4 @@ pub mod Words
 pub mod Lists
 pub mod Ran
 pub mod Positive
+pub mod Items

@@ -1,6 +1,6 @@
 //! What a router holds back, as C is shown it.
 
-ghost use Rattle.std.specs.Prelude.{◌≡◌};
+ghost use Rattle.std.specs.Prelude.{◌≡◌, None, slice_get};
 ghost use Rattle.network_ffi.specs.Shown.{front_shown, gate_at, gate_shown};
 
 use router_core::Router;
@@ -33,7 +33,8 @@ const NO_MESSAGE: Frame = Frame {
 impl GateShown {
     /// That of a router; none where there is no such router.
     pub fn at(world: &World, router: u16) -> Option<GateShown>
-        ensures { result ≡ gate_at router world.now }
+        ensures shown { result ≡ gate_at router world.now }
+        ensures none { result ≡ None → slice_get (world.now).routers router ≡ None }
     {
         let found = world.routers().get(usize::from(router))?;
         Some(GateShown::of(found, world.notices(router)))

@@ -8,7 +8,6 @@ ghost use Rattle.network_ffi.specs.Shown.{item_shown, link_shown, AreItemsOver};
 
 use network_model::{End, Item, Kind, Place, Refusal};
 use simulation::World;
-use std::cmp::min;
 
 /// A link now: how many items each of its two routers has yet to take, the costs from them, their numbers,
 /// how often the link came up, and whether it is up (1, else 0).
@@ -122,12 +121,14 @@ pub fn write_items(world: &World, place: Place, items: &mut [ItemShown]) -> (usi
         (side place.end k).inbox items.old items.new result.0 (flag result.1)) }
 {
     let links = world.links();
-    let queued = links.queued(place.link, place.end);
-    let count = min(queued, items.len());
-    for k in 0..count {
-        if let Some(item) = links.item(place.link, place.end, k) {
-            items[k] = ItemShown::of(item);
+    for at in 0..items.len() {
+        match links.item(place.link, place.end, at) {
+            Some(item) => items[at] = ItemShown::of(item),
+            None => return (at, false),
         }
     }
-    (count, queued > items.len())
+    (
+        items.len(),
+        items.len() < links.queued(place.link, place.end),
+    )
 }
