@@ -1,0 +1,325 @@
+"""Networks beside Dijkstra's algorithm, in many orders of steps."""
+
+import copy
+import io
+import itertools
+import math
+import pickle
+import random
+import unittest
+from ipaddress import IPv4Network
+
+import tuhvondi
+from tuhvondi import End, Kind, Network, Step, StepKind, graphs
+from tests import dijkstra
+
+NET = "10.0.0.0/8"
+
+
+def random_network(draw, routers=12, links=20):
+    """A connected network, whose links have a cost from each end, with prefixes inside one another."""
+    names = [f"r{number}" for number in range(routers)]
+    pairs = [(names[number], draw.choice(names[:number])) for number in range(1, routers)]
+    more = [pair for pair in itertools.combinations(names, 2) if pair not in pairs and pair[::-1] not in pairs]
+    pairs += draw.sample(more, links - len(pairs))
+    given = [(a, b, draw.randint(1, 9), draw.randint(1, 9)) for a, b in pairs]
+    attachments = {names[0]: {NET: 1, "10.1.0.0/16": 3}, names[1]: "10.1.0.0/16", names[2]: [NET, "192.0.2.0/24"]}
+    return Network(names, given, attachments)
+
+
+def random_change(draw, network):
+    """Changes a link or an attachment."""
+    link = draw.choice(network.links)
+    if not link.is_up:
+        network.restore(link.a, link.b)
+    elif draw.random() < 0.6:
+        network.fail(link.a, link.b)
+    elif draw.random() < 0.7:
+        network.set_cost(link.a, link.b, draw.randint(1, 9), draw.choice([None, draw.randint(1, 9)]))
+    else:
+        router, prefix = draw.choice(network.routers), draw.choice(network.prefixes)
+        try:
+            network.detach(router, prefix)
+        except tuhvondi.NotAttached:
+            network.attach(router, prefix, draw.randint(1, 9))
+
+
+class Distances(unittest.TestCase):
+    def compare(self, network):
+        """Rows lead at least cost, and packets arrive where there is a way."""
+        self.assertTrue(network.is_settled)
+        self.assertEqual(network.active(), [])
+        for prefix in network.prefixes:
+            expected = dijkstra.distances(network, prefix)
+            self.assertEqual(network.distances(prefix), expected)
+            for router in network.routers:
+                trace = network.trace(router, prefix.broadcast_address)
+                self.assertEqual(len(set(trace.routers)), len(trace.routers))
+                row = network.lookup(router, prefix.broadcast_address)
+                if row is not None and row.prefix == prefix:
+                    self.assertEqual(trace.arrives, expected[router] < math.inf)
+
+    def test_each_link_fails_alone(self):
+        network = random_network(random.Random(1))
+        network.settle()
+        self.compare(network)
+        for link in network.links:
+            network.fail(link.a, link.b)
+            network.settle()
+            self.compare(network)
+            network.restore(link.a, link.b)
+            network.settle()
+            self.compare(network)
+
+    def test_random_changes_in_random_orders(self):
+        draw = random.Random(2)
+        for _ in range(4):
+            network = random_network(draw)
+            for _ in range(30):
+                for _ in range(draw.randint(1, 4)):
+                    random_change(draw, network)
+                    network.settle(seed=draw.randint(0, 3), most=draw.randrange(40))
+                network.settle(seed=draw.getrandbits(64))
+                self.compare(network)
+
+    def test_no_packet_circles_at_any_step(self):
+        draw = random.Random(3)
+        network = random_network(draw, 8, 12)
+        for _ in range(30):
+            random_change(draw, network)
+            for _ in range(draw.randrange(60)):
+                step = network.next_step(draw.choice(network.routers))
+                if step:
+                    network.do(step)
+                for router in network.routers:
+                    routers = network.trace(router, "10.1.2.3").routers
+                    self.assertEqual(len(set(routers)), len(routers))
+        network.settle()
+        self.compare(network)
+
+    def test_both_ways_of_dijkstra_agree(self):
+        if dijkstra.networkx is None:
+            self.skipTest("networkx is not installed")
+        draw = random.Random(4)
+        for _ in range(20):
+            costs = {(draw.randrange(8), draw.randrange(8)): draw.randint(1, 9) for _ in range(20)}
+            attached = {draw.randrange(8): draw.randint(1, 9) for _ in range(2)}
+            self.assertEqual(dijkstra.by_hand(costs, attached), dijkstra.by_networkx(costs, attached))
+
+
+class Steps(unittest.TestCase):
+    def test_a_failure_step_by_step(self):
+        network = Network("ab", [("a", "b", 5)], {"a": NET})
+        network.settle()
+        self.assertTrue(network.trace("b", "10.1.2.3").arrives)
+        network.fail("a", "b")
+        self.assertEqual(network.trace("b", "10.1.2.3"), (("b",), End.DEAD_LINK))
+        kinds = []
+        while not network.is_settled:
+            step = network.next_step("b") or network.next_step("a")
+            kinds.append((step.router, step.kind))
+            network.do(step)
+        self.assertEqual(kinds[:2], [("b", StepKind.DELIVER), ("b", StepKind.PUBLISH)])
+        self.assertEqual(network.trace("b", "10.1.2.3"), (("b",), End.NO_WAY))
+        self.assertEqual(network.trace("b", "11.0.0.1"), (("b",), End.NO_ROUTE))
+        self.assertEqual([str(row) for row in network.table("b")], [f"{NET} unreachable"])
+
+    def test_a_computation(self):
+        network = Network("abc", [("a", "b", 1), ("b", "c", 1)], {"a": NET})
+        network.settle()
+        network.fail("a", "b")
+        network.do(Step(StepKind.DELIVER, "b", "a"))
+        state = network.state("b", NET)
+        self.assertEqual((state.active, state.awaited, state.owed, state.feasible), (True, ("c",), None, 2))
+        self.assertEqual(state.reported, {"c": 3})
+        network.do(Step(StepKind.PUBLISH, "b"))
+        network.do(Step(StepKind.RELEASE, "b"))
+        [query] = network.under_way("b", "c")
+        self.assertEqual((query.kind.name, query.value, str(query.prefix)), ("QUERY", math.inf, NET))
+        counts = network.settle()
+        self.assertEqual((counts.replies, network.active()), (2, []))
+
+    def test_counts(self):
+        network = Network("ab", [("a", "b", 5)], {"a": NET})
+        first = network.settle()
+        self.assertEqual(first.messages, network.counts.messages)
+        self.assertEqual(network.settle().steps, 0)
+        network.set_cost("b", "a", 9)
+        self.assertEqual(network.settle().messages, 1)
+
+    def test_a_stopped_router(self):
+        network = Network("abcd", [("a", "b", 1), ("b", "c", 1), ("c", "d", 1), ("d", "a", 9)])
+        network.settle()
+        network.fail("b")
+        network.fail("b")
+        self.assertEqual([link.is_up for link in network.links], [False, False, True, True])
+        network.settle()
+        self.assertEqual(network.distances("10.0.0.0/24"), {"a": 1, "b": math.inf, "c": 11, "d": 10})
+        network.restore("b")
+        network.settle()
+        self.assertEqual([link.session for link in network.links], [2, 2, 1, 1])
+        self.assertEqual(network.distances("10.0.0.0/24"), {"a": 1, "b": 2, "c": 3, "d": 4})
+
+    def test_many_items_on_a_link(self):
+        network = Network("ab", [("a", "b", 1)], {"a": [f"10.0.{number}.0/24" for number in range(200)]}, up=False)
+        network.restore()
+        while True:
+            step = network.next_step("a")
+            if step is None:
+                break
+            network.do(step)
+        self.assertEqual(len(network.under_way("a", "b")), 201)
+        self.assertEqual(network.link("a", "b").to_b, 201)
+        network.settle()
+        self.assertEqual(len(network.table("b")), 200)
+        self.assertEqual({row.kind for row in network.table("b")}, {Kind.VIA})
+
+
+class Copies(unittest.TestCase):
+    def assert_same(self, one, other):
+        self.assertEqual(one.counts, other.counts)
+        self.assertEqual(one.links, other.links)
+        self.assertEqual(one.distance_rows(), other.distance_rows())
+        for router in one.routers:
+            self.assertEqual(one.table(router), other.table(router))
+            self.assertEqual(one.held(router), other.held(router))
+            self.assertEqual(one.next_step(router), other.next_step(router))
+
+    def test_copies_are_the_same_and_go_their_own_ways(self):
+        draw = random.Random(5)
+        network = random_network(draw)
+        for _ in range(12):
+            random_change(draw, network)
+            network.settle(seed=draw.getrandbits(64), most=draw.randrange(60))
+            for make in (Network.copy, copy.copy, lambda it: pickle.loads(pickle.dumps(it)), copy.deepcopy):
+                other = make(network)
+                self.assert_same(network, other)
+            seed, before = draw.getrandbits(64), network.distance_rows()
+            other.settle(seed)
+            self.assertEqual(network.distance_rows(), before)
+            network.settle(seed)
+            self.assert_same(network, other)
+
+    def test_a_copy_of_a_closed_one(self):
+        network = Network("ab", [("a", "b", 1)])
+        network.close()
+        with self.assertRaises(tuhvondi.EmptyHandle):
+            network.settle()
+        self.assertEqual(network.copy().counts.steps, 1)
+
+
+class Graphs(unittest.TestCase):
+    def test_there_and_back(self):
+        if dijkstra.networkx is None:
+            self.skipTest("networkx is not installed")
+        graph = dijkstra.networkx.grid_2d_graph(3, 4)
+        for number, (_, _, data) in enumerate(graph.edges(data=True)):
+            data["metric"] = number + 1
+        network = Network.from_networkx(graph, cost="metric")
+        network.settle()
+        back = network.to_networkx()
+        self.assertEqual(list(back), list(graph))
+        self.assertEqual({frozenset(edge): data["weight"] for *edge, data in back.edges(data=True)},
+                         {frozenset(edge): data["metric"] for *edge, data in graph.edges(data=True)})
+        least = dijkstra.networkx.single_source_dijkstra_path_length(back, (0, 0))
+        self.assertEqual(network.distances("10.0.0.0/24"), {name: 1 + cost for name, cost in least.items()})
+        again = Network.from_networkx(back, {name: data["prefixes"] for name, data in back.nodes(data=True)})
+        again.settle()
+        self.assertEqual(again.distances(), network.distances())
+
+    def test_costs(self):
+        graph = graphs.Graph({"a": {}, "b": {}}, [("a", "b", {"weight": 3.0, "delay": 7})], False)
+        for given, cost in (("weight", 3), ("delay", 7), ("none", 1), (9, 9), (lambda u, v, data: data["delay"] * 2, 14)):
+            self.assertEqual(Network.from_networkx(graph, cost=given).link("a", "b").cost, cost)
+        for wrong in (0, 65536, 1.5, "x", None, math.nan, math.inf):
+            with self.assertRaises(tuhvondi.BadCost):
+                Network.from_networkx(graphs.Graph(graph.nodes, [("a", "b", {"weight": wrong})], False))
+
+    def test_directed(self):
+        nodes = {"a": {}, "b": {}}
+        both = graphs.Graph(nodes, [("a", "b", {"weight": 3}), ("b", "a", {"weight": 5})], True)
+        link = Network.from_networkx(both).link("a", "b")
+        self.assertEqual((link.cost, link.cost_back), (3, 5))
+        for edges, directed in (([("a", "b", {})], True), ([("a", "a", {})], False), ([("a", "b", {})] * 2, False),
+                                ([("a", "b", {}), ("b", "a", {})], False)):
+            with self.assertRaises(tuhvondi.BadLink):
+                Network.from_networkx(graphs.Graph(nodes, edges, directed))
+
+    def test_graphml(self):
+        text = """<?xml version="1.0"?><graphml xmlns="http://graphml.graphdrawing.org/xmlns">
+            <key attr.name="label" for="node" id="d0"/><key attr.name="weight" for="edge" id="d1"/>
+            <graph edgedefault="undirected">
+            <node id="0"><data key="d0">Oulu</data></node><node id="1"><data key="d0">{}</data></node>
+            <edge source="0" target="1"><data key="d1">4</data></edge><edge source="1" target="0"/>
+            <edge source="1" target="1"/></graph></graphml>"""
+        network = Network.from_graphml(io.StringIO(text.format("Turku")))
+        self.assertEqual((network.routers, network.link("Oulu", "Turku").cost), (("Oulu", "Turku"), 4))
+        self.assertEqual(Network.from_graphml(io.StringIO(text.format("Oulu"))).routers, ("0", "1"))
+        for wrong in ("", "<graphml/>", "<graphml><graph><edge source='a' target='b'/></graph></graphml>"):
+            with self.assertRaises(ValueError):
+                Network.from_graphml(io.StringIO(wrong))
+
+
+class Refusals(unittest.TestCase):
+    def test_by_name_and_number(self):
+        network = Network("abc", [("a", "b", 1), ("b", "c", 1)], {"a": NET})
+        network.settle()
+        network.fail("b", "c")
+        network.settle()
+        many = list(range(40))
+        rows = [
+            (tuhvondi.BadRouters, 24, lambda: Network([], [])),
+            (tuhvondi.BadRouters, 24, lambda: Network(range(257), [])),
+            (tuhvondi.BadRouters, 24, lambda: Network(range(70000), [])),
+            (tuhvondi.BadRouters, 24, lambda: Network("aa", [])),
+            (tuhvondi.UnknownRouter, 10, lambda: Network("ab", [("a", "c", 1)])),
+            (tuhvondi.BadLink, 25, lambda: Network("ab", [("a", "a", 1)])),
+            (tuhvondi.BadLink, 25, lambda: Network("ab", [("a", "b", 1), ("b", "a", 1)])),
+            (tuhvondi.BadLink, 25, lambda: Network("ab", [("a", "b")])),
+            (tuhvondi.BadCost, 5, lambda: Network("ab", [("a", "b", 0)])),
+            (tuhvondi.BadCost, 5, lambda: Network("ab", [("a", "b", 1, 65536)])),
+            (tuhvondi.TooManyLinks, 26, lambda: Network(many, [(0, far, 1) for far in many[1:34]])),
+            (tuhvondi.BadCost, 5, lambda: Network("a", [], {"a": {NET: 0}})),
+            (tuhvondi.BadOwner, 27, lambda: Network("a", [], {"a": [NET, IPv4Network(NET)]})),
+            (tuhvondi.UnknownRouter, 10, lambda: Network("a", [], {"b": NET})),
+            (tuhvondi.UnknownRouter, 10, lambda: network.fail("a", "x")),
+            (tuhvondi.UnknownLink, 11, lambda: network.fail("a", "c")),
+            (tuhvondi.UnknownLink, 11, lambda: network.set_cost("a", "c", 1)),
+            (tuhvondi.AlreadyUp, 13, lambda: network.restore("a", "b")),
+            (tuhvondi.IsDown, 14, lambda: network.fail("b", "c")),
+            (tuhvondi.IsDown, 14, lambda: network.set_cost("b", "c", 1)),
+            (tuhvondi.NothingToDeliver, 16, lambda: network.do(Step(StepKind.DELIVER, "a", "b"))),
+            (tuhvondi.NothingToDeliver, 16, lambda: network.do(Step(StepKind.DELIVER, "a"))),
+            (tuhvondi.NothingDue, 17, lambda: network.do(Step(StepKind.PUBLISH, "a"))),
+            (tuhvondi.NothingRipe, 18, lambda: network.do(Step(StepKind.RELEASE, "a"))),
+            (tuhvondi.UnknownPrefix, 28, lambda: network.attach("a", "11.0.0.0/8")),
+            (tuhvondi.NotAttached, 29, lambda: network.detach("b", NET)),
+            (tuhvondi.BadCost, 5, lambda: network.attach("b", NET, 0)),
+            (tuhvondi.UnknownRouter, 10, lambda: network.trace("x", "10.0.0.1")),
+        ]
+        before = network.counts
+        for number, (expected, status, call) in enumerate(rows):
+            with self.subTest(f"{number} {expected.__name__}"), self.assertRaises(expected) as caught:
+                call()
+            self.assertEqual((caught.exception.number, caught.exception.name), (status, expected.__name__))
+        self.assertEqual(network.counts, before)
+
+    def test_a_link_comes_up_as_often_as_it_can(self):
+        network = Network("ab", [("a", "b", 1)], {"a": NET}, up=False)
+        for number in range(65535):
+            network.restore("a", "b")
+            network.fail("a", "b")
+            if number % 100 == 0:
+                network.settle()
+        with self.assertRaises(tuhvondi.SessionsSpent):
+            network.restore("a", "b")
+
+    def test_the_largest_network(self):
+        pairs = itertools.islice(((near, (near + gap) % 256, 1) for gap in range(1, 9) for near in range(256)), 1024)
+        network = Network(range(256), list(pairs), {0: NET})
+        network.settle()
+        self.assertEqual(network.distances(NET), dijkstra.distances(network, IPv4Network(NET)))
+
+
+if __name__ == "__main__":
+    unittest.main()

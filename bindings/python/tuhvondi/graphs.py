@@ -1,0 +1,120 @@
+"""Graphs: of networkx, or of a file of GraphML."""
+
+from __future__ import annotations
+
+import xml.etree.ElementTree as ElementTree
+from typing import Any, Callable, Dict, Hashable, Iterator, List, Mapping, Tuple, Union
+
+from .status import BadCost, BadLink
+
+CostGiven = Union[str, int, Callable[[Hashable, Hashable, Mapping[str, Any]], int]]
+
+
+class Graph:
+    """The part of networkx's Graph and DiGraph that a network is made of: nodes, edges with their attributes, and
+    whether they are directed.
+
+    >>> graph = Graph({"a": {}, "b": {}}, [("a", "b", {"weight": 5})], directed=False)
+    >>> list(graph.nodes), list(graph.edges(data=True))
+    (['a', 'b'], [('a', 'b', {'weight': 5})])
+    """
+
+    def __init__(self, nodes: Dict[str, Dict[str, Any]], edges: List[Tuple[str, str, Dict[str, Any]]], directed: bool) -> None:
+        self.nodes = nodes
+        self._edges = edges
+        self._directed = directed
+
+    def edges(self, data: bool = False) -> Iterator[Any]:
+        """The edges: two nodes, and with `data` the attributes, too."""
+        return iter(self._edges if data else [edge[:2] for edge in self._edges])
+
+    def is_directed(self) -> bool:
+        """Whether an edge leads from its first node to the second alone."""
+        return self._directed
+
+
+def _whole(cost: Any, where: str) -> int:
+    """A cost as a whole number. A text of a file, or a number such as 5.0, is one; 5.5 is none."""
+    try:
+        number = float(cost)
+        if number != int(number):
+            raise ValueError
+    except (TypeError, ValueError, OverflowError):
+        raise BadCost(f"{cost!r} of {where} is no whole number: give `cost` a function that rounds") from None
+    return int(number)
+
+
+def links_of(graph: Any, cost: CostGiven = "weight") -> "list[tuple[Hashable, Hashable, int, int]]":
+    """The links of a graph: two nodes, the cost from the first, and the cost from the second.
+
+    >>> graph = Graph({"a": {}, "b": {}}, [("a", "b", {"weight": "5"}), ("b", "a", {})], directed=True)
+    >>> links_of(graph)
+    [('a', 'b', 5, 1)]
+    """
+    costs: "dict[tuple[Hashable, Hashable], int]" = {}
+    for near, far, data in graph.edges(data=True):
+        where = f"the edge of {near!r} and {far!r}"
+        if near == far:
+            raise BadLink(f"{where} is a loop")
+        if (near, far) in costs or (not graph.is_directed() and (far, near) in costs):
+            raise BadLink(f"{where} has another beside it: make a Graph or a DiGraph of it first")
+        if callable(cost):
+            found = cost(near, far, data)
+        else:
+            found = data.get(cost, 1) if isinstance(cost, str) else cost
+        costs[near, far] = _whole(found, where)
+    links: "dict[tuple[Hashable, Hashable], tuple[int, int]]" = {}
+    for (near, far), to in costs.items():
+        if not graph.is_directed():
+            links[near, far] = (to, to)
+        elif (far, near) not in costs:
+            raise BadLink(f"the edge from {near!r} to {far!r} has no edge back")
+        elif (far, near) not in links:
+            links[near, far] = (to, costs[far, near])
+    return [(near, far, to, back) for (near, far), (to, back) in links.items()]
+
+
+def _local(tag: str) -> str:
+    """A tag without its namespace."""
+    return tag.rpartition("}")[2]
+
+
+def read_graphml(file: Any) -> Graph:
+    """The graph of a file of GraphML, or of one that is open. Of parallel edges the first counts, and loops do not.
+    Nodes are named by their labels, if each has one of its own, else by their ids.
+
+    >>> import io
+    >>> text = '<graphml><graph><node id="a"/><node id="b"/><edge source="a" target="b"/></graph></graphml>'
+    >>> list(read_graphml(io.StringIO(text)).edges())
+    [('a', 'b')]
+
+    Raises ValueError if the file is no GraphML.
+    """
+    try:
+        root = ElementTree.parse(file).getroot()
+    except ElementTree.ParseError as error:
+        raise ValueError(f"no GraphML: {error}") from None
+    keys = {key.get("id"): key.get("attr.name") or key.get("id") for key in root.iter() if _local(key.tag) == "key"}
+    graph = next((it for it in root if _local(it.tag) == "graph"), None)
+    if graph is None:
+        raise ValueError("no GraphML: there is no graph")
+
+    def data_of(element: Any) -> Dict[str, Any]:
+        return {keys.get(it.get("key"), it.get("key")): (it.text or "").strip()
+                for it in element if _local(it.tag) == "data"}
+    nodes = {it.get("id"): data_of(it) for it in graph if _local(it.tag) == "node"}
+    labels = {node: data.get("label", "") for node, data in nodes.items()}
+    if "" in labels.values() or len(set(labels.values())) < len(labels):
+        labels = {node: node for node in nodes}
+    directed = graph.get("edgedefault") == "directed"
+    edges: Dict[Tuple[str, str], Dict[str, Any]] = {}
+    for element in graph:
+        if _local(element.tag) != "edge":
+            continue
+        near, far = element.get("source"), element.get("target")
+        if near not in nodes or far not in nodes:
+            raise ValueError(f"no GraphML: an edge of {near!r} and {far!r}, which are no nodes")
+        pair = (labels[near], labels[far])
+        if near != far and pair not in edges and (directed or pair[::-1] not in edges):
+            edges[pair] = data_of(element)
+    return Graph({labels[node]: data for node, data in nodes.items()}, [(*pair, data) for pair, data in edges.items()], directed)

@@ -1,0 +1,1006 @@
+"""A whole network of routers in one process, which you change as you go."""
+
+from __future__ import annotations
+
+import ctypes
+import enum
+import math
+from ctypes import byref, c_size_t, c_uint8
+from ipaddress import IPv4Address, IPv4Network
+from typing import Any, Callable, Hashable, Iterable, List, Mapping, NamedTuple, Optional, Sequence, Tuple, Union
+
+from . import _library, graphs
+from .owner import Owner
+from .rows import (Address, Distance, Kind, Prefix, address_number, cost_number, distance_of, network_of, number_of,
+                   prefix_parts)
+from .status import BY_NETWORK, BadLink, BadRouters, IsDown, UnknownLink, UnknownPrefix, UnknownRouter, refusal
+
+# A router's name: whatever can be a key of a dict, as nodes of networkx are.
+Name = Hashable
+# The prefixes of routers, by their names: one prefix, several, or several with their costs.
+Attachments = Mapping[Name, Union[Prefix, Iterable[Prefix], Mapping[Prefix, int]]]
+# A link: the two routers' names, and its cost; or its cost from the first and its cost from the second.
+LinkGiven = Union[Tuple[Name, Name, int], Tuple[Name, Name, int, int]]
+
+# How many steps a call does at most, so that an interrupt from the keyboard is heard.
+_AT_ONCE = 1 << 20
+# What stands in the list of what was done: a step, or so many steps of a settling.
+_STEP, _SETTLING = 0, 1
+_RECORD = 24
+
+
+class End(enum.IntEnum):
+    """Why a packet goes no further.
+
+    - DELIVERED: it has arrived: the last router is attached to the prefix of its row.
+    - NO_ROUTE: no row of the last router covers the address.
+    - NO_WAY: the last router's row says unreachable.
+    - DEAD_LINK: the link of the row is down, or up in another session than the row's.
+
+    >>> End.DELIVERED.name
+    'DELIVERED'
+    """
+
+    DELIVERED = 0
+    NO_ROUTE = 1
+    NO_WAY = 2
+    DEAD_LINK = 3
+
+
+class StepKind(enum.IntEnum):
+    """What a step does.
+
+    - LINK_UP, LINK_DOWN, SET_COST: a link changes.
+    - DELIVER: a router takes the oldest item from a neighbour, or the oldest notice of its own attachments.
+    - PUBLISH: a router puts the rows that it has chosen in force, and what it holds may leave.
+    - RELEASE: a router puts the oldest message that it holds on its link.
+    - ATTACH, DETACH: a router is attached to a prefix, or no more.
+
+    >>> StepKind.PUBLISH.name
+    'PUBLISH'
+    """
+
+    LINK_UP = 0
+    LINK_DOWN = 1
+    SET_COST = 2
+    DELIVER = 3
+    PUBLISH = 4
+    RELEASE = 5
+    ATTACH = 6
+    DETACH = 7
+
+
+class ItemKind(enum.IntEnum):
+    """What a router takes from a link: a message (UPDATE, QUERY, REPLY), or news of the link.
+
+    - CAME_UP, WENT_DOWN: the link came up, or went down.
+    - NEW_COST: the cost from the router that takes the item changed.
+
+    >>> ItemKind.QUERY.name
+    'QUERY'
+    """
+
+    UPDATE = 0
+    QUERY = 1
+    REPLY = 2
+    CAME_UP = 3
+    WENT_DOWN = 4
+    NEW_COST = 5
+
+
+class Step(NamedTuple):
+    """A step of a network.
+
+    `neighbour` is the other end of the link, or from whom a router takes an item: None for the notices of its
+    own attachments. `prefix` and `cost`, 1 to 65535, are there where the kind needs them.
+
+    >>> Step(StepKind.DELIVER, "b", "a").router
+    'b'
+    """
+
+    kind: StepKind
+    router: Name
+    neighbour: Optional[Name] = None
+    prefix: Optional[IPv4Network] = None
+    cost: Optional[int] = None
+
+
+class Item(NamedTuple):
+    """An item on its way over a link. Of a message, `value` is the sender's distance; of CAME_UP and NEW_COST
+    it is the cost from the router that takes the item.
+
+    >>> Item(ItemKind.UPDATE, 1, IPv4Network("10.0.0.0/8"), 7).value
+    7
+    """
+
+    kind: ItemKind
+    session: int
+    prefix: Optional[IPv4Network]
+    value: Distance
+
+
+class Entry(NamedTuple):
+    """A row in force at a router: a prefix, and where packets go. `next` is the name of the next router of a row
+    of kind VIA, `session` the session of that link. In other rows both are None.
+
+    >>> print(Entry(IPv4Network("10.0.0.0/8"), Kind.VIA, "a", 1))
+    10.0.0.0/8 via a, session 1
+    """
+
+    prefix: IPv4Network
+    kind: Kind
+    next: Optional[Name] = None
+    session: Optional[int] = None
+
+    def __str__(self) -> str:
+        if self.kind == Kind.VIA:
+            return f"{self.prefix} via {self.next}, session {self.session}"
+        return f"{self.prefix} {self.kind.name.lower()}"
+
+
+class Trace(NamedTuple):
+    """The routers that a packet passes, in order, and why it goes no further than the last.
+
+    >>> print(Trace(("b", "a"), End.DELIVERED))
+    b a: delivered
+    """
+
+    routers: Tuple[Name, ...]
+    end: End
+
+    @property
+    def arrives(self) -> bool:
+        """Whether the packet arrives at a router that is attached to the prefix of its row.
+
+        >>> Trace(("b",), End.NO_WAY).arrives
+        False
+        """
+        return self.end == End.DELIVERED
+
+    def __str__(self) -> str:
+        return f"{' '.join(map(str, self.routers))}: {self.end.name.lower().replace('_', ' ')}"
+
+
+class Counts(NamedTuple):
+    """How many steps were done, and how many messages of each kind they put on links.
+
+    >>> Counts(steps=9, updates=2, queries=1, replies=1).messages
+    4
+    """
+
+    steps: int
+    updates: int
+    queries: int
+    replies: int
+
+    @property
+    def messages(self) -> int:
+        """All messages together.
+
+        >>> Counts(0, 1, 2, 3).messages
+        6
+        """
+        return self.updates + self.queries + self.replies
+
+    def since(self, earlier: Counts) -> Counts:
+        """What came after an earlier moment.
+
+        >>> Counts(9, 3, 0, 0).since(Counts(4, 1, 0, 0))
+        Counts(steps=5, updates=2, queries=0, replies=0)
+        """
+        return Counts(*(now - then for now, then in zip(self, earlier)))
+
+
+class LinkState(NamedTuple):
+    """What a link is now: its two routers, the cost from each, whether it is up, how often it came up, and how
+    many items each end has yet to take.
+
+    >>> net = Network("ab", [("a", "b", 5, 7)])
+    >>> net.link("b", "a")
+    LinkState(a='b', b='a', cost=7, cost_back=5, is_up=True, session=1, to_a=1, to_b=1)
+    """
+
+    a: Name
+    b: Name
+    cost: int
+    cost_back: int
+    is_up: bool
+    session: int
+    to_a: int
+    to_b: int
+
+
+class MachineState(NamedTuple):
+    """What a router has of a prefix.
+
+    - distance: what it tells its neighbours, a sum of costs or math.inf
+    - feasible: its feasible distance
+    - attached: the cost of its own attachment, or None
+    - active: whether a diffusing computation is under way
+    - owed: the neighbour to whom the computation owes a reply, or None
+    - awaited: the neighbours whose replies the computation awaits
+    - next: the next router that it chose, or None
+    - reported: the distance that each neighbour whose link is up has reported
+
+    >>> net = Network("ab", [("a", "b", 5)], {"a": "10.0.0.0/8"})
+    >>> _ = net.settle()
+    >>> state = net.state("b", "10.0.0.0/8")
+    >>> state.distance, state.next, state.reported
+    (6, 'a', {'a': 1})
+    """
+
+    distance: Distance
+    feasible: Distance
+    attached: Optional[int]
+    active: bool
+    owed: Optional[Name]
+    awaited: Tuple[Name, ...]
+    next: Optional[Name]
+    reported: Mapping[Name, Distance]
+
+
+class Held(NamedTuple):
+    """What a router holds back: how many messages, how many of these may leave, how many notices of its own
+    attachments it has yet to take, how often it has published, and whether it has something to publish.
+
+    >>> Network("a", []).held("a")
+    Held(messages=0, ripe=0, notices=0, generation=0, due=False)
+    """
+
+    messages: int
+    ripe: int
+    notices: int
+    generation: int
+    due: bool
+
+
+def default_attachments(routers: Sequence[Name]) -> "dict[Name, IPv4Network]":
+    """A prefix for each router: 10.0.0.0/24 for the first, 10.0.1.0/24 for the second, and so on."""
+    return {name: network_of(0x0A000000 | number << 8, 24) for number, name in enumerate(routers)}
+
+
+class Network(Owner):
+    """A network of routers that route by DUAL, with the table in force at each.
+
+    - routers: their names, 1 to 256; a name is whatever can be a key of a dict
+    - links: tuples of two names and a cost, 1 to 65535, or two names, the cost from the first, and the cost from
+      the second; at most 1,024, at most 32 at a router, and at most one between two routers
+    - attachments: by router, the prefixes to which it is attached: one, several, or several with their costs (1
+      if you give none). Without them each router has a prefix of its own: 10.0.0.0/24, 10.0.1.0/24 and so on.
+      No other prefix can be attached later.
+    - up: whether all links come up at once; else all are down
+
+    Nothing happens but by steps: those of `settle`, those that you choose (`do`), and those by which links and
+    attachments change. A ring of three routers:
+
+    >>> net = Network("abc", [("a", "b", 1), ("b", "c", 1), ("a", "c", 5)], {"a": "10.0.0.0/8"})
+    >>> net.settle().messages > 0
+    True
+    >>> net.distances("10.0.0.0/8")
+    {'a': 1, 'b': 2, 'c': 3}
+    >>> net.fail("b", "c")
+    >>> print(net.trace("c", "10.1.2.3"))   # c has not heard of it
+    c: dead link
+    >>> _ = net.settle()
+    >>> print(net.trace("c", "10.1.2.3"))
+    c a: delivered
+    >>> net.distance("c", "10.0.0.0/8")
+    6
+
+    Whatever steps are done, in whatever order, it is proved of the library that no packet meets a router twice,
+    and that rows lead at least cost if nothing is left to do. There is no clock: `examples/python/own_loop.py`
+    has one.
+
+    Raises BadRouters, BadLink, TooManyLinks, BadOwner, BadCost, NoMemory.
+    """
+
+    _kind = "network"
+
+    def __init__(self, routers: Iterable[Name], links: Iterable[LinkGiven], attachments: Optional[Attachments] = None, *,
+                 up: bool = True) -> None:
+        super().__init__()
+        self._names = tuple(routers)
+        self._numbers = {name: number for number, name in enumerate(self._names)}
+        if len(self._numbers) < len(self._names):
+            raise BadRouters("two have one name")
+        if not 0 <= len(self._names) <= 65535:
+            raise BadRouters(str(len(self._names)))
+        given = [self._ends(link) for link in links]
+        # By the numbers of its two ends, a link's number; and by router and port, the neighbour's number.
+        self._links: "dict[tuple[int, int], int]" = {}
+        self._neighbours: "list[list[int]]" = [[] for _ in self._names]
+        self._ports: "dict[tuple[int, int], int]" = {}
+        for number, (a, b, _, _) in enumerate(given):
+            self._links[a, b] = self._links[b, a] = number
+            for near, far in ((a, b), (b, a)):
+                self._ports[near, far] = len(self._neighbours[near])
+                self._neighbours[near].append(far)
+        self._pairs = [(a, b) for a, b, _, _ in given]
+        owners = self._owners(default_attachments(self._names) if attachments is None else attachments)
+        self._prefixes = sorted({(addr, length) for addr, length, _, _ in owners})
+        self._open(given, owners)
+        # The steps that were done, for copies: a kind of record, and a step, or a seed and a number of steps.
+        self._done = bytearray()
+        self._hops = (ctypes.c_uint16 * max(1, len(self._names)))()
+        if up:
+            self.restore()
+
+    def _ends(self, link: LinkGiven) -> "tuple[int, int, int, int]":
+        if not 3 <= len(link) <= 4:
+            raise BadLink(f"{link!r} has no two names and one or two costs")
+        a, b = (self._number(name) for name in link[:2])
+        costs = [self._cost(cost, f"the link of {link[0]} and {link[1]}") for cost in link[2:]]
+        return a, b, costs[0], costs[-1]
+
+    @staticmethod
+    def _cost(cost: int, where: str) -> int:
+        number = cost_number(cost)
+        if not 1 <= number <= 65535:
+            raise refusal(5, BY_NETWORK, f"{cost} of {where}")
+        return number
+
+    def _owners(self, attachments: Attachments) -> "list[tuple[int, int, int, int]]":
+        owners = []
+        for name, prefixes in attachments.items():
+            if isinstance(prefixes, (str, IPv4Network)):
+                prefixes = {prefixes: 1}
+            elif not isinstance(prefixes, Mapping):
+                prefixes = [(prefix, 1) for prefix in prefixes]
+            pairs = prefixes.items() if isinstance(prefixes, Mapping) else prefixes
+            for prefix, cost in pairs:
+                number = self._number(name)
+                owners.append((*prefix_parts(prefix), self._cost(cost, f"the attachment of {name}"), number))
+        return owners
+
+    def _open(self, links: "list[tuple[int, int, int, int]]", owners: "list[tuple[int, int, int, int]]") -> None:
+        link_parts = (_library.LinkParts * max(1, len(links)))(*[(to, back, a, b) for a, b, to, back in links])
+        owner_parts = (_library.OwnerParts * max(1, len(owners)))(
+            *[(addr, cost, router, length) for addr, length, cost, router in owners])
+        place = _library.FaultPlaceParts()
+        status = self._library.network_new(len(self._names), link_parts, len(links), owner_parts, len(owners),
+                                           byref(place), self._at)
+        if status:
+            where = ""
+            if place.list == 1:
+                a, b = self._pairs[place.position]
+                where = f"{self._names[a]!r} and {self._names[b]!r}"
+            elif place.list == 2:
+                addr, length, _, router = owners[place.position]
+                where = f"{network_of(addr, length)} of {self._names[router]!r}"
+            raise refusal(status, BY_NETWORK, where)
+        self._given = (links, owners)
+
+    # ---- making a network of a graph, and a graph of a network
+
+    @classmethod
+    def from_networkx(cls, graph: Any, attachments: Optional[Attachments] = None,
+                      cost: Union[str, int, Callable[[Name, Name, Mapping[str, Any]], int]] = "weight", *,
+                      up: bool = True) -> Network:
+        """The network of a graph of networkx, or of a graph that has its `nodes`, `edges` and `is_directed`.
+
+        `cost` is the cost of an edge, 1 to 65535: the name of its attribute, and 1 if the edge has none; a number
+        for all; or a function of the two nodes and the attributes. In a directed graph each edge has an edge
+        back, and each of the two gives the cost from its first node.
+
+        >>> import networkx
+        >>> net = Network.from_networkx(networkx.cycle_graph(4), {0: "10.0.0.0/8"}, cost=10)
+        >>> _ = net.settle()
+        >>> net.distances("10.0.0.0/8")
+        {0: 1, 1: 11, 2: 21, 3: 11}
+
+        Raises BadLink for loops, for parallel edges, and for an edge without an edge back. Others are as for a
+        Network.
+        """
+        return cls(list(graph.nodes), graphs.links_of(graph, cost), attachments, up=up)
+
+    @classmethod
+    def from_graphml(cls, path: Any, attachments: Optional[Attachments] = None,
+                     cost: Union[str, int, Callable[[Name, Name, Mapping[str, Any]], int]] = "weight", *,
+                     up: bool = True) -> Network:
+        """The network of a file of GraphML. It needs no networkx. Routers are named by their labels, if each node
+        has one of its own, else by their ids. `cost` is as for `from_networkx`.
+
+        >>> import io
+        >>> file = io.StringIO('''<graphml><graph edgedefault="undirected">
+        ... <node id="a"/><node id="b"/><edge source="a" target="b"/></graph></graphml>''')
+        >>> Network.from_graphml(file).routers
+        ('a', 'b')
+
+        Raises ValueError if the file is no GraphML. Others are as for `from_networkx`.
+        """
+        graph = graphs.read_graphml(path)
+        return cls(list(graph.nodes), graphs.links_of(graph, cost), attachments, up=up)
+
+    def to_networkx(self, down: bool = False) -> Any:
+        """A graph of networkx of the network as it is now: a Graph, or a DiGraph if a link has two costs.
+
+        Edges have `weight`, the cost now, and `session`. With `down` links that are down are there, too, and
+        each edge has `is_up`. Nodes have `prefixes`, a dict of prefixes and costs.
+
+        >>> net = Network("abc", [("a", "b", 5), ("b", "c", 1)])
+        >>> net.fail("b", "c")
+        >>> graph = net.to_networkx()
+        >>> list(graph.edges(data="weight")), list(graph.nodes)
+        ([('a', 'b', 5)], ['a', 'b', 'c'])
+        """
+        import networkx  # pylint: disable=import-outside-toplevel
+
+        links = [link for link in self.links if down or link.is_up]
+        graph: Any = networkx.DiGraph() if any(it.cost != it.cost_back for it in links) else networkx.Graph()
+        for name in self._names:
+            graph.add_node(name, prefixes=self.attachments(name))
+        for link in links:
+            data = {"session": link.session, **({"is_up": link.is_up} if down else {})}
+            graph.add_edge(link.a, link.b, weight=link.cost, **data)
+            if graph.is_directed():
+                graph.add_edge(link.b, link.a, weight=link.cost_back, **data)
+        return graph
+
+    # ---- what it is
+
+    @property
+    def routers(self) -> Tuple[Name, ...]:
+        """The names of its routers.
+
+        >>> Network("ab", []).routers
+        ('a', 'b')
+        """
+        return self._names
+
+    @property
+    def prefixes(self) -> List[IPv4Network]:
+        """The prefixes that can be attached, in their order.
+
+        >>> Network("ab", []).prefixes
+        [IPv4Network('10.0.0.0/24'), IPv4Network('10.0.1.0/24')]
+        """
+        return [network_of(*prefix) for prefix in self._prefixes]
+
+    @property
+    def links(self) -> List[LinkState]:
+        """What each link is now.
+
+        >>> [(link.a, link.b, link.is_up) for link in Network("ab", [("a", "b", 1)]).links]
+        [('a', 'b', True)]
+        """
+        return [self.link(self._names[a], self._names[b]) for a, b in self._pairs]
+
+    def link(self, router: Name, other: Name) -> LinkState:
+        """What the link of two routers is now. Its first end is the router that you name first.
+
+        >>> Network("ab", [("a", "b", 5)], up=False).link("a", "b").is_up
+        False
+
+        Raises UnknownRouter, UnknownLink.
+        """
+        near, far = self._number(router), self._number(other)
+        parts = _library.LinkStateParts()
+        self._need(self._library.network_link(self._at, self._link(near, far), byref(parts)))
+        ends = [(parts.from_a, parts.to_a), (parts.from_b, parts.to_b)]
+        (cost, to_near), (back, to_far) = ends if parts.a == near else ends[::-1]
+        return LinkState(router, other, cost, back, bool(parts.up), parts.session, to_near, to_far)
+
+    def neighbours(self, router: Name) -> List[Name]:
+        """The routers to which a router has a link, in the order of its ports.
+
+        >>> Network("abc", [("a", "b", 1), ("c", "a", 1)]).neighbours("a")
+        ['b', 'c']
+
+        Raises UnknownRouter.
+        """
+        return [self._names[far] for far in self._neighbours[self._number(router)]]
+
+    def attachments(self, router: Name) -> "dict[IPv4Network, int]":
+        """The prefixes to which a router is attached, with their costs. An attachment counts when the router has
+        taken the notice of it.
+
+        >>> Network("a", [], {"a": {"10.0.0.0/8": 7}}).attachments("a")
+        {IPv4Network('10.0.0.0/8'): 7}
+
+        Raises UnknownRouter.
+        """
+        states = ((prefix, self.state(router, prefix)) for prefix in self.prefixes)
+        return {prefix: state.attached for prefix, state in states if state and state.attached}
+
+    def _number(self, router: Name) -> int:
+        number = self._numbers.get(router)
+        if number is None:
+            raise UnknownRouter(repr(router))
+        return number
+
+    def _link(self, near: int, far: int) -> int:
+        number = self._links.get((near, far))
+        if number is None:
+            raise UnknownLink(f"{self._names[near]!r} and {self._names[far]!r}")
+        return number
+
+    @staticmethod
+    def _need(status: int, detail: str = "") -> None:
+        if status:
+            raise refusal(status, BY_NETWORK, detail)
+
+    # ---- how it changes
+
+    def _step(self, parts: _library.StepParts, detail: str = "") -> None:
+        """Does a step, and keeps it for copies."""
+        self._need(self._library.network_step(self._at, byref(parts)), detail)
+        self._done += _STEP.to_bytes(8, "little") + bytes(parts)
+
+    def fail(self, router: Name, other: Optional[Name] = None) -> None:
+        """The link of two routers goes down, and the messages on it are lost. With one router, all its links that
+        are up go down, as if it had stopped.
+
+        >>> net = Network("abc", [("a", "b", 1), ("b", "c", 1)])
+        >>> net.fail("b")
+        >>> [link.is_up for link in net.links]
+        [False, False]
+
+        Raises UnknownRouter, UnknownLink, and IsDown if the link is down.
+        """
+        self._change(router, other, StepKind.LINK_DOWN)
+
+    def restore(self, router: Optional[Name] = None, other: Optional[Name] = None) -> None:
+        """The link of two routers comes up, in its next session. With one router all its links that are down come
+        up, and with none all of the network.
+
+        >>> net = Network("abc", [("a", "b", 1), ("b", "c", 1)], up=False)
+        >>> net.restore("a", "b")
+        >>> net.restore()
+        >>> [link.session for link in net.links]
+        [1, 1]
+
+        Raises UnknownRouter, UnknownLink, AlreadyUp if the link is up, SessionsSpent if it came up 65,535 times,
+        NoMemory.
+        """
+        self._change(router, other, StepKind.LINK_UP)
+
+    def _change(self, router: Optional[Name], other: Optional[Name], kind: StepKind) -> None:
+        if other is not None:
+            pairs = [(router, other)]
+        else:
+            near = self._names if router is None else (router,)
+            named = [(name, far) for name in near for far in self.neighbours(name)]
+            changed: "set[int]" = set()
+            pairs = []
+            for each in named:
+                number = self._link(*map(self._number, each))
+                if number not in changed and self.link(*each).is_up == (kind == StepKind.LINK_DOWN):
+                    pairs.append(each)
+                changed.add(number)
+        for each in pairs:
+            number = self._link(*map(self._number, each))
+            self._step(_library.StepParts(subject=number, kind=kind), f"{each[0]!r} and {each[1]!r}")
+
+    def set_cost(self, router: Name, other: Name, cost: int, back: Optional[int] = None) -> None:
+        """The cost of a link from a router to the other, 1 to 65535, changes; with `back` that from the other, too.
+
+        >>> net = Network("ab", [("a", "b", 5)])
+        >>> net.set_cost("a", "b", 7)
+        >>> net.link("a", "b").cost, net.link("a", "b").cost_back
+        (7, 5)
+
+        Raises UnknownRouter, UnknownLink, BadCost, IsDown if the link is down, NoMemory.
+        """
+        ends = [(router, other, self._cost(cost, "a link"))]
+        if back is not None:
+            ends.append((other, router, self._cost(back, "a link")))
+        near, far = self._number(router), self._number(other)
+        self._link(near, far)
+        for name, towards, value in ends:
+            near = self._number(name)
+            port = self._ports[near, self._number(towards)]
+            self._step(_library.StepParts(subject=near, kind=StepKind.SET_COST, port=port, cost=value))
+
+    def attach(self, router: Name, prefix: Prefix, cost: int = 1) -> None:
+        """A router is attached to a prefix at this cost, 1 to 65535, from now on.
+
+        >>> net = Network("ab", [("a", "b", 5)], {"a": "10.0.0.0/8"})
+        >>> net.attach("b", "10.0.0.0/8", cost=3)
+        >>> _ = net.settle()
+        >>> net.distances("10.0.0.0/8")
+        {'a': 1, 'b': 3}
+
+        Raises UnknownRouter, BadCost, UnknownPrefix if it is none of `prefixes`, NoMemory.
+        """
+        addr, length = prefix_parts(prefix)
+        self._step(_library.StepParts(subject=self._number(router), kind=StepKind.ATTACH, addr=addr, len=length,
+                                      cost=self._cost(cost, f"the attachment of {router}")), str(prefix))
+
+    def detach(self, router: Name, prefix: Prefix) -> None:
+        """A router is attached to a prefix no more.
+
+        >>> net = Network("ab", [("a", "b", 5)], {"a": "10.0.0.0/8"})
+        >>> net.detach("a", "10.0.0.0/8")
+        >>> _ = net.settle()
+        >>> net.distances("10.0.0.0/8")
+        {'a': inf, 'b': inf}
+
+        Raises UnknownRouter, UnknownPrefix, NotAttached, NoMemory.
+        """
+        addr, length = prefix_parts(prefix)
+        self._step(_library.StepParts(subject=self._number(router), kind=StepKind.DETACH, addr=addr, len=length), str(prefix))
+
+    def settle(self, seed: int = 0, most: Optional[int] = None) -> Counts:
+        """Lets routers do what they have to do until nothing is left to do, or at most so many steps. Answers how
+        many steps and messages these were.
+
+        Routers take turns in the order in which you named them, or in a pseudo-random order that the seed
+        determines, 1 to 2^64 - 1. Each order ends.
+
+        >>> net = Network("ab", [("a", "b", 5)])
+        >>> net.settle(most=3).steps, net.is_settled
+        (3, False)
+        >>> net.settle(seed=7).steps > 0, net.is_settled
+        (True, True)
+
+        Raises StepsSpent, NoMemory. The steps before stay done.
+        """
+        number_of("seed", seed, 2 ** 64 - 1)
+        before = self.counts
+        left = math.inf if most is None else most
+        if left < 0:
+            raise ValueError(f"there are no {most} steps")
+        done = c_size_t()
+        while left > 0:
+            wanted = int(min(left, _AT_ONCE))
+            done.value = 0
+            status = self._library.network_settle(self._at, seed, wanted, byref(done))
+            self._done += b"".join(it.to_bytes(8, "little") for it in (_SETTLING, seed, done.value))
+            self._need(status)
+            if done.value < wanted:
+                break
+            left -= wanted
+        return self.counts.since(before)
+
+    def next_step(self, router: Name) -> Optional[Step]:
+        """What a router has to do next: a release; if it has none, a publication; else a delivery from its lowest
+        port that has an item; or None. `do` does it. So you build an event loop of your own.
+
+        >>> net = Network("ab", [("a", "b", 5)])
+        >>> net.next_step("b")
+        Step(kind=<StepKind.DELIVER: 3>, router='b', neighbour='a', prefix=None, cost=None)
+
+        Raises UnknownRouter.
+        """
+        parts = _library.StepParts()
+        number = self._number(router)
+        self._need(self._library.network_next_step(self._at, number, byref(parts)))
+        if parts.kind > StepKind.DETACH:
+            return None
+        kind = StepKind(parts.kind)
+        neighbours = self._neighbours[number]
+        if kind == StepKind.DELIVER and parts.port < len(neighbours):
+            return Step(kind, router, self._names[neighbours[parts.port]])
+        return Step(kind, router)
+
+    def do(self, step: Step) -> None:
+        """Does a step.
+
+        >>> net = Network("ab", [("a", "b", 5)])
+        >>> while not net.is_settled:   # b is slow
+        ...     net.do(net.next_step("a") or net.next_step("b"))
+        >>> net.do(Step(StepKind.LINK_DOWN, "a", "b"))
+        >>> net.do(Step(StepKind.DELIVER, "a", "b"))
+        >>> net.do(Step(StepKind.DELIVER, "a", "b"))
+        Traceback (most recent call last):
+        ...
+        tuhvondi.status.NothingToDeliver: nothing is on its way to the port
+
+        Raises what the change of its kind raises, and NothingToDeliver, NothingDue, NothingRipe, StepsSpent.
+        """
+        kind = StepKind(step.kind)
+        if kind in (StepKind.LINK_UP, StepKind.LINK_DOWN):
+            if step.neighbour is None:
+                raise BadLink("the step names one router")
+            self._change(step.router, step.neighbour, kind)
+        elif kind == StepKind.SET_COST:
+            self.set_cost(step.router, step.neighbour, step.cost or 0)
+        elif kind == StepKind.ATTACH:
+            self.attach(step.router, self._prefix(step), step.cost or 0)
+        elif kind == StepKind.DETACH:
+            self.detach(step.router, self._prefix(step))
+        else:
+            near = self._number(step.router)
+            port = 0
+            if kind == StepKind.DELIVER:
+                port = len(self._neighbours[near])
+                if step.neighbour is not None:
+                    far = self._number(step.neighbour)
+                    self._link(near, far)
+                    port = self._ports[near, far]
+            self._step(_library.StepParts(subject=near, kind=kind, port=port))
+
+    @staticmethod
+    def _prefix(step: Step) -> IPv4Network:
+        if step.prefix is None:
+            raise UnknownPrefix("the step names none")
+        return step.prefix
+
+    # ---- what can be asked
+
+    @property
+    def is_settled(self) -> bool:
+        """Whether nothing is left to do. Rows then lead at least cost.
+
+        >>> Network("ab", [("a", "b", 5)]).is_settled, Network("ab", []).is_settled
+        (False, True)
+        """
+        settled = c_uint8()
+        self._need(self._library.network_is_settled(self._at, byref(settled)))
+        return bool(settled.value)
+
+    @property
+    def counts(self) -> Counts:
+        """How many steps were done since the opening, and how many messages of each kind they put on links. The
+        steps by which links come up at the opening count.
+
+        >>> Network("ab", [("a", "b", 5)]).counts
+        Counts(steps=1, updates=0, queries=0, replies=0)
+        """
+        parts = _library.NetworkCountsParts()
+        self._need(self._library.network_counts(self._at, byref(parts)))
+        return Counts(parts.steps, parts.updates, parts.queries, parts.replies)
+
+    def _entry(self, router: int, parts: _library.RowParts) -> Optional[Entry]:
+        if parts.kind > Kind.UNREACHABLE:
+            return None
+        prefix, kind = network_of(parts.addr, parts.len), Kind(parts.kind)
+        if kind == Kind.VIA:
+            return Entry(prefix, kind, self._names[self._neighbours[router][parts.port]], parts.session)
+        return Entry(prefix, kind)
+
+    def lookup(self, router: Name, address: Address) -> Optional[Entry]:
+        """The row in force at a router with the longest prefix that covers an address, or None.
+
+        >>> net = Network("ab", [("a", "b", 5)], {"a": "10.0.0.0/8"})
+        >>> _ = net.settle()
+        >>> print(net.lookup("b", "10.1.2.3"))
+        10.0.0.0/8 via a, session 1
+
+        Raises UnknownRouter.
+        """
+        number = self._number(router)
+        addrs, answers = (ctypes.c_uint32 * 1)(address_number(address)), (_library.RowParts * 1)()
+        self._need(self._library.network_lookup(self._at, number, addrs, 1, answers, 1))
+        return self._entry(number, answers[0])
+
+    def trace(self, router: Name, address: Address) -> Trace:
+        """Follows a packet for an address from a router on, along the tables in force, to its end.
+
+        No router is passed twice: that is proved.
+
+        >>> net = Network("abc", [("a", "b", 5), ("b", "c", 5)], {"a": "10.0.0.0/8"})
+        >>> net.trace("c", "10.1.2.3").end.name
+        'NO_ROUTE'
+        >>> _ = net.settle()
+        >>> print(net.trace("c", "10.1.2.3"))
+        c b a: delivered
+
+        Raises UnknownRouter.
+        """
+        count, end = c_size_t(), c_uint8()
+        self._need(self._library.network_trace(self._at, self._number(router), address_number(address), self._hops,
+                                               len(self._names), byref(count), byref(end)))
+        return Trace(tuple(self._names[number] for number in self._hops[:count.value]), End(end.value))
+
+    def table(self, router: Name) -> List[Entry]:
+        """The rows in force at a router, in the order of their prefixes.
+
+        >>> net = Network("ab", [("a", "b", 5)])
+        >>> _ = net.settle()
+        >>> for row in net.table("b"):
+        ...     print(row)
+        10.0.0.0/24 via a, session 1
+        10.0.1.0/24 local
+
+        Raises UnknownRouter.
+        """
+        number = self._number(router)
+        rows = (_library.RowParts * max(1, len(self._prefixes)))()
+        written, more = c_size_t(), c_uint8()
+        self._need(self._library.network_rows(self._at, number, rows, len(self._prefixes), byref(written), byref(more)))
+        entries = (self._entry(number, parts) for parts in rows[:written.value])
+        return [entry for entry in entries if entry is not None]
+
+    def _machine(self, router: int, prefix: "tuple[int, int]", parts: _library.MachineParts) -> bool:
+        """Writes what a router has of a prefix, and answers whether it has heard of it."""
+        status = self._library.network_machine(self._at, router, *prefix, byref(parts))
+        if status == UnknownPrefix.number:
+            return False
+        self._need(status)
+        return True
+
+    def state(self, router: Name, prefix: Prefix) -> Optional[MachineState]:
+        """What a router has of a prefix, or None if it has not heard of it.
+
+        >>> net = Network("abc", [("a", "b", 1), ("b", "c", 1)], {"a": "10.0.0.0/8"})
+        >>> net.state("c", "10.0.0.0/8") is None
+        True
+
+        Raises UnknownRouter.
+        """
+        number = self._number(router)
+        parts = _library.MachineParts()
+        if not self._machine(number, prefix_parts(prefix), parts):
+            return None
+        names = [self._names[far] for far in self._neighbours[number]]
+        state = parts.state
+        return MachineState(
+            distance=distance_of(state.rd),
+            feasible=distance_of(state.fd),
+            attached=state.attached or None,
+            active=bool(state.active),
+            owed=names[state.owed] if state.owed < len(names) else None,
+            awaited=tuple(name for name, awaits in zip(names, state.awaited) if awaits),
+            next=names[parts.successor] if parts.successor < len(names) else None,
+            reported={name: distance_of(it.reported) for name, it in zip(names, parts.neighbours) if it.up},
+        )
+
+    def active(self) -> "list[tuple[Name, IPv4Network]]":
+        """The routers in which a diffusing computation is under way, each with its prefix.
+
+        >>> net = Network("abc", [("a", "b", 1), ("b", "c", 1)], {"a": "10.0.0.0/8"})
+        >>> _ = net.settle()
+        >>> net.fail("a", "b")
+        >>> net.do(Step(StepKind.DELIVER, "b", "a"))
+        >>> net.active()
+        [('b', IPv4Network('10.0.0.0/8'))]
+        """
+        parts = _library.MachineParts()
+        return [(name, network_of(*prefix)) for number, name in enumerate(self._names) for prefix in self._prefixes
+                if self._machine(number, prefix, parts) and parts.state.active]
+
+    def distance(self, router: Name, prefix: Prefix) -> Distance:
+        """A router's distance to a prefix, the cost of the attachment included: a sum of costs, or math.inf.
+
+        >>> net = Network("ab", [("a", "b", 5)], {"a": {"10.0.0.0/8": 2}})
+        >>> net.distance("b", "10.0.0.0/8")
+        inf
+        >>> _ = net.settle()
+        >>> net.distance("b", "10.0.0.0/8")
+        7
+
+        Raises UnknownRouter.
+        """
+        parts = _library.MachineParts()
+        found = self._machine(self._number(router), prefix_parts(prefix), parts)
+        return distance_of(parts.state.rd) if found else math.inf
+
+    def distances(self, prefix: Optional[Prefix] = None) -> "dict[Any, Any]":
+        """The distance of each router to a prefix, or, without one, such a dict for each prefix.
+
+        >>> net = Network("ab", [("a", "b", 5)])
+        >>> _ = net.settle()
+        >>> net.distances("10.0.1.0/24")
+        {'a': 6, 'b': 1}
+        >>> len(net.distances())
+        2
+        """
+        if prefix is not None:
+            return {name: self.distance(name, prefix) for name in self._names}
+        return {each: self.distances(each) for each in self.prefixes}
+
+    def distance_rows(self) -> "list[dict[str, Any]]":
+        """A row for each router and prefix, as `pandas.DataFrame` and `csv.DictWriter` take them.
+
+        >>> net = Network("ab", [("a", "b", 5)], {"a": "10.0.0.0/8"})
+        >>> _ = net.settle()
+        >>> net.distance_rows()[1]
+        {'router': 'b', 'prefix': '10.0.0.0/8', 'distance': 6, 'feasible': 6, 'next': 'a', 'active': False}
+        """
+        rows = []
+        for prefix in self.prefixes:
+            for name in self._names:
+                state = self.state(name, prefix)
+                rows.append({
+                    "router": name, "prefix": str(prefix),
+                    "distance": state.distance if state else math.inf, "feasible": state.feasible if state else math.inf,
+                    "next": state.next if state else None, "active": bool(state and state.active),
+                })
+        return rows
+
+    def to_pandas(self) -> Any:
+        """The rows of `distance_rows` as a DataFrame, if pandas is installed.
+
+        >>> Network("a", []).to_pandas()   # doctest: +SKIP
+          router       prefix  distance  feasible  next  active
+        0      a  10.0.0.0/24         1         1  None   False
+        """
+        import pandas  # pylint: disable=import-outside-toplevel
+
+        return pandas.DataFrame(self.distance_rows())
+
+    def under_way(self, sender: Name, receiver: Name) -> List[Item]:
+        """What a router has yet to take from a neighbour, oldest first.
+
+        >>> net = Network("ab", [("a", "b", 5)])
+        >>> net.under_way("a", "b")
+        [Item(kind=<ItemKind.CAME_UP: 3>, session=1, prefix=None, value=5)]
+
+        Raises UnknownRouter, UnknownLink.
+        """
+        near, far = self._number(receiver), self._number(sender)
+        self._link(near, far)
+        port = self._ports[near, far]
+        room = 64
+        while True:
+            items, written, more = (_library.ItemParts * room)(), c_size_t(), c_uint8()
+            self._need(self._library.network_queue(self._at, near, port, items, room, byref(written), byref(more)))
+            if not more.value:
+                return [self._item(parts) for parts in items[:written.value]]
+            room *= 4
+
+    @staticmethod
+    def _item(parts: _library.ItemParts) -> Item:
+        kind = ItemKind(parts.kind)
+        prefix = network_of(parts.addr, parts.len) if kind <= ItemKind.REPLY else None
+        return Item(kind, parts.session, prefix, distance_of(parts.value))
+
+    def held(self, router: Name) -> Held:
+        """What a router holds back until it publishes.
+
+        >>> net = Network("ab", [("a", "b", 5)])
+        >>> net.do(net.next_step("b"))   # b takes the notice that the link came up
+        >>> net.held("b").messages, net.held("b").ripe
+        (1, 0)
+
+        Raises UnknownRouter.
+        """
+        parts = _library.GateParts()
+        self._need(self._library.network_gate(self._at, self._number(router), byref(parts)))
+        return Held(parts.held, parts.ripe, parts.notices, parts.generation, bool(parts.due))
+
+    # ---- copies
+
+    def copy(self) -> Network:
+        """Another network in the same state, for what-if questions.
+
+        It does the same steps again that this one has done: a copy takes the time of all of them. If you have
+        many questions about one state, fork a process for each, as `tuhvondi.study` does.
+
+        >>> net = Network("ab", [("a", "b", 5)])
+        >>> _ = net.settle()
+        >>> other = net.copy()
+        >>> other.fail("a", "b")
+        >>> _ = other.settle()
+        >>> net.distance("b", "10.0.0.0/24"), other.distance("b", "10.0.0.0/24")
+        (6, inf)
+
+        Raises NoMemory.
+        """
+        return _again(type(self), self._names, self._given, bytes(self._done))
+
+    __copy__ = copy
+
+    def __reduce__(self) -> Any:
+        return _again, (type(self), self._names, self._given, bytes(self._done))
+
+    def _replay(self, done: bytes) -> None:
+        """Does again what was done."""
+        count = c_size_t()
+        at = 0
+        while at < len(done):
+            if done[at] == _SETTLING:
+                seed, wanted = (int.from_bytes(done[at + it:at + it + 8], "little") for it in (8, 16))
+                self._need(self._library.network_settle(self._at, seed, wanted, byref(count)))
+                at += _RECORD
+                continue
+            parts = bytearray()
+            while at < len(done) and done[at] == _STEP:
+                parts += done[at + 8:at + _RECORD]
+                at += _RECORD
+            number = len(parts) // ctypes.sizeof(_library.StepParts)
+            steps = (_library.StepParts * number).from_buffer(parts)
+            self._need(self._library.network_run(self._at, steps, number, byref(count)))
+        self._done = bytearray(done)
+
+
+def _again(kind: "type[Network]", names: Tuple[Name, ...], given: Any, done: bytes) -> Network:
+    """A network to which the same is done."""
+    links, owners = given
+    attachments: "dict[Name, dict[IPv4Network, int]]" = {}
+    for addr, length, cost, router in owners:
+        attachments.setdefault(names[router], {})[network_of(addr, length)] = cost
+    network = kind(names, [(names[a], names[b], to, back) for a, b, to, back in links], attachments, up=False)
+    network._replay(done)  # pylint: disable=protected-access
+    return network
