@@ -255,7 +255,11 @@ class Held(NamedTuple):
 
 
 def default_attachments(routers: Sequence[Name]) -> "dict[Name, IPv4Network]":
-    """A prefix for each router: 10.0.0.0/24 for the first, 10.0.1.0/24 for the second, and so on."""
+    """A prefix for each router: 10.0.0.0/24 for the first, 10.0.1.0/24 for the second, and so on.
+
+    >>> default_attachments(["a", "b"])["b"]
+    IPv4Network('10.0.1.0/24')
+    """
     return {name: network_of(0x0A000000 | number << 8, 24) for number, name in enumerate(routers)}
 
 

@@ -11,13 +11,14 @@
 
 `python3 -m tuhvondi study FILE` does that with a file of GraphML.
 
-There is no clock: a network's time is counted in *rounds*. In a round each router has one turn, and does one step: it takes
-an item, publishes, or puts a message on its link. `examples/python/own_loop.py` has a clock and delays.
+There is no clock: time is counted in *rounds*. In a round each router has one turn, and does one step: it takes an item,
+publishes, or puts a message on its link. `examples/python/own_loop.py` has a clock and delays.
 """
 
 from __future__ import annotations
 
 import argparse
+import collections
 import csv
 import gc
 import json
@@ -27,32 +28,38 @@ import random
 import statistics
 import sys
 from ctypes import byref, c_size_t, c_uint8, c_uint16, c_uint32
-from pathlib import Path
-from typing import Any, Dict, Iterable, Iterator, List, NamedTuple, Optional, Sequence, TextIO, Tuple
+from typing import Any, Dict, Iterable, List, NamedTuple, Optional, Sequence, Set, TextIO, Tuple
 
 from . import _library, graphs
-from .network import End, Name, Network, StepKind, default_attachments
-from .rows import Kind, network_of, number_of
+from .network import Attachments, End, ItemKind, Name, Network, StepKind, default_attachments
+from .rows import network_of
 from .status import Refused
 
-__all__ = ["Outcome", "failures", "watch", "run", "start", "write_csv", "write_json", "plot"]
+__all__ = ["Outcome", "failures", "start", "watch", "run", "write_csv", "write_json", "summary", "plot"]
 
 # What fails: a router, or the two ends of a link.
 Failure = Tuple[Name, ...]
+# What the plots show: a measure, and what is written below it.
+PLOTS = {
+    "messages": "messages",
+    "rounds": "rounds to rest",
+    "active_routers": "active routers",
+    "outage_most": "longest outage, in rounds",
+}
 
 
 class Outcome(NamedTuple):
-    """What came of a failure. A *flow* is a router and a prefix: its packets go from that router to the first address of
-    that prefix.
+    """What came of a failure. A *flow* is a router and a prefix: its packets go from the router to the first address of the
+    prefix.
 
     - failed: the names of the link's ends, or of the router
-    - rounds: how many rounds until nothing was left to do; in a round each router has one turn
-    - steps, updates, queries, replies, messages: how many there were
+    - rounds: how many rounds it took until nothing was left to do; in a round each router has one turn
+    - steps, updates, queries, replies, messages: how many there were, the steps of the failure itself included
     - active_routers: in how many routers a diffusing computation was under way
-    - computations: how many routers and prefixes had one
-    - interrupted: of how many flows packets were lost for a time
-    - lost_most: of how many of these at once
-    - outage_mean, outage_most: for how many rounds packets of an interrupted flow were lost
+    - computations: for how many routers and prefixes one was
+    - interrupted: how many flows had no way for a time
+    - interrupted_at_once: how many of these at once
+    - outage_mean, outage_most: for how many rounds an interrupted flow had none
     - cut: how many flows have no way any more
 
     >>> Outcome._fields[:3]
@@ -69,59 +76,341 @@ class Outcome(NamedTuple):
     active_routers: int
     computations: int
     interrupted: int
-    lost_most: int
+    interrupted_at_once: int
     outage_mean: float
     outage_most: int
     cut: int
 
 
-class _Watch:
-    """Lets routers take turns, one step each, and keeps who is active, and which flows do not arrive."""
+class _Flows:
+    """Which flows have a way, and since when others have none. Flows that have none at the beginning do not count."""
 
     def __init__(self, network: Network) -> None:
-        self.network, self.library, self.at = network, network._library, network._at
-        self.count, self.prefixes = len(network.routers), network._prefixes
-        self.numbers = {prefix: number for number, prefix in enumerate(self.prefixes)}
-        nets = [network_of(*prefix) for prefix in self.prefixes]
-        # For each prefix those whose packets a row of it can lead.
-        self.led = [[number for number, to in enumerate(nets) if to.network_address in net] for net in nets]
-        # The prefixes of which each router has heard something since it published; None stands for all.
-        self.heard: List[Optional[set]] = [set() for _ in range(self.count)]
-        self.active: set = set()
-        self.round = 0
-        self.machine, self.step, self.items = _library.MachineParts(), _library.StepParts(), (_library.ItemParts * 1)()
-        self.written, self.flag, self.hops = c_size_t(), c_uint8(), (c_uint16 * self.count)()
-        self.addrs = [(c_uint32 * 1)(addr) for addr, _ in self.prefixes]
-        self.row = (_library.RowParts * 1)()
-        every = range(len(self.prefixes))
-        self.arrived = {to: self.arriving(to) for to in every}
-        self.dark: Dict[Tuple[int, int], int] = {}
-        self.outages: Dict[Tuple[int, int], int] = {}
-        self.dark_at_once: List[Tuple[int, int]] = []
+        self._at, self._trace, self._count = network._at, network._library.network_trace, len(network.routers)
+        self._hops, self._passed, self._end = (c_uint16 * self._count)(), c_size_t(), c_uint8()
+        nets = [network_of(*prefix) for prefix in network._prefixes]
+        self._addrs = [int(net.network_address) for net in nets]
+        # For each prefix those to which its rows can lead.
+        self._led = [[to for to, other in enumerate(nets) if other.network_address in net] for net in nets]
+        self._routers = [[router for router in range(self._count) if self._arrives(router, to)] for to in range(len(nets))]
+        self._lost: Set[Tuple[int, int]] = set()
+        # When a flow lost its way (true) or had one again: the round, and the flow.
+        self._changes: List[Tuple[int, bool, Tuple[int, int]]] = []
 
-    def arriving(self, to: int) -> List[bool]:
-        """Whether packets to a prefix arrive, by the router where they begin."""
-        trace, at, count, end, addr = self.library.network_trace, self.at, byref(self.written), byref(self.flag), self.addrs[to][0]
-        arrived = []
-        for router in range(self.count):
-            trace(at, router, addr, self.hops, self.count, count, end)
-            arrived.append(self.flag.value == End.DELIVERED)
-        return arrived
+    def _arrives(self, router: int, to: int) -> bool:
+        self._trace(self._at, router, self._addrs[to], self._hops, self._count, byref(self._passed), byref(self._end))
+        return self._end.value == End.DELIVERED
 
-    def look(self, prefixes: Iterable[int]) -> None:
-        """Looks which flows arrive now, of those that rows of these prefixes can lead."""
-        for to in {led for prefix in prefixes for led in self.led[prefix]}:
-            for router, (then, now) in enumerate(zip(self.arrived[to], self.arriving(to))):
-                flow = (router, to)
-                if then and not now:
-                    self.dark.setdefault(flow, self.round)
-                elif now and flow in self.dark:
-                    self.outages[flow] = self.outages.get(flow, 0) + self.round - self.dark.pop(flow)
-            self.arrived[to] = [then for then in self.arriving(to)]
-        self.dark_at_once.append((self.round, len(self.dark)))
+    def look(self, round_: int, prefixes: Iterable[int]) -> None:
+        """Rows of these prefixes have changed."""
+        for to in {to for prefix in prefixes for to in self._led[prefix]}:
+            for router in self._routers[to]:
+                flow, is_lost = (router, to), not self._arrives(router, to)
+                if is_lost != (flow in self._lost):
+                    (self._lost.add if is_lost else self._lost.discard)(flow)
+                    self._changes.append((round_, is_lost, flow))
 
-    def chosen(self, router: int, prefix: int) -> Tuple[int, ...]:
-        """The row in force at a router for the first address of a prefix."""
-        self.library.network_lookup(self.at, router, self.addrs[prefix], 1, self.row, 1)
-        row = self.row[0]
+    def measures(self) -> Dict[str, Any]:
+        """What an Outcome says of flows."""
+        begun: Dict[Tuple[int, int], int] = {}
+        outages: Dict[Tuple[int, int], int] = collections.Counter()
+        most = 0
+        for round_, is_lost, flow in self._changes:
+            if flow in self._lost:
+                continue
+            if is_lost:
+                begun[flow] = round_
+                most = max(most, len(begun))
+            else:
+                outages[flow] += round_ - begun.pop(flow)
+        return {
+            "interrupted": len(outages), "interrupted_at_once": most,
+            "outage_mean": round(statistics.mean(outages.values()), 3) if outages else 0.0,
+            "outage_most": max(outages.values(), default=0), "cut": len(self._lost),
+        }
+
+
+class _Turns:
+    """Lets routers take turns, and keeps who was active."""
+
+    def __init__(self, network: Network, seed: int) -> None:
+        self._network, self._at, self._library = network, network._at, network._library
+        self._draw = random.Random(seed) if seed else None
+        self._order = list(range(len(network.routers)))
+        self._prefixes = network._prefixes
+        self._numbers = {prefix: number for number, prefix in enumerate(self._prefixes)}
+        # Of which prefixes each router has heard since it published.
+        self._heard: List[Set[int]] = [set() for _ in self._order]
+        self._machine, self._step = _library.MachineParts(), _library.StepParts()
+        self._items, self._written, self._more = (_library.ItemParts * 1)(), c_size_t(), c_uint8()
+        self._answers = (_library.RowParts * 1)()
+        self.active: Set[Tuple[int, int]] = set()
+        self.rounds = 0
+        self.flows = _Flows(network)
+
+    def run(self) -> None:
+        """Goes on until nothing is left to do."""
+        self.flows.look(0, range(len(self._prefixes)))
+        is_busy = True
+        while is_busy:
+            self.rounds += 1
+            if self._draw:
+                self._draw.shuffle(self._order)
+            is_busy = any([self._turn(router) for router in self._order])
+        self.rounds -= 1
+
+    def _turn(self, router: int) -> bool:
+        """Lets a router do a step, and answers whether it had one to do."""
+        self._library.network_next_step(self._at, router, byref(self._step))
+        kind = self._step.kind
+        if kind == StepKind.DELIVER:
+            prefixes = self._coming(router)
+            self._network._step(self._step)
+            self._heard[router].update(prefixes)
+            for prefix in prefixes:
+                if self._network._machine(router, self._prefixes[prefix], self._machine) and self._machine.state.active:
+                    self.active.add((router, prefix))
+        elif kind == StepKind.PUBLISH:
+            heard = sorted(self._heard[router])
+            before = [self._row(router, prefix) for prefix in heard]
+            self._network._step(self._step)
+            self.flows.look(self.rounds, [prefix for prefix, row in zip(heard, before) if self._row(router, prefix) != row])
+            self._heard[router].clear()
+        elif kind == StepKind.RELEASE:
+            self._network._step(self._step)
+        return kind <= StepKind.DETACH
+
+    def _coming(self, router: int) -> Sequence[int]:
+        """The prefixes of which the item tells that the router takes now: all, if it is no message."""
+        status = self._library.network_queue(self._at, router, self._step.port, self._items, 1, byref(self._written),
+                                             byref(self._more))
+        if status or self._items[0].kind > ItemKind.REPLY:
+            return range(len(self._prefixes))
+        return [self._numbers[self._items[0].addr, self._items[0].len]]
+
+    def _row(self, router: int, prefix: int) -> Tuple[int, ...]:
+        """The row by which a router forwards to the first address of a prefix."""
+        addr = (c_uint32 * 1)(self._prefixes[prefix][0])
+        self._library.network_lookup(self._at, router, addr, 1, self._answers, 1)
+        row = self._answers[0]
         return row.addr, row.len, row.kind, row.port, row.session
+
+
+def failures(network: Network, which: str = "each-link") -> List[Failure]:
+    """What can fail alone: with "each-link" each link that is up, with "each-router" each router.
+
+    >>> failures(Network("ab", [("a", "b", 1)]), "each-router")
+    [('a',), ('b',)]
+
+    Raises ValueError if it is neither.
+    """
+    if which == "each-router":
+        return [(name,) for name in network.routers]
+    if which == "each-link":
+        return [(link.a, link.b) for link in network.links if link.is_up]
+    raise ValueError(f"{which} is neither each-link nor each-router")
+
+
+def start(network: Network) -> Network:
+    """Brings up the links that are down, from the cheapest on, and lets the network settle after each. For a large network
+    that takes a fifth of the steps that it takes if all come up at once.
+
+    >>> start(Network("ab", [("a", "b", 1)], up=False)).is_settled
+    True
+    """
+    for link in sorted(network.links, key=lambda link: link.cost + link.cost_back):
+        if not link.is_up:
+            network.restore(link.a, link.b)
+            network.settle()
+    network.settle()
+    return network
+
+
+def watch(network: Network, failure: Failure, seed: int = 0) -> Outcome:
+    """Has a link or a router of this network fail, lets routers take turns until nothing is left to do, and says what came of
+    it. They take turns in their order, or with a seed in a random order that is another in each round.
+
+    >>> net = start(Network("abc", [("a", "b", 1), ("b", "c", 1)], {"a": "10.0.0.0/8"}))
+    >>> outcome = watch(net, ("a", "b"))
+    >>> outcome.queries, outcome.active_routers, outcome.interrupted, outcome.cut
+    (2, 2, 0, 2)
+
+    Raises what `Network.fail` raises.
+    """
+    before = network.counts
+    turns = _Turns(network, seed)
+    network.fail(*failure)
+    turns.run()
+    counts = network.counts.since(before)
+    return Outcome(
+        failed=" - ".join(map(str, failure)), rounds=turns.rounds, **counts._asdict(), messages=counts.messages,
+        active_routers=len({router for router, _ in turns.active}), computations=len(turns.active), **turns.flows.measures())
+
+
+def _child(sender: Any, network: Network, failure: Failure, seed: int) -> None:
+    sender.send(watch(network, failure, seed))
+
+
+def run(network: Network, given: Iterable[Failure], processes: int = 1, seed: int = 0) -> List[Outcome]:
+    """What comes of each failure alone, in the order given. The network stays as it is.
+
+    Each failure has a process of its own, which begins as a copy of this one (a fork), so all begin in the state in which the
+    network is now. At most so many run side by side. Call it before your program starts threads.
+
+    >>> net = start(Network("abc", [("a", "b", 1), ("b", "c", 1)]))
+    >>> [outcome.cut for outcome in run(net, failures(net), processes=2)]
+    [4, 4]
+    >>> net.trace("c", "10.0.0.1").arrives
+    True
+
+    Raises ValueError if something is left to do in the network, and RuntimeError if a process dies.
+    """
+    if processes < 1:
+        raise ValueError(f"nothing can be done by {processes} processes")
+    if not network.is_settled:
+        raise ValueError("something is left to do in the network: settle it first")
+    forks = multiprocessing.get_context("fork")
+    waiting = list(enumerate(given))[::-1]
+    outcomes: Dict[int, Outcome] = {}
+    running: Dict[Any, Tuple[int, Failure, Any]] = {}
+    gc.freeze()  # so that children do not copy what they only look at
+    try:
+        while waiting or running:
+            while waiting and len(running) < processes:
+                number, failure = waiting.pop()
+                receiver, sender = forks.Pipe(duplex=False)
+                process = forks.Process(target=_child, args=(sender, network, failure, seed), daemon=True)
+                process.start()
+                sender.close()
+                running[receiver] = (number, failure, process)
+            for receiver in multiprocessing.connection.wait(list(running)):
+                number, failure, process = running.pop(receiver)
+                try:
+                    outcomes[number] = receiver.recv()
+                except EOFError:
+                    process.join()
+                    raise RuntimeError(f"the process of {failure} ended with {process.exitcode}") from None
+                finally:
+                    receiver.close()
+                process.join()
+    finally:
+        gc.unfreeze()
+        for _, _, process in running.values():
+            process.terminate()
+            process.join()
+    return [outcomes[number] for number in sorted(outcomes)]
+
+
+def write_csv(outcomes: Iterable[Outcome], file: TextIO) -> None:
+    """Writes a table with a line for each failure. Open the file with newline="".
+
+    >>> write_csv([], sys.stdout)
+    failed,rounds,steps,updates,queries,replies,messages,active_routers,computations,interrupted,interrupted_at_once,\
+outage_mean,outage_most,cut
+    """
+    lines = csv.writer(file, lineterminator="\n")
+    lines.writerow(Outcome._fields)
+    lines.writerows(outcomes)
+
+
+def write_json(outcomes: Iterable[Outcome], file: TextIO) -> None:
+    """Writes a list with an object for each failure.
+
+    >>> write_json([], sys.stdout)
+    []
+    """
+    json.dump([outcome._asdict() for outcome in outcomes], file, indent=1)
+    file.write("\n")
+
+
+def summary(outcomes: Sequence[Outcome]) -> str:
+    """The distribution of each measure that is plotted: its least, median and largest value.
+
+    >>> net = start(Network("abc", [("a", "b", 1), ("b", "c", 1)]))
+    >>> print(summary(run(net, failures(net))))
+    2 failures
+    messages: 4 to 4, median 4
+    rounds to rest: 11 to 11, median 11
+    active routers: 2 to 2, median 2
+    longest outage, in rounds: 0 to 0, median 0
+    """
+    lines = [f"{len(outcomes)} failures"]
+    for field, what in PLOTS.items():
+        values = sorted(getattr(outcome, field) for outcome in outcomes)
+        if values:
+            lines.append(f"{what}: {values[0]} to {values[-1]}, median {statistics.median(values):g}")
+    return "\n".join(lines)
+
+
+def plot(outcomes: Sequence[Outcome], file: Any) -> None:
+    """Draws how messages, rounds to rest, active routers and outages are distributed, if matplotlib is installed. The format
+    is that of the file's name: PNG, SVG, PDF.
+
+    >>> plot([], "study.png")   # doctest: +SKIP
+    """
+    # No window is opened: that needs this other class than pyplot.
+    from matplotlib.figure import Figure  # pylint: disable=import-outside-toplevel
+
+    figure = Figure(figsize=(9, 6), layout="constrained")
+    for axes, (field, what) in zip(figure.subplots(2, 2).flat, PLOTS.items()):
+        values = [getattr(outcome, field) for outcome in outcomes]
+        axes.hist(values, bins=min(30, len(set(values)) or 1))
+        axes.set_xlabel(what)
+        axes.set_ylabel("failures")
+    figure.savefig(file)
+
+
+def _first(graph: Any, most: Optional[int]) -> Optional[Attachments]:
+    """A prefix for each of so many routers, those with the most edges; or for all."""
+    if most is None:
+        return None
+    edges: Dict[Any, int] = dict.fromkeys(graph.nodes, 0)
+    for near, far in graph.edges():
+        edges[near] += 1
+        edges[far] += 1
+    return default_attachments(sorted(edges, key=lambda name: -edges[name])[:most])
+
+
+def _count(text: str) -> int:
+    number = int(text)
+    if number < 1:
+        raise argparse.ArgumentTypeError("it is below 1")
+    return number
+
+
+def main(words: Optional[Sequence[str]] = None) -> int:
+    """The program `python3 -m tuhvondi study`, and its status: 0 if all was done, else 1; 2 for words that it does not know."""
+    parser = argparse.ArgumentParser(
+        prog="python3 -m tuhvondi study", description="Each link or router of a topology fails alone, from one settled state.",
+        epilog="Without --csv, --json and --plot the table is printed. A round is a turn of each router; there is no clock.")
+    parser.add_argument("graph", help="a file of GraphML: at most 256 nodes, 1,024 edges, 32 of them at a node")
+    parser.add_argument("--fail", choices=("each-link", "each-router"), default="each-link", help="what fails alone (each-link)")
+    parser.add_argument("--processes", type=_count, default=1, metavar="N", help="so many run side by side (1)")
+    parser.add_argument("--cost", default="weight", metavar="KEY", help="the edges' attribute with the cost, 1 to 65535 (weight); "
+                        "an edge without it costs 1")
+    parser.add_argument("--prefixes", type=_count, metavar="N", help="so many routers, those with the most links, have a prefix "
+                        "(all)")
+    parser.add_argument("--seed", type=int, default=0, metavar="N", help="routers take turns in a random order (in their own)")
+    parser.add_argument("--csv", metavar="FILE", help="write the table as CSV")
+    parser.add_argument("--json", metavar="FILE", help="write the table as JSON")
+    parser.add_argument("--plot", metavar="FILE", help="draw the distributions, if matplotlib is installed")
+    given = parser.parse_args(words)
+    try:
+        if given.plot:
+            __import__("matplotlib")
+        graph = graphs.read_graphml(given.graph)
+        network = start(Network.from_networkx(graph, _first(graph, given.prefixes), given.cost, up=False))
+        outcomes = run(network, failures(network, given.fail), given.processes, given.seed)
+        for name, write in ((given.csv, write_csv), (given.json, write_json)):
+            if name:
+                with open(name, "w", encoding="utf-8", newline="") as file:
+                    write(outcomes, file)
+        if given.plot:
+            plot(outcomes, given.plot)
+        if not given.csv and not given.json and not given.plot:
+            write_csv(outcomes, sys.stdout)
+    except (OSError, ValueError, LookupError, ImportError, RuntimeError, Refused) as error:
+        print(f"study: {error}", file=sys.stderr)
+        return 1
+    print(summary(outcomes), file=sys.stderr)
+    return 0
