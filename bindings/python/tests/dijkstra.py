@@ -10,7 +10,9 @@ except ImportError:
 
 
 def by_hand(costs, attached):
-    """The least cost of each router to one that is attached. `costs` has a cost for each pair of neighbours."""
+    """The least cost of each router to one that is attached. `costs` has a cost for each pair of
+    neighbours.
+    """
     least, heap = {}, [(cost, router) for router, cost in attached.items()]
     heapq.heapify(heap)
     while heap:

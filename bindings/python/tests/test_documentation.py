@@ -12,8 +12,8 @@ from pathlib import Path
 import tuhvondi
 import tuhvondi.study
 
-MODULES = [importlib.import_module(f"tuhvondi.{each.name}") for each in pkgutil.iter_modules(tuhvondi.__path__)
-           if each.name not in ("__main__", "libtuhvondi")]
+NAMES = {each.name for each in pkgutil.iter_modules(tuhvondi.__path__)} - {"__main__", "libtuhvondi"}
+MODULES = [importlib.import_module(f"tuhvondi.{name}") for name in sorted(NAMES)]
 
 
 def installed(name):
@@ -26,7 +26,8 @@ class Documentation(unittest.TestCase):
         tried = 0
         for module in [tuhvondi, *MODULES]:
             for test in doctest.DocTestFinder(exclude_empty=True).find(module):
-                if "networkx" in "".join(example.source for example in test.examples) and not installed("networkx"):
+                source = "".join(example.source for example in test.examples)
+                if "networkx" in source and not installed("networkx"):
                     continue
                 with self.subTest(test.name):
                     done = doctest.DocTestRunner().run(test)

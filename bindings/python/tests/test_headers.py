@@ -82,10 +82,8 @@ class Headers(unittest.TestCase):
                     if name == "DONE":
                         continue
                     known = status.BY_NETWORK if "network" in header else status.BY_ROUTER
-                    words = {"NoImageHeld": "EmptyHandle", "NoRouterHeld": "EmptyHandle", "NoNetworkHeld": "EmptyHandle",
-                             "UnknownNetworkPrefix": "UnknownPrefix"}
-                    mine = name.title().replace("_", "")
-                    self.assertEqual(known[int(number)].__name__, words.get(mine, mine))
+                    mine = "EmptyHandle" if name.endswith("_HELD") else name.title().replace("_", "")
+                    self.assertEqual(known[int(number)].__name__, mine)
 
 
 if __name__ == "__main__":

@@ -17,7 +17,9 @@ def random_prefix(draw):
 def random_row(draw):
     kind = draw.choice(list(Kind))
     prefix = random_prefix(draw)
-    return Row.via(prefix, draw.randrange(32), draw.randrange(65536)) if kind == Kind.VIA else Row(prefix, kind)
+    if kind == Kind.VIA:
+        return Row.via(prefix, draw.randrange(32), draw.randrange(65536))
+    return Row(prefix, kind)
 
 
 def longest(rows, address):
@@ -62,7 +64,8 @@ class Images(unittest.TestCase):
     def test_a_refused_call_changes_nothing(self):
         image = Image([Row.local("10.0.0.0/8")])
         with image.share() as other:
-            for change in (lambda: image.apply([Row.local("0.0.0.0/0")]), lambda: other.remove(["10.0.0.0/8"])):
+            changes = (lambda: image.apply([Row.local("0.0.0.0/0")]), lambda: other.remove(["10.0.0.0/8"]))
+            for change in changes:
                 with self.assertRaises(tuhvondi.Shared) as caught:
                     change()
                 self.assertEqual((caught.exception.number, caught.exception.name), (9, "Shared"))
@@ -80,7 +83,7 @@ class Images(unittest.TestCase):
         image = Image()
         image.close()
         image.close()
-        for call in (lambda: image.size, lambda: image.lookup("1.2.3.4"), image.copy, lambda: image.generation):
+        for call in (lambda: image.size, lambda: image.lookup("1.2.3.4"), image.copy, image.share):
             with self.assertRaises(tuhvondi.EmptyHandle):
                 call()
 

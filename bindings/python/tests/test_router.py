@@ -80,11 +80,12 @@ class Routers(unittest.TestCase):
             router.message(Message(MessageKind.QUERY, NET, math.inf, 0, 1))
         router.publish()
         asked = list(router.released())
-        self.assertEqual([(it.kind, it.port) for it in asked], [(MessageKind.QUERY, 0), (MessageKind.QUERY, 1)])
+        self.assertEqual([(it.kind.name, it.port) for it in asked], [("QUERY", 0), ("QUERY", 1)])
 
     def test_refusals_by_name_and_number(self):
         router = Router([1], {NET: 1}, most_prefixes=1)
         update = Message(MessageKind.UPDATE, IPv4Network("11.0.0.0/8"), 3, 0, 1)
+        reply = update._replace(kind=MessageKind.REPLY, prefix=NET)
         rows = [
             (tuhvondi.BadCost, 5, lambda: Router([0])),
             (tuhvondi.BadCost, 5, lambda: Router([65536])),
@@ -103,7 +104,7 @@ class Routers(unittest.TestCase):
             (tuhvondi.StillUsed, 44, lambda: router.forget(NET)),
             (tuhvondi.AlreadyUp, 13, lambda: (router.link_up(0, 1, 1), router.link_up(0, 2, 1))),
             (tuhvondi.OtherSession, 36, lambda: router.message(update._replace(session=2))),
-            (tuhvondi.Unasked, 38, lambda: router.message(update._replace(kind=MessageKind.REPLY, prefix=NET))),
+            (tuhvondi.Unasked, 38, lambda: router.message(reply)),
             (tuhvondi.TooManyPrefixes, 27, lambda: router.message(update)),
             (tuhvondi.OtherSession, 36, lambda: (router.link_down(0), router.link_up(0, 1, 1))),
         ]
@@ -114,7 +115,8 @@ class Routers(unittest.TestCase):
 
     def test_numbers_that_do_not_fit(self):
         router = Router([1])
-        for call in (lambda: router.link_up(0, 65536, 1), lambda: Router([], {}, -1), lambda: router.publish(-1),
+        for call in (lambda: router.link_up(0, 65536, 1), lambda: Router([], {}, -1),
+                     lambda: router.publish(-1),
                      lambda: router.message(Message(MessageKind.UPDATE, NET, 2 ** 32, 0, 1)),
                      lambda: router.message(Message(3, NET, 1, 0, 1))):
             with self.assertRaises(ValueError):

@@ -19,7 +19,8 @@ from tests.test_network import random_network
 
 GRAPH = """<graphml><key id="w" attr.name="weight" for="edge"/><graph edgedefault="undirected">
 <node id="a"/><node id="b"/><node id="c"/><node id="d"/>
-<edge source="a" target="b"/><edge source="b" target="c"/><edge source="a" target="c"><data key="w">{}</data></edge>
+<edge source="a" target="b"/><edge source="b" target="c"/>
+<edge source="a" target="c"><data key="w">{}</data></edge>
 <edge source="c" target="d"/></graph></graphml>"""
 
 
@@ -32,7 +33,8 @@ class Measures(unittest.TestCase):
             other.fail(*failure)
             other.settle()
             counts = other.counts.since(before)
-            self.assertEqual((outcome.steps, outcome.messages, outcome.queries), (counts.steps, counts.messages, counts.queries))
+            self.assertEqual((outcome.steps, outcome.messages), (counts.steps, counts.messages))
+            self.assertEqual((outcome.queries, outcome.replies), (counts.queries, counts.replies))
             self.assertEqual(one.distance_rows(), other.distance_rows())
 
     def test_flows_by_hand(self):
@@ -85,8 +87,9 @@ class Measures(unittest.TestCase):
 
     def test_a_process_that_dies(self):
         network = study.start(Network("ab", [("a", "b", 1)]))
-        with mock.patch.object(study, "watch", lambda *_: sys.exit(3)), self.assertRaisesRegex(RuntimeError, "ended with 3"):
-            study.run(network, study.failures(network))
+        with mock.patch.object(study, "watch", lambda *_: sys.exit(3)):
+            with self.assertRaisesRegex(RuntimeError, "ended with 3"):
+                study.run(network, study.failures(network))
 
 
 class Program(unittest.TestCase):
@@ -98,12 +101,13 @@ class Program(unittest.TestCase):
         self.graph.write_text(GRAPH.format(3), encoding="utf-8")
 
     def run_it(self, *words):
-        return subprocess.run([sys.executable, "-m", "tuhvondi", *map(str, words)], cwd=Path(tuhvondi.__file__).parents[1],
-                              capture_output=True, text=True, check=False)
+        return subprocess.run([sys.executable, "-m", "tuhvondi", *map(str, words)], check=False,
+                              cwd=Path(tuhvondi.__file__).parents[1], capture_output=True, text=True)
 
     def test_tables(self):
         table, lines = self.folder / "out.csv", self.folder / "out.json"
-        done = self.run_it("study", self.graph, "--fail", "each-link", "--processes", 2, "--csv", table, "--json", lines)
+        done = self.run_it("study", self.graph, "--fail", "each-link", "--processes", 2, "--csv", table,
+                           "--json", lines)
         self.assertEqual((done.returncode, done.stdout), (0, ""), done.stderr)
         self.assertIn("4 failures", done.stderr)
         with open(table, encoding="utf-8", newline="") as file:
@@ -114,13 +118,15 @@ class Program(unittest.TestCase):
         self.assertEqual([row["cut"] for row in rows], ["0", "0", "0", "6"])
 
     def test_standard_output(self):
-        done = self.run_it("study", self.graph, "--fail", "each-router", "--prefixes", 1, "--cost", "none", "--seed", 5)
+        done = self.run_it("study", self.graph, "--fail", "each-router", "--prefixes", 1, "--cost", "none",
+                           "--seed", 5)
         self.assertEqual(done.returncode, 0, done.stderr)
         self.assertEqual(len(done.stdout.splitlines()), 5)
 
     def test_faults(self):
-        rows = [(2, []), (2, ["other"]), (0, ["--help"]), (2, ["study"]), (2, ["study", self.graph, "--processes", "0"]),
-                (0, ["study", "--help"]), (1, ["study", self.folder / "none"]),
+        rows = [(2, []), (2, ["other"]), (0, ["--help"]), (2, ["study"]),
+                (2, ["study", self.graph, "--processes", "0"]), (0, ["study", "--help"]),
+                (1, ["study", self.folder / "none"]),
                 (1, ["study", self.graph, "--csv", self.folder / "none" / "out.csv"])]
         for status, words in rows:
             with self.subTest(words):
@@ -146,7 +152,7 @@ class Program(unittest.TestCase):
         """What is drawn, without matplotlib."""
         figure = mock.MagicMock()
         figure.subplots.return_value.flat = axes = [mock.MagicMock() for _ in study.PLOTS]
-        modules = {"matplotlib": types.ModuleType("matplotlib"), "matplotlib.figure": types.ModuleType("figure")}
+        modules = {name: types.ModuleType(name) for name in ("matplotlib", "matplotlib.figure")}
         modules["matplotlib.figure"].Figure = mock.MagicMock(return_value=figure)
         network = study.start(Network("abc", [("a", "b", 1), ("b", "c", 1)]))
         outcomes = study.run(network, study.failures(network))

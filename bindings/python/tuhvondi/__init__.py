@@ -3,23 +3,24 @@
 What is here
 ============
 
-- `Network`: a whole network in one process. Links fail and come up again, routers settle, and you ask for tables, distances
-  and the ways of packets. Begin here if you simulate.
-- `Router`: one router. You bring it what its links bring, and forward by its rows. Begin here if your event loop has a clock
-  and delays, or if routers are processes of their own.
+- `Network`: a whole network in one process. Links fail and come up again, routers settle, and you ask for
+  tables, distances and the ways of packets. Begin here if you simulate.
+- `Router`: one router. You bring it what its links bring, and forward by its rows. Begin here if your event
+  loop has a clock and delays, or if routers are processes of their own.
 - `Image`: a forwarding table, which answers addresses by the longest match.
-- `tuhvondi.study`: each link or router of a network fails alone, from one settled state: messages, rounds to rest, active
-  routers, outages. `python3 -m tuhvondi study FILE` does it with a file of GraphML.
+- `tuhvondi.study`: each link or router of a network fails alone, from one settled state: messages, rounds to
+  rest, active routers, outages. `python3 -m tuhvondi study FILE` does it with a file of GraphML.
 - `Refused`: why a call is refused, with an exception for each number of the library.
 
 A first network
 ===============
 
-A link has a cost, 1 to 65535, from each end. A router can be attached to prefixes. Links come up as a network is made, but
-nobody has heard of it yet: `settle` lets routers take turns until nothing is left to do.
+A link has a cost, 1 to 65535, from each end. A router can be attached to prefixes. Links come up as a network
+is made, but nobody has heard of it yet: `settle` lets routers take turns until nothing is left to do.
 
 >>> import tuhvondi
->>> net = tuhvondi.Network("abcd", [("a", "b", 1), ("b", "c", 1), ("c", "d", 1), ("d", "a", 9)], {"a": "10.0.0.0/8"})
+>>> links = [("a", "b", 1), ("b", "c", 1), ("c", "d", 1), ("d", "a", 9)]
+>>> net = tuhvondi.Network("abcd", links, {"a": "10.0.0.0/8"})
 >>> net.settle().updates
 10
 >>> net.distances("10.0.0.0/8")
@@ -45,45 +46,50 @@ A graph of networkx is a network, too: `Network.from_networkx(graph)`, and back 
 Units
 =====
 
-A cost is a whole number from 1 to 65535 and has no unit. A distance is a sum of costs, that of the attachment at the end
-included; `math.inf` says that there is no way. A session says how often a link came up. Addresses are texts such as
-"10.1.2.3", numbers of 32 bits, or `ipaddress.IPv4Address`. Prefixes are texts such as "10.0.0.0/8" or
-`ipaddress.IPv4Network`. A network has no clock: its time is counted in steps.
+A cost is a whole number from 1 to 65535 and has no unit. A distance is a sum of costs, that of the attachment
+at the end included; `math.inf` says that there is no way. A session says how often a link came up. Addresses
+are texts such as "10.1.2.3", numbers of 32 bits, or `ipaddress.IPv4Address`. Prefixes are texts such as
+"10.0.0.0/8" or `ipaddress.IPv4Network`. A network has no clock: its time is counted in steps.
 
 What is proved
 ==============
 
-Each answer is that of the library `libtuhvondi.so`, whose functions are proved: no packet circles, whatever happens and in
-whatever order, and rows lead at least cost if nothing is left to do. This package is not proved. It turns values of Python
-into values of C and back, and is tested. The library may be one that was built without proofs: it then says so as it is
-loaded.
+Each answer is that of the library `libtuhvondi.so`, whose functions are proved: no packet circles, whatever
+happens and in whatever order, and rows lead at least cost if nothing is left to do. This package is not
+proved. It turns values of Python into values of C and back, and is tested. The library may be one that was
+built without proofs: it then says so as it is loaded.
 
-The library is looked for where TUHVONDI_LIBRARY says, else beside this file, else where the system looks for libraries.
-`./install --python FOLDER`, in the repository, makes it. Its rules ask that no two threads are in it at once. The
-interpreter's lock sees to that. In an interpreter without that lock keep what you make here to one thread.
+The library is looked for where TUHVONDI_LIBRARY says, else beside this file, else where the system looks for
+libraries. `./install --python FOLDER`, in the repository, makes it. Its rules ask that no two threads are in
+it at once. The interpreter's lock sees to that. In an interpreter without that lock keep what you make here
+to one thread.
 """
 
 from ._library import LibraryNotFound
 from .image import Image
-from .network import (Counts, End, Entry, Held, Item, ItemKind, LinkState, MachineState, Network, Step, StepKind, Trace,
-                      default_attachments)
+from .network import (Counts, End, Entry, Held, Item, ItemKind, LinkState, MachineState, Network,
+                      Step, StepKind, Trace, default_attachments)
 from .router import Message, MessageKind, PrefixState, Publication, Router, RouterCounts
 from .rows import Address, Distance, Kind, Prefix, Row
-from .status import (AlreadyUp, AskedTwice, BadCost, BadCount, BadKind, BadLength, BadLink, BadOwner, BadRouters, EmptyHandle,
-                     GenerationsSpent, HostBits, IsDown, NoMemory, NotAttached, NothingDue, NothingRipe, NothingToDeliver,
-                     OtherSession, Refused, SessionsSpent, Shared, StepsSpent, StillUsed, TooManyLinks, TooManyPorts,
-                     TooManyPrefixes, Unasked, UnknownLink, UnknownPort, UnknownPrefix, UnknownRouter)
+from .status import (AlreadyUp, AskedTwice, BadCost, BadCount, BadKind, BadLength, BadLink,
+                     BadOwner, BadRouters, EmptyHandle, GenerationsSpent, HostBits, IsDown,
+                     NoMemory, NotAttached, NothingDue, NothingRipe, NothingToDeliver,
+                     OtherSession, Refused, SessionsSpent, Shared, StepsSpent, StillUsed,
+                     TooManyLinks, TooManyPorts, TooManyPrefixes, Unasked, UnknownLink,
+                     UnknownPort, UnknownPrefix, UnknownRouter)
 
 __version__ = "0.1.0"
 
 __all__ = [
-    "Network", "Counts", "End", "Entry", "Held", "Item", "ItemKind", "LinkState", "MachineState", "Step", "StepKind", "Trace",
-    "default_attachments",
+    "Network", "Counts", "End", "Entry", "Held", "Item", "ItemKind", "LinkState", "MachineState",
+    "Step", "StepKind", "Trace", "default_attachments",
     "Router", "Message", "MessageKind", "PrefixState", "Publication", "RouterCounts",
     "Image", "Row", "Kind",
     "Address", "Distance", "Prefix",
-    "Refused", "LibraryNotFound", "AlreadyUp", "AskedTwice", "BadCost", "BadCount", "BadKind", "BadLength", "BadLink",
-    "BadOwner", "BadRouters", "EmptyHandle", "GenerationsSpent", "HostBits", "IsDown", "NoMemory", "NotAttached", "NothingDue",
-    "NothingRipe", "NothingToDeliver", "OtherSession", "SessionsSpent", "Shared", "StepsSpent", "StillUsed", "TooManyLinks",
-    "TooManyPorts", "TooManyPrefixes", "Unasked", "UnknownLink", "UnknownPort", "UnknownPrefix", "UnknownRouter",
+    "Refused", "LibraryNotFound", "AlreadyUp", "AskedTwice", "BadCost", "BadCount", "BadKind",
+    "BadLength", "BadLink", "BadOwner", "BadRouters", "EmptyHandle", "GenerationsSpent",
+    "HostBits", "IsDown", "NoMemory", "NotAttached", "NothingDue", "NothingRipe",
+    "NothingToDeliver", "OtherSession", "SessionsSpent", "Shared", "StepsSpent", "StillUsed",
+    "TooManyLinks", "TooManyPorts", "TooManyPrefixes", "Unasked", "UnknownLink", "UnknownPort",
+    "UnknownPrefix", "UnknownRouter",
 ]

@@ -16,7 +16,8 @@ from typing import Any, Iterator
 
 # How many ports a router has at most.
 PORTS = 32
-# The distance of a destination that cannot be reached, and the largest number that a field of a cost can hold.
+# The distance of a destination that cannot be reached, and the largest number that a field of a cost can
+# hold.
 INFINITY = 0xFFFFFFFF
 # The number of no port.
 NO_PORT = 255
@@ -39,7 +40,8 @@ class Handle(Structure):
 
 
 class RowParts(Structure):
-    _fields_ = [("addr", c_uint32), ("len", c_uint8), ("kind", c_uint8), ("port", c_uint8), ("session", c_uint16)]
+    _fields_ = [("addr", c_uint32), ("len", c_uint8), ("kind", c_uint8), ("port", c_uint8),
+                ("session", c_uint16)]
 
 
 class PrefixParts(Structure):
@@ -51,18 +53,19 @@ class AttachmentParts(Structure):
 
 
 class MessageParts(Structure):
-    _fields_ = [("addr", c_uint32), ("value", c_uint32), ("session", c_uint16), ("len", c_uint8), ("kind", c_uint8),
-                ("port", c_uint8)]
+    _fields_ = [("addr", c_uint32), ("value", c_uint32), ("session", c_uint16), ("len", c_uint8),
+                ("kind", c_uint8), ("port", c_uint8)]
 
 
 class CountsParts(Structure):
-    _fields_ = [("prefixes", c_size_t), ("changed", c_size_t), ("held", c_size_t), ("ripe", c_size_t),
-                ("generation", c_uint64), ("due", c_uint8)]
+    _fields_ = [("prefixes", c_size_t), ("changed", c_size_t), ("held", c_size_t),
+                ("ripe", c_size_t), ("generation", c_uint64), ("due", c_uint8)]
 
 
 class PrefixStateParts(Structure):
     _fields_ = [("rd", c_uint32), ("fd", c_uint32), ("attached", c_uint32), ("chosen", RowParts),
-                ("published", RowParts), ("active", c_uint8), ("owed", c_uint8), ("awaited", c_uint8 * PORTS)]
+                ("published", RowParts), ("active", c_uint8), ("owed", c_uint8),
+                ("awaited", c_uint8 * PORTS)]
 
 
 class LinkParts(Structure):
@@ -78,12 +81,13 @@ class FaultPlaceParts(Structure):
 
 
 class StepParts(Structure):
-    _fields_ = [("addr", c_uint32), ("cost", c_uint32), ("subject", c_uint16), ("kind", c_uint8), ("port", c_uint8),
-                ("len", c_uint8)]
+    _fields_ = [("addr", c_uint32), ("cost", c_uint32), ("subject", c_uint16), ("kind", c_uint8),
+                ("port", c_uint8), ("len", c_uint8)]
 
 
 class NetworkCountsParts(Structure):
-    _fields_ = [("steps", c_uint64), ("updates", c_uint64), ("queries", c_uint64), ("replies", c_uint64)]
+    _fields_ = [("steps", c_uint64), ("updates", c_uint64), ("queries", c_uint64),
+                ("replies", c_uint64)]
 
 
 class NeighbourParts(Structure):
@@ -91,21 +95,23 @@ class NeighbourParts(Structure):
 
 
 class MachineParts(Structure):
-    _fields_ = [("state", PrefixStateParts), ("neighbours", NeighbourParts * PORTS), ("successor", c_uint8)]
+    _fields_ = [("state", PrefixStateParts), ("neighbours", NeighbourParts * PORTS),
+                ("successor", c_uint8)]
 
 
 class LinkStateParts(Structure):
-    _fields_ = [("to_a", c_size_t), ("to_b", c_size_t), ("from_a", c_uint32), ("from_b", c_uint32), ("a", c_uint16),
-                ("b", c_uint16), ("session", c_uint16), ("up", c_uint8)]
+    _fields_ = [("to_a", c_size_t), ("to_b", c_size_t), ("from_a", c_uint32), ("from_b", c_uint32),
+                ("a", c_uint16), ("b", c_uint16), ("session", c_uint16), ("up", c_uint8)]
 
 
 class ItemParts(Structure):
-    _fields_ = [("addr", c_uint32), ("value", c_uint32), ("session", c_uint16), ("kind", c_uint8), ("len", c_uint8)]
+    _fields_ = [("addr", c_uint32), ("value", c_uint32), ("session", c_uint16), ("kind", c_uint8),
+                ("len", c_uint8)]
 
 
 class GateParts(Structure):
-    _fields_ = [("held", c_size_t), ("ripe", c_size_t), ("notices", c_size_t), ("generation", c_uint64),
-                ("front", MessageParts), ("due", c_uint8)]
+    _fields_ = [("held", c_size_t), ("ripe", c_size_t), ("notices", c_size_t),
+                ("generation", c_uint64), ("front", MessageParts), ("due", c_uint8)]
 
 
 # The structures by their names in the headers.
@@ -171,7 +177,9 @@ FUNCTIONS: dict[str, list[Any]] = {
 
 
 def _places() -> Iterator[str]:
-    """Where the library may be: where TUHVONDI_LIBRARY says, else beside this file, else where the system looks."""
+    """Where the library may be: where TUHVONDI_LIBRARY says, else beside this file, else where the system
+    looks.
+    """
     named = os.environ.get("TUHVONDI_LIBRARY")
     if named:
         yield named
@@ -191,9 +199,11 @@ def _missing(name: str) -> Any:
 
 @functools.lru_cache(maxsize=None)
 def functions() -> SimpleNamespace:
-    """The functions of the library by their names, without `tuhvondi_`. The library is loaded at the first call.
+    """The functions of the library by their names, without `tuhvondi_`. The library is loaded at the first
+    call.
 
-    A call keeps the interpreter's lock (PyDLL). So no two threads are in the library at once, as its rules ask.
+    A call keeps the interpreter's lock (PyDLL). So no two threads are in the library at once, as its rules
+    ask.
     """
     why = ""
     for place in _places():
@@ -212,4 +222,5 @@ def functions() -> SimpleNamespace:
                 function.restype = None if name.endswith("_free") else c_uint32
             found[name[len("tuhvondi_"):]] = function
         return SimpleNamespace(**found)
-    raise LibraryNotFound(f"{why}; ./install --python FOLDER makes libtuhvondi.so, and TUHVONDI_LIBRARY says where it is")
+    raise LibraryNotFound(
+        f"{why}; ./install --python FOLDER makes libtuhvondi.so, and TUHVONDI_LIBRARY says where it is")

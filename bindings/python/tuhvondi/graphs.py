@@ -11,15 +11,16 @@ CostGiven = Union[str, int, Callable[[Hashable, Hashable, Mapping[str, Any]], in
 
 
 class Graph:
-    """The part of networkx's Graph and DiGraph that a network is made of: nodes, edges with their attributes, and
-    whether they are directed.
+    """The part of networkx's Graph and DiGraph that a network is made of: nodes, edges with their attributes,
+    and whether they are directed.
 
     >>> graph = Graph({"a": {}, "b": {}}, [("a", "b", {"weight": 5})], directed=False)
     >>> list(graph.nodes), list(graph.edges(data=True))
     (['a', 'b'], [('a', 'b', {'weight': 5})])
     """
 
-    def __init__(self, nodes: Dict[str, Dict[str, Any]], edges: List[Tuple[str, str, Dict[str, Any]]], directed: bool) -> None:
+    def __init__(self, nodes: Dict[str, Dict[str, Any]], edges: List[Tuple[str, str, Dict[str, Any]]],
+                 directed: bool) -> None:
         self.nodes = nodes
         self._edges = edges
         self._directed = directed
@@ -80,8 +81,8 @@ def _local(tag: str) -> str:
 
 
 def read_graphml(file: Any) -> Graph:
-    """The graph of a file of GraphML, or of one that is open. Of parallel edges the first counts, and loops do not.
-    Nodes are named by their labels, if each has one of its own, else by their ids.
+    """The graph of a file of GraphML, or of one that is open. Of parallel edges the first counts, and loops
+    do not. Nodes are named by their labels, if each has one of its own, else by their ids.
 
     >>> import io
     >>> text = '<graphml><graph><node id="a"/><node id="b"/><edge source="a" target="b"/></graph></graphml>'
@@ -94,7 +95,8 @@ def read_graphml(file: Any) -> Graph:
         root = ElementTree.parse(file).getroot()
     except ElementTree.ParseError as error:
         raise ValueError(f"no GraphML: {error}") from None
-    keys = {key.get("id"): key.get("attr.name") or key.get("id") for key in root.iter() if _local(key.tag) == "key"}
+    keys = {it.get("id"): it.get("attr.name") or it.get("id")
+            for it in root.iter() if _local(it.tag) == "key"}
     graph = next((it for it in root if _local(it.tag) == "graph"), None)
     if graph is None:
         raise ValueError("no GraphML: there is no graph")
@@ -117,4 +119,5 @@ def read_graphml(file: Any) -> Graph:
         pair = (labels[near], labels[far])
         if near != far and pair not in edges and (directed or pair[::-1] not in edges):
             edges[pair] = data_of(element)
-    return Graph({labels[node]: data for node, data in nodes.items()}, [(*pair, data) for pair, data in edges.items()], directed)
+    named = {labels[node]: data for node, data in nodes.items()}
+    return Graph(named, [(*pair, data) for pair, data in edges.items()], directed)

@@ -50,7 +50,8 @@ class Image(Owner):
         return number
 
     def apply(self, rows: Iterable[Row], generation: Optional[int] = None) -> None:
-        """Sets rows over those of the image, in order, and the generation: the next one, or the one that you give.
+        """Sets rows over those of the image, in order, and the generation: the next one, or the one that you
+        give.
 
         >>> image = Image()
         >>> image.apply([Row.local("10.0.0.0/8")], generation=7)

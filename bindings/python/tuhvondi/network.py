@@ -7,13 +7,15 @@ import enum
 import math
 from ctypes import byref, c_size_t, c_uint8
 from ipaddress import IPv4Address, IPv4Network
-from typing import Any, Callable, Hashable, Iterable, List, Mapping, NamedTuple, Optional, Sequence, Tuple, Union
+from typing import (Any, Callable, Hashable, Iterable, List, Mapping, NamedTuple, Optional, Sequence,
+                    Tuple, Union)
 
 from . import _library, graphs
 from .owner import Owner
-from .rows import (Address, Distance, Kind, Prefix, address_number, cost_number, distance_of, network_of, number_of,
-                   prefix_parts)
-from .status import BY_NETWORK, BadLink, BadRouters, IsDown, UnknownLink, UnknownPrefix, UnknownRouter, refusal
+from .rows import (Address, Distance, Kind, Prefix, address_number, cost_number, distance_of, network_of,
+                   number_of, prefix_parts)
+from .status import (BY_NETWORK, BadLink, BadRouters, UnknownLink, UnknownPrefix, UnknownRouter,
+                     refusal)
 
 # A router's name: whatever can be a key of a dict, as nodes of networkx are.
 Name = Hashable
@@ -120,8 +122,8 @@ class Item(NamedTuple):
 
 
 class Entry(NamedTuple):
-    """A row in force at a router: a prefix, and where packets go. `next` is the name of the next router of a row
-    of kind VIA, `session` the session of that link. In other rows both are None.
+    """A row in force at a router: a prefix, and where packets go. `next` is the name of the next router of a
+    row of kind VIA, `session` the session of that link. In other rows both are None.
 
     >>> print(Entry(IPv4Network("10.0.0.0/8"), Kind.VIA, "a", 1))
     10.0.0.0/8 via a, session 1
@@ -192,8 +194,8 @@ class Counts(NamedTuple):
 
 
 class LinkState(NamedTuple):
-    """What a link is now: its two routers, the cost from each, whether it is up, how often it came up, and how
-    many items each end has yet to take.
+    """What a link is now: its two routers, the cost from each, whether it is up, how often it came up, and
+    how many items each end has yet to take.
 
     >>> net = Network("ab", [("a", "b", 5, 7)])
     >>> net.link("b", "a")
@@ -267,15 +269,15 @@ class Network(Owner):
     """A network of routers that route by DUAL, with the table in force at each.
 
     - routers: their names, 1 to 256; a name is whatever can be a key of a dict
-    - links: tuples of two names and a cost, 1 to 65535, or two names, the cost from the first, and the cost from
-      the second; at most 1,024, at most 32 at a router, and at most one between two routers
-    - attachments: by router, the prefixes to which it is attached: one, several, or several with their costs (1
-      if you give none). Without them each router has a prefix of its own: 10.0.0.0/24, 10.0.1.0/24 and so on.
-      No other prefix can be attached later.
+    - links: tuples of two names and a cost, 1 to 65535, or two names, the cost from the first, and the cost
+      from the second; at most 1,024, at most 32 at a router, and at most one between two routers
+    - attachments: by router, the prefixes to which it is attached: one, several, or several with their costs
+      (1 if you give none). Without them each router has a prefix of its own: 10.0.0.0/24, 10.0.1.0/24 and so
+      on. No other prefix can be attached later.
     - up: whether all links come up at once; else all are down
 
-    Nothing happens but by steps: those of `settle`, those that you choose (`do`), and those by which links and
-    attachments change. A ring of three routers:
+    Nothing happens but by steps: those of `settle`, those that you choose (`do`), and those by which links
+    and attachments change. A ring of three routers:
 
     >>> net = Network("abc", [("a", "b", 1), ("b", "c", 1), ("a", "c", 5)], {"a": "10.0.0.0/8"})
     >>> net.settle().messages > 0
@@ -291,17 +293,17 @@ class Network(Owner):
     >>> net.distance("c", "10.0.0.0/8")
     6
 
-    Whatever steps are done, in whatever order, it is proved of the library that no packet meets a router twice,
-    and that rows lead at least cost if nothing is left to do. There is no clock: `examples/python/own_loop.py`
-    has one.
+    Whatever steps are done, in whatever order, it is proved of the library that no packet meets a router
+    twice, and that rows lead at least cost if nothing is left to do. There is no clock:
+    `examples/python/own_loop.py` has one.
 
     Raises BadRouters, BadLink, TooManyLinks, BadOwner, BadCost, NoMemory.
     """
 
     _kind = "network"
 
-    def __init__(self, routers: Iterable[Name], links: Iterable[LinkGiven], attachments: Optional[Attachments] = None, *,
-                 up: bool = True) -> None:
+    def __init__(self, routers: Iterable[Name], links: Iterable[LinkGiven],
+                 attachments: Optional[Attachments] = None, *, up: bool = True) -> None:
         super().__init__()
         self._names = tuple(routers)
         self._numbers = {name: number for number, name in enumerate(self._names)}
@@ -356,8 +358,10 @@ class Network(Owner):
                 owners.append((*prefix_parts(prefix), self._cost(cost, f"the attachment of {name}"), number))
         return owners
 
-    def _open(self, links: "list[tuple[int, int, int, int]]", owners: "list[tuple[int, int, int, int]]") -> None:
-        link_parts = (_library.LinkParts * max(1, len(links)))(*[(to, back, a, b) for a, b, to, back in links])
+    def _open(self, links: "list[tuple[int, int, int, int]]",
+              owners: "list[tuple[int, int, int, int]]") -> None:
+        link_parts = (_library.LinkParts * max(1, len(links)))(
+            *[(to, back, a, b) for a, b, to, back in links])
         owner_parts = (_library.OwnerParts * max(1, len(owners)))(
             *[(addr, cost, router, length) for addr, length, cost, router in owners])
         place = _library.FaultPlaceParts()
@@ -382,9 +386,9 @@ class Network(Owner):
                       up: bool = True) -> Network:
         """The network of a graph of networkx, or of a graph that has its `nodes`, `edges` and `is_directed`.
 
-        `cost` is the cost of an edge, 1 to 65535: the name of its attribute, and 1 if the edge has none; a number
-        for all; or a function of the two nodes and the attributes. In a directed graph each edge has an edge
-        back, and each of the two gives the cost from its first node.
+        `cost` is the cost of an edge, 1 to 65535: the name of its attribute, and 1 if the edge has none; a
+        number for all; or a function of the two nodes and the attributes. In a directed graph each edge has
+        an edge back, and each of the two gives the cost from its first node.
 
         >>> import networkx
         >>> net = Network.from_networkx(networkx.cycle_graph(4), {0: "10.0.0.0/8"}, cost=10)
@@ -392,8 +396,8 @@ class Network(Owner):
         >>> net.distances("10.0.0.0/8")
         {0: 1, 1: 11, 2: 21, 3: 11}
 
-        Raises BadLink for loops, for parallel edges, and for an edge without an edge back. Others are as for a
-        Network.
+        Raises BadLink for loops, for parallel edges, and for an edge without an edge back. Others are as for
+        a Network.
         """
         return cls(list(graph.nodes), graphs.links_of(graph, cost), attachments, up=up)
 
@@ -401,8 +405,8 @@ class Network(Owner):
     def from_graphml(cls, path: Any, attachments: Optional[Attachments] = None,
                      cost: Union[str, int, Callable[[Name, Name, Mapping[str, Any]], int]] = "weight", *,
                      up: bool = True) -> Network:
-        """The network of a file of GraphML. It needs no networkx. Routers are named by their labels, if each node
-        has one of its own, else by their ids. `cost` is as for `from_networkx`.
+        """The network of a file of GraphML. It needs no networkx. Routers are named by their labels, if each
+        node has one of its own, else by their ids. `cost` is as for `from_networkx`.
 
         >>> import io
         >>> file = io.StringIO('''<graphml><graph edgedefault="undirected">
@@ -495,8 +499,8 @@ class Network(Owner):
         return [self._names[far] for far in self._neighbours[self._number(router)]]
 
     def attachments(self, router: Name) -> "dict[IPv4Network, int]":
-        """The prefixes to which a router is attached, with their costs. An attachment counts when the router has
-        taken the notice of it.
+        """The prefixes to which a router is attached, with their costs. An attachment counts when the router
+        has taken the notice of it.
 
         >>> Network("a", [], {"a": {"10.0.0.0/8": 7}}).attachments("a")
         {IPv4Network('10.0.0.0/8'): 7}
@@ -531,8 +535,8 @@ class Network(Owner):
         self._done += _STEP.to_bytes(8, "little") + bytes(parts)
 
     def fail(self, router: Name, other: Optional[Name] = None) -> None:
-        """The link of two routers goes down, and the messages on it are lost. With one router, all its links that
-        are up go down, as if it had stopped.
+        """The link of two routers goes down, and the messages on it are lost. With one router, all its links
+        that are up go down, as if it had stopped.
 
         >>> net = Network("abc", [("a", "b", 1), ("b", "c", 1)])
         >>> net.fail("b")
@@ -544,8 +548,8 @@ class Network(Owner):
         self._change(router, other, StepKind.LINK_DOWN)
 
     def restore(self, router: Optional[Name] = None, other: Optional[Name] = None) -> None:
-        """The link of two routers comes up, in its next session. With one router all its links that are down come
-        up, and with none all of the network.
+        """The link of two routers comes up, in its next session. With one router all its links that are down
+        come up, and with none all of the network.
 
         >>> net = Network("abc", [("a", "b", 1), ("b", "c", 1)], up=False)
         >>> net.restore("a", "b")
@@ -553,8 +557,8 @@ class Network(Owner):
         >>> [link.session for link in net.links]
         [1, 1]
 
-        Raises UnknownRouter, UnknownLink, AlreadyUp if the link is up, SessionsSpent if it came up 65,535 times,
-        NoMemory.
+        Raises UnknownRouter, UnknownLink, AlreadyUp if the link is up, SessionsSpent if it came up 65,535
+        times, NoMemory.
         """
         self._change(router, other, StepKind.LINK_UP)
 
@@ -576,7 +580,8 @@ class Network(Owner):
             self._step(_library.StepParts(subject=number, kind=kind), f"{each[0]!r} and {each[1]!r}")
 
     def set_cost(self, router: Name, other: Name, cost: int, back: Optional[int] = None) -> None:
-        """The cost of a link from a router to the other, 1 to 65535, changes; with `back` that from the other, too.
+        """The cost of a link from a router to the other, 1 to 65535, changes; with `back` that from the
+        other, too.
 
         >>> net = Network("ab", [("a", "b", 5)])
         >>> net.set_cost("a", "b", 7)
@@ -607,8 +612,9 @@ class Network(Owner):
         Raises UnknownRouter, BadCost, UnknownPrefix if it is none of `prefixes`, NoMemory.
         """
         addr, length = prefix_parts(prefix)
-        self._step(_library.StepParts(subject=self._number(router), kind=StepKind.ATTACH, addr=addr, len=length,
-                                      cost=self._cost(cost, f"the attachment of {router}")), str(prefix))
+        value = self._cost(cost, f"the attachment of {router}")
+        self._step(_library.StepParts(addr=addr, cost=value, subject=self._number(router),
+                                      kind=StepKind.ATTACH, len=length), str(prefix))
 
     def detach(self, router: Name, prefix: Prefix) -> None:
         """A router is attached to a prefix no more.
@@ -622,11 +628,12 @@ class Network(Owner):
         Raises UnknownRouter, UnknownPrefix, NotAttached, NoMemory.
         """
         addr, length = prefix_parts(prefix)
-        self._step(_library.StepParts(subject=self._number(router), kind=StepKind.DETACH, addr=addr, len=length), str(prefix))
+        self._step(_library.StepParts(addr=addr, subject=self._number(router), kind=StepKind.DETACH,
+                                      len=length), str(prefix))
 
     def settle(self, seed: int = 0, most: Optional[int] = None) -> Counts:
-        """Lets routers do what they have to do until nothing is left to do, or at most so many steps. Answers how
-        many steps and messages these were.
+        """Lets routers do what they have to do until nothing is left to do, or at most so many steps. Answers
+        how many steps and messages these were.
 
         Routers take turns in the order in which you named them, or in a pseudo-random order that the seed
         determines, 1 to 2^64 - 1. Each order ends.
@@ -649,7 +656,8 @@ class Network(Owner):
             wanted = int(min(left, _AT_ONCE))
             done.value = 0
             status = self._library.network_settle(self._at, seed, wanted, byref(done))
-            self._done += b"".join(it.to_bytes(8, "little") for it in (_SETTLING, seed, done.value))
+            if done.value:
+                self._done += b"".join(it.to_bytes(8, "little") for it in (_SETTLING, seed, done.value))
             self._need(status)
             if done.value < wanted:
                 break
@@ -657,8 +665,8 @@ class Network(Owner):
         return self.counts.since(before)
 
     def next_step(self, router: Name) -> Optional[Step]:
-        """What a router has to do next: a release; if it has none, a publication; else a delivery from its lowest
-        port that has an item; or None. `do` does it. So you build an event loop of your own.
+        """What a router has to do next: a release; if it has none, a publication; else a delivery from its
+        lowest port that has an item; or None. `do` does it. So you build an event loop of your own.
 
         >>> net = Network("ab", [("a", "b", 5)])
         >>> net.next_step("b")
@@ -735,8 +743,8 @@ class Network(Owner):
 
     @property
     def counts(self) -> Counts:
-        """How many steps were done since the opening, and how many messages of each kind they put on links. The
-        steps by which links come up at the opening count.
+        """How many steps were done since the opening, and how many messages of each kind they put on links.
+        The steps by which links come up at the opening count.
 
         >>> Network("ab", [("a", "b", 5)]).counts
         Counts(steps=1, updates=0, queries=0, replies=0)
@@ -783,8 +791,9 @@ class Network(Owner):
         Raises UnknownRouter.
         """
         count, end = c_size_t(), c_uint8()
-        self._need(self._library.network_trace(self._at, self._number(router), address_number(address), self._hops,
-                                               len(self._names), byref(count), byref(end)))
+        self._need(self._library.network_trace(
+            self._at, self._number(router), address_number(address), self._hops, len(self._names),
+            byref(count), byref(end)))
         return Trace(tuple(self._names[number] for number in self._hops[:count.value]), End(end.value))
 
     def table(self, router: Name) -> List[Entry]:
@@ -802,7 +811,8 @@ class Network(Owner):
         number = self._number(router)
         rows = (_library.RowParts * max(1, len(self._prefixes)))()
         written, more = c_size_t(), c_uint8()
-        self._need(self._library.network_rows(self._at, number, rows, len(self._prefixes), byref(written), byref(more)))
+        self._need(self._library.network_rows(self._at, number, rows, len(self._prefixes),
+                                              byref(written), byref(more)))
         entries = (self._entry(number, parts) for parts in rows[:written.value])
         return [entry for entry in entries if entry is not None]
 
@@ -851,7 +861,8 @@ class Network(Owner):
         [('b', IPv4Network('10.0.0.0/8'))]
         """
         parts = _library.MachineParts()
-        return [(name, network_of(*prefix)) for number, name in enumerate(self._names) for prefix in self._prefixes
+        return [(name, network_of(*prefix))
+                for number, name in enumerate(self._names) for prefix in self._prefixes
                 if self._machine(number, prefix, parts) and parts.state.active]
 
     def distance(self, router: Name, prefix: Prefix) -> Distance:
@@ -898,7 +909,8 @@ class Network(Owner):
                 state = self.state(name, prefix)
                 rows.append({
                     "router": name, "prefix": str(prefix),
-                    "distance": state.distance if state else math.inf, "feasible": state.feasible if state else math.inf,
+                    "distance": state.distance if state else math.inf,
+                    "feasible": state.feasible if state else math.inf,
                     "next": state.next if state else None, "active": bool(state and state.active),
                 })
         return rows
@@ -929,7 +941,8 @@ class Network(Owner):
         room = 64
         while True:
             items, written, more = (_library.ItemParts * room)(), c_size_t(), c_uint8()
-            self._need(self._library.network_queue(self._at, near, port, items, room, byref(written), byref(more)))
+            self._need(self._library.network_queue(self._at, near, port, items, room,
+                                                   byref(written), byref(more)))
             if not more.value:
                 return [self._item(parts) for parts in items[:written.value]]
             room *= 4

@@ -34,8 +34,8 @@ class MessageKind(enum.IntEnum):
 class Message(NamedTuple):
     """A message between two routers: the sender's distance to a prefix.
 
-    `distance` is a sum of costs, or math.inf. `port` is that by which the message leaves or came. `session` is
-    the session of the link in which it was sent.
+    `distance` is a sum of costs, or math.inf. `port` is that by which the message leaves or came. `session`
+    is the session of the link in which it was sent.
 
     >>> sent = Message(MessageKind.UPDATE, IPv4Network("10.0.0.0/8"), 7, port=0, session=1)
     >>> sent._replace(port=2)   # the receiver's port
@@ -130,15 +130,15 @@ def state_of(parts: _library.PrefixStateParts) -> PrefixState:
 
 def message_of(parts: _library.MessageParts) -> Message:
     """A message of the library."""
-    return Message(MessageKind(parts.kind), network_of(parts.addr, parts.len), distance_of(parts.value), parts.port,
-                   parts.session)
+    return Message(MessageKind(parts.kind), network_of(parts.addr, parts.len), distance_of(parts.value),
+                   parts.port, parts.session)
 
 
 class Router(Owner):
     """One router that routes by DUAL. Its neighbours are whatever you make them.
 
-    `costs` has the cost of each port's link from here, 1 to 65535: a port for each, at most 32, numbered from 0.
-    `attachments` has the prefixes to which the router itself is attached, with their costs. The router may
+    `costs` has the cost of each port's link from here, 1 to 65535: a port for each, at most 32, numbered from
+    0. `attachments` has the prefixes to which the router itself is attached, with their costs. The router may
     know `most_prefixes` prefixes. All links are down, and the rows of the attachments are in force.
 
     Go through these steps, again and again:
@@ -177,9 +177,12 @@ class Router(Owner):
         if most_prefixes < 0:
             raise ValueError(f"a router cannot know {most_prefixes} prefixes")
         numbers = [cost_number(cost) for cost in costs]
-        owned = [(*prefix_parts(prefix), cost_number(cost)) for prefix, cost in (attachments or {}).items()]
         ports = (ctypes.c_uint32 * max(1, len(numbers)))(*numbers)
-        parts = (_library.AttachmentParts * max(1, len(owned)))(*[(addr, cost, length) for addr, length, cost in owned])
+        owned = (attachments or {}).items()
+        parts = (_library.AttachmentParts * max(1, len(owned)))()
+        for each, (prefix, cost) in zip(parts, owned):
+            each.addr, each.len = prefix_parts(prefix)
+            each.cost = cost_number(cost)
         self._need(self._library.router_new(ports, len(numbers), parts, len(owned), most_prefixes, self._at))
 
     @staticmethod
@@ -254,8 +257,9 @@ class Router(Owner):
         value = _library.INFINITY if message.distance == math.inf else message.distance
         addr, length = prefix_parts(message.prefix)
         parts = _library.MessageParts(
-            addr=addr, len=length, value=number_of("distance", int(value), _library.INFINITY), kind=MessageKind(message.kind),
-            session=number_of("session", message.session, 65535), port=self._port(message.port))
+            addr=addr, value=number_of("distance", int(value), _library.INFINITY),
+            session=number_of("session", message.session, 65535), len=length,
+            kind=MessageKind(message.kind), port=self._port(message.port))
         self._need(self._library.router_message(self._at, byref(parts)))
 
     def attach(self, prefix: Prefix, cost: int = 1) -> None:
@@ -292,7 +296,8 @@ class Router(Owner):
         """
         parts = _library.CountsParts()
         self._need(self._library.router_counts(self._at, byref(parts)))
-        return RouterCounts(parts.prefixes, parts.changed, parts.held, parts.ripe, parts.generation, bool(parts.due))
+        return RouterCounts(parts.prefixes, parts.changed, parts.held, parts.ripe, parts.generation,
+                            bool(parts.due))
 
     def publish(self, room: Optional[int] = None) -> Optional[Publication]:
         """Puts the rows that the router chose in force, and gives them; None if nothing is due.
@@ -313,7 +318,8 @@ class Router(Owner):
             raise ValueError(f"there is no room of {most} rows")
         parts = (_library.RowParts * max(1, most))()
         written, more, generation = c_size_t(), c_uint8(), c_uint64()
-        status = self._library.router_publish(self._at, parts, most, byref(written), byref(more), byref(generation))
+        status = self._library.router_publish(self._at, parts, most, byref(written), byref(more),
+                                              byref(generation))
         if status == NothingDue.number:
             return None
         self._need(status)

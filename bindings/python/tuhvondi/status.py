@@ -225,12 +225,12 @@ class StillUsed(Refused):
     number, text = 44, "something is still known of the prefix"
 
 
-_SHARED_BY_ALL = (BadLength, HostBits, BadCost, BadKind, EmptyHandle, BadCount, AlreadyUp, IsDown, NothingDue,
-                  NothingRipe, NoMemory, UnknownPrefix, NotAttached)
-_OF_ROUTERS = (*_SHARED_BY_ALL, Shared, UnknownPort, TooManyPorts, TooManyPrefixes, OtherSession, GenerationsSpent,
-               Unasked, AskedTwice, StillUsed)
-_OF_NETWORKS = (*_SHARED_BY_ALL, UnknownRouter, UnknownLink, SessionsSpent, NothingToDeliver, StepsSpent, BadRouters,
-                BadLink, TooManyLinks, BadOwner)
+_OF_ALL = (BadLength, HostBits, BadCost, BadKind, EmptyHandle, BadCount, AlreadyUp, IsDown, NothingDue,
+           NothingRipe, NoMemory, UnknownPrefix, NotAttached)
+_OF_ROUTERS = (*_OF_ALL, Shared, UnknownPort, TooManyPorts, TooManyPrefixes, OtherSession,
+               GenerationsSpent, Unasked, AskedTwice, StillUsed)
+_OF_NETWORKS = (*_OF_ALL, UnknownRouter, UnknownLink, SessionsSpent, NothingToDeliver, StepsSpent,
+                BadRouters, BadLink, TooManyLinks, BadOwner)
 
 # The exceptions by their numbers. Of three numbers an image or a router means something else than a network.
 BY_ROUTER: "dict[int, Type[Refused]]" = {each.number: each for each in _OF_ROUTERS}

@@ -2,10 +2,11 @@
 
     python3 examples/python/own_loop.py
 
-Each link of a random network fails, and comes up again. The program prints how long it takes until nothing is left to do,
-how many messages that takes, and how long packets are lost: own_loop.out has it. The clock and the delays are this
-program's. The routers and their tables are the library's, and each turn of a router keeps to its order: tell it what
-happened, forward by the rows of `publish`, and only then send what `released` gives.
+Each link of a random network fails, and comes up again. The program prints how long it takes until nothing is
+left to do, how many messages that takes, and how long packets are lost: own_loop.out has it. The clock and
+the delays are this program's. The routers and their tables are the library's, and each turn of a router keeps
+to its order: tell it what happened, forward by the rows of `publish`, and only then send what `released`
+gives.
 """
 
 import heapq
@@ -20,7 +21,9 @@ NOTICED = 50.0  # milliseconds until the two ends notice that their link has fai
 
 
 class Simulation:
-    """Routers, their tables, and events in the order of their times. `links` has the cost and the delay of each pair."""
+    """Routers, their tables, and events in the order of their times. `links` has the cost and the delay of
+    each pair.
+    """
 
     def __init__(self, count, links):
         self.links, self.events, self.numbers = links, [], itertools.count()
@@ -46,7 +49,7 @@ class Simulation:
             self.after(self.links[pair][1], self.arrive, other(pair, router), pair, message)
 
     def arrive(self, router, pair, message):
-        if self.is_up[pair] and self.session[pair] == message.session:  # else the message was lost with its link
+        if self.is_up[pair] and self.session[pair] == message.session:  # else it was lost with its link
             self.tell(router, lambda it, port: it.message(message._replace(port=port)), pair)
 
     def restore(self, pair):
@@ -68,7 +71,9 @@ class Simulation:
         return bool(row and row.kind == Kind.LOCAL)
 
     def run(self):
-        """Goes on until no event is left: how long that took, how many messages, how long packets of a router were lost."""
+        """Goes on until no event is left: how long that took, how many messages, how long packets of a router
+        were lost.
+        """
         began, sent, lost = self.now, self.messages, 0.0
         while self.events:
             dark = sum(not self.reaches(router) for router in range(len(self.routers)))
@@ -86,7 +91,8 @@ def main(count=30):
     draw = random.Random(1)
     pairs = {(router, draw.randrange(router)) for router in range(1, count)}  # a tree, and more links
     pairs |= {tuple(sorted(draw.sample(range(count), 2), reverse=True)) for _ in range(count)}
-    simulation = Simulation(count, {pair: (draw.randint(1, 20), draw.uniform(1, 30)) for pair in sorted(pairs)})
+    links = {pair: (draw.randint(1, 20), draw.uniform(1, 30)) for pair in sorted(pairs)}
+    simulation = Simulation(count, links)
     for pair in simulation.links:
         simulation.restore(pair)
     print("{} links come up: {:.0f} ms, {} messages".format(len(pairs), *simulation.run()))
@@ -97,7 +103,8 @@ def main(count=30):
         simulation.restore(pair)
         simulation.run()
     for what, values in zip(("ms to rest", "messages", "ms of lost packets"), zip(*failures)):
-        print(f"each fails: {what}: {min(values):.0f} to {max(values):.0f}, median {statistics.median(values):.0f}")
+        median = statistics.median(values)
+        print(f"each fails: {what}: {min(values):.0f} to {max(values):.0f}, median {median:.0f}")
 
 
 if __name__ == "__main__":
