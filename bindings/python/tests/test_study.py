@@ -87,7 +87,7 @@ class Measures(unittest.TestCase):
 
     def test_a_process_that_dies(self):
         network = study.start(Network("ab", [("a", "b", 1)]))
-        with mock.patch.object(study, "watch", lambda *_: sys.exit(3)):
+        with mock.patch.object(study, "_outcome", lambda *_: sys.exit(3)):
             with self.assertRaisesRegex(RuntimeError, "ended with 3"):
                 study.run(network, study.failures(network))
 

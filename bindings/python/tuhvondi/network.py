@@ -274,7 +274,8 @@ class Network(Owner):
     - attachments: by router, the prefixes to which it is attached: one, several, or several with their costs
       (1 if you give none). Without them each router has a prefix of its own: 10.0.0.0/24, 10.0.1.0/24 and so
       on. No other prefix can be attached later.
-    - up: whether all links come up at once; else all are down
+    - up: whether all links come up at once; else all are down. In a large network `tuhvondi.study.start`,
+      which has them come up one by one, takes far fewer steps.
 
     Nothing happens but by steps: those of `settle`, those that you choose (`do`), and those by which links
     and attachments change. A ring of three routers:

@@ -96,9 +96,9 @@ class _Flows:
         self._addrs = [int(net.network_address) for net in nets]
         # For each prefix those to which its rows can lead.
         self._led = [[to for to, other in enumerate(nets) if other.network_address in net] for net in nets]
-        # The routers whose packets arrive at the beginning.
-        self._routers = [[router for router in range(self._count) if self._arrives(router, to)]
-                         for to in range(len(nets))]
+        # By prefix and router, whether packets arrive: at the beginning, and now.
+        self._began = [[self._arrives(router, to) for router in range(self._count)] for to in range(len(nets))]
+        self._now = [list(each) for each in self._began]
         self._lost: Set[Tuple[int, int]] = set()
         # When a flow lost its way (true) or had one again: the round, and the flow.
         self._changes: List[Tuple[int, bool, Tuple[int, int]]] = []
@@ -108,14 +108,22 @@ class _Flows:
                     byref(self._end))
         return self._end.value == End.DELIVERED
 
-    def look(self, round_: int, prefixes: Iterable[int]) -> None:
-        """Rows of these prefixes have changed."""
+    def look(self, round_: int, prefixes: Iterable[int], changed: Sequence[int]) -> None:
+        """Looks at the flows to which rows of these prefixes can lead, after these routers have changed their
+        rows, or links of theirs have failed.
+
+        If packets of each changed router arrive as before, or are lost as before, so are those of all others.
+        For a packet either passes no changed router, or shares the end of the first that it passes.
+        """
         for to in {to for prefix in prefixes for to in self._led[prefix]}:
-            for router in self._routers[to]:
-                flow, is_lost = (router, to), not self._arrives(router, to)
-                if is_lost != (flow in self._lost):
-                    (self._lost.add if is_lost else self._lost.discard)(flow)
-                    self._changes.append((round_, is_lost, flow))
+            if all(self._arrives(router, to) == self._now[to][router] for router in changed):
+                continue
+            for router, began in enumerate(self._began[to]):
+                arrives = self._arrives(router, to)
+                if began and arrives != self._now[to][router]:
+                    (self._lost.discard if arrives else self._lost.add)((router, to))
+                    self._changes.append((round_, not arrives, (router, to)))
+                self._now[to][router] = arrives
 
     def measures(self) -> Dict[str, Any]:
         """What an Outcome says of flows."""
@@ -146,8 +154,9 @@ class _Turns:
         self._order = list(range(len(network.routers)))
         self._prefixes = network._prefixes
         self._numbers = {prefix: number for number, prefix in enumerate(self._prefixes)}
-        # Of which prefixes each router has heard since it published.
+        # Of which prefixes each router has heard since it published, and whether it may have something to do.
         self._heard: List[Set[int]] = [set() for _ in self._order]
+        self._may_work = [True] * len(self._order)
         self._machine, self._step = _library.MachineParts(), _library.StepParts()
         self._items, self._written, self._more = (_library.ItemParts * 1)(), c_size_t(), c_uint8()
         self._answers = (_library.RowParts * 1)()
@@ -155,16 +164,23 @@ class _Turns:
         self.rounds = 0
         self.flows = _Flows(network)
 
-    def run(self) -> None:
-        """Goes on until nothing is left to do."""
-        self.flows.look(0, range(len(self._prefixes)))
-        is_busy = True
-        while is_busy:
-            self.rounds += 1
+    def run(self, failure: Failure) -> None:
+        """Has a link or a router fail, and goes on until nothing is left to do."""
+        ends = failure if len(failure) > 1 else (*failure, *self._network.neighbours(failure[0]))
+        self._network.fail(*failure)
+        self.flows.look(0, range(len(self._prefixes)), [self._network._number(name) for name in ends])
+        while True:
             if self._draw:
                 self._draw.shuffle(self._order)
-            is_busy = any([self._turn(router) for router in self._order])
-        self.rounds -= 1
+            self.rounds += 1
+            is_busy = False
+            for router in self._order:
+                if self._may_work[router]:
+                    self._may_work[router] = self._turn(router)
+                    is_busy = is_busy or self._may_work[router]
+            if not is_busy:
+                self.rounds -= 1
+                return
 
     def _turn(self, router: int) -> bool:
         """Lets a router do a step, and answers whether it had one to do."""
@@ -180,10 +196,12 @@ class _Turns:
             before = [self._row(router, prefix) for prefix in heard]
             self._network._step(self._step)
             changed = [prefix for prefix, row in zip(heard, before) if self._row(router, prefix) != row]
-            self.flows.look(self.rounds, changed)
+            self.flows.look(self.rounds, changed, [router])
             self._heard[router].clear()
         elif kind == StepKind.RELEASE:
             self._network._step(self._step)
+            for neighbour in self._network._neighbours[router]:
+                self._may_work[neighbour] = True
         return kind <= StepKind.DETACH
 
     def _is_active(self, router: int, prefix: int) -> bool:
@@ -248,10 +266,12 @@ def watch(network: Network, failure: Failure, seed: int = 0) -> Outcome:
 
     Raises what `Network.fail` raises.
     """
+    return _outcome(network, failure, _Turns(network, seed))
+
+
+def _outcome(network: Network, failure: Failure, turns: _Turns) -> Outcome:
     before = network.counts
-    turns = _Turns(network, seed)
-    network.fail(*failure)
-    turns.run()
+    turns.run(failure)
     counts = network.counts.since(before)
     return Outcome(
         failed=" - ".join(map(str, failure)), rounds=turns.rounds, **counts._asdict(),
@@ -259,8 +279,8 @@ def watch(network: Network, failure: Failure, seed: int = 0) -> Outcome:
         computations=len(turns.active), **turns.flows.measures())
 
 
-def _child(sender: Any, network: Network, failure: Failure, seed: int) -> None:
-    sender.send(watch(network, failure, seed))
+def _child(sender: Any, network: Network, failure: Failure, turns: _Turns) -> None:
+    sender.send(_outcome(network, failure, turns))
 
 
 def run(network: Network, given: Iterable[Failure], processes: int = 1, seed: int = 0) -> List[Outcome]:
@@ -282,6 +302,7 @@ def run(network: Network, given: Iterable[Failure], processes: int = 1, seed: in
         raise ValueError(f"nothing can be done by {processes} processes")
     if not network.is_settled:
         raise ValueError("something is left to do in the network: settle it first")
+    turns = _Turns(network, seed)
     forks = multiprocessing.get_context("fork")
     waiting = list(enumerate(given))[::-1]
     outcomes: Dict[int, Outcome] = {}
@@ -292,7 +313,7 @@ def run(network: Network, given: Iterable[Failure], processes: int = 1, seed: in
             while waiting and len(running) < processes:
                 number, failure = waiting.pop()
                 receiver, sender = forks.Pipe(duplex=False)
-                process = forks.Process(target=_child, args=(sender, network, failure, seed), daemon=True)
+                process = forks.Process(target=_child, args=(sender, network, failure, turns), daemon=True)
                 process.start()
                 sender.close()
                 running[receiver] = (number, failure, process)
