@@ -10,7 +10,6 @@ import unittest
 from pathlib import Path
 
 import tuhvondi
-import tuhvondi.study
 
 NAMES = {each.name for each in pkgutil.iter_modules(tuhvondi.__path__)} - {"__main__", "libtuhvondi"}
 MODULES = [importlib.import_module(f"tuhvondi.{name}") for name in sorted(NAMES)]

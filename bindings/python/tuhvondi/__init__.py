@@ -65,6 +65,7 @@ it at once. The interpreter's lock sees to that. In an interpreter without that 
 to one thread.
 """
 
+from . import study
 from ._library import LibraryNotFound
 from .image import Image
 from .network import (Counts, End, Entry, Held, Item, ItemKind, LinkState, MachineState, Network,
@@ -81,6 +82,7 @@ from .status import (AlreadyUp, AskedTwice, BadCost, BadCount, BadKind, BadLengt
 __version__ = "0.1.0"
 
 __all__ = [
+    "study",
     "Network", "Counts", "End", "Entry", "Held", "Item", "ItemKind", "LinkState", "MachineState",
     "Step", "StepKind", "Trace", "default_attachments",
     "Router", "Message", "MessageKind", "PrefixState", "Publication", "RouterCounts",
