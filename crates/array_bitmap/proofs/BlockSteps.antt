@@ -1,14 +1,14 @@
 -- From a place in a block to the next one: no prefix between has a row.
-use Rattle.std.proofs.Common.{ℕ, zero, suc, ◌≡◌, inl, inr, ◌+◌, ◌-◌, ◌*◌, ◌/◌, ◌%◌, ◌^◌, ◌<◌, ◌≤◌, List, true, false, Option, None, option_map, arith, refl, sym, ap, subst, ◌∙◌}
+use Rattle.std.proofs.Common.{ℕ, zero, suc, ◌≡◌, inl, inr, ◌+◌, ◌-◌, ◌*◌, ◌/◌, ◌%◌, ◌^◌, ◌<◌, ◌≤◌, false, Option, None, option_map, arith, refl, sym, ap, subst, ◌∙◌}
 use Rattle.std.specs.Int.{bit_at}
-use Rattle.std.proofs.lemmas.Bool.{cases_eq, cases_lt, cases_order}
-use Rattle.std.proofs.lemmas.Nat.{pow-add, pow_pos, mod-pow-add, div-add-mod', le-div, div_below, mul-le, mul-lt}
+use Rattle.std.proofs.lemmas.Bool.{cases_lt, cases_order}
+use Rattle.std.proofs.lemmas.Nat.{pow-add, pow_pos, mod-pow-add, div-add-mod', le-div, mul-le}
 use Rattle.std.proofs.Math.Nat.{mul-lt-mul_of_pos_right, zero-mod}
 use Rattle.std.proofs.Math.Pow.{mod-mod-pow}
 use Rattle.ipv4_prefix.specs.Prefix.{Prefix, IsPrefix}
-use Rattle.array_bitmap.specs.Bits.{depth_of, five_bits, path_start, row_bit, width}
+use Rattle.array_bitmap.specs.Bits.{depth_of, five_bits, path_start, row_bit}
 use Rattle.array_bitmap.specs.Words.{entry_of}
-use Rattle.array_bitmap.specs.Blocks.{rows_of, kids_of, kid_in, IsHead}
+use Rattle.array_bitmap.specs.Blocks.{kids_of, kid_in, IsHead}
 use Rattle.array_bitmap.specs.Cursor.{is_before, IsFirstAt, IsFoundAt, IsNextSpot, spot_number, none_until}
 use Rattle.array_bitmap.specs.Tree.{Cells, words_at, block_at, word_at, entry_in, IsSound}
 use Rattle.array_bitmap.specs.declared.blocks.Head.{Head}

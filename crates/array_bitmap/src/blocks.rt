@@ -55,17 +55,40 @@ pub(crate) fn head_of<A: Allocator>(pool: &Pool<A>, block: u32) -> Head
     }
 }
 
-/// The place of a block's kid, by its bitmaps; 0 where it has none. There is no branch: where there is no
-/// kid, the block's first word is read, and counts for nothing.
+/// Whether a block has a kid, as 1 or 0, and its place; where it has none, any word.
+#[derive(Clone, Copy, Debug)]
+pub(crate) struct Kid {
+    pub(crate) there: u32,
+    pub(crate) place: u32,
+}
+
+/// Reads the place of a block's kid, by its bitmaps. There is no branch: where there is no kid, the block's
+/// first word is read.
+pub(crate) fn read_kid<A: Allocator>(pool: &Pool<A>, block: u32, head: Head, five: u32) -> Kid
+    requires is_block { IsBlock (words_of (blocks pool.now block)) }
+    requires head { IsHead (words_of (blocks pool.now block)) head }
+    requires small { five < 32 }
+    ensures bit { result.there < 2 }
+    ensures some { result.there ≡ 1 → result.place ≡ kid_in (words_of (blocks pool.now block)) five }
+    ensures none { result.there ≡ 0 → kid_in (words_of (blocks pool.now block)) five ≡ 0 }
+{
+    let there = bit(head.kids, five);
+    let index = HEAD + count(head.rows) + rank(head.kids, five);
+    Kid {
+        there,
+        place: pool.word(block, index * there as usize),
+    }
+}
+
+/// The place of a block's kid, by its bitmaps; 0 where it has none. There is no branch.
 pub(crate) fn kid_by<A: Allocator>(pool: &Pool<A>, block: u32, head: Head, five: u32) -> u32
     requires is_block { IsBlock (words_of (blocks pool.now block)) }
     requires head { IsHead (words_of (blocks pool.now block)) head }
     requires small { five < 32 }
     ensures { result ≡ kid_in (words_of (blocks pool.now block)) five }
 {
-    let there = bit(head.kids, five);
-    let index = HEAD + count(head.rows) + rank(head.kids, five);
-    pool.word(block, index * there as usize) * there
+    let kid = read_kid(pool, block, head, five);
+    kid.place * kid.there
 }
 
 /// The place of a block's kid; 0 where it has none.

@@ -1,7 +1,7 @@
 //! Look-ups on their way down an image, side by side.
 
 ghost use Rattle.std.specs.Prelude.{◌≡◌, ℕ, ◌+◌, ◌-◌, ◌*◌, ◌^◌, ◌<◌, ◌≤◌, EachIndex, length, map, slice_index};
-ghost use Rattle.array_bitmap.specs.Blocks.{kid_in, IsBlock, IsHead};
+ghost use Rattle.array_bitmap.specs.Blocks.{IsHead};
 ghost use Rattle.array_bitmap.specs.Image.{cells_of, rows_in, IsSoundTree};
 ghost use Rattle.array_bitmap.specs.Tree.{block_at, words_at, words_of};
 ghost use Rattle.array_bitmap.specs.Words.{answer_word, IsReadBack};
@@ -9,13 +9,12 @@ ghost use Rattle.ipv4_prefix.specs.LongestMatch.{longest_match};
 ghost use Rattle.word_pool.specs.Pool.{blocks};
 ghost use Rattle.array_bitmap.specs.Lane.{IsLane, IsStep, IsDone, AreLanes, IsCared, lane_at, head_at};
 
-use crate::bits::{bit, count, five_bits, path_of, rank};
-use crate::blocks::{HEAD, Head, NO_HEAD};
+use crate::bits::{five_bits, path_of};
+use crate::blocks::{Head, Kid, NO_HEAD, read_kid};
 use crate::tree::Tree;
 use crate::words::NOTHING;
 use network_model::{Entry, Prefix};
 use std::alloc::Allocator;
-use word_pool::Pool;
 
 /// How many look-ups go down side by side.
 pub(crate) const LANES: usize = 32;
@@ -96,31 +95,6 @@ impl Lane {
 struct Step {
     lane: Lane,
     goes_on: u32,
-}
-
-/// Whether a block has a kid, as 1 or 0, and its place; where it has none, any word.
-#[derive(Clone, Copy, Debug)]
-struct Kid {
-    there: u32,
-    place: u32,
-}
-
-/// Reads the place of a block's kid, by its bitmaps. There is no branch: where there is no kid, the block's
-/// first word is read.
-fn read_kid<A: Allocator>(pool: &Pool<A>, block: u32, head: Head, five: u32) -> Kid
-    requires is_block { IsBlock (words_of (blocks pool.now block)) }
-    requires head { IsHead (words_of (blocks pool.now block)) head }
-    requires small { five < 32 }
-    ensures bit { result.there < 2 }
-    ensures some { result.there ≡ 1 → result.place ≡ kid_in (words_of (blocks pool.now block)) five }
-    ensures none { result.there ≡ 0 → kid_in (words_of (blocks pool.now block)) five ≡ 0 }
-{
-    let there = bit(head.kids, five);
-    let index = HEAD + count(head.rows) + rank(head.kids, five);
-    Kid {
-        there,
-        place: pool.word(block, index * there as usize),
-    }
 }
 
 /// Reads the place of the next block of a path.

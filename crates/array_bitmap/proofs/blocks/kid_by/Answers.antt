@@ -1,48 +1,15 @@
-use Rattle.std.proofs.Common.{◌≡◌, inl, inr, ◌+◌, arith, ap, sym, ◌∙◌, slice_index, count_ones}
-use Rattle.std.specs.Int.{bit_at}
+use Rattle.std.proofs.Common.{◌≡◌, inl, inr, arith, sym, ◌∙◌}
 use Rattle.std.proofs.lemmas.Bool.{cases_eq}
-use Rattle.word_pool.specs.Heap.{size_of, word_of}
-use Rattle.word_pool.specs.Pool.{blocks}
-use Rattle.array_bitmap.specs.Bits.{rank}
-use Rattle.array_bitmap.specs.Blocks.{kids_of, kid_index}
-use Rattle.array_bitmap.specs.Tree.{words_of}
-use Rattle.array_bitmap.proofs.Picks.{times_one, times_zero, picked_inside}
-use Rattle.array_bitmap.proofs.Ranks.{rank_lt}
-use Rattle.array_bitmap.proofs.Walks.{kid-set, kid-clear}
-use Rattle.array_bitmap.proofs.PoolWords.{block_head, block_holds, word_listed}
+use Rattle.array_bitmap.proofs.Picks.{times_one, times_zero, times_bit}
 use Rattle.array_bitmap.proofs.blocks.kid_by.Goals as goal
 
-pub word-requires : goal.word-requires
-word-requires g c =
-    let ws = words_of (blocks c.args.pool.now c.args.block) in
-    let some = block_head (blocks c.args.pool.now) c.args.block c.requires.is_block in
-    picked_inside (3 + c.count.result + c.rank.result) c.bit-there.result (size_of (blocks c.args.pool.now c.args.block)) c.bit-there.ensures.bound (omega (arith, some))
-    (λ one.
-    let set : bit_at (kids_of ws) c.args.five ≡ 1 = ap (λ n. bit_at n c.args.five) (sym c.requires.head.kids) ∙ sym c.bit-there.ensures.value ∙ one in
-    omega (
-      arith,
-      c.count.ensures.value,
-      ap count_ones c.requires.head.rows,
-      c.rank.ensures.value,
-      ap (λ n. rank n c.args.five) c.requires.head.kids,
-      rank_lt (kids_of ws) c.args.five set,
-      block_holds (blocks c.args.pool.now) c.args.block c.requires.is_block,
-    ))
+pub overflow_mul-result : goal.overflow_mul-result
+overflow_mul-result g c = omega (arith, times_bit c.read_kid-kid.result.place c.read_kid-kid.result.there c.read_kid-kid.ensures.bit)
 
 pub returns : goal.returns
-returns g c =
-    let o = blocks c.args.pool.now c.args.block in
-    let ws = words_of (blocks c.args.pool.now c.args.block) in
-    elim (cases_eq c.bit-there.result 1) [
-      | inl one ↦
-          let set : bit_at (kids_of ws) c.args.five ≡ 1 = ap (λ n. bit_at n c.args.five) (sym c.requires.head.kids) ∙ sym c.bit-there.ensures.value ∙ one in
-          let index : 3 + c.count.result + c.rank.result ≡ kid_index ws c.args.five =
-          omega (arith, c.count.ensures.value, ap count_ones c.requires.head.rows, c.rank.ensures.value, ap (λ n. rank n c.args.five) c.requires.head.kids) in
-          times_one c.word.result c.bit-there.result one ∙ c.word.ensures
-          ∙ ap (word_of (blocks c.args.pool.now c.args.block)) (times_one (3 + c.count.result + c.rank.result) c.bit-there.result one)
-          ∙ word_listed (blocks c.args.pool.now c.args.block) (3 + c.count.result + c.rank.result) ∙ ap (slice_index ws) index ∙ sym (kid-set ws c.args.five set)
-      | inr none ↦
-          let zero : c.bit-there.result ≡ 0 = omega (arith, none, c.bit-there.ensures.bound) in
-          times_zero c.word.result c.bit-there.result zero
-          ∙ sym (kid-clear ws c.args.five (λ h. none (c.bit-there.ensures.value ∙ ap (λ n. bit_at n c.args.five) c.requires.head.kids ∙ h)))
-    ]
+returns g c = elim (cases_eq c.read_kid-kid.result.there 1) [
+  | inl one ↦ times_one c.read_kid-kid.result.place c.read_kid-kid.result.there one ∙ c.read_kid-kid.ensures.some one
+  | inr other ↦
+      let zero : c.read_kid-kid.result.there ≡ 0 = omega (arith, other, c.read_kid-kid.ensures.bit) in
+      times_zero c.read_kid-kid.result.place c.read_kid-kid.result.there zero ∙ sym (c.read_kid-kid.ensures.none zero)
+]

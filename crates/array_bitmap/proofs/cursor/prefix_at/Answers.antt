@@ -1,4 +1,4 @@
-use Rattle.std.proofs.Common.{ℕ, ◌≡◌, ◌+◌, ◌-◌, ◌*◌, ◌/◌, ◌%◌, ◌^◌, ◌<◌, ◌≤◌, arith, sym, ap, subst, ◌∙◌}
+use Rattle.std.proofs.Common.{ℕ, ◌≡◌, ◌+◌, ◌-◌, ◌*◌, ◌/◌, ◌%◌, ◌^◌, ◌<◌, ◌≤◌, arith, ap, ◌∙◌}
 use Rattle.array_bitmap.specs.Bits.{depth_of, path_start}
 use Rattle.array_bitmap.proofs.NextSpots.{spot_path, spot_free, address_free}
 use Rattle.array_bitmap.proofs.PrefixNumbers.{covering_itself}

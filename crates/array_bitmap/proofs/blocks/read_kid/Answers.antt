@@ -9,7 +9,7 @@ use Rattle.array_bitmap.proofs.Picks.{times_one, picked_inside}
 use Rattle.array_bitmap.proofs.Ranks.{rank_lt}
 use Rattle.array_bitmap.proofs.Walks.{kid-set, kid-clear}
 use Rattle.array_bitmap.proofs.PoolWords.{block_head, block_holds, word_listed}
-use Rattle.array_bitmap.proofs.lanes.read_kid.Goals as goal
+use Rattle.array_bitmap.proofs.blocks.read_kid.Goals as goal
 
 pub word-requires : goal.word-requires
 word-requires g c =
