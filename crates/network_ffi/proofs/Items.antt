@@ -1,5 +1,5 @@
 -- Items that are written over the first of those that were there.
-use Rattle.std.proofs.Common.{refl, sym, ap, ◌∙◌, arith, subst, ◌≡◌, ℕ, ◌+◌, ◌<◌, ◌≤◌, Bool, inl, inr, ◌⊎◌, List, [], ◌∷◌, ◌++◌, map, length, take, drop, set, get_or, slice_get, Option, Some, None, IfSome, nat_lt, true, false, length-set}
+use Rattle.std.proofs.Common.{refl, sym, ap, ◌∙◌, arith, subst, ◌≡◌, ℕ, ◌+◌, ◌<◌, ◌≤◌, inl, inr, ◌⊎◌, List, [], ◌∷◌, ◌++◌, map, length, take, drop, set, get_or, slice_get, Option, Some, None, IfSome, nat_lt, false, length-set}
 use Rattle.std.proofs.lemmas.Bool.{le-ltb}
 use Rattle.std.proofs.lemmas.Grind.{drop_more_same}
 use Rattle.std.proofs.lemmas.List.{drop-set-lt, length-take-le, map-append, take_all, take_more, take_more_set}
@@ -57,7 +57,7 @@ module _ (inbox : List Item) (old : List ItemShown) where
       }
     where
       past : ((x : Item) × (n < length inbox) × (slice_get inbox n ≡ Some x) × (get_or inbox n x ≡ x)) ⊎ ((length inbox ≤ n) × (slice_get inbox n ≡ None)) → length inbox ≤ n
-      past (inl h) = absurd (none-some h.0 (sym gone ∙ h.2.0))
+      past (inl h) = absurd (none-some h.0 (sym gone ∙ h.2))
       past (inr h) = h.0
 
 -- ---- at a link that may be there

@@ -1,7 +1,6 @@
 -- What the calls answer, by the network that a handle holds, and what they leave.
-use Rattle.std.specs.Prelude.{◌≡◌, ◌≢◌, ◌⊎◌, ℕ, ◌≤◌, ◌==◌, nat_lt, true, if◌then◌else◌, List, [], ◌∷◌, length, map, take, Option, Some, None, option_and_then, option_map, slice_get, is_none, Result, Ok, Err, MatchOption, IfSome, IsOk}
+use Rattle.std.specs.Prelude.{◌≡◌, ◌≢◌, ◌⊎◌, ℕ, ◌≤◌, ◌==◌, nat_lt, true, if◌then◌else◌, List, [], ◌∷◌, length, map, take, Option, Some, None, option_and_then, option_map, slice_get, is_none, Result, Ok, Err, MatchOption, IfSome}
 use Rattle.std.specs.Option.{option_map_or}
-use Rattle.network_model.specs.declared.route.Entry.{Entry}
 use Rattle.network_model.specs.declared.step.Refusal.{Refusal}
 use Rattle.network_model.specs.declared.trace.Ending.{Ending}
 use Rattle.network_model.specs.declared.trace.Ending.TheVariants.{Delivered, NoRoute, Unreachable, DeadLink, Crossed}
@@ -13,7 +12,6 @@ use Rattle.network_model.specs.World.{Router, World}
 use Rattle.ipv4_prefix.specs.Prefix.{Prefix}
 use Rattle.world.specs.Steps.{port_refusal}
 use Rattle.c_interface.specs.Rows.{answer_row, prefix_fault}
-use Rattle.c_interface.specs.declared.fault.Fault.{Fault}
 use Rattle.c_interface.specs.declared.fault.Fault.TheVariants.{Empty, BadCount}
 use Rattle.c_interface.specs.declared.row.Row.{Row}
 use Rattle.single_router.specs.Publishing.{IsWrittenOver}

@@ -1,5 +1,5 @@
 -- What a machine, a link, a queue and a gate have, as C is shown it.
-use Rattle.std.specs.Prelude.{◌≡◌, ℕ, nat_lt, List, map, take, drop, length, Option, Some, None, option_and_then, option_map, slice_get, unwrap_or, IfSome}
+use Rattle.std.specs.Prelude.{◌≡◌, ℕ, nat_lt, List, map, take, drop, length, Option, option_and_then, option_map, slice_get, unwrap_or, IfSome}
 use Rattle.std.specs.List.{range_with_len}
 use Rattle.std.specs.Option.{option_map_or}
 use Rattle.std.specs.FinMap.{find as row_of}

@@ -1,4 +1,4 @@
-use Rattle.std.proofs.Common.{arith, sym, ◌∙◌, subst}
+use Rattle.std.proofs.Common.{arith, sym, subst}
 use Rattle.std.proofs.lemmas.List.{get_or_default}
 use Rattle.network_ffi.specs.Calls.{IsRanTo}
 use Rattle.network_ffi.proofs.Ran.{ran_more, ran_none, stops}
