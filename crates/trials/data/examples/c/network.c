@@ -1,10 +1,11 @@
-/* A ring of five routers, each of whose links fails and comes up again, with the messages that it takes and the packets that
- * are lost on the way.
+/* A ring of five routers, each of whose links fails and comes up again: which messages it takes, and how many
+ * packets are lost on the way.
  *
  *     cc -o network examples/c/network.c $(pkg-config --cflags --libs tuhvondi) && ./network
  *
- * It prints what stands in network.out beside it. Routers take turns one step at a time, and after each step a packet is
- * traced from each router: it may be lost while routers have not heard of the failure, but never passes a router twice.
+ * It prints what stands in network.out beside it. Routers take turns, one step at a time. After each step a
+ * packet is followed from each router. It may be lost while routers have not heard of the failure, but it
+ * never passes a router twice.
  */
 #include <tuhvondi_network.h>
 
@@ -54,9 +55,10 @@ static void change(uint16_t link, uint8_t kind)
             most_lost = lost();
     }
     need(tuhvondi_network_counts(&network, &after));
-    printf("link %u %s: %" PRIu64 " updates, %" PRIu64 " queries, %" PRIu64 " replies; at most %u lost, then %u\n",
-           (unsigned)link, kind == TUHVONDI_LINK_UP ? "comes up" : "goes down", after.updates - before.updates,
-           after.queries - before.queries, after.replies - before.replies, most_lost, lost());
+    printf("link %u %s: ", (unsigned)link, kind == TUHVONDI_LINK_UP ? "comes up" : "goes down");
+    printf("%" PRIu64 " updates, %" PRIu64 " queries, %" PRIu64 " replies; at most %u lost, then %u\n",
+           after.updates - before.updates, after.queries - before.queries, after.replies - before.replies,
+           most_lost, lost());
 }
 
 int main(void)
@@ -66,7 +68,8 @@ int main(void)
     struct tuhvondi_owner owner = {.addr = 0x0a000000, .cost = 1, .router = 0, .len = 8};
     struct tuhvondi_fault_place place;
     for (uint16_t i = 0; i < ROUTERS; i++)
-        links[i] = (struct tuhvondi_link){.from_a = i + 1, .from_b = i + 1, .a = i, .b = (i + 1) % ROUTERS};
+        links[i] = (struct tuhvondi_link){.from_a = i + 1, .from_b = i + 1,
+                                          .a = i, .b = (i + 1) % ROUTERS};
     need(tuhvondi_network_new(ROUTERS, links, ROUTERS, &owner, 1, &place, &network));
     for (uint16_t link = 0; link < ROUTERS; link++)
         change(link, TUHVONDI_LINK_UP);
