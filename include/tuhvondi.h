@@ -221,8 +221,8 @@ uint32_t tuhvondi_image_new(const struct tuhvondi_row *rows, size_t row_count,
  * two exceptions. A row of at most 19 bits is written for each part of the image's array that it covers: a
  * default route takes a millisecond in a large image. And an image that has outgrown its array is made anew
  * from its rows, which are listed and set again. The longest such call was measured at a quarter of a million
- * rows: 0.6 seconds for rows of 24 bits, and 1.3 for rows of 32 bits. If you know how many rows will come, make
- * the image of many rows at once with tuhvondi_image_new, which takes a tenth of that.
+ * rows: 0.07 seconds for rows of 24 bits, and 0.25 for rows of 32 bits. If you know how many rows will come,
+ * make the image of many rows at once with tuhvondi_image_new, which takes a quarter to a half of that.
  * Refused: as tuhvondi_image_new, TUHVONDI_NO_IMAGE_HELD, and TUHVONDI_SHARED while other handles hold
  * the image. */
 uint32_t tuhvondi_image_apply(struct tuhvondi_image *image, uint64_t generation,
