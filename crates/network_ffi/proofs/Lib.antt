@@ -3,3 +3,4 @@ pub mod Lists
 pub mod Ran
 pub mod Positive
 pub mod Items
+pub mod Crossing

@@ -264,7 +264,7 @@ fn item(
         network,
         router,
         port,
-        &mut items[..room],
+        &mut items[..room.min(2)],
         &mut written,
         &mut more,
     ) {

@@ -12,11 +12,11 @@ use Rattle.std_heap.specs.contracts.GlobalAllocator.TheImpl.{ghosts}
 use Rattle.std_heap.proofs.Global.TheSendSync as heap
 use Rattle.c_interface.specs.Handles.{held_owns}
 use Rattle.network_ffi.specs.contracts.running.Running as Content
-use Rattle.network_ffi.proofs.running.Running.TheSendSync as content
+use Rattle.network_ffi.proofs.Crossing.{running_sends}
 use Rattle.network_ffi.specs.contracts.handle.NetworkHandle.{the_row, the_type}
 
 boxed : (alloc : Global) (holds : Bool) (p : Ptr) (x : Content.the_row.Denot) → Keyless (held_owns Content.the_row alloc holds p x)
-boxed alloc true p x = ((box.the_send Content.the_row Heap.the_row ghosts content.the_send heap.the_send frees).owned (record { ptr = p; alloc = alloc; value = x }) []).1
+boxed alloc true p x = ((box.the_send Content.the_row Heap.the_row ghosts running_sends heap.the_send frees).owned (record { ptr = p; alloc = alloc; value = x }) []).1
 boxed alloc false p x = tt
 
 pub send : IsSend the_row
