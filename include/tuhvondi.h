@@ -22,7 +22,7 @@
  *     functions alone. Never read or write its fields, and never copy it. You may move it to another place
  *     if you do not use the old one again.
  *   - Give a handle to one call at a time. No two arguments of a call overlap. If threads look up at once,
- *     each needs a handle of its own: tuhvondi_image_share has one more handle hold an image, and all read
+ *     each needs a handle of its own: tuhvondi_image_share puts an image into one more handle, and all read
  *     the same one. If a handle goes to another thread, order that by a lock, by a thread's start or join,
  *     or by a sequentially consistent atomic.
  *   - A handle that holds something holds memory until tuhvondi_image_free, tuhvondi_writer_free or
@@ -221,8 +221,8 @@ uint32_t tuhvondi_image_new(const struct tuhvondi_row *rows, size_t row_count,
  * two exceptions. A row of at most 19 bits is written for each part of the image's array that it covers: a
  * default route takes a millisecond in a large image. And an image that has outgrown its array is made anew
  * from its rows, which are listed and set again. The longest such call was measured at a quarter of a million
- * rows: 0.07 seconds for rows of 24 bits, and 0.25 for rows of 32 bits. If you know how many rows will come,
- * make the image of many rows at once with tuhvondi_image_new, which takes a quarter to a half of that.
+ * rows: 0.07 seconds for rows of 24 bits, and 0.25 for rows of 32 bits. If you have many rows at once, give
+ * them to tuhvondi_image_new, which takes a quarter to a half of that time.
  * Refused: as tuhvondi_image_new, TUHVONDI_NO_IMAGE_HELD, and TUHVONDI_SHARED while other handles hold
  * the image. */
 uint32_t tuhvondi_image_apply(struct tuhvondi_image *image, uint64_t generation,
@@ -236,11 +236,11 @@ uint32_t tuhvondi_image_apply(struct tuhvondi_image *image, uint64_t generation,
 uint32_t tuhvondi_image_remove(struct tuhvondi_image *image, uint64_t generation,
                                const struct tuhvondi_prefix *prefixes, size_t prefix_count);
 
-/* Has `other` hold the image of `image` too, and lets go of the image that `other` held.
+/* Puts the image of `image` into `other` too, and lets go of the image that `other` held.
  * Refused: TUHVONDI_NO_IMAGE_HELD, TUHVONDI_NO_MEMORY. */
 uint32_t tuhvondi_image_share(struct tuhvondi_image *image, struct tuhvondi_image *other);
 
-/* Has `other` hold an image of its own with the same rows and generation, and lets go of the image that
+/* Puts a copy of the image, with the same rows and generation, into `other`. Lets go of the image that
  * `other` held. Its time and memory grow with the number of rows. You can change one of the two images while
  * others read the other one.
  * Refused: TUHVONDI_NO_IMAGE_HELD, TUHVONDI_NO_MEMORY. */

@@ -21,8 +21,8 @@
  * Nothing happens but by steps. There are three ways to do them:
  *
  *   - You do the steps that you choose, one (tuhvondi_network_step) or many (tuhvondi_network_run).
- *   - You ask a router what it has to do next (tuhvondi_network_next_step), and do that when you like. So a
- *     simulator with a clock does, which delays messages.
+ *   - You ask a router what it has to do next (tuhvondi_network_next_step), and do that when you like. For
+ *     example, a simulator with a clock can delay messages so.
  *   - You let routers take turns until nothing is left to do (tuhvondi_network_settle).
  *
  * The functions are those of the static library `network_ffi`. It is proved what each answers, and what it
@@ -76,8 +76,8 @@ enum tuhvondi_network_status {
     TUHVONDI_BAD_LINK = 25,
     /* It is the 1025th link, or the 33rd of one of its routers. */
     TUHVONDI_TOO_MANY_LINKS = 26,
-    /* There is no such router, an earlier attachment is of the same prefix and router, it is the 4097th
-     * prefix, or it is the 16385th attachment. */
+    /* There is no such router, or an earlier attachment is of the same prefix and router. Or it is the
+     * 4097th prefix, or the 16385th attachment. */
     TUHVONDI_BAD_OWNER = 27
 };
 
@@ -199,9 +199,11 @@ struct tuhvondi_network_counts {
     uint64_t replies;
 };
 
-/* What a router keeps of the neighbour at a port: the distance that the neighbour reported last for the
- * prefix, the cost of the link from here, and 1 if the link is up, else 0. What was reported counts only
- * while the link is up. If the router has no such port, all are 0. */
+/* What a router keeps of the neighbour at a port:
+ *   reported  the distance that the neighbour reported last for the prefix; it counts while the link is up
+ *   cost      the cost of the link from here
+ *   up        1 if the link is up, else 0
+ * If the router has no such port, all are 0. */
 struct tuhvondi_neighbour {
     uint32_t reported;
     uint32_t cost;
@@ -216,8 +218,12 @@ struct tuhvondi_machine {
     uint8_t successor;
 };
 
-/* What a link is now: how many items each of its routers has yet to take, the cost from each, their numbers,
- * how often the link came up, and 1 if it is up, else 0. */
+/* What a link is now:
+ *   to_a, to_b      how many items each of its routers has yet to take
+ *   from_a, from_b  the cost from each
+ *   a, b            their numbers
+ *   session         how often the link came up
+ *   up              1 if it is up, else 0 */
 struct tuhvondi_link_state {
     size_t to_a;
     size_t to_b;
@@ -254,10 +260,14 @@ TUHVONDI_ASSERT(sizeof(struct tuhvondi_item) == 12, "an item takes 12 bytes");
 /* The kind of a message that is not there. */
 #define TUHVONDI_NO_MESSAGE 255
 
-/* What a router holds back: how many messages, how many of these may leave, how many notices of its own
- * attachments it has yet to take, how often it has published, and the message that leaves next. If none may
- * leave, the kind of that message is TUHVONDI_NO_MESSAGE, and its other fields are 0. `due` is 1 if the
- * router has something to publish, else 0. */
+/* What a router holds back:
+ *   held        how many messages
+ *   ripe        how many of these may leave
+ *   notices     how many notices of its own attachments it has yet to take
+ *   generation  how often it has published
+ *   front       the message that leaves next
+ *   due         1 if the router has something to publish, else 0
+ * If no message may leave, the kind of `front` is TUHVONDI_NO_MESSAGE, and its other fields are 0. */
 struct tuhvondi_gate {
     size_t held;
     size_t ripe;
@@ -281,21 +291,22 @@ TUHVONDI_ASSERT(sizeof(struct tuhvondi_network) == 16, "a handle takes 16 bytes"
 /* Opens a network of so many routers, with these links and attachments. Puts it into the handle, and frees
  * the network that the handle held. All links are down. The attachments are published, so each router has a
  * row of kind TUHVONDI_LOCAL for each of its own. No other prefix can be attached later.
- * Refused, in this order, and then `place` says where: TUHVONDI_BAD_COST of the first link that has it; of
- * the first attachment that has one of them TUHVONDI_BAD_LENGTH, TUHVONDI_HOST_BITS, TUHVONDI_BAD_COST; then
- * TUHVONDI_NO_MEMORY, or else the first of TUHVONDI_BAD_ROUTERS, of TUHVONDI_BAD_LINK and
- * TUHVONDI_TOO_MANY_LINKS link by link, of TUHVONDI_BAD_OWNER. */
+ * Refused, in this order, and then `place` says where:
+ *   - TUHVONDI_BAD_COST of the first link that has it
+ *   - TUHVONDI_BAD_LENGTH, TUHVONDI_HOST_BITS or TUHVONDI_BAD_COST of the first attachment that has one
+ *   - TUHVONDI_NO_MEMORY, or else the first of these: TUHVONDI_BAD_ROUTERS; TUHVONDI_BAD_LINK or
+ *     TUHVONDI_TOO_MANY_LINKS, link by link; TUHVONDI_BAD_OWNER */
 uint32_t tuhvondi_network_new(uint16_t routers, const struct tuhvondi_link *links, size_t link_count,
                               const struct tuhvondi_owner *owners, size_t owner_count,
                               struct tuhvondi_fault_place *place, struct tuhvondi_network *network);
 
 /* Does a step.
  * Refused, in this order: TUHVONDI_BAD_LENGTH, TUHVONDI_HOST_BITS, TUHVONDI_BAD_COST, TUHVONDI_BAD_KIND,
- * TUHVONDI_NO_NETWORK_HELD, TUHVONDI_STEPS_SPENT; then what the kind of step can meet of
+ * TUHVONDI_NO_NETWORK_HELD, TUHVONDI_STEPS_SPENT. Then come those of these that the kind of step can meet:
  * TUHVONDI_UNKNOWN_ROUTER, TUHVONDI_UNKNOWN_LINK, TUHVONDI_UNKNOWN_PREFIX if no router was attached to the
  * prefix at the opening, TUHVONDI_ALREADY_UP, TUHVONDI_IS_DOWN, TUHVONDI_SESSIONS_SPENT,
- * TUHVONDI_NOTHING_TO_DELIVER, TUHVONDI_NOTHING_DUE, TUHVONDI_NOTHING_RIPE, TUHVONDI_NOT_ATTACHED;
- * TUHVONDI_NO_MEMORY. */
+ * TUHVONDI_NOTHING_TO_DELIVER, TUHVONDI_NOTHING_DUE, TUHVONDI_NOTHING_RIPE, TUHVONDI_NOT_ATTACHED.
+ * The last is TUHVONDI_NO_MEMORY. */
 uint32_t tuhvondi_network_step(struct tuhvondi_network *network, const struct tuhvondi_step *step);
 
 /* Does steps in their order, up to the first that is refused, and writes how many were done. It answers why
@@ -331,9 +342,9 @@ uint32_t tuhvondi_network_lookup(struct tuhvondi_network *network, uint16_t rout
                                  struct tuhvondi_row *answers, size_t answer_count);
 
 /* Follows a packet for an address from a router on, along the images in force. Writes the routers that it
- * passes, as many as there is room for, how many these are, and why it goes no further than the last (enum
- * tuhvondi_end). No router is written twice. If there is room for all routers, the packet is followed to its
- * end. It takes no memory.
+ * passes, as many as there is room for, and how many these are. Also writes why it goes no further than the
+ * last (enum tuhvondi_end). No router is written twice. If there is room for all routers, the packet is
+ * followed to its end. It takes no memory.
  * Refused, and then nothing is written: TUHVONDI_NO_NETWORK_HELD, TUHVONDI_UNKNOWN_ROUTER. */
 uint32_t tuhvondi_network_trace(struct tuhvondi_network *network, uint16_t router, uint32_t addr,
                                 uint16_t *hops, size_t hop_count, size_t *count, uint8_t *end);

@@ -167,7 +167,7 @@ uint32_t tuhvondi_router_link_cost(struct tuhvondi_router *router, uint8_t port,
 uint32_t tuhvondi_router_message(struct tuhvondi_router *router,
                                  const struct tuhvondi_message *message);
 
-/* Tells the router of its own attachment to the prefix: it has this cost from now on, or is no more.
+/* Tells the router that it is attached to the prefix at this cost from now on, or no longer.
  * Refused: TUHVONDI_BAD_LENGTH, TUHVONDI_HOST_BITS, TUHVONDI_BAD_COST, TUHVONDI_NO_ROUTER_HELD,
  * TUHVONDI_TOO_MANY_PREFIXES, TUHVONDI_NOT_ATTACHED if it was not attached, TUHVONDI_NO_MEMORY. */
 uint32_t tuhvondi_router_attached(struct tuhvondi_router *router, uint32_t addr, uint8_t len,
@@ -177,8 +177,8 @@ uint32_t tuhvondi_router_detached(struct tuhvondi_router *router, uint32_t addr,
 /* Writes what the router has. Refused: TUHVONDI_NO_ROUTER_HELD. */
 uint32_t tuhvondi_router_counts(struct tuhvondi_router *router, struct tuhvondi_counts *counts);
 
-/* Publishes: writes the rows that are in force from now on and were not, in the order of their prefixes. It
- * also writes how many they are, and how often the router has published. All that the router holds may then
+/* Publishes: writes the rows that come into force now, in the order of their prefixes. It also writes how
+ * many they are, and how often the router has published. All that the router holds may then
  * leave. It takes no memory.
  * What is tricky: if there is no room for all rows, it writes the first row_count of them, and 1 to `more`.
  * Otherwise it writes 0 there. These rows are in force from now on, but the router has not published yet, so
