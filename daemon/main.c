@@ -240,11 +240,15 @@ static int run(struct daemon *daemon)
 
 static const char USAGE[] = "usage: dualnetd CONFIG [--install] [--check]\n"
                             "       dualnetd --help | --version\n"
-                            "CONFIG is a file as dualnetd.conf(5) describes it.\n"
-                            "--install  sets the kernel's routes, as `install yes' does\n"
-                            "--check    reads CONFIG, says what is wrong with it, and ends\n";
+                            "\n"
+                            "Runs one router of a network, as the file CONFIG says: dualnetd.conf(5) describes it.\n"
+                            "\n"
+                            "  --install  sets the kernel's routes, as the line `install yes' does\n"
+                            "  --check    reads CONFIG, prints what is wrong with it, and ends\n"
+                            "\n"
+                            "Example: dualnetd /etc/dualnetd.conf --check\n";
 
-/* What the words ask for: the configuration's path, or NULL where they are not understood. */
+/* What the words ask for: the configuration's path, or NULL if they are not understood. */
 static const char *read_words(int count, char **words, bool *installs, bool *checks)
 {
     const char *path = NULL;
