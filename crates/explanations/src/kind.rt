@@ -3,7 +3,7 @@
 ghost use Rattle.std.specs.Prelude.{◌≡◌, ◌≢◌, IfSome, IfNone};
 ghost use Rattle.explanations.specs.Numbers.{kind_number, name_of};
 
-/// What a number that the program prints says.
+/// A number that the program prints, by its meaning.
 #[derive(Clone, Copy, Debug, PartialEq, Eq)]
 pub enum Kind {
     NoSlash,
@@ -49,7 +49,7 @@ pub enum Kind {
 }
 
 impl Kind {
-    /// The kind of a number; none where the program prints no such number.
+    /// The kind of a number, or none if the program never prints that number.
     pub fn of(number: u8) -> Option<Kind>
         ensures some { IfSome result (λ k. kind_number k ≡ number) }
         ensures none { IfNone result ((k : Kind) → kind_number k ≢ number) }
@@ -147,7 +147,7 @@ impl Kind {
         }
     }
 
-    /// Its name, as it stands behind the number.
+    /// Its name, which the program prints after the number.
     pub fn name(self) -> &'static str
         ensures { result.now ≡ name_of self }
     {

@@ -1,18 +1,18 @@
 //! The numbers that the program prints, and a page for each: what it says, when it comes, and what to do.
 //!
-//! The problem: a fault is told in a few letters, as `45 BadCommand`, so that people and programs can tell it
-//! from others. That is too short for somebody who meets it for the first time. So `dualnet explain 45`
-//! prints the page of that number, and `--explain` prints two of its lines below a fault:
+//! The problem: a fault is a few letters, for example `45 BadCommand`, because people and programs have to
+//! tell it from others. That is too short if you meet it for the first time. So `dualnet explain 45` prints
+//! the page of that number, and `--explain` prints two of its lines below a fault:
 //!
 //! ```text
 //! 4 HostBits
-//! when:    a prefix has a bit that is set behind its length
+//! when:    the address of a prefix has a bit set after the prefix's length
 //! example: `10.0.0.1/8`, which should be `10.0.0.0/8`
-//! do:      clear the bits behind the length, or give the length that is meant: `10.0.0.1/32` is one address
+//! do:      clear the bits after the length, or write the length that you mean: `10.0.0.1/32` is one address
 //! ```
 //!
-//! A [`Kind`] is a number with its name and its [`Page`]. The numbers have gaps, because some are for the
-//! libraries of C alone (`c_interface`). For example, 7 is there an empty handle, and no kind here.
+//! A [`Kind`] is a number with its name and its [`Page`]. The numbers have gaps, because some are only for
+//! the libraries for C (`c_interface`). For example, 7 says there that a handle is empty, and is no kind here.
 //!
 //! ```text
 //! let kind = Kind::of(45)?;                    // None for a number that is never printed

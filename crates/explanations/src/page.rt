@@ -1,9 +1,9 @@
-//! What is told of each number.
+//! What the program says of each number.
 
 use crate::kind::Kind;
 use std::fmt;
 
-/// What is told of a number: when it comes, for example, and what to do.
+/// The explanation of a number: when it comes, an example, and what to do.
 #[derive(Clone, Copy)]
 pub struct Page {
     kind: Kind,
@@ -13,7 +13,7 @@ pub struct Page {
 }
 
 impl Kind {
-    /// What is told of it.
+    /// Its explanation.
     pub fn page(self) -> Page {
         match self {
             Kind::NoSlash => NO_SLASH,
@@ -61,13 +61,13 @@ impl Kind {
 }
 
 impl Page {
-    /// What stands below a fault, where more is to be told of it.
+    /// The lines below a fault, if you ask for more about it.
     pub fn brief(self) -> Brief {
         Brief(self)
     }
 }
 
-/// The lines that tell when a number comes, and what to do.
+/// The lines that say when a number comes, and what to do.
 #[derive(Clone, Copy)]
 pub struct Brief(Page);
 
@@ -96,23 +96,23 @@ const NO_SLASH: Page = Page {
 
 const BAD_ADDRESS: Page = Page {
     kind: Kind::BadAddress,
-    cause: "an address is not four decimal numbers of 0 to 255 with points between, without leading zeros; IPv6 is not read",
+    cause: "an address is not four numbers of 0 to 255 with points between them, or a number has a leading zero",
     example: "`10.0.0`, `10.0.0.256`, `10.01.0.0`, `2001:db8::`",
-    remedy: "write all four numbers, as in `10.0.0.0`",
+    remedy: "write all four numbers, as in `10.0.0.0`; the program reads no IPv6",
 };
 
 const BAD_LENGTH: Page = Page {
     kind: Kind::BadLength,
-    cause: "the length of a prefix is no decimal number of 0 to 32 without leading zeros",
+    cause: "the length of a prefix is not a number of 0 to 32, or has a leading zero",
     example: "`10.0.0.0/33`, `10.0.0.0/08`, `10.0.0.0/`",
     remedy: "write a length of 0 to 32",
 };
 
 const HOST_BITS: Page = Page {
     kind: Kind::HostBits,
-    cause: "a prefix has a bit that is set behind its length",
+    cause: "the address of a prefix has a bit set after the prefix's length",
     example: "`10.0.0.1/8`, which should be `10.0.0.0/8`",
-    remedy: "clear the bits behind the length, or give the length that is meant: `10.0.0.1/32` is one address",
+    remedy: "clear the bits after the length, or write the length that you mean: `10.0.0.1/32` is one address",
 };
 
 const BAD_COST: Page = Page {
@@ -124,99 +124,99 @@ const BAD_COST: Page = Page {
 
 const UNKNOWN_ROUTER: Page = Page {
     kind: Kind::UnknownRouter,
-    cause: "a step, a look-up or a trace names a router by a number that the network does not have",
-    example: "none in a script: its names are read first, and an unknown one is 45",
-    remedy: "report it: the program does not let it happen",
+    cause: "a step, a look-up or a trace has a router's number that the network does not have",
+    example: "none in a script: it names routers, and an unknown name is fault 45",
+    remedy: "report it, because the program does not let it happen",
 };
 
 const UNKNOWN_LINK: Page = Page {
     kind: Kind::UnknownLink,
-    cause: "a step names a link or a port by a number that the network does not have",
-    example: "none in a script: its names are read first, and two routers without a link are 45",
-    remedy: "report it: the program does not let it happen",
+    cause: "a step has a link's or a port's number that the network does not have",
+    example: "none in a script: it names routers, and two routers without a link are fault 45",
+    remedy: "report it, because the program does not let it happen",
 };
 
 const NO_THREAD: Page = Page {
     kind: Kind::NoThread,
     cause: "the system gave no thread for a forwarding worker",
-    example: "`dualnet run FILE --workers 16` under a limit on threads or memory",
-    remedy: "ask for fewer workers, or raise the limit (`ulimit -u`, `ulimit -v`, a container's limit of pids)",
+    example: "`dualnet run FILE --workers 16` when threads or memory are limited",
+    remedy: "ask for fewer workers, or raise the limit (`ulimit -u`, `ulimit -v`, a container's limit of processes)",
 };
 
 const ALREADY_UP: Page = Page {
     kind: Kind::AlreadyUp,
-    cause: "`up A B` for a link that is up",
-    example: "`up a b`, `up a b`",
+    cause: "`up A B`, but the link is up",
+    example: "`up a b`, and then `up a b` again",
     remedy: "leave the second out, or write `try up A B`, which prints the refusal and goes on",
 };
 
 const IS_DOWN: Page = Page {
     kind: Kind::IsDown,
-    cause: "`down`, `cost` or `release` for a link that is down",
-    example: "`down a b` in a network that was just opened: all links are down at first",
-    remedy: "write `up A B` before, or `try`, which prints the refusal and goes on",
+    cause: "`down A B` or `cost A B C`, but the link is down",
+    example: "`down a b` as the first command, because all links are down at first",
+    remedy: "write `up A B` before it, or write `try` in front of it, which prints the refusal and goes on",
 };
 
 const SESSIONS_SPENT: Page = Page {
     kind: Kind::SessionsSpent,
-    cause: "a link came up 65,535 times; its sessions are spent",
-    example: "`up a b` after as many `up a b`, `down a b`",
-    remedy: "let another link take its place",
+    cause: "`up A B`, but the link has come up 65,535 times: no number is left for its next session",
+    example: "the 65,536th `up a b` of a shell or of a journal",
+    remedy: "open the network anew, because then sessions begin at 1 again",
 };
 
 const NOTHING_TO_DELIVER: Page = Page {
     kind: Kind::NothingToDeliver,
-    cause: "`deliver A B` where nothing waits for A from B, or `deliver A A` where no notice of its attachments does",
-    example: "`deliver a b` twice after one `up a b`: each end takes one notice",
-    remedy: "see with `report` what is queued; `settle` delivers all that there is",
+    cause: "`deliver A B`, but nothing waits for A from B; or `deliver A A`, but A has no notice to take",
+    example: "`deliver a b` twice after one `up a b`, which gives each end one notice",
+    remedy: "see with `report` what is queued, or write `settle`, which delivers all",
 };
 
 const NOTHING_DUE: Page = Page {
     kind: Kind::NothingDue,
-    cause: "`publish A` where what A has chosen is what it has published, and it holds no message",
-    example: "`publish a` twice",
-    remedy: "publish once A has taken something in; `settle` publishes where it is due",
+    cause: "`publish A`, but the rows that A chose are published, and all messages that it holds may leave",
+    example: "`publish a`, and then `publish a` again",
+    remedy: "publish after A has taken news, or write `settle`, which publishes all that is due",
 };
 
 const NOTHING_RIPE: Page = Page {
     kind: Kind::NothingRipe,
-    cause: "`release A` where A holds no message, or its first has yet to wait for a publication",
+    cause: "`release A`, but A holds no message, or has not published since it holds the oldest",
     example: "`release a` before `publish a`",
-    remedy: "write `publish A` before: what A sends is held until its rows are in force",
+    remedy: "write `publish A` before it, because A holds each message until its rows are in force",
 };
 
 const JOURNAL_FULL: Page = Page {
     kind: Kind::JournalFull,
-    cause: "a million steps were done, and the journal has place for no more",
-    example: "256 routers whose 480 links come up all at once, and then `settle`",
-    remedy: "let the network `settle` after each link that comes up, or a few, and not after all at once",
+    cause: "a million steps were done, and the journal has room for no more",
+    example: "256 routers in a grid, each with a prefix of its own: all 480 links come up, and then they `settle`",
+    remedy: "write `settle` after every few links that come up, because all at once take far more steps",
 };
 
 const NO_MEMORY: Page = Page {
     kind: Kind::NoMemory,
-    cause: "the system refused memory, of which the journal's place takes 12 MB when the network is opened",
+    cause: "the system refused memory, of which the journal needs 12 MB when a network is opened",
     example: "`(ulimit -v 8000; dualnet run FILE)`",
     remedy: "give the program more memory",
 };
 
 const BUSY: Page = Page {
     kind: Kind::Busy,
-    cause: "a step at a router whose image is being published",
-    example: "none: the program does not let it happen",
+    cause: "a router was asked for a step while its publication was under way",
+    example: "none, because the program does not let it happen",
     remedy: "report it",
 };
 
 const STALE: Page = Page {
     kind: Kind::Stale,
-    cause: "a router's image is ahead of the reader that was to look it up",
-    example: "none: the program does not let it happen",
+    cause: "an image is later than the router's last publication",
+    example: "none, because the program does not let it happen",
     remedy: "report it",
 };
 
 const NO_READER_PLACE: Page = Page {
     kind: Kind::NoReaderPlace,
     cause: "an image has no place for one more reader",
-    example: "none: the program opens fewer readers than there are places",
+    example: "none, because the program opens fewer readers than there are places",
     remedy: "report it",
 };
 
@@ -229,140 +229,140 @@ const BAD_ROUTERS: Page = Page {
 
 const BAD_LINK: Page = Page {
     kind: Kind::BadLink,
-    cause: "a link names an unknown router, or one router twice, or joins two that an earlier link joins",
+    cause: "a link names an unknown router, names one router twice, or joins two routers that an earlier link joins",
     example: "`links = [\"a a 1 1\"]`, and `links = [\"a b 1 1\", \"b a 1 1\"]`",
-    remedy: "name two routers of the list `routers`, and one link for any two",
+    remedy: "name two routers of the list `routers`, and write one link for any two",
 };
 
 const TOO_MANY_LINKS: Page = Page {
     kind: Kind::TooManyLinks,
-    cause: "the scenario has more than 1,024 links, or a router more than 32",
-    example: "a star of 34 routers",
-    remedy: "take links away, or routers into the middle of the star",
+    cause: "the scenario has more than 1,024 links, or one router has more than 32",
+    example: "a star of 34 routers, because the one in the middle has 33 links",
+    remedy: "take links away, or put more routers into the middle of the star",
 };
 
 const BAD_OWNER: Page = Page {
     kind: Kind::BadOwner,
-    cause: "a prefix is given twice at one router, or there are more than 4,096 prefixes, or 16,384 attachments",
+    cause: "a router has a prefix twice, or there are more than 4,096 prefixes or 16,384 attachments",
     example: "`prefixes = [\"10.0.0.0/8 a 1\", \"10.0.0.0/8 a 5\"]`",
-    remedy: "give a prefix once at a router: more routers may have it, and `attach` changes its cost",
+    remedy: "give a router each prefix once; several routers may have the same one, and `attach` changes a cost",
 };
 
 const UNKNOWN_PREFIX: Page = Page {
     kind: Kind::UnknownPrefix,
     cause: "a step names a prefix that the network does not have",
-    example: "none in a script: its prefixes are read first, and an unknown one is 45",
-    remedy: "report it: the program does not let it happen",
+    example: "none in a script: its prefixes are read first, and an unknown one is fault 45",
+    remedy: "report it, because the program does not let it happen",
 };
 
 const NOT_ATTACHED: Page = Page {
     kind: Kind::NotAttached,
-    cause: "`detach A PREFIX` where A is not attached to the prefix",
-    example: "`detach a 10.0.0.0/8`, `detach a 10.0.0.0/8`",
+    cause: "`detach A PREFIX`, but A is not attached to the prefix",
+    example: "`detach a 10.0.0.0/8`, and then `detach a 10.0.0.0/8` again",
     remedy: "leave the second out, or write `try detach A PREFIX`, which prints the refusal and goes on",
 };
 
 const STRANGER: Page = Page {
     kind: Kind::Stranger,
-    cause: "a worker answered a job that it was not given",
-    example: "none: the program does not let it happen",
+    cause: "a worker answered a packet that nobody gave it",
+    example: "none, because the program does not let it happen",
     remedy: "report it",
 };
 
 const DOUBLED: Page = Page {
     kind: Kind::Doubled,
-    cause: "workers answered a job twice",
-    example: "none: the program does not let it happen",
+    cause: "workers answered one packet twice",
+    example: "none, because the program does not let it happen",
     remedy: "report it",
 };
 
 const MISSING: Page = Page {
     kind: Kind::Missing,
-    cause: "workers did not answer a job",
-    example: "none: the program does not let it happen",
+    cause: "no worker answered a packet",
+    example: "none, because the program does not let it happen",
     remedy: "report it",
 };
 
 const CLOSED: Page = Page {
     kind: Kind::Closed,
-    cause: "the queue to the workers handed a job back",
-    example: "none: the program does not let it happen",
+    cause: "the queue to the workers gave a packet back",
+    example: "none, because the program does not let it happen",
     remedy: "report it",
 };
 
 const NO_IMAGE: Page = Page {
     kind: Kind::NoImage,
     cause: "a router's image is gone",
-    example: "none: the program does not let it happen",
+    example: "none, because the program does not let it happen",
     remedy: "report it",
 };
 
 const WRONG_TICKET: Page = Page {
     kind: Kind::WrongTicket,
-    cause: "the ticket of a publication is not the one that is out for its router",
-    example: "none: the program does not let it happen",
+    cause: "a publication ends with the ticket of another one",
+    example: "none, because the program does not let it happen",
     remedy: "report it",
 };
 
 const BAD_TOML: Page = Page {
     kind: Kind::BadToml,
-    cause: "the file is no TOML document in UTF-8",
-    example: "`routers = [\"a\"`, of which the bracket is missing",
-    remedy: "see to quotes, brackets and commas",
+    cause: "the file is not a TOML document in UTF-8",
+    example: "`routers = [\"a\"`, in which the closing bracket is missing",
+    remedy: "look at quotes, brackets and commas",
 };
 
 const BAD_KEY: Page = Page {
     kind: Kind::BadKey,
-    cause: "the document has not exactly the keys `routers`, `links`, `prefixes` and `script`, each an array of strings",
+    cause: "the keys are not exactly `routers`, `links`, `prefixes` and `script`, or one is not an array of strings",
     example: "an empty file, `router = [\"a\"]`, `links = 1`",
-    remedy: "write all four keys, each once, with `[]` where there is nothing",
+    remedy: "write all four keys, with `[]` for an empty list",
 };
 
 const BAD_NAME: Page = Page {
     kind: Kind::BadName,
-    cause: "a router's name has not 1 to 16 small letters and digits, the first a letter, or was given before",
+    cause: "a router's name is not 1 to 16 small letters and digits with a letter first, or two routers have it",
     example: "`routers = [\"Edge\"]`, `routers = [\"a\", \"a\"]`",
     remedy: "choose another name",
 };
 
 const BAD_LINE: Page = Page {
     kind: Kind::BadLine,
-    cause: "a line of `links` or `prefixes` has a wrong number of words, two spaces in a row, a number that cannot be read, or, of a prefix, an unknown router",
+    cause: "a line of `links` or `prefixes` is not written as below, or a prefix names an unknown router",
     example: "the link `a b 1`, the prefix `10.0.0.0/8 z 1`",
-    remedy: "write a link as `A B C1 C2`, and a prefix as `PREFIX ROUTER COST`, with single spaces",
+    remedy: "write a link as `A B C1 C2` and a prefix as `PREFIX ROUTER COST`, with whole numbers and single spaces",
 };
 
 const BAD_COMMAND: Page = Page {
     kind: Kind::BadCommand,
-    cause: "a line of the script is no command, or names a router, a link or a prefix that the scenario does not have",
+    cause: "a line of the script is no command, or names a router, link or prefix that the scenario does not have",
     example: "`setle`, `up a`, `up a z`, `up  a b`, `state a 11.0.0.0/8`",
-    remedy: "see `dualnet --help` for the commands; `dualnet check FILE --explain` tells what is wrong with the line",
+    remedy: "see `dualnet --help` for the commands; `dualnet check FILE --explain` says what is wrong with the line",
 };
 
 const TOO_LARGE: Page = Page {
     kind: Kind::TooLarge,
-    cause: "the file has more than 4,194,304 bytes, or the script more than 10,000 commands",
+    cause: "the file has more than 4,194,304 bytes, or the script has more than 10,000 commands",
     example: "a script of 10,001 lines",
-    remedy: "cut the scenario; `settle` stands for many steps",
+    remedy: "make the scenario smaller; one `settle` does many steps",
 };
 
 const UNREADABLE: Page = Page {
     kind: Kind::Unreadable,
     cause: "the file is not there, is a folder, or may not be read",
     example: "`dualnet run no-such-file.toml`",
-    remedy: "see to the path and its rights; `-` is standard input",
+    remedy: "check the path and its permissions; `-` is the standard input",
 };
 
 const BAD_JOURNAL: Page = Page {
     kind: Kind::BadJournal,
-    cause: "the file is no journal of this scenario's network: its first line is another, or a line is no step of the scenario's routers, links and prefixes",
-    example: "`dualnet replay ring.toml two-routers.journal`",
-    remedy: "give the scenario whose run wrote the journal, and the journal as it was written",
+    cause: "the file is no journal, or has a line that is no step of this scenario's network",
+    example: "`dualnet replay two-routers.toml ring.journal`",
+    remedy: "give the scenario whose run wrote the journal, and leave the journal as it was written",
 };
 
 const UNWRITABLE: Page = Page {
     kind: Kind::Unwritable,
-    cause: "the journal's file could not be written, or is the scenario itself",
+    cause: "the journal or the page could not be written, or would have replaced a file that is read",
     example: "`dualnet run FILE --journal /no-such-folder/journal`",
-    remedy: "see to the path, its rights and the place on the disk",
+    remedy: "check the path, its permissions and the free space on the disk",
 };

@@ -20,32 +20,42 @@ pub fn not_utf8(alloc: Global) -> Result<Error, AllocError>
 
 // What stands below the program's help.
 const AFTER_HELP: &str = "\
+A scenario is a TOML file of four lists, for example:
+  routers = [\"a\", \"b\"]
+  links = [\"a b 5 2\"]            # the cost is 5 from a, and 2 from b
+  prefixes = [\"10.0.0.0/8 a 1\"]  # a is attached: packets end there, at cost 1
+  script = [\"up a b\", \"settle\", \"table b\"]
+
 Commands of a script and of the shell:
-  up A B, down A B       the link of A and B comes up, goes down
-  cost A B C             the cost from A on the link to B becomes C
-  deliver A B            A takes the front item from its port to B
-  deliver A A            A takes the front notice of its own attachments
-  attach A PREFIX COST   A is attached to the prefix, or at another cost
-  detach A PREFIX        A is attached to the prefix no longer
-  publish A, release A   A puts its rows in force, sends its front message
-  try STEP               does one of these steps, prints whether it was refused
-  settle                 each router does what it has to do, until nothing is left
-  state A PREFIX         prints what A's machine for the prefix is at
-  table A                prints the rows that A published
-  lookup A ADDR          looks the address up in A's image
-  trace A ADDR           follows a packet for the address from A
-  trace A ADDR --through follows it on where another prefix matches
-  inject A ADDR, drain   gives the workers a packet, prints what they answered
-  report                 prints all links, routers and machines
+  up A B                  The link of A and B comes up, in its next session.
+  down A B                It goes down, and the messages on it are lost.
+  cost A B C              The cost from A on the link to B becomes C.
+  deliver A B             A takes the oldest item on the link from B.
+  deliver A A             A takes the oldest notice of its own attachments.
+  attach A PREFIX COST    A is attached to the prefix, at this cost.
+  detach A PREFIX         A is attached to the prefix no longer.
+  publish A               The rows that A has chosen come into force.
+  release A               A sends the oldest message that it holds.
+  try STEP                Does one of the steps above, and prints if it was refused.
+  settle                  Routers do what they have to do, until nothing is left.
+  state A PREFIX          Prints what A knows of the prefix, as distances and a row.
+  table A                 Prints the rows that A has in force.
+  lookup A ADDR           Prints the row by which A forwards packets to the address.
+  trace A ADDR            Prints which routers such a packet passes, and its end.
+  trace A ADDR --through  Goes on if a router matches another prefix than A does.
+  inject A ADDR           Gives the workers such a packet.
+  drain                   Waits for the workers, and prints what they answered.
+  report                  Prints all links, routers and machines.
 
 Exit status:
-  0  done; a replay agrees
-  1  a fault in the command line, in the scenario or in the journal's text
-  2  a step, memory, a thread or a file to be written was refused
-  3  a replay ended in another state than its journal says
+  0  All is done. A replay agrees with its journal.
+  1  The command line, the scenario or the journal has a fault.
+  2  A step was refused, or memory, a thread or a file to be written.
+  3  A replay ended in another state than its journal says.
 
-FILE is a path, or - for the standard input. `dualnet explain N` tells of each
-number that is printed; `man dualnet` (docs/dualnet.1) of all else.
+FILE is a path, or - for the standard input. If the program prints a number, as in
+`45 BadCommand`, `dualnet explain 45` says what it means. `man dualnet`
+(docs/dualnet.1) has the rest.
 
 Example:
   dualnet run examples/two-routers.toml";
@@ -69,7 +79,7 @@ fn check_command<'a>(alloc: Global) -> Result<Command<'a>, AllocError>
     ensures { IfOk result (IsProgramCommand check_app) }
 {
     Command::new(alloc, "check")
-        .about("Reads a scenario and says what it holds")
+        .about("Checks a scenario, and prints its size or its first fault")
         .after_help("Example:\n  dualnet check examples/two-routers.toml")
         .arg(scenario_arg(alloc))?
         .arg(explain_arg(alloc))
@@ -81,15 +91,15 @@ fn run_command<'a>(alloc: Global) -> Result<Command<'a>, AllocError>
     let threads = number_arg(
         alloc,
         "threads",
-        "Control threads, which let the routers take their steps: 1 to 16",
+        "Let up to N threads do the steps of a settle: 1 to 16",
     );
     let workers = number_arg(
         alloc,
         "workers",
-        "Forwarding workers, the threads that answer packets: 1 to 16",
+        "Let N threads answer the packets of inject: 1 to 16",
     );
     Command::new(alloc, "run")
-        .about("Opens the network of a scenario and does the commands of its script")
+        .about("Opens the network of a scenario, and does the commands of its script")
         .after_help(
             "Example:\n  dualnet run examples/two-routers.toml --threads 4 --journal two-routers.journal",
         )
@@ -109,10 +119,10 @@ fn replay_command<'a>(alloc: Global) -> Result<Command<'a>, AllocError>
         alloc,
         "journal",
         "JOURNAL",
-        "Journal that a run of the same scenario wrote",
+        "Journal that a run of this scenario wrote",
     );
     Command::new(alloc, "replay")
-        .about("Does the steps of a journal over the network of a scenario")
+        .about("Does the steps of a journal again, and compares how the network ends")
         .after_help("Example:\n  dualnet replay examples/two-routers.toml two-routers.journal")
         .arg(scenario_arg(alloc))?
         .arg(journal)?
@@ -125,7 +135,7 @@ fn explain_command<'a>(alloc: Global) -> Result<Command<'a>, AllocError>
     ensures { IfOk result (IsProgramCommand explain_app) }
 {
     Command::new(alloc, "explain")
-        .about("Tells of a number that the program prints: when it comes, and what to do")
+        .about("Explains a number that the program prints: when it comes, and what to do")
         .after_help("Example:\n  dualnet explain 45")
         .arg(known_arg(alloc))
 }
@@ -134,7 +144,7 @@ fn shell_command<'a>(alloc: Global) -> Result<Command<'a>, AllocError>
     ensures { IfOk result (IsProgramCommand shell_app) }
 {
     Command::new(alloc, "shell")
-        .about("Opens the network of a scenario and does commands from the standard input")
+        .about("Opens the network of a scenario, and does the commands that you type")
         .after_help("Example:\n  dualnet shell examples/ring.toml")
         .arg(scenario_arg(alloc))?
         .arg(journal_arg(alloc))?
@@ -145,7 +155,7 @@ pub(crate) fn scenario_arg<'a>(alloc: Global) -> Arg<'a>
     ensures rule { rule_of result ≡ file_rule (codes "file") }
     ensures local { result.global ≡ false }
 {
-    file_arg(alloc, "file", "FILE", "Scenario, a TOML file")
+    file_arg(alloc, "file", "FILE", "Scenario: a TOML file, or - for the standard input")
 }
 
 fn journal_arg<'a>(alloc: Global) -> Arg<'a>
@@ -155,7 +165,7 @@ fn journal_arg<'a>(alloc: Global) -> Arg<'a>
     path_arg(
         alloc,
         "journal",
-        "File to write the journal of all steps to, once all ended with status 0",
+        "Write all steps to this file, if the status is 0",
     )
 }
 
@@ -166,7 +176,7 @@ fn explain_arg<'a>(alloc: Global) -> Arg<'a>
     flag_arg(
         alloc,
         "explain",
-        "Tell more of a fault: where, what was expected, and what to do",
+        "Print below a fault where it is, and what to do; print more of a state",
     )
 }
 
@@ -177,7 +187,7 @@ fn format_arg<'a>(alloc: Global) -> Arg<'a>
     Arg::new(alloc, "format")
         .long("format")
         .value_name("FORMAT")
-        .help("What is printed: text, or json, an object a line")
+        .help("Print text, or json: an object on each line")
         .default_value("text")
 }
 
@@ -188,7 +198,7 @@ fn progress_arg<'a>(alloc: Global) -> Arg<'a>
     flag_arg(
         alloc,
         "progress",
-        "Tell on the standard error how far it is",
+        "Print on the standard error how much is done",
     )
 }
 
@@ -203,7 +213,7 @@ fn file_arg<'a>(alloc: Global, id: &'a str, value: &'a str, help: &'a str) -> Ar
         .required(true)
 }
 
-// An option with a number of 1 to 16, which is 1 where it is left out.
+// An option with a number of 1 to 16, which is 1 if it is left out.
 fn number_arg<'a>(alloc: Global, id: &'a str, help: &'a str) -> Arg<'a>
     ensures rule { rule_of result ≡ number_rule id.entry.now }
     ensures local { result.global ≡ false }
@@ -237,7 +247,7 @@ fn known_arg<'a>(alloc: Global) -> Arg<'a>
 {
     Arg::new(alloc, "number")
         .value_name("NUMBER")
-        .help("Number, as 45 of `45 BadCommand`")
+        .help("Number that the program printed, for example 45 of `45 BadCommand`")
         .required(true)
         .value_parser(known_number())
 }

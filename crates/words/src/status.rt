@@ -1,4 +1,4 @@
-//! How the program ends where its command line asks for nothing that can be done.
+//! How the program ends if its command line asks for nothing that can be done.
 
 ghost use Rattle.std.specs.Prelude.{◌≡◌, ◌≢◌, ◌⊎◌};
 ghost use Rattle.clap.specs.Words.{kind_of};
@@ -6,8 +6,8 @@ ghost use Rattle.clap.specs.Words.{kind_of};
 use clap::Error;
 use clap::error::ErrorKind;
 
-/// The program's exit status after this error: 0 where help was asked for, 2 where a growth was
-/// refused, else 1. `Error::print` writes help to the standard output and all else to the standard
+/// The program's exit status after this error: 0 if you asked for help, 2 if memory was refused,
+/// else 1. `Error::print` writes help to the standard output and all else to the standard
 /// error.
 pub fn exit_status(error: &Error) -> u8
     ensures help { (kind_of error.now ≡ ErrorKind.DisplayHelp)

@@ -17,9 +17,9 @@ use std::alloc::{AllocError, Global};
 pub struct ViewWords<'a> {
     /// The file of the scenario.
     pub file: &'a str,
-    /// The file of a journal of a run of it; none, where the script is to be run.
+    /// The file of a journal of a run of it, or none if the script is to be run.
     pub journal: Option<&'a str>,
-    /// The file to write to; none, where that is the standard output.
+    /// The file to write to, or none if that is the standard output.
     pub output: Option<&'a str>,
     /// Whether the states are asked for as lines of JSON, and not in a page.
     pub json: bool,
@@ -27,8 +27,7 @@ pub struct ViewWords<'a> {
 
 // What stands below the program's help.
 const AFTER_HELP: &str = "\
-FILE is a path, or - for the standard input. `man dualnet-view`
-(docs/dualnet-view.1) tells of the page, and of the lines of JSON.
+`man dualnet-view` (docs/dualnet-view.1) describes the page and the lines of JSON.
 
 Example:
   dualnet-view examples/ring.toml -o ring.html";
@@ -37,7 +36,7 @@ fn view_command<'a>(alloc: Global) -> Result<Command<'a>, AllocError>
     ensures { IfOk result (λ c. app_of c ≡ view_program) }
 {
     Command::new(alloc, "dualnet-view")
-        .about("Shows the run of a network in a page, or gives its states as JSON")
+        .about("Writes the run of a network as a page for a browser, or as lines of JSON")
         .version("0.1.0")
         .after_help(AFTER_HELP)
         .arg(scenario_arg(alloc))?
@@ -52,7 +51,7 @@ fn journal_arg<'a>(alloc: Global) -> Arg<'a>
     ensures local { result.global ≡ false }
 {
     Arg::new(alloc, "journal").value_name("JOURNAL").help(
-        "Journal of a run of the scenario; without one its script is run",
+        "Journal whose steps are shown. If you name none, the script is run",
     )
 }
 
@@ -63,7 +62,7 @@ fn output_arg<'a>(alloc: Global) -> Arg<'a>
     path_arg(
         alloc,
         "output",
-        "File to write to, in place of the standard output",
+        "Write to this file, and not to the standard output",
     )
     .short('o')
 }
@@ -75,12 +74,12 @@ fn json_arg<'a>(alloc: Global) -> Arg<'a>
     flag_arg(
         alloc,
         "json",
-        "Give the states as lines of JSON, and no page",
+        "Write a line of JSON for each state, and no page",
     )
 }
 
-/// What the words ask for, of which the first is the program's name. Help that is asked for comes as
-/// an error too, by whose kind `exit_status` knows it. A file whose name begins with a hyphen stands
+/// What the words ask for. The first word is the program's name. If you ask for help, it comes as an
+/// error too, and `exit_status` knows it by its kind. A file whose name begins with a hyphen stands
 /// after `--`.
 pub fn read_view_words<'a>(alloc: Global, words: &'a [&'a str]) -> Result<ViewWords<'a>, Error>
     ensures asked { IfOk result (IsView (matches_of view_program (word_texts words.entry.now))) }

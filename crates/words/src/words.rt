@@ -15,16 +15,15 @@ use std::alloc::Global;
 /// What the command line asks for.
 #[derive(Clone, Copy, Debug, PartialEq, Eq)]
 pub enum Words<'a> {
-    /// Read the scenario in the file and say what it holds. Here and below, more is told of a fault
-    /// where `explain` is set.
+    /// Read the scenario in the file, and say what it holds. Here and below, `explain` asks for more
+    /// about a fault.
     Check {
         file: &'a str,
         explain: bool,
     },
     /// Run the script of the scenario in the file, by so many control threads and forwarding
-    /// workers, 1 to 16 of each, and then write the journal to the path, where one is given. Here and
-    /// in a replay, what is printed is written in the format, and where `progress` is set it is told how
-    /// far it is.
+    /// workers, 1 to 16 of each. Then write the journal to the path, if there is one. Here and in a
+    /// replay, lines are printed in the format, and `progress` asks how much is done.
     Run {
         file: &'a str,
         threads: u8,
@@ -42,12 +41,12 @@ pub enum Words<'a> {
         format: Format,
         progress: bool,
     },
-    /// Tell of a number.
+    /// Explain a number.
     Explain {
         kind: Kind,
     },
-    /// Do commands from the standard input on the network of the scenario in the file, and then write
-    /// the journal to the path, where one is given.
+    /// Do commands from the standard input on the network of the scenario in the file. Then write the
+    /// journal to the path, if there is one.
     Shell {
         file: &'a str,
         journal: Option<&'a str>,
@@ -55,8 +54,8 @@ pub enum Words<'a> {
     },
 }
 
-/// What the words ask for, of which the first is the program's name. Help that is asked for comes as
-/// an error too, by whose kind `exit_status` knows it. A file whose name begins with a hyphen stands
+/// What the words ask for. The first word is the program's name. If you ask for help, it comes as an
+/// error too, and `exit_status` knows it by its kind. A file whose name begins with a hyphen stands
 /// after `--`.
 pub fn read_words<'a>(alloc: Global, words: &'a [&'a str]) -> Result<Words<'a>, Error>
     ensures asked { IfOk result (IsAsked (subcommand_of program (word_texts words.entry.now))) }
@@ -80,16 +79,16 @@ pub fn read_words<'a>(alloc: Global, words: &'a [&'a str]) -> Result<Words<'a>, 
     }
 }
 
-// What is told where the matches ask for nothing, though clap takes them.
+// The error if the matches ask for nothing, though clap takes them.
 fn refusal_of(matches: &ArgMatches<'_>) -> &'static str {
     if matches.subcommand_matches("explain").is_some() {
-        "no such number is printed"
+        "the program prints no such number"
     } else {
-        "no such format: it is text or json"
+        "no such format: write text or json"
     }
 }
 
-// None where the matches ask for nothing.
+// None if the matches ask for nothing.
 fn read_matches<'a>(matches: &ArgMatches<'a>) -> Option<Words<'a>>
     ensures some { IfSome result (IsAsked (subcommand_rows_of matches.now)) }
     ensures none { IfNone result ((w : Words) → IsAsked (subcommand_rows_of matches.now) w → ⊥) }
@@ -197,7 +196,7 @@ fn named_format(matches: &ArgMatches<'_>) -> Option<Format>
     Format::of(name)
 }
 
-// The number at the name, where it is at least 1, and no more than `most`.
+// The number at the name, if it is 1 to `most`.
 fn number(matches: &ArgMatches<'_>, id: &str, most: u8) -> Option<u8>
     ensures some { IfSome result (HasNumber (rows_of (found_of matches.now)) id.now most) }
     ensures none { IfNone result ((n : ℕ) → HasNumber (rows_of (found_of matches.now)) id.now most n
