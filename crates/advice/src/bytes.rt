@@ -4,7 +4,7 @@ use crate::position::position_at;
 use std::io;
 use std::io::Write;
 
-/// Tells the first byte of a file that is no UTF-8, and where it stands; nothing if there is none.
+/// Tells the first byte of a file that is not UTF-8, and where it stands; nothing if there is none.
 pub fn advise_bytes<W: Write>(file: &str, bytes: &[u8], out: &mut W) -> io::Result<()> {
     let Err(error) = str::from_utf8(bytes) else {
         return Ok(());
@@ -17,7 +17,7 @@ pub fn advise_bytes<W: Write>(file: &str, bytes: &[u8], out: &mut W) -> io::Resu
             out,
             "  {file}:{at}: it looks like UTF-16: save it as UTF-8"
         ),
-        Some(byte) => writeln!(out, "  {file}:{at}: the byte 0x{byte:x} is no UTF-8"),
+        Some(byte) => writeln!(out, "  {file}:{at}: the byte 0x{byte:x} is not UTF-8"),
         None => Ok(()),
     }
 }

@@ -47,7 +47,7 @@ pub fn tell_command<W: Write>(
         return tell_unknown(alloc, verb, out);
     };
     if form.split(' ').count() != line.split(' ').count() {
-        return writeln!(out, "  wrong number of words: it is `{form}`");
+        return writeln!(out, "  wrong number of words: write `{form}`");
     }
     tell_words(names, links, form, line, out)
 }
@@ -58,7 +58,7 @@ pub fn tell_spaces<W: Write>(line: &str, out: &mut W) -> io::Result<bool> {
     if let Some(letter) = odd_space(line) {
         writeln!(
             out,
-            "  `{}` cannot stand here: words stand between single spaces",
+            "  `{}` cannot stand here: write single spaces between words",
             SafeLetter { letter }
         )?;
         return Ok(true);
@@ -66,7 +66,7 @@ pub fn tell_spaces<W: Write>(line: &str, out: &mut W) -> io::Result<bool> {
     if line.split(' ').any(|word| word.is_empty()) {
         writeln!(
             out,
-            "  words stand between single spaces, and none at an end"
+            "  write single spaces between words, and none at an end"
         )?;
         return Ok(true);
     }
@@ -98,7 +98,7 @@ fn tell_unknown<W: Write>(alloc: Global, verb: &str, out: &mut W) -> io::Result<
     }
     match nearest.0 {
         "" => writeln!(out, "  unknown command `{}`", shown(verb)),
-        word => writeln!(out, "  unknown command `{}`: is it `{word}`?", shown(verb)),
+        word => writeln!(out, "  unknown command `{}`: did you mean `{word}`?", shown(verb)),
     }
 }
 
@@ -152,6 +152,6 @@ fn tell_words<W: Write>(
     }
     match prefix {
         Some(prefix) => writeln!(out, "  the scenario has no prefix `{}`", shown(prefix)),
-        None => writeln!(out, "  it is `{form}`"),
+        None => writeln!(out, "  write `{form}`"),
     }
 }

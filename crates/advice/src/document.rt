@@ -65,7 +65,7 @@ fn tell_key<W: Write>(
         None => writeln!(out, "  the key `{key}` is missing"),
         Some(value) if !is_list(value) => {
             tell_place(file, text, key, out)?;
-            writeln!(out, "`{key}` is no array of strings")
+            writeln!(out, "`{key}` is not an array of strings")
         }
         Some(_) => Ok(()),
     }

@@ -14,14 +14,14 @@ pub fn advise_journal<W: Write>(
 ) -> io::Result<()> {
     match text.split('\n').nth(line.saturating_sub(1)) {
         Some(found) if !found.is_empty() => writeln!(out, "  {file}:{line}:1: {}", shown(found))?,
-        _ => writeln!(out, "  {file}:{line}:1: nothing stands there")?,
+        _ => writeln!(out, "  {file}:{line}:1: there is no such line")?,
     }
     if line == 1 {
         writeln!(out, "  expected `dualnet journal 2`")
     } else {
         writeln!(
             out,
-            "  expected a step, as `up A B`, of this network's routers and links, or `end`"
+            "  expected `end`, or a step of this network's routers and links, for example `up A B`"
         )
     }
 }

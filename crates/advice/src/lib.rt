@@ -1,12 +1,12 @@
-//! What is told more of a fault, if it is asked for: its line, what is wrong there, and what to do.
+//! More about a fault, if you ask for it: its line, what is wrong there, and what to do.
 //!
-//! The problem: a fault is one line, as `45 BadCommand at script 3`. Whoever wrote the scenario has to count
-//! lines, and to guess what the program expected. With `--explain` this crate says it:
+//! The problem: a fault is one line, for example `45 BadCommand at script 3`. So you have to count lines, and
+//! to guess what the program expected. With `--explain` this crate says it:
 //!
 //! ```text
 //! dualnet: 45 BadCommand at script 3
 //!   ring.toml:8:5: delivr a b
-//!   unknown command `delivr`: is it `deliver`?
+//!   unknown command `delivr`: did you mean `deliver`?
 //!   when: ..
 //!   do:   ..
 //! ```
@@ -18,11 +18,12 @@
 //!
 //! - [`advise`] finds the line in the file (`src/position.rt`), and reads it again to see what is wrong
 //!   (`src/command.rt`, `src/line.rt`). For example, a word is too many, a name is not known, or no link
-//!   joins two routers. Of a text that is no TOML document it tells the place, and of a document which keys
-//!   are missing or unknown.
+//!   joins two routers. If a text is not a TOML document, it says at which place. If keys are missing or
+//!   unknown, it names them.
 //! - If the scenario was only to be checked, it also tells of other faults, 20 in all (`src/others.rt`). It
 //!   tells those that it need not guess.
-//! - [`advise_journal`] does the same for a line of a journal, and [`advise_bytes`] for a file that is no UTF-8.
+//! - [`advise_journal`] does the same for a line of a journal, and [`advise_bytes`] for a file that is not
+//!   UTF-8.
 //! - What is shown of a file is safe for a terminal (`src/shown.rt`): at most 60 characters, and those that
 //!   cannot be seen by their numbers.
 //!

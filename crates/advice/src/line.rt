@@ -25,7 +25,7 @@ pub fn tell_link<W: Write>(
         return Ok(());
     }
     if line.split(' ').count() != 4 {
-        return writeln!(out, "  wrong number of words: it is `A B C1 C2`");
+        return writeln!(out, "  wrong number of words: write `A B C1 C2`");
     }
     for word in line.split(' ').skip(2) {
         if tell_number(word, out)? {
@@ -99,7 +99,7 @@ pub fn tell_prefix<W: Write>(
         words.next(),
         words.next(),
     ) else {
-        return writeln!(out, "  wrong number of words: it is `PREFIX ROUTER COST`");
+        return writeln!(out, "  wrong number of words: write `PREFIX ROUTER COST`");
     };
     if names.number(router).is_none() {
         if names.number(prefix).is_some() {
@@ -116,7 +116,7 @@ pub fn tell_prefix<W: Write>(
         if ends(other.as_str()) == (prefix, router) {
             return writeln!(
                 out,
-                "  the prefix was given before at this router: prefixes {place}"
+                "  this router has the prefix already: prefixes {place}"
             );
         }
     }

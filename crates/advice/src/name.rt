@@ -17,13 +17,13 @@ pub fn tell_name<W: Write>(names: &[String], position: usize, out: &mut W) -> io
         if !is_small(letter) && !is_digit(letter) {
             return writeln!(
                 out,
-                "  `{}` is no small letter from a to z, and no digit",
+                "  `{}` is not a small letter a to z, and not a digit",
                 SafeLetter { letter }
             );
         }
     }
     match name.chars().next() {
-        None => return writeln!(out, "  a name has a letter at least"),
+        None => return writeln!(out, "  a name has at least one letter"),
         Some(first) if is_digit(first) => {
             return writeln!(out, "  a name begins with a letter");
         }
@@ -35,7 +35,7 @@ pub fn tell_name<W: Write>(names: &[String], position: usize, out: &mut W) -> io
     }
     for (before, other) in names.iter().enumerate() {
         if before < position && other.as_str() == name {
-            return writeln!(out, "  this name was given before: routers {before}");
+            return writeln!(out, "  an earlier router has this name: routers {before}");
         }
     }
     Ok(())

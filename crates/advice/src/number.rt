@@ -13,9 +13,9 @@ pub fn tell_number<W: Write>(word: &str, out: &mut W) -> io::Result<bool> {
     let digits = word.strip_prefix('+').or(word.strip_prefix('-'));
     let are_digits = !word.is_empty() && word.bytes().all(|byte| byte.is_ascii_digit());
     if digits.is_some() {
-        writeln!(out, "  `{}` has a sign: write digits alone", shown(word))?;
+        writeln!(out, "  `{}` has a sign: write only digits", shown(word))?;
     } else if !are_digits {
-        writeln!(out, "  `{}` is no whole number", shown(word))?;
+        writeln!(out, "  `{}` is not a whole number", shown(word))?;
     } else if word == "0" {
         writeln!(out, "  `0` is below 1")?;
     } else if word.starts_with('0') {
