@@ -98,7 +98,11 @@ fn tell_unknown<W: Write>(alloc: Global, verb: &str, out: &mut W) -> io::Result<
     }
     match nearest.0 {
         "" => writeln!(out, "  unknown command `{}`", shown(verb)),
-        word => writeln!(out, "  unknown command `{}`: did you mean `{word}`?", shown(verb)),
+        word => writeln!(
+            out,
+            "  unknown command `{}`: did you mean `{word}`?",
+            shown(verb)
+        ),
     }
 }
 

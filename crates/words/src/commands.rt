@@ -155,7 +155,12 @@ pub(crate) fn scenario_arg<'a>(alloc: Global) -> Arg<'a>
     ensures rule { rule_of result ≡ file_rule (codes "file") }
     ensures local { result.global ≡ false }
 {
-    file_arg(alloc, "file", "FILE", "Scenario: a TOML file, or - for the standard input")
+    file_arg(
+        alloc,
+        "file",
+        "FILE",
+        "Scenario: a TOML file, or - for the standard input",
+    )
 }
 
 fn journal_arg<'a>(alloc: Global) -> Arg<'a>
