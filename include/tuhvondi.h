@@ -16,7 +16,14 @@
  * The answer is that row: 10.0.0.0/8 via port 1, in session 4. examples/c/lookup.c has more.
  *
  * The functions are those of the static library `lookup_ffi`. It is proved what each answers, and what it
- * leaves in its handles and lists. The proof holds for every call that keeps to these rules:
+ * leaves in its handles and lists. These are only tested:
+ *
+ *   - that TUHVONDI_SHARED, and TUHVONDI_BAD_COUNT of tuhvondi_writer_reader, are answered in the cases below
+ *     alone, and TUHVONDI_NO_MEMORY only if memory was refused
+ *   - that a look-up by a reader sees each publication that was done before it began
+ *   - what tuhvondi_image_bytes writes
+ *
+ * The proof holds for every call that keeps to these rules:
  *
  *   - A handle begins as TUHVONDI_NO_IMAGE, TUHVONDI_NO_WRITER or TUHVONDI_NO_READER. Give it to these
  *     functions alone. Never read or write its fields, and never copy it. You may move it to another place
@@ -247,7 +254,7 @@ uint32_t tuhvondi_image_share(struct tuhvondi_image *image, struct tuhvondi_imag
 uint32_t tuhvondi_image_copy(struct tuhvondi_image *image, struct tuhvondi_image *other);
 
 /* Writes into answers[i] the row with the longest prefix that covers addrs[i]. If no row covers it, the
- * kind is TUHVONDI_NO_ROW. It takes no memory, and reads at most nine nodes of the image for each address.
+ * kind is TUHVONDI_NO_ROW. It takes no memory.
  * Refused, and then nothing is written: TUHVONDI_NO_IMAGE_HELD, and TUHVONDI_BAD_COUNT if there are not as
  * many answers as addresses. */
 uint32_t tuhvondi_image_lookup(struct tuhvondi_image *image,
