@@ -7,6 +7,7 @@ use Rattle.ipv4_prefix.specs.Prefix.{Prefix, prefix_cmp}
 use Rattle.network_model.specs.declared.route.Entry.{Entry}
 use Rattle.network_model.specs.declared.route.Entry.TheVariants.{Local, Via}
 use Rattle.network_model.specs.declared.network.End.TheVariants.{A, B}
+use Rattle.network_model.specs.declared.network.Limits.{Limits}
 use Rattle.network_model.specs.declared.network.LinkSpec.{LinkSpec}
 use Rattle.network_model.specs.declared.network.NetworkFault.TheVariants.{BadRouters, BadLink, TooManyLinks, BadOwner}
 use Rattle.network_model.specs.declared.step.Step.{Step}
@@ -17,7 +18,7 @@ use Rattle.network_model.specs.declared.trace.Ending.{Ending}
 use Rattle.network_model.specs.declared.trace.Ending.TheVariants.{Delivered, DeadLink, Crossed}
 use Rattle.network_model.specs.Machine.{Machine}
 use Rattle.network_model.specs.World.{World, Network, Link, Router, opening, attachment_at}
-use Rattle.network_model.specs.Network.{network_fault}
+use Rattle.network_model.specs.Network.{network_fault, program_limits, widest_limits}
 use Rattle.network_model.specs.Step.{entry_of, refusal, next}
 use Rattle.network_model.specs.Run.{History, history, run}
 use Rattle.network_model.specs.Turns.{settling_steps, is_settled}
@@ -472,7 +473,7 @@ sum_of_nine = refl
 
 -- ---- what is no network
 
-faults : map network_fault (
+faults : map (network_fault program_limits) (
     network 0 [] []
     ∷ network 257 [] []
     ∷ network 1 (link 0 0 1 1 ∷ []) []
@@ -491,7 +492,7 @@ star : ℕ → ℕ → List LinkSpec
 star zero i = []
 star (suc n) i = link 0 i 1 1 ∷ star n (i + 1)
 
-star_faults : map network_fault (network 33 (star 32 1) [] ∷ network 34 (star 33 1) [] ∷ []) ≡ None ∷ Some (TooManyLinks 32) ∷ []
+star_faults : map (network_fault program_limits) (network 33 (star 32 1) [] ∷ network 34 (star 33 1) [] ∷ []) ≡ None ∷ Some (TooManyLinks 32) ∷ []
 unfolding network link star
 star_faults = refl
 
@@ -501,9 +502,32 @@ at_all p zero i = []
 at_all p (suc n) i = (p, i, 1) ∷ at_all p n (i + 1)
 
 -- every router may be attached to one prefix, and no router twice
-attachments_seen : map network_fault (network 20 [] (at_all ten 20 0) ∷ network 20 [] (at_all ten 20 0 ++ (ten, 7, 2) ∷ []) ∷ []) ≡ None ∷ Some (BadOwner 20) ∷ []
+attachments_seen : map (network_fault program_limits) (network 20 [] (at_all ten 20 0) ∷ network 20 [] (at_all ten 20 0 ++ (ten, 7, 2) ∷ []) ∷ []) ≡ None ∷ Some (BadOwner 20) ∷ []
 unfolding network ten at_all
 attachments_seen = refl
+
+-- small limits: a network may meet each, and one past it is a fault
+small : Limits
+small = record { routers = 4; links = 3; ports = 2; prefixes = 2; attachments = 3 }
+
+small_faults : map (network_fault small) (
+    network 4 (link 0 1 1 1 ∷ link 1 2 1 1 ∷ link 2 3 1 1 ∷ []) ((ten, 0, 1) ∷ (ten_one, 0, 1) ∷ (ten, 1, 1) ∷ [])
+    ∷ network 5 [] []
+    ∷ network 4 (link 0 1 1 1 ∷ link 1 2 1 1 ∷ link 2 3 1 1 ∷ link 3 0 1 1 ∷ []) []
+    ∷ network 4 (link 0 1 1 1 ∷ link 0 2 1 1 ∷ link 0 3 1 1 ∷ []) []
+    ∷ network 4 (link 1 0 1 1 ∷ link 2 0 1 1 ∷ link 3 0 1 1 ∷ []) []
+    ∷ network 4 [] ((ten, 0, 1) ∷ (ten_one, 0, 1) ∷ (everything, 0, 1) ∷ [])
+    ∷ network 4 [] ((ten, 0, 1) ∷ (ten, 1, 1) ∷ (ten, 2, 1) ∷ (ten, 3, 1) ∷ [])
+    ∷ [])
+    ≡ None ∷ Some BadRouters ∷ Some (TooManyLinks 3) ∷ Some (TooManyLinks 2) ∷ Some (TooManyLinks 2) ∷ Some (BadOwner 2) ∷ Some (BadOwner 3) ∷ []
+unfolding small network link ten ten_one everything
+small_faults = refl
+
+-- the widest limits
+widest_faults : map (network_fault widest_limits) (network 65536 [] [] ∷ network 65537 [] [] ∷ network 65536 (link 65534 65535 1 1 ∷ []) ((ten, 65535, 1) ∷ []) ∷ network 33 (star 32 1) [] ∷ network 34 (star 33 1) [] ∷ [])
+    ≡ None ∷ Some BadRouters ∷ None ∷ None ∷ Some (TooManyLinks 32) ∷ []
+unfolding network link star ten
+widest_faults = refl
 
 -- ---- a long line
 

@@ -51,10 +51,7 @@ pub use item::{Held, Item, Message, Notice};
 pub use machine::{Event, Neighbour, Outgoing, PortInfo};
 pub use memory::{NoMemory, SmallAllocator};
 pub use metric::{BadCost, Cost, Distance, Kind};
-pub use network::{
-    End, LinkSpec, MOST_ATTACHMENTS, MOST_LINKS, MOST_PORTS, MOST_PREFIXES, MOST_ROUTERS,
-    NetworkFault, Place, Port,
-};
+pub use network::{End, Limits, LinkSpec, MOST_PORTS, NetworkFault, Place, Port};
 pub use route::{Answer, Entry};
 pub use step::{Refusal, Step};
 pub use trace::{Ending, Trace};

@@ -1,26 +1,61 @@
 //! Links, their ends, the ports of routers, and why a network cannot be opened.
 
-ghost use Rattle.std.specs.Prelude.{◌≡◌};
+ghost use Rattle.std.specs.Prelude.{◌≡◌, ◌↔◌, IsTrue};
 ghost use Rattle.network_model.specs.Network as valid;
 ghost use Rattle.network_model.specs.World as model;
 
 use metric::Cost;
 use thiserror::Error;
 
-/// The most routers that a network can have.
-pub const MOST_ROUTERS: u16 = 256;
-
-/// The most links that a network can have.
-pub const MOST_LINKS: usize = 1024;
-
 /// The most links that can touch one router.
 pub const MOST_PORTS: usize = 32;
 
-/// The most prefixes that a network can have.
-pub const MOST_PREFIXES: usize = 4096;
+/// How large a network may be.
+#[derive(Clone, Copy, Debug, PartialEq, Eq)]
+pub struct Limits {
+    /// The most routers.
+    pub routers: usize,
+    /// The most links.
+    pub links: usize,
+    /// The most links that touch one router.
+    pub ports: usize,
+    /// The most prefixes, each counted once.
+    pub prefixes: usize,
+    /// The most attachments of routers to prefixes.
+    pub attachments: usize,
+}
 
-/// The most attachments of routers to prefixes that a network can have.
-pub const MOST_ATTACHMENTS: usize = 16_384;
+impl Limits {
+    /// The limits of the program.
+    pub const PROGRAM: Limits = Limits {
+        routers: 256,
+        links: 1024,
+        ports: MOST_PORTS,
+        prefixes: 4096,
+        attachments: 16_384,
+    };
+
+    /// The widest limits, within which all that is proved of networks holds. Routers and links have
+    /// numbers of 16 bits, and of prefixes and attachments there are as many as there is memory for.
+    pub const WIDEST: Limits = Limits {
+        routers: 65_536,
+        links: 65_536,
+        ports: MOST_PORTS,
+        prefixes: 4_294_967_295,
+        attachments: 4_294_967_295,
+    };
+
+    /// Whether none of these limits is above that of the others.
+    pub fn are_within(&self, others: &Limits) -> bool
+        ensures { IsTrue result ↔ valid.AreWithin self.now others.now }
+    {
+        self.routers <= others.routers
+            && self.links <= others.links
+            && self.ports <= others.ports
+            && self.prefixes <= others.prefixes
+            && self.attachments <= others.attachments
+    }
+}
 
 /// One of the two ends of a link.
 #[derive(Clone, Copy, Debug, PartialEq, Eq)]
@@ -96,18 +131,20 @@ pub struct Port {
 /// that was given, from 0. Its text is its number and name.
 #[derive(Clone, Copy, Debug, PartialEq, Eq, Drop, Error)]
 pub enum NetworkFault {
-    /// There is no router, or there are more than 256.
+    /// There is no router, or there are more than the limit, which is 256 in the program.
     #[error("24 BadRouters")]
     BadRouters,
     /// An end of the link is no router of the network, both ends are one router, or an earlier link
     /// joins the same two.
     #[error("25 BadLink")]
     BadLink { link: usize },
-    /// It is the 1025th link, or the 33rd of one of its routers.
+    /// It is past the limit of links, or of the links of one of its routers: in the program the
+    /// 1025th link, or the 33rd of a router.
     #[error("26 TooManyLinks")]
     TooManyLinks { link: usize },
     /// The attached router is no router of the network, the prefix was given before at that router, it
-    /// is the 4097th prefix, or this is the 16,385th attachment.
+    /// is past the limit of prefixes, or this is past the limit of attachments: in the program the
+    /// 4097th prefix, or the 16,385th attachment.
     #[error("27 BadOwner")]
     BadOwner { prefix: usize },
 }
