@@ -35,7 +35,7 @@ pub use Rattle.machine_laws.specs.Laws.{IsSound, Meets, NothingHeard, is_active,
 pub use Rattle.network_model.specs.Forwarding.{Ends, Goes, IsForwarded, IsPacketWalk, IsWalk, IsWalkHome, Onward, Trace, by_entry, by_row, entry_leads, has_no_notice, is_crossed, is_empty, is_quiet, is_quiet_link, is_quiet_router, onward, over_link, row_for, trace, trace_from, traced_by, walk_cost}
 pub use Rattle.network_model.specs.Journal.{most_steps, steps_in_sum}
 pub use Rattle.network_model.specs.Machine.{Computation, Machine, Reaction, attachment_after, changed_at, event_at_home, is_port, least, opening_machine, port_count, port_successor, reaction, records_after}
-pub use Rattle.network_model.specs.Network.{HasCosts, IsNetwork, attachment_causes, degree, first_cause, has_same_ends, has_same_prefix, is_bad_attachment, is_bad_link, is_link_too_many, link_causes, most_links, most_ports, most_routers, network_fault, touches}
+pub use Rattle.network_model.specs.Network.{AreWithin, HasCosts, IsNetwork, attachment_causes, degree, first_cause, has_same_ends, has_same_prefix, is_bad_attachment, is_bad_link, is_link_too_many, link_causes, most_links, most_ports, most_routers, network_fault, program_limits, touches, widest_limits}
 pub use Rattle.network_model.specs.Numbers.{one_if}
 pub use Rattle.network_model.specs.Publication.{Image, Patch, answer_of, image_answer, with_rows}
 pub use Rattle.network_model.specs.Run.{History, Runs, history, history_from, published_after, run, with_step, with_steps}
@@ -53,6 +53,7 @@ pub use Rattle.network_model.specs.declared.machine.Neighbour.{Neighbour}
 pub use Rattle.network_model.specs.declared.machine.Outgoing.{Outgoing}
 pub use Rattle.network_model.specs.declared.network.End.{End}
 pub use Rattle.network_model.specs.declared.network.End.TheVariants.{A, B}
+pub use Rattle.network_model.specs.declared.network.Limits.{Limits}
 pub use Rattle.network_model.specs.declared.network.LinkSpec.{LinkSpec}
 pub use Rattle.network_model.specs.declared.network.NetworkFault.{NetworkFault}
 pub use Rattle.network_model.specs.declared.network.NetworkFault.TheVariants.{BadLink, BadOwner, BadRouters, TooManyLinks}

@@ -1,6 +1,6 @@
 -- What a network without faults is, as the laws use it: each link joins two routers and costs something, and so does each attachment.
 use Rattle.std.proofs.Common.{refl, sym, subst, ◌∙◌, arith, ◌≡◌, ◌≢◌, ℕ, zero, suc, ◌<◌, ◌≤◌, Bool, true, false, not, ◌&&◌, ◌||◌, ◌==◌, nat_lt, nat_le, List, [], ◌∷◌, ◌++◌, length, Some, None, slice_get, All, true≢false, ltb-true, leb-true, eq-eqb}
-use Rattle.packet_loops.proofs.Common.{list_any, IsCost, Prefix, LinkSpec, NetworkFault, BadRouters, BadLink, TooManyLinks, Network, first_cause, link_causes, attachment_causes, is_bad_link, is_link_too_many, has_same_ends, most_routers, HasCosts, IsNetwork, first_none, none_in_both, Some_injective, None_not_Some}
+use Rattle.packet_loops.proofs.Common.{list_any, IsCost, Prefix, LinkSpec, NetworkFault, BadRouters, BadLink, TooManyLinks, Network, first_cause, link_causes, attachment_causes, is_bad_link, is_link_too_many, has_same_ends, most_routers, widest_limits, HasCosts, IsNetwork, first_none, none_in_both, Some_injective, None_not_Some}
 
 -- a link whose two ends are routers of the network, and not one and the same, and that costs at least 1 each way
 pub record IsWiredLink (routers : ℕ) (s : LinkSpec) : Type 0 where
@@ -32,15 +32,15 @@ both false b e = absurd (true≢false e)
 -- ---- links
 
 -- the first link has no fault, nor have the others
-first_link : (routers : ℕ) (before : List LinkSpec) (x : LinkSpec) (xs : List LinkSpec) → first_cause (link_causes routers before (x ∷ xs)) ≡ None → (is_bad_link routers before x ≡ false) × (first_cause (link_causes routers (before ++ x ∷ []) xs) ≡ None)
+first_link : (routers : ℕ) (before : List LinkSpec) (x : LinkSpec) (xs : List LinkSpec) → first_cause (link_causes widest_limits routers before (x ∷ xs)) ≡ None → (is_bad_link routers before x ≡ false) × (first_cause (link_causes widest_limits routers (before ++ x ∷ []) xs) ≡ None)
 first_link routers before x xs none =
-    let rest : List (Bool × NetworkFault) = link_causes routers (before ++ x ∷ []) xs in
-    let here : (is_bad_link routers before x ≡ false) × (first_cause ((is_link_too_many before x, TooManyLinks (length before)) ∷ rest) ≡ None)
-    = first_none (is_bad_link routers before x) (BadLink (length before)) ((is_link_too_many before x, TooManyLinks (length before)) ∷ rest) none in
-    (here.0, (first_none (is_link_too_many before x) (TooManyLinks (length before)) rest here.1).1)
+    let rest : List (Bool × NetworkFault) = link_causes widest_limits routers (before ++ x ∷ []) xs in
+    let here : (is_bad_link routers before x ≡ false) × (first_cause ((is_link_too_many widest_limits before x, TooManyLinks (length before)) ∷ rest) ≡ None)
+    = first_none (is_bad_link routers before x) (BadLink (length before)) ((is_link_too_many widest_limits before x, TooManyLinks (length before)) ∷ rest) none in
+    (here.0, (first_none (is_link_too_many widest_limits before x) (TooManyLinks (length before)) rest here.1).1)
 
 -- among links without a fault, none is a bad one, beside some links
-good_link : (routers : ℕ) (before ss : List LinkSpec) → first_cause (link_causes routers before ss) ≡ None → (l : ℕ) (s : LinkSpec) → slice_get ss l ≡ Some s → (earlier : List LinkSpec) × (is_bad_link routers earlier s ≡ false)
+good_link : (routers : ℕ) (before ss : List LinkSpec) → first_cause (link_causes widest_limits routers before ss) ≡ None → (l : ℕ) (s : LinkSpec) → slice_get ss l ≡ Some s → (earlier : List LinkSpec) × (is_bad_link routers earlier s ≡ false)
 good_link routers before [] none l s at = absurd (None_not_Some at)
 good_link routers before (x ∷ xs) none zero s at = (before, subst (λ y. is_bad_link routers before y ≡ false) (Some_injective at) (first_link routers before x xs none).0)
 good_link routers before (x ∷ xs) none (suc l) s at = good_link routers (before ++ x ∷ []) xs (first_link routers before x xs none).1 l s at
@@ -54,15 +54,15 @@ all_there P (y ∷ ys) all (suc l) x at = all_there P ys (λ i d below. all (suc
 -- no fault stands in the number of routers or in the links
 record HasNoFault (n : Network) : Type 0 where
   some_routers : not (nat_lt 0 n.routers && nat_le n.routers most_routers) ≡ false
-  good_links : first_cause (link_causes n.routers [] n.links) ≡ None
+  good_links : first_cause (link_causes widest_limits n.routers [] n.links) ≡ None
 
 -- a network has no fault in any of its parts
 by_part : (n : Network) → IsNetwork n → HasNoFault n
 by_part n N =
-    let first : (not (nat_lt 0 n.routers && nat_le n.routers most_routers) ≡ false) × (first_cause (link_causes n.routers [] n.links ++ attachment_causes n.routers [] n.attachments) ≡ None)
-    = first_none (not (nat_lt 0 n.routers && nat_le n.routers most_routers)) BadRouters (link_causes n.routers [] n.links ++ attachment_causes n.routers [] n.attachments) N.no_fault in
-    let rest : (first_cause (link_causes n.routers [] n.links) ≡ None) × (first_cause (attachment_causes n.routers [] n.attachments) ≡ None)
-    = none_in_both (link_causes n.routers [] n.links) (attachment_causes n.routers [] n.attachments) first.1 in
+    let first : (not (nat_lt 0 n.routers && nat_le n.routers most_routers) ≡ false) × (first_cause (link_causes widest_limits n.routers [] n.links ++ attachment_causes widest_limits n.routers [] n.attachments) ≡ None)
+    = first_none (not (nat_lt 0 n.routers && nat_le n.routers most_routers)) BadRouters (link_causes widest_limits n.routers [] n.links ++ attachment_causes widest_limits n.routers [] n.attachments) N.no_fault in
+    let rest : (first_cause (link_causes widest_limits n.routers [] n.links) ≡ None) × (first_cause (attachment_causes widest_limits n.routers [] n.attachments) ≡ None)
+    = none_in_both (link_causes widest_limits n.routers [] n.links) (attachment_causes widest_limits n.routers [] n.attachments) first.1 in
     record { some_routers = first.0; good_links = rest.0 }
 
 -- each link of a network joins two routers of it, and costs at least 1 each way
@@ -90,8 +90,8 @@ wired n N = record {
 
 -- ---- limits
 
--- a network has at most 256 routers
-pub few_routers : (n : Network) → IsNetwork n → n.routers ≤ 256
+-- a network has no more routers than the widest
+pub few_routers : (n : Network) → IsNetwork n → n.routers ≤ most_routers
 few_routers n N = leb-true n.routers most_routers (both (nat_lt 0 n.routers) (nat_le n.routers most_routers) (by_part n N).some_routers).1
 
 -- each link of a network has costs of links, from both ends
