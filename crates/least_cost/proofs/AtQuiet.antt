@@ -2,6 +2,7 @@
 use Rattle.std.proofs.Common.{◌≡◌, ◌⊎◌, ℕ, zero, suc, ◌+◌, ◌*◌, ◌<◌, ◌≤◌, Bool, true, false, List, [], ◌∷◌, Option, Some, None, length, refl, ap, sym, inl, inr, arith, ◌∙◌, eq-eqb, lt-ltb, slice_get, is_some, nat_lt, if◌then◌else◌}
 use Rattle.network_model.proofs.Common.{both_ways, cases_lt, false≢true, Machine, distance, least, ways, port_count, at_home, home_ways, least-append, LinkEnd, State, NextHop, at_port, infinity, plus}
 use Rattle.network_model.specs.declared.machine.Neighbour.{Neighbour}
+use Rattle.network_model.specs.Network.{most_routers}
 use Rattle.machine_laws.specs.Laws.{is_up_at, reported_at}
 use Rattle.loop_freedom.specs.Network.{Topology, IsEdgeWalk, next_hop_of}
 use Rattle.loop_freedom.proofs.Walks.{walk_map}
@@ -43,8 +44,8 @@ up_port m p u = go (slice_get m.ports p) refl
     go None h = absurd (false≢true (rw h at u))
     go (Some n) h = record { neighbour = n; at = h; is_up = rw h at u; reported = rw h refl; costs = rw h refl }
 
--- ---- a quiet network in a state that is kept: n routers, at most 256, and costs of 16 bits
-module _ (t : Topology) (n : ℕ) (s : State) (k : Kept t s) (q : IsQuiet t n s) (few : n ≤ 256) (placed : (e : LinkEnd) → t.valid e ≡ true → e.router < n) (cheap : (e : LinkEnd) → t.valid e ≡ true → s.cost e ≤ 65535) (cheap_home : (i c : ℕ) → i < n → (s.machine i).attachment ≡ Some c → c ≤ 65535) where
+-- ---- a quiet network in a state that is kept: no more routers than the widest network has, and costs of 16 bits
+module _ (t : Topology) (n : ℕ) (s : State) (k : Kept t s) (q : IsQuiet t n s) (few : n ≤ most_routers) (placed : (e : LinkEnd) → t.valid e ≡ true → e.router < n) (cheap : (e : LinkEnd) → t.valid e ≡ true → s.cost e ≤ 65535) (cheap_home : (i c : ℕ) → i < n → (s.machine i).attachment ≡ Some c → c ≤ 65535) where
   -- nothing waits, so each port is what it will be
   pending_now : (e : LinkEnd) → t.valid e ≡ true → pending (line s e) ≡ port_at s e
   pending_now e v = ap (λ x. replay x (port_at s e)) (q.inbox_empty e v)
@@ -259,13 +260,26 @@ module _ (t : Topology) (n : ℕ) (s : State) (k : Kept t s) (q : IsQuiet t n s)
   fewer : (i : ℕ) → i < n → count_below rd (rd i) n < n
   fewer i l = omega (arith, below_gains rd (rd i) (suc (rd i)) n i l (omega arith) (omega arith), below_at_most rd (suc (rd i)) n)
 
-  -- a router that is not out of reach is no further than 255 links and an attachment of the greatest cost
-  near_by : (i : ℕ) → i < n → rd i < infinity → rd i ≤ 16776960
-  near_by i l f = omega (arith, (chain i l f).near, fewer i l, few)
+  -- where router i is further than router j, at least these two are not nearer than j
+  two_not_nearer : (i j : ℕ) → i < n → j < n → rd j < rd i → suc (suc (count_below rd (rd j) n)) ≤ n
+  two_not_nearer i j l m further =
+      let itself = below_gains rd (rd j) (suc (rd j)) n j m (omega arith) (omega arith) in
+      let other = below_gains rd (suc (rd j)) (suc (rd i)) n i l (omega (arith, further)) (omega arith) in
+      omega (arith, itself, other, below_at_most rd (suc (rd i)) n)
 
-  -- a neighbour of a router that is not out of reach is not out of reach
+  -- a neighbour of a router that is not out of reach is not out of reach: were it further than that, the chain from the other
+  -- router would go past neither of the two, and cost less than infinity by more than a link
   reached_one : (e : LinkEnd) → t.valid e ≡ true → s.up e ≡ true → rd (t.far e).router < infinity → rd e.router < infinity
-  reached_one e v u f = omega (arith, rd_under e v u, cheap e v, near_by (t.far e).router (placed (t.far e) (t.far_valid e v)) f)
+  reached_one e v u f = go (cases_lt (rd e.router) infinity)
+    where
+      there : (t.far e).router < n
+      there = placed (t.far e) (t.far_valid e v)
+
+      go : (rd e.router < infinity) ⊎ (infinity ≤ rd e.router) → rd e.router < infinity
+      go (inl reached) = reached
+      go (inr past) =
+          let two = two_not_nearer e.router (t.far e).router (placed e v) there (omega (arith, past, f)) in
+          absurd (omega (arith, past, two, few, rd_under e v u, cheap e v, (chain (t.far e).router there f).near))
 
   -- a router from which a walk leads to an attached router is not out of reach
   reached : (i : ℕ) → i < n → (es : List LinkEnd) → LeadsHome t s i es → rd i < infinity
