@@ -1,6 +1,6 @@
 //! A gate that messages pass once they are ripe.
 
-ghost use Rattle.std.specs.Prelude.{◌^◌, ◌≡◌, ◌+◌, ◌<◌, ◌≤◌, length, OnOk, OnErr, OnSome, IfNone};
+ghost use Rattle.std.specs.Prelude.{◌^◌, ◌≡◌, ◌+◌, ◌<◌, ◌≤◌, length, IfOk, OnOk, OnErr, OnSome, IfNone};
 ghost use Rattle.network_model.specs.Step.{gate_front, with_all_ripe, with_front_released};
 ghost use Rattle.release_gate.specs.GateState.{empty, with_held};
 
@@ -41,6 +41,17 @@ impl<A: Allocator> Gate<A> {
             messages: VecDeque::new(alloc),
             ripe: 0,
         }
+    }
+
+    /// An equal gate in memory of this allocator. It takes time and memory by what is held.
+    pub fn copy(&self, alloc: A) -> Result<Gate<A>, NoMemory>
+        ensures { IfOk result (λ g. g.gate ≡ (self.now).gate) }
+    {
+        let messages = self.messages.iter().copied().collect(alloc)?;
+        Ok(Gate {
+            messages,
+            ripe: self.ripe,
+        })
     }
 
     /// Makes room for `count` more messages, so that as many calls of `hold` succeed.
