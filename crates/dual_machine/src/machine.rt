@@ -121,6 +121,23 @@ impl<A: SmallAllocator> Machine<A> {
         })
     }
 
+    /// An equal machine, with memory of this allocator where it needs any: the records of up to four
+    /// ports stand in the machine itself.
+    pub fn copy(&self, alloc: A) -> Result<Machine<A>, NoMemory>
+        ensures ok { IfOk result (λ m. m ≡ self.now) }
+        ensures inline { length (self.now).machine.ports ≤ 4 → IsOk result }
+    {
+        let ports = SmallVec::from_slice(alloc, self.ports.as_slice())?;
+        Ok(Machine {
+            attachment: self.attachment,
+            ports,
+            rd: self.rd,
+            fd: self.fd,
+            successor: self.successor,
+            active: self.active,
+        })
+    }
+
     /// Whether the router's own attachment is the successor.
     pub fn is_local(&self) -> bool
         ensures { result ≡ dual.is_port (dual.port_count (self.now).machine)
