@@ -1,6 +1,6 @@
 //! One link, and what stands on it.
 
-ghost use Rattle.std.specs.Prelude.{ℕ, ◌≡◌, ◌+◌, ◌<◌, ◌≤◌, [], filter, length, slice_get, true, OnErr, OnOk, IfNone};
+ghost use Rattle.std.specs.Prelude.{ℕ, ◌≡◌, ◌+◌, ◌<◌, ◌≤◌, [], filter, length, slice_get, true, IfOk, OnErr, OnOk, IfNone};
 ghost use Rattle.std.specs.VecDeque.{deque_capacity, deque_len};
 ghost use Rattle.network_model.specs.World as world;
 ghost use Rattle.network_model.specs.Step as step;
@@ -65,6 +65,20 @@ impl<S: Allocator> Side<S> {
             cost,
             inbox: VecDeque::new(alloc),
         }
+    }
+
+    // An equal end in memory of this allocator, with room for one more item: that the link went down.
+    fn copy(&self, alloc: S) -> Result<Side<S>, AllocError>
+        ensures side { IfOk result (λ s. side_of s ≡ side_of self.now) }
+        ensures spare { IfOk result (λ s. 0 < room_of s) }
+    {
+        let mut inbox: VecDeque<Item, S> = self.inbox.iter().copied().collect(alloc)?;
+        inbox.reserve(1)?;
+        Ok(Side {
+            router: self.router,
+            cost: self.cost,
+            inbox,
+        })
     }
 
     // Puts an item into the room that was made for it.
@@ -136,6 +150,20 @@ impl<S: Allocator + Copy> Link<S> {
             a: Side::new(alloc, spec.a, spec.from_a),
             b: Side::new(alloc, spec.b, spec.from_b),
         }
+    }
+
+    // An equal link in memory of this allocator, with what stands on it.
+    pub(crate) fn copy(&self, alloc: S) -> Result<Link<S>, AllocError>
+        ensures { IfOk result (λ k. k.link ≡ self.now.link) }
+    {
+        let a = self.a.copy(alloc)?;
+        let b = self.b.copy(alloc)?;
+        Ok(Link {
+            up: self.up,
+            session: self.session,
+            a,
+            b,
+        })
     }
 }
 

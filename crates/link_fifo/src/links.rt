@@ -12,7 +12,7 @@ ghost use Rattle.link_fifo.specs.Refusals.{refusal_to_come_up, refusal_to_change
 use crate::link::Link;
 use crate::refusal::{LinkRefusal, Put};
 use network_model::{Cost, End, Item, LinkSpec, Message, NoMemory};
-use std::alloc::{Allocator, Global};
+use std::alloc::{AllocError, Allocator, Global};
 use std::marker::Model;
 
 /// The links of a network, numbered from 0. Each direction of a link is a list of items, put at the
@@ -42,6 +42,31 @@ impl<S: Allocator + Copy> Links<S> {
         }
         Ok(Links { links })
     }
+
+    /// Equal links, with what stands on them, in memory of this allocator. It takes time and memory by
+    /// the links and the items on them.
+    pub fn copy(&self, alloc: S) -> Result<Links<S>, NoMemory>
+        ensures ok { IfOk result (λ l. l.links ≡ self.now.links) }
+        ensures full { OnErr result (0 < length self.now.links) }
+    {
+        let links = copy_links(alloc, &self.links)?;
+        Ok(Links { links })
+    }
+}
+
+// Equal links, with what stands on them, in memory of this allocator.
+fn copy_links<S: Allocator + Copy>(
+    alloc: S,
+    links: &[Link<S>],
+) -> Result<Vec<Link<S>, S>, AllocError>
+    ensures ok { IfOk result (λ v. map (λ k. k.link) v.items ≡ map (λ k. k.link) links.now) }
+    ensures full { OnErr result (0 < length links.now) }
+{
+    let mut copies = Vec::with_capacity(alloc, links.len())?;
+    for link in links {
+        copies.push_reserved(link.copy(alloc)?);
+    }
+    Ok(copies)
 }
 
 impl<S: Allocator> Links<S> {
