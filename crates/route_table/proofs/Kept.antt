@@ -35,7 +35,7 @@ fits : (b : Bool) (new old capacity : ℕ) → new ≡ cond b old (old + 1) → 
 fits true new old capacity e within room = omega arith
 fits false new old capacity e within room = let some = room refl in omega arith
 
-length-differing : (rows : List (Prefix × Row)) → length (differing_rows rows) ≤ length rows
+pub length-differing : (rows : List (Prefix × Row)) → length (differing_rows rows) ≤ length rows
 length-differing rows =
     let both = length-filter_both (λ (r : Prefix × Row). differs r.1) (λ r. not (differs r.1)) (λ _. refl) rows in
     let chosen : Prefix × Row → Prefix × Entry = λ r. (r.0, (r.1).control) in

@@ -1,6 +1,6 @@
 //! A map from prefixes, in their order.
 
-ghost use Rattle.std.specs.Prelude.{◌≡◌, ◌≤◌, ◌+◌, max, [], length, drop, IsTrue, OnOk, OnErr};
+ghost use Rattle.std.specs.Prelude.{◌≡◌, ◌≤◌, ◌+◌, max, [], length, drop, IsTrue, IfOk, OnOk, OnErr};
 ghost use Rattle.std.specs.FinMap.{find as value_at, put, is_sorted};
 ghost use Rattle.ipv4_prefix.specs.Prefix.{prefix_cmp};
 ghost use Rattle.route_table.specs.Place.{IsPlace, without};
@@ -26,6 +26,20 @@ impl<X: Copy, A: Allocator> PrefixMap<X, A> {
         PrefixMap {
             entries: Vec::new(alloc),
         }
+    }
+
+    /// An equal map in memory of this allocator, with room for this many rows in all: for those that
+    /// there are, and perhaps for more.
+    pub fn copy(&self, alloc: A, room: usize) -> Result<Self, AllocError>
+        requires { length (map_rows self.now) ≤ room }
+        ensures rows { IfOk result (λ m. map_rows m ≡ map_rows self.now) }
+        ensures capacity { IfOk result (λ m. map_capacity m ≡ room) }
+    {
+        let mut entries = Vec::with_capacity(alloc, room)?;
+        for entry in &self.entries {
+            entries.push_reserved(*entry);
+        }
+        Ok(PrefixMap { entries })
     }
 
     pub fn as_slice(&self) -> &[(Prefix, X)]

@@ -1,6 +1,6 @@
 //! The table of one router.
 
-ghost use Rattle.std.specs.Prelude.{◌≡◌, ◌+◌, ◌<◌, ◌≤◌, ◌↔◌, [], length, nat_lt, IsTrue, IsSome, IsNone, IsOk, OnOk, OnErr};
+ghost use Rattle.std.specs.Prelude.{◌≡◌, ◌+◌, ◌<◌, ◌≤◌, ◌↔◌, [], length, nat_lt, IsTrue, IsSome, IsNone, IsOk, IfOk, OnOk, OnErr};
 ghost use Rattle.std.specs.FinMap.{find as row_of, put, is_sorted};
 ghost use Rattle.ipv4_prefix.specs.Prefix.{prefix_cmp};
 ghost use Rattle.network_model.specs.Step.{changed_rows};
@@ -51,6 +51,16 @@ impl<A: Allocator + Copy> RouteTable<A> {
             rows: PrefixMap::new(alloc),
             changed: PrefixMap::new(alloc),
         }
+    }
+
+    /// An equal table in memory of this allocator. It takes time and memory by the rows.
+    pub fn copy(&self, alloc: A) -> Result<RouteTable<A>, NoMemory>
+        ensures { IfOk result (λ t. t.table ≡ (self.now).table) }
+    {
+        let room = self.rows.len();
+        let rows = self.rows.copy(alloc, room)?;
+        let changed = self.changed.copy(alloc, room)?;
+        Ok(RouteTable { rows, changed })
     }
 }
 
