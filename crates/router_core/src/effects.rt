@@ -105,6 +105,19 @@ impl<A: SmallAllocator> Effects<A> {
         Ok(Effects { table, gate, sends })
     }
 
+    /// Equal effects in memory of this allocator, with the room that there always is.
+    pub fn copy(&self, alloc: A) -> Result<Effects<A>, NoMemory>
+        ensures table { IfOk result (λ e. e.table.table ≡ self.now.table.table) }
+        ensures gate { IfOk result (λ e. e.gate.gate ≡ self.now.gate.gate) }
+    {
+        let table = self.table.copy(alloc)?;
+        let mut gate = self.gate.copy(alloc)?;
+        let mut sends = Sends::new(alloc);
+        gate.reserve(KEPT_ROOM)?;
+        sends.reserve(KEPT_ROOM)?;
+        Ok(Effects { table, gate, sends })
+    }
+
     /// Room for this many messages more to be held.
     pub fn reserve(&mut self, count: usize) -> Result<(), NoMemory>
         ensures table { self.new.table ≡ self.old.table }

@@ -81,6 +81,20 @@ fn are_passive<A: SmallAllocator>(machines: &[(Prefix, Machine<A>)]) -> bool
     machines.iter().all(|machine| machine.1.is_passive())
 }
 
+// Equal machines in memory of this allocator.
+fn copy_machines<A: SmallAllocator>(
+    alloc: A,
+    machines: &[(Prefix, Machine<A>)],
+) -> Result<Vec<(Prefix, Machine<A>), A>, NoMemory>
+    ensures { IfOk result (λ v. v.items ≡ machines.now) }
+{
+    let mut copies = Vec::with_capacity(alloc, machines.len())?;
+    for machine in machines {
+        copies.push_reserved((machine.0, machine.1.copy(alloc)?));
+    }
+    Ok(copies)
+}
+
 // Puts the machine of a prefix in its place, over one that is there.
 fn put_machine<A: SmallAllocator>(
     machines: &mut Vec<(Prefix, Machine<A>), A>,
@@ -138,6 +152,21 @@ impl<A: SmallAllocator> Router<A> {
             machines,
             effects,
             generation: 0,
+        })
+    }
+
+    /// An equal router in memory of this allocator. It takes time and memory by what the router keeps.
+    pub fn copy(&self, alloc: A) -> Result<Router<A>, NoMemory>
+        ensures { IfOk result (λ r. r ≡ self.now) }
+    {
+        let ports = Vec::from_slice(alloc, &self.ports)?;
+        let machines = copy_machines(alloc, &self.machines)?;
+        let effects = self.effects.copy(alloc)?;
+        Ok(Router {
+            ports,
+            machines,
+            effects,
+            generation: self.generation,
         })
     }
 
