@@ -40,6 +40,8 @@ mod array_images;
 #[cfg(test)]
 mod compiled;
 #[cfg(test)]
+mod copies;
+#[cfg(test)]
 mod gates;
 #[cfg(test)]
 mod images;
@@ -63,6 +65,8 @@ mod routers;
 mod tables;
 #[cfg(test)]
 mod values;
+#[cfg(test)]
+mod wide;
 #[cfg(test)]
 mod word_pools;
 #[cfg(test)]

@@ -6,7 +6,7 @@ use std::process::Abort;
 use world::{LinkSpec, Network, NetworkFault, Prefix, Refusal, Step, World};
 
 // A link at this cost each way.
-fn link(a: u16, b: u16, cost: Cost) -> LinkSpec {
+pub(crate) fn link(a: u16, b: u16, cost: Cost) -> LinkSpec {
     LinkSpec {
         a,
         b,
@@ -16,7 +16,7 @@ fn link(a: u16, b: u16, cost: Cost) -> LinkSpec {
 }
 
 // Routers 0 and 1 with one link at cost 5 each way; router 0 is attached to 10.0.0.0/8 at cost 1.
-fn two_routers(rt: &impl Abort, alloc: Global) -> World {
+pub(crate) fn two_routers(rt: &impl Abort, alloc: Global) -> World {
     let links = vec![in alloc; link(0, 1, cost(rt, 5))].expect(rt, "memory");
     let attachments = vec![in alloc; (ten(), 0, Cost::ONE)].expect(rt, "memory");
     let network = Network::new(2, links, attachments).expect(rt, "network");
@@ -24,12 +24,12 @@ fn two_routers(rt: &impl Abort, alloc: Global) -> World {
 }
 
 // Does the step, or is refused so.
-fn does(rt: &impl Abort, world: &mut World, step: Step, wanted: Result<(), Refusal>) {
+pub(crate) fn does(rt: &impl Abort, world: &mut World, step: Step, wanted: Result<(), Refusal>) {
     assert!(rt; world.has_room_for(1));
     assert_eq!(rt; world.step(step), wanted);
 }
 
-fn do_all(rt: &impl Abort, world: &mut World, steps: &[Step]) {
+pub(crate) fn do_all(rt: &impl Abort, world: &mut World, steps: &[Step]) {
     for step in steps {
         does(rt, world, *step, Ok(()));
     }
@@ -40,13 +40,13 @@ fn refused(rt: &impl Abort, world: &mut World, step: Step, refusal: Refusal) {
 }
 
 // The second router of the world.
-fn second<'a>(rt: &impl Abort, world: &'a World) -> &'a Router {
+pub(crate) fn second<'a>(rt: &impl Abort, world: &'a World) -> &'a Router {
     assert!(rt; world.routers().len() > 1);
     world.router(1)
 }
 
 // Router 1 learns the way of router 0, and publishes it.
-const LEARNS: [Step; 7] = [
+pub(crate) const LEARNS: [Step; 7] = [
     Step::LinkUp { link: 0 },
     Step::Deliver { router: 0, port: 0 },
     Step::Deliver { router: 1, port: 0 },

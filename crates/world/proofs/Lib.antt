@@ -11,3 +11,9 @@ pub mod Waiting
 pub mod Prefixes
 pub mod Insides
 pub mod Rest
+pub mod ByRouter
+pub mod LinksAtRouters
+pub mod Wider
+pub mod GivenSets
+pub mod CostsOfRouters
+pub mod Reads

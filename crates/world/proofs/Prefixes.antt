@@ -1,5 +1,7 @@
 -- How many prefixes attachments are of, one attachment after another, and which.
-use Rattle.std.proofs.Common.{refl, sym, ap, ◌∙◌, arith, append_assoc, ◌≡◌, ℕ, suc, ◌+◌, ◌-◌, ◌<◌, ◌≤◌, Bool, true, false, cond, ◌||◌, List, [], ◌∷◌, ◌++◌, map, length, take, drop, get_or, if◌then◌else◌, length-drop, take_all}
+use Rattle.std.proofs.Common.{refl, sym, ap, ◌∙◌, arith, ◌≡◌, ℕ, suc, ◌+◌, ◌-◌, ◌<◌, ◌≤◌, Bool, true, false, cond, ◌||◌, List, [], ◌∷◌, ◌++◌, map, length, drop, get_or, if◌then◌else◌, length-drop}
+use Rattle.std.proofs.lemmas.List.{reverse-append}
+use mathlib.Core.List.{reverse}
 use Rattle.packet_loops.proofs.Common.{list_any, length-map, map-append, list_any-append, Prefix, prefix_cmp, prefix_eq, prefix_cmp_total, prefix_eq-Decides, distinct, prefixes_of, rows_of, has_same_prefix, sorted-rows_of}
 use Rattle.std.specs.Ordering.{is_eq, ordering_reverse}
 use Rattle.std.specs.declared.cmp.Ordering.{Ordering}
@@ -89,32 +91,32 @@ one_more_prefix before a =
 
 -- ---- which
 
--- those from number i on
-pub prefixes_from : (attachments : List (Prefix × ℕ × ℕ)) (i : ℕ) (a : Prefix × ℕ × ℕ) → i < length attachments → a ≡ get_or attachments i a
-    → let rest : List (Prefix × ℕ × ℕ) = drop (i + 1) attachments in
-    prefixes_of (drop i attachments) ≡ (if list_any (has_same_prefix a) rest then prefixes_of rest else a.0 ∷ prefixes_of rest)
-prefixes_from attachments i a below at =
-    let next : suc i ≡ i + 1 = omega arith in
-    ap prefixes_of (drop-cons attachments i a below ∙ ap (λ x. x ∷ drop (suc i) attachments) (sym at) ∙ ap (λ n. a ∷ drop n attachments) next)
-    ∙ ap (λ b. if b then prefixes_of (drop (i + 1) attachments) else a.0 ∷ prefixes_of (drop (i + 1) attachments))
-    (any-turned a.0 (map (λ x. x.0) (drop (i + 1) attachments)) ∙ any-map (λ q. prefix_eq q a.0) (λ x. x.0) (drop (i + 1) attachments))
+-- the attachments from one that is met last on
+from_here : (attachments : List (Prefix × ℕ × ℕ)) (i : ℕ) (a : Prefix × ℕ × ℕ) → 0 < i → i ≤ length attachments → a ≡ get_or attachments (i - 1) a → drop (i - 1) attachments ≡ a ∷ drop i attachments
+from_here attachments i a some within at =
+    let next : suc (i - 1) ≡ i = omega (arith, some) in
+    drop-cons attachments (i - 1) a (omega (arith, some, within)) ∙ ap (λ x. x ∷ drop (suc (i - 1)) attachments) (sym at) ∙ ap (λ n. a ∷ drop n attachments) next
 
--- the attachments behind number i, as a slice of them has them
-pub slice_behind : (attachments : List (Prefix × ℕ × ℕ)) (i : ℕ) → take (length attachments - (i + 1)) (drop (i + 1) attachments) ≡ drop (i + 1) attachments
-slice_behind attachments i = (let fewer = length-drop (i + 1) attachments in take_all _ (drop (i + 1) attachments) (omega (arith, fewer)))
+-- their prefixes: that of the first is one more, but not where it is given behind
+pub prefixes_from : (attachments : List (Prefix × ℕ × ℕ)) (i : ℕ) (a : Prefix × ℕ × ℕ) → 0 < i → i ≤ length attachments → a ≡ get_or attachments (i - 1) a → (given : Bool)
+    → list_any (prefix_eq a.0) (map (λ x. x.0) (drop i attachments)) ≡ given → prefixes_of (drop (i - 1) attachments) ≡ (if given then prefixes_of (drop i attachments) else a.0 ∷ prefixes_of (drop i attachments))
+prefixes_from attachments i a some within at given is =
+    ap prefixes_of (from_here attachments i a some within at) ∙ ap (λ b. if b then prefixes_of (drop i attachments) else a.0 ∷ prefixes_of (drop i attachments)) is
 
--- of one that is named later the place is later
-pub named_later : (attachments : List (Prefix × ℕ × ℕ)) (i : ℕ) (a : Prefix × ℕ × ℕ) (made all : List Prefix) → i < length attachments → a ≡ get_or attachments i a
-    → list_any (has_same_prefix a) (drop (i + 1) attachments) ≡ true → made ++ prefixes_of (drop i attachments) ≡ all → made ++ prefixes_of (drop (i + 1) attachments) ≡ all
-named_later attachments i a made all below at later before =
-    ap (λ ps. made ++ ps) (sym (prefixes_from attachments i a below at
-    ∙ ap (λ b. if b then prefixes_of (drop (i + 1) attachments) else a.0 ∷ prefixes_of (drop (i + 1) attachments)) later)) ∙ before
+either : (a b : Bool) → cond a true b ≡ (a || b)
+either true b = refl
+either false b = refl
 
--- one that is named last has its place here
-pub named_last : (attachments : List (Prefix × ℕ × ℕ)) (i : ℕ) (a : Prefix × ℕ × ℕ) (made longer all : List Prefix) → i < length attachments → a ≡ get_or attachments i a
-    → list_any (has_same_prefix a) (drop (i + 1) attachments) ≡ false → longer ≡ made ++ a.0 ∷ [] → made ++ prefixes_of (drop i attachments) ≡ all → longer ++ prefixes_of (drop (i + 1) attachments) ≡ all
-named_last attachments i a made longer all below at last grown before =
-    ap (λ ps. ps ++ prefixes_of (drop (i + 1) attachments)) grown
-    ∙ append_assoc made (a.0 ∷ []) (prefixes_of (drop (i + 1) attachments))
-    ∙ ap (λ ps. made ++ ps) (sym (prefixes_from attachments i a below at
-    ∙ ap (λ b. if b then prefixes_of (drop (i + 1) attachments) else a.0 ∷ prefixes_of (drop (i + 1) attachments)) last)) ∙ before
+-- which prefixes are given by them
+pub given_from : (attachments : List (Prefix × ℕ × ℕ)) (i : ℕ) (a : Prefix × ℕ × ℕ) → 0 < i → i ≤ length attachments → a ≡ get_or attachments (i - 1) a → (p : Prefix) (before now : Bool)
+    → now ≡ cond (prefix_eq a.0 p) true before → before ≡ list_any (prefix_eq p) (map (λ x. x.0) (drop i attachments)) → now ≡ list_any (prefix_eq p) (map (λ x. x.0) (drop (i - 1) attachments))
+given_from attachments i a some within at p before now is was =
+    is
+    ∙ (λ j. cond (prefix_eq-turned a.0 p j) true (was j))
+    ∙ either (prefix_eq p a.0) (list_any (prefix_eq p) (map (λ x. x.0) (drop i attachments)))
+    ∙ sym (ap (λ (xs : List (Prefix × ℕ × ℕ)). list_any (prefix_eq p) (map (λ (x : Prefix × ℕ × ℕ). x.0) xs)) (from_here attachments i a some within at))
+
+-- a list with one more at its back, but not where it is given, turned round
+pub reversed_with : (given : Bool) (made longer : List Prefix) (p : Prefix) → longer ≡ (if given then made else made ++ p ∷ []) → reverse longer ≡ (if given then reverse made else p ∷ reverse made)
+reversed_with true made longer p is = ap reverse is
+reversed_with false made longer p is = ap reverse is ∙ reverse-append made (p ∷ [])

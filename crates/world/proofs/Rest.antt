@@ -1,6 +1,6 @@
 -- A step changes how much of a network is not at rest by what it makes of one link and one router.
 use Rattle.std.proofs.Common.{refl, sym, ap, ◌∙◌, arith, ◌≡◌, ℕ, zero, suc, ◌+◌, ◌≤◌, Bool, true, false, not, ◌&&◌, ◌==◌, cond, ◌||◌, nat_lt, List, [], ◌∷◌, filter, length, map, Option, Some, None, option_map, option_and_then, slice_get, Contains, ne_eqb}
-use Rattle.packet_loops.proofs.Common.{list_all, range_with_len, option_map_or, length-map, length-map-range_with_len, Prefix, prefix_cmp, Contains-first, Contains-later, distinct_from_sorted, row_of-row, Held, Entry, Local, End, Place, changed_at, Link, Router, Attachments, World, Network, place_at, opening, opening_link, opening_router_of, costs_of, next, link_come_up, link_gone_down, with_cost, with_front_taken, with_message, with_delivered, with_noticed, with_released, with_attachment, without_attachment, with_notice_taken, changed_link, changed_router, changed_attachments, router_accepting, router_at_home, router_publishing, router_releasing, front_at, notice_at, release_at, is_due, changed_rows, has_row, entry_eq, is_quiet_link, has_no_notice, is_settled, option_map_or-ind, entry_eq-refl, sorted-map, sorted-rows_of, routers-changed_link, one_if}
+use Rattle.packet_loops.proofs.Common.{list_all, most_links, most_routers, range_with_len, option_map_or, length-map, length-map-range_with_len, Prefix, prefix_cmp, Contains-first, Contains-later, distinct_from_sorted, row_of-row, Held, Entry, Local, End, Place, changed_at, Link, Router, Attachments, World, Network, place_at, opening, opening_link, opening_router_of, costs_of, next, link_come_up, link_gone_down, with_cost, with_front_taken, with_message, with_delivered, with_noticed, with_released, with_attachment, without_attachment, with_notice_taken, changed_link, changed_router, changed_attachments, router_accepting, router_at_home, router_publishing, router_releasing, front_at, notice_at, release_at, is_due, changed_rows, has_row, entry_eq, is_quiet_link, has_no_notice, is_settled, option_map_or-ind, entry_eq-refl, sorted-map, sorted-rows_of, routers-changed_link, one_if}
 use Rattle.std.specs.FinMap.{is_sorted}
 use Rattle.network_model.specs.declared.step.Step.{Step}
 use Rattle.network_model.specs.declared.step.Step.TheVariants.{LinkUp, LinkDown, SetCost, Deliver, Publish, Release, Attach, Detach}
@@ -197,7 +197,7 @@ watched-next w s n m watched sum =
     }
 
 -- such a number is small
-pub unrest-few : (w : World) (n : ℕ) → IsWatched w n → n ≤ 1536
+pub unrest-few : (w : World) (n : ℕ) → IsWatched w n → n ≤ 196608
 unrest-few w n watched =
     let links = count-few is_busy w.links in
     let notices = count-few has_notice w.attachments in
@@ -207,7 +207,7 @@ unrest-few w n watched =
     omega (arith, links, notices, routers, counts, few)
 
 -- nothing is counted in a world that opens
-pub watched-opening : (n : Network) (w : World) → w ≡ opening n → length n.links ≤ 1024 → n.routers ≤ 256 → IsWatched w 0
+pub watched-opening : (n : Network) (w : World) → w ≡ opening n → length n.links ≤ most_links → n.routers ≤ most_routers → IsWatched w 0
 watched-opening n w opened links routers =
     let none : unrest w ≡ 0 = ap unrest opened ∙ opening-rests n in
     let link_count : length w.links ≡ length n.links = ap (λ (v : World). length v.links) opened ∙ length-map n.links opening_link in

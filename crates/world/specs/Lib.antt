@@ -5,3 +5,4 @@ pub mod Steps
 pub mod Waiting
 pub mod Rest
 pub mod Touched
+pub mod Given

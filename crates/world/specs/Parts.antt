@@ -1,15 +1,25 @@
 -- The parts of a network, as they are given.
-use Rattle.std.specs.Prelude.{ℕ, List}
+use Rattle.std.specs.Prelude.{ℕ, ◌≤◌, List, length}
 use Rattle.ipv4_prefix.specs.Prefix.{Prefix}
+use Rattle.network_model.specs.declared.network.Limits.{Limits}
 use Rattle.network_model.specs.declared.network.LinkSpec.{LinkSpec}
 use Rattle.std.specs.Prelude.{map}
 use Rattle.std.specs.declared.vec.Vec.{Vec}
 use Rattle.network_model.specs.declared.network.Place.{Place}
 use Rattle.network_model.specs.declared.item.Notice.{Notice}
-use Rattle.network_model.specs.World.{Network, Link, Router, Attachments, World}
+use Rattle.network_model.specs.World.{Network, Link, Router, Attachments, World, prefixes_of}
+use Rattle.network_model.specs.Network.{degree}
 
 abbrev pub network_of : ℕ → List LinkSpec → List (Prefix × ℕ × ℕ) → Network
 network_of routers links attachments = record { routers = routers; links = links; attachments = attachments }
+
+-- the network has no more of anything than these limits allow: routers, links, links of one router, prefixes, attachments
+pub record HasAtMost (limits : Limits) (n : Network) : Type 0 where
+  pub routers : n.routers ≤ limits.routers
+  pub links : length n.links ≤ limits.links
+  pub ports : (i : ℕ) → degree i n.links ≤ limits.ports
+  pub prefixes : length (prefixes_of n.attachments) ≤ limits.prefixes
+  pub attachments : length n.attachments ≤ limits.attachments
 
 -- the attachments of one router, of their parts
 abbrev pub attachments_of : List (Prefix × ℕ) → List Notice → Attachments

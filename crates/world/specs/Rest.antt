@@ -1,6 +1,7 @@
 -- How much of a network is not at rest.
-use Rattle.std.specs.Prelude.{◌≡◌, ℕ, ◌+◌, ◌≤◌, Bool, false, not, ◌||◌, nat_lt, List, filter, length, Option, option_map, option_and_then, slice_get}
+use Rattle.std.specs.Prelude.{◌≡◌, ℕ, ◌+◌, ◌*◌, ◌≤◌, Bool, false, not, ◌||◌, nat_lt, List, filter, length, Option, option_map, option_and_then, slice_get}
 use Rattle.std.specs.Option.{option_map_or}
+use Rattle.network_model.specs.Network.{most_links, most_routers}
 use Rattle.network_model.specs.World.{Link, Router, Attachments, World, place_at}
 use Rattle.network_model.specs.Step.{is_due}
 use Rattle.network_model.specs.Forwarding.{is_quiet_link, has_no_notice}
@@ -36,4 +37,4 @@ passes_at test xs o = option_map_or test (option_and_then (slice_get xs) o) fals
 -- the number counts what is not at rest, of no more links and routers than a network can have, each router with its attachments
 pub record IsWatched (w : World) (n : ℕ) : Type 0 where
   pub counts : n ≡ unrest w
-  pub few : length w.links + length w.attachments + length w.routers ≤ 1536
+  pub few : length w.links + length w.attachments + length w.routers ≤ most_links + 2 * most_routers

@@ -48,6 +48,15 @@ impl<A: SmallAllocator> Attachments<A> {
         })
     }
 
+    /// Equal attachments, with the notices of them, in memory of this allocator.
+    pub fn copy(&self, alloc: A) -> Result<Attachments<A>, NoMemory>
+        ensures { IfOk result (λ a. a ≡ self.now) }
+    {
+        let costs = self.costs.copy(alloc, self.costs.len())?;
+        let notices = self.notices.iter().copied().collect(alloc)?;
+        Ok(Attachments { costs, notices })
+    }
+
     /// The cost of the attachment to the prefix, where there is one.
     pub fn cost(&self, prefix: Prefix) -> Option<Cost>
         ensures { result ≡ row_of prefix_cmp prefix (self.now).costs }

@@ -40,7 +40,11 @@
 //! And a network that is left alone comes to rest there.
 #![tactic(auto)]
 
+mod attachment_faults;
 mod attachments;
+mod by_router;
+mod copying;
+mod link_faults;
 mod network;
 mod opening;
 mod watched;
@@ -48,8 +52,7 @@ mod world;
 
 pub use network::Network;
 pub use network_model::{
-    Cost, LinkSpec, MOST_ATTACHMENTS, MOST_LINKS, MOST_PORTS, MOST_PREFIXES, MOST_ROUTERS,
-    NetworkFault, Place, Prefix, Refusal, Step,
+    Cost, Limits, LinkSpec, MOST_PORTS, NetworkFault, Place, Prefix, Refusal, Step,
 };
 pub use watched::WatchedWorld;
 pub use world::{Ran, World};

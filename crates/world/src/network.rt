@@ -1,24 +1,22 @@
 //! What a network is made of, before it is opened.
 
-ghost use Rattle.std.specs.Prelude.{◌≡◌, ◌≤◌, ◌&&◌, ◌==◌, if◌then◌else◌, [], length, IfOk, IsOk, OnOk, MatchOption, Err, IsNone, All};
-ghost use Rattle.std.specs.List.{list_any};
+ghost use Rattle.std.specs.Prelude.{◌≡◌, ◌≤◌, length, IfOk, IsOk, OnOk, MatchOption, Err, All};
 ghost use Rattle.ipv4_prefix.specs.Prefix.{IsPrefix};
 ghost use Rattle.metric.specs.Distance.{IsCost};
 ghost use Rattle.network_model.specs.World.{prefixes_of};
 ghost use Rattle.network_model.specs.Network as valid;
-ghost use Rattle.world.specs.Parts.{network_of};
+ghost use Rattle.world.specs.Parts.{network_of, HasAtMost};
 
-use network_model::{
-    Cost, LinkSpec, MOST_ATTACHMENTS, MOST_LINKS, MOST_PORTS, MOST_PREFIXES, MOST_ROUTERS,
-    NetworkFault, Prefix,
-};
+use crate::attachment_faults::prefix_count;
+use crate::link_faults::link_fault;
+use network_model::{Cost, Limits, LinkSpec, NetworkFault, Prefix};
 use std::marker::Model;
 
 /// The parts of a network that can be opened: its number of routers, its links, and which routers
 /// are attached to which prefixes.
 #[derive(Drop)]
 pub struct Network {
-    routers: u16,
+    routers: usize,
     links: Vec<LinkSpec>,
     attachments: Vec<(Prefix, u16, Cost)>,
     // How many prefixes these are of.
@@ -40,26 +38,51 @@ impl Model for Network {
 }
 
 impl Network {
-    /// The network of these parts: routers are numbered from 0, links and attachments by their position,
-    /// and each attachment is a prefix with the number of the router that is attached to it and the cost.
-    /// The faults are tested in the order of the parts: the number of routers, each link, each attachment.
+    /// The network of these parts, within the program's limits: routers are numbered from 0, links and
+    /// attachments by their position, and each attachment is a prefix with the number of the router that is
+    /// attached to it and the cost. The faults are tested in the order of the parts: the number of routers,
+    /// each link, each attachment.
     pub fn new(
         routers: u16,
         links: Vec<LinkSpec>,
         attachments: Vec<(Prefix, u16, Cost)>,
     ) -> Result<Network, NetworkFault>
         ensures made { IfOk result (λ n. n ≡ network_of routers links.items attachments.items) }
-        ensures cause { MatchOption (valid.network_fault
+        ensures cause { MatchOption (valid.network_fault valid.program_limits
             (network_of routers links.items attachments.items)) (IsOk result)
             (λ fault. result ≡ Err fault) }
+        ensures few { OnOk result (HasAtMost valid.program_limits
+            (network_of routers links.items attachments.items)) }
     {
-        if routers == 0 || routers > MOST_ROUTERS {
+        Network::within(Limits::PROGRAM, usize::from(routers), links, attachments)
+    }
+
+    /// The network of these parts, as `new` makes it, within limits of your own, of which none is above
+    /// the widest (`Limits::are_within`). It takes time by n log n of the routers, links and attachments.
+    pub fn within(
+        limits: Limits,
+        routers: usize,
+        links: Vec<LinkSpec>,
+        attachments: Vec<(Prefix, u16, Cost)>,
+    ) -> Result<Network, NetworkFault>
+        requires { valid.AreWithin limits valid.widest_limits }
+        ensures made { IfOk result (λ n. n ≡ network_of routers links.items attachments.items) }
+        ensures cause { MatchOption (valid.network_fault limits
+            (network_of routers links.items attachments.items)) (IsOk result)
+            (λ fault. result ≡ Err fault) }
+        ensures few { OnOk result (HasAtMost limits
+            (network_of routers links.items attachments.items)) }
+    {
+        if routers == 0 || routers > limits.routers {
             return Err(NetworkFault::BadRouters);
         }
-        if let Some(fault) = link_fault(routers, &links) {
+        let alloc = *links.allocator();
+        read_links(&links);
+        read_attachments(&attachments);
+        if let Some(fault) = link_fault(alloc, &limits, routers, &links) {
             return Err(fault);
         }
-        let prefixes = prefix_count(routers, &attachments)?;
+        let prefixes = prefix_count(alloc, &limits, routers, &attachments)?;
         Ok(Network {
             routers,
             links,
@@ -68,15 +91,18 @@ impl Network {
         })
     }
 
-    /// The number of routers, 1..=256.
-    pub fn routers(&self) -> u16
+    /// The number of routers, from 1 to the limit that the network was made within: 256 by `new`, and at
+    /// most 65536.
+    pub fn routers(&self) -> usize
         ensures number { result ≡ (self.now).routers }
+        ensures few { result ≤ valid.most_routers }
         ensures valid { valid.IsNetwork self.now }
     {
         self.routers
     }
 
-    /// The links, by number.
+    /// The links, by number: at most the limit that the network was made within, which is 1024 by `new`,
+    /// and at most 65536.
     pub fn links(&self) -> &[LinkSpec]
         ensures links { result.now ≡ (self.now).links }
         ensures few { length result.now ≤ valid.most_links }
@@ -87,7 +113,8 @@ impl Network {
 
     /// The prefixes with the routers that are attached to them, and the costs.
     pub fn attachments(&self) -> &[(Prefix, u16, Cost)]
-        ensures { result.now ≡ (self.now).attachments }
+        ensures attachments { result.now ≡ (self.now).attachments }
+        ensures valid { valid.IsNetwork self.now }
     {
         &self.attachments
     }
@@ -100,116 +127,21 @@ impl Network {
     }
 }
 
-fn has_same_ends(link: &LinkSpec, other: &LinkSpec) -> bool
-    ensures { result ≡ valid.has_same_ends link.now other.now }
+// What is read of a cost is known to be one.
+fn read_links(links: &[LinkSpec])
+    ensures { All valid.HasCosts links.now }
 {
-    link.touches(other.a) && link.touches(other.b)
-}
-
-fn degree(router: u16, links: &[LinkSpec]) -> usize
-    ensures { result ≡ valid.degree router links.now }
-{
-    links.iter().filter(|link| link.touches(router)).count()
-}
-
-fn has_twin(before: &[LinkSpec], link: &LinkSpec) -> bool
-    ensures { result ≡ list_any (valid.has_same_ends link.now) before.now }
-{
-    before.iter().any(|other| has_same_ends(link, other))
-}
-
-fn is_bad_link(routers: u16, before: &[LinkSpec], link: &LinkSpec) -> bool
-    ensures { result ≡ valid.is_bad_link routers before.now link.now }
-{
-    !(link.a < routers && link.b < routers) || link.a == link.b || has_twin(before, link)
-}
-
-fn is_link_too_many(before: &[LinkSpec], link: &LinkSpec) -> bool
-    ensures { result ≡ valid.is_link_too_many before.now link.now }
-{
-    !(before.len() < MOST_LINKS
-        && degree(link.a, before) < MOST_PORTS
-        && degree(link.b, before) < MOST_PORTS)
-}
-
-// Whether the prefix of an attachment is given by one of these.
-pub fn is_given(before: &[(Prefix, u16, Cost)], attachment: &(Prefix, u16, Cost)) -> bool
-    ensures { result ≡ list_any (valid.has_same_prefix attachment.now) before.now }
-{
-    before.iter().any(|other| other.0 == attachment.0)
-}
-
-// How many prefixes more there are by an attachment after others.
-fn prefixes_more(before: &[(Prefix, u16, Cost)], attachment: &(Prefix, u16, Cost)) -> usize
-    ensures more { result ≡ (if list_any
-        (valid.has_same_prefix attachment.now) before.now then 0 else 1) }
-    ensures one { result ≤ 1 }
-{
-    usize::from(!is_given(before, attachment))
-}
-
-// Whether the prefix was given before at the same router.
-fn is_given_there(before: &[(Prefix, u16, Cost)], attachment: &(Prefix, u16, Cost)) -> bool
-    ensures { result ≡ list_any (λ b. valid.has_same_prefix attachment.now b &&
-        (b.1 == attachment.now.1)) before.now }
-{
-    before
-        .iter()
-        .any(|other| other.0 == attachment.0 && other.1 == attachment.1)
-}
-
-// Whether an attachment cannot be, after others of so many prefixes.
-fn is_bad_attachment(
-    routers: u16,
-    before: &[(Prefix, u16, Cost)],
-    prefixes: usize,
-    attachment: &(Prefix, u16, Cost),
-) -> bool
-    requires { prefixes ≡ length (prefixes_of before.now) }
-    ensures { result ≡ valid.is_bad_attachment routers before.now attachment.now }
-{
-    !(attachment.1 < routers && before.len() < MOST_ATTACHMENTS)
-        || is_given_there(before, attachment)
-        || !(is_given(before, attachment) || prefixes < MOST_PREFIXES)
-}
-
-// The first fault of the links.
-fn link_fault(routers: u16, links: &[LinkSpec]) -> Option<NetworkFault>
-    ensures fault { result ≡ valid.first_cause (valid.link_causes routers [] links.now) }
-    ensures costs { IsNone result → All valid.HasCosts links.now }
-{
-    for (i, link) in links.iter().enumerate() {
-        // What is read of a cost is known to be one.
+    for link in links {
         let _costs = (link.from_a.value(), link.from_b.value());
-        let before = &links[..i];
-        if is_bad_link(routers, before, link) {
-            return Some(NetworkFault::BadLink { link: i });
-        }
-        if is_link_too_many(before, link) {
-            return Some(NetworkFault::TooManyLinks { link: i });
-        }
     }
-    None
 }
 
-// How many prefixes these attachments are of, or the first fault of theirs.
-fn prefix_count(routers: u16, attachments: &[(Prefix, u16, Cost)]) -> Result<usize, NetworkFault>
-    ensures count { IfOk result (λ n. n ≡ length (prefixes_of attachments.now)) }
-    ensures cause { MatchOption (valid.first_cause
-        (valid.attachment_causes routers [] attachments.now)) (IsOk result)
-        (λ fault. result ≡ Err fault) }
-    ensures prefixes { OnOk result (All (λ a. IsPrefix a.0) attachments.now) }
-    ensures costs { OnOk result (All (λ a. IsCost a.2) attachments.now) }
+// What is read of a prefix or a cost is known to be one.
+fn read_attachments(attachments: &[(Prefix, u16, Cost)])
+    ensures prefixes { All (λ a. IsPrefix a.0) attachments.now }
+    ensures costs { All (λ a. IsCost a.2) attachments.now }
 {
-    let mut prefixes = 0;
-    for (i, attachment) in attachments.iter().enumerate() {
-        // What is read of a prefix or a cost is known to be one.
+    for attachment in attachments {
         let _read = (attachment.0.len(), attachment.2.value());
-        let before = &attachments[..i];
-        if is_bad_attachment(routers, before, prefixes, attachment) {
-            return Err(NetworkFault::BadOwner { prefix: i });
-        }
-        prefixes += prefixes_more(before, attachment);
     }
-    Ok(prefixes)
 }

@@ -1,33 +1,48 @@
 //! The parts of a network that opens.
 
-ghost use Rattle.std.specs.Prelude.{◌≡◌, ◌<◌, ◌^◌, [], map, length, filter, ◌==◌, IfOk, All};
+ghost use Rattle.std.specs.Prelude.{◌≡◌, ◌<◌, ◌++◌, ◌∷◌, [], true, cond, if◌then◌else◌, map, length, IfOk, OnOk, All};
 ghost use Rattle.std.specs.List.{range_with_len};
+ghost use Rattle.std.specs.BTreeSet.{contains};
+ghost use Rattle.ipv4_prefix.specs.Prefix.{Prefix, prefix_cmp, prefix_eq};
 ghost use Rattle.network_model.specs.World as model;
 ghost use Rattle.world.specs.Parts.{attachments_of};
 
 use crate::attachments::Attachments;
-use crate::network::{Network, is_given};
+use crate::by_router::{no_lists, put_at};
+use crate::network::Network;
 use network_model::{Cost, End, LinkSpec, NoMemory, Place, Port, Prefix, SmallAllocator};
 use router_core::Router;
 use std::alloc::AllocError;
+use std::cmp::Reverse;
+use std::collections::BTreeSet;
 
-// The ends of the links at one router: the places of its ports, in the order of the links.
-pub fn places_of<A: SmallAllocator>(
+// The places of each router's ports, in the order of the links. Each link has a port at either end.
+pub fn opening_places<A: SmallAllocator>(
     alloc: A,
-    router: u16,
-    links: &[LinkSpec],
-) -> Result<Vec<Place, A>, AllocError>
-    requires { length links.now < 2 ^ 16 }
-    ensures { IfOk result (λ places. places.items ≡ model.places_from 0 router links.now) }
+    network: &Network,
+) -> Result<Vec<Vec<Place, A>, A>, NoMemory>
+    ensures { IfOk result (λ places. map (λ v. v.items) places.items ≡ map
+        (λ i. model.places_from 0 i (network.now).links) (range_with_len 0 (network.now).routers)) }
 {
-    let mut places = Vec::new(alloc);
-    for i in 0..links.len() {
-        if let Some(end) = links[i].own_end(router) {
-            places.push(Place {
-                link: i as u16,
-                end,
-            })?;
-        }
+    let mut places = no_lists(alloc, network.routers())?;
+    for (i, link) in network.links().iter().enumerate() {
+        let number = i as u16;
+        put_at(
+            &mut places,
+            link.a,
+            Place {
+                link: number,
+                end: End::A,
+            },
+        )?;
+        put_at(
+            &mut places,
+            link.b,
+            Place {
+                link: number,
+                end: End::B,
+            },
+        )?;
     }
     Ok(places)
 }
@@ -65,97 +80,113 @@ pub fn opening_ports<A: SmallAllocator>(
     Ok(ports)
 }
 
-// The attachments of one router, in the order in which they were given.
-fn own<A: SmallAllocator>(
-    alloc: A,
-    router: u16,
-    attachments: &[(Prefix, u16, Cost)],
-) -> Result<Vec<(Prefix, Cost), A>, AllocError>
-    ensures { IfOk result (λ own. own.items
-        ≡ map (λ a. (a.0, a.2)) (filter (λ a. a.1 == router) attachments.now)) }
+// Puts a prefix at the back, but not if it is given.
+fn put_if_new<A: SmallAllocator>(
+    given: &mut BTreeSet<Prefix, A>,
+    prefixes: &mut Vec<Prefix, A>,
+    prefix: Prefix,
+) -> Result<(), NoMemory>
+    ensures given { OnOk result ((p : Prefix) → contains prefix_cmp given.new p
+        ≡ cond (prefix_eq prefix p) true (contains prefix_cmp given.old p)) }
+    ensures prefixes { OnOk result (prefixes.new.items ≡ (if contains prefix_cmp given.old prefix
+        then prefixes.old.items else prefixes.old.items ++ prefix ∷ [])) }
 {
-    attachments
-        .iter()
-        .filter(|attachment| attachment.1 == router)
-        .map(|attachment| (attachment.0, attachment.2))
-        .collect(alloc)
+    if given.insert(prefix)? {
+        prefixes.push(prefix)?;
+    }
+    Ok(())
 }
 
-// The prefixes to which some router is attached, each once.
+// The prefixes to which some router is attached, each once, where the last attachment to it stands.
 pub fn opening_prefixes<A: SmallAllocator>(
     alloc: A,
     network: &Network,
-) -> Result<Vec<Prefix, A>, AllocError>
+) -> Result<Vec<Prefix, A>, NoMemory>
     ensures { IfOk result (λ prefixes. prefixes.items
         ≡ model.prefixes_of (network.now).attachments) }
 {
     let attachments = network.attachments();
+    let mut given = BTreeSet::new(alloc);
     let mut prefixes = Vec::new(alloc);
-    for (i, attachment) in attachments.iter().enumerate() {
-        if !is_given(&attachments[i + 1..], attachment) {
-            prefixes.push(attachment.0)?;
-        }
+    for i in (0..attachments.len()).rev() {
+        let attachment = attachments[i];
+        put_if_new(&mut given, &mut prefixes, attachment.0)?;
     }
+    prefixes.reverse();
     Ok(prefixes)
 }
 
-// What each router is attached to.
+// The prefixes to which each router is attached, with the costs, the last prefix first: so each is put
+// behind those that were put before, by who puts the last of them first.
+pub fn opening_costs<A: SmallAllocator>(
+    alloc: A,
+    network: &Network,
+) -> Result<Vec<Vec<(Prefix, Cost), A>, A>, NoMemory>
+    ensures { IfOk result (λ own. map (λ v. model.rows_of v.items) own.items ≡ map
+        (model.costs_of network.now) (range_with_len 0 (network.now).routers)) }
+{
+    let mut sorted = Vec::from_slice(alloc, network.attachments())?;
+    sorted.sort_unstable_by_key(|attachment| Reverse(attachment.0));
+    let mut own = no_lists(alloc, network.routers())?;
+    for attachment in &sorted {
+        put_at(&mut own, attachment.1, (attachment.0, attachment.2))?;
+    }
+    Ok(own)
+}
+
+// What each router is attached to, where these are the prefixes and the costs of each.
 pub fn opening_attachments<A: SmallAllocator>(
     alloc: A,
     network: &Network,
+    own: &[Vec<(Prefix, Cost), A>],
 ) -> Result<Vec<Attachments<A>, A>, NoMemory>
+    requires { map (λ v. model.rows_of v.items) own.now ≡ map
+        (model.costs_of network.now) (range_with_len 0 (network.now).routers) }
     ensures { IfOk result (λ attachments. attachments.items ≡ map (λ i. attachments_of
         (model.costs_of network.now i) []) (range_with_len 0 (network.now).routers)) }
 {
     let mut attachments = Vec::new(alloc);
     for router in 0..network.routers() {
-        let own = own(alloc, router, network.attachments())?;
-        attachments.push(Attachments::new(alloc, &own)?)?;
+        attachments.push(Attachments::new(alloc, &own[router])?)?;
     }
     Ok(attachments)
 }
 
-// The places of each router's ports.
-pub fn opening_places<A: SmallAllocator>(
-    alloc: A,
-    network: &Network,
-) -> Result<Vec<Vec<Place, A>, A>, AllocError>
-    ensures { IfOk result (λ places. map (λ v. v.items) places.items ≡ map
-        (λ i. model.places_from 0 i (network.now).links) (range_with_len 0 (network.now).routers)) }
-{
-    let mut places = Vec::new(alloc);
-    for router in 0..network.routers() {
-        places.push(places_of(alloc, router, network.links())?)?;
-    }
-    Ok(places)
-}
-
-// One router at the opening.
+// One router at the opening, whose ports lie at these places.
 fn opening_router<A: SmallAllocator>(
     alloc: A,
     network: &Network,
-    router: u16,
+    router: usize,
+    places: &[Place],
+    own: &[(Prefix, Cost)],
 ) -> Result<Router<A>, NoMemory>
+    requires places { places.now ≡ model.places_from 0 router (network.now).links }
+    requires own { model.rows_of own.now ≡ model.costs_of network.now router }
     ensures { IfOk result (λ r. r ≡ model.opening_router_of network.now router) }
 {
-    let links = network.links();
-    let places = places_of(alloc, router, links)?;
-    let ports = opening_ports(alloc, links, &places)?;
-    let own = own(alloc, router, network.attachments())?;
-    Router::new(alloc, ports, &own)
+    let ports = opening_ports(alloc, network.links(), places)?;
+    Router::new(alloc, ports, own)
 }
 
-// The routers at the opening.
+// The routers at the opening, where these are the places of their ports, and the prefixes and the costs
+// of each.
 pub fn opening_routers<A: SmallAllocator>(
     alloc: A,
     network: &Network,
+    places: &[Vec<Place, A>],
+    own: &[Vec<(Prefix, Cost), A>],
 ) -> Result<Vec<Router<A>, A>, NoMemory>
+    requires places { map (λ v. v.items) places.now ≡ map
+        (λ i. model.places_from 0 i (network.now).links) (range_with_len 0 (network.now).routers) }
+    requires own { map (λ v. model.rows_of v.items) own.now ≡ map
+        (model.costs_of network.now) (range_with_len 0 (network.now).routers) }
     ensures { IfOk result (λ routers. routers.items
         ≡ map (model.opening_router_of network.now) (range_with_len 0 (network.now).routers)) }
 {
     let mut routers = Vec::new(alloc);
     for router in 0..network.routers() {
-        routers.push(opening_router(alloc, network, router)?)?;
+        let found = opening_router(alloc, network, router, &places[router], &own[router])?;
+        routers.push(found)?;
     }
     Ok(routers)
 }

@@ -47,6 +47,18 @@ impl<A: SmallAllocator> WatchedWorld<A> {
         Ok(WatchedWorld { world, unrest: 0 })
     }
 
+    /// An equal world in memory of this allocator: what becomes of one of the two leaves the other as it
+    /// is. It takes time and memory by all that stands in the world.
+    pub fn copy(&self, alloc: A) -> Result<WatchedWorld<A>, NoMemory>
+        ensures { IfOk result (λ w. w ≡ self.now) }
+    {
+        let world = self.world.copy(alloc)?;
+        Ok(WatchedWorld {
+            world,
+            unrest: self.unrest,
+        })
+    }
+
     /// The world.
     pub fn world(&self) -> &World<A>
         ensures { result.now ≡ self.now }

@@ -14,8 +14,11 @@ ghost use Rattle.world.specs.Headline.{IsReached, HasWorldHeadline};
 ghost use Rattle.world.specs.Waiting.{is_waiting, waiting_port};
 
 use crate::attachments::Attachments;
+use crate::copying::{copy_attachments, copy_places, copy_routers};
 use crate::network::Network;
-use crate::opening::{opening_attachments, opening_places, opening_prefixes, opening_routers};
+use crate::opening::{
+    opening_attachments, opening_costs, opening_places, opening_prefixes, opening_routers,
+};
 use link_fifo::Links;
 use network_model::{Cost, NoMemory, Place, Prefix, Refusal, SmallAllocator, Step};
 use router_core::Router;
@@ -57,15 +60,36 @@ impl<A: SmallAllocator> Model for World<A> {
 
 impl<A: SmallAllocator> World<A> {
     /// The world of a network that opens: every link is down, nothing is queued or held, no notice
-    /// waits, and each prefix is known at the routers attached to it alone.
+    /// waits, and each prefix is known at the routers attached to it alone. It takes time by n log n of
+    /// the routers, links and attachments.
     pub fn open(alloc: A, network: &Network) -> Result<World<A>, NoMemory>
         ensures { IfOk result (λ w. w ≡ model.opening network.now) }
     {
         let links = Links::new(alloc, network.links())?;
         let places = opening_places(alloc, network)?;
         let prefixes = opening_prefixes(alloc, network)?;
-        let attachments = opening_attachments(alloc, network)?;
-        let routers = opening_routers(alloc, network)?;
+        let own = opening_costs(alloc, network)?;
+        let attachments = opening_attachments(alloc, network, &own)?;
+        let routers = opening_routers(alloc, network, &places, &own)?;
+        Ok(World {
+            places,
+            links,
+            prefixes,
+            attachments,
+            routers,
+        })
+    }
+
+    /// An equal world in memory of this allocator: what becomes of one of the two leaves the other as it
+    /// is. It takes time and memory by all that stands in the world.
+    pub fn copy(&self, alloc: A) -> Result<World<A>, NoMemory>
+        ensures { IfOk result (λ w. w ≡ self.now) }
+    {
+        let places = copy_places(alloc, &self.places)?;
+        let links = self.links.copy(alloc)?;
+        let prefixes = Vec::from_slice(alloc, &self.prefixes)?;
+        let attachments = copy_attachments(alloc, &self.attachments)?;
+        let routers = copy_routers(alloc, &self.routers)?;
         Ok(World {
             places,
             links,

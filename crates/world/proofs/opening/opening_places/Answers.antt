@@ -1,10 +1,52 @@
-use Rattle.std.proofs.Common.{ap, ◌∙◌, arith, map, ◌∷◌, []}
-use Rattle.packet_loops.proofs.Common.{map-append, places_from}
-use Rattle.world.proofs.Ranges.{one_made}
+use Rattle.std.proofs.Common.{◌≡◌, ◌<◌, ◌+◌, ◌++◌, ◌∷◌, [], List, sym, ap, subst, ◌∙◌, arith, map, take, length, get_or, add-one, length-take-le, take_all}
+use Rattle.std.proofs.Math.Seq.{take-suc}
+use Rattle.packet_loops.proofs.Common.{A, B, LinkSpec, range_with_len, changed_at, places_from}
+use Rattle.network_model.proofs.PortPlaces.{place_of}
+use Rattle.world.proofs.ByRouter.{made_count}
+use Rattle.world.proofs.LinksAtRouters.{HasEnds, ends_of, places_with_link}
 use Rattle.world.proofs.opening.opening_places.Goals as goal
 
-pub loop-router-preserved : goal.loop-router-preserved
-loop-router-preserved g c =
-    one_made (λ i. places_from 0 i (c.args.network.now).links) (map (λ v. v.items) c.loop-router.places.items) (map (λ v. v.items) c.push.new.self.items) _ (c.in_ok-places_of.field-0).items c.loop-router.router c.routers-router-end.result
-    (omega arith) (c.in_ok-places_of.ensures ∙ ap (places_from 0 c.loop-router.router) c.links.ensures.links)
-    (ap (map (λ v. v.items)) c.in_ok-push.ensures.items ∙ map-append (λ v. v.items) c.loop-router.places.items (c.in_ok-places_of.field-0 ∷ [])) c.loop-router.invariant
+-- there is a list at each end
+pub put_at-requires : goal.put_at-requires
+put_at-requires g c =
+    let n = c.args.network.now in
+    let here = c.index-links-i.result in
+    let at : here ≡ get_or n.links c.loop-i.i here = c.index-links-i.is ∙ ap (λ ls. get_or ls c.loop-i.i here) c.links.ensures.links in
+    let below : c.loop-i.i < length n.links = omega (arith, ap length c.links.ensures.links) in
+    let ends : HasEnds n.routers here = ends_of n c.links.ensures.valid c.loop-i.i here below at in
+    let many = made_count (λ v. v.items) (λ j. places_from 0 j (take c.loop-i.i n.links)) c.loop-i.places.items n.routers c.loop-i.invariant in
+    omega (arith, ends.a_known, many, c.loop-i.places.ok.0)
+
+pub put_at-requires-2 : goal.put_at-requires-2
+put_at-requires-2 g c =
+    let n = c.args.network.now in
+    let here = c.index-links-i.result in
+    let at : here ≡ get_or n.links c.loop-i.i here = c.index-links-i.is ∙ ap (λ ls. get_or ls c.loop-i.i here) c.links.ensures.links in
+    let below : c.loop-i.i < length n.links = omega (arith, ap length c.links.ensures.links) in
+    let ends : HasEnds n.routers here = ends_of n c.links.ensures.valid c.loop-i.i here below at in
+    let many = made_count (λ v. v.items) (λ j. places_from 0 j (take c.loop-i.i n.links)) c.loop-i.places.items n.routers c.loop-i.invariant in
+    omega (arith, ends.b_known, many, c.loop-i.places.ok.0, c.put_at.ensures.len)
+
+-- one link more
+pub loop-i-preserved : goal.loop-i-preserved
+loop-i-preserved g c =
+    let n = c.args.network.now in
+    let i = c.loop-i.i in
+    let here = c.index-links-i.result in
+    let at : here ≡ get_or n.links i here = c.index-links-i.is ∙ ap (λ ls. get_or ls i here) c.links.ensures.links in
+    let below : i < length n.links = omega (arith, ap length c.links.ensures.links) in
+    let taken : take (i + 1) n.links ≡ take i n.links ++ here ∷ []
+    = ap (λ m. take m n.links) (add-one i) ∙ take-suc n.links i here below ∙ ap (λ x. take i n.links ++ x ∷ []) (sym at) in
+    let ends : HasEnds n.routers here = ends_of n c.links.ensures.valid i here below at in
+    c.in_ok-put_at-2.ensures.lists
+    ∙ ap (changed_at here.b (λ ps. ps ++ place_of i B ∷ [])) (c.in_ok-put_at.ensures.lists ∙ ap (changed_at here.a (λ ps. ps ++ place_of i A ∷ [])) c.loop-i.invariant)
+    ∙ places_with_link n.routers (take i n.links) here i (sym (length-take-le i n.links (omega (arith, below)))) ends
+    ∙ ap (λ ls. map (λ j. places_from 0 j ls) (range_with_len 0 n.routers)) (sym taken)
+
+pub loop-i-init : goal.loop-i-init
+loop-i-init g c = c.in_ok-places.ensures ∙ ap (λ m. map (λ _. []) (range_with_len 0 m)) c.routers.ensures.number
+
+pub returns : goal.returns
+returns g c =
+    let n = c.args.network.now in
+    c.loop-i.invariant ∙ ap (λ ls. map (λ j. places_from 0 j ls) (range_with_len 0 n.routers)) (take_all c.loop-i.i n.links (omega (arith, ap length c.links.ensures.links)))

@@ -1,23 +1,27 @@
-use Rattle.std.proofs.Common.{◌≡◌, ◌+◌, ◌++◌, drop, sym, ap, ◌∙◌, arith}
-use Rattle.std.specs.declared.vec.Vec.{Vec}
-use Rattle.packet_loops.proofs.Common.{list_any, Prefix, prefixes_of, has_same_prefix}
-use Rattle.world.proofs.Prefixes.{named_later, named_last, slice_behind}
+use Rattle.std.proofs.Common.{◌≡◌, ℕ, ◌-◌, ◌<◌, ◌≤◌, ◌∷◌, Bool, if◌then◌else◌, List, drop, sym, ap, ◌∙◌, arith, get_or, length}
+use Rattle.std.specs.BTreeSet.{contains}
+use Rattle.packet_loops.proofs.Common.{Prefix, prefix_cmp, prefixes_of}
+use Rattle.world.proofs.Prefixes.{prefixes_from, given_from, reversed_with}
 use Rattle.world.proofs.opening.opening_prefixes.Goals as goal
-use Rattle.world.proofs.opening.opening_prefixes.Given as given
-use Rattle.world.proofs.opening.opening_prefixes.Goals.{then-not-is_given+in_ok-push, else-not-is_given}
-
--- whether the prefix is given behind
-tested : (g : given.Over) (c : goal.Joined-not-is_given g) → c.is_given.result ≡ list_any (has_same_prefix c.index-attachments-i.result) (drop (c.loop-i.i + 1) c.attachments-attachments.result.now)
-tested g c = c.is_given.ensures ∙ ap (list_any (has_same_prefix c.index-attachments-i.result)) (slice_behind c.attachments-attachments.result.now c.loop-i.i)
 
 pub loop-i-preserved : goal.loop-i-preserved
-loop-i-preserved g c = elim c.if-not-is_given.branch [
-  | then-not-is_given+in_ok-push w ↦
-      ap (λ (v : Vec Prefix g.row.A.Denot). v.items ++ prefixes_of (drop (c.loop-i.i + 1) c.attachments-attachments.result.now)) w.prefixes-is
-      ∙ named_last c.attachments-attachments.result.now c.loop-i.i c.index-attachments-i.result c.loop-i.prefixes.items w.push.new.self.items (prefixes_of c.attachments-attachments.result.now)
-      (omega arith) c.index-attachments-i.is (sym (tested g c) ∙ w.if-not-is_given.true) w.in_ok-push.ensures.items c.loop-i.invariant
-  | else-not-is_given w ↦
-      ap (λ (v : Vec Prefix g.row.A.Denot). v.items ++ prefixes_of (drop (c.loop-i.i + 1) c.attachments-attachments.result.now)) w.prefixes-is
-      ∙ named_later c.attachments-attachments.result.now c.loop-i.i c.index-attachments-i.result c.loop-i.prefixes.items (prefixes_of c.attachments-attachments.result.now)
-      (omega arith) c.index-attachments-i.is (sym (tested g c) ∙ w.if-not-is_given.false) c.loop-i.invariant
-]
+loop-i-preserved g c =
+    let all : List (Prefix × ℕ × ℕ) = (c.args.network.now).attachments in
+    let i = c.loop-i.i in
+    let here : Prefix × ℕ × ℕ = c.index-attachments-i.result in
+    let many : length c.attachments-attachments.result.now ≡ length all = ap length c.attachments-attachments.ensures.attachments in
+    let some : 0 < i = omega arith in
+    let within : i ≤ length all = omega (arith, many) in
+    let at : here ≡ get_or all (i - 1) here = c.index-attachments-i.is ∙ ap (λ xs. get_or xs (i - 1) here) c.attachments-attachments.ensures.attachments in
+    let met : Bool = contains prefix_cmp c.loop-i.given here.0 in
+    record {
+      so_far = reversed_with met c.loop-i.prefixes.items _ here.0 c.in_ok-put_if_new.ensures.prefixes
+          ∙ ap (λ (ps : List Prefix). if met then ps else here.0 ∷ ps) c.loop-i.invariant.so_far
+          ∙ sym (prefixes_from all i here some within at met (sym (c.loop-i.invariant.given here.0)));
+      given = λ p. given_from all i here some within at p (contains prefix_cmp c.loop-i.given p) _ (c.in_ok-put_if_new.ensures.given p) (c.loop-i.invariant.given p);
+    }
+
+pub returns : goal.returns
+returns g c =
+    let over : c.loop-i.i ≡ 0 = omega arith in
+    c.reverse.ensures.items ∙ c.loop-i.invariant.so_far ∙ ap (λ n. prefixes_of (drop n (c.args.network.now).attachments)) over

@@ -1,47 +1,5 @@
-use Rattle.std.proofs.Common.{◌≡◌, true, false, [], length, Some, None, Option, Err, Result, refl, sym, ap, subst, ◌∙◌, arith, All, MatchOption, IsOk}
-use Rattle.packet_loops.proofs.Common.{err_from_is_err_and, IsPrefix, IsCost, prefixes_of, HasCosts, first_cause, link_causes, attachment_causes}
-use Rattle.world.proofs.Done.{no_cause, only_cause}
-use Rattle.world.proofs.Faults.{fault_of_link, fault_of_attachments}
+use Rattle.std.proofs.Common.{arith}
 use Rattle.world.proofs.network.Network.new.Goals as goal
 
-pub returns-in-Some-clause-cause : goal.returns-in-Some-clause-cause
-returns-in-Some-clause-cause c =
-    let found : first_cause (link_causes c.args.routers [] c.args.links.items) ≡ Some c.in-Some.fault
-    = ap (λ xs. first_cause (link_causes c.args.routers [] xs)) (sym c.deref.ensures.value) ∙ sym c.in-Some.ensures.fault in
-    rw (fault_of_link c.args.routers c.args.links.items c.args.attachments.items (omega arith) (omega arith) c.in-Some.fault found) refl
-
--- what refuses the attachments refuses the network
-refused : (T : Type 0) {U E : Type 0} (o : Option E) (e : E) (r : Result U E) → MatchOption o (false ≡ true) (λ x. ◌≡◌ {A = Result T E} (Err e) (Err x)) → r ≡ Err e → MatchOption o (IsOk r) (λ x. r ≡ Err x)
-refused T {U} o e r cause is = subst (λ x. MatchOption x (IsOk r) (λ y. r ≡ Err y)) (sym (only_cause T o e cause)) is
-
-pub returns-in_err-prefixes-clause-cause : goal.returns-in_err-prefixes-clause-cause
-returns-in_err-prefixes-clause-cause c =
-    let links_fine : first_cause (link_causes c.args.routers [] c.args.links.items) ≡ None
-    = ap (λ xs. first_cause (link_causes c.args.routers [] xs)) (sym c.deref.ensures.value) ∙ sym c.in_default.ensures.fault in
-    rw (fault_of_attachments c.args.routers c.args.links.items c.args.attachments.items (omega arith) (omega arith) links_fine ∙ ap (λ xs. first_cause (attachment_causes c.args.routers [] xs)) (sym c.deref-2.ensures.value))
-    (let p = err_from_is_err_and c.from_residual.result c.from_residual.ensures.1 in
-    refused _ (first_cause (attachment_causes c.args.routers [] c.deref-2.result.now)) c.in_err-prefixes.field-0.0 c.from_residual.result c.in_err-prefixes.ensures.cause (p.1 ∙ ap Err p.2))
-
-pub invariant_of-result : goal.invariant_of-result
-invariant_of-result c =
-    let given = c.args.attachments.items in
-    let links_fine : first_cause (link_causes c.args.routers [] c.args.links.items) ≡ None
-    = ap (λ xs. first_cause (link_causes c.args.routers [] xs)) (sym c.deref.ensures.value) ∙ sym c.in_default.ensures.fault in
-    let attachments_fine : first_cause (attachment_causes c.args.routers [] given) ≡ None
-    = ap (λ xs. first_cause (attachment_causes c.args.routers [] xs)) (sym c.deref-2.ensures.value) ∙ no_cause _ (first_cause (attachment_causes c.args.routers [] c.deref-2.result.now)) c.in_ok-prefixes.prefixes c.in_ok-prefixes.ensures.cause in (
-      record {
-        no_fault = fault_of_attachments c.args.routers c.args.links.items given (omega arith) (omega arith) links_fine ∙ attachments_fine;
-        costs = subst (λ xs. All HasCosts xs) c.deref.ensures.value (c.in_default.ensures.costs refl);
-        prefixes = subst (λ xs. All (λ a. IsPrefix a.0) xs) c.deref-2.ensures.value c.in_ok-prefixes.ensures.prefixes;
-        attachment_costs = subst (λ xs. All (λ a. IsCost a.2) xs) c.deref-2.ensures.value c.in_ok-prefixes.ensures.costs;
-      },
-      c.in_ok-prefixes.ensures.count ∙ ap (λ xs. length (prefixes_of xs)) c.deref-2.ensures.value,
-    )
-
-pub returns-clause-cause : goal.returns-clause-cause
-returns-clause-cause c =
-    let links_fine : first_cause (link_causes c.args.routers [] c.args.links.items) ≡ None
-    = ap (λ xs. first_cause (link_causes c.args.routers [] xs)) (sym c.deref.ensures.value) ∙ sym c.in_default.ensures.fault in
-    let attachments_fine : first_cause (attachment_causes c.args.routers [] c.args.attachments.items) ≡ None
-    = ap (λ xs. first_cause (attachment_causes c.args.routers [] xs)) (sym c.deref-2.ensures.value) ∙ no_cause _ (first_cause (attachment_causes c.args.routers [] c.deref-2.result.now)) c.in_ok-prefixes.prefixes c.in_ok-prefixes.ensures.cause in
-    rw (fault_of_attachments c.args.routers c.args.links.items c.args.attachments.items (omega arith) (omega arith) links_fine ∙ attachments_fine) refl
+pub within-requires : goal.within-requires
+within-requires c = record { routers = omega arith; links = omega arith; ports = omega arith; prefixes = omega arith; attachments = omega arith }
