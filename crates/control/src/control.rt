@@ -269,7 +269,7 @@ impl<B: FabricName, N: ControlName> Control<B, N> {
     }
 
     /// How many routers there are.
-    pub(crate) fn routers<R: Wait>(&self, rt: &R) -> u16
+    pub(crate) fn routers<R: Wait>(&self, rt: &R) -> usize
         ensures routers { result ≡ (N.opened.network).routers }
         ensures few { result ≤ most_routers }
     {

@@ -257,7 +257,7 @@ impl<B: FabricName, N: ControlName> Guarded<B, N> {
     }
 
     /// How many routers there are.
-    pub fn routers(&self) -> u16
+    pub fn routers(&self) -> usize
         ensures routers { result ≡ (N.opened.network).routers }
         ensures few { result ≤ most_routers }
     {

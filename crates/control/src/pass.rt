@@ -69,7 +69,7 @@ impl<B: FabricName, N: ControlName> Guarded<B, N> {
             let next = if thresholds.calls(pass.rows) {
                 None
             } else {
-                self.watch.next(pass.router)
+                self.watch.next(pass.router, self.routers())
             };
             let Some(router) = next else {
                 break;
@@ -95,7 +95,7 @@ impl<B: FabricName, N: ControlName> Guarded<B, N> {
         ensures err { IfErr result (IsTurnRefused N.opened N.asked) }
         ensures holder { IsHolder share.old share.new }
     {
-        if router >= self.routers() {
+        if usize::from(router) >= self.routers() {
             self.watch.remove(router);
             return Ok(0);
         }

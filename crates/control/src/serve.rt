@@ -121,10 +121,12 @@ impl<B: FabricName + Send + Sync, N: ControlName + Send + Sync> Control<B, N> {
         ensures back { IsBack share.old share.new result }
     {
         let rota = self.rota(rt, threads);
-        let Some(thread) = rota.first(place) else {
+        let Some(lowest) = rota.first(place) else {
             return Ok(());
         };
-        let mut router = u16::from(thread);
+        // There are at most 16 shares.
+        let thread = u8::try_from(place).unwrap_or(u8::MAX);
+        let mut router = lowest;
         let mut turn: u64 = 1;
         let mut settled = self.is_settled(rt);
         for _ in rt.forever() {
@@ -137,7 +139,7 @@ impl<B: FabricName + Send + Sync, N: ControlName + Send + Sync> Control<B, N> {
             settled = self.is_settled(rt);
             turn = turn.saturating_add(1);
             match done {
-                Ok(_) => router = rota.next(thread, router),
+                Ok(_) => router = rota.next(lowest, router),
                 Err(refusal) => return Err(refusal),
             }
         }
@@ -163,32 +165,31 @@ pub(crate) fn first_refusal<N: ControlName>(shares: &[Share<N>]) -> Result<(), R
 #[derive(Clone, Copy)]
 struct Rota {
     threads: usize,
-    routers: u16,
+    routers: usize,
     ghost few: { routers ≤ most_routers },
 }
 
 impl Rota {
     // The lowest router of a thread, which has the thread's number, if it has one.
-    fn first(self, thread: usize) -> Option<u8>
+    fn first(self, thread: usize) -> Option<u16>
         ensures { result ≡ (if nat_lt thread self.routers then Some thread else None) }
     {
-        if thread < usize::from(self.routers) {
-            Some(thread as u8)
+        if thread < self.routers {
+            Some(thread as u16)
         } else {
             None
         }
     }
 
     // The thread's router after this one; after its greatest, its lowest.
-    fn next(self, lowest: u8, router: u16) -> u16
+    fn next(self, lowest: u16, router: u16) -> u16
         ensures { result ≡ (if nat_lt (router + self.threads) self.routers then router + self.threads else lowest) }
     {
-        let routers = usize::from(self.routers);
         let router = usize::from(router);
-        if self.threads < routers && router + self.threads < routers {
+        if self.threads < self.routers && router + self.threads < self.routers {
             (router + self.threads) as u16
         } else {
-            u16::from(lowest)
+            lowest
         }
     }
 }

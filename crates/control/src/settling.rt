@@ -167,10 +167,11 @@ where
     ensures alone { IfErr result (IsStopped fabric.new) }
     ensures lent { (fabric.new).lent ≡ (fabric.old).lent }
 {
+    let routers = fabric.network().routers();
     let mut watch = Watch::all();
     let mut router = 0;
     for _ in rt.forever() {
-        let Some(found) = watch.next(router) else {
+        let Some(found) = watch.next(router, routers) else {
             break;
         };
         router = found.wrapping_add(1);
@@ -187,6 +188,8 @@ where
                     Err(refusal) => return Err(refusal),
                 }
             }
+            // A watch of more routers than it tells apart is never empty.
+            None if fabric.is_settled() => break,
             None => watch.remove(found),
         }
     }
@@ -216,7 +219,7 @@ fn is_worth_threads<B: FabricName>(
     }
     let mut rows: usize = 0;
     for router in 0..fabric.network().routers() {
-        rows = rows.saturating_add(rows_due(fabric, router));
+        rows = rows.saturating_add(rows_due(fabric, router as u16));
     }
     thresholds.starts(rows.max(1))
 }

@@ -4,8 +4,12 @@ use fabric::Fabric;
 use network_model::{End, Step};
 use publication::FabricName;
 
+/// How many routers it tells apart.
+const TOLD_APART: usize = 256;
+
 /// Routers that may have something to do. It is a hint, on which nothing that is proved stands: a router
-/// that is not in it has nothing to do until a message is on its way to it, or its writer comes back.
+/// that is not in it has nothing to do until a message is on its way to it, or its writer comes back. Of a
+/// network of more than 256 routers each is always in it.
 #[derive(Drop)]
 pub struct Watch {
     // A bit for each of 256 routers, the lowest first.
@@ -39,8 +43,15 @@ impl Watch {
         }
     }
 
-    /// The first of its routers from this one on, and after the last from 0.
-    pub fn next(&self, router: u16) -> Option<u16> {
+    /// The first of its routers from this one on, and after the last from 0, in a network of so many.
+    pub fn next(&self, router: u16, routers: usize) -> Option<u16> {
+        if routers > TOLD_APART {
+            return Some(if usize::from(router) < routers {
+                router
+            } else {
+                0
+            });
+        }
         let first = router / 64 % 4;
         for turned in 0..=4 {
             let place = (first + turned) % 4;

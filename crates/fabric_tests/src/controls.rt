@@ -42,7 +42,7 @@ fn two<H: Threads + Wait + Abort + Clock + Sync>(rt: &H, alloc: Global, shares: 
     requires { 0 < shares }
 {
     let network = two_routers(rt, alloc);
-    let unnamed = Unnamed::many(alloc, usize::from(network.routers())).expect(rt, "memory");
+    let unnamed = Unnamed::many(alloc, network.routers()).expect(rt, "memory");
     opened::<Brand, H>(rt, alloc, network, unnamed, shares, trial);
 }
 

@@ -59,7 +59,7 @@ fn opened<B: FabricName, H: Wait + Abort>(
 
 fn two<H: Wait + Abort>(rt: &H, alloc: Global, trial: Trial) {
     let network = two_routers(rt, alloc);
-    let unnamed = Unnamed::many(alloc, usize::from(network.routers())).expect(rt, "memory");
+    let unnamed = Unnamed::many(alloc, network.routers()).expect(rt, "memory");
     opened::<Brand, H>(rt, alloc, network, unnamed, trial);
 }
 

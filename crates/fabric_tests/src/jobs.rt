@@ -222,6 +222,6 @@ fn port<B: FabricName>(
 fn job_while_a_turn_waits(rt: HostRuntime) {
     let alloc = rt.alloc();
     let network = two_routers(&rt, alloc);
-    let unnamed = Unnamed::many(alloc, usize::from(network.routers())).expect(&rt, "memory");
+    let unnamed = Unnamed::many(alloc, network.routers()).expect(&rt, "memory");
     opened::<Brand, _>(&rt, alloc, network, unnamed);
 }

@@ -115,7 +115,7 @@ fn is_opening_refused_over<'h, B: FabricName, H: Wait + Abort>(
 fn is_opening_refused<H: Wait + Abort>(rt: &H, alloc: Global, left: usize) -> bool {
     let heap = LocalHeap::new(alloc, HEAP).expect(rt, "memory");
     let network = two_routers(rt, alloc);
-    let unnamed = Unnamed::many(&heap, usize::from(network.routers())).expect(rt, "room");
+    let unnamed = Unnamed::many(&heap, network.routers()).expect(rt, "room");
     let end = is_opening_refused_over::<Brand, H>(rt, alloc, &heap, network, unnamed, left);
     assert_eq!(rt; heap.used(), 0);
     end

@@ -292,7 +292,7 @@ fn made(rt: &impl Abort, alloc: Global, shape: Shape) -> Network {
 fn end_of<H: Wait + Abort>(rt: &H, alloc: Global, case: &Case<'_>, sweep: Sweep) -> (String, u64) {
     let memory = Refusing::new(alloc);
     let network = made(rt, alloc, case.shape);
-    let unnamed = Unnamed::many(&memory, usize::from(network.routers())).expect(rt, "memory");
+    let unnamed = Unnamed::many(&memory, network.routers()).expect(rt, "memory");
     let end = open_and_run::<Brand, H>(rt, alloc, &memory, network, unnamed, case, sweep);
     (end, memory.met())
 }
@@ -508,7 +508,7 @@ fn is_opening_refused_over<'m, B: FabricName, H: Wait + Abort>(
 fn is_opening_refused<H: Wait + Abort>(rt: &H, alloc: Global, refused: Refused) -> bool {
     let memory = Refusing::new(alloc);
     let network = two_routers(rt, alloc);
-    let unnamed = Unnamed::many(&memory, usize::from(network.routers())).expect(rt, "memory");
+    let unnamed = Unnamed::many(&memory, network.routers()).expect(rt, "memory");
     is_opening_refused_over::<Brand, H>(rt, &memory, network, unnamed, refused)
 }
 

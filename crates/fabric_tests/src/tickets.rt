@@ -152,6 +152,6 @@ fn opened<B: FabricName, H: Wait + Abort>(
 fn goes_on_while_a_writer_is_out(rt: HostRuntime) {
     let alloc = rt.alloc();
     let network = two_routers(&rt, alloc);
-    let unnamed = Unnamed::many(alloc, usize::from(network.routers())).expect(&rt, "memory");
+    let unnamed = Unnamed::many(alloc, network.routers()).expect(&rt, "memory");
     opened::<Brand, HostRuntime>(&rt, alloc, network, unnamed);
 }

@@ -77,6 +77,6 @@ fn ends<B: FabricName, H: Wait + Abort>(rt: &H, alloc: Global, fabric: &mut Fabr
 #[test]
 fn ends_where_it_begins(rt: HostRuntime) {
     let network = line(&rt, rt.alloc());
-    let unnamed = Unnamed::many(rt.alloc(), usize::from(network.routers())).expect(&rt, "memory");
+    let unnamed = Unnamed::many(rt.alloc(), network.routers()).expect(&rt, "memory");
     opened::<Brand, _>(&rt, rt.alloc(), network, unnamed);
 }

@@ -3,18 +3,18 @@ use Rattle.std.proofs.Common.{◌≡◌, ◌≤◌, ◌⊎◌, inl, inr, Option,
 use Rattle.texts.specs.Words.{Text}
 use Rattle.script.specs.Reading.{Parts}
 use Rattle.script.specs.declared.place.Located.{Located}
-use Rattle.network_model.specs.Network.{network_fault}
+use Rattle.network_model.specs.Network.{network_fault, program_limits}
 use Rattle.plans.specs.declared.fault.Fault.{Fault}
 use Rattle.plans.specs.Faults.{IsWantOfMemory, most_bytes}
 use Rattle.plans.specs.Scenarios.{IsRead, IsScenarioFault, StopsReading, first_fault, network_read}
 
 -- where the fault of what was read comes first, reading stops for it
 pub stops_reading : {T : Type 0} (r : Result T Fault) (text : Text) (parts : Parts) (stop : Option Located) → IsRead text parts stop
-    → MatchOption (first_fault (network_fault (network_read parts)) stop) (IfErr r IsWantOfMemory) (λ fault. r ≡ Err fault)
+    → MatchOption (first_fault (network_fault program_limits (network_read parts)) stop) (IfErr r IsWantOfMemory) (λ fault. r ≡ Err fault)
     → IfErr r (λ e. IsWantOfMemory e ⊎ IsScenarioFault text e)
-stops_reading {T} r text parts stop read first = by_fault (first_fault (network_fault (network_read parts)) stop) r refl first
+stops_reading {T} r text parts stop read first = by_fault (first_fault (network_fault program_limits (network_read parts)) stop) r refl first
   where
-    by_fault : (o : Option Fault) (r : Result T Fault) → first_fault (network_fault (network_read parts)) stop ≡ o
+    by_fault : (o : Option Fault) (r : Result T Fault) → first_fault (network_fault program_limits (network_read parts)) stop ≡ o
         → MatchOption o (IfErr r IsWantOfMemory) (λ fault. r ≡ Err fault) → IfErr r (λ e. IsWantOfMemory e ⊎ IsScenarioFault text e)
     by_fault None (Ok x) is first = tt
     by_fault None (Err e) is first = inl first

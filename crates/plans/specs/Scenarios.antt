@@ -14,7 +14,7 @@ use Rattle.script.specs.declared.fault.Fault.TheVariants.{BadName}
 use Rattle.script.specs.declared.place.Located.{Located}
 use Rattle.network_model.specs.declared.network.NetworkFault.{NetworkFault}
 use Rattle.network_model.specs.World.{Network}
-use Rattle.network_model.specs.Network.{network_fault}
+use Rattle.network_model.specs.Network.{network_fault, program_limits}
 use Rattle.world.specs.Parts.{network_of}
 use Rattle.plans.specs.declared.fault.Fault.{Fault}
 use Rattle.plans.specs.declared.plan.Plan.{Plan}
@@ -51,7 +51,7 @@ abbrev pub IsScenarioFault : Text → Fault → Type 0
 IsScenarioFault text fault =
     ((fault ≡ unplaced (OfDocument IsNoToml)) × (parse_document text ≡ None))
     ⊎ ((fault ≡ unplaced (OfDocument HasBadKey)) × HasNoLists (parse_document text))
-    ⊎ ((parts : Parts) × (stop : Option Located) × IsRead text parts stop × (first_fault (network_fault (network_read parts)) stop ≡ Some fault))
+    ⊎ ((parts : Parts) × (stop : Option Located) × IsRead text parts stop × (first_fault (network_fault program_limits (network_read parts)) stop ≡ Some fault))
 
 -- ---- plans
 
@@ -64,7 +64,7 @@ pub record IsPlanOf (parts : Parts) (o : Plan) : Type 0 where
 -- a text that is read to its end, of which a network can be opened
 pub record IsScenario (text : Text) (parts : Parts) : Type 0 where
   pub read : IsRead text parts None
-  pub no_fault : network_fault (network_read parts) ≡ None
+  pub no_fault : network_fault program_limits (network_read parts) ≡ None
 
 -- why no network can be opened of a file of these bytes: the file is not read, memory runs out, or its text is at fault
 abbrev pub StopsReading : Text → Fault → Type 0

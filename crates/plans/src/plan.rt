@@ -1,7 +1,7 @@
 //! Reads the network of a scenario, and the commands of its script.
 
 ghost use Rattle.std.specs.Prelude.{◌≡◌, ◌⊎◌, Err, IfOk, IfErr, MatchOption};
-ghost use Rattle.network_model.specs.Network.{network_fault};
+ghost use Rattle.network_model.specs.Network.{network_fault, program_limits};
 ghost use Rattle.script.specs.Seen.{script_parts};
 ghost use Rattle.plans.specs.Faults.{IsWantOfMemory};
 ghost use Rattle.plans.specs.Scenarios.{IsScenario, IsPlanOf, IsScenarioFault, first_fault, network_read, is_name_fault as is_of_name};
@@ -41,7 +41,7 @@ pub fn read_plan(alloc: Global, text: &str) -> Result<Plan, Fault>
 fn plan_of(alloc: Global, reading: Reading) -> Result<Plan, Fault>
     ensures ok { IfOk result (IsPlanOf (script_parts reading.script)) }
     ensures fault { MatchOption (first_fault
-        (network_fault (network_read (script_parts reading.script))) reading.fault)
+        (network_fault program_limits (network_read (script_parts reading.script))) reading.fault)
         (IfErr result IsWantOfMemory) (λ fault. result ≡ Err fault) }
 {
     let Reading { script, fault } = reading;

@@ -182,7 +182,7 @@ where
 {
     let text = read_text(alloc, scenario)?;
     let plan = read_plan(alloc, text.as_str())?;
-    let unnamed = Unnamed::many(alloc, usize::from(plan.network.routers()))?;
+    let unnamed = Unnamed::many(alloc, plan.network.routers())?;
     run_plan::<Brand, H, G, W, E>(rt, alloc, plan, unnamed, options, gate, out, err, kept)?;
     Ok(End::Done)
 }

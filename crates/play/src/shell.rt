@@ -47,7 +47,7 @@ where
 {
     let text = read_text(alloc, scenario)?;
     let plan = read_plan(alloc, text.as_str())?;
-    let unnamed = Unnamed::many(alloc, usize::from(plan.network.routers()))?;
+    let unnamed = Unnamed::many(alloc, plan.network.routers())?;
     open_shell::<Brand, H, J, W, E>(rt, alloc, plan, unnamed, input, explain, out, err, kept)?;
     Ok(End::Done)
 }

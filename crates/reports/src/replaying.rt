@@ -64,7 +64,7 @@ where
         network.attachments(),
         &lines,
     )?;
-    let unnamed = Unnamed::many(alloc, usize::from(network.routers()))?;
+    let unnamed = Unnamed::many(alloc, network.routers())?;
     let printer = Printer {
         directory: &directory,
         format,

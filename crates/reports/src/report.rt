@@ -56,7 +56,7 @@ pub fn print_report<B: FabricName, W: Write>(
     print_routers(printer, world, out)
 }
 
-// Prints each link. A network has fewer than 65535.
+// Prints each link, up to the 65535th. A network of the program has no more than 1024.
 fn print_links<W: Write>(printer: &Printer<'_>, links: &Links, out: &mut W) -> io::Result<()>
     ensures { OnOk result (Prints (W.contents out.old) (W.contents out.new)) }
 {
@@ -67,7 +67,8 @@ fn print_links<W: Write>(printer: &Printer<'_>, links: &Links, out: &mut W) -> i
     Ok(())
 }
 
-// Prints each router, with its machines. A network has fewer than 65535 routers.
+// Prints each router, up to the 65535th, with its machines. A network of the program has no more than
+// 256.
 fn print_routers<W: Write>(printer: &Printer<'_>, world: &World, out: &mut W) -> io::Result<()>
     ensures { OnOk result (Prints (W.contents out.old) (W.contents out.new)) }
 {

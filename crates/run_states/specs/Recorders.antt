@@ -1,9 +1,9 @@
 -- When a recorder shows a world as it is, and what becomes of it.
-use Rattle.std.specs.Prelude.{◌≡◌, ◌<◌, ◌≤◌, ◌^◌, ℕ, List, [], ◌∷◌, Bool, false, true, is_some, None, Some, All, length, map, slice_get, slice_set, vec_len}
+use Rattle.std.specs.Prelude.{◌≡◌, ◌<◌, ◌≤◌, ℕ, List, [], ◌∷◌, Bool, false, true, is_some, None, Some, All, length, map, slice_get, slice_set, vec_len}
 use Rattle.std.specs.FinMap.{find as row_of, is_sorted}
 use Rattle.std.specs.List.{list_any}
 use Rattle.ipv4_prefix.specs.Prefix.{Prefix, prefix_cmp, prefix_eq}
-use Rattle.network_model.specs.Network.{most_links}
+use Rattle.network_model.specs.Network.{most_links, most_routers}
 use Rattle.network_model.specs.World.{Attachments, Link, Router, World}
 use Rattle.run_states.specs.declared.link_book.LinkBook.{LinkBook}
 use Rattle.run_states.specs.declared.link_book.LinkChange.{LinkChange}
@@ -19,7 +19,7 @@ pub record IsRecorderOf (w : World) (r : Recorder) : Type 0 where
   pub links : vec_len r.links ≡ length w.links
   pub routers : vec_len r.routers ≡ length w.routers
   pub few_links : vec_len r.links ≤ most_links
-  pub few_routers : vec_len r.routers < 2 ^ 16
+  pub few_routers : vec_len r.routers ≤ most_routers
   pub places : All (HasPlaces (vec_len r.prefixes)) (r.routers).items
 
 -- these are the prefixes to which some router is attached, in their order, each once: the keys of a map that has them and no others

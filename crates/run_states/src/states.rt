@@ -1,10 +1,10 @@
 //! The states of a run.
 
-ghost use Rattle.std.specs.Prelude.{◌≡◌, ◌<◌, IfOk, Some, [], ◌∷◌, List, MatchOption, OnOk, false, length, map, option_map, string_bytes, take};
+ghost use Rattle.std.specs.Prelude.{◌≡◌, ◌<◌, ◌≤◌, IfOk, Some, [], ◌∷◌, List, MatchOption, OnOk, false, length, map, option_map, string_bytes, take};
 ghost use Rattle.std.specs.Io.KnownBytes.{Appends};
 ghost use Rattle.std.specs.List.{range_with_len};
 ghost use Rattle.ipv4_prefix.specs.Texts.{prefix_text};
-ghost use Rattle.network_model.specs.Network.{IsNetwork};
+ghost use Rattle.network_model.specs.Network.{IsNetwork, most_routers};
 ghost use Rattle.network_model.specs.Run.{Runs};
 ghost use Rattle.network_model.specs.Step.{refusal};
 ghost use Rattle.network_model.specs.World as model;
@@ -219,13 +219,18 @@ fn opening_value(
 }
 
 // The names of so many routers.
-fn name_values(alloc: Global, directory: &Directory, routers: u16) -> Result<Vec<Value>, AllocError>
+fn name_values(
+    alloc: Global,
+    directory: &Directory,
+    routers: usize,
+) -> Result<Vec<Value>, AllocError>
+    requires { routers ≤ most_routers }
     ensures { IfOk result (λ v. map view v.items
         ≡ map (λ i. word (name_text directory.now (Some i))) (range_with_len 0 routers)) }
 {
     let mut values = Vec::new(alloc);
     for router in 0..routers {
-        values.push(Value::try_from_str(alloc, directory.name(Some(router)))?)?;
+        values.push(Value::try_from_str(alloc, directory.name(Some(router as u16)))?)?;
     }
     Ok(values)
 }

@@ -8,7 +8,7 @@ use Rattle.metric.specs.Distance.{IsCost}
 use Rattle.network_model.specs.declared.network.LinkSpec.{LinkSpec}
 use Rattle.network_model.specs.declared.step.Step.{Step}
 use Rattle.network_model.specs.declared.step.Step.TheVariants.{LinkUp, LinkDown, SetCost, Deliver, Publish, Release, Attach, Detach}
-use Rattle.network_model.specs.Network.{most_links, degree, joins}
+use Rattle.network_model.specs.Network.{program_limits, degree, joins}
 use Rattle.network_model.specs.World.{places_from}
 use Rattle.script.specs.declared.command.Command.{Command}
 use Rattle.script.specs.declared.fault.Fault.{Fault}
@@ -20,7 +20,7 @@ use Rattle.script.specs.Routers.{router_number}
 
 -- the link of two routers: the first that joins them, of as many as a network can have
 abbrev pub link_between : ℕ → ℕ → List LinkSpec → Option ℕ
-link_between a b links = position (joins a b) (take most_links links)
+link_between a b links = position (joins a b) (take program_limits.links links)
 
 -- the router's port lies on the link, in a network of these links
 abbrev pub IsPortOn : List LinkSpec → ℕ → ℕ → ℕ → Type 0

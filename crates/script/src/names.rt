@@ -12,7 +12,7 @@ use std::alloc::Global;
 use std::collections::BTreeMap;
 use std::marker::Model;
 
-/// The number of no router: a network has at most 256.
+/// The number of no router: a network of the program has at most 256.
 pub(crate) const NO_ROUTER: u16 = u16::MAX;
 
 /// The names of a network's routers, in the order of their numbers. A name has 1 to 16 characters,

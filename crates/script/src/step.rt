@@ -11,7 +11,7 @@ use crate::names::Names;
 use crate::operand::{is_known, read_prefix, read_router};
 use ipv4_prefix::Prefix;
 use metric::Cost;
-use network_model::{LinkSpec, MOST_LINKS, Step};
+use network_model::{Limits, LinkSpec, Step};
 use texts::{first_word, read_number, three_words, two_words};
 
 // A router, and a link that touches it.
@@ -179,11 +179,11 @@ fn way_between(names: &Names, links: &[LinkSpec], name: &str, neighbour: &str) -
     Ok(Way { router, link })
 }
 
-// The link of two routers. A network has at most 1024 links, so that no later one is looked at.
+// The link of two routers. The program's networks have at most 1024 links, so that no later one is looked at.
 fn link_between(links: &[LinkSpec], a: u16, b: u16) -> Option<u16>
     ensures { result ≡ first_between a b links.now }
 {
-    let first = &links[..links.len().min(MOST_LINKS)];
+    let first = &links[..links.len().min(Limits::PROGRAM.links)];
     let link = place_between(first, a, b)?;
     Some(link as u16)
 }

@@ -3,7 +3,6 @@
 ghost use Rattle.std.specs.Prelude.{◌≡◌, ◌≢◌, ◌≤◌, ◌<◌, ◌⊎◌, false, length, vec_len, Err, IfOk, IfErr};
 ghost use Rattle.ipv4_prefix.specs.Prefix.{Prefix};
 ghost use Rattle.network_model.specs.Forwarding as model;
-ghost use Rattle.network_model.specs.Network.{most_routers};
 ghost use Rattle.fabric.specs.Fabric.{ForwardsAsPublished};
 ghost use Rattle.fabric.specs.Headline.{IsImageWalk, IsImageWay, none_published};
 ghost use Rattle.all_packets.specs.Packets.{IsWay};
@@ -20,9 +19,8 @@ use network_model::{Ending, Prefix, Trace};
 use std::alloc::Global;
 
 // The number of routers, and what holds of the traces of every fabric: its journal is a run.
-fn router_count<B: FabricName>(fabric: &Fabric<B>) -> u16
+fn router_count<B: FabricName>(fabric: &Fabric<B>) -> usize
     ensures count { result ≡ length (fabric.now).world.routers }
-    ensures few { result ≤ most_routers }
     ensures links { HasLinksOfPorts (fabric.now).world }
     ensures routers { LeadsToRouters (fabric.now).world }
     ensures traces { TracesEnd (fabric.now).world }
@@ -52,7 +50,7 @@ pub fn trace<B: FabricName>(
     ensures in_force { IfOk result (λ t. (p : Prefix)
         × IsImageWalk fabric.old none_published addr p t.path.items) }
     ensures no_loop { IfOk result (λ t. meets_twice t.path.items ≡ false) }
-    ensures few { IfOk result (λ t. vec_len t.path ≤ most_routers) }
+    ensures few { IfOk result (λ t. vec_len t.path ≤ length (fabric.old).world.routers) }
     ensures unknown { length (fabric.old).world.routers ≤ router → result
         ≡ Err TraceFault.UnknownRouter }
     ensures err { router < length (fabric.old).world.routers → IfErr result
@@ -79,7 +77,7 @@ pub fn trace_through<B: FabricName>(
     ensures in_force { IfOk result (λ t. IsImageWay fabric.old none_published addr t.path.items) }
     ensures no_loop { IfOk result (λ t. meets_twice t.path.items ≡ false) }
     ensures ended { IfOk result (λ t. t.end ≢ Ending.Crossed) }
-    ensures few { IfOk result (λ t. vec_len t.path ≤ most_routers) }
+    ensures few { IfOk result (λ t. vec_len t.path ≤ length (fabric.old).world.routers) }
     ensures unknown { length (fabric.old).world.routers ≤ router → result
         ≡ Err TraceFault.UnknownRouter }
     ensures err { router < length (fabric.old).world.routers → IfErr result
@@ -108,7 +106,7 @@ fn follow<B: FabricName>(
 ) -> Result<Trace, TraceFault>
     ensures ok { IfOk result (λ t. (router < length (fabric.old).world.routers)
         × (model.trace_of t ≡ followed through (fabric.old).world router addr)) }
-    ensures few { IfOk result (λ t. vec_len t.path ≤ most_routers) }
+    ensures few { IfOk result (λ t. vec_len t.path ≤ length (fabric.old).world.routers) }
     ensures unknown { length (fabric.old).world.routers ≤ router → result
         ≡ Err TraceFault.UnknownRouter }
     ensures err { router < length (fabric.old).world.routers → IfErr result
@@ -116,7 +114,7 @@ fn follow<B: FabricName>(
     ensures same { fabric.new ≡ fabric.old }
 {
     let routers = router_count(fabric);
-    if router >= routers {
+    if usize::from(router) >= routers {
         return Err(TraceFault::UnknownRouter);
     }
     let mut path = Vec::new(alloc);
