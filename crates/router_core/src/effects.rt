@@ -98,7 +98,15 @@ impl<A: SmallAllocator> Effects<A> {
         ensures table { IfOk result (λ e. e.table ≡ table) }
         ensures gate { IfOk result (λ e. e.gate.gate ≡ empty) }
     {
-        let mut gate = Gate::new(alloc);
+        Effects::with_room(alloc, table, Gate::new(alloc))
+    }
+
+    // Makes the room that there always is.
+    fn with_room(alloc: A, table: RouteTable<A>, gate: Gate<A>) -> Result<Effects<A>, NoMemory>
+        ensures table { IfOk result (λ e. e.table ≡ table) }
+        ensures gate { IfOk result (λ e. e.gate.gate ≡ gate.gate) }
+    {
+        let mut gate = gate;
         let mut sends = Sends::new(alloc);
         gate.reserve(KEPT_ROOM)?;
         sends.reserve(KEPT_ROOM)?;
@@ -111,11 +119,8 @@ impl<A: SmallAllocator> Effects<A> {
         ensures gate { IfOk result (λ e. e.gate.gate ≡ self.now.gate.gate) }
     {
         let table = self.table.copy(alloc)?;
-        let mut gate = self.gate.copy(alloc)?;
-        let mut sends = Sends::new(alloc);
-        gate.reserve(KEPT_ROOM)?;
-        sends.reserve(KEPT_ROOM)?;
-        Ok(Effects { table, gate, sends })
+        let gate = self.gate.copy(alloc)?;
+        Effects::with_room(alloc, table, gate)
     }
 
     /// Room for this many messages more to be held.

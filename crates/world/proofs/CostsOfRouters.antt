@@ -1,18 +1,17 @@
 -- The costs of each router's attachments, in whichever order the attachments are met.
-use Rattle.std.proofs.Common.{refl, sym, ap, subst, ◌∙◌, arith, inl, inr, ◌≡◌, ◌⊎◌, ℕ, ◌+◌, ◌<◌, Bool, true, false, cond, not, ◌&&◌, ◌||◌, ◌==◌, nat_lt, List, [], ◌∷◌, ◌++◌, map, filter, length, Option, Some, None, Contains, eqb-true, eq-eqb, true≢false, ltb-true, append-nil}
+use Rattle.std.proofs.Common.{refl, sym, ap, subst, ◌∙◌, arith, inl, inr, ◌≡◌, ◌⊎◌, ℕ, ◌<◌, Bool, true, false, cond, not, ◌&&◌, ◌||◌, ◌==◌, nat_lt, List, [], ◌∷◌, ◌++◌, map, filter, length, Option, Some, None, Contains, eqb-true, eq-eqb, true≢false, ltb-true, append-nil}
 use Rattle.std.specs.FinMap.{find}
 use Rattle.std.specs.FinMap.Entries.{same_entries}
 use Rattle.std.specs.List.Sorted.{IsPermutation}
-use Rattle.std.proofs.lemmas.Bool.{false≢true, false_from_ne_true, or_parts}
+use Rattle.std.proofs.lemmas.Bool.{false_from_ne_true, or_parts}
 use Rattle.std.proofs.lemmas.List.Elements.{Contains-append_left, Contains-push}
 use Rattle.std.proofs.lemmas.List.Sorted.{Contains-permutation, IsPermutation-sym}
 use Rattle.ipv4_prefix.proofs.LongestMatches.{Contains-cases}
 use Rattle.ipv4_prefix.proofs.PrefixOrder.{prefix_cmp-tied}
 use Rattle.ipv4_prefix.proofs.SortedRows.{to_T}
 use Rattle.network_model.proofs.RowLaws.{sorted-rows_of}
-use Rattle.packet_loops.proofs.Common.{put, find-put, list_any, list_any-append, range_with_len, changed_at, map-append, filter-append, Contains-first, Contains-later, Prefix, prefix_cmp, prefix_eq, prefix_cmp_total, prefix_eq-Decides, Network, Limits, NetworkFault, BadOwner, first_cause, first_none, has_same_prefix, is_bad_attachment, attachment_causes, prefixes_of, rows_of, costs_of, Some_injective, None_not_Some}
+use Rattle.packet_loops.proofs.Common.{find-put, list_any, range_with_len, changed_at, map-append, filter-append, Contains-first, Contains-later, Prefix, prefix_cmp, prefix_eq, prefix_cmp_total, prefix_eq-Decides, Limits, BadOwner, first_cause, first_none, has_same_prefix, is_bad_attachment, attachment_causes, prefixes_of, rows_of, Some_injective, None_not_Some}
 use Rattle.world.proofs.ByRouter.{changed_one, same_range}
-use Rattle.world.proofs.Prefixes.{prefix_eq-turned}
 
 -- what is put at a router: the prefixes of its attachments with the costs
 abbrev pub own_rows : ℕ → List (Prefix × ℕ × ℕ) → List (Prefix × ℕ)
@@ -38,24 +37,26 @@ AreApart attachments = (a b : Prefix × ℕ × ℕ) → Contains attachments a �
 -- what is found at a router is one of the attachments
 found_is : (i : ℕ) (p : Prefix) (attachments : List (Prefix × ℕ × ℕ)) (c : ℕ) → find prefix_cmp p (own_rows i attachments) ≡ Some c → Contains attachments (p, i, c)
 found_is i p [] c found = absurd (None_not_Some found)
-found_is i p (a ∷ rest) c found = by_router (a.1 == i) refl found
+found_is i p (a ∷ rest) c found = by_router (a.1 == i) refl found (found_is i p rest c)
   where
-    by_prefix : (t : Bool) → prefix_eq p a.0 ≡ t → a.1 ≡ i → cond t (Some a.2) (find prefix_cmp p (own_rows i rest)) ≡ Some c → Contains (a ∷ rest) (p, i, c)
-    by_prefix true same at is =
+    by_prefix : (t : Bool) → prefix_eq p a.0 ≡ t → a.1 ≡ i → cond t (Some a.2) (find prefix_cmp p (own_rows i rest)) ≡ Some c
+        → (find prefix_cmp p (own_rows i rest) ≡ Some c → Contains rest (p, i, c)) → Contains (a ∷ rest) (p, i, c)
+    by_prefix true same at is later =
         let prefix : a.0 ≡ p = sym ((prefix_eq-Decides p a.0).0 same) in
         let cost : a.2 ≡ c = Some_injective is in
         let whole : a ≡ (p, i, c) = λ j. (prefix j, at j, cost j) in
         subst (λ x. Contains (x ∷ rest) (p, i, c)) (sym whole) (Contains-first (p, i, c) rest)
-    by_prefix false other at is = Contains-later a rest (p, i, c) (found_is i p rest c is)
+    by_prefix false other at is later = Contains-later a rest (p, i, c) (later is)
 
-    by_router : (t : Bool) → (a.1 == i) ≡ t → find prefix_cmp p (map (λ x. (x.0, x.2)) (cond t (a ∷ filter (λ x. x.1 == i) rest) (filter (λ x. x.1 == i) rest))) ≡ Some c → Contains (a ∷ rest) (p, i, c)
-    by_router true at is = by_prefix (prefix_eq p a.0) refl (eqb-true a.1 i at) is
-    by_router false off is = Contains-later a rest (p, i, c) (found_is i p rest c is)
+    by_router : (t : Bool) → (a.1 == i) ≡ t → find prefix_cmp p (map (λ x. (x.0, x.2)) (cond t (a ∷ filter (λ x. x.1 == i) rest) (filter (λ x. x.1 == i) rest))) ≡ Some c
+        → (find prefix_cmp p (own_rows i rest) ≡ Some c → Contains rest (p, i, c)) → Contains (a ∷ rest) (p, i, c)
+    by_router true at is later = by_prefix (prefix_eq p a.0) refl (eqb-true a.1 i at) is later
+    by_router false off is later = Contains-later a rest (p, i, c) (later is)
 
 -- an attachment of a router is found there, or another of the same prefix
 is_found : (i : ℕ) (p : Prefix) (attachments : List (Prefix × ℕ × ℕ)) (c : ℕ) → Contains attachments (p, i, c) → find prefix_cmp p (own_rows i attachments) ≡ None → ⊥
 is_found i p [] c there none = absurd (omega (arith, there.1))
-is_found i p (a ∷ rest) c there none = by_place (Contains-cases a rest (p, i, c) there)
+is_found i p (a ∷ rest) c there none = by_place (Contains-cases a rest (p, i, c) there) (is_found i p rest c)
   where
     by_prefix : (t : Bool) → cond t (Some a.2) (find prefix_cmp p (own_rows i rest)) ≡ None → find prefix_cmp p (own_rows i rest) ≡ None
     by_prefix true is = absurd (None_not_Some (sym is))
@@ -71,9 +72,9 @@ is_found i p (a ∷ rest) c there none = by_place (Contains-cases a rest (p, i, 
         let same : prefix_eq p a.0 ≡ true = (prefix_eq-Decides p a.0).1 (sym (ap (λ x. x.0) is)) in
         None_not_Some (sym (ap (λ t. find prefix_cmp p (map (λ x. (x.0, x.2)) (cond t (a ∷ filter (λ x. x.1 == i) rest) (filter (λ x. x.1 == i) rest)))) (sym at) ∙ none) ∙ ap (λ t. cond t (Some a.2) (find prefix_cmp p (own_rows i rest))) same)
 
-    by_place : (a ≡ (p, i, c)) ⊎ Contains rest (p, i, c) → ⊥
-    by_place (inl is) = here is
-    by_place (inr later) = is_found i p rest c later (by_router (a.1 == i) none)
+    by_place : (a ≡ (p, i, c)) ⊎ Contains rest (p, i, c) → (Contains rest (p, i, c) → find prefix_cmp p (own_rows i rest) ≡ None → ⊥) → ⊥
+    by_place (inl is) behind = here is
+    by_place (inr later) behind = behind later (by_router (a.1 == i) none)
 
 -- so in another order each router has the same costs
 pub costs_in_any_order : (xs ys : List (Prefix × ℕ × ℕ)) → IsPermutation xs ys → AreApart xs → (i : ℕ) → rows_of (own_rows i ys) ≡ rows_of (own_rows i xs)
@@ -117,14 +118,14 @@ clash a b same at =
 -- an element that passes is among them
 none_passes : {X : Type 0} (test : X → Bool) (xs : List X) (x : X) → list_any test xs ≡ false → Contains xs x → test x ≡ true → ⊥
 none_passes test [] x none there passes = absurd (omega (arith, there.1))
-none_passes test (y ∷ ys) x none there passes = by_place (Contains-cases y ys x there)
+none_passes test (y ∷ ys) x none there passes = by_place (Contains-cases y ys x there) (none_passes test ys x)
   where
     parts : (test y ≡ false) × (list_any test ys ≡ false)
     parts = or_parts (test y) (list_any test ys) none
 
-    by_place : (y ≡ x) ⊎ Contains ys x → ⊥
-    by_place (inl is) = true≢false (sym passes ∙ ap test (sym is) ∙ parts.0)
-    by_place (inr later) = none_passes test ys x parts.1 later passes
+    by_place : (y ≡ x) ⊎ Contains ys x → (list_any test ys ≡ false → Contains ys x → test x ≡ true → ⊥) → ⊥
+    by_place (inl is) behind = true≢false (sym passes ∙ ap test (sym is) ∙ parts.0)
+    by_place (inr later) behind = behind parts.1 later passes
 
 -- the first of these attachments, and the others
 first_attachment : (limits : Limits) (routers : ℕ) (before : List (Prefix × ℕ × ℕ)) (a : Prefix × ℕ × ℕ) (rest : List (Prefix × ℕ × ℕ)) → first_cause (attachment_causes limits routers before (a ∷ rest)) ≡ None
@@ -137,41 +138,43 @@ first_attachment limits routers before a rest none =
 -- each is at a router of the network
 pub known_router : (limits : Limits) (routers : ℕ) (before rest : List (Prefix × ℕ × ℕ)) → first_cause (attachment_causes limits routers before rest) ≡ None → (x : Prefix × ℕ × ℕ) → Contains rest x → x.1 < routers
 known_router limits routers before [] none x there = absurd (omega (arith, there.1))
-known_router limits routers before (a ∷ rest) none x there = by_place (Contains-cases a rest x there)
+known_router limits routers before (a ∷ rest) none x there = by_place (Contains-cases a rest x there) (λ onward. known_router limits routers (before ++ a ∷ []) rest onward x)
   where
     parts : CanBe routers before a × (first_cause (attachment_causes limits routers (before ++ a ∷ []) rest) ≡ None)
     parts = first_attachment limits routers before a rest none
 
-    by_place : (a ≡ x) ⊎ Contains rest x → x.1 < routers
-    by_place (inl is) = subst (λ (y : Prefix × ℕ × ℕ). y.1 < routers) is (parts.0).known
-    by_place (inr later) = known_router limits routers (before ++ a ∷ []) rest parts.1 x later
+    by_place : (a ≡ x) ⊎ Contains rest x → (first_cause (attachment_causes limits routers (before ++ a ∷ []) rest) ≡ None → Contains rest x → x.1 < routers) → x.1 < routers
+    by_place (inl is) behind = subst (λ (y : Prefix × ℕ × ℕ). y.1 < routers) is (parts.0).known
+    by_place (inr later) behind = behind parts.1 later
 
 -- one that is given before clashes with none
 new_after : (limits : Limits) (routers : ℕ) (before rest : List (Prefix × ℕ × ℕ)) → first_cause (attachment_causes limits routers before rest) ≡ None → (b x : Prefix × ℕ × ℕ) → Contains before b → Contains rest x
     → x.0 ≡ b.0 → x.1 ≡ b.1 → ⊥
 new_after limits routers before [] none b x given there same at = absurd (omega (arith, there.1))
-new_after limits routers before (a ∷ rest) none b x given there same at = by_place (Contains-cases a rest x there)
+new_after limits routers before (a ∷ rest) none b x given there same at = by_place (Contains-cases a rest x there) (λ onward. new_after limits routers (before ++ a ∷ []) rest onward b x)
   where
     parts : CanBe routers before a × (first_cause (attachment_causes limits routers (before ++ a ∷ []) rest) ≡ None)
     parts = first_attachment limits routers before a rest none
 
-    by_place : (a ≡ x) ⊎ Contains rest x → ⊥
-    by_place (inl is) = none_passes (λ y. has_same_prefix a y && (y.1 == a.1)) before b (parts.0).new_there given (clash a b (ap (λ y. y.0) is ∙ same) (ap (λ y. y.1) is ∙ at))
-    by_place (inr later) = new_after limits routers (before ++ a ∷ []) rest parts.1 b x (Contains-append_left before (a ∷ []) b given) later same at
+    by_place : (a ≡ x) ⊎ Contains rest x
+        → (first_cause (attachment_causes limits routers (before ++ a ∷ []) rest) ≡ None → Contains (before ++ a ∷ []) b → Contains rest x → x.0 ≡ b.0 → x.1 ≡ b.1 → ⊥) → ⊥
+    by_place (inl is) behind = none_passes (λ y. has_same_prefix a y && (y.1 == a.1)) before b (parts.0).new_there given (clash a b (ap (λ y. y.0) is ∙ same) (ap (λ y. y.1) is ∙ at))
+    by_place (inr later) behind = behind parts.1 (Contains-append_left before (a ∷ []) b given) later same at
 
 -- no router has a prefix twice
 pub are_apart : (limits : Limits) (routers : ℕ) (before rest : List (Prefix × ℕ × ℕ)) → first_cause (attachment_causes limits routers before rest) ≡ None → AreApart rest
 are_apart limits routers before [] none x y here there same at = absurd (omega (arith, here.1))
-are_apart limits routers before (a ∷ rest) none x y here there same at = by_places (Contains-cases a rest x here) (Contains-cases a rest y there)
+are_apart limits routers before (a ∷ rest) none x y here there same at = by_places (Contains-cases a rest x here) (Contains-cases a rest y there) (λ fine. are_apart limits routers (before ++ a ∷ []) rest fine x y)
   where
     onward : first_cause (attachment_causes limits routers (before ++ a ∷ []) rest) ≡ None
     onward = (first_attachment limits routers before a rest none).1
 
-    by_places : (a ≡ x) ⊎ Contains rest x → (a ≡ y) ⊎ Contains rest y → x ≡ y
-    by_places (inl is) (inl is_too) = sym is ∙ is_too
-    by_places (inl is) (inr later) = absurd (new_after limits routers (before ++ a ∷ []) rest onward a y (Contains-push before a) later (sym same ∙ ap (λ z. z.0) (sym is)) (sym at ∙ ap (λ z. z.1) (sym is)))
-    by_places (inr later) (inl is) = absurd (new_after limits routers (before ++ a ∷ []) rest onward a x (Contains-push before a) later (same ∙ ap (λ z. z.0) (sym is)) (at ∙ ap (λ z. z.1) (sym is)))
-    by_places (inr later) (inr later_too) = are_apart limits routers (before ++ a ∷ []) rest onward x y later later_too same at
+    by_places : (a ≡ x) ⊎ Contains rest x → (a ≡ y) ⊎ Contains rest y
+        → (first_cause (attachment_causes limits routers (before ++ a ∷ []) rest) ≡ None → Contains rest x → Contains rest y → x.0 ≡ y.0 → x.1 ≡ y.1 → x ≡ y) → x ≡ y
+    by_places (inl is) (inl is_too) behind = sym is ∙ is_too
+    by_places (inl is) (inr later) behind = absurd (new_after limits routers (before ++ a ∷ []) rest onward a y (Contains-push before a) later (sym same ∙ ap (λ z. z.0) (sym is)) (sym at ∙ ap (λ z. z.1) (sym is)))
+    by_places (inr later) (inl is) behind = absurd (new_after limits routers (before ++ a ∷ []) rest onward a x (Contains-push before a) later (same ∙ ap (λ z. z.0) (sym is)) (at ∙ ap (λ z. z.1) (sym is)))
+    by_places (inr later) (inr later_too) behind = behind onward later later_too same at
 
 -- ---- one attachment more
 

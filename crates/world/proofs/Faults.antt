@@ -1,5 +1,5 @@
 -- The faults of a network, one link or attachment after another.
-use Rattle.std.proofs.Common.{refl, sym, ap, ◌∙◌, arith, add-one, ◌≡◌, ℕ, suc, ◌+◌, ◌<◌, ◌≤◌, Bool, true, false, not, ◌&&◌, ◌==◌, nat_le, List, [], ◌∷◌, ◌++◌, take, drop, length, get_or, Option, Some, None, is_some, if◌then◌else◌, true≢false, lt-ltb, le-leb, length-take-le}
+use Rattle.std.proofs.Common.{refl, sym, ap, ◌∙◌, arith, add-one, ◌≡◌, ℕ, suc, ◌+◌, ◌<◌, ◌≤◌, Bool, true, false, not, ◌&&◌, nat_le, List, [], ◌∷◌, ◌++◌, take, drop, length, get_or, Option, Some, None, is_some, if◌then◌else◌, true≢false, lt-ltb, le-leb, length-take-le}
 use Rattle.std.proofs.Math.Seq.{take-suc, drop-cons}
 use Rattle.packet_loops.proofs.Common.{drop_all, list_any, has_same_ends, Prefix, LinkSpec, NetworkFault, BadRouters, BadLink, TooManyLinks, BadOwner, first_cause, link_causes, attachment_causes, is_bad_link, is_link_too_many, is_bad_attachment, network_fault, Limits, first_cause-some, first_cause-none}
 use Rattle.world.specs.Parts.{network_of}
@@ -7,10 +7,10 @@ use Rattle.world.specs.Parts.{network_of}
 -- ---- causes before others
 
 -- two tests before the others
-two_tests : {X : Type 0} (a b : Bool) (x y : X) (cs : List (Bool × X)) → a ≡ true → first_cause ((a, x) ∷ (b, y) ∷ cs) ≡ Some x
+pub two_tests : {X : Type 0} (a b : Bool) (x y : X) (cs : List (Bool × X)) → a ≡ true → first_cause ((a, x) ∷ (b, y) ∷ cs) ≡ Some x
 two_tests a b x y cs holds = ap (λ t. if t then Some x else first_cause ((b, y) ∷ cs)) holds
 
-second_test : {X : Type 0} (a b : Bool) (x y : X) (cs : List (Bool × X)) → a ≡ false → b ≡ true → first_cause ((a, x) ∷ (b, y) ∷ cs) ≡ Some y
+pub second_test : {X : Type 0} (a b : Bool) (x y : X) (cs : List (Bool × X)) → a ≡ false → b ≡ true → first_cause ((a, x) ∷ (b, y) ∷ cs) ≡ Some y
 second_test a b x y cs fails holds = ap (λ t. if t then Some x else first_cause ((b, y) ∷ cs)) fails ∙ ap (λ t. if t then Some y else first_cause cs) holds
 
 pub no_test : {X : Type 0} (a b : Bool) (x y : X) (cs : List (Bool × X)) → a ≡ false → b ≡ false → first_cause ((a, x) ∷ (b, y) ∷ cs) ≡ first_cause cs

@@ -16,4 +16,4 @@ pub mod LinksAtRouters
 pub mod Wider
 pub mod GivenSets
 pub mod CostsOfRouters
-pub mod Reads
+pub mod Elements

@@ -1,6 +1,6 @@
 -- A network without faults within some limits has none within wider ones.
-use Rattle.std.proofs.Common.{refl, sym, ap, ◌∙◌, arith, ◌≡◌, ℕ, ◌+◌, ◌<◌, ◌≤◌, Bool, true, false, not, ◌&&◌, ◌||◌, ◌==◌, nat_lt, nat_le, List, [], ◌∷◌, ◌++◌, length, Some, None, true≢false, ltb-true, lt-ltb, leb-true}
-use Rattle.packet_loops.proofs.Common.{list_any, AreWithin, Limits, Prefix, LinkSpec, NetworkFault, BadRouters, BadLink, TooManyLinks, BadOwner, Network, prefixes_of, first_cause, first_none, none_in_both, has_same_prefix, is_bad_link, is_link_too_many, is_bad_attachment, link_causes, attachment_causes, degree, network_fault}
+use Rattle.std.proofs.Common.{refl, ap, ◌∙◌, arith, ◌≡◌, ℕ, ◌<◌, ◌≤◌, Bool, true, false, not, ◌&&◌, ◌||◌, ◌==◌, nat_lt, List, [], ◌∷◌, ◌++◌, length, None, true≢false, ltb-true, lt-ltb}
+use Rattle.packet_loops.proofs.Common.{list_any, AreWithin, Limits, Prefix, LinkSpec, NetworkFault, BadLink, TooManyLinks, BadOwner, Network, prefixes_of, first_cause, first_none, has_same_prefix, is_bad_link, is_link_too_many, is_bad_attachment, link_causes, attachment_causes, degree, network_fault}
 use Rattle.world.proofs.Faults.{no_test, fault_of_attachments}
 
 -- a number below a limit is below a greater one

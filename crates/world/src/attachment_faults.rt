@@ -114,6 +114,27 @@ impl Given {
         }
     }
 
+    // Whether the prefix of an attachment is given by one of these.
+    fn is_given(&self, before: &[(Prefix, u16, Cost)], attachment: &(Prefix, u16, Cost)) -> bool
+        requires { IsGiven before.now self.now }
+        ensures { result ≡ list_any (valid.has_same_prefix attachment.now) before.now }
+    {
+        self.prefixes.contains(&attachment.0)
+    }
+
+    // Whether the prefix is given by one of these at the same router.
+    fn is_given_there(
+        &self,
+        before: &[(Prefix, u16, Cost)],
+        attachment: &(Prefix, u16, Cost),
+    ) -> bool
+        requires { IsGiven before.now self.now }
+        ensures { result ≡ list_any (λ b. valid.has_same_prefix attachment.now b &&
+            (b.1 == attachment.now.1)) before.now }
+    {
+        self.pairs.contains(&(attachment.0, attachment.1))
+    }
+
     // Whether an attachment cannot be after these.
     fn refuses(
         &self,
@@ -126,8 +147,8 @@ impl Given {
         ensures { result ≡ valid.is_bad_attachment limits.now routers before.now attachment.now }
     {
         !(usize::from(attachment.1) < routers && before.len() < limits.attachments)
-            || self.pairs.contains(&(attachment.0, attachment.1))
-            || !(self.prefixes.contains(&attachment.0) || self.prefixes.len() < limits.prefixes)
+            || self.is_given_there(before, attachment)
+            || !(self.is_given(before, attachment) || self.prefixes.len() < limits.prefixes)
     }
 
     // An attachment is given after these.

@@ -84,6 +84,22 @@ fn fault_by_comparison(limits: &Limits, routers: usize, links: &[LinkSpec]) -> O
 
 // ---- by the links before that touch the same routers
 
+// Whether a link joins the same routers as one of those that touch either of its ends.
+fn has_twin_at_ends(of_a: &[LinkSpec], of_b: &[LinkSpec], link: &LinkSpec) -> bool
+    ensures { result ≡ (list_any (valid.has_same_ends link.now) of_a.now
+        || list_any (valid.has_same_ends link.now) of_b.now) }
+{
+    has_twin(of_a, link) || has_twin(of_b, link)
+}
+
+// Whether there may be one link more, after so many, of which these touch its ends.
+fn has_room(limits: &Limits, number: usize, of_a: &[LinkSpec], of_b: &[LinkSpec]) -> bool
+    ensures { result ≡ (nat_lt number limits.now.links && nat_lt (length of_a.now) limits.now.ports
+        && nat_lt (length of_b.now) limits.now.ports) }
+{
+    number < limits.links && of_a.len() < limits.ports && of_b.len() < limits.ports
+}
+
 // The fault of a link whose ends can be, if it has one, after others, of which these touch either end.
 fn fault_after(
     limits: &Limits,
@@ -99,10 +115,10 @@ fn fault_after(
         ∷ (valid.is_link_too_many limits.now before.now link.now, TooManyLinks (length before.now)) ∷ []) }
 {
     let number = before.len();
-    if has_twin(of_a, link) || has_twin(of_b, link) {
+    if has_twin_at_ends(of_a, of_b, link) {
         return Some(NetworkFault::BadLink { link: number });
     }
-    if !(number < limits.links && of_a.len() < limits.ports && of_b.len() < limits.ports) {
+    if !has_room(limits, number, of_a, of_b) {
         return Some(NetworkFault::TooManyLinks { link: number });
     }
     None

@@ -1,6 +1,6 @@
-use Rattle.std.proofs.Common.{refl, ◌≡◌, ◌+◌, ◌<◌, ◌++◌, ◌∷◌, [], List, sym, ap, ◌∙◌, arith, map, take, filter, get_or, length, add-one}
+use Rattle.std.proofs.Common.{refl, ◌≡◌, ◌+◌, ◌++◌, ◌∷◌, [], sym, ap, ◌∙◌, arith, map, take, filter, get_or, add-one}
 use Rattle.std.proofs.Math.Seq.{take-suc}
-use Rattle.packet_loops.proofs.Common.{LinkSpec, range_with_len, changed_at, touches, is_bad_link, list_any, has_same_ends}
+use Rattle.packet_loops.proofs.Common.{range_with_len, changed_at, touches}
 use Rattle.world.proofs.ByRouter.{made_at, made_count}
 use Rattle.world.proofs.Faults.{bad_link_first, link_fault_first, no_fault_here, link_causes_from-end}
 use Rattle.world.proofs.LinksAtRouters.{HasEnds, bad_ends, bad_by_twin, good_ends, lists_with_link}
@@ -23,7 +23,7 @@ pub index-of_b-requires : goal.index-of_b-requires
 index-of_b-requires c =
     let ends : HasEnds c.args.routers c.index-links-i.result = good_ends c.args.routers c.index-links-i.result (sym c.has_bad_ends.ensures ∙ c.if-has_bad_ends.false) in
     let many = made_count (λ v. v.items) (λ j. filter (touches j) (take c.loop-i.i c.args.links.now)) c.loop-i.lists.items c.args.routers c.loop-i.invariant.lists in
-    omega (arith, c.from-2.ensures, ends.b_known, many, c.loop-i.lists.ok.0)
+    omega (arith, c.from-in-loop-i.ensures, ends.b_known, many, c.loop-i.lists.ok.0)
 
 pub put_at-requires : goal.put_at-requires
 put_at-requires c =
@@ -31,22 +31,22 @@ put_at-requires c =
     let many = made_count (λ v. v.items) (λ j. filter (touches j) (take c.loop-i.i c.args.links.now)) c.loop-i.lists.items c.args.routers c.loop-i.invariant.lists in
     omega (arith, ends.a_known, many, c.loop-i.lists.ok.0)
 
-pub put_at-requires-2 : goal.put_at-requires-2
-put_at-requires-2 c =
+pub put_at-requires-in-loop-i : goal.put_at-requires-in-loop-i
+put_at-requires-in-loop-i c =
     let ends : HasEnds c.args.routers c.index-links-i.result = good_ends c.args.routers c.index-links-i.result (sym c.has_bad_ends.ensures ∙ c.if-has_bad_ends.false) in
     let many = made_count (λ v. v.items) (λ j. filter (touches j) (take c.loop-i.i c.args.links.now)) c.loop-i.lists.items c.args.routers c.loop-i.invariant.lists in
     omega (arith, ends.b_known, many, c.loop-i.lists.ok.0, c.put_at.ensures.len)
 
 -- the lists of the two ends
-pub fault_after-requires : goal.fault_after-requires
-fault_after-requires c =
+pub fault_after-fault-requires : goal.fault_after-fault-requires
+fault_after-fault-requires c =
     let s = c.index-links-i.result in
     let before = take c.loop-i.i c.args.links.now in
     let lists = c.loop-i.lists.items in
     let ends : HasEnds c.args.routers s = good_ends c.args.routers s (sym c.has_bad_ends.ensures ∙ c.if-has_bad_ends.false) in
     record {
       of_a = c.deref.ensures.value ∙ made_at (λ v. v.items) (λ j. filter (touches j) before) lists c.args.routers s.a c.index-of_a.result.now c.loop-i.invariant.lists ends.a_known (c.index-of_a.ensures ∙ ap (λ q. get_or lists q c.index-of_a.result.now) c.from.ensures);
-      of_b = c.deref-2.ensures.value ∙ made_at (λ v. v.items) (λ j. filter (touches j) before) lists c.args.routers s.b c.index-of_b.result.now c.loop-i.invariant.lists ends.b_known (c.index-of_b.ensures ∙ ap (λ q. get_or lists q c.index-of_b.result.now) c.from-2.ensures);
+      of_b = c.deref-in-loop-i.ensures.value ∙ made_at (λ v. v.items) (λ j. filter (touches j) before) lists c.args.routers s.b c.index-of_b.result.now c.loop-i.invariant.lists ends.b_known (c.index-of_b.ensures ∙ ap (λ q. get_or lists q c.index-of_b.result.now) c.from-in-loop-i.ensures);
     }
 
 pub returns-then-is_some : goal.returns-then-is_some

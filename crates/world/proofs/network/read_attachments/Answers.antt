@@ -1,6 +1,6 @@
 use Rattle.std.proofs.Common.{ℕ, subst, arith}
 use Rattle.packet_loops.proofs.Common.{Prefix, IsPrefix, IsCost}
-use Rattle.world.proofs.Reads.{all_more}
+use Rattle.world.proofs.Elements.{all_more}
 use Rattle.world.proofs.network.read_attachments.Goals as goal
 
 pub loop-attachment-init : goal.loop-attachment-init

@@ -1,6 +1,6 @@
 use Rattle.std.proofs.Common.{subst, arith}
 use Rattle.packet_loops.proofs.Common.{HasCosts, IsCost}
-use Rattle.world.proofs.Reads.{all_more}
+use Rattle.world.proofs.Elements.{all_more}
 use Rattle.world.proofs.network.read_links.Goals as goal
 
 pub loop-link-init : goal.loop-link-init

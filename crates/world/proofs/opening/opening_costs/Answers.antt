@@ -1,8 +1,8 @@
-use Rattle.std.proofs.Common.{◌≡◌, ℕ, ◌+◌, ◌<◌, ◌++◌, ◌∷◌, [], List, sym, ap, subst, ◌∙◌, arith, map, take, add-one, take_all, Contains}
+use Rattle.std.proofs.Common.{◌≡◌, ◌+◌, ◌<◌, ◌++◌, ◌∷◌, [], sym, ap, subst, ◌∙◌, arith, map, take, add-one, take_all, Contains}
 use Rattle.std.specs.List.Sorted.{IsPermutation}
 use Rattle.std.proofs.Math.Seq.{take-suc}
 use Rattle.std.proofs.lemmas.List.Sorted.{Contains-permutation, IsPermutation-sym}
-use Rattle.packet_loops.proofs.Common.{Prefix, range_with_len, changed_at, widest_limits}
+use Rattle.packet_loops.proofs.Common.{range_with_len, changed_at, widest_limits}
 use Rattle.world.proofs.ByRouter.{made_count}
 use Rattle.world.proofs.CostsOfRouters.{own_rows, own_more, known_router, are_apart, costs_made}
 use Rattle.world.proofs.Degrees.{parts_fine}
@@ -12,9 +12,10 @@ pub put_at-requires : goal.put_at-requires
 put_at-requires g c =
     let n = c.args.network.now in
     let i = c.loop-attachment.attachment-index in
-    let sorted = c.sort_unstable_by_key.new.self.items in
+    let sorted = c.deref-attachment-items.result.now in
     let here = c.attachment-item.result in
-    let moved : IsPermutation n.attachments sorted = subst (λ xs. IsPermutation xs sorted) (c.in_ok-sorted.ensures.items ∙ c.attachments.ensures.attachments) c.sort_unstable_by_key.ensures.permutation in
+    let moved : IsPermutation n.attachments sorted = subst (λ ys. IsPermutation n.attachments ys) (sym c.deref-attachment-items.ensures.value)
+    (subst (λ xs. IsPermutation xs c.sort_unstable_by_key.new.self.items) (c.in_ok-sorted.ensures.items ∙ c.attachments.ensures.attachments) c.sort_unstable_by_key.ensures.permutation) in
     let there : Contains n.attachments here = Contains-permutation sorted n.attachments here (IsPermutation-sym n.attachments sorted moved) (i, omega arith, sym c.attachment-item.is) in
     let known : here.1 < n.routers = known_router widest_limits n.routers [] n.attachments (parts_fine widest_limits n c.attachments.ensures.valid.no_fault).2 here there in
     let many = made_count (λ v. v.items) (λ j. own_rows j (take i sorted)) c.loop-attachment.own.items n.routers c.loop-attachment.invariant in
@@ -27,9 +28,10 @@ pub loop-attachment-preserved : goal.loop-attachment-preserved
 loop-attachment-preserved g c =
     let n = c.args.network.now in
     let i = c.loop-attachment.attachment-index in
-    let sorted = c.sort_unstable_by_key.new.self.items in
+    let sorted = c.deref-attachment-items.result.now in
     let here = c.attachment-item.result in
-    let moved : IsPermutation n.attachments sorted = subst (λ xs. IsPermutation xs sorted) (c.in_ok-sorted.ensures.items ∙ c.attachments.ensures.attachments) c.sort_unstable_by_key.ensures.permutation in
+    let moved : IsPermutation n.attachments sorted = subst (λ ys. IsPermutation n.attachments ys) (sym c.deref-attachment-items.ensures.value)
+    (subst (λ xs. IsPermutation xs c.sort_unstable_by_key.new.self.items) (c.in_ok-sorted.ensures.items ∙ c.attachments.ensures.attachments) c.sort_unstable_by_key.ensures.permutation) in
     let there : Contains n.attachments here = Contains-permutation sorted n.attachments here (IsPermutation-sym n.attachments sorted moved) (i, omega arith, sym c.attachment-item.is) in
     let known : here.1 < n.routers = known_router widest_limits n.routers [] n.attachments (parts_fine widest_limits n c.attachments.ensures.valid.no_fault).2 here there in
     let taken : take (i + 1) sorted ≡ take i sorted ++ here ∷ []
@@ -43,7 +45,8 @@ pub returns : goal.returns
 returns g c =
     let n = c.args.network.now in
     let i = c.loop-attachment.attachment-index in
-    let sorted = c.sort_unstable_by_key.new.self.items in
-    let moved : IsPermutation n.attachments sorted = subst (λ xs. IsPermutation xs sorted) (c.in_ok-sorted.ensures.items ∙ c.attachments.ensures.attachments) c.sort_unstable_by_key.ensures.permutation in
+    let sorted = c.deref-attachment-items.result.now in
+    let moved : IsPermutation n.attachments sorted = subst (λ ys. IsPermutation n.attachments ys) (sym c.deref-attachment-items.ensures.value)
+    (subst (λ xs. IsPermutation xs c.sort_unstable_by_key.new.self.items) (c.in_ok-sorted.ensures.items ∙ c.attachments.ensures.attachments) c.sort_unstable_by_key.ensures.permutation) in
     costs_made (λ v. v.items) c.loop-attachment.own.items n.attachments sorted n.routers moved (are_apart widest_limits n.routers [] n.attachments (parts_fine widest_limits n c.attachments.ensures.valid.no_fault).2)
     (c.loop-attachment.invariant ∙ ap (λ xs. map (λ j. own_rows j xs) (range_with_len 0 n.routers)) (take_all i sorted c.loop-attachment-test.false))

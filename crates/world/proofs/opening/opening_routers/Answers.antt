@@ -29,7 +29,7 @@ opening_router-requires g c =
     let n = c.args.network.now in
     record {
       places = c.deref.ensures.value ∙ made_at (λ v. v.items) (λ i. places_from 0 i n.links) c.args.places.now n.routers c.loop-router.router c.index-places-router.result c.requires.places (omega arith) c.index-places-router.is;
-      own = ap rows_of c.deref-2.ensures.value ∙ made_at (λ v. rows_of v.items) (costs_of n) c.args.own.now n.routers c.loop-router.router c.index-own-router.result c.requires.own (omega arith) c.index-own-router.is;
+      own = ap rows_of c.deref-in-loop-router.ensures.value ∙ made_at (λ v. rows_of v.items) (costs_of n) c.args.own.now n.routers c.loop-router.router c.index-own-router.result c.requires.own (omega arith) c.index-own-router.is;
     }
 
 pub loop-router-preserved : goal.loop-router-preserved
