@@ -1,4 +1,3 @@
-use linked_list_allocator::LocalHeap;
 use word_pool::Pool;
 
 #[test]
@@ -63,18 +62,4 @@ fn words_stay_where_other_blocks_change(rt: HostRuntime) {
     pool.give(other, 8);
     assert_eq!(rt; (pool.word(block, 0), pool.word(block, 7)), (u32::MAX, 7));
     assert_eq!(rt; (copy.word(block, 0), copy.word(other, 0)), (u32::MAX, 1));
-}
-
-#[test]
-fn takes_have_the_room_that_was_made(rt: HostRuntime) {
-    let heap = LocalHeap::new(rt.alloc(), 4096).expect(&rt, "memory");
-    let mut pool = Pool::new(&heap).expect(&rt, "memory");
-    pool.reserve(2).expect(&rt, "memory");
-    let room = pool.room();
-    let refused = pool.reserve(100).is_err();
-    assert!(rt; room >= 2 && refused);
-    let free = heap.free();
-    let first = pool.take(128).expect(&rt, "memory");
-    let second = pool.take(128).expect(&rt, "memory");
-    assert_eq!(rt; (first, second, heap.free()), (128, 256, free));
 }

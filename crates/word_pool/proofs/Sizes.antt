@@ -4,7 +4,7 @@ use Rattle.std.proofs.lemmas.Bool.{cases_lt}
 use Rattle.std.proofs.lemmas.Bool.Decides.{nat_tests}
 use Rattle.word_pool.specs.Heap.{is_size}
 use Rattle.word_pool.specs.Layout.{entry, noted, width}
-use Rattle.word_pool.specs.Pool.{list_of_size, spare, free_words, HasSpare}
+use Rattle.word_pool.specs.Pool.{list_of_size, spare, HasSpare}
 use Rattle.word_pool.specs.declared.pool.Pool.{Pool}
 use Rattle.word_pool.proofs.Laid.{head_none}
 
@@ -65,14 +65,6 @@ module _ (ns ms : List ℕ) (size i : ℕ) (h : IsTrue (is_size size)) (list : i
   pub words_fewer : 0 < entry ns i → ms ≡ set ns i (entry ns i - 1) → total (entry ns) ≡ total (entry ms) + size
   words_fewer p e = total_more (entry ms) (entry ns) size h
       (let f = set_here (entry ns i - 1) e in let l = ap (entry ns) list in omega (arith, f, l, p)) (λ j n. sym (set_other (entry ns i - 1) e j n))
-
--- a word that is free lies in a free block, which has four words or more
-pub spare_four : {A : Type 0} (pool : Pool A) → 0 < free_words pool → HasSpare pool 4
-spare_four pool p =
-    at 4 refl (omega arith) (λ a. at 8 refl (omega arith) (λ b. at 16 refl (omega arith) (λ c. at 32 refl (omega arith) (λ d. at 64 refl (omega arith) (λ e. at 128 refl (omega arith) (λ f. absurd (omega arith)))))))
-  where
-    at : (s : ℕ) → IsTrue (is_size s) → 4 ≤ s → (spare pool s ≡ 0 → HasSpare pool 4) → HasSpare pool 4
-    at s h l rest = ⊎_elim (λ q. (s, h, l, q)) (λ q. rest (omega arith)) (cases_lt 0 (spare pool s))
 
 -- where a list is empty, a free block of its size or more has twice the size or more
 pub spare_larger : {A : Type 0} (pool : Pool A) (size : ℕ) → IsTrue (is_size size) → entry pool.free (list_of_size size) ≡ 0 → HasSpare pool size → (size < 128) × HasSpare pool (2 * size)

@@ -47,10 +47,6 @@ module _ {A : Type 0} where
   abbrev pub room : Pool A → ℕ
   room pool = (capacity pool - word_count pool) / 128
 
-  -- how many words are free, or can be added without memory
-  abbrev pub supply : Pool A → ℕ
-  supply pool = free_words pool + 128 * room pool
-
   -- no word was added
   pub record IsNoLarger (old new : Pool A) : Type 0 where
     pub count : word_count new ≡ word_count old

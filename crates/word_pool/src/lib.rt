@@ -8,7 +8,6 @@
 //!   enough, the pool grows by 128 words. Nothing says which words a block has when it is taken.
 //! - `give` frees a block, and `halve` frees its upper half. Neither takes memory, because the first word of
 //!   a free block links the next one of its size. Free blocks are never joined.
-//! - `reserve` makes room: after it, as many takes succeed as you asked for, whatever their sizes.
 //!
 //! ```text
 //! let mut pool = Pool::new(Global)?;  // [0](4)(8)(16)(32)(64)     the free block at 4 has 4 words, ..

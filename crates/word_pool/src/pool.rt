@@ -47,7 +47,7 @@ impl<A: Allocator> fmt::Debug for Pool<A> {
 }
 
 impl<A: Allocator> Pool<A> {
-    ghost use Rattle.word_pool.specs.Pool.{blocks, spare, free_words, list_of_size, word_count, capacity, room, supply};
+    ghost use Rattle.word_pool.specs.Pool.{blocks, spare, free_words, list_of_size, word_count, capacity, room};
     ghost use Rattle.word_pool.specs.Pool.{HasSpare, IsNoLarger, SameSpare, KeepsBlocks, HasSameBlocks};
 
     /// A pool with no block in use but the one at 0. It has 128 words.
@@ -91,13 +91,6 @@ impl<A: Allocator> Pool<A> {
         min(self.words.capacity(), MOST_WORDS)
     }
 
-    /// How many groups of 128 words can be added without memory.
-    pub fn room(&self) -> usize
-        ensures { result ≡ room self.now }
-    {
-        (self.capacity() - self.words.len()) / GROUP
-    }
-
     /// How many bytes these words take: 4 for each that there is memory for.
     pub fn bytes(&self) -> usize
         ensures { result ≡ 4 * capacity self.now }
@@ -133,19 +126,6 @@ impl<A: Allocator> Pool<A> {
         self.words[block as usize + i] = word;
     }
 
-    /// Makes room: after it, this many takes succeed, whatever their sizes.
-    pub fn reserve(&mut self, takes: usize) -> Result<(), NoMemory>
-        ensures same { KeepsBlocks self.old self.new }
-        ensures ok { OnOk result (takes ≤ room self.new) }
-        ensures full { OnErr result (room self.old < takes) }
-    {
-        if takes > (MOST_WORDS - self.words.len()) / GROUP {
-            return Err(NoMemory);
-        }
-        self.words.reserve(takes * GROUP)?;
-        Ok(())
-    }
-
     /// Takes a block of a size. Nothing says which words it has. If a free block has the size or more,
     /// no word is added: a larger one is halved until it fits. Else the pool grows by 128 words.
     pub fn take(&mut self, size: usize) -> Result<u32, NoMemory>
@@ -158,11 +138,8 @@ impl<A: Allocator> Pool<A> {
         ensures words { OnOk result (size + free_words self.new + word_count self.old
             ≡ free_words self.old + word_count self.new) }
 
-        // A take uses up one group of the room, and of the words that are free or can be added its own.
-        ensures room { room self.old ≤ room self.new + 1 }
-        ensures cost { supply self.old ≤ supply self.new + size }
+        // Where 128 words more can be added without memory, a take succeeds.
         ensures full { OnErr result (room self.old ≡ 0) }
-        ensures small { size ≡ 4 → 4 ≤ supply self.old → IsOk result }
     {
         let list = Self::list_of(size);
         if self.free[list] != 0 {
@@ -251,7 +228,6 @@ impl<A: Allocator> Pool<A> {
         ensures err { OnErr result (KeepsBlocks self.old self.new) }
         ensures free { (s : ℕ) → spare self.new s ≡ spare self.old s }
         ensures longer { OnOk result (word_count self.new ≡ word_count self.old + 128) }
-        ensures room { room self.old ≤ room self.new + 1 }
         ensures full { OnErr result (room self.old ≡ 0) }
     {
         let len = self.words.len();

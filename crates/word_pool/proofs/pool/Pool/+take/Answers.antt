@@ -1,7 +1,7 @@
 use Rattle.std.proofs.Common.{arith, refl, sym, ap, ◌∙◌}
 use Rattle.std.proofs.lemmas.Bool.{false≢true}
 use Rattle.word_pool.specs.Layout.{entry}
-use Rattle.word_pool.proofs.Sizes.{spare_four, spare_larger}
+use Rattle.word_pool.proofs.Sizes.{spare_larger}
 use Rattle.word_pool.proofs.pool.Pool.+take.Goals as goal
 
 pub returns-then-size-eq-GROUP-clause-again : goal.returns-then-size-eq-GROUP-clause-again
@@ -11,12 +11,6 @@ returns-then-size-eq-GROUP-clause-again g t c h =
 pub returns-in_err-block-clause-again : goal.returns-in_err-block-clause-again
 returns-in_err-block-clause-again g t c h =
     let l = spare_larger c.args.self.now c.args.size c.requires (ap (entry c.args.self.now.free) (sym c.list_of-list.ensures.list) ∙ c.if-self-list-ne0.false) h in let a = c.in_err-block.ensures.again l.1 in absurd (false≢true a.0)
-
-pub returns-in_err-block-clause-small : goal.returns-in_err-block-clause-small
-returns-in_err-block-clause-small g t c e p =
-    let f = spare_four c.args.self.now (omega (arith, p, c.in_err-block.ensures.full)) in
-    let l = spare_larger c.args.self.now c.args.size c.requires (ap (entry c.args.self.now.free) (sym c.list_of-list.ensures.list) ∙ c.if-self-list-ne0.false) (f.0, f.1, omega (arith, e, f.2), f.3) in
-    let a = c.in_err-block.ensures.again l.1 in absurd (false≢true a.0)
 
 pub returns-clause-again : goal.returns-clause-again
 returns-clause-again g t c h =

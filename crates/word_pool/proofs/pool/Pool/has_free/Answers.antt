@@ -1,4 +1,4 @@
-use Rattle.std.proofs.Common.{ℕ, ◌≡◌, ◌≢◌, ◌<◌, IsTrue, nat_eq, inl, inr, vec_len, arith, sym, ap, subst, ◌∙◌}
+use Rattle.std.proofs.Common.{ℕ, ◌≢◌, ◌<◌, IsTrue, nat_eq, inl, inr, vec_len, arith, sym, ap, subst, ◌∙◌}
 use Rattle.std.proofs.lemmas.Bool.{cases_eq, ne_eqb, false≢true}
 use Rattle.word_pool.specs.Layout.{entry, noted}
 use Rattle.word_pool.specs.Pool.{spare}
