@@ -18,7 +18,8 @@
 //! ```
 //!
 //! - Output is written line by line to a terminal, and else a block at a time.
-//! - The bytes of both files are kept as they are read, so that advice can show the line at fault.
+//! - With `--explain` the bytes of both files are kept as they are read, so that advice can show the line at
+//!   fault. The text of a journal is made only if a file is named for it.
 //! - A journal that would be written over the scenario is refused before the run begins (49).
 //!
 //! What always holds: the exit status is the one that `play` promises for these words and files. If the
@@ -30,7 +31,7 @@
 
 use advice::{Faulty, advise, advise_bytes, advise_journal, file_to_explain, is_check};
 use journal::JournalFault;
-use play::{Cause, Fault, Host, Source, play, refuse};
+use play::{Cause, Fault, Host, NoGate, Source, THRESHOLDS, play_by, refuse};
 use program_files::{
     Input, exit_code, given_words, is_one_file, kept_path, open_file, replayed_path, scenario_path,
     tell,
@@ -79,8 +80,9 @@ fn run_words<H: Host, W: Write>(rt: &HostRuntime, wait: &H, words: &Words<'_>, o
     if is_overwritten(rt, words) {
         refuse(Fault::from(Cause::Unwritable), &mut rt.stderr())
     } else {
-        let mut scenario = Kept::of(rt, first_input(rt, words));
-        let mut second = Kept::of(rt, second_input(rt, words));
+        let keeps = file_to_explain(words).is_some();
+        let mut scenario = Kept::of(rt, first_input(rt, words), keeps);
+        let mut second = Kept::of(rt, second_input(rt, words), keeps);
         run_over(rt, wait, words, &mut scenario, &mut second, out)
     }
 }
@@ -96,14 +98,17 @@ fn run_over<H: Host, W: Write>(
 ) -> u8 {
     let mut journal = Vec::new(rt.alloc());
     let mut fault = None;
-    let status = play(
+    let status = play_by(
         wait,
         rt.alloc(),
+        THRESHOLDS,
+        &NoGate,
         words,
         &mut *scenario,
         &mut *second,
         out,
         &mut rt.stderr(),
+        kept_path(words).is_some(),
         &mut journal,
         &mut fault,
     );
@@ -189,18 +194,20 @@ fn write_journal(rt: &HostRuntime, path: &str, journal: &[u8]) -> u8 {
     }
 }
 
-// A reader, and what was read by it.
+// A reader, and what was read by it, where that is kept.
 #[derive(Drop)]
 struct Kept {
     file: Source<Input>,
+    keeps: bool,
     bytes: Vec<u8>,
 }
 
 impl Kept {
     // Nothing is read yet.
-    fn of(rt: &HostRuntime, file: Source<Input>) -> Kept {
+    fn of(rt: &HostRuntime, file: Source<Input>, keeps: bool) -> Kept {
         Kept {
             file,
+            keeps,
             bytes: Vec::new(rt.alloc()),
         }
     }
@@ -209,7 +216,9 @@ impl Kept {
 impl Read for Kept {
     fn read(&mut self, buf: &mut [u8]) -> io::Result<usize> {
         let count = self.file.read(buf)?;
-        self.bytes.extend_from_slice(&buf[..count.min(buf.len())])?;
+        if self.keeps {
+            self.bytes.extend_from_slice(&buf[..count.min(buf.len())])?;
+        }
         Ok(count)
     }
 }

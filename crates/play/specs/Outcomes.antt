@@ -1,5 +1,5 @@
 -- How the program ends, whatever it is asked for.
-use Rattle.std.specs.Prelude.{◌≡◌, ◌⊎◌, ℕ, Option, Some}
+use Rattle.std.specs.Prelude.{◌≡◌, ◌⊎◌, ℕ, Bool, Option, Some}
 use Rattle.texts.specs.Words.{Text}
 use Rattle.words.specs.declared.words.Words.{Words}
 use Rattle.words.specs.declared.words.Words.TheVariants.{Check, Run, Replay, Explain, Shell}
@@ -12,13 +12,13 @@ use Rattle.reports.specs.Ends.{IsChecked, Replays, StopsReplay, status_at}
 use Rattle.play.specs.Runs.{IsRunToEnd, StopsFor}
 use Rattle.play.specs.Shell.{IsShellEnd, StopsShell}
 
--- how a command ends that has met no fault
-abbrev pub Ends : Words → Option Text → Option Text → Text → Text → End → Type 0
-Ends (Check _ _) scenario journal old new end = (end ≡ Done) × (new ≡ old) × OfBytes scenario IsChecked
-Ends (Run _ _ _ _ _ _ _) scenario journal old new end = (end ≡ Done) × OfBytes scenario (λ bytes. IsRunToEnd bytes old new)
-Ends (Replay _ _ _ _ _) scenario journal old new end = (new ≡ old) × OfBytes scenario (λ bytes. OfBytes journal (λ lines. Replays bytes lines end))
-Ends (Explain _) scenario journal old new end = (end ≡ Done) × (new ≡ old)
-Ends (Shell _ _ _) scenario journal old new end = (end ≡ Done) × OfBytes scenario (λ bytes. IsShellEnd bytes old new)
+-- how a command ends that has met no fault, where the text of a journal is wanted or not
+abbrev pub Ends : Bool → Words → Option Text → Option Text → Text → Text → End → Type 0
+Ends wanted (Check _ _) scenario journal old new end = (end ≡ Done) × (new ≡ old) × OfBytes scenario IsChecked
+Ends wanted (Run _ _ _ _ _ _ _) scenario journal old new end = (end ≡ Done) × OfBytes scenario (λ bytes. IsRunToEnd wanted bytes old new)
+Ends wanted (Replay _ _ _ _ _) scenario journal old new end = (new ≡ old) × OfBytes scenario (λ bytes. OfBytes journal (λ lines. Replays bytes lines end))
+Ends wanted (Explain _) scenario journal old new end = (end ≡ Done) × (new ≡ old)
+Ends wanted (Shell _ _ _) scenario journal old new end = (end ≡ Done) × OfBytes scenario (λ bytes. IsShellEnd wanted bytes old new)
 
 -- why a command stops
 abbrev pub Stops : Words → Option Text → Option Text → Fault → Type 0
@@ -29,7 +29,7 @@ Stops (Explain _) scenario journal fault = ⊥
 Stops (Shell _ _ _) scenario journal fault = OfBytes scenario (λ bytes. StopsShell bytes fault)
 
 -- the program comes to an end, whose status it answers; or it stops for a fault, whose status it answers, and which alone its caller is handed
-abbrev pub IsPlayed : Words → Option Text → Option Text → Text → Text → Option Fault → Option Fault → ℕ → Type 0
-IsPlayed words scenario journal old new told told_after status =
-    ((end : End) × (status ≡ status_at end) × Ends words scenario journal old new end × (told_after ≡ told))
+abbrev pub IsPlayed : Bool → Words → Option Text → Option Text → Text → Text → Option Fault → Option Fault → ℕ → Type 0
+IsPlayed wanted words scenario journal old new told told_after status =
+    ((end : End) × (status ≡ status_at end) × Ends wanted words scenario journal old new end × (told_after ≡ told))
     ⊎ ((fault : Fault) × (status ≡ status_of fault.cause) × Stops words scenario journal fault × (told_after ≡ Some fault))

@@ -1,5 +1,5 @@
 -- How runs end.
-use Rattle.std.specs.Prelude.{◌≤◌, ◌⊎◌, length}
+use Rattle.std.specs.Prelude.{◌≤◌, Bool, ◌⊎◌, length}
 use Rattle.fabric.specs.Fabric.{Fabric, opening_fabric}
 use Rattle.texts.specs.Words.{Text}
 use Rattle.script.specs.Reading.{Parts}
@@ -20,15 +20,15 @@ pub record IsEndOf (bytes : Text) (f : Fabric) : Type 0 where
   pub scenario : IsScenario bytes parts
   pub done : AreDone parts.commands (opening_fabric (network_read parts)) f
 
--- the commands of a plan were done to the end, and their journal was kept
-abbrev pub RunsPlan : Plan → Text → Text → Type 0
-RunsPlan plan old new = (fabric : Fabric) × AreDone plan.commands.items (opening_fabric plan.network) fabric × KeepsJournal plan.directory fabric old new
+-- the commands of a plan were done to the end, and their journal was kept, if it is wanted
+abbrev pub RunsPlan : Bool → Plan → Text → Text → Type 0
+RunsPlan wanted plan old new = (fabric : Fabric) × AreDone plan.commands.items (opening_fabric plan.network) fabric × KeepsJournal wanted plan.directory fabric old new
 
--- the commands of a scenario were done to the end, and their journal was kept
-pub record IsRunToEnd (bytes old new : Text) : Type 0 where
+-- the commands of a scenario were done to the end, and their journal was kept, if it is wanted
+pub record IsRunToEnd (wanted : Bool) (bytes old new : Text) : Type 0 where
   pub fabric : Fabric
   pub is_end : IsEndOf bytes fabric
-  pub keeps : KeepsJournal (directory_of is_end.parts.names is_end.parts.links) fabric old new
+  pub keeps : KeepsJournal wanted (directory_of is_end.parts.names is_end.parts.links) fabric old new
 
 -- ---- stops
 

@@ -1,6 +1,6 @@
 //! What the program does, over any readers and writers.
 
-ghost use Rattle.std.specs.Prelude.{◌≡◌, ◌⊎◌, IfOk, IfErr, OnOk, vec_len};
+ghost use Rattle.std.specs.Prelude.{◌≡◌, ◌⊎◌, true, IfOk, IfErr, OnOk, vec_len};
 ghost use Rattle.fabric.specs.Writers.{opening_tables};
 ghost use Rattle.plans.specs.Faults.{IsUnanswered, IsWantOfMemory, OfBytes};
 ghost use Rattle.reports.specs.Ends.{KeepsJournal};
@@ -43,15 +43,16 @@ where
     J: Read + Drop,
     W: Write,
     E: Write,
-    ensures { IsPlayed words.now (R.remaining scenario) (J.remaining journal)
+    ensures { IsPlayed true words.now (R.remaining scenario) (J.remaining journal)
         kept.old.items kept.new.items told.old told.new result }
 {
     play_by(
-        rt, alloc, THRESHOLDS, &NoGate, words, scenario, journal, out, err, kept, told,
+        rt, alloc, THRESHOLDS, &NoGate, words, scenario, journal, out, err, true, kept, told,
     )
 }
 
-/// The same, by threads that are started from these thresholds on, and call this gate.
+/// The same, by threads that are started from these thresholds on, and call this gate. The text of a journal is
+/// made only if it is wanted.
 pub fn play_by<H, G, R, J, W, E>(
     rt: &H,
     alloc: Global,
@@ -62,6 +63,7 @@ pub fn play_by<H, G, R, J, W, E>(
     journal: J,
     out: &mut W,
     err: &mut E,
+    wanted: bool,
     kept: &mut Vec<u8>,
     told: &mut Option<Fault>,
 ) -> u8
@@ -72,11 +74,13 @@ where
     J: Read + Drop,
     W: Write,
     E: Write,
-    ensures { IsPlayed words.now (R.remaining scenario) (J.remaining journal)
+    ensures { IsPlayed wanted words.now (R.remaining scenario) (J.remaining journal)
         kept.old.items kept.new.items told.old told.new result }
 {
     let by = (thresholds, gate);
-    match do_words(rt, alloc, by, words, scenario, journal, out, err, kept) {
+    match do_words(
+        rt, alloc, by, words, scenario, journal, out, err, wanted, kept,
+    ) {
         Ok(end) => end.status(),
         Err(fault) => {
             // What was printed comes before the fault, also where `out` keeps it for a while.
@@ -97,6 +101,7 @@ fn do_words<H, G, R, J, W, E>(
     journal: J,
     out: &mut W,
     err: &mut E,
+    wanted: bool,
     kept: &mut Vec<u8>,
 ) -> Result<End, Fault>
 where
@@ -107,7 +112,7 @@ where
     W: Write,
     E: Write,
     ensures ok { IfOk result
-        (Ends words.now (R.remaining scenario)
+        (Ends wanted words.now (R.remaining scenario)
         (J.remaining journal) kept.old.items kept.new.items) }
     ensures fault { IfErr result (Stops words.now (R.remaining scenario) (J.remaining journal)) }
 {
@@ -136,7 +141,7 @@ where
                 format,
                 progress,
             };
-            run(rt, alloc, scenario, options, gate, out, err, kept)
+            run(rt, alloc, scenario, options, gate, out, err, wanted, kept)
         }
         Words::Replay {
             file: _,
@@ -153,7 +158,9 @@ where
             file: _,
             journal: _,
             explain,
-        } => shell(rt, alloc, scenario, journal, explain, out, err, kept),
+        } => shell(
+            rt, alloc, scenario, journal, explain, out, err, wanted, kept,
+        ),
     }
 }
 
@@ -167,6 +174,7 @@ fn run<H, G, R, W, E>(
     gate: &G,
     out: &mut W,
     err: &mut E,
+    wanted: bool,
     kept: &mut Vec<u8>,
 ) -> Result<End, Fault>
 where
@@ -177,13 +185,15 @@ where
     E: Write,
     ensures ok { IfOk result (λ end. (end ≡ End.Done)
         × OfBytes (R.remaining scenario)
-        (λ bytes. IsRunToEnd bytes kept.old.items kept.new.items)) }
+        (λ bytes. IsRunToEnd wanted bytes kept.old.items kept.new.items)) }
     ensures fault { IfErr result (λ e. OfBytes (R.remaining scenario) (λ bytes. StopsFor bytes e)) }
 {
     let text = read_text(alloc, scenario)?;
     let plan = read_plan(alloc, text.as_str())?;
     let unnamed = Unnamed::many(alloc, plan.network.routers())?;
-    run_plan::<Brand, H, G, W, E>(rt, alloc, plan, unnamed, options, gate, out, err, kept)?;
+    run_plan::<Brand, H, G, W, E>(
+        rt, alloc, plan, unnamed, options, gate, out, err, wanted, kept,
+    )?;
     Ok(End::Done)
 }
 
@@ -197,6 +207,7 @@ fn run_plan<B, H, G, W, E>(
     gate: &G,
     out: &mut W,
     err: &mut E,
+    wanted: bool,
     kept: &mut Vec<u8>,
 ) -> Result<(), Fault>
 where
@@ -208,7 +219,7 @@ where
     requires books { unnamed.items ≡ B.books }
     requires each { vec_len unnamed ≡ plan.network.routers }
     requires openings { opening_tables plan.network ≡ B.openings }
-    ensures ok { OnOk result (RunsPlan plan kept.old.items kept.new.items) }
+    ensures ok { OnOk result (RunsPlan wanted plan kept.old.items kept.new.items) }
     ensures fault { IfErr result (StopsPlan plan) }
 {
     let Plan {
@@ -219,7 +230,7 @@ where
     let workers = options.workers.max(1).min(16);
     let (mut fabric, readers) = Fabric::<B>::open(rt, alloc, network, unnamed, workers)?;
     let ended = match Session::new(rt, alloc, &directory, readers, options, gate) {
-        Ok(session) => run_commands(session, &mut fabric, &commands, out, err, kept),
+        Ok(session) => run_commands(session, &mut fabric, &commands, out, err, wanted, kept),
         Err(memory) => Err(Fault::from(memory)),
     };
     fabric.close(rt);
@@ -233,6 +244,7 @@ fn run_commands<B, H, G, W, E>(
     commands: &[Command],
     out: &mut W,
     err: &mut E,
+    wanted: bool,
     kept: &mut Vec<u8>,
 ) -> Result<(), Fault>
 where
@@ -242,8 +254,8 @@ where
     W: Write,
     E: Write,
     ensures ok { OnOk result (AreDone commands.now fabric.old fabric.new) }
-    ensures keeps { OnOk result (KeepsJournal (session.entry.directory).now fabric.new
-        kept.old.items kept.new.items) }
+    ensures keeps { OnOk result (KeepsJournal wanted (session.entry.directory).now
+        fabric.new kept.old.items kept.new.items) }
     ensures fault { IfErr result (λ e. StopsAtCommand commands.now fabric.old fabric.new e
         ⊎ IsUnanswered e ⊎ IsWantOfMemory e) }
 {
@@ -251,5 +263,5 @@ where
     let progress = session.options.progress;
     let done = session.do_commands(fabric, commands, out, err);
     end_line(progress, err);
-    session.finish(fabric, done, out, kept)
+    session.finish(fabric, done, wanted, out, kept)
 }

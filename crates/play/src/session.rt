@@ -172,17 +172,18 @@ where
     }
 
     /// Waits for the workers, and, where all commands were done, says how many steps were, and keeps
-    /// their journal.
+    /// their journal, if it is wanted.
     pub fn finish<W: Write>(
         self,
         fabric: &Fabric<B>,
         done: Result<(), Fault>,
+        wanted: bool,
         out: &mut W,
         kept: &mut Vec<u8>,
     ) -> Result<(), Fault>
         ensures done { OnOk result (IsOk done) }
-        ensures keeps { OnOk result (KeepsJournal (self.entry.directory).now fabric.now
-            kept.old.items kept.new.items) }
+        ensures keeps { OnOk result (KeepsJournal wanted (self.entry.directory).now
+            fabric.now kept.old.items kept.new.items) }
         ensures fault { IfErr result (λ e. (done ≡ Err e) ⊎ IsUnanswered e ⊎ IsWantOfMemory e) }
     {
         let Session {
@@ -208,7 +209,7 @@ where
         };
         let json = EndLine::Done { steps };
         let _ = printer.print(format_args!("done: {steps} steps"), json, out);
-        match keep(fabric, directory, kept) {
+        match keep(fabric, directory, wanted, kept) {
             Ok(()) => Ok(()),
             Err(memory) => Err(Fault::from(memory)),
         }

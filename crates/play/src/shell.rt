@@ -31,6 +31,7 @@ pub fn shell<H, R, J, W, E>(
     explain: bool,
     out: &mut W,
     err: &mut E,
+    wanted: bool,
     kept: &mut Vec<u8>,
 ) -> Result<End, Fault>
 where
@@ -41,14 +42,16 @@ where
     E: Write,
     ensures ok { IfOk result (λ end. (end ≡ End.Done)
         × OfBytes (R.remaining scenario)
-        (λ bytes. IsShellEnd bytes kept.old.items kept.new.items)) }
+        (λ bytes. IsShellEnd wanted bytes kept.old.items kept.new.items)) }
     ensures fault { IfErr result (λ e. OfBytes (R.remaining scenario)
         (λ bytes. StopsShell bytes e)) }
 {
     let text = read_text(alloc, scenario)?;
     let plan = read_plan(alloc, text.as_str())?;
     let unnamed = Unnamed::many(alloc, plan.network.routers())?;
-    open_shell::<Brand, H, J, W, E>(rt, alloc, plan, unnamed, input, explain, out, err, kept)?;
+    open_shell::<Brand, H, J, W, E>(
+        rt, alloc, plan, unnamed, input, explain, out, err, wanted, kept,
+    )?;
     Ok(End::Done)
 }
 
@@ -62,6 +65,7 @@ fn open_shell<B, H, J, W, E>(
     explain: bool,
     out: &mut W,
     err: &mut E,
+    wanted: bool,
     kept: &mut Vec<u8>,
 ) -> Result<(), Fault>
 where
@@ -73,7 +77,7 @@ where
     requires books { unnamed.items ≡ B.books }
     requires each { vec_len unnamed ≡ plan.network.routers }
     requires openings { opening_tables plan.network ≡ B.openings }
-    ensures ok { OnOk result (TriesPlan plan kept.old.items kept.new.items) }
+    ensures ok { OnOk result (TriesPlan wanted plan kept.old.items kept.new.items) }
     ensures fault { IfErr result StopsShellPlan }
 {
     let Plan {
@@ -94,7 +98,7 @@ where
     };
     let (mut fabric, readers) = Fabric::<B>::open(rt, alloc, network, unnamed, 1)?;
     let ended = match Session::new(rt, alloc, &directory, readers, options, &NoGate) {
-        Ok(session) => run_lines(session, &mut fabric, input, out, err, kept),
+        Ok(session) => run_lines(session, &mut fabric, input, out, err, wanted, kept),
         Err(memory) => Err(Fault::from(memory)),
     };
     fabric.close(rt);
@@ -108,6 +112,7 @@ fn run_lines<B, H, G, J, W, E>(
     input: J,
     out: &mut W,
     err: &mut E,
+    wanted: bool,
     kept: &mut Vec<u8>,
 ) -> Result<(), Fault>
 where
@@ -119,13 +124,13 @@ where
     E: Write,
     ensures ok { OnOk result ((commands : List CommandOf)
         × AreTried commands fabric.old fabric.new) }
-    ensures keeps { OnOk result (KeepsJournal (session.entry.directory).now fabric.new
-        kept.old.items kept.new.items) }
+    ensures keeps { OnOk result (KeepsJournal wanted (session.entry.directory).now
+        fabric.new kept.old.items kept.new.items) }
     ensures fault { IfErr result (λ e. CannotReadOn e ⊎ IsUnanswered e ⊎ IsWantOfMemory e) }
 {
     let mut session = session;
     let read = do_lines(&mut session, fabric, input, out, err);
-    session.finish(fabric, read, out, kept)
+    session.finish(fabric, read, wanted, out, kept)
 }
 
 // Does the commands of the lines in order, to the end of the input.

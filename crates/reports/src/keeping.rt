@@ -11,14 +11,19 @@ use network_model::NoMemory;
 use script::Directory;
 use words::Format;
 
-/// Adds the text of the journal to `kept`: the steps done, and the report of what they made.
+/// Adds the text of the journal to `kept`, if it is wanted: the steps done, and the report of what they made.
 pub fn keep<B: FabricName>(
     fabric: &Fabric<B>,
     directory: &Directory,
+    wanted: bool,
     kept: &mut Vec<u8>,
 ) -> Result<(), NoMemory>
-    ensures { OnOk result (KeepsJournal directory.now fabric.now kept.old.items kept.new.items) }
+    ensures { OnOk result (KeepsJournal wanted directory.now fabric.now
+        kept.old.items kept.new.items) }
 {
+    if !wanted {
+        return Ok(());
+    }
     let links = fabric.network().links();
     let printer = Printer {
         directory,

@@ -1,5 +1,5 @@
 -- What the program gave.
-use Rattle.std.specs.Prelude.{◌≡◌, ℕ, ◌⊎◌, Option, []}
+use Rattle.std.specs.Prelude.{◌≡◌, ℕ, ◌⊎◌, Option, true, []}
 use Rattle.texts.specs.Words.{Text}
 use Rattle.words.specs.declared.words.Words.{Words}
 use Rattle.reports.specs.declared.end.End.{End}
@@ -12,5 +12,5 @@ use Rattle.plans.specs.Faults.{status_of}
 -- not
 abbrev pub Gave : Words → Option Text → Option Text → ℕ → Text → Type 0
 Gave words scenario journal status kept =
-    ((end : End) × (status ≡ status_at end) × Ends words scenario journal [] kept end)
+    ((end : End) × (status ≡ status_at end) × Ends true words scenario journal [] kept end)
     ⊎ ((fault : Fault) × (status ≡ status_of fault.cause) × Stops words scenario journal fault)

@@ -101,7 +101,7 @@ where
     let mut kept = Vec::new(alloc);
     let mut fault = None;
     let status = play_by(
-        rt, alloc, thresholds, gate, words, scenario, journal, &mut out, &mut err, &mut kept,
+        rt, alloc, thresholds, gate, words, scenario, journal, &mut out, &mut err, true, &mut kept,
         &mut fault,
     );
     Outcome {

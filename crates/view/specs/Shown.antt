@@ -18,7 +18,7 @@ use Rattle.view_page.specs.Page.{page_text}
 -- the lines are those of the journal where one is asked for, and else those that a run of the script keeps
 abbrev pub AreLines : Bool → Text → Option Text → Text → Type 0
 AreLines true bytes journal lines = Gives journal lines
-AreLines false bytes journal lines = IsRunToEnd bytes [] lines
+AreLines false bytes journal lines = IsRunToEnd true bytes [] lines
 
 -- the states of these steps were written: as lines, one for each step, or in a page, after so many steps each
 pub record IsWritten (json : Bool) (n : Network) (d : Directory) (steps : List Step) (old new : Option Text) : Type 0 where

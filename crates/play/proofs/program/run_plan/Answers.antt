@@ -8,7 +8,7 @@ pub returns-clause-ok : goal.returns-clause-ok
 returns-clause-ok g c = elim c.match-new.branch [
   | in-Ok w ↦
       let e = w.run_commands-ended in
-      rw (w.ended-is, w.kept-is) (runs_plan c.args.plan (w.in-Ok.session.directory).now c.in_ok-fabric.fabric e.new.fabric c.args.kept.now.items e.new.kept.items w.in-Ok.ensures c.in_ok-fabric.ensures.ok
+      rw (w.ended-is, w.kept-is) (runs_plan c.args.wanted c.args.plan (w.in-Ok.session.directory).now c.in_ok-fabric.fabric e.new.fabric c.args.kept.now.items e.new.kept.items w.in-Ok.ensures c.in_ok-fabric.ensures.ok
       e.result w.deref.result.now w.deref.ensures.value e.ensures.ok e.ensures.keeps)
-  | in-Err w ↦ subst (λ r. OnOk r (RunsPlan c.args.plan c.args.kept.now.items c.match-new.kept.items)) (sym w.ended-is) tt
+  | in-Err w ↦ subst (λ r. OnOk r (RunsPlan c.args.wanted c.args.plan c.args.kept.now.items c.match-new.kept.items)) (sym w.ended-is) tt
 ]
