@@ -1,6 +1,6 @@
 //! The writers of all routers of a fabric.
 
-ghost use Rattle.std.specs.Prelude.{◌≡◌, ◌<◌, ◌^◌, All, map, IfOk, vec_len};
+ghost use Rattle.std.specs.Prelude.{◌≡◌, ◌≤◌, ◌^◌, All, map, IfOk, vec_len};
 ghost use Rattle.publication.specs.Lists.{EachAt, new_writing, no_patches};
 
 use crate::name::{FabricName, Unnamed};
@@ -23,7 +23,7 @@ pub fn open_all<B: FabricName, A: Allocator + Copy, R: Wait>(
     requires rows { map (λ i. i.rows) images.items ≡ B.openings }
     requires generation { All (λ i. i.generation ≡ 0) images.items }
     requires each { vec_len unnamed ≡ vec_len images }
-    requires few { vec_len images < 2 ^ 16 }
+    requires few { vec_len images ≤ 2 ^ 16 }
     ensures count { IfOk result (λ o. (vec_len o.0 ≡ vec_len images)
         × (vec_len o.1 ≡ vec_len images)) }
     ensures writers { IfOk result (λ o. EachAt (λ router w. w ≡ new_writing router) o.0.items) }
@@ -38,12 +38,12 @@ pub fn open_all<B: FabricName, A: Allocator + Copy, R: Wait>(
         return Err(OpenFault::NoMemory);
     };
     let mut unnamed = unnamed.into_iter();
-    let mut router = 0u16;
+    let mut router: usize = 0;
     for image in images {
         let Some(part) = unnamed.next() else {
             unreachable!()
         };
-        match open::<B, A, R>(rt, alloc, part, router, image, readers) {
+        match open::<B, A, R>(rt, alloc, part, router as u16, image, readers) {
             Ok((writer, list)) => {
                 writers.push_reserved(writer);
                 lists.push_reserved(list);

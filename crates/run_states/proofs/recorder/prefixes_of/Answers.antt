@@ -33,5 +33,5 @@ returns c = record {
   are_keys = c.loop-row.invariant ∙ ap (map (λ r. r.0)) (take_all c.loop-row.row-index c.as_slice-row-items.result.now c.loop-row-test.false ∙ c.as_slice-row-items.ensures);
   in_order = (c.loop-attachment.given).sorted;
   have = λ p. c.loop-attachment.invariant p
-      ∙ ap (list_any (λ a. prefix_eq p a.0)) (take_all c.loop-attachment.attachment-index c.attachments-attachment-items.result.now c.loop-attachment-test.false ∙ c.attachments-attachment-items.ensures);
+      ∙ ap (list_any (λ a. prefix_eq p a.0)) (take_all c.loop-attachment.attachment-index c.attachments-attachment-items.result.now c.loop-attachment-test.false ∙ c.attachments-attachment-items.ensures.attachments);
 }
