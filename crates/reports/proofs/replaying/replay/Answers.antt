@@ -26,7 +26,7 @@ returns-in_err-journal-clause-fault g c =
       text,
       c.in_ok-text.ensures.whole,
       stops_journal text c.in_ok-lines.lines.items c.deref.result.now (g.J.Read.remaining c.args.journal) c.in_ok-network.field-0 c.names.result.now c.links.result.now c.attachments.result.now e (unplaced (OfJournal e))
-          c.in_ok-text.ensures.short planned c.in_ok-lines.ensures.whole c.names.ensures c.links.ensures.links c.attachments.ensures c.deref.ensures.value refl c.in_err-journal.ensures.err,
+          c.in_ok-text.ensures.short planned c.in_ok-lines.ensures.whole c.names.ensures c.links.ensures.links c.attachments.ensures.attachments c.deref.ensures.value refl c.in_err-journal.ensures.err,
     )
 
 pub returns-in_err-end-clause-fault : goal.returns-in_err-end-clause-fault
@@ -41,7 +41,7 @@ returns-clause-ok g c =
     let planned : IsPlanned text c.in_ok-network.field-0 = rw (← c.as_str.ensures.value) c.in_ok-network.ensures.ok in
     let read = c.in_ok-journal.journal in
     let journal = journal_of text c.in_ok-lines.lines.items c.deref.result.now c.in_ok-network.field-0 c.names.result.now c.links.result.now c.attachments.result.now read.version read.steps.items read.report.now
-    c.in_ok-text.ensures.short planned c.names.ensures c.links.ensures.links c.attachments.ensures c.deref.ensures.value c.in_ok-journal.ensures.ok in (
+    c.in_ok-text.ensures.short planned c.names.ensures c.links.ensures.links c.attachments.ensures.attachments c.deref.ensures.value c.in_ok-journal.ensures.ok in (
       text,
       c.in_ok-text.ensures.whole,
       (

@@ -13,6 +13,6 @@ returns g c =
     let planned : IsPlanned text plan = c.in_ok-network.ensures.ok in
     let read = c.in_ok-journal.journal in
     let journal = journal_of text lines lines plan c.names.result.now c.links.result.now c.attachments.result.now read.version read.steps.items read.report.now
-    c.requires planned c.names.ensures c.links.ensures.links c.attachments.ensures refl c.in_ok-journal.ensures.ok in
+    c.requires planned c.names.ensures c.links.ensures.links c.attachments.ensures.attachments refl c.in_ok-journal.ensures.ok in
     shown_whole plan.network plan.directory c.deref.result.now c.args.json text lines plan planned read.version (g.W.Write.contents c.args.out.now) (g.W.Write.contents c.write_steps.new.out) c.write_steps.result refl refl
     (subst (IsJournalOf text lines planned.0 read.version) (sym c.deref.ensures.value) journal) c.write_steps.ensures
