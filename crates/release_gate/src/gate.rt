@@ -1,6 +1,6 @@
 //! A gate that messages pass once they are ripe.
 
-ghost use Rattle.std.specs.Prelude.{◌^◌, ◌≡◌, ◌+◌, ◌<◌, ◌≤◌, length, IfOk, OnOk, OnErr, OnSome, IfNone};
+ghost use Rattle.std.specs.Prelude.{◌^◌, ◌≡◌, ◌+◌, ◌<◌, ◌≤◌, length, slice_get, IfOk, OnOk, OnErr, OnSome, IfNone};
 ghost use Rattle.network_model.specs.Step.{gate_front, with_all_ripe, with_front_released};
 ghost use Rattle.release_gate.specs.GateState.{empty, with_held};
 
@@ -116,6 +116,13 @@ impl<A: Allocator> Gate<A> {
         ensures { result ≡ length (self.now).gate.held }
     {
         self.messages.len()
+    }
+
+    /// The message before which `place` others are held; none where fewer are.
+    pub fn message(&self, place: usize) -> Option<Held>
+        ensures { result ≡ slice_get (self.now).gate.held place }
+    {
+        self.messages.get(place).copied()
     }
 
     /// How many of the messages, at the front, are ripe.

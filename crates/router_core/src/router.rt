@@ -206,6 +206,13 @@ impl<A: SmallAllocator> Router<A> {
         self.effects.gate.held()
     }
 
+    /// The message before which `place` others are held; none where fewer are.
+    pub fn message(&self, place: usize) -> Option<Held>
+        ensures { result ≡ slice_get (self.now).gate.held place }
+    {
+        self.effects.gate.message(place)
+    }
+
     /// How many of the held messages, at the front, are ripe, which is to say may leave.
     pub fn ripe(&self) -> usize
         ensures { result ≡ (self.now).gate.ripe }

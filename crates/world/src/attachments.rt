@@ -71,6 +71,13 @@ impl<A: SmallAllocator> Attachments<A> {
         self.notices.len()
     }
 
+    /// The notice that the router takes after `place` others; none where fewer wait.
+    pub fn notice(&self, place: usize) -> Option<Notice>
+        ensures { result ≡ slice_get (self.now).notices place }
+    {
+        self.notices.get(place).copied()
+    }
+
     /// The notice that the router takes next.
     pub fn front(&self) -> Option<Notice>
         ensures { result ≡ slice_get (self.now).notices 0 }

@@ -9,7 +9,7 @@ ghost use Rattle.world.specs.Parts.{network_of, HasAtMost};
 
 use crate::attachment_faults::prefix_count;
 use crate::link_faults::link_fault;
-use network_model::{Cost, Limits, LinkSpec, NetworkFault, Prefix};
+use network_model::{Cost, Limits, LinkSpec, NetworkFault, NoMemory, Prefix};
 use std::marker::Model;
 
 /// The parts of a network that can be opened: its number of routers, its links, and which routers
@@ -88,6 +88,22 @@ impl Network {
             links,
             attachments,
             prefixes,
+        })
+    }
+
+    /// An equal network, in memory of the same allocator. It takes time and memory by the links and the
+    /// attachments.
+    pub fn copy(&self) -> Result<Network, NoMemory>
+        ensures { IfOk result (λ n. n ≡ self.now) }
+    {
+        let alloc = *self.links.allocator();
+        let links = Vec::from_slice(alloc, &self.links)?;
+        let attachments = Vec::from_slice(alloc, &self.attachments)?;
+        Ok(Network {
+            routers: self.routers,
+            links,
+            attachments,
+            prefixes: self.prefixes,
         })
     }
 

@@ -1,6 +1,6 @@
 //! The world: routers and links, and the steps that change them.
 
-ghost use Rattle.std.specs.Prelude.{ℕ, ◌≡◌, ◌+◌, ◌^◌, ◌<◌, ◌≤◌, ◌↔◌, true, false, length, map, take, slice_get, is_none, None, Some, Err, IfOk, IfErr, IfSome, IsOk, OnOk, OnErr, MatchOption, IsOkUnless, IsTrue, All, option_map};
+ghost use Rattle.std.specs.Prelude.{ℕ, ◌≡◌, ◌+◌, ◌^◌, ◌<◌, ◌≤◌, ◌↔◌, true, false, length, map, take, slice_get, is_none, None, Some, Err, IfOk, IfErr, IfSome, IsOk, OnOk, OnErr, MatchOption, IsOkUnless, IsTrue, All, option_map, option_and_then};
 ghost use Rattle.std.specs.List.{position_from};
 ghost use Rattle.std.specs.Option.{option_copied};
 ghost use Rattle.network_model.specs.World as model;
@@ -20,7 +20,7 @@ use crate::opening::{
     opening_attachments, opening_costs, opening_places, opening_prefixes, opening_routers,
 };
 use link_fifo::Links;
-use network_model::{Cost, NoMemory, Place, Prefix, Refusal, SmallAllocator, Step};
+use network_model::{Cost, NoMemory, Notice, Place, Prefix, Refusal, SmallAllocator, Step};
 use router_core::Router;
 use std::alloc::Global;
 use std::marker::Model;
@@ -137,6 +137,15 @@ impl<A: SmallAllocator> World<A> {
             ≡ Some result }
     {
         self.attachments[usize::from(router)].notices()
+    }
+
+    /// The notice of its attachments that a router takes after `place` others; none where fewer wait, or
+    /// where there is no such router.
+    pub fn notice(&self, router: u16, place: usize) -> Option<Notice>
+        ensures { result ≡ option_and_then (λ a. slice_get a.notices place)
+            (slice_get (self.now).attachments router) }
+    {
+        self.attachments.get(usize::from(router))?.notice(place)
     }
 
     /// What a router has to do next: the first of a release, a publication, and a delivery by ascending
