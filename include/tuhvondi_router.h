@@ -30,7 +30,7 @@
  *   - No packet meets a router twice. This also holds while links fail, messages are lost and processes begin
  *     anew (`no_packet_circles` of crates/daemon_laws).
  *   - Once links, costs and attachments stay as they are and no process begins anew, the network comes to
- *     rest. It does so at least cost if it has at most 256 routers, no message is lost and the ends of
+ *     rest. It does so at least cost if it has at most 65,536 routers, no message is lost and the ends of
  *     each link agree (`processes_converge` of crates/daemons_come_to_rest).
  *
  * The library refuses what no router sends (TUHVONDI_UNASKED, TUHVONDI_ASKED_TWICE, TUHVONDI_OTHER_SESSION).
