@@ -86,7 +86,7 @@ fn show_script<H: Host, W: Write, E: Write>(
     err: &mut E,
 ) -> u8
     requires { length text.now ≤ most_bytes }
-    ensures { result ≡ 0 → (lines : Text) × IsRunToEnd text.now [] lines
+    ensures { result ≡ 0 → (lines : Text) × IsRunToEnd true text.now [] lines
         × IsShown json text.now lines (W.contents out.old) (W.contents out.new) }
 {
     let mut lines = Vec::new(alloc);
@@ -105,7 +105,7 @@ fn run<H: Host, E: Write>(
     err: &mut E,
     journal: &mut Vec<u8>,
 ) -> u8
-    ensures { result ≡ 0 → IsRunToEnd text.now journal.old.items journal.new.items }
+    ensures { result ≡ 0 → IsRunToEnd true text.now journal.old.items journal.new.items }
 {
     let words = Words::Run {
         file: "",
