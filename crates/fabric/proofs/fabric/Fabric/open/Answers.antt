@@ -1,5 +1,6 @@
 use Rattle.std.proofs.Common.{rules, ◌≡◌, ◌∙◌, ◌≤◌, ◌+◌, [], All, map, length, vec_len, refl, ap, subst, sym, arith, vec_capacity}
-use Rattle.packet_loops.proofs.Common.{length-map, World, opening, Image}
+use Rattle.packet_loops.proofs.Common.{IsNetwork, most_routers, length-map, World, opening, Image}
+use Rattle.packet_loops.proofs.Wiring.{few_routers}
 use Rattle.publication.specs.Lists.{no_patches}
 use Rattle.fabric.specs.Images.{chosen_image}
 use Rattle.fabric.specs.Desks.{all_lent, desk_in, writings}
@@ -29,6 +30,10 @@ count g c =
     let long : length c.in_ok-images.images.items ≡ c.args.network.routers =
     ap length (images g c) ∙ length-map (opening c.args.network).routers chosen_image ∙ router_count c.args.network [] (opening c.args.network) refl in
     search rules
+
+pub open_all-requires-clause-few : goal.open_all-requires-clause-few
+open_all-requires-clause-few g c =
+    subst (λ k. k ≤ most_routers) (sym (count g c)) (few_routers c.args.network (subst IsNetwork c.network.view_is c.network.invariant.0))
 
 pub open_all-requires-clause-each : goal.open_all-requires-clause-each
 open_all-requires-clause-each g c = c.requires.each ∙ sym (count g c)
