@@ -12,6 +12,7 @@ use image_patch::{Apply, Patch};
 use network_model::{NoMemory, Refusal, SmallAllocator, Step};
 use router_core::Router;
 use tree_bitmap::Image;
+use tree_bitmap::parts::copy;
 use world::{WatchedWorld, World};
 
 // What a publication of the router would set in its image, did it publish now.
@@ -107,4 +108,18 @@ pub fn opening_images<A: SmallAllocator>(
         images.push(compile(alloc, router.table())?)?;
     }
     Ok(images)
+}
+
+// Equal images, in memory of this allocator.
+pub fn copy_images<A: SmallAllocator>(
+    alloc: A,
+    images: &[Image<A>],
+) -> Result<Vec<Image<A>, A>, NoMemory>
+    ensures { IfOk result (λ v. v.items ≡ images.now) }
+{
+    let mut copies = Vec::with_capacity(alloc, images.len())?;
+    for image in images {
+        copies.push_reserved(copy(image, alloc)?);
+    }
+    Ok(copies)
 }

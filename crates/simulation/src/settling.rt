@@ -1,6 +1,7 @@
 //! Turns of routers until nothing is left to do.
 
-ghost use Rattle.std.specs.Prelude.{ℕ, ◌≡◌, ◌<◌, None, Some, IfSome};
+ghost use Rattle.std.specs.Prelude.{ℕ, ◌≡◌, ◌<◌, ◌≤◌, None, Some, IfSome};
+ghost use Rattle.network_model.specs.Network.{most_routers};
 ghost use Rattle.network_model.specs.Turns as turns;
 
 use crate::watch::Watch;
@@ -45,13 +46,13 @@ impl Draws {
 pub struct Turns {
     order: Order,
     draws: Draws,
-    routers: u16,
+    routers: usize,
     from: u16,
 }
 
 impl Turns {
     /// The first turn, in a network of so many routers.
-    pub fn new(order: Order, routers: u16) -> Turns {
+    pub fn new(order: Order, routers: usize) -> Turns {
         let seed = match order {
             Order::Cyclic => 0,
             Order::Seeded(seed) => seed,
@@ -75,7 +76,7 @@ impl Turns {
     pub fn after(&mut self, router: u16) {
         self.from = match self.order {
             Order::Cyclic => router.wrapping_add(1),
-            Order::Seeded(_) => self.draws.draw() % self.routers.max(1),
+            Order::Seeded(_) => (usize::from(self.draws.draw()) % self.routers.max(1)) as u16,
         };
     }
 }
@@ -100,11 +101,13 @@ fn first_watched<A: SmallAllocator>(
 }
 
 // The first of all routers that has something to do, and what that is.
-fn first_of_all<A: SmallAllocator>(world: &World<A>, routers: u16) -> Option<(u16, Step)>
+fn first_of_all<A: SmallAllocator>(world: &World<A>, routers: usize) -> Option<(u16, Step)>
+    requires { routers ≤ most_routers }
     ensures some { IfSome result (λ d. turns.next_step world.now d.0 ≡ Some d.1) }
     ensures none { result ≡ None → (i : ℕ) → i < routers → turns.next_step world.now i ≡ None }
 {
-    for router in 0..routers {
+    for place in 0..routers {
+        let router = place as u16;
         match world.next_step(router) {
             Some(step) => return Some((router, step)),
             None => {}
@@ -117,9 +120,10 @@ fn first_of_all<A: SmallAllocator>(world: &World<A>, routers: u16) -> Option<(u1
 pub fn first_due<A: SmallAllocator>(
     world: &World<A>,
     watch: &mut Watch<A>,
-    routers: u16,
+    routers: usize,
     from: u16,
 ) -> Option<(u16, Step)>
+    requires { routers ≤ most_routers }
     ensures some { IfSome result (λ d. turns.next_step world.now d.0 ≡ Some d.1) }
     ensures none { result ≡ None → (i : ℕ) → i < routers → turns.next_step world.now i ≡ None }
 {

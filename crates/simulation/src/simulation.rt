@@ -13,7 +13,7 @@ ghost use Rattle.simulation.specs.Settling.{HasTurned, IsStopped};
 ghost use Rattle.simulation.specs.Runs.{LeadsToRouters};
 ghost use Rattle.simulation.specs.Tracing.{HasEnded, HasShortWays, IsTraced, onward_of};
 
-use crate::images::{forward, opening_images};
+use crate::images::{copy_images, forward, opening_images};
 use crate::sent::{Sent, leaving};
 use crate::settling::{Order, Turns, first_due};
 use crate::tracing::{Onward, Traced, by_row};
@@ -74,6 +74,26 @@ impl<A: SmallAllocator> Simulation<A> {
         };
         simulation.holds();
         Ok(simulation)
+    }
+
+    /// An equal simulation in memory of this allocator: what becomes of one of the two leaves the other as it
+    /// is. Turns of the copy are those that this one would take. It takes time and memory by all that stands in
+    /// the network, and not by the steps that were done.
+    pub fn copy(&self, alloc: A) -> Result<Simulation<A>, NoMemory>
+        ensures { IfOk result (λ s. s ≡ self.now) }
+    {
+        let network = self.network.copy()?;
+        let world = self.world.copy(alloc)?;
+        let images = copy_images(alloc, &self.images)?;
+        let watch = self.watch.copy(alloc)?;
+        Ok(Simulation {
+            network,
+            world,
+            images,
+            steps: self.steps,
+            sent: self.sent,
+            watch,
+        })
     }
 
     /// The network that was opened.
@@ -322,7 +342,7 @@ impl<A: SmallAllocator> Simulation<A> {
         ensures none { result ≡ None → hops.new ≡ hops.old }
     {
         let routers = self.router_count();
-        if router >= routers {
+        if usize::from(router) >= routers {
             return None;
         }
         let mut at = router;
@@ -345,7 +365,7 @@ impl<A: SmallAllocator> Simulation<A> {
     }
 
     // How many routers there are, and what holds of a packet's ways.
-    fn router_count(&self) -> u16
+    fn router_count(&self) -> usize
         ensures count { result ≡ length (self.now).world.routers }
         ensures routers { LeadsToRouters (self.now).world }
         ensures ways { HasShortWays self.now }

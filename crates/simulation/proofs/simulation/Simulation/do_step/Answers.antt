@@ -1,11 +1,11 @@
-use Rattle.std.proofs.Common.{◌≡◌, ◌∙◌, ◌+◌, ◌<◌, ◌^◌, Ok, Err, Result, IsOk, MatchOption, refl, sym, ap, subst, arith}
+use Rattle.std.proofs.Common.{◌≡◌, ◌∙◌, ◌+◌, ◌<◌, ◌^◌, None, Ok, Err, Result, IsOk, MatchOption, refl, sym, ap, subst, arith}
 use Rattle.packet_loops.proofs.Common.{err_from_is_err_and, Lawful_to_refusal, Refusal, refusal}
 use Rattle.router_core.proofs.Refused.{gave_up}
 use Rattle.world.proofs.Done.{not_caused, only_cause}
-use Rattle.world.specs.Steps.{IsDoneOr}
+use Rattle.world.specs.Steps.{DeliveryNeedsMemory, IsDoneOr}
 use Rattle.simulation.specs.Counts.{leaving, with_sent}
 use Rattle.simulation.specs.Runs.{HasLinksOfPorts}
-use Rattle.simulation.specs.Simulation.{IsSimulation, simulation_of, simulation_refusal}
+use Rattle.simulation.specs.Simulation.{Simulation, IsSimulation, simulation_of, simulation_refusal}
 use Rattle.simulation.proofs.Runs.{links_of_ports}
 use Rattle.simulation.proofs.Simulations.{counted, is_after, kept_after, kept_same, passed_on, room_left, same_parts}
 use Rattle.simulation.proofs.simulation.Simulation.do_step.Goals as goal
@@ -45,6 +45,12 @@ returns-in_err-forward-clause-down g c l is =
     (sym (ap (λ s. simulation_refusal s c.args.step) (sym c.self.view_is) ∙ counted old c.args.step short
     ∙ only_cause (Unit {0}) (refusal c.self.inside.world c.args.step) c.in_err-forward.field-0.0 (c.in_err-forward.ensures.down l is)))
     (p.1 ∙ ap Err p.2)
+
+pub returns-in_err-forward-clause-room : goal.returns-in_err-forward-clause-room
+returns-in_err-forward-clause-room g c none i q is lawful =
+    gave_up c.from_residual.result
+    (subst (λ (s : Simulation). DeliveryNeedsMemory s.world i q) c.self.view_is
+    (c.in_err-forward.ensures.room i q is (subst (λ (s : Simulation). refusal s.world c.args.step ≡ None) (sym c.self.view_is) lawful)))
 
 pub invariant_of-self-2 : goal.invariant_of-self-2
 invariant_of-self-2 g c =

@@ -78,7 +78,8 @@ returns-clause-ended g c = λ enough.
     let over = c.loop-count-test.false in
     let room = l.invariant.room in
     let count = c.router_count-routers.ensures.count in
-    let there = c.if-router-routers.false in
+    let there = c.if-from-routers.false in
+    let number = c.from.ensures in
     let none_left : length old - l.count ≡ 0 = omega (arith, up_to, over, room) in
-    absurd (unfinished c.args.self.now c.router_count-routers.ensures.ways c.args.addr c.args.router old (take l.count l.hops) (omega (arith, count, there)) enough
+    absurd (unfinished c.args.self.now c.router_count-routers.ensures.ways c.args.addr c.args.router old (take l.count l.hops) (omega (arith, count, there, number)) enough
     (ap (λ xs. passed xs None) (sym (append-nil (take l.count l.hops))) ∙ ap (λ m. behind (take l.count l.hops) (through_from m w c.args.addr l.at)) (sym none_left) ∙ l.invariant.way))
