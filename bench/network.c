@@ -8,9 +8,11 @@
  *      networks with each fault. Each call has to answer the status of the header, and to write nothing.
  *   2. Refused memory: each call that takes memory is refused its first allocation, then its second and so
  *      on, until it is done. It has to answer TUHVONDI_NO_MEMORY, and all that can be asked of the network
- *      has to be as before. Of a run and of turns only the steps that were done may have changed it.
+ *      has to be as before. Of a run and of turns only the steps that were done may have changed it. A copy that
+ *      is refused gives all its memory back.
  *   3. STEPS random steps in a random network. After each, a packet is followed from each router: it has to
- *      end, at a router that it has not passed. Now and then routers take turns until nothing is left to do.
+ *      end, at a router that it has not passed. Now and then a copy takes the network's place, of which all that
+ *      can be asked is the same. Now and then routers take turns until nothing is left to do.
  *      Then each distance has to be the least cost, and no machine may be active.
  *
  * It ends with status 1 if anything is not as it has to be, or if memory is not given back.
@@ -147,6 +149,8 @@ static uint64_t mix(uint64_t sum, const void *bytes, size_t size)
 static uint64_t sum_of_router(uint64_t sum, uint16_t router)
 {
     static struct tuhvondi_item items[MOST_ITEMS];
+    static struct tuhvondi_message messages[MOST_ITEMS];
+    static struct tuhvondi_notice notices[MOST_ITEMS];
     struct tuhvondi_row rows[PREFIXES];
     struct tuhvondi_gate gate;
     struct tuhvondi_step next;
@@ -168,6 +172,17 @@ static uint64_t sum_of_router(uint64_t sum, uint16_t router)
         NEED(status == 0 || status == TUHVONDI_UNKNOWN_PREFIX);
         sum = mix(sum, &machine, sizeof machine);
     }
+    memset(messages, 0, sizeof messages);
+    NEED(tuhvondi_network_held(&network, router, messages, MOST_ITEMS, &written, &more) == 0 && more == 0);
+    NEED(written == gate.held);
+    NEED(gate.ripe == 0 || memcmp(&messages[0], &gate.front, offsetof(struct tuhvondi_message, port)) == 0);
+    for (size_t i = 0; i < written; i++)
+        sum = mix(sum, &messages[i], sizeof messages[i]);
+    memset(notices, 0, sizeof notices);
+    NEED(tuhvondi_network_notices(&network, router, notices, MOST_ITEMS, &written, &more) == 0 && more == 0);
+    NEED(written == gate.notices);
+    for (size_t i = 0; i < written; i++)
+        sum = mix(sum, &notices[i], sizeof notices[i]);
     for (uint8_t port = 0; port < TUHVONDI_PORTS; port++) {
         memset(items, 0, sizeof items[0] * 64);
         uint32_t status = tuhvondi_network_queue(&network, router, port, items, MOST_ITEMS, &written, &more);
@@ -201,7 +216,7 @@ static uint64_t sum_of_network(void)
 
 static void refuse_empty_handle(void)
 {
-    struct tuhvondi_network empty = TUHVONDI_NO_NETWORK;
+    struct tuhvondi_network empty = TUHVONDI_NO_NETWORK, other = TUHVONDI_NO_NETWORK;
     struct tuhvondi_step step = {.kind = TUHVONDI_LINK_UP};
     struct tuhvondi_step bad = {.kind = 8};
     struct tuhvondi_row row = {.kind = 77};
@@ -209,6 +224,8 @@ static void refuse_empty_handle(void)
     struct tuhvondi_link_state state = {.up = 77};
     struct tuhvondi_item item = {.kind = 77};
     struct tuhvondi_gate gate = {.due = 77};
+    struct tuhvondi_message message = {.kind = 77};
+    struct tuhvondi_notice notice = {.len = 77};
     struct tuhvondi_network_counts counts = {.steps = 77};
     uint32_t addr = 0;
     uint16_t hop = 77;
@@ -229,8 +246,12 @@ static void refuse_empty_handle(void)
     NEED(tuhvondi_network_link(&empty, 0, &state) == TUHVONDI_NO_NETWORK_HELD);
     NEED(tuhvondi_network_queue(&empty, 0, 0, &item, 1, &count, &flag) == TUHVONDI_NO_NETWORK_HELD);
     NEED(tuhvondi_network_gate(&empty, 0, &gate) == TUHVONDI_NO_NETWORK_HELD);
+    NEED(tuhvondi_network_held(&empty, 0, &message, 1, &count, &flag) == TUHVONDI_NO_NETWORK_HELD);
+    NEED(tuhvondi_network_notices(&empty, 0, &notice, 1, &count, &flag) == TUHVONDI_NO_NETWORK_HELD);
+    NEED(tuhvondi_network_copy(&empty, &other) == TUHVONDI_NO_NETWORK_HELD && !other.holds_);
     NEED(tuhvondi_network_counts(&empty, &counts) == TUHVONDI_NO_NETWORK_HELD);
     NEED(row.kind == 77 && machine.successor == 77 && state.up == 77 && item.kind == 77 && gate.due == 77);
+    NEED(message.kind == 77 && notice.len == 77);
     NEED(counts.steps == 77 && hop == 77 && count == 77 && flag == 77);
     tuhvondi_network_free(&empty);
 }
@@ -274,6 +295,52 @@ static void refuse_networks(void)
     NEED(!network.holds_);
 }
 
+static uint32_t open_within(struct tuhvondi_limits limits, size_t routers, struct tuhvondi_fault_place *place)
+{
+    return tuhvondi_network_within(&limits, routers, links, link_count, owners, owner_count, place, &network);
+}
+
+/* A network that is as large as its limits is opened, and with each limit one less it is refused. */
+static void refuse_limits(void)
+{
+    static const struct tuhvondi_limits widest = TUHVONDI_WIDEST_LIMITS;
+    struct tuhvondi_limits tight = {.routers = ROUTERS, .links = LINKS, .prefixes = PREFIXES, .attachments = OWNERS};
+    struct tuhvondi_fault_place place;
+    size_t degree[ROUTERS] = {0};
+    for (size_t i = 0; i < link_count; i++) {
+        degree[links[i].a]++;
+        degree[links[i].b]++;
+    }
+    for (size_t i = 0; i < ROUTERS; i++)
+        tight.ports = degree[i] > tight.ports ? degree[i] : tight.ports;
+    const struct { size_t *limit; size_t most; uint32_t status; uint8_t list; } rows[] = {
+        {&tight.routers, widest.routers, TUHVONDI_BAD_ROUTERS, 0},
+        {&tight.links, widest.links, TUHVONDI_TOO_MANY_LINKS, 1},
+        {&tight.ports, widest.ports, TUHVONDI_TOO_MANY_LINKS, 1},
+        {&tight.prefixes, widest.prefixes, TUHVONDI_BAD_OWNER, 2},
+        {&tight.attachments, widest.attachments, TUHVONDI_BAD_OWNER, 2},
+    };
+    for (size_t i = 0; i < sizeof rows / sizeof *rows; i++) {
+        size_t right = *rows[i].limit;
+        size_t wrong[] = {right - 1, 0, rows[i].most + 1, SIZE_MAX};
+        for (size_t w = 0; w < 4; w++) {
+            step_number = i * 4 + w;
+            *rows[i].limit = wrong[w];
+            uint32_t status = open_within(tight, ROUTERS, &place);
+            NEED(status == (w < 2 ? rows[i].status : TUHVONDI_BAD_LIMITS));
+            NEED(place.list == (w < 2 ? rows[i].list : 0) && (place.list != 0 || place.position == 0));
+        }
+        *rows[i].limit = right;
+    }
+    NEED(open_within(widest, 0, &place) == TUHVONDI_BAD_ROUTERS);
+    NEED(open_within(widest, 65537, &place) == TUHVONDI_BAD_ROUTERS);
+    NEED(open_within(widest, SIZE_MAX, &place) == TUHVONDI_BAD_ROUTERS);
+    NEED(!network.holds_);
+    /* Lists that are empty may be null. */
+    NEED(tuhvondi_network_within(&widest, 65536, NULL, 0, NULL, 0, &place, &network) == 0);
+    NEED(open_within(tight, ROUTERS, &place) == 0);
+}
+
 static void refuse_arguments(void)
 {
     struct tuhvondi_fault_place place;
@@ -283,6 +350,8 @@ static void refuse_arguments(void)
     struct tuhvondi_link_state state;
     struct tuhvondi_item item;
     struct tuhvondi_gate gate;
+    struct tuhvondi_message message = {.kind = 77};
+    struct tuhvondi_notice notice = {.len = 77};
     uint32_t addrs[2] = {prefix_addr(0), UINT32_MAX};
     uint16_t hop = 77;
     size_t count = 77;
@@ -325,6 +394,9 @@ static void refuse_arguments(void)
     NEED(tuhvondi_network_queue(&network, ROUTERS, 0, &item, 1, &count, &flag) == TUHVONDI_UNKNOWN_ROUTER);
     NEED(tuhvondi_network_queue(&network, 0, 255, &item, 1, &count, &flag) == TUHVONDI_UNKNOWN_LINK);
     NEED(tuhvondi_network_gate(&network, ROUTERS, &gate) == TUHVONDI_UNKNOWN_ROUTER);
+    NEED(tuhvondi_network_held(&network, ROUTERS, &message, 1, &count, &flag) == TUHVONDI_UNKNOWN_ROUTER);
+    NEED(tuhvondi_network_notices(&network, UINT16_MAX, &notice, 1, &count, &flag) == TUHVONDI_UNKNOWN_ROUTER);
+    NEED(message.kind == 77 && notice.len == 77);
     NEED(row.kind == 77 && hop == 77 && count == 77 && flag == 77);
     /* Without room nothing is written, and no more than is there. */
     NEED(tuhvondi_network_trace(&network, 0, 0, &hop, 0, &count, &flag) == 0);
@@ -351,6 +423,29 @@ static void refuse_memory_of_new(void)
         NEED(status == 0 || (status == TUHVONDI_NO_MEMORY && place.list == 0 && place.position == 0));
         NEED(sum_of_network() == before);
     }
+}
+
+/* A copy is refused each of its allocations first. Then all that can be asked of it is as of the network, and it
+ * takes the network's place, so that what comes after is done by a copy. */
+static void copy_with_refusals(void)
+{
+    struct tuhvondi_network copy = TUHVONDI_NO_NETWORK;
+    uint64_t before = sum_of_network();
+    uint32_t status = TUHVONDI_NO_MEMORY;
+    for (size_t n = 0; status != 0; n++) {
+        size_t refused_before = refused, blocks = blocks_out;
+        until_refused = n;
+        status = tuhvondi_network_copy(&network, &copy);
+        until_refused = SIZE_MAX;
+        NEED(status == 0 || (status == TUHVONDI_NO_MEMORY && refused > refused_before && blocks_out == blocks));
+        NEED(copy.holds_ == (status == 0));
+    }
+    NEED(sum_of_network() == before);
+    struct tuhvondi_network old = network;
+    network = copy;
+    NEED(sum_of_network() == before);
+    tuhvondi_network_free(&old);
+    NEED(sum_of_network() == before);
 }
 
 /* Does a step that is refused each of its allocations first. */
@@ -486,6 +581,8 @@ static void do_random_steps(uint64_t steps)
                 attached[step.subject][prefix] = step.kind == TUHVONDI_ATTACH ? step.cost : 0;
         }
         follow_packets();
+        if (below(1000) == 0)
+            copy_with_refusals();
         if (below(400) == 0) {
             size_t done;
             uint8_t settled;
@@ -511,6 +608,7 @@ int main(int argc, char **argv)
     size_t blocks = blocks_out;
     refuse_empty_handle();
     refuse_networks();
+    refuse_limits();
     refuse_arguments();
     refuse_memory_of_new();
     refuse_memory_of_lists();

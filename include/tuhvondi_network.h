@@ -70,15 +70,17 @@ enum tuhvondi_network_status {
     TUHVONDI_NOTHING_TO_DELIVER = 16,
     /* 2^64 - 1 steps were done. */
     TUHVONDI_STEPS_SPENT = 19,
-    /* There is no router, or there are more than 256. */
+    /* There is no router, or there are more than the limit. */
     TUHVONDI_BAD_ROUTERS = 24,
     /* An end of the link is no router, both ends are one router, or an earlier link joins the same two. */
     TUHVONDI_BAD_LINK = 25,
-    /* It is the 1025th link, or the 33rd of one of its routers. */
+    /* It is past the limit of links, or of the links of one of its routers. */
     TUHVONDI_TOO_MANY_LINKS = 26,
-    /* There is no such router, or an earlier attachment is of the same prefix and router. Or it is the
-     * 4097th prefix, or the 16385th attachment. */
-    TUHVONDI_BAD_OWNER = 27
+    /* There is no such router, or an earlier attachment is of the same prefix and router. Or it is past the
+     * limit of attachments, or its prefix is past the limit of prefixes. */
+    TUHVONDI_BAD_OWNER = 27,
+    /* A limit is above that of TUHVONDI_WIDEST_LIMITS. */
+    TUHVONDI_BAD_LIMITS = 50
 };
 
 /* A status of a network in words, for messages: never null, and not to be freed. */
@@ -98,19 +100,37 @@ static inline const char *tuhvondi_network_status_text(uint32_t status)
     case TUHVONDI_STEPS_SPENT:
         return "as many steps were done as can be counted";
     case TUHVONDI_BAD_ROUTERS:
-        return "a network has 1 to 256 routers";
+        return "a network has 1 router or more, and no more than its limit";
     case TUHVONDI_BAD_LINK:
         return "the link does not join two routers that no earlier link joins";
     case TUHVONDI_TOO_MANY_LINKS:
-        return "a network has at most 1024 links, and a router 32";
+        return "the link is past the limit of links, or of those of a router";
     case TUHVONDI_BAD_OWNER:
         return "the attachment is of no router, was given before, or is one too many";
+    case TUHVONDI_BAD_LIMITS:
+        return "a limit is above the widest";
     case TUHVONDI_UNKNOWN_PREFIX:
         return "the prefix is not known there";
     default:
         return tuhvondi_status_text(status);
     }
 }
+
+/* How large a network may be: the most routers, links, links of one router, prefixes (each counted once) and
+ * attachments. A limit of 0 is allowed. No network is within a limit of no routers. */
+struct tuhvondi_limits {
+    size_t routers;
+    size_t links;
+    size_t ports;
+    size_t prefixes;
+    size_t attachments;
+};
+
+/* The limits of tuhvondi_network_new, which are those of the program. */
+#define TUHVONDI_PROGRAM_LIMITS {256, 1024, 32, 4096, 16384}
+
+/* The widest limits, within which all that is proved holds: routers and links have numbers of 16 bits. */
+#define TUHVONDI_WIDEST_LIMITS {65536, 65536, 32, 4294967295u, 4294967295u}
 
 /* A link: the cost from each of its two routers, 1 to 65535, and their numbers, from 0. A router's ports are
  * its ends of links, in the order of the links. */
@@ -285,12 +305,22 @@ struct tuhvondi_network {
 
 TUHVONDI_ASSERT(sizeof(struct tuhvondi_network) == 16, "a handle takes 16 bytes");
 
+/* A notice that a router is attached to a prefix at this cost, or no more if the cost is 0. */
+struct tuhvondi_notice {
+    uint32_t addr;
+    uint32_t cost;
+    uint8_t len;
+};
+
+TUHVONDI_ASSERT(sizeof(struct tuhvondi_notice) == 12, "a notice takes 12 bytes");
+
 /* What a handle begins with: it holds no network. */
 #define TUHVONDI_NO_NETWORK {NULL, false}
 
 /* Opens a network of so many routers, with these links and attachments. Puts it into the handle, and frees
  * the network that the handle held. All links are down. The attachments are published, so each router has a
- * row of kind TUHVONDI_LOCAL for each of its own. No other prefix can be attached later.
+ * row of kind TUHVONDI_LOCAL for each of its own. No other prefix can be attached later. The limits are
+ * TUHVONDI_PROGRAM_LIMITS.
  * Refused, in this order, and then `place` says where:
  *   - TUHVONDI_BAD_COST of the first link that has it
  *   - TUHVONDI_BAD_LENGTH, TUHVONDI_HOST_BITS or TUHVONDI_BAD_COST of the first attachment that has one
@@ -299,6 +329,22 @@ TUHVONDI_ASSERT(sizeof(struct tuhvondi_network) == 16, "a handle takes 16 bytes"
 uint32_t tuhvondi_network_new(uint16_t routers, const struct tuhvondi_link *links, size_t link_count,
                               const struct tuhvondi_owner *owners, size_t owner_count,
                               struct tuhvondi_fault_place *place, struct tuhvondi_network *network);
+
+/* Opens a network as tuhvondi_network_new does, but within these limits, and with up to 65536 routers. Its time
+ * is that of sorting the lists. For example, 65536 routers in a line take 130 MB, and 230 MB once each has a row.
+ * Refused first if a limit is above the widest: TUHVONDI_BAD_LIMITS, in no list. Then it is refused as
+ * tuhvondi_network_new is. */
+uint32_t tuhvondi_network_within(const struct tuhvondi_limits *limits, size_t routers,
+                                 const struct tuhvondi_link *links, size_t link_count,
+                                 const struct tuhvondi_owner *owners, size_t owner_count,
+                                 struct tuhvondi_fault_place *place, struct tuhvondi_network *network);
+
+/* Has `other` hold a network of its own that is equal to that of `network`, and frees the network that `other`
+ * held. All that can be asked of the two has the same answers, and so have the same steps and turns. What
+ * becomes of one leaves the other as it is. Its time and memory grow with what is in the network, and not
+ * with the steps that were done.
+ * Refused: TUHVONDI_NO_NETWORK_HELD, TUHVONDI_NO_MEMORY. */
+uint32_t tuhvondi_network_copy(struct tuhvondi_network *network, struct tuhvondi_network *other);
 
 /* Does a step.
  * Refused, in this order: TUHVONDI_BAD_LENGTH, TUHVONDI_HOST_BITS, TUHVONDI_BAD_COST, TUHVONDI_BAD_KIND,
@@ -379,6 +425,21 @@ uint32_t tuhvondi_network_queue(struct tuhvondi_network *network, uint16_t route
  * Refused, and then nothing is written: TUHVONDI_NO_NETWORK_HELD, TUHVONDI_UNKNOWN_ROUTER. */
 uint32_t tuhvondi_network_gate(struct tuhvondi_network *network, uint16_t router,
                                struct tuhvondi_gate *gate);
+
+/* Writes the messages that a router holds back, oldest first, as many as there is room for. The first of them
+ * may leave: tuhvondi_network_gate says how many (`ripe`). Writes how many were written, and 1 to `more` if
+ * there are more, else 0. It takes no memory.
+ * Refused, and then nothing is written: TUHVONDI_NO_NETWORK_HELD, TUHVONDI_UNKNOWN_ROUTER. */
+uint32_t tuhvondi_network_held(struct tuhvondi_network *network, uint16_t router,
+                               struct tuhvondi_message *messages, size_t message_count,
+                               size_t *written, uint8_t *more);
+
+/* Writes the notices of its own attachments that a router has yet to take, oldest first, as many as there is
+ * room for. Writes how many these are, and 1 to `more` if there are more, else 0. It takes no memory.
+ * Refused, and then nothing is written: TUHVONDI_NO_NETWORK_HELD, TUHVONDI_UNKNOWN_ROUTER. */
+uint32_t tuhvondi_network_notices(struct tuhvondi_network *network, uint16_t router,
+                                  struct tuhvondi_notice *notices, size_t notice_count,
+                                  size_t *written, uint8_t *more);
 
 /* Writes how many steps were done, and how many messages of each kind they put on links.
  * Refused, and then nothing is written: TUHVONDI_NO_NETWORK_HELD. */

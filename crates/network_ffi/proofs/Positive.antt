@@ -7,7 +7,7 @@ use Rattle.c_interface.specs.Faults.{fault_number}
 use Rattle.c_interface.specs.declared.fault.Fault.{Fault}
 use Rattle.network_ffi.specs.Failures.{failure_number, network_number, refusal_number}
 use Rattle.network_ffi.specs.declared.failure.Failure.{Failure}
-use Rattle.network_ffi.specs.declared.failure.Failure.TheVariants.{Given, Network, Refused}
+use Rattle.network_ffi.specs.declared.failure.Failure.TheVariants.{Given, BadLimits, Network, Refused}
 
 pub fault_positive : (f : Fault) → 0 < fault_number f
 fault_positive Fault.BadLength = omega arith
@@ -60,5 +60,6 @@ network_positive (BadOwner p) = omega arith
 
 pub positive : (f : Failure) → 0 < failure_number f
 positive (Given f) = fault_positive f
+positive BadLimits = omega arith
 positive (Network f) = network_positive f
 positive (Refused e) = refusal_positive e

@@ -33,6 +33,10 @@ abbrev pub held_fault : (Simulation → Option Failure) → Option Simulation �
 held_fault test None = Some (Given Empty)
 held_fault test (Some s) = test s
 
+-- why nothing is done with a network as a whole: the handle holds none
+abbrev pub at_all : Option Simulation → Option Failure
+at_all held = held_fault (λ s. None) held
+
 -- what the test of router i finds; that there is none comes first
 abbrev pub router_fault : {X : Type 0} → (X → Option Failure) → List X → ℕ → Option Failure
 router_fault test xs i = option_map_or test (slice_get xs i) (Some (Refused Refusal.UnknownRouter))

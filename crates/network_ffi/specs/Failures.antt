@@ -6,7 +6,7 @@ use Rattle.network_model.specs.declared.step.Refusal.{Refusal}
 use Rattle.network_model.specs.declared.step.Refusal.TheVariants.{UnknownRouter, UnknownLink, AlreadyUp, IsDown, SessionsSpent, NothingToDeliver, NothingDue, NothingRipe, JournalFull, NoMemory, Busy, Stale, NoReaderPlace, UnknownPrefix, NotAttached, NoImage, WrongTicket}
 use Rattle.c_interface.specs.Faults.{fault_number}
 use Rattle.network_ffi.specs.declared.failure.Failure.{Failure}
-use Rattle.network_ffi.specs.declared.failure.Failure.TheVariants.{Given, Network, Refused}
+use Rattle.network_ffi.specs.declared.failure.Failure.TheVariants.{Given, BadLimits, Network, Refused}
 
 -- the number of the refusal of a step
 abbrev pub refusal_number : Refusal → ℕ
@@ -38,6 +38,7 @@ network_number (BadOwner p) = 27
 -- the number by which C knows why a call is refused
 abbrev pub failure_number : Failure → ℕ
 failure_number (Given f) = fault_number f
+failure_number BadLimits = 50
 failure_number (Network f) = network_number f
 failure_number (Refused e) = refusal_number e
 

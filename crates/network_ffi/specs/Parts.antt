@@ -3,18 +3,20 @@ use Rattle.std.specs.Prelude.{◌≡◌, ◌⊎◌, ℕ, ◌+◌, nat_le, ◌&&�
 use Rattle.std.specs.Option.{option_map_or}
 use Rattle.metric.specs.Distance.{greatest_cost}
 use Rattle.ipv4_prefix.specs.Prefix.{Prefix}
+use Rattle.network_model.specs.declared.network.Limits.{Limits}
 use Rattle.network_model.specs.declared.network.LinkSpec.{LinkSpec}
 use Rattle.network_model.specs.declared.network.NetworkFault.{NetworkFault}
 use Rattle.network_model.specs.declared.network.NetworkFault.TheVariants.{BadRouters, BadLink, TooManyLinks, BadOwner}
 use Rattle.network_model.specs.World.{Network}
-use Rattle.network_model.specs.Network.{network_fault}
+use Rattle.network_model.specs.Network.{network_fault, widest_limits, AreWithin}
 use Rattle.c_interface.specs.Faults.{first_of}
 use Rattle.c_interface.specs.Rows.{prefix_fault}
 use Rattle.c_interface.specs.declared.fault.Fault.{Fault}
 use Rattle.c_interface.specs.declared.fault.Fault.TheVariants.{BadCost, NoMemory}
 use Rattle.network_ffi.specs.Failures.{failure_number}
 use Rattle.network_ffi.specs.declared.failure.Failure.{Failure}
-use Rattle.network_ffi.specs.declared.failure.Failure.TheVariants.{Given, Network as InNetwork}
+use Rattle.network_ffi.specs.declared.failure.Failure.TheVariants.{Given, BadLimits, Network as InNetwork}
+use Rattle.network_ffi.specs.declared.parts.LimitsParts.{LimitsParts}
 use Rattle.network_ffi.specs.declared.parts.LinkParts.{LinkParts}
 use Rattle.network_ffi.specs.declared.parts.AttachmentParts.{AttachmentParts}
 use Rattle.network_ffi.specs.declared.parts.FaultPlace.{FaultPlace}
@@ -26,6 +28,11 @@ cost_fault n = if nat_le 1 n && nat_le n greatest_cost then None else Some BadCo
 -- the prefix of these numbers, where they are one
 abbrev pub as_prefix : ℕ → ℕ → Prefix
 as_prefix addr len = record { addr = addr; len = len }
+
+-- ---- limits
+
+abbrev pub limits_of : LimitsParts → Limits
+limits_of l = record { routers = l.routers; links = l.links; ports = l.ports; prefixes = l.prefixes; attachments = l.attachments }
 
 -- ---- links
 
@@ -69,17 +76,23 @@ listed list f = (Given f.0, record { position = f.1; list = list })
 abbrev pub list_fault : List LinkParts → List AttachmentParts → Option (Failure × FaultPlace)
 list_fault links attachments = option_map_or (λ f. Some (listed 1 f)) (first_place link_fault 0 links) (option_map (listed 2) (first_place attachment_fault 0 attachments))
 
--- the first fault of the network that these make, with its place
-abbrev pub network_failure : ℕ → List LinkParts → List AttachmentParts → Option (Failure × FaultPlace)
-network_failure routers links attachments = option_map (λ f. (InNetwork f, place_of f)) (network_fault (parts_network routers links attachments))
+-- the first fault within these limits of the network that these make, with its place
+abbrev pub network_failure : Limits → ℕ → List LinkParts → List AttachmentParts → Option (Failure × FaultPlace)
+network_failure limits routers links attachments = option_map (λ f. (InNetwork f, place_of f)) (network_fault limits (parts_network routers links attachments))
 
 -- why no network is opened, by the faults of the lists and of the network: that of the lists comes first; then memory may be refused, which stands in no list, or else it is the network's
 abbrev pub IsOpeningFault : Option (Failure × FaultPlace) → Option (Failure × FaultPlace) → Failure × FaultPlace → Type 0
 IsOpeningFault None network f = (f ≡ (Given NoMemory, record { position = 0; list = 0 })) ⊎ (network ≡ Some f)
 IsOpeningFault (Some e) network f = f ≡ e
 
+-- why no network is opened within these limits: first that one of them is above the widest, which stands in no list
+abbrev pub IsFaultWithin : Limits → ℕ → List LinkParts → List AttachmentParts → Failure × FaultPlace → Type 0
+IsFaultWithin limits routers links attachments f =
+    ((AreWithin limits widest_limits → ⊥) × (f ≡ (BadLimits, record { position = 0; list = 0 })))
+    ⊎ (AreWithin limits widest_limits × IsOpeningFault (list_fault links attachments) (network_failure limits routers links attachments) f)
+
 -- what a call answers and writes that opens no network
-pub record IsNotOpened (routers : ℕ) (links : List LinkParts) (attachments : List AttachmentParts) (status : ℕ) (place : FaultPlace) : Type 0 where
+pub record IsNotOpened (limits : Limits) (routers : ℕ) (links : List LinkParts) (attachments : List AttachmentParts) (status : ℕ) (place : FaultPlace) : Type 0 where
   pub failure : Failure
-  pub cause : IsOpeningFault (list_fault links attachments) (network_failure routers links attachments) (failure, place)
+  pub cause : IsFaultWithin limits routers links attachments (failure, place)
   pub number : status ≡ failure_number failure

@@ -1,4 +1,4 @@
--- What a machine, a link, a queue and a gate have, as C is shown it.
+-- What a machine, a link, a queue, a gate and notices have, as C is shown it.
 use Rattle.std.specs.Prelude.{◌≡◌, ℕ, nat_lt, List, map, take, drop, length, Option, option_and_then, option_map, slice_get, unwrap_or, IfSome}
 use Rattle.std.specs.List.{range_with_len}
 use Rattle.std.specs.Option.{option_map_or}
@@ -9,10 +9,12 @@ use Rattle.network_model.specs.Step.{is_due, ripe_front}
 use Rattle.network_model.specs.World.{Link, Router, World, side_at}
 use Rattle.network_model.specs.declared.item.Item.{Item}
 use Rattle.network_model.specs.declared.item.Item.TheVariants.{Up, Down, Cost, Message}
+use Rattle.network_model.specs.declared.item.Notice.{Notice}
 use Rattle.single_router.specs.Frames.{frame_of, message_kind_number}
 use Rattle.single_router.specs.States.{flag, state_of}
 use Rattle.single_router.specs.declared.frame.Frame.{Frame}
 use Rattle.network_ffi.specs.declared.gate.GateShown.{GateShown}
+use Rattle.network_ffi.specs.declared.gate.NoticeShown.{NoticeShown}
 use Rattle.network_ffi.specs.declared.link.ItemShown.{ItemShown}
 use Rattle.network_ffi.specs.declared.link.LinkShown.{LinkShown}
 use Rattle.network_ffi.specs.declared.machine.MachineShown.{MachineShown}
@@ -56,16 +58,16 @@ item_shown (Down session) = record { addr = 0; value = 0; session = session; kin
 item_shown (Cost session cost) = record { addr = 0; value = cost; session = session; kind = 5; len = 0 }
 item_shown (Message m) = record { addr = (m.prefix).addr; value = m.value; session = 0; kind = message_kind_number m.kind; len = (m.prefix).len }
 
--- of these items, oldest first, as many as there is room for were written over the first of those that were there: so many, and whether there are more
-pub record AreItemsOver (inbox : List Item) (old new : List ItemShown) (written more : ℕ) : Type 0 where
-  pub count : written ≡ length (take (length old) inbox)
-  pub first : take written new ≡ map item_shown (take (length old) inbox)
+-- of this list, oldest first, as many as there is room for were written, as C is shown them, over the first of those that were there: so many, and whether there are more
+pub record AreShownOver {X S : Type 0} (shown : X → S) (list : List X) (old new : List S) (written more : ℕ) : Type 0 where
+  pub count : written ≡ length (take (length old) list)
+  pub first : take written new ≡ map shown (take (length old) list)
   pub rest : drop written new ≡ drop written old
-  pub more_is : more ≡ flag (nat_lt (length old) (length inbox))
+  pub more_is : more ≡ flag (nat_lt (length old) (length list))
 
 -- so of the items that a router has yet to take from a port
 abbrev pub IsQueueShown : World → ℕ → ℕ → List ItemShown → List ItemShown → ℕ → ℕ → Type 0
-IsQueueShown w i q old new written more = IfSome (side_at w i q) (λ d. AreItemsOver d.inbox old new written more)
+IsQueueShown w i q old new written more = IfSome (side_at w i q) (λ d. AreShownOver item_shown d.inbox old new written more)
 
 -- ---- gates
 
@@ -86,3 +88,15 @@ gate_shown r notices = record {
 
 abbrev pub gate_at : ℕ → World → Option GateShown
 gate_at i w = option_and_then (λ r. option_map (λ a. gate_shown r (length a.notices)) (slice_get w.attachments i)) (slice_get w.routers i)
+
+-- of the messages that a router holds, so many were written
+abbrev pub AreHeldShown : World → ℕ → List Frame → List Frame → ℕ → ℕ → Type 0
+AreHeldShown w i old new written more = IfSome (slice_get w.routers i) (λ r. AreShownOver frame_of (r.gate).held old new written more)
+
+-- a notice of a router's own attachment as C has it: of one that is over the cost is 0
+abbrev pub notice_shown : Notice → NoticeShown
+notice_shown n = record { addr = (n.prefix).addr; cost = unwrap_or n.cost 0; len = (n.prefix).len }
+
+-- of the notices of its attachments that a router has yet to take, so many were written
+abbrev pub AreNoticesShown : World → ℕ → List NoticeShown → List NoticeShown → ℕ → ℕ → Type 0
+AreNoticesShown w i old new written more = IfSome (slice_get w.attachments i) (λ a. AreShownOver notice_shown a.notices old new written more)

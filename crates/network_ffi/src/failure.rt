@@ -11,6 +11,8 @@ use network_model::{NetworkFault, Refusal};
 pub enum Failure {
     /// What was given has a fault, or the handle holds nothing.
     Given(Fault),
+    /// A limit of a network is above the widest.
+    BadLimits,
     /// The network cannot be opened.
     Network(NetworkFault),
     /// A step, or a call at a router, is refused.
@@ -25,6 +27,7 @@ impl Failure {
     {
         match self {
             Failure::Given(fault) => fault.number(),
+            Failure::BadLimits => 50,
             Failure::Network(fault) => network_number(fault),
             Failure::Refused(refusal) => refusal_number(refusal),
         }

@@ -1,8 +1,11 @@
 //! What a router holds back, as C is shown it.
 
-ghost use Rattle.std.specs.Prelude.{◌≡◌, None, slice_get};
-ghost use Rattle.network_ffi.specs.Shown.{front_shown, gate_at, gate_shown};
+ghost use Rattle.std.specs.Prelude.{◌≡◌, ◌<◌, None, length, slice_get};
+ghost use Rattle.single_router.specs.States.{flag};
+ghost use Rattle.single_router.specs.Frames.{frame_of};
+ghost use Rattle.network_ffi.specs.Shown.{front_shown, gate_at, gate_shown, notice_shown, AreNoticesShown, AreShownOver};
 
+use network_model::Notice;
 use router_core::Router;
 use simulation::World;
 use single_router::Frame;
@@ -63,4 +66,57 @@ fn front_of(router: &Router) -> Frame
         Some(held) => Frame::of(held),
         None => NO_MESSAGE,
     }
+}
+
+/// A notice of a router's own attachment to a prefix: its cost, or 0 where it is attached no more.
+#[repr(C)]
+#[derive(Clone, Copy, Debug, PartialEq, Eq)]
+pub struct NoticeShown {
+    pub addr: u32,
+    pub cost: u32,
+    pub len: u8,
+}
+
+impl NoticeShown {
+    fn of(notice: Notice) -> NoticeShown
+        ensures { result ≡ notice_shown notice }
+    {
+        NoticeShown {
+            addr: notice.prefix.addr(),
+            cost: match notice.cost {
+                Some(cost) => cost.value(),
+                None => 0,
+            },
+            len: notice.prefix.len(),
+        }
+    }
+}
+
+/// Writes the messages that a router holds over the first of those that are there, oldest first and as many
+/// as fit: how many these are, and whether there are more.
+pub fn write_held(router: &Router, messages: &mut [Frame]) -> (usize, bool)
+    ensures { AreShownOver frame_of ((router.now).gate).held
+        messages.old messages.new result.0 (flag result.1) }
+{
+    for at in 0..messages.len() {
+        match router.message(at) {
+            Some(held) => messages[at] = Frame::of(held),
+            None => return (at, false),
+        }
+    }
+    (messages.len(), messages.len() < router.held())
+}
+
+/// Writes the notices of its attachments that a router has yet to take, in the same way.
+pub fn write_notices(world: &World, router: u16, notices: &mut [NoticeShown]) -> (usize, bool)
+    requires { router < length (world.now).routers }
+    ensures { AreNoticesShown world.now router notices.old notices.new result.0 (flag result.1) }
+{
+    for at in 0..notices.len() {
+        match world.notice(router, at) {
+            Some(notice) => notices[at] = NoticeShown::of(notice),
+            None => return (at, false),
+        }
+    }
+    (notices.len(), notices.len() < world.notices(router))
 }

@@ -1,4 +1,4 @@
-//! The calls that show what is on a machine, a link, a queue and a gate.
+//! The calls that show what is on a machine, a link, a queue, a gate and a queue of notices.
 
 ghost use Rattle.std.specs.Prelude.{◌≡◌, ◌≢◌, None, Some, IfErr, IfOk, IfSome, OnErr, OnOk, option_map, slice_get};
 ghost use Rattle.single_router.specs.States.{flag};
@@ -7,16 +7,17 @@ ghost use Rattle.network_ffi.specs.Calls.{at_link, at_machine, at_port, at_route
 ghost use Rattle.network_ffi.specs.Failures.{status_by};
 ghost use Rattle.network_ffi.specs.Handles.{handle_network};
 ghost use Rattle.network_ffi.specs.Parts.{as_prefix};
-ghost use Rattle.network_ffi.specs.Shown.{gate_at, link_shown, IsQueueShown};
+ghost use Rattle.network_ffi.specs.Shown.{gate_at, link_shown, AreHeldShown, AreNoticesShown, IsQueueShown};
 
 use crate::failure::Failure;
-use crate::gate::GateShown;
+use crate::gate::{GateShown, NoticeShown, write_held, write_notices};
 use crate::handle::NetworkHandle;
 use crate::link::{ItemShown, LinkShown, port_place, write_items};
 use crate::machine::MachineShown;
 use c_interface::{Fault, read_prefix};
 use network_model::{Prefix, Refusal};
 use simulation::World;
+use single_router::Frame;
 use std::alloc::Global;
 
 /// Writes what a router's machine for a prefix has. It takes no memory.
@@ -165,5 +166,73 @@ pub extern "C" fn tuhvondi_network_gate(
         return Failure::Refused(Refusal::UnknownRouter).number();
     };
     *gate = found;
+    0
+}
+
+/// Writes the messages that a router holds, oldest first and as many as there is room for, how many these
+/// are, and whether there are more (1, else 0). The ripe ones of them are the first. It takes no memory.
+#[unsafe(no_mangle)]
+pub extern "C" fn tuhvondi_network_held(
+    alloc: Global,
+    network: &mut NetworkHandle,
+    router: u16,
+    messages: &mut [Frame],
+    written: &mut usize,
+    more: &mut u8,
+) -> u32
+    ensures status { result ≡ status_by (at_router router (handle_network network.old)) }
+    ensures done { result ≡ 0 → IfSome (handle_network network.old) (λ s. AreHeldShown
+        s.world router messages.old messages.new written.new more.new) }
+    ensures refused { result ≢ 0 →
+        (messages.new ≡ messages.old) × (written.new ≡ written.old) × (more.new ≡ more.old) }
+    ensures network { handle_network network.new ≡ handle_network network.old }
+{
+    let Some(held) = network.take(alloc) else {
+        return Fault::Empty.number();
+    };
+    let told = match held.get().world().routers().get(usize::from(router)) {
+        Some(found) => Some(write_held(found, messages)),
+        None => None,
+    };
+    network.put(held);
+    let Some((count, left)) = told else {
+        return Failure::Refused(Refusal::UnknownRouter).number();
+    };
+    *written = count;
+    *more = u8::from(left);
+    0
+}
+
+/// Writes the notices of its attachments that a router has yet to take, oldest first and as many as there is
+/// room for, how many these are, and whether there are more (1, else 0). It takes no memory.
+#[unsafe(no_mangle)]
+pub extern "C" fn tuhvondi_network_notices(
+    alloc: Global,
+    network: &mut NetworkHandle,
+    router: u16,
+    notices: &mut [NoticeShown],
+    written: &mut usize,
+    more: &mut u8,
+) -> u32
+    ensures status { result ≡ status_by (at_router router (handle_network network.old)) }
+    ensures done { result ≡ 0 → IfSome (handle_network network.old) (λ s. AreNoticesShown
+        s.world router notices.old notices.new written.new more.new) }
+    ensures refused { result ≢ 0 →
+        (notices.new ≡ notices.old) × (written.new ≡ written.old) × (more.new ≡ more.old) }
+    ensures network { handle_network network.new ≡ handle_network network.old }
+{
+    let Some(held) = network.take(alloc) else {
+        return Fault::Empty.number();
+    };
+    let told = match held.get().world().routers().get(usize::from(router)) {
+        Some(_) => Some(write_notices(held.get().world(), router, notices)),
+        None => None,
+    };
+    network.put(held);
+    let Some((count, left)) = told else {
+        return Failure::Refused(Refusal::UnknownRouter).number();
+    };
+    *written = count;
+    *more = u8::from(left);
     0
 }

@@ -21,8 +21,8 @@
 //! the network's own refusal, and want of memory last (`step_fault` in `specs/Calls.antt`). If a call is
 //! done, the network is what `simulation` says, by the very definitions that its contracts cite. So all that
 //! is proved of a simulation holds of it, for example that no packet circles. If a call is refused, the
-//! network stays as it was, and nothing is written but what the contract names. Only `tuhvondi_network_new`
-//! and the calls that do steps ask for memory.
+//! network stays as it was, and nothing is written but what the contract names. Only `tuhvondi_network_new`,
+//! `tuhvondi_network_within`, `tuhvondi_network_copy` and the calls that do steps ask for memory.
 //!
 //! What is tricky is the pointer. Each call takes the box out of the handle, works on what is in it, and puts
 //! it back. So only three small functions touch the pointer (`src/handle.rt`), and these are proved by hand.
@@ -39,12 +39,13 @@ ghost use Rattle.single_router.specs.States.{flag};
 ghost use Rattle.simulation.specs.Simulation.{after_step, opening_simulation};
 ghost use Rattle.network_ffi.specs.Handles.{handle_network};
 ghost use Rattle.network_ffi.specs.Failures.{failure_number, status_by, IsStatusBy};
-ghost use Rattle.network_ffi.specs.Parts.{list_fault, network_failure, parts_network, IsNotOpened};
+ghost use Rattle.network_model.specs.Network.{program_limits, widest_limits, AreWithin};
+ghost use Rattle.network_ffi.specs.Parts.{limits_of, list_fault, network_failure, parts_network, IsNotOpened};
 ghost use Rattle.network_ffi.specs.Steps.{parts_of_step, step_of};
-ghost use Rattle.network_ffi.specs.Calls.{at_router, counts_of, ending_number, lookup_fault, step_fault, IsAnswered, IsFollowed, IsListed, IsRun, IsSettling};
+ghost use Rattle.network_ffi.specs.Calls.{at_all, at_router, counts_of, ending_number, lookup_fault, step_fault, IsAnswered, IsFollowed, IsListed, IsRun, IsSettling};
 
 use c_interface::{Fault, Row};
-use network_model::{Ending, Refusal};
+use network_model::{Ending, Limits, Refusal};
 use simulation::Order;
 use std::alloc::Global;
 
@@ -64,13 +65,14 @@ mod step;
 use counts::Counts;
 use failure::{Failure, status};
 use handle::NetworkHandle;
-use opening::open;
-use parts::{AttachmentParts, FaultPlace, LinkParts};
+use opening::{copy_of, open, open_within};
+use parts::{AttachmentParts, FaultPlace, LimitsParts, LinkParts};
 use rows::{answer_all, write_published};
 use step::StepParts;
 
 /// Opens the network of so many routers, with these links and attachments, and puts it into the handle; the
 /// network that the handle held is freed. If none is opened, it answers why, and writes where that stands.
+/// The limits are those of the program.
 #[unsafe(no_mangle)]
 pub extern "C" fn tuhvondi_network_new(
     alloc: Global,
@@ -81,13 +83,19 @@ pub extern "C" fn tuhvondi_network_new(
     network: &mut NetworkHandle,
 ) -> u32
     ensures lists { result ≡ 0 → list_fault links.now attachments.now ≡ None }
-    ensures valid { result ≡ 0 → network_failure routers links.now attachments.now ≡ None }
+    ensures valid { result ≡ 0 → network_failure program_limits routers links.now attachments.now ≡ None }
     ensures done { result ≡ 0 → handle_network network.new
         ≡ Some (opening_simulation (parts_network routers links.now attachments.now)) }
     ensures refused { result ≢ 0 → handle_network network.new ≡ handle_network network.old }
-    ensures cause { result ≢ 0 → IsNotOpened routers links.now attachments.now result place.new }
+    ensures cause { result ≢ 0 → IsNotOpened program_limits routers links.now attachments.now result place.new }
 {
-    match open(alloc, routers, links, attachments) {
+    match open(
+        alloc,
+        Limits::PROGRAM,
+        usize::from(routers),
+        links,
+        attachments,
+    ) {
         Ok(running) => {
             network.put(running);
             0
@@ -96,6 +104,66 @@ pub extern "C" fn tuhvondi_network_new(
             *place = at;
             failure.number()
         }
+    }
+}
+
+/// Opens a network as `tuhvondi_network_new` does, within limits of the caller's, which are tested first.
+#[unsafe(no_mangle)]
+pub extern "C" fn tuhvondi_network_within(
+    alloc: Global,
+    limits: &LimitsParts,
+    routers: usize,
+    links: &[LinkParts],
+    attachments: &[AttachmentParts],
+    place: &mut FaultPlace,
+    network: &mut NetworkHandle,
+) -> u32
+    ensures limits { result ≡ 0 → AreWithin (limits_of limits.now) widest_limits }
+    ensures lists { result ≡ 0 → list_fault links.now attachments.now ≡ None }
+    ensures valid { result ≡ 0 → network_failure
+        (limits_of limits.now) routers links.now attachments.now ≡ None }
+    ensures done { result ≡ 0 → handle_network network.new
+        ≡ Some (opening_simulation (parts_network routers links.now attachments.now)) }
+    ensures refused { result ≢ 0 → handle_network network.new ≡ handle_network network.old }
+    ensures cause { result ≢ 0 → IsNotOpened
+        (limits_of limits.now) routers links.now attachments.now result place.new }
+{
+    match open_within(alloc, limits, routers, links, attachments) {
+        Ok(opened) => {
+            network.put(opened);
+            0
+        }
+        Err((failure, there)) => {
+            *place = there;
+            failure.number()
+        }
+    }
+}
+
+/// Puts an equal network into another handle; the network that the other held is freed. What becomes of one
+/// of the two leaves the other as it is.
+#[unsafe(no_mangle)]
+pub extern "C" fn tuhvondi_network_copy(
+    alloc: Global,
+    network: &mut NetworkHandle,
+    other: &mut NetworkHandle,
+) -> u32
+    ensures status { IsStatusBy (at_all (handle_network network.old)) result }
+    ensures done { result ≡ 0 → handle_network other.new ≡ handle_network network.old }
+    ensures refused { result ≢ 0 → handle_network other.new ≡ handle_network other.old }
+    ensures network { handle_network network.new ≡ handle_network network.old }
+{
+    let Some(held) = network.take(alloc) else {
+        return Fault::Empty.number();
+    };
+    let made = copy_of(alloc, &held);
+    network.put(held);
+    match made {
+        Ok(copy) => {
+            other.put(copy);
+            0
+        }
+        Err(_) => Fault::NoMemory.number(),
     }
 }
 

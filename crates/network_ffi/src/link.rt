@@ -4,7 +4,7 @@ ghost use Rattle.std.specs.Prelude.{◌≡◌, ◌<◌, length, slice_get, optio
 ghost use Rattle.network_model.specs.World.{place_at, side};
 ghost use Rattle.world.specs.Steps.{port_refusal};
 ghost use Rattle.single_router.specs.States.{flag};
-ghost use Rattle.network_ffi.specs.Shown.{item_shown, link_shown, AreItemsOver};
+ghost use Rattle.network_ffi.specs.Shown.{item_shown, link_shown, AreShownOver};
 
 use network_model::{End, Item, Kind, Place, Refusal};
 use simulation::World;
@@ -117,7 +117,7 @@ pub fn port_place(world: &World, router: u16, port: u8) -> Result<Place, Refusal
 /// first and as many as fit: how many these are, and whether there are more.
 pub fn write_items(world: &World, place: Place, items: &mut [ItemShown]) -> (usize, bool)
     requires { place.link < length (world.now).links }
-    ensures { IfSome (slice_get (world.now).links place.link) (λ k. AreItemsOver
+    ensures { IfSome (slice_get (world.now).links place.link) (λ k. AreShownOver item_shown
         (side place.end k).inbox items.old items.new result.0 (flag result.1)) }
 {
     let links = world.links();

@@ -2,16 +2,17 @@
 
 ghost use Rattle.std.specs.Prelude.{◌≡◌, None, IfOk, IfErr, OnOk};
 ghost use Rattle.simulation.specs.Simulation.{opening_simulation};
-ghost use Rattle.network_ffi.specs.Parts.{list_fault, network_failure, parts_network, IsOpeningFault};
+ghost use Rattle.network_model.specs.Network.{widest_limits, AreWithin};
+ghost use Rattle.network_ffi.specs.Parts.{limits_of, list_fault, network_failure, parts_network, IsFaultWithin, IsOpeningFault};
 
 use crate::failure::Failure;
 use crate::parts::{
-    AttachmentParts, FaultPlace, LinkParts, check_attachments, check_links, read_attachments,
-    read_links,
+    AttachmentParts, FaultPlace, LimitsParts, LinkParts, check_attachments, check_links,
+    read_attachments, read_links,
 };
 use crate::running::Running;
 use c_interface::Fault;
-use network_model::NoMemory;
+use network_model::{Limits, NoMemory};
 use simulation::Network;
 use std::alloc::Global;
 
@@ -24,20 +25,45 @@ const NOWHERE: FaultPlace = FaultPlace {
 // What is refused for want of memory.
 const FULL: (Failure, FaultPlace) = (Failure::Given(Fault::NoMemory), NOWHERE);
 
-/// Opens the network of these parts. The first fault of the lists is answered with its place; then memory may
-/// be refused, or else the first fault of the network is answered.
-pub fn open(
+/// Opens the network of these parts within limits of the caller's, of which a fault is told first.
+pub fn open_within(
     alloc: Global,
-    routers: u16,
+    limits: &LimitsParts,
+    routers: usize,
     links: &[LinkParts],
     attachments: &[AttachmentParts],
 ) -> Result<Box<Running>, (Failure, FaultPlace)>
+    ensures within { OnOk result (AreWithin (limits_of limits.now) widest_limits) }
     ensures ok { OnOk result ((list_fault links.now attachments.now ≡ None)
-        × (network_failure routers links.now attachments.now ≡ None)) }
+        × (network_failure (limits_of limits.now) routers links.now attachments.now ≡ None)) }
+    ensures opened { IfOk result (λ b. b.value
+        ≡ opening_simulation (parts_network routers links.now attachments.now)) }
+    ensures err { IfErr result
+        (IsFaultWithin (limits_of limits.now) routers links.now attachments.now) }
+{
+    let own = limits.limits();
+    if !own.are_within(&Limits::WIDEST) {
+        return Err((Failure::BadLimits, NOWHERE));
+    }
+    open(alloc, own, routers, links, attachments)
+}
+
+/// Opens the network of these parts within these limits. The first fault of the lists is answered with its
+/// place; then memory may be refused, or else the first fault of the network is answered.
+pub fn open(
+    alloc: Global,
+    limits: Limits,
+    routers: usize,
+    links: &[LinkParts],
+    attachments: &[AttachmentParts],
+) -> Result<Box<Running>, (Failure, FaultPlace)>
+    requires { AreWithin limits widest_limits }
+    ensures ok { OnOk result ((list_fault links.now attachments.now ≡ None)
+        × (network_failure limits routers links.now attachments.now ≡ None)) }
     ensures opened { IfOk result (λ b. b.value
         ≡ opening_simulation (parts_network routers links.now attachments.now)) }
     ensures err { IfErr result (IsOpeningFault (list_fault links.now attachments.now)
-        (network_failure routers links.now attachments.now)) }
+        (network_failure limits routers links.now attachments.now)) }
 {
     if let Err((fault, position)) = check_links(links) {
         return Err((Failure::Given(fault), FaultPlace { position, list: 1 }));
@@ -51,13 +77,22 @@ pub fn open(
     let Ok(rows) = read_attachments(alloc, attachments) else {
         return Err(FULL);
     };
-    match Network::new(routers, read, rows) {
+    match Network::within(limits, routers, read, rows) {
         Ok(network) => match run(alloc, network) {
             Ok(running) => Ok(running),
             Err(_) => Err(FULL),
         },
         Err(fault) => Err((Failure::Network(fault), FaultPlace::of(fault))),
     }
+}
+
+/// A network equal to this one, in a box of its own.
+pub fn copy_of(alloc: Global, network: &Running) -> Result<Box<Running>, NoMemory>
+    ensures { IfOk result (λ b. b.value ≡ network.now) }
+{
+    let copy = network.copy(alloc)?;
+    let boxed = Box::new(alloc, copy)?;
+    Ok(boxed)
 }
 
 // Opens a network, in a box.

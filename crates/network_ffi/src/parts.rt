@@ -2,11 +2,22 @@
 
 ghost use Rattle.std.specs.Prelude.{◌≡◌, None, Some, IfOk, IfErr, OnOk, IsOkUnless, map};
 ghost use Rattle.single_router.specs.Openings.{first_fault_in};
-ghost use Rattle.network_ffi.specs.Parts.{attachment_fault, attachment_row, cost_fault, first_place, link_fault, link_spec, place_of};
+ghost use Rattle.network_ffi.specs.Parts.{attachment_fault, attachment_row, cost_fault, first_place, limits_of, link_fault, link_spec, place_of};
 
 use c_interface::{Fault, read_prefix};
-use network_model::{Cost, LinkSpec, NetworkFault, Prefix};
+use network_model::{Cost, Limits, LinkSpec, NetworkFault, Prefix};
 use std::alloc::Global;
+
+/// How large a network may be: the most routers, links, links of one router, prefixes, and attachments.
+#[repr(C)]
+#[derive(Clone, Copy, Debug, PartialEq, Eq)]
+pub struct LimitsParts {
+    pub routers: usize,
+    pub links: usize,
+    pub ports: usize,
+    pub prefixes: usize,
+    pub attachments: usize,
+}
 
 /// A link to be: the costs from its two routers, and their numbers.
 #[repr(C)]
@@ -66,6 +77,21 @@ pub fn read_cost(cost: u32) -> Result<Cost, Fault>
 {
     let read = Cost::new(cost)?;
     Ok(read)
+}
+
+impl LimitsParts {
+    /// The limits of these parts.
+    pub fn limits(&self) -> Limits
+        ensures { result ≡ limits_of self.now }
+    {
+        Limits {
+            routers: self.routers,
+            links: self.links,
+            ports: self.ports,
+            prefixes: self.prefixes,
+            attachments: self.attachments,
+        }
+    }
 }
 
 impl LinkParts {

@@ -40,6 +40,15 @@ impl Running {
         })
     }
 
+    /// An equal network.
+    pub fn copy(&self, alloc: Global) -> Result<Running, NoMemory>
+        ensures { IfOk result (λ r. r ≡ self.now) }
+    {
+        Ok(Running {
+            simulation: self.simulation.copy(alloc)?,
+        })
+    }
+
     /// The network.
     pub fn get(&self) -> &Simulation
         ensures { result.now ≡ self.now }

@@ -1,20 +1,22 @@
 //! The calls, as C makes them.
 
 use crate::counts::Counts;
-use crate::gate::GateShown;
+use crate::gate::{GateShown, NoticeShown};
 use crate::handle::NetworkHandle;
 use crate::inspecting::{
-    tuhvondi_network_gate, tuhvondi_network_link, tuhvondi_network_machine, tuhvondi_network_queue,
+    tuhvondi_network_gate, tuhvondi_network_held, tuhvondi_network_link, tuhvondi_network_machine,
+    tuhvondi_network_notices, tuhvondi_network_queue,
 };
 use crate::link::{ItemShown, LinkShown};
 use crate::machine::{MachineShown, NeighbourShown};
-use crate::parts::{AttachmentParts, FaultPlace, LinkParts};
+use crate::parts::{AttachmentParts, FaultPlace, LimitsParts, LinkParts};
 use crate::step::StepParts;
 use crate::{
-    tuhvondi_network_counts, tuhvondi_network_free, tuhvondi_network_is_settled,
-    tuhvondi_network_lookup, tuhvondi_network_new, tuhvondi_network_next_step,
-    tuhvondi_network_rows, tuhvondi_network_run, tuhvondi_network_settle, tuhvondi_network_step,
-    tuhvondi_network_trace,
+    tuhvondi_network_copy, tuhvondi_network_counts, tuhvondi_network_free,
+    tuhvondi_network_is_settled, tuhvondi_network_lookup, tuhvondi_network_new,
+    tuhvondi_network_next_step, tuhvondi_network_rows, tuhvondi_network_run,
+    tuhvondi_network_settle, tuhvondi_network_step, tuhvondi_network_trace,
+    tuhvondi_network_within,
 };
 use c_interface::Row;
 use single_router::{Frame, State};
@@ -510,5 +512,357 @@ fn refused_steps_are_told(rt: HostRuntime) {
         tuhvondi_network_next_step(alloc, &mut network, 3, &mut next),
         10
     );
+    tuhvondi_network_free(alloc, &mut network);
+}
+
+fn settle(alloc: Global, network: &mut NetworkHandle) -> usize {
+    let mut done = 0;
+    let _ = tuhvondi_network_settle(alloc, network, 0, 1_000_000, &mut done);
+    done
+}
+
+#[test]
+fn a_copy_goes_its_own_way(rt: HostRuntime) {
+    let alloc = rt.alloc();
+    let mut network = line(alloc);
+    let mut other = NetworkHandle::none(alloc);
+    let mut done = 0;
+    let _ = tuhvondi_network_run(alloc, &mut network, &[plain(0, 0), plain(0, 1)], &mut done);
+    let _ = tuhvondi_network_settle(alloc, &mut network, 0, 3, &mut done);
+    assert_eq!(rt; tuhvondi_network_copy(alloc, &mut network, &mut other), 0);
+    // Both have as much left to do, and come to rest alike.
+    assert_eq!(rt; settle(alloc, &mut other), settle(alloc, &mut network));
+    assert_eq!(rt; look_up(alloc, &mut other, 2), row(1, 0, 1));
+    // A link of the copy goes down. Then a copy of that copy replaces it.
+    assert_eq!(rt; tuhvondi_network_step(alloc, &mut other, &plain(1, 0)), 0);
+    let mut third = line(alloc);
+    assert_eq!(rt; tuhvondi_network_copy(alloc, &mut other, &mut third), 0);
+    tuhvondi_network_free(alloc, &mut other);
+    assert!(rt; settle(alloc, &mut third) > 0);
+    assert_eq!(rt; look_up(alloc, &mut third, 2), row(2, 0, 0));
+    assert_eq!(rt; look_up(alloc, &mut network, 2), row(1, 0, 1));
+    assert_eq!(rt; settle(alloc, &mut network), 0);
+    // An empty handle has nothing to copy, and the other keeps what it holds.
+    assert_eq!(rt; tuhvondi_network_copy(alloc, &mut other, &mut third), 7);
+    assert_eq!(rt; look_up(alloc, &mut third, 2), row(2, 0, 0));
+    tuhvondi_network_free(alloc, &mut network);
+    tuhvondi_network_free(alloc, &mut third);
+}
+
+// What the line needs, and not more.
+const TIGHT: LimitsParts = LimitsParts {
+    routers: 3,
+    links: 2,
+    ports: 2,
+    prefixes: 1,
+    attachments: 1,
+};
+
+const WIDEST: LimitsParts = LimitsParts {
+    routers: 65_536,
+    links: 65_536,
+    ports: 32,
+    prefixes: 4_294_967_295,
+    attachments: 4_294_967_295,
+};
+
+#[test]
+fn limits_are_those_of_the_caller(rt: HostRuntime) {
+    let alloc = rt.alloc();
+    let mut network = NetworkHandle::none(alloc);
+    let rows = [
+        (TIGHT, 0, 9, 9),
+        (WIDEST, 0, 9, 9),
+        (
+            LimitsParts {
+                routers: 2,
+                ..TIGHT
+            },
+            24,
+            0,
+            0,
+        ),
+        (
+            LimitsParts {
+                routers: 0,
+                ..TIGHT
+            },
+            24,
+            0,
+            0,
+        ),
+        (LimitsParts { links: 1, ..TIGHT }, 26, 1, 1),
+        (LimitsParts { links: 0, ..TIGHT }, 26, 0, 1),
+        (LimitsParts { ports: 1, ..TIGHT }, 26, 1, 1),
+        (LimitsParts { ports: 0, ..TIGHT }, 26, 0, 1),
+        (
+            LimitsParts {
+                prefixes: 0,
+                ..TIGHT
+            },
+            27,
+            0,
+            2,
+        ),
+        (
+            LimitsParts {
+                attachments: 0,
+                ..TIGHT
+            },
+            27,
+            0,
+            2,
+        ),
+        (
+            LimitsParts {
+                routers: 65_537,
+                ..WIDEST
+            },
+            50,
+            0,
+            0,
+        ),
+        (
+            LimitsParts {
+                links: 65_537,
+                ..WIDEST
+            },
+            50,
+            0,
+            0,
+        ),
+        (LimitsParts { ports: 33, ..TIGHT }, 50, 0, 0),
+        (
+            LimitsParts {
+                prefixes: 4_294_967_296,
+                ..TIGHT
+            },
+            50,
+            0,
+            0,
+        ),
+        (
+            LimitsParts {
+                attachments: usize::MAX,
+                ..TIGHT
+            },
+            50,
+            0,
+            0,
+        ),
+    ];
+    for (limits, status, position, list) in rows {
+        let mut place = NOWHERE;
+        assert_eq!(rt;
+            tuhvondi_network_within(alloc, &limits, 3, &LINE, &OWNER, &mut place, &mut network),
+            status
+        );
+        assert_eq!(rt; place, FaultPlace { position, list });
+    }
+    // The network of the widest limits is held still. A fault of the limits comes before those of the lists.
+    assert_eq!(rt; look_up(alloc, &mut network, 0), row(0, 0, 0));
+    let mut place = NOWHERE;
+    let costless = [LinkParts {
+        from_a: 0,
+        ..LINE[0]
+    }];
+    let over = LimitsParts { ports: 33, ..TIGHT };
+    for (limits, status) in [(over, 50), (TIGHT, 5)] {
+        assert_eq!(rt;
+            tuhvondi_network_within(alloc, &limits, 0, &costless, &[], &mut place, &mut network),
+            status
+        );
+    }
+    tuhvondi_network_free(alloc, &mut network);
+}
+
+#[test]
+fn the_last_of_all_routers_is_reached(rt: HostRuntime) {
+    let alloc = rt.alloc();
+    let mut network = NetworkHandle::none(alloc);
+    let mut place = NOWHERE;
+    let links = [LinkParts {
+        from_a: 65_535,
+        from_b: 65_535,
+        a: 65_535,
+        b: 0,
+    }];
+    let owner = [AttachmentParts {
+        router: 65_535,
+        ..OWNER[0]
+    }];
+    assert_eq!(rt;
+        tuhvondi_network_within(
+            alloc,
+            &WIDEST,
+            65_537,
+            &links,
+            &owner,
+            &mut place,
+            &mut network
+        ),
+        24
+    );
+    assert_eq!(rt;
+        tuhvondi_network_within(
+            alloc,
+            &WIDEST,
+            65_536,
+            &links,
+            &owner,
+            &mut place,
+            &mut network
+        ),
+        0
+    );
+    assert_eq!(rt; tuhvondi_network_step(alloc, &mut network, &plain(0, 0)), 0);
+    assert!(rt; settle(alloc, &mut network) > 0);
+    let (mut hops, mut count, mut end) = ([9, 9, 9], 0, 9);
+    assert_eq!(rt;
+        tuhvondi_network_trace(
+            alloc,
+            &mut network,
+            0,
+            0x0a01_0203,
+            &mut hops,
+            &mut count,
+            &mut end
+        ),
+        0
+    );
+    assert_eq!(rt; (count, end), (2, 0));
+    assert_eq!(rt; hops, [0, 65_535, 9]);
+    tuhvondi_network_free(alloc, &mut network);
+}
+
+// A step of router 1 that attaches it at this cost, or detaches it.
+fn attachment(kind: u8, cost: u32) -> StepParts {
+    StepParts {
+        addr: 0x0a00_0000,
+        cost,
+        len: 8,
+        ..plain(kind, 1)
+    }
+}
+
+#[test]
+fn notices_and_held_messages_are_shown(rt: HostRuntime) {
+    let alloc = rt.alloc();
+    let mut network = line(alloc);
+    let none = NoticeShown {
+        addr: 9,
+        cost: 9,
+        len: 9,
+    };
+    let (mut notices, mut written, mut more) = ([none; 3], 9, 9);
+    let steps = [attachment(6, 3), attachment(7, 0), attachment(6, 2)];
+    assert_eq!(rt;
+        tuhvondi_network_run(alloc, &mut network, &steps, &mut written),
+        0
+    );
+    let told = |cost| NoticeShown {
+        addr: 0x0a00_0000,
+        cost,
+        len: 8,
+    };
+    assert_eq!(rt;
+        tuhvondi_network_notices(
+            alloc,
+            &mut network,
+            1,
+            &mut notices[..2],
+            &mut written,
+            &mut more
+        ),
+        0
+    );
+    assert_eq!(rt; (notices, written, more), ([told(3), told(0), none], 2, 1));
+    assert_eq!(rt;
+        tuhvondi_network_notices(
+            alloc,
+            &mut network,
+            1,
+            &mut notices,
+            &mut written,
+            &mut more
+        ),
+        0
+    );
+    assert_eq!(rt;
+        (notices, written, more),
+        ([told(3), told(0), told(2)], 3, 0)
+    );
+    // Router 1 hears of both its links, and then of its attachment: it holds an update for each neighbour.
+    let taken = |port| StepParts {
+        port,
+        ..plain(3, 1)
+    };
+    let steps = [plain(0, 0), plain(0, 1), taken(0), taken(1), taken(2)];
+    assert_eq!(rt;
+        tuhvondi_network_run(alloc, &mut network, &steps, &mut written),
+        0
+    );
+    let mut messages = [NO_MESSAGE; 3];
+    assert_eq!(rt;
+        tuhvondi_network_held(
+            alloc,
+            &mut network,
+            1,
+            &mut messages[..1],
+            &mut written,
+            &mut more
+        ),
+        0
+    );
+    assert_eq!(rt; (written, more), (1, 1));
+    assert_eq!(rt;
+        tuhvondi_network_held(
+            alloc,
+            &mut network,
+            1,
+            &mut messages,
+            &mut written,
+            &mut more
+        ),
+        0
+    );
+    let update = |port| Frame {
+        addr: 0x0a00_0000,
+        value: 3,
+        session: 1,
+        len: 8,
+        kind: 0,
+        port,
+    };
+    assert_eq!(rt;
+        (messages, written, more),
+        ([update(0), update(1), NO_MESSAGE], 2, 0)
+    );
+    // Hostile arguments write nothing.
+    for (router, status) in [(3, 10), (65_535, 10)] {
+        assert_eq!(rt;
+            tuhvondi_network_held(
+                alloc,
+                &mut network,
+                router,
+                &mut messages,
+                &mut written,
+                &mut more
+            ),
+            status
+        );
+        assert_eq!(rt;
+            tuhvondi_network_notices(
+                alloc,
+                &mut network,
+                router,
+                &mut notices,
+                &mut written,
+                &mut more
+            ),
+            status
+        );
+    }
+    assert_eq!(rt; (written, more), (2, 0));
     tuhvondi_network_free(alloc, &mut network);
 }

@@ -10,8 +10,8 @@ read_attachments-requires c = no_fault attachment_fault 0 c.args.attachments.now
 
 pub returns-in_default-read_links-clause-err : goal.returns-in_default-read_links-clause-err
 returns-in_default-read_links-clause-err c =
-    lacks_memory c.args.links.now c.args.attachments.now (network_failure c.args.routers c.args.links.now c.args.attachments.now) c.in_default.ensures.ok c.in_default-check_attachments.ensures.ok
+    lacks_memory c.args.links.now c.args.attachments.now (network_failure c.args.limits c.args.routers c.args.links.now c.args.attachments.now) c.in_default.ensures.ok c.in_default-check_attachments.ensures.ok
 
 pub returns-in_default-read_attachments-clause-err : goal.returns-in_default-read_attachments-clause-err
 returns-in_default-read_attachments-clause-err c =
-    lacks_memory c.args.links.now c.args.attachments.now (network_failure c.args.routers c.args.links.now c.args.attachments.now) c.in_default.ensures.ok c.in_default-check_attachments.ensures.ok
+    lacks_memory c.args.links.now c.args.attachments.now (network_failure c.args.limits c.args.routers c.args.links.now c.args.attachments.now) c.in_default.ensures.ok c.in_default-check_attachments.ensures.ok
