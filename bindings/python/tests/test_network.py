@@ -205,9 +205,21 @@ class Copies(unittest.TestCase):
     def test_a_copy_of_a_closed_one(self):
         network = Network("ab", [("a", "b", 1)])
         network.close()
-        with self.assertRaises(tuhvondi.EmptyHandle):
-            network.settle()
-        self.assertEqual(network.copy().counts.steps, 1)
+        for call in (network.settle, network.copy):
+            with self.assertRaises(tuhvondi.EmptyHandle):
+                call()
+        # A pickle has the steps.
+        self.assertEqual(pickle.loads(pickle.dumps(network)).counts.steps, 1)
+
+    def test_a_copy_of_a_kind_of_its_own(self):
+        class Named(Network):
+            label = "none"
+
+        network = Named("ab", [("a", "b", 1)])
+        network.label = "first"
+        other = network.copy()
+        network.close()
+        self.assertEqual((type(other), other.label, other.settle().steps > 0), (Named, "first", True))
 
 
 class Graphs(unittest.TestCase):
@@ -275,7 +287,6 @@ class Refusals(unittest.TestCase):
         many = list(range(40))
         rows = [
             (tuhvondi.BadRouters, 24, lambda: Network([], [])),
-            (tuhvondi.BadRouters, 24, lambda: Network(range(257), [])),
             (tuhvondi.BadRouters, 24, lambda: Network(range(70000), [])),
             (tuhvondi.BadRouters, 24, lambda: Network("aa", [])),
             (tuhvondi.UnknownRouter, 10, lambda: Network("ab", [("a", "c", 1)])),
@@ -320,11 +331,22 @@ class Refusals(unittest.TestCase):
         with self.assertRaises(tuhvondi.SessionsSpent):
             network.restore("a", "b")
 
-    def test_the_largest_network(self):
-        links = [(near, (near + gap) % 256, 1) for gap in range(1, 5) for near in range(256)]
+    def test_many_links(self):
+        links = [(near, (near + gap) % 256, 1) for gap in range(1, 9) for near in range(256)]
         network = Network(range(256), links, {0: NET})
         network.settle()
         self.assertEqual(network.distances(NET), dijkstra.distances(network, IPv4Network(NET)))
+
+    def test_as_many_routers_as_can_be(self):
+        links = [(near, near + 1, 65535) for near in range(65535)]
+        network = Network(range(65536), links, {65535: NET}, up=False)
+        network.restore(65534, 65535)
+        network.settle()
+        self.assertEqual(network.trace(65534, NET.split("/", maxsplit=1)[0]).routers, (65534, 65535))
+        self.assertEqual(network.copy().distance(65534, NET), 65536)
+        self.assertEqual(len(Network(range(65536), []).prefixes), 65536)
+        with self.assertRaises(tuhvondi.BadRouters):
+            Network(range(65537), [])
 
 
 if __name__ == "__main__":

@@ -68,12 +68,12 @@ to one thread.
 from . import study
 from ._library import LibraryNotFound
 from .image import Image
-from .network import (Counts, End, Entry, Held, Item, ItemKind, LinkState, MachineState, Network,
-                      Step, StepKind, Trace, default_attachments)
+from .network import (Counts, End, Entry, Held, HeldMessage, Item, ItemKind, LinkState,
+                      MachineState, Network, Notice, Step, StepKind, Trace, default_attachments)
 from .router import Message, MessageKind, PrefixState, Publication, Router, RouterCounts
 from .rows import Address, Distance, Kind, Prefix, Row
-from .status import (AlreadyUp, AskedTwice, BadCost, BadCount, BadKind, BadLength, BadLink,
-                     BadOwner, BadRouters, EmptyHandle, GenerationsSpent, HostBits, IsDown,
+from .status import (AlreadyUp, AskedTwice, BadCost, BadCount, BadKind, BadLength, BadLimits,
+                     BadLink, BadOwner, BadRouters, EmptyHandle, GenerationsSpent, HostBits, IsDown,
                      NoMemory, NotAttached, NothingDue, NothingRipe, NothingToDeliver,
                      OtherSession, Refused, SessionsSpent, Shared, StepsSpent, StillUsed,
                      TooManyLinks, TooManyPorts, TooManyPrefixes, Unasked, UnknownLink,
@@ -83,13 +83,13 @@ __version__ = "0.1.0"
 
 __all__ = [
     "study",
-    "Network", "Counts", "End", "Entry", "Held", "Item", "ItemKind", "LinkState", "MachineState",
-    "Step", "StepKind", "Trace", "default_attachments",
+    "Network", "Counts", "End", "Entry", "Held", "HeldMessage", "Item", "ItemKind", "LinkState",
+    "MachineState", "Notice", "Step", "StepKind", "Trace", "default_attachments",
     "Router", "Message", "MessageKind", "PrefixState", "Publication", "RouterCounts",
     "Image", "Row", "Kind",
     "Address", "Distance", "Prefix",
     "Refused", "LibraryNotFound", "AlreadyUp", "AskedTwice", "BadCost", "BadCount", "BadKind",
-    "BadLength", "BadLink", "BadOwner", "BadRouters", "EmptyHandle", "GenerationsSpent",
+    "BadLength", "BadLimits", "BadLink", "BadOwner", "BadRouters", "EmptyHandle", "GenerationsSpent",
     "HostBits", "IsDown", "NoMemory", "NotAttached", "NothingDue", "NothingRipe",
     "NothingToDeliver", "OtherSession", "SessionsSpent", "Shared", "StepsSpent", "StillUsed",
     "TooManyLinks", "TooManyPorts", "TooManyPrefixes", "Unasked", "UnknownLink", "UnknownPort",

@@ -68,6 +68,11 @@ class PrefixStateParts(Structure):
                 ("awaited", c_uint8 * PORTS)]
 
 
+class LimitsParts(Structure):
+    _fields_ = [("routers", c_size_t), ("links", c_size_t), ("ports", c_size_t), ("prefixes", c_size_t),
+                ("attachments", c_size_t)]
+
+
 class LinkParts(Structure):
     _fields_ = [("from_a", c_uint32), ("from_b", c_uint32), ("a", c_uint16), ("b", c_uint16)]
 
@@ -114,15 +119,20 @@ class GateParts(Structure):
                 ("generation", c_uint64), ("front", MessageParts), ("due", c_uint8)]
 
 
+class NoticeParts(Structure):
+    _fields_ = [("addr", c_uint32), ("cost", c_uint32), ("len", c_uint8)]
+
+
 # The structures by their names in the headers.
 STRUCTURES = {
     "tuhvondi_row": RowParts, "tuhvondi_prefix": PrefixParts, "tuhvondi_image": Handle,
     "tuhvondi_attachment": AttachmentParts, "tuhvondi_message": MessageParts, "tuhvondi_counts": CountsParts,
     "tuhvondi_prefix_state": PrefixStateParts, "tuhvondi_router": Handle,
-    "tuhvondi_link": LinkParts, "tuhvondi_owner": OwnerParts, "tuhvondi_fault_place": FaultPlaceParts,
+    "tuhvondi_limits": LimitsParts, "tuhvondi_link": LinkParts, "tuhvondi_owner": OwnerParts, "tuhvondi_fault_place": FaultPlaceParts,
     "tuhvondi_step": StepParts, "tuhvondi_network_counts": NetworkCountsParts,
     "tuhvondi_neighbour": NeighbourParts, "tuhvondi_machine": MachineParts,
     "tuhvondi_link_state": LinkStateParts, "tuhvondi_item": ItemParts, "tuhvondi_gate": GateParts,
+    "tuhvondi_notice": NoticeParts,
     "tuhvondi_network": Handle,
 }
 
@@ -159,6 +169,9 @@ FUNCTIONS: dict[str, list[Any]] = {
     "tuhvondi_router_free": [_ROUTER],
     "tuhvondi_network_new": [c_uint16, POINTER(LinkParts), c_size_t, POINTER(OwnerParts), c_size_t,
                              POINTER(FaultPlaceParts), _NETWORK],
+    "tuhvondi_network_within": [POINTER(LimitsParts), c_size_t, POINTER(LinkParts), c_size_t, POINTER(OwnerParts),
+                                c_size_t, POINTER(FaultPlaceParts), _NETWORK],
+    "tuhvondi_network_copy": [_NETWORK, _NETWORK],
     "tuhvondi_network_step": [_NETWORK, POINTER(StepParts)],
     "tuhvondi_network_run": [_NETWORK, POINTER(StepParts), c_size_t, _SIZE],
     "tuhvondi_network_next_step": [_NETWORK, c_uint16, POINTER(StepParts)],
@@ -172,6 +185,8 @@ FUNCTIONS: dict[str, list[Any]] = {
     "tuhvondi_network_link": [_NETWORK, c_uint16, POINTER(LinkStateParts)],
     "tuhvondi_network_queue": [_NETWORK, c_uint16, c_uint8, POINTER(ItemParts), c_size_t, _SIZE, _BYTE],
     "tuhvondi_network_gate": [_NETWORK, c_uint16, POINTER(GateParts)],
+    "tuhvondi_network_held": [_NETWORK, c_uint16, POINTER(MessageParts), c_size_t, _SIZE, _BYTE],
+    "tuhvondi_network_notices": [_NETWORK, c_uint16, POINTER(NoticeParts), c_size_t, _SIZE, _BYTE],
     "tuhvondi_network_free": [_NETWORK],
 }
 

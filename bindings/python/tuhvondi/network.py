@@ -24,6 +24,8 @@ Attachments = Mapping[Name, Union[Prefix, Iterable[Prefix], Mapping[Prefix, int]
 # A link: the two routers' names, and its cost; or its cost from the first and its cost from the second.
 LinkGiven = Union[Tuple[Name, Name, int], Tuple[Name, Name, int, int]]
 
+# The widest limits that the library has: of routers, links, links of a router, prefixes and attachments.
+_WIDEST = (65536, 65536, 32, 4294967295, 4294967295)
 # How many steps a call does at most, so that an interrupt from the keyboard is heard.
 _AT_ONCE = 1 << 20
 # What stands in the list of what was done: a step, or so many steps of a settling.
@@ -241,6 +243,33 @@ class MachineState(NamedTuple):
     reported: Mapping[Name, Distance]
 
 
+class HeldMessage(NamedTuple):
+    """A message that a router holds back: to which neighbour, in which session of the link, about which prefix,
+    and with which distance of the router. It may leave once it is ripe.
+
+    >>> HeldMessage(ItemKind.UPDATE, "b", 1, IPv4Network("10.0.0.0/8"), 7, ripe=False).value
+    7
+    """
+
+    kind: ItemKind
+    neighbour: Name
+    session: int
+    prefix: IPv4Network
+    value: Distance
+    ripe: bool
+
+
+class Notice(NamedTuple):
+    """A notice of a router's own attachment: its cost, or None if the router is attached no more.
+
+    >>> Notice(IPv4Network("10.0.0.0/8"), None).cost is None
+    True
+    """
+
+    prefix: IPv4Network
+    cost: Optional[int]
+
+
 class Held(NamedTuple):
     """What a router holds back: how many messages, how many of these may leave, how many notices of its own
     attachments it has yet to take, how often it has published, and whether it has something to publish.
@@ -268,9 +297,9 @@ def default_attachments(routers: Sequence[Name]) -> "dict[Name, IPv4Network]":
 class Network(Owner):
     """A network of routers that route by DUAL, with the table in force at each.
 
-    - routers: their names, 1 to 256; a name is whatever can be a key of a dict
+    - routers: their names, 1 to 65,536; a name is whatever can be a key of a dict
     - links: tuples of two names and a cost, 1 to 65535, or two names, the cost from the first, and the cost
-      from the second; at most 1,024, at most 32 at a router, and at most one between two routers
+      from the second; at most 65,536, at most 32 at a router, and at most one between two routers
     - attachments: by router, the prefixes to which it is attached: one, several, or several with their costs
       (1 if you give none). Without them each router has a prefix of its own: 10.0.0.0/24, 10.0.1.0/24 and so
       on. No other prefix can be attached later.
@@ -310,7 +339,7 @@ class Network(Owner):
         self._numbers = {name: number for number, name in enumerate(self._names)}
         if len(self._numbers) < len(self._names):
             raise BadRouters("two have one name")
-        if not 0 <= len(self._names) <= 65535:
+        if len(self._names) > _WIDEST[0]:
             raise BadRouters(str(len(self._names)))
         given = [self._ends(link) for link in links]
         # By the numbers of its two ends, a link's number; and by router and port, the neighbour's number.
@@ -326,7 +355,7 @@ class Network(Owner):
         owners = self._owners(default_attachments(self._names) if attachments is None else attachments)
         self._prefixes = sorted({(addr, length) for addr, length, _, _ in owners})
         self._open(given, owners)
-        # The steps that were done, for copies: a kind of record, and a step, or a seed and a number of steps.
+        # The steps that were done, for pickles: a kind of record, and a step, or a seed and a number of steps.
         self._done = bytearray()
         self._hops = (ctypes.c_uint16 * max(1, len(self._names)))()
         if up:
@@ -366,8 +395,8 @@ class Network(Owner):
         owner_parts = (_library.OwnerParts * max(1, len(owners)))(
             *[(addr, cost, router, length) for addr, length, cost, router in owners])
         place = _library.FaultPlaceParts()
-        status = self._library.network_new(len(self._names), link_parts, len(links), owner_parts, len(owners),
-                                           byref(place), self._at)
+        status = self._library.network_within(byref(_library.LimitsParts(*_WIDEST)), len(self._names), link_parts,
+                                              len(links), owner_parts, len(owners), byref(place), self._at)
         if status:
             where = ""
             if place.list == 1:
@@ -531,7 +560,7 @@ class Network(Owner):
     # ---- how it changes
 
     def _step(self, parts: _library.StepParts, detail: str = "") -> None:
-        """Does a step, and keeps it for copies."""
+        """Does a step, and keeps it for pickles."""
         self._need(self._library.network_step(self._at, byref(parts)), detail)
         self._done += _STEP.to_bytes(8, "little") + bytes(parts)
 
@@ -938,14 +967,17 @@ class Network(Owner):
         """
         near, far = self._number(receiver), self._number(sender)
         self._link(near, far)
-        port = self._ports[near, far]
+        queue = self._listed(_library.ItemParts, self._library.network_queue, near, self._ports[near, far])
+        return [self._item(parts) for parts in queue]
+
+    def _listed(self, parts: Any, call: Any, *place: int) -> List[Any]:
+        """All that a call writes of a router, which tells if there was more than it had room for."""
         room = 64
         while True:
-            items, written, more = (_library.ItemParts * room)(), c_size_t(), c_uint8()
-            self._need(self._library.network_queue(self._at, near, port, items, room,
-                                                   byref(written), byref(more)))
+            found, written, more = (parts * room)(), c_size_t(), c_uint8()
+            self._need(call(self._at, *place, found, room, byref(written), byref(more)))
             if not more.value:
-                return [self._item(parts) for parts in items[:written.value]]
+                return found[:written.value]
             room *= 4
 
     @staticmethod
@@ -968,13 +1000,42 @@ class Network(Owner):
         self._need(self._library.network_gate(self._at, self._number(router), byref(parts)))
         return Held(parts.held, parts.ripe, parts.notices, parts.generation, bool(parts.due))
 
+    def held_messages(self, router: Name) -> List[HeldMessage]:
+        """The messages that a router holds back, in the order in which they leave.
+
+        >>> net = Network("ab", [("a", "b", 5)])
+        >>> net.do(net.next_step("b"))   # b takes the notice that the link came up
+        >>> [(it.kind.name, it.neighbour, it.value, it.ripe) for it in net.held_messages("b")]
+        [('UPDATE', 'a', 1, False)]
+
+        Raises UnknownRouter.
+        """
+        number, ripe = self._number(router), self.held(router).ripe
+        far = [self._names[neighbour] for neighbour in self._neighbours[number]]
+        messages = self._listed(_library.MessageParts, self._library.network_held, number)
+        return [HeldMessage(ItemKind(it.kind), far[it.port], it.session, network_of(it.addr, it.len),
+                            distance_of(it.value), place < ripe) for place, it in enumerate(messages)]
+
+    def notices(self, router: Name) -> List[Notice]:
+        """The notices of its own attachments that a router has yet to take, oldest first.
+
+        >>> net = Network("ab", [], {"a": "10.0.0.0/8"})
+        >>> net.attach("b", "10.0.0.0/8", 7)
+        >>> net.notices("b")
+        [Notice(prefix=IPv4Network('10.0.0.0/8'), cost=7)]
+
+        Raises UnknownRouter.
+        """
+        notices = self._listed(_library.NoticeParts, self._library.network_notices, self._number(router))
+        return [Notice(network_of(it.addr, it.len), it.cost or None) for it in notices]
+
     # ---- copies
 
     def copy(self) -> Network:
         """Another network in the same state, for what-if questions.
 
-        It does the same steps again that this one has done: a copy takes the time of all of them. If you have
-        many questions about one state, fork a process for each, as `tuhvondi.study` does.
+        The library copies what is in the network: that takes time and memory by its routers, links and rows,
+        and not by the steps that were done. A pickle of a network has its steps instead, and does them again.
 
         >>> net = Network("ab", [("a", "b", 5)])
         >>> _ = net.settle()
@@ -986,9 +1047,19 @@ class Network(Owner):
 
         Raises NoMemory.
         """
-        return _again(type(self), self._names, self._given, bytes(self._done))
+        other = type(self).__new__(type(self))
+        Owner.__init__(other)
+        self._need(self._library.network_copy(self._at, other._at))
+        for name, value in vars(self).items():
+            vars(other).setdefault(name, value)
+        other._done = bytearray(self._done)
+        other._hops = type(self._hops)()
+        return other
 
     __copy__ = copy
+
+    def __deepcopy__(self, _memo: Any) -> Network:
+        return self.copy()
 
     def __reduce__(self) -> Any:
         return _again, (type(self), self._names, self._given, bytes(self._done))

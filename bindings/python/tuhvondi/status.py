@@ -145,9 +145,9 @@ class NoMemory(Refused, MemoryError):
 
 
 class BadRouters(Refused, ValueError):
-    """A network has 1 to 256 routers."""
+    """A network has 1 to 65,536 routers."""
 
-    number, text = 24, "a network has 1 to 256 routers"
+    number, text = 24, "a network has 1 to 65536 routers"
 
 
 class BadLink(Refused, ValueError):
@@ -157,9 +157,9 @@ class BadLink(Refused, ValueError):
 
 
 class TooManyLinks(Refused, ValueError):
-    """A network has at most 1,024 links, and a router 32."""
+    """A network has at most 65,536 links, and a router 32."""
 
-    number, text = 26, "a network has at most 1024 links, and a router 32"
+    number, text = 26, "a network has at most 65536 links, and a router 32"
 
 
 class TooManyPorts(Refused, ValueError):
@@ -169,12 +169,9 @@ class TooManyPorts(Refused, ValueError):
 
 
 class BadOwner(Refused, ValueError):
-    """An attachment was given before, or is one too many.
+    """An attachment was given before."""
 
-    A network has at most 4,096 prefixes and 16,384 attachments.
-    """
-
-    number, text = 27, "the attachment was given before, or is one too many"
+    number, text = 27, "the attachment was given before"
 
 
 class TooManyPrefixes(Refused):
@@ -225,12 +222,18 @@ class StillUsed(Refused):
     number, text = 44, "something is still known of the prefix"
 
 
+class BadLimits(Refused, ValueError):
+    """A limit of a network is above the widest."""
+
+    number, text = 50, "a limit is above the widest"
+
+
 _OF_ALL = (BadLength, HostBits, BadCost, BadKind, EmptyHandle, BadCount, AlreadyUp, IsDown, NothingDue,
            NothingRipe, NoMemory, UnknownPrefix, NotAttached)
 _OF_ROUTERS = (*_OF_ALL, Shared, UnknownPort, TooManyPorts, TooManyPrefixes, OtherSession,
                GenerationsSpent, Unasked, AskedTwice, StillUsed)
 _OF_NETWORKS = (*_OF_ALL, UnknownRouter, UnknownLink, SessionsSpent, NothingToDeliver, StepsSpent,
-                BadRouters, BadLink, TooManyLinks, BadOwner)
+                BadRouters, BadLink, TooManyLinks, BadOwner, BadLimits)
 
 # The exceptions by their numbers. Of three numbers an image or a router means something else than a network.
 BY_ROUTER: "dict[int, Type[Refused]]" = {each.number: each for each in _OF_ROUTERS}

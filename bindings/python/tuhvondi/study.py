@@ -420,7 +420,7 @@ def main(words: Optional[Sequence[str]] = None) -> int:
         description="Each link or router of a topology fails alone, from one settled state.",
         epilog="Without --csv, --json and --plot the table is printed. A round is a turn of each router; "
         "there is no clock.")
-    parser.add_argument("graph", help="a file of GraphML: at most 256 nodes, 1,024 edges, 32 at a node")
+    parser.add_argument("graph", help="a file of GraphML: at most 65,536 nodes and edges, 32 edges at a node")
     parser.add_argument("--fail", choices=("each-link", "each-router"), default="each-link",
                         help="what fails alone (each-link)")
     for name, how, kind, default, text in (
