@@ -24,4 +24,4 @@ returns-in-None c =
 pub returns : goal.returns
 returns c =
     let own = slice_get (c.args.world.now).attachments c.args.router in
-    full_of waiting notice_shown c.args.notices.now own c.loop-at.notices c.loop-at.at c.notices-notices.result (counted_there waiting own c.notices-notices.result c.notices-notices.ensures) (omega arith) c.loop-at.invariant
+    full_of waiting notice_shown c.args.notices.now own c.loop-at.notices c.loop-at.at c.notices.result (counted_there waiting own c.notices.result c.notices.ensures) (omega arith) c.loop-at.invariant
