@@ -1,5 +1,5 @@
 use Rattle.std.proofs.Common.{◌≡◌, ◌∙◌, None, sym, arith}
-use Rattle.world.proofs.Faults.{all_more}
+use Rattle.world.proofs.Elements.{all_more}
 use Rattle.control.proofs.serve.first_refusal.Goals as goal
 
 pub loop-place-init : goal.loop-place-init

@@ -1,6 +1,6 @@
 use Rattle.std.proofs.Common.{◌≢◌, ◌∙◌, Some, true≢false, sym, arith}
 use Rattle.network_model.specs.declared.step.Refusal.TheVariants.{WrongTicket}
-use Rattle.world.proofs.Faults.{all_more}
+use Rattle.world.proofs.Elements.{all_more}
 use Rattle.control.proofs.settling.has_lost_ticket.Goals as goal
 
 pub loop-place-init : goal.loop-place-init

@@ -6,5 +6,5 @@ pub returns-in-Err-clause-err : goal.returns-in-Err-clause-err
 returns-in-Err-clause-err g c =
     let begun = c.begin-done.ensures in
     let routers = c.routers.ensures.routers in
-    let within : c.args.router < (g.N.ControlName.opened.network).routers = omega (arith, routers, c.if-router-routers.false) in
+    let within : c.args.router < (g.N.ControlName.opened.network).routers = omega (arith, routers, c.if-from-routers.false) in
     turn_refused g.N.ControlName.opened g.N.ControlName.asked g.N.ControlName.shares _ c.args.router _ c.begin-done.result.0 c.in-Err.refusal begun.found within c.in-Err.is begun.turn
