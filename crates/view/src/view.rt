@@ -1,6 +1,6 @@
 //! Writes the states of a run.
 
-ghost use Rattle.std.specs.Prelude.{◌≡◌, ◌≤◌, ℕ, [], IfOk, None, Ok, is_some, length, take};
+ghost use Rattle.std.specs.Prelude.{◌≡◌, ◌≤◌, ℕ, [], IfOk, None, Ok, is_some, length, take, true};
 ghost use Rattle.network_model.specs.World as model;
 ghost use Rattle.network_model.specs.Run.{Runs};
 ghost use Rattle.texts.specs.Words.{Text};
