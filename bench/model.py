@@ -14,7 +14,8 @@ import time
 import tomllib
 from collections.abc import Iterator
 
-from model_network import Network, Prefix, Refused, Router, Step, Via, read_addr
+from model_machine import COST, DOWN, INF
+from model_network import Message, Network, Prefix, Refused, Router, Step, Via, read_addr
 
 
 def step_of(network: Network, words: list[str]) -> Step:
@@ -69,6 +70,42 @@ def machine_line(router: Router, prefix: Prefix) -> str:
     return f"{router.name} {prefix} {machine} {router.control[prefix]}"
 
 
+def step_words(network: Network, router: Router) -> str:
+    """What a router has to do next, as a command."""
+    match network.next_step(router):
+        case None:
+            return "nothing"
+        case call, _ if call == network.release:
+            return f"release {router.name}"
+        case call, _ if call == network.publish:
+            return f"publish {router.name}"
+        case call, _ if call == network.take_notice:
+            return f"deliver {router.name} {router.name}"
+        case _, _, number:
+            return f"deliver {router.name} {router.ports[number].other.router.name}"
+    raise ValueError("no router does this")
+
+
+def message_words(message: Message, session: int) -> str:
+    value = "inf" if message.value == INF else message.value
+    return f"{message.kind} {message.prefix} RD {value} session {session}"
+
+
+def queue(network: Network, name: str, peer: str) -> Iterator[str]:
+    """What a router has yet to take from a neighbour, or of its own attachments."""
+    if name == peer:
+        for prefix, cost in network.routers[name].notices:
+            yield f"detached {prefix}" if cost is None else f"attached {prefix} cost {cost}"
+        return
+    port = network.port(name, peer)
+    for item in port.inbox:
+        if isinstance(item, Message):
+            yield message_words(item, port.link.session)
+        else:
+            cost = "" if item.kind == DOWN else f" {item.cost}" if item.kind == COST else f" cost {item.cost}"
+            yield f"{item.kind}{cost} session {item.session}"
+
+
 def report(network: Network) -> Iterator[str]:
     for link in network.links:
         a, b = link.ports
@@ -100,6 +137,17 @@ def answers(network: Network, words: list[str]) -> Iterator[str]:
         case ["table", name]:
             for prefix, entry in sorted(network.routers[name].published.items()):
                 yield f"{name} {prefix} {entry}"
+        case ["next", name]:
+            yield f"next {name}: {step_words(network, network.routers[name])}"
+        case ["queue", name, peer]:
+            for item in queue(network, name, peer):
+                yield f"queue {name} from {peer}: {item}"
+        case ["held", name]:
+            router = network.routers[name]
+            for number, held in enumerate(router.gate):
+                words = message_words(held.message, held.session)
+                ripe = "ripe" if number < router.ripe else "not ripe"
+                yield f"held {name} to {held.port.other.router.name}: {words} {ripe}"
         case ["lookup", name, addr]:
             row = network.routers[name].lookup(read_addr(addr))
             yield f"lookup {name} {addr}: " + ("none" if row is None else f"{row[0]} {row[1]}")

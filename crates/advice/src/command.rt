@@ -10,7 +10,7 @@ use std::io::Write;
 use strsim::levenshtein;
 
 // The forms of all commands but `try STEP`.
-const FORMS: [&str; 14] = [
+const FORMS: [&str; 17] = [
     "up A B",
     "down A B",
     "cost A B C",
@@ -22,6 +22,9 @@ const FORMS: [&str; 14] = [
     "settle",
     "state A PREFIX",
     "table A",
+    "next A",
+    "queue A B",
+    "held A",
     "lookup A ADDR",
     "trace A ADDR",
     "report",

@@ -4,12 +4,17 @@ use Rattle.std.specs.List.{flat_map}
 use Rattle.metric.specs.Distance.{infinity}
 use Rattle.ipv4_prefix.specs.Prefix.{Prefix}
 use Rattle.ipv4_prefix.specs.Texts.{address_text, prefix_text}
+use Rattle.network_model.specs.declared.item.Held.{Held}
+use Rattle.network_model.specs.declared.item.Item.{Item}
+use Rattle.network_model.specs.declared.item.Message.{Message}
+use Rattle.network_model.specs.declared.item.Notice.{Notice}
 use Rattle.network_model.specs.declared.machine.Neighbour.{Neighbour}
 use Rattle.network_model.specs.declared.route.Entry.{Entry}
 use Rattle.network_model.specs.declared.route.Entry.TheVariants.{Local, Via, Unreachable}
 use Rattle.network_model.specs.declared.trace.Ending.{Ending}
 use Rattle.texts.specs.Words.{Text}
 use Rattle.script.specs.Directories.{Directory, end_text, name_text, neighbour_at}
+use Rattle.script.specs.Waiting.{kind_text}
 use Rattle.script.specs.declared.lines.LinkLine.{LinkLine}
 use Rattle.script.specs.declared.lines.RouterLine.{RouterLine}
 use Rattle.script.specs.declared.lines.MachineLine.{MachineLine}
@@ -19,6 +24,8 @@ use Rattle.json_lines.specs.declared.states.Told.{Told}
 use Rattle.json_lines.specs.declared.states.Told.TheVariants.{Link, Router, Machine, Unheard}
 use Rattle.json_lines.specs.declared.reasons.Known.{Known}
 use Rattle.json_lines.specs.declared.reasons.Known.TheVariants.{Awaits, Owes, Attached, AtNeighbour}
+use Rattle.json_lines.specs.declared.waiting.Waiting.{Waiting}
+use Rattle.json_lines.specs.declared.waiting.Waiting.TheVariants.{Queued, Noticed, Kept}
 use Rattle.json_lines.specs.declared.ends.EndLine.{EndLine}
 use Rattle.json_lines.specs.declared.ends.EndLine.TheVariants.{Done, Agrees, StepsDone, Differs}
 
@@ -182,6 +189,54 @@ known_json d router prefix (Awaits neighbours) = awaits_json d router prefix nei
 known_json d router prefix (Owes neighbour) = owes_json d router prefix neighbour
 known_json d router prefix (Attached cost) = attached_json d router prefix cost
 known_json d router prefix (AtNeighbour neighbour known) = neighbour_json d router prefix neighbour known
+
+-- ---- what waits to be taken, and what is held
+
+-- a message, and the session in which it was sent
+abbrev pub message_json : ℕ → Message → Text
+message_json session m =
+    codes "\"item\":\"" ++ kind_text m.kind ++ codes "\",\"prefix\":\"" ++ prefix_text m.prefix
+    ++ codes "\",\"rd\":" ++ distance_json m.value ++ codes ",\"session\":" ++ decimal session
+
+-- an item on a link, whose messages are of this session
+abbrev pub item_json : ℕ → Item → Text
+item_json now (Item.Up session cost) = codes "\"item\":\"up\",\"cost\":" ++ decimal cost ++ codes ",\"session\":" ++ decimal session
+item_json now (Item.Down session) = codes "\"item\":\"down\",\"session\":" ++ decimal session
+item_json now (Item.Cost session cost) = codes "\"item\":\"cost\",\"cost\":" ++ decimal cost ++ codes ",\"session\":" ++ decimal session
+item_json now (Item.Message m) = message_json now m
+
+-- a router's own attachment to a prefix, which has this cost or is gone
+abbrev pub attachment_json : Prefix → Option ℕ → Text
+attachment_json p None = codes "\"item\":\"detached\",\"prefix\":\"" ++ prefix_text p ++ codes "\""
+attachment_json p (Some cost) = codes "\"item\":\"attached\",\"prefix\":\"" ++ prefix_text p ++ codes "\",\"cost\":" ++ decimal cost
+
+-- a notice of it
+abbrev pub notice_json : Notice → Text
+notice_json n = attachment_json n.prefix n.cost
+
+-- an item that a router has yet to take from its port, on a link in this session
+abbrev pub queued_json : Directory → ℕ → ℕ → ℕ → Item → Text
+queued_json d router port session item =
+    codes "{\"kind\":\"queued\",\"router\":\"" ++ name_text d (Some router) ++ codes "\",\"neighbour\":\"" ++ name_text d (neighbour_at d router port)
+    ++ codes "\"," ++ item_json session item ++ codes "}"
+
+-- a notice of its own attachments that a router has yet to take
+abbrev pub noticed_json : Directory → ℕ → Notice → Text
+noticed_json d router notice =
+    codes "{\"kind\":\"queued\",\"router\":\"" ++ name_text d (Some router) ++ codes "\",\"neighbour\":\"" ++ name_text d (Some router)
+    ++ codes "\"," ++ notice_json notice ++ codes "}"
+
+-- a message that a router holds, and whether it may leave
+abbrev pub held_json : Directory → ℕ → Bool → Held → Text
+held_json d router ripe h =
+    codes "{\"kind\":\"held\",\"router\":\"" ++ name_text d (Some router) ++ codes "\",\"neighbour\":\"" ++ name_text d (neighbour_at d router h.port)
+    ++ codes "\"," ++ message_json h.session h.message ++ codes ",\"ripe\":" ++ flag_json ripe ++ codes "}"
+
+-- what a line tells of
+abbrev pub waiting_json : Directory → Waiting → Text
+waiting_json d (Queued router port session item) = queued_json d router port session item
+waiting_json d (Noticed router notice) = noticed_json d router notice
+waiting_json d (Kept router ripe held) = held_json d router ripe held
 
 -- ---- the end
 

@@ -36,9 +36,11 @@ mod reasons;
 mod states;
 mod traces;
 mod values;
+mod waiting;
 
 pub use answers::{AnswerLine, lookup, packet, row};
 pub use ends::EndLine;
 pub use reasons::{ReasonLine, attached, awaits, neighbour, owes};
 pub use states::{StateLine, link, machine, router, unheard};
 pub use traces::{TraceLine, trace};
+pub use waiting::{WaitingLine, held, noticed, queued};

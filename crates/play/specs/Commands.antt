@@ -8,7 +8,7 @@ use Rattle.world.specs.Steps.{CanBeRefused}
 use Rattle.fabric.specs.Fabric.{Fabric, after_step, fabric_refusal}
 use Rattle.fabric.specs.Images.{answer_at}
 use Rattle.script.specs.declared.command.Command.{Command}
-use Rattle.script.specs.declared.command.Command.TheVariants.{Step, Try, Settle, State, Table, Lookup, Inject, Trace, TraceThrough, Drain, Report}
+use Rattle.script.specs.declared.command.Command.TheVariants.{Step, Try, Settle, State, Table, Next, Queue, Held, Lookup, Inject, Trace, TraceThrough, Drain, Report}
 use Rattle.script.specs.declared.place.Key.TheVariants.{Script}
 use Rattle.plans.specs.declared.fault.Cause.{Cause}
 use Rattle.plans.specs.declared.fault.Fault.{Fault}
@@ -32,6 +32,9 @@ IsDone (Try s) f g = IsStepDone s f g ⊎ IsStepRefused s f g
 IsDone Settle f g = Settles f g
 IsDone (State router prefix) f g = g ≡ f
 IsDone (Table router) f g = g ≡ f
+IsDone (Next router) f g = g ≡ f
+IsDone (Queue router port) f g = g ≡ f
+IsDone (Held router) f g = g ≡ f
 IsDone (Lookup router addr) f g = g ≡ f
 IsDone (Inject router addr) f g = g ≡ f
 IsDone (Trace router addr) f g = g ≡ f
@@ -50,6 +53,9 @@ IsRefused (Try s) f g cause = ⊥
 IsRefused Settle f g cause = OfRefusal (StopsSettling f g) cause
 IsRefused (State router prefix) f g cause = OfRefusal (CanBeRefused (unknown_router f router)) cause × (g ≡ f)
 IsRefused (Table router) f g cause = OfRefusal (CanBeRefused (unknown_router f router)) cause × (g ≡ f)
+IsRefused (Next router) f g cause = OfRefusal (CanBeRefused (unknown_router f router)) cause × (g ≡ f)
+IsRefused (Queue router port) f g cause = OfRefusal (CanBeRefused (unknown_router f router)) cause × (g ≡ f)
+IsRefused (Held router) f g cause = OfRefusal (CanBeRefused (unknown_router f router)) cause × (g ≡ f)
 IsRefused (Lookup router addr) f g cause = OfRefusal (λ e. MatchOption (answer_at f.world router addr) (e ≡ UnknownRouter) (λ _. (e ≡ Stale) ⊎ (e ≡ NoImage))) cause × (g ≡ f)
 IsRefused (Inject router addr) f g cause = CannotInject (unknown_router f router) cause × (g ≡ f)
 IsRefused (Trace router addr) f g cause = OfRefusal (CannotTrace f router) cause × (g ≡ f)

@@ -18,7 +18,9 @@ use json_lines::EndLine;
 use network_model::NoMemory;
 use plans::{Cause, Fault};
 use publication::ImageReader;
-use reports::{Printer, keep, print_report, print_state, show_table};
+use reports::{
+    Printer, keep, print_report, print_state, show_held, show_next, show_queue, show_table,
+};
 use script::{Command, Directory, Key, Place};
 use std::alloc::Global;
 use std::io::Write;
@@ -140,6 +142,18 @@ where
             }
             Command::Table { router } => {
                 let done = show_table(fabric, &printer, router, out);
+                into_cause(done)
+            }
+            Command::Next { router } => {
+                let done = show_next(fabric, &printer, router, out);
+                into_cause(done)
+            }
+            Command::Queue { router, port } => {
+                let done = show_queue(self.alloc, fabric, &printer, router, port, out);
+                into_cause(done)
+            }
+            Command::Held { router } => {
+                let done = show_held(self.alloc, fabric, &printer, router, out);
                 into_cause(done)
             }
             Command::Lookup { router, addr } => look_up(fabric, &printer, router, addr, out),

@@ -1,3 +1,4 @@
+mod Fronts
 pub mod Printed
 mod Slices
 pub mod Replays

@@ -1,3 +1,4 @@
 pub mod Formats
 pub mod Report
+pub mod Waiting
 pub mod Ends

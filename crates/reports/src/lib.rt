@@ -7,6 +7,8 @@
 //! - [`print_report`] prints each link, then each router with its machines, in the order of the prefixes.
 //! - [`print_state`] prints one machine, and why it is at that, if more is to be told. [`show_table`] prints
 //!   a router's published rows.
+//! - [`show_next`] prints what a router has to do next, [`show_queue`] what it has yet to take from a port, and
+//!   [`show_held`] what it holds.
 //! - [`check`] says what a scenario holds, or its first fault.
 //! - [`keep`] adds the text of a run's journal, with the report, to a list of bytes.
 //! - [`replay`] does the steps of a journal from the opening of its network, and compares the reports.
@@ -22,7 +24,8 @@
 //!
 //! What always holds: `print` writes the text or the JSON that it is given, by the format (`in_format` in
 //! `specs/Formats.antt`). What is told of a machine is the machine's (`IsMachineLine` in
-//! `specs/Report.antt`). A replay that ends `Done` or `Differs` has done all steps of the journal, each
+//! `specs/Report.antt`). So is what is told of a queue the queue's, and of a gate the gate's
+//! (`specs/Waiting.antt`). A replay that ends `Done` or `Differs` has done all steps of the journal, each
 //! lawful. One that ends `Refused` stopped at a step, for its cause or for want of memory (`Replays` in
 //! `specs/Ends.antt`).
 //!
@@ -42,6 +45,7 @@ mod replaying;
 mod report;
 mod table;
 mod telling;
+mod waiting;
 
 pub use checking::check;
 pub use end::End;
@@ -52,3 +56,4 @@ pub use replaying::replay;
 pub use report::{print_report, print_state};
 pub use table::show_table;
 pub use telling::tell_cause;
+pub use waiting::{show_held, show_next, show_queue};

@@ -1,6 +1,6 @@
 -- What a line asks for, by its first word.
 use Rattle.std.proofs.Common.{◌≡◌, ◌≢◌, ℕ, false, inl, inr, List, [], ◌∷◌, All, Contains, bytes_eq, codes, refl, sym, subst, ◌∙◌, arith}
-use Rattle.script.proofs.Common.{list_any, false≢true, bytes_eq-Decides, All-nil, All-cons, All-contains, list_any_at, Prefix, LinkSpec, Text, NamesRouter, NamesText, NamesNoAddress, NamesNoPrefix, NamesThrough, AsksNoStep, AsksNoTrace, AsksTrace, AsksBadQuestion, Asks, address_verbs, HasBadValue, AsksNothing}
+use Rattle.script.proofs.Common.{list_any, false≢true, bytes_eq-Decides, All-nil, All-cons, All-contains, list_any_at, Prefix, LinkSpec, Text, NamesRouter, NamesText, AsksDelivery, NamesNoAddress, NamesNoPrefix, NamesThrough, AsksNoStep, AsksNoTrace, AsksTrace, AsksBadQuestion, Asks, address_verbs, HasBadValue, AsksNothing}
 use Rattle.script.specs.declared.command.Command.{Command}
 use Rattle.script.specs.declared.fault.Fault.{Fault}
 use Rattle.script.specs.declared.fault.Fault.TheVariants.{BadName, BadLine, BadCost, BadCommand, TooLarge, NoMemory, Prefix as OfPrefix}
@@ -9,6 +9,18 @@ use Rattle.script.proofs.StepTexts.{clash, first_same, rest_same, no_prefix, no_
 -- the words name no router and text after a verb that takes an address
 abbrev pub NamesNone : List Text → List Text → Type 0
 NamesNone names words = (verb : Text) → Contains address_verbs verb → (router : ℕ) (text : Text) → ¬ (NamesText names verb words router text)
+
+-- the verbs of the commands that name a router alone and do no step
+abbrev pub router_verbs : List Text
+router_verbs = codes "table" ∷ codes "next" ∷ codes "held" ∷ []
+
+-- the words name no router after such a verb
+abbrev pub NamesNoRouter : List Text → List Text → Type 0
+NamesNoRouter names words = (verb : Text) → Contains router_verbs verb → (router : ℕ) → ¬ (NamesRouter names verb words router)
+
+-- the words are not `queue` and what `deliver` takes from
+abbrev pub NamesNoQueue : List Text → List LinkSpec → List Text → Type 0
+NamesNoQueue names links words = (after : List Text) → words ≡ codes "queue" ∷ after → (router port : ℕ) → ¬ (AsksDelivery names links (codes "deliver" ∷ after) router port)
 
 -- the words name no router and text to trace through
 abbrev pub NamesNoThrough : List Text → List Text → Type 0
@@ -34,6 +46,20 @@ own_verb : (names : List Text) (verb : Text) (rest : List Text)
 own_verb names verb rest none word among router text h =
     none router text (subst (λ v. NamesText names v (verb ∷ rest) router text) (sym (first_same _ _ _ _ h.spelled)) h)
 
+-- a verb that takes more or less than a router
+other_router_verb : (names : List Text) (verb : Text) (rest : List Text) → IsApart verb router_verbs → NamesNoRouter names (verb ∷ rest)
+other_router_verb names verb rest apart word among router h = All-contains (λ w. verb ≢ w) router_verbs word apart among (first_same _ _ _ _ h.spelled)
+
+-- a verb after which no router is named
+own_router_verb : (names : List Text) (verb : Text) (rest : List Text)
+    → ((router : ℕ) → ¬ (NamesRouter names verb (verb ∷ rest) router)) → NamesNoRouter names (verb ∷ rest)
+own_router_verb names verb rest none word among router h =
+    none router (subst (λ v. NamesRouter names v (verb ∷ rest) router) (sym (first_same _ _ _ _ h.spelled)) h)
+
+-- a verb that is not `queue`
+no_queue : (names : List Text) (links : List LinkSpec) (verb : Text) (rest : List Text) → bytes_eq verb (codes "queue") ≡ false → NamesNoQueue names links (verb ∷ rest)
+no_queue names links verb rest apart after e = absurd (clash _ _ _ _ apart e)
+
 -- ---- words after `trace`
 
 -- words that are not three ask for no trace where they name no router and address
@@ -54,11 +80,12 @@ module _ (names : List Text) (links : List LinkSpec) (attachments : List (Prefix
       → AsksNoStep names links attachments (verb ∷ rest) BadCommand
       → ((after : List Text) → verb ∷ rest ≡ codes "try" ∷ after → AsksNoStep names links attachments after BadCommand)
       → NamesNoPrefix names attachments (codes "state") (verb ∷ rest) BadCommand
-      → ((router : ℕ) → ¬ (NamesRouter names (codes "table") (verb ∷ rest) router))
+      → NamesNoRouter names (verb ∷ rest)
+      → NamesNoQueue names links (verb ∷ rest)
       → NamesNone names (verb ∷ rest)
       → NamesNoThrough names (verb ∷ rest)
       → AsksNothing names links attachments (verb ∷ rest) BadCommand
-  no_command verb rest some step tried state table address through = (commands, faults)
+  no_command verb rest some step tried state routers queue address through = (commands, faults)
     where
       single : (word : Text) → verb ∷ rest ≢ word ∷ []
       single word h = some (rest_same _ _ _ _ h)
@@ -68,7 +95,10 @@ module _ (names : List Text) (links : List LinkSpec) (attachments : List (Prefix
       commands (Command.Try s) h = (tried h.0 h.1).0 s h.2
       commands Command.Settle h = single _ h
       commands (Command.State router prefix) h = state.0 router prefix h
-      commands (Command.Table router) h = table router h
+      commands (Command.Table router) h = routers _ (0, omega arith, refl) router h
+      commands (Command.Next router) h = routers _ (1, omega arith, refl) router h
+      commands (Command.Queue router port) h = queue h.0 h.1 router port h.2
+      commands (Command.Held router) h = routers _ (2, omega arith, refl) router h
       commands (Command.Lookup router addr) h = address _ (0, omega arith, refl) router h.0 h.1
       commands (Command.Inject router addr) h = address _ (1, omega arith, refl) router h.0 h.1
       commands (Command.Trace router addr) h = address _ (2, omega arith, refl) router h.0 h.1
@@ -101,40 +131,57 @@ module _ (names : List Text) (links : List LinkSpec) (attachments : List (Prefix
     state_fault (OfPrefix fault) h = inr (inr (inl h))
     state_fault BadCommand h =
         no_command _ rest some (no_verb names links attachments _ rest refl refl refl refl refl refl refl refl) (λ after e. absurd (clash _ _ _ _ refl e)) h
-        (other_router names links attachments _ _ _ refl) (other_verb names _ rest (apart_from _ address_verbs refl)) (λ router text n. clash _ _ _ _ refl n.spelled)
+        (other_router_verb names _ rest (apart_from _ router_verbs refl)) (no_queue names links _ rest refl) (other_verb names _ rest (apart_from _ address_verbs refl)) (λ router text n. clash _ _ _ _ refl n.spelled)
     state_fault TooLarge h = absurd h
     state_fault NoMemory h = absurd h
 
     pub no_table : ((router : ℕ) → ¬ (NamesRouter names (codes "table") (codes "table" ∷ rest) router)) → AsksNothing names links attachments (codes "table" ∷ rest) BadCommand
     no_table none =
         no_command _ rest some (no_verb names links attachments _ rest refl refl refl refl refl refl refl refl) (λ after e. absurd (clash _ _ _ _ refl e))
-        (other_prefix names links attachments _ _ _ refl) none (other_verb names _ rest (apart_from _ address_verbs refl)) (λ router text n. clash _ _ _ _ refl n.spelled)
+        (other_prefix names links attachments _ _ _ refl) (own_router_verb names _ rest none) (no_queue names links _ rest refl) (other_verb names _ rest (apart_from _ address_verbs refl)) (λ router text n. clash _ _ _ _ refl n.spelled)
+
+    pub no_next : ((router : ℕ) → ¬ (NamesRouter names (codes "next") (codes "next" ∷ rest) router)) → AsksNothing names links attachments (codes "next" ∷ rest) BadCommand
+    no_next none =
+        no_command _ rest some (no_verb names links attachments _ rest refl refl refl refl refl refl refl refl) (λ after e. absurd (clash _ _ _ _ refl e))
+        (other_prefix names links attachments _ _ _ refl) (own_router_verb names _ rest none) (no_queue names links _ rest refl) (other_verb names _ rest (apart_from _ address_verbs refl)) (λ router text n. clash _ _ _ _ refl n.spelled)
+
+    pub no_held : ((router : ℕ) → ¬ (NamesRouter names (codes "held") (codes "held" ∷ rest) router)) → AsksNothing names links attachments (codes "held" ∷ rest) BadCommand
+    no_held none =
+        no_command _ rest some (no_verb names links attachments _ rest refl refl refl refl refl refl refl refl) (λ after e. absurd (clash _ _ _ _ refl e))
+        (other_prefix names links attachments _ _ _ refl) (own_router_verb names _ rest none) (no_queue names links _ rest refl) (other_verb names _ rest (apart_from _ address_verbs refl)) (λ router text n. clash _ _ _ _ refl n.spelled)
+
+    pub no_queued : ((router port : ℕ) → ¬ (AsksDelivery names links (codes "deliver" ∷ rest) router port)) → AsksNothing names links attachments (codes "queue" ∷ rest) BadCommand
+    no_queued none =
+        no_command _ rest some (no_verb names links attachments _ rest refl refl refl refl refl refl refl refl) (λ after e. absurd (clash _ _ _ _ refl e))
+        (other_prefix names links attachments _ _ _ refl) (other_router_verb names _ rest (apart_from _ router_verbs refl))
+        (λ after e router port. subst (λ (ws : List Text). ¬ (AsksDelivery names links (codes "deliver" ∷ ws) router port)) (rest_same _ _ _ _ e) (none router port))
+        (other_verb names _ rest (apart_from _ address_verbs refl)) (λ router text n. clash _ _ _ _ refl n.spelled)
 
     -- a verb that takes an address, and is no other, after which neither a router and a text nor a trace through is named
     no_address : (verb : Text) → AsksNoStep names links attachments (verb ∷ rest) BadCommand
-        → bytes_eq verb (codes "try") ≡ false → bytes_eq verb (codes "state") ≡ false → bytes_eq verb (codes "table") ≡ false
+        → bytes_eq verb (codes "try") ≡ false → bytes_eq verb (codes "state") ≡ false → list_any (bytes_eq verb) router_verbs ≡ false → bytes_eq verb (codes "queue") ≡ false
         → ((router : ℕ) (text : Text) → ¬ (NamesText names verb (verb ∷ rest) router text)) → NamesNoThrough names (verb ∷ rest) → AsksNothing names links attachments (verb ∷ rest) BadCommand
-    no_address verb step tried state table none through =
+    no_address verb step tried state routers queue none through =
         no_command verb rest some step (λ after e. absurd (clash _ _ _ _ tried e)) (other_prefix names links attachments _ _ _ state)
-        (other_router names links attachments _ _ _ table) (own_verb names verb rest none) through
+        (other_router_verb names verb rest (apart_from verb router_verbs routers)) (no_queue names links verb rest queue) (own_verb names verb rest none) through
 
     -- why such a verb, which is not `trace`, asks for nothing
     address_fault : (verb : Text) → Contains address_verbs verb → AsksNoStep names links attachments (verb ∷ rest) BadCommand
-        → bytes_eq verb (codes "try") ≡ false → bytes_eq verb (codes "state") ≡ false → bytes_eq verb (codes "table") ≡ false → bytes_eq verb (codes "trace") ≡ false
+        → bytes_eq verb (codes "try") ≡ false → bytes_eq verb (codes "state") ≡ false → list_any (bytes_eq verb) router_verbs ≡ false → bytes_eq verb (codes "queue") ≡ false → bytes_eq verb (codes "trace") ≡ false
         → (fault : Fault) → NamesNoAddress names verb (verb ∷ rest) fault → AsksNothing names links attachments (verb ∷ rest) fault
-    address_fault verb among step tried state table trace BadName h = absurd h
-    address_fault verb among step tried state table trace BadLine h = absurd h
-    address_fault verb among step tried state table trace BadCost h = absurd h
-    address_fault verb among step tried state table trace (OfPrefix fault) h = inr (inr (inr (h.0, inl (verb, among, h.1))))
-    address_fault verb among step tried state table trace BadCommand h = no_address verb step tried state table h (λ router text n. clash _ _ _ _ trace n.spelled)
-    address_fault verb among step tried state table trace TooLarge h = absurd h
-    address_fault verb among step tried state table trace NoMemory h = absurd h
+    address_fault verb among step tried state routers queue trace BadName h = absurd h
+    address_fault verb among step tried state routers queue trace BadLine h = absurd h
+    address_fault verb among step tried state routers queue trace BadCost h = absurd h
+    address_fault verb among step tried state routers queue trace (OfPrefix fault) h = inr (inr (inr (h.0, inl (verb, among, h.1))))
+    address_fault verb among step tried state routers queue trace BadCommand h = no_address verb step tried state routers queue h (λ router text n. clash _ _ _ _ trace n.spelled)
+    address_fault verb among step tried state routers queue trace TooLarge h = absurd h
+    address_fault verb among step tried state routers queue trace NoMemory h = absurd h
 
     pub lookup_fault : (fault : Fault) → NamesNoAddress names (codes "lookup") (codes "lookup" ∷ rest) fault → AsksNothing names links attachments (codes "lookup" ∷ rest) fault
-    lookup_fault = address_fault _ (0, omega arith, refl) (no_verb names links attachments _ rest refl refl refl refl refl refl refl refl) refl refl refl refl
+    lookup_fault = address_fault _ (0, omega arith, refl) (no_verb names links attachments _ rest refl refl refl refl refl refl refl refl) refl refl refl refl refl
 
     pub inject_fault : (fault : Fault) → NamesNoAddress names (codes "inject") (codes "inject" ∷ rest) fault → AsksNothing names links attachments (codes "inject" ∷ rest) fault
-    inject_fault = address_fault _ (1, omega arith, refl) (no_verb names links attachments _ rest refl refl refl refl refl refl refl refl) refl refl refl refl
+    inject_fault = address_fault _ (1, omega arith, refl) (no_verb names links attachments _ rest refl refl refl refl refl refl refl refl) refl refl refl refl refl
 
     pub trace_fault : (fault : Fault) → AsksNoTrace names (codes "trace" ∷ rest) fault → AsksNothing names links attachments (codes "trace" ∷ rest) fault
     trace_fault BadName h = absurd h
@@ -142,7 +189,7 @@ module _ (names : List Text) (links : List LinkSpec) (attachments : List (Prefix
     trace_fault BadCost h = absurd h
     trace_fault (OfPrefix fault) (is, inl h) = inr (inr (inr (is, inl (codes "trace", (2, omega arith, refl), h))))
     trace_fault (OfPrefix fault) (is, inr h) = inr (inr (inr (is, inr h)))
-    trace_fault BadCommand h = no_address _ (no_verb names links attachments _ rest refl refl refl refl refl refl refl refl) refl refl refl h.0 h.1
+    trace_fault BadCommand h = no_address _ (no_verb names links attachments _ rest refl refl refl refl refl refl refl refl) refl refl refl refl h.0 h.1
     trace_fault TooLarge h = absurd h
     trace_fault NoMemory h = absurd h
 
@@ -153,6 +200,9 @@ module _ (names : List Text) (links : List LinkSpec) (attachments : List (Prefix
     trace_asks Command.Settle h = absurd h
     trace_asks (Command.State router prefix) h = absurd h
     trace_asks (Command.Table router) h = absurd h
+    trace_asks (Command.Next router) h = absurd h
+    trace_asks (Command.Queue router port) h = absurd h
+    trace_asks (Command.Held router) h = absurd h
     trace_asks (Command.Lookup router addr) h = absurd h
     trace_asks (Command.Inject router addr) h = absurd h
     trace_asks (Command.Trace router addr) h = h
@@ -162,11 +212,12 @@ module _ (names : List Text) (links : List LinkSpec) (attachments : List (Prefix
 
   -- a fault of the step that a line asks for, where its first word is the verb of no other command
   module _ (verb : Text) (rest : List Text) (some : rest ≢ [])
-      (tried : verb ≢ codes "try") (state : verb ≢ codes "state") (table : verb ≢ codes "table") (lookup : verb ≢ codes "lookup") (inject : verb ≢ codes "inject") (trace : verb ≢ codes "trace") where
+      (tried : verb ≢ codes "try") (state : verb ≢ codes "state") (table : verb ≢ codes "table") (next : verb ≢ codes "next") (queue : verb ≢ codes "queue") (held : verb ≢ codes "held") (lookup : verb ≢ codes "lookup") (inject : verb ≢ codes "inject") (trace : verb ≢ codes "trace") where
     no_step_command : AsksNoStep names links attachments (verb ∷ rest) BadCommand → AsksNothing names links attachments (verb ∷ rest) BadCommand
     no_step_command none =
         no_command verb rest some none (λ after e. absurd (tried (first_same _ _ _ _ e)))
-        (no_prefix names attachments _ _ (λ router text h. absurd (state (first_same _ _ _ _ h.spelled)))) (λ router h. table (first_same _ _ _ _ h.spelled))
+        (no_prefix names attachments _ _ (λ router text h. absurd (state (first_same _ _ _ _ h.spelled))))
+        (other_router_verb names verb rest (All-cons (λ w. verb ≢ w) _ (codes "next" ∷ codes "held" ∷ []) table (All-cons (λ w. verb ≢ w) _ (codes "held" ∷ []) next (All-cons (λ w. verb ≢ w) _ [] held (All-nil (λ w. verb ≢ w)))))) (λ after e. absurd (queue (first_same _ _ _ _ e)))
         (other_verb names verb rest (All-cons (λ w. verb ≢ w) _ (codes "inject" ∷ codes "trace" ∷ []) lookup (All-cons (λ w. verb ≢ w) _ (codes "trace" ∷ []) inject (All-cons (λ w. verb ≢ w) _ [] trace (All-nil (λ w. verb ≢ w)))))) (λ router text n. trace (first_same _ _ _ _ n.spelled))
 
     pub step_fault : (fault : Fault) → AsksNoStep names links attachments (verb ∷ rest) fault → AsksNothing names links attachments (verb ∷ rest) fault

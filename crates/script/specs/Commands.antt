@@ -217,6 +217,10 @@ AsksNoStep names links attachments words fault = AsksBadStep names links words f
 
 -- ---- commands
 
+-- the words are `queue`, and then those by which `deliver` takes from the router's port
+abbrev pub AsksQueue : List Text → List LinkSpec → List Text → ℕ → ℕ → Type 0
+AsksQueue names links words router port = (after : List Text) × (words ≡ codes "queue" ∷ after) × AsksDelivery names links (codes "deliver" ∷ after) router port
+
 -- the words ask for the command
 abbrev pub Asks : List Text → List LinkSpec → List (Prefix × ℕ × ℕ) → List Text → Command → Type 0
 Asks names links attachments words (Command.Step step) = AsksStep names links attachments words step
@@ -224,6 +228,9 @@ Asks names links attachments words (Command.Try step) = Tries (λ after. AsksSte
 Asks names links attachments words Command.Settle = words ≡ codes "settle" ∷ []
 Asks names links attachments words (Command.State router prefix) = NamesPrefix names attachments (codes "state") words router prefix
 Asks names links attachments words (Command.Table router) = NamesRouter names (codes "table") words router
+Asks names links attachments words (Command.Next router) = NamesRouter names (codes "next") words router
+Asks names links attachments words (Command.Queue router port) = AsksQueue names links words router port
+Asks names links attachments words (Command.Held router) = NamesRouter names (codes "held") words router
 Asks names links attachments words (Command.Lookup router addr) = NamesAddress names (codes "lookup") words router addr
 Asks names links attachments words (Command.Inject router addr) = NamesAddress names (codes "inject") words router addr
 Asks names links attachments words (Command.Trace router addr) = NamesAddress names (codes "trace") words router addr

@@ -7,3 +7,4 @@ pub mod Reading
 pub mod Seen
 pub mod Directories
 pub mod Lines
+pub mod Waiting

@@ -9,7 +9,7 @@ use crate::fault::Fault;
 use crate::names::Names;
 use crate::operand::{read_prefix, read_router, read_text};
 use crate::place::{Key, Located};
-use crate::step::read_step;
+use crate::step::{read_port, read_step};
 use ipv4_prefix::{Prefix, parse_addr};
 use metric::Cost;
 use network_model::{LinkSpec, Step};
@@ -28,6 +28,12 @@ pub enum Command {
     State { router: u16, prefix: Prefix },
     /// Print the router's published rows.
     Table { router: u16 },
+    /// Print what the router has to do next.
+    Next { router: u16 },
+    /// Print what the router has yet to take from its port, oldest first.
+    Queue { router: u16, port: u8 },
+    /// Print the messages that the router holds, oldest first.
+    Held { router: u16 },
     /// Look the address up in the router's image in force.
     Lookup { router: u16, addr: u32 },
     /// Give the address to the workers, to look up at the router.
@@ -70,10 +76,10 @@ pub(crate) fn read_commands(
     Ok(())
 }
 
-/// The command that a line says: a step, `try STEP`, `settle`, `state A PREFIX`, `table A`,
-/// `lookup A ADDR`, `inject A ADDR`, `trace A ADDR`, `trace A ADDR --through`, `drain` or `report`. A
-/// `BadCommand` comes before the fault of a cost, a prefix or an address, but a prefix that the scenario
-/// does not have is a `BadCommand` after all others.
+/// The command that a line says: a step, `try STEP`, `settle`, `state A PREFIX`, `table A`, `next A`,
+/// `queue A B`, `held A`, `lookup A ADDR`, `inject A ADDR`, `trace A ADDR`, `trace A ADDR --through`,
+/// `drain` or `report`. A `BadCommand` comes before the fault of a cost, a prefix or an address, but a
+/// prefix that the scenario does not have is a `BadCommand` after all others.
 pub fn read_command(
     names: &Names,
     links: &[LinkSpec],
@@ -131,6 +137,18 @@ fn read_words(
         "table" => {
             let router = read_router(names, operands)?;
             Ok(Command::Table { router })
+        }
+        "next" => {
+            let router = read_router(names, operands)?;
+            Ok(Command::Next { router })
+        }
+        "queue" => {
+            let (router, port) = read_port(names, links, operands)?;
+            Ok(Command::Queue { router, port })
+        }
+        "held" => {
+            let router = read_router(names, operands)?;
+            Ok(Command::Held { router })
         }
         "lookup" => {
             let (router, addr) = read_addr(names, operands)?;

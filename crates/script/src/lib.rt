@@ -25,7 +25,7 @@
 //! `specs/Reading.antt`). The fault is that of the line behind them, at its position in its list
 //! (`ReadingStops`). The names are 1 to 16 small letters and digits, a letter first, and no two are the same
 //! (`AreNames` in `specs/Routers.antt`). A line that is written is the text of its definition (`row_text` and
-//! others in `specs/Directories.antt`, `specs/Lines.antt`).
+//! others in `specs/Directories.antt`, `specs/Lines.antt`, `specs/Waiting.antt`).
 //!
 //! What is tricky:
 //!
@@ -48,6 +48,7 @@ mod place;
 mod reading;
 mod step;
 mod tracing;
+mod waiting;
 
 pub use command::{Command, read_command};
 pub use directory::{Directory, LookupText, PacketText, RowText};
@@ -58,3 +59,4 @@ pub use place::{Key, Located, Place};
 pub use reading::{Reading, Script, read_script};
 pub use step::parse_step;
 pub use tracing::TraceText;
+pub use waiting::{KindText, WaitingText};

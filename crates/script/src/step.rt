@@ -110,9 +110,13 @@ fn read_cost(names: &Names, links: &[LinkSpec], operands: &str) -> Result<(u16, 
     Ok((way.router, port, cost))
 }
 
-// The router and its port that the operands of `deliver` name: the port on the link to the second
-// router, or that of its own attachments where the router is named twice.
-fn read_port(names: &Names, links: &[LinkSpec], operands: &str) -> Result<(u16, u8), Fault>
+/// The router and its port that the operands of `deliver` name: the port on the link to the second
+/// router, or that of its own attachments where the router is named twice.
+pub(crate) fn read_port(
+    names: &Names,
+    links: &[LinkSpec],
+    operands: &str,
+) -> Result<(u16, u8), Fault>
     ensures ok { IfOk result (λ w.
         AsksDelivery names.now links.now (codes "deliver" ∷ words_of operands.now) w.0 w.1) }
     ensures err { IfErr result (λ e. (e ≡ Fault.BadCommand) × ((router port : ℕ)

@@ -1,9 +1,9 @@
-use Rattle.std.proofs.Common.{◌∷◌, codes}
+use Rattle.std.proofs.Common.{◌∷◌, codes, refl}
 use Rattle.std.proofs.lemmas.Result.{IfErr-weaker, IfOk-weaker}
 use Rattle.script.proofs.Common.{words_of, Asks, AsksNoTrace, AsksNothing, AsksTrace, words-some}
 use Rattle.script.proofs.Exits.{at_err}
 use Rattle.script.proofs.StepTexts.{names_router, names_no_router}
-use Rattle.script.proofs.CommandTexts.{state_fault, no_table, lookup_fault, inject_fault, trace_asks, trace_fault, step_fault}
+use Rattle.script.proofs.CommandTexts.{state_fault, no_table, no_next, no_queued, no_held, lookup_fault, inject_fault, trace_asks, trace_fault, step_fault}
 use Rattle.script.proofs.command.read_words.Goals as goal
 
 pub returns-in_err-router-in-state-clause-err : goal.returns-in_err-router-in-state-clause-err
@@ -42,11 +42,29 @@ returns-in_err-router-in-table-clause-err c =
     at_err c.from_residual-in_err-router-in-table.result (AsksNothing c.args.names.now c.args.links.now c.args.attachments.now (c.args.verb.now ∷ words_of c.args.operands.now)) c.in_err-router-in-table.field-0.0 c.from_residual-in_err-router-in-table.ensures.1
     (rw (none.0, c.in-table.is) (no_table c.args.names.now c.args.links.now c.args.attachments.now (words_of c.args.operands.now) (words-some c.args.operands.now) (λ router h. names_no_router c.args.names.now (codes "table") c.args.operands.now router none.1 h)))
 
+pub returns-in_err-router-in-next-clause-err : goal.returns-in_err-router-in-next-clause-err
+returns-in_err-router-in-next-clause-err c =
+    let none = c.in_err-router-in-next.ensures.err in
+    at_err c.from_residual-in_err-router-in-next.result (AsksNothing c.args.names.now c.args.links.now c.args.attachments.now (c.args.verb.now ∷ words_of c.args.operands.now)) c.in_err-router-in-next.field-0.0 c.from_residual-in_err-router-in-next.ensures.1
+    (rw (none.0, c.in-next.is) (no_next c.args.names.now c.args.links.now c.args.attachments.now (words_of c.args.operands.now) (words-some c.args.operands.now) (λ router h. names_no_router c.args.names.now (codes "next") c.args.operands.now router none.1 h)))
+
+pub returns-in_err-router-in-held-clause-err : goal.returns-in_err-router-in-held-clause-err
+returns-in_err-router-in-held-clause-err c =
+    let none = c.in_err-router-in-held.ensures.err in
+    at_err c.from_residual-in_err-router-in-held.result (AsksNothing c.args.names.now c.args.links.now c.args.attachments.now (c.args.verb.now ∷ words_of c.args.operands.now)) c.in_err-router-in-held.field-0.0 c.from_residual-in_err-router-in-held.ensures.1
+    (rw (none.0, c.in-held.is) (no_held c.args.names.now c.args.links.now c.args.attachments.now (words_of c.args.operands.now) (words-some c.args.operands.now) (λ router h. names_no_router c.args.names.now (codes "held") c.args.operands.now router none.1 h)))
+
+pub returns-in_err-router-in-queue-clause-err : goal.returns-in_err-router-in-queue-clause-err
+returns-in_err-router-in-queue-clause-err c =
+    let none = c.in_err-router-in-queue.ensures.err in
+    at_err c.from_residual-in_err-router-in-queue.result (AsksNothing c.args.names.now c.args.links.now c.args.attachments.now (c.args.verb.now ∷ words_of c.args.operands.now)) c.in_err-router-in-queue.field-0.0 c.from_residual-in_err-router-in-queue.ensures.1
+    (rw (none.0, c.in-queue.is) (no_queued c.args.names.now c.args.links.now c.args.attachments.now (words_of c.args.operands.now) (words-some c.args.operands.now) none.1))
+
 pub returns-in_err-step-in_default-clause-err : goal.returns-in_err-step-in_default-clause-err
 returns-in_err-step-in_default-clause-err c =
     at_err c.from_residual-in_err-step-in_default.result (AsksNothing c.args.names.now c.args.links.now c.args.attachments.now (c.args.verb.now ∷ words_of c.args.operands.now)) c.in_err-step-in_default.field-0.0 c.from_residual-in_err-step-in_default.ensures.1
     (step_fault c.args.names.now c.args.links.now c.args.attachments.now c.args.verb.now (words_of c.args.operands.now) (words-some c.args.operands.now)
-    c.in_default.not-try c.in_default.not-state c.in_default.not-table c.in_default.not-lookup c.in_default.not-inject c.in_default.not-trace c.in_err-step-in_default.field-0.0 c.in_err-step-in_default.ensures.err)
+    c.in_default.not-try c.in_default.not-state c.in_default.not-table c.in_default.not-next c.in_default.not-queue c.in_default.not-held c.in_default.not-lookup c.in_default.not-inject c.in_default.not-trace c.in_err-step-in_default.field-0.0 c.in_err-step-in_default.ensures.err)
 
 pub returns-in_ok-router-in-state-clause-ok : goal.returns-in_ok-router-in-state-clause-ok
 returns-in_ok-router-in-state-clause-ok c = rw c.in-state.is (c.in_ok-router-in-state.ensures.ok (codes "state"))
@@ -55,6 +73,19 @@ pub returns-in_ok-router-in-table-clause-ok : goal.returns-in_ok-router-in-table
 returns-in_ok-router-in-table-clause-ok c =
     let known = c.in_ok-router-in-table.ensures.ok in
     rw c.in-table.is (names_router c.args.names.now (codes "table") c.args.operands.now c.in_ok-router-in-table.router known.0 known.1)
+
+pub returns-in_ok-router-in-next-clause-ok : goal.returns-in_ok-router-in-next-clause-ok
+returns-in_ok-router-in-next-clause-ok c =
+    let known = c.in_ok-router-in-next.ensures.ok in
+    rw c.in-next.is (names_router c.args.names.now (codes "next") c.args.operands.now c.in_ok-router-in-next.router known.0 known.1)
+
+pub returns-in_ok-router-in-held-clause-ok : goal.returns-in_ok-router-in-held-clause-ok
+returns-in_ok-router-in-held-clause-ok c =
+    let known = c.in_ok-router-in-held.ensures.ok in
+    rw c.in-held.is (names_router c.args.names.now (codes "held") c.args.operands.now c.in_ok-router-in-held.router known.0 known.1)
+
+pub returns-in_ok-router-in-queue-clause-ok : goal.returns-in_ok-router-in-queue-clause-ok
+returns-in_ok-router-in-queue-clause-ok c = (words_of c.args.operands.now, rw c.in-queue.is refl, c.in_ok-router-in-queue.ensures.ok)
 
 pub returns-in_ok-router-in-lookup-clause-ok : goal.returns-in_ok-router-in-lookup-clause-ok
 returns-in_ok-router-in-lookup-clause-ok c = rw c.in-lookup.is (c.in_ok-router-in-lookup.ensures.ok (codes "lookup"))

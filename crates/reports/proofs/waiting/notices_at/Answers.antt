@@ -1,0 +1,24 @@
+use Rattle.std.proofs.Common.{◌≡◌, ◌∙◌, ◌++◌, ◌∷◌, [], Some, ap, sym, length, option_map, slice_get, arith}
+use Rattle.std.specs.Option.{option_map_or}
+use Rattle.std.specs.Prelude.{option_and_then}
+use Rattle.std.proofs.lemmas.Option.{none-some}
+use Rattle.network_model.specs.World.{Attachments}
+use Rattle.network_model.proofs.ListLaws.{element_there}
+use Rattle.reports.proofs.Fronts.{take_next}
+use Rattle.reports.proofs.waiting.notices_at.Goals as goal
+use Rattle.reports.proofs.waiting.notices_at.Goals.{in-Some+in_ok-push, in_default}
+
+pub loop-place-preserved : goal.loop-place-preserved
+loop-place-preserved c = λ a at.
+    let place = c.loop-place.place in
+    let here = ap (λ o. option_and_then (λ (x : Attachments). slice_get x.notices place) o) at in
+    elim c.match-notice.branch [
+      | in-Some+in_ok-push w ↦
+          ap (λ v. v.items) w.notices-is ∙ w.in_ok-push.ensures.items ∙ ap (λ xs. xs ++ w.in-Some.notice ∷ []) (c.loop-place.invariant a at)
+          ∙ sym (take_next a.notices place w.in-Some.notice (sym (w.in-Some.ensures ∙ here)))
+      | in_default w ↦
+          let count : length a.notices ≡ c.notices-place-end.result
+          = ap (λ o. option_map_or (λ n. n) o 0) (sym (ap (λ o. option_map (λ (x : Attachments). length x.notices) o) at) ∙ c.notices-place-end.ensures) in
+          let there = element_there a.notices place (omega (arith, count)) in
+          absurd (none-some there.0 (w.in_default.ensures ∙ here ∙ there.1))
+    ]

@@ -1,0 +1,216 @@
+//! Prints what routers have to do and to take, and what they hold.
+
+ghost use Rattle.std.specs.Prelude.{◌≡◌, ◌<◌, ◌++◌, ◌∷◌, [], IfErr, IfOk, IfSome, OnOk, length, slice_get};
+ghost use Rattle.std.specs.Io.KnownBytes.{Appends};
+ghost use Rattle.network_model.specs.World as model;
+ghost use Rattle.world.specs.Steps.{CanBeRefused};
+ghost use Rattle.fabric.specs.Fabric.{next_fabric_step};
+ghost use Rattle.reports.specs.Report.{unknown_router};
+ghost use Rattle.reports.specs.Waiting.{held_lines, next_line, noticed_lines, queued_lines};
+
+use crate::printer::Printer;
+use fabric::{Fabric, FabricName, Refusal};
+use journal::StepText;
+use link_fifo::Links;
+use network_model::{End, Held, Item, NoMemory, Notice};
+use router_core::Router;
+use std::alloc::Global;
+use std::io;
+use std::io::Write;
+use world::World;
+
+/// Prints what a router has to do next. Refused with `UnknownRouter`. A write that fails is lost.
+pub fn show_next<B: FabricName, W: Write>(
+    fabric: &Fabric<B>,
+    printer: &Printer<'_>,
+    router: u16,
+    out: &mut W,
+) -> Result<(), Refusal>
+    ensures { IfErr result (λ e. CanBeRefused (unknown_router fabric.now router) e) }
+{
+    let _known = fabric.table(router)?;
+    let _ = print_next(fabric, printer, router, out);
+    Ok(())
+}
+
+// Prints what a router has to do next.
+fn print_next<B: FabricName, W: Write>(
+    fabric: &Fabric<B>,
+    printer: &Printer<'_>,
+    router: u16,
+    out: &mut W,
+) -> io::Result<()>
+    ensures { OnOk result (Appends (W.contents out.old) (W.contents out.new)
+        (next_line printer.now.format printer.now.directory.now fabric.now.network.links router
+        (next_fabric_step fabric.now router) ++ 10 ∷ [])) }
+{
+    let names = printer.directory;
+    let name = names.name(Some(router));
+    match fabric.next_step(router) {
+        Some(step) => {
+            let step = StepText::new(names, fabric.network().links(), step);
+            printer.print(
+                format_args!("next {name}: {step}"),
+                format_args!("{{\"kind\":\"next\",\"router\":\"{name}\",\"step\":\"{step}\"}}"),
+                out,
+            )
+        }
+        None => printer.print(
+            format_args!("next {name}: nothing"),
+            format_args!("{{\"kind\":\"next\",\"router\":\"{name}\",\"step\":null}}"),
+            out,
+        ),
+    }
+}
+
+/// Prints what a router has yet to take from a port, oldest first, a line each: items of a link, or, at
+/// the port that its degree numbers, notices of its own attachments. Refused with `UnknownRouter` and
+/// `NoMemory`. What it prints may be lost.
+pub fn show_queue<B: FabricName, W: Write>(
+    alloc: Global,
+    fabric: &Fabric<B>,
+    printer: &Printer<'_>,
+    router: u16,
+    port: u8,
+    out: &mut W,
+) -> Result<(), Refusal>
+    ensures { IfErr result (λ e. CanBeRefused (unknown_router fabric.now router) e) }
+{
+    let _known = fabric.table(router)?;
+    let world = fabric.world();
+    match world.port(router, port) {
+        Some(place) if usize::from(place.link) < world.links().len() => {
+            let session = world.links().session(place.link);
+            let items = queue_at(alloc, world.links(), place.link, place.end)?;
+            let _ = print_items(printer, router, port, session, &items, out);
+        }
+        _ => {
+            let notices = notices_at(alloc, world, router)?;
+            let _ = print_notices(printer, router, &notices, out);
+        }
+    }
+    Ok(())
+}
+
+// The items that an end of a link has yet to take, oldest first.
+fn queue_at(alloc: Global, links: &Links, link: u16, to: End) -> Result<Vec<Item>, NoMemory>
+    requires { link < length links.now.links }
+    ensures { IfOk result (λ v. IfSome (slice_get links.now.links link)
+        (λ k. v.items ≡ (model.side to k).inbox)) }
+{
+    let mut items = Vec::new(alloc);
+    for place in 0..links.queued(link, to) {
+        if let Some(item) = links.item(link, to, place) {
+            items.push(item)?;
+        }
+    }
+    Ok(items)
+}
+
+// Prints items that a router has yet to take from its port, on a link in this session.
+fn print_items<W: Write>(
+    printer: &Printer<'_>,
+    router: u16,
+    port: u8,
+    session: u16,
+    items: &[Item],
+    out: &mut W,
+) -> io::Result<()>
+    ensures { OnOk result (Appends (W.contents out.old) (W.contents out.new)
+        (queued_lines printer.now.format printer.now.directory.now router port session items.now)) }
+{
+    let names = printer.directory;
+    for item in items {
+        let json = json_lines::queued(names, router, port, session, *item);
+        printer.print(names.queued(router, port, session, *item), json, out)?;
+    }
+    Ok(())
+}
+
+// The notices of its own attachments that a router has yet to take, oldest first.
+fn notices_at(alloc: Global, world: &World, router: u16) -> Result<Vec<Notice>, NoMemory>
+    requires { router < length (world.now).routers }
+    ensures { IfOk result (λ v. IfSome (slice_get (world.now).attachments router)
+        (λ a. v.items ≡ a.notices)) }
+{
+    let mut notices = Vec::new(alloc);
+    for place in 0..world.notices(router) {
+        if let Some(notice) = world.notice(router, place) {
+            notices.push(notice)?;
+        }
+    }
+    Ok(notices)
+}
+
+// Prints notices of its own attachments that a router has yet to take.
+fn print_notices<W: Write>(
+    printer: &Printer<'_>,
+    router: u16,
+    notices: &[Notice],
+    out: &mut W,
+) -> io::Result<()>
+    ensures { OnOk result (Appends (W.contents out.old) (W.contents out.new)
+        (noticed_lines printer.now.format printer.now.directory.now router notices.now)) }
+{
+    let names = printer.directory;
+    for notice in notices {
+        let json = json_lines::noticed(names, router, *notice);
+        printer.print(names.noticed(router, *notice), json, out)?;
+    }
+    Ok(())
+}
+
+/// Prints the messages that a router holds, oldest first, a line each. Refused with `UnknownRouter` and
+/// `NoMemory`. What it prints may be lost.
+pub fn show_held<B: FabricName, W: Write>(
+    alloc: Global,
+    fabric: &Fabric<B>,
+    printer: &Printer<'_>,
+    router: u16,
+    out: &mut W,
+) -> Result<(), Refusal>
+    ensures { IfErr result (λ e. CanBeRefused (unknown_router fabric.now router) e) }
+{
+    let routers = fabric.world().routers();
+    let found = routers
+        .get(usize::from(router))
+        .ok_or(Refusal::UnknownRouter)?;
+    let messages = held_messages(alloc, found)?;
+    let (ripe, others) = messages.split_at(found.ripe().min(messages.len()));
+    if print_held(printer, router, true, ripe, out).is_ok() {
+        let _ = print_held(printer, router, false, others, out);
+    }
+    Ok(())
+}
+
+// The messages that a router holds, oldest first.
+fn held_messages(alloc: Global, router: &Router) -> Result<Vec<Held>, NoMemory>
+    ensures { IfOk result (λ v. v.items ≡ (router.now).gate.held) }
+{
+    let mut messages = Vec::new(alloc);
+    for place in 0..router.held() {
+        if let Some(message) = router.message(place) {
+            messages.push(message)?;
+        }
+    }
+    Ok(messages)
+}
+
+// Prints messages that a router holds, and whether they may leave, up to the first write that fails.
+fn print_held<W: Write>(
+    printer: &Printer<'_>,
+    router: u16,
+    ripe: bool,
+    messages: &[Held],
+    out: &mut W,
+) -> io::Result<()>
+    ensures { OnOk result (Appends (W.contents out.old) (W.contents out.new)
+        (held_lines printer.now.format printer.now.directory.now router ripe messages.now)) }
+{
+    let names = printer.directory;
+    for message in messages {
+        let json = json_lines::held(names, router, ripe, *message);
+        printer.print(names.held(router, ripe, *message), json, out)?;
+    }
+    Ok(())
+}
