@@ -10,4 +10,4 @@ explained_file (Check file explain) = if explain then Some file else None
 explained_file (Run file threads workers journal explain format progress) = if explain then Some file else None
 explained_file (Replay file journal explain format progress) = if explain then Some file else None
 explained_file (Explain kind) = None
-explained_file (Shell file journal explain) = if explain then Some file else None
+explained_file (Shell file journal explain format) = if explain then Some file else None

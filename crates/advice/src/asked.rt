@@ -32,6 +32,7 @@ pub fn file_to_explain<'a>(words: &Words<'a>) -> Option<&'a str>
             file,
             journal: _,
             explain,
+            format: _,
         } => (file, explain),
     };
     if explain { Some(file) } else { None }

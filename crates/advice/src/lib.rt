@@ -22,8 +22,8 @@
 //!   unknown, it names them.
 //! - If the scenario was only to be checked, it also tells of other faults, 20 in all (`src/others.rt`). It
 //!   tells those that it need not guess.
-//! - [`advise_journal`] does the same for a line of a journal, and [`advise_bytes`] for a file that is not
-//!   UTF-8.
+//! - [`advise_journal`] does the same for a line of a journal, [`advise_typed`] for one that was typed into a
+//!   shell, and [`advise_bytes`] for a file that is not UTF-8.
 //! - What is shown of a file is safe for a terminal (`src/shown.rt`): at most 60 characters, and those that
 //!   cannot be seen by their numbers.
 //!
@@ -51,8 +51,10 @@ mod others;
 mod position;
 mod shown;
 mod told;
+mod typed;
 
 pub use asked::{file_to_explain, is_check};
 pub use bytes::advise_bytes;
 pub use journal::advise_journal;
 pub use told::{Faulty, advise};
+pub use typed::{Typed, advise_typed};

@@ -159,6 +159,7 @@ fn second_input(rt: &HostRuntime, words: &Words<'_>) -> Source<Input> {
             file: _,
             journal: _,
             explain: _,
+            format: _,
         } => Source::Open(Input::Standard(rt.stdin())),
         _ => match replayed_path(words) {
             Some(path) => open_file(rt, path),

@@ -18,7 +18,7 @@ Ends wanted (Check _ _) scenario journal old new end = (end ≡ Done) × (new �
 Ends wanted (Run _ _ _ _ _ _ _) scenario journal old new end = (end ≡ Done) × OfBytes scenario (λ bytes. IsRunToEnd wanted bytes old new)
 Ends wanted (Replay _ _ _ _ _) scenario journal old new end = (new ≡ old) × OfBytes scenario (λ bytes. OfBytes journal (λ lines. Replays bytes lines end))
 Ends wanted (Explain _) scenario journal old new end = (end ≡ Done) × (new ≡ old)
-Ends wanted (Shell _ _ _) scenario journal old new end = (end ≡ Done) × OfBytes scenario (λ bytes. IsShellEnd wanted bytes old new)
+Ends wanted (Shell _ _ _ _) scenario journal old new end = (end ≡ Done) × OfBytes scenario (λ bytes. IsShellEnd wanted bytes old new)
 
 -- why a command stops
 abbrev pub Stops : Words → Option Text → Option Text → Fault → Type 0
@@ -26,7 +26,7 @@ Stops (Check _ _) scenario journal fault = OfBytes scenario (λ bytes. StopsRead
 Stops (Run _ _ _ _ _ _ _) scenario journal fault = OfBytes scenario (λ bytes. StopsFor bytes fault)
 Stops (Replay _ _ _ _ _) scenario journal fault = OfBytes scenario (λ bytes. StopsReplay bytes journal fault)
 Stops (Explain _) scenario journal fault = ⊥
-Stops (Shell _ _ _) scenario journal fault = OfBytes scenario (λ bytes. StopsShell bytes fault)
+Stops (Shell _ _ _ _) scenario journal fault = OfBytes scenario (λ bytes. StopsShell bytes fault)
 
 -- the program comes to an end, whose status it answers; or it stops for a fault, whose status it answers, and which alone its caller is handed
 abbrev pub IsPlayed : Bool → Words → Option Text → Option Text → Text → Text → Option Fault → Option Fault → ℕ → Type 0

@@ -37,6 +37,7 @@
 //! a gate that they call, so tests can start threads in a small network.
 #![tactic(auto)]
 
+mod answers;
 mod commands;
 mod options;
 mod program;

@@ -158,8 +158,9 @@ where
             file: _,
             journal: _,
             explain,
+            format,
         } => shell(
-            rt, alloc, scenario, journal, explain, out, err, wanted, kept,
+            rt, alloc, scenario, journal, explain, format, out, err, wanted, kept,
         ),
     }
 }

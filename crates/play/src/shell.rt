@@ -7,13 +7,14 @@ ghost use Rattle.plans.specs.Faults.{IsUnanswered, IsWantOfMemory, OfBytes};
 ghost use Rattle.reports.specs.Ends.{KeepsJournal};
 ghost use Rattle.play.specs.Shell.{AreTried, CannotReadOn, IsShellEnd, StopsShell, StopsShellPlan, TriesPlan};
 
+use crate::answers::{Listed, Told, begin_answer, end_answer, print_help, print_said, tell_fault};
 use crate::options::Options;
 use crate::session::Session;
 use control::{Crew, NoGate, THRESHOLDS, TurnGate};
 use dispatch::Host;
 use fabric::{Fabric, FabricName, Unnamed};
 use plans::{Cause, Fault, Plan, read_failure, read_plan, read_text};
-use reports::{End, tell_cause};
+use reports::{End, Printer};
 use script::read_command;
 use std::alloc::Global;
 use std::io::{BufRead, BufReader, Read, Write};
@@ -21,14 +22,15 @@ use std::marker::Brand;
 use words::Format;
 
 /// Opens the network of a scenario, and does the commands that the lines of `input` say, each answered
-/// at once. One that cannot be read or is refused is told on `err`, and ends nothing. At the end of the
-/// input it says how many steps were done, and keeps their journal.
+/// at once. One that cannot be read or is refused ends nothing: it is told on `err`, and as JSON in its
+/// answer. At the end of the input, or at `quit`, it says how many steps were done, and keeps their journal.
 pub fn shell<H, R, J, W, E>(
     rt: &H,
     alloc: Global,
     scenario: R,
     input: J,
     explain: bool,
+    format: Format,
     out: &mut W,
     err: &mut E,
     wanted: bool,
@@ -50,7 +52,7 @@ where
     let plan = read_plan(alloc, text.as_str())?;
     let unnamed = Unnamed::many(alloc, plan.network.routers())?;
     open_shell::<Brand, H, J, W, E>(
-        rt, alloc, plan, unnamed, input, explain, out, err, wanted, kept,
+        rt, alloc, plan, unnamed, input, explain, format, out, err, wanted, kept,
     )?;
     Ok(End::Done)
 }
@@ -63,6 +65,7 @@ fn open_shell<B, H, J, W, E>(
     unnamed: Vec<Unnamed>,
     input: J,
     explain: bool,
+    format: Format,
     out: &mut W,
     err: &mut E,
     wanted: bool,
@@ -93,7 +96,7 @@ where
         crew,
         workers: 1,
         explain,
-        format: Format::Text,
+        format,
         progress: false,
     };
     let (mut fabric, readers) = Fabric::<B>::open(rt, alloc, network, unnamed, 1)?;
@@ -133,7 +136,7 @@ where
     session.finish(fabric, read, wanted, out, kept)
 }
 
-// Does the commands of the lines in order, to the end of the input.
+// Does the commands of the lines in order, to the end of the input or to `quit`.
 fn do_lines<B, H, G, J, W, E>(
     session: &mut Session<'_, B, H, G>,
     fabric: &mut Fabric<B>,
@@ -157,11 +160,14 @@ where
         Ok(reader) => reader,
         Err(error) => return Err(Fault::from(read_failure(&error))),
     };
-    for line in reader.lines(alloc) {
+    let mut number = 0_usize;
+    for line in reader.split(alloc, b'\n') {
+        number = number.saturating_add(1);
         match line {
             Ok(line) => {
-                do_line(session, fabric, line.as_str(), out, err);
-                let _ = out.flush();
+                if !do_line(session, fabric, number, &line, out, err) {
+                    return Ok(());
+                }
             }
             Err(error) => return Err(Fault::from(read_failure(&error))),
         }
@@ -169,15 +175,16 @@ where
     Ok(())
 }
 
-// Does the command of a line, and tells of it where it cannot be read or is refused. An empty line says
-// nothing.
+// Does what the line of this number says, tells of it where it cannot be read or is refused, and answers
+// whether the shell goes on.
 fn do_line<B, H, G, W, E>(
     session: &mut Session<'_, B, H, G>,
     fabric: &mut Fabric<B>,
-    line: &str,
+    number: usize,
+    line: &[u8],
     out: &mut W,
     err: &mut E,
-)
+) -> bool
 where
     B: FabricName + Send + Sync + 'static,
     H: Host,
@@ -187,10 +194,111 @@ where
     ensures tried { (commands : List CommandOf) × AreTried commands fabric.old fabric.new }
     ensures names { session.new.directory ≡ session.old.directory }
 {
-    if line.is_empty() {
-        return;
+    let line = line.strip_suffix(b"\r").unwrap_or(line);
+    let done = answer_line(session, fabric, number, line, out);
+    let (goes_on, fault) = match done {
+        Ok(goes_on) => (goes_on, None),
+        Err(cause) => (true, Some(Fault::from(cause))),
+    };
+    let told = Told {
+        alloc: session.alloc,
+        names: session.directory.names(),
+        links: fabric.network().links(),
+        explain: session.options.explain,
+        number,
+        line,
+    };
+    match (session.options.format, fault) {
+        (Format::Text, Some(fault)) => tell_fault(&told, fault, out, err),
+        (Format::Text, None) => {}
+        (Format::Json, fault) => {
+            let _ = end_answer(&told, fault, fabric.journal().len(), out);
+        }
     }
-    let explain = session.options.explain;
+    let _ = out.flush();
+    goes_on
+}
+
+// Does what the line of this number says, and answers whether the shell goes on. As JSON, what it prints
+// is the list of an answer that has begun.
+fn answer_line<B, H, G, W>(
+    session: &mut Session<'_, B, H, G>,
+    fabric: &mut Fabric<B>,
+    number: usize,
+    line: &[u8],
+    out: &mut W,
+) -> Result<bool, Cause>
+where
+    B: FabricName + Send + Sync + 'static,
+    H: Host,
+    G: TurnGate + Sync,
+    W: Write,
+    ensures tried { (commands : List CommandOf) × AreTried commands fabric.old fabric.new }
+    ensures names { session.new.directory ≡ session.old.directory }
+{
+    match session.options.format {
+        Format::Text => answer(session, fabric, line, out),
+        Format::Json => {
+            let _ = begin_answer(number, out);
+            answer(session, fabric, line, &mut Listed::new(out))
+        }
+    }
+}
+
+// Does what a line says, and answers whether the shell goes on. An empty line says nothing.
+fn answer<B, H, G, W>(
+    session: &mut Session<'_, B, H, G>,
+    fabric: &mut Fabric<B>,
+    line: &[u8],
+    out: &mut W,
+) -> Result<bool, Cause>
+where
+    B: FabricName + Send + Sync + 'static,
+    H: Host,
+    G: TurnGate + Sync,
+    W: Write,
+    ensures tried { (commands : List CommandOf) × AreTried commands fabric.old fabric.new }
+    ensures names { session.new.directory ≡ session.old.directory }
+{
+    let Ok(line) = str::from_utf8(line) else {
+        return Err(Cause::Lines(script::Fault::BadCommand));
+    };
+    let printer = Printer {
+        directory: session.directory,
+        format: session.options.format,
+    };
+    match line {
+        "" => Ok(true),
+        "quit" => Ok(false),
+        "help" => {
+            let _ = print_help(&printer, out);
+            Ok(true)
+        }
+        _ => match line.strip_prefix("say ") {
+            Some(text) => {
+                let _ = print_said(&printer, text, out);
+                Ok(true)
+            }
+            None => do_typed(session, fabric, line, out),
+        },
+    }
+}
+
+// Does the command that a line says; the shell goes on.
+fn do_typed<B, H, G, W>(
+    session: &mut Session<'_, B, H, G>,
+    fabric: &mut Fabric<B>,
+    line: &str,
+    out: &mut W,
+) -> Result<bool, Cause>
+where
+    B: FabricName + Send + Sync + 'static,
+    H: Host,
+    G: TurnGate + Sync,
+    W: Write,
+    ensures tried { (commands : List CommandOf) × AreTried commands fabric.old fabric.new }
+    ensures names { session.new.directory ≡ session.old.directory }
+{
     let network = fabric.network();
     match read_command(
         session.directory.names(),
@@ -200,10 +308,11 @@ where
     ) {
         Ok(command) => {
             let done = session.do_command(fabric, command, out, &mut ());
-            if let Err(cause) = done {
-                tell_cause(cause, explain, out, err);
+            match done {
+                Ok(()) => Ok(true),
+                Err(cause) => Err(cause),
             }
         }
-        Err(fault) => tell_cause(Cause::Lines(fault), explain, out, err),
+        Err(fault) => Err(Cause::Lines(fault)),
     }
 }

@@ -33,6 +33,7 @@ pub fn scenario_path<'a>(words: &Words<'a>) -> Option<&'a str>
             file,
             journal: _,
             explain: _,
+            format: _,
         } => Some(file),
     }
 }
@@ -71,6 +72,7 @@ pub fn kept_path<'a>(words: &Words<'a>) -> Option<&'a str>
             file: _,
             journal: path,
             explain: _,
+            format: _,
         } => path,
         _ => None,
     }

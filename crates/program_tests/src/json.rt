@@ -208,7 +208,7 @@ fn the_last_lines(rt: HostRuntime) {
 }
 
 // Each line is an object with a kind; answers how many there are.
-fn are_objects(rt: &impl Abort, alloc: Global, out: &[u8]) -> usize {
+pub fn are_objects(rt: &impl Abort, alloc: Global, out: &[u8]) -> usize {
     let text = str::from_utf8(out).expect(rt, "a text");
     let mut count = 0_usize;
     for line in text.lines() {

@@ -11,6 +11,7 @@
 //!   lines     lines with numbers that no run reaches
 //!   written   what faults, costs and distances are written as
 //!   json      lines of JSON, read by another reader (`serde_json`)
+//!   shells    lines that are typed into a shell and are no text, and its answers as objects
 //!   views     the states of a run, as lines and in a page
 //!   crowds    a network of 4,096 prefixes, which 1, 2, 4 and 16 threads settle
 //! ```
@@ -41,6 +42,8 @@ mod json;
 mod limits;
 #[cfg(test)]
 mod lines;
+#[cfg(test)]
+mod shells;
 #[cfg(test)]
 mod views;
 #[cfg(test)]

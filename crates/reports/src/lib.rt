@@ -44,7 +44,6 @@ mod reasons;
 mod replaying;
 mod report;
 mod table;
-mod telling;
 mod waiting;
 
 pub use checking::check;
@@ -55,5 +54,4 @@ pub use progress::{end_line, tell_commands};
 pub use replaying::replay;
 pub use report::{print_report, print_state};
 pub use table::show_table;
-pub use telling::tell_cause;
 pub use waiting::{show_held, show_next, show_queue};

@@ -133,6 +133,7 @@ fn replay_status<H: Host>(
             file,
             journal: _,
             explain: _,
+            format: _,
         } => Some(file),
         _ => None,
     };

@@ -58,6 +58,7 @@ fn try_example<H: Host>(rt: &HostRuntime, wait: &H, scenario: &str) -> io::Resul
         file: scenario,
         journal: None,
         explain: false,
+        format: Format::Text,
     };
     let file = fs::open(rt, scenario)?;
     let shown = play_in_memory(wait, alloc, &shell, file, typed.as_bytes());

@@ -86,7 +86,7 @@ no_check rows none (Check f e) h =
 no_check rows none (Run f t k j e o p) h = h
 no_check rows none (Replay f j e o p) h = h
 no_check rows none (Explain k) h = h
-no_check rows none (Shell f j e) h = h
+no_check rows none (Shell f j e o) h = h
 
 pub no_run : (rows : List Row) → first_of (codes "file") rows ≡ None → (w : Words) → IsRun rows w → ⊥
 no_run rows none (Check f e) h = h
@@ -95,28 +95,28 @@ no_run rows none (Run f t k j e o p) h =
     cc
 no_run rows none (Replay f j e o p) h = h
 no_run rows none (Explain k) h = h
-no_run rows none (Shell f j e) h = h
+no_run rows none (Shell f j e o) h = h
 
 pub no_threads : (rows : List Row) → ((n : ℕ) → HasNumber rows (codes "threads") 16 n → ⊥) → (w : Words) → IsRun rows w → ⊥
 no_threads rows none (Check f e) h = h
 no_threads rows none (Run f t k j e o p) h = none t h.1
 no_threads rows none (Replay f j e o p) h = h
 no_threads rows none (Explain k) h = h
-no_threads rows none (Shell f j e) h = h
+no_threads rows none (Shell f j e o) h = h
 
 pub no_workers : (rows : List Row) → ((n : ℕ) → HasNumber rows (codes "workers") 16 n → ⊥) → (w : Words) → IsRun rows w → ⊥
 no_workers rows none (Check f e) h = h
 no_workers rows none (Run f t k j e o p) h = none k h.2
 no_workers rows none (Replay f j e o p) h = h
 no_workers rows none (Explain k) h = h
-no_workers rows none (Shell f j e) h = h
+no_workers rows none (Shell f j e o) h = h
 
 pub no_run_format : (rows : List Row) → ((o : Format) → HasFormat rows o → ⊥) → (w : Words) → IsRun rows w → ⊥
 no_run_format rows none (Check f e) h = h
 no_run_format rows none (Run f t k j e o p) h = none o h.5
 no_run_format rows none (Replay f j e o p) h = h
 no_run_format rows none (Explain k) h = h
-no_run_format rows none (Shell f j e) h = h
+no_run_format rows none (Shell f j e o) h = h
 
 pub no_replay : (rows : List Row) → first_of (codes "file") rows ≡ None → (w : Words) → IsReplay rows w → ⊥
 no_replay rows none (Check f e) h = h
@@ -125,7 +125,7 @@ no_replay rows none (Replay f j e o p) h =
     let there = h.0 in
     cc
 no_replay rows none (Explain k) h = h
-no_replay rows none (Shell f j e) h = h
+no_replay rows none (Shell f j e o) h = h
 
 pub no_steps : (rows : List Row) → first_of (codes "journal") rows ≡ None → (w : Words) → IsReplay rows w → ⊥
 no_steps rows none (Check f e) h = h
@@ -134,34 +134,41 @@ no_steps rows none (Replay f j e o p) h =
     let there = h.1 in
     cc
 no_steps rows none (Explain k) h = h
-no_steps rows none (Shell f j e) h = h
+no_steps rows none (Shell f j e o) h = h
 
 pub no_replay_format : (rows : List Row) → ((o : Format) → HasFormat rows o → ⊥) → (w : Words) → IsReplay rows w → ⊥
 no_replay_format rows none (Check f e) h = h
 no_replay_format rows none (Run f t k j e o p) h = h
 no_replay_format rows none (Replay f j e o p) h = none o h.3
 no_replay_format rows none (Explain k) h = h
-no_replay_format rows none (Shell f j e) h = h
+no_replay_format rows none (Shell f j e o) h = h
 
 pub no_explain : (rows : List Row) → ((n : ℕ) → HasNumber rows (codes "number") 49 n → ⊥) → (w : Words) → IsExplain rows w → ⊥
 no_explain rows none (Check f e) h = h
 no_explain rows none (Run f t k j e o p) h = h
 no_explain rows none (Replay f j e o p) h = h
 no_explain rows none (Explain k) h = none (kind_number k) h
-no_explain rows none (Shell f j e) h = h
+no_explain rows none (Shell f j e o) h = h
 
 pub no_kind : (rows : List Row) (n : ℕ) → ((m : ℕ) → HasNumber rows (codes "number") 49 m → n ≡ m) → ((k : Kind) → kind_number k ≢ n) → (w : Words) → IsExplain rows w → ⊥
 no_kind rows n same other (Check f e) h = h
 no_kind rows n same other (Run f t k j e o p) h = h
 no_kind rows n same other (Replay f j e o p) h = h
 no_kind rows n same other (Explain k) h = other k (sym (same (kind_number k) h))
-no_kind rows n same other (Shell f j e) h = h
+no_kind rows n same other (Shell f j e o) h = h
 
 pub no_shell : (rows : List Row) → first_of (codes "file") rows ≡ None → (w : Words) → IsShell rows w → ⊥
 no_shell rows none (Check f e) h = h
 no_shell rows none (Run f t k j e o p) h = h
 no_shell rows none (Replay f j e o p) h = h
 no_shell rows none (Explain k) h = h
-no_shell rows none (Shell f j e) h =
+no_shell rows none (Shell f j e o) h =
     let there = h.0 in
     cc
+
+pub no_shell_format : (rows : List Row) → ((o : Format) → HasFormat rows o → ⊥) → (w : Words) → IsShell rows w → ⊥
+no_shell_format rows none (Check f e) h = h
+no_shell_format rows none (Run f t k j e o p) h = h
+no_shell_format rows none (Replay f j e o p) h = h
+no_shell_format rows none (Explain k) h = h
+no_shell_format rows none (Shell f j e o) h = none o h.3

@@ -42,7 +42,7 @@ module _ (met : Option (Text × List Row)) (file : Text) where
   check_asked (Run f t k j e o p) h is = omega (arith, ap key_seen (ap seen (sym h.1) ∙ is))
   check_asked (Replay f j e o p) h is = omega (arith, ap key_seen (ap seen (sym h.1) ∙ is))
   check_asked (Explain k) h is = omega (arith, ap key_seen (ap seen (sym h.1) ∙ is))
-  check_asked (Shell f j e) h is = omega (arith, ap key_seen (ap seen (sym h.1) ∙ is))
+  check_asked (Shell f j e o) h is = omega (arith, ap key_seen (ap seen (sym h.1) ∙ is))
 
   pub run_asked : (w : Words) → IsAsked met w → seen met ≡ Some (seen_run file) → RunsFile file w
   run_asked (Run f t k j e o p) h is =
@@ -62,7 +62,7 @@ module _ (met : Option (Text × List Row)) (file : Text) where
   run_asked (Check f e) h is = omega (arith, ap key_seen (ap seen (sym h.1) ∙ is))
   run_asked (Replay f j e o p) h is = omega (arith, ap key_seen (ap seen (sym h.1) ∙ is))
   run_asked (Explain k) h is = omega (arith, ap key_seen (ap seen (sym h.1) ∙ is))
-  run_asked (Shell f j e) h is = omega (arith, ap key_seen (ap seen (sym h.1) ∙ is))
+  run_asked (Shell f j e o) h is = omega (arith, ap key_seen (ap seen (sym h.1) ∙ is))
 
   pub replay_asked : (journal : Text) (w : Words) → IsAsked met w → seen met ≡ Some (seen_replay file journal) → ReplaysFiles file journal w
   replay_asked journal (Replay f j e o p) h is =
@@ -76,7 +76,7 @@ module _ (met : Option (Text × List Row)) (file : Text) where
   replay_asked journal (Check f e) h is = omega (arith, ap key_seen (ap seen (sym h.1) ∙ is))
   replay_asked journal (Run f t k j e o p) h is = omega (arith, ap key_seen (ap seen (sym h.1) ∙ is))
   replay_asked journal (Explain k) h is = omega (arith, ap key_seen (ap seen (sym h.1) ∙ is))
-  replay_asked journal (Shell f j e) h is = omega (arith, ap key_seen (ap seen (sym h.1) ∙ is))
+  replay_asked journal (Shell f j e o) h is = omega (arith, ap key_seen (ap seen (sym h.1) ∙ is))
 
 -- ---- something was asked for
 

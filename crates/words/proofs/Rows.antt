@@ -61,7 +61,7 @@ unfolding clap_on_literals
 number = refl
 
 standard_input : finds (codes "shell" ∷ codes "-" ∷ codes "--journal" ∷ codes "b" ∷ [])
-    ≡ Some (record { name = codes "shell"; file = Some (codes "-"); threads = None; workers = None; journal = Some (codes "b"); explain = Some (codes "false"); format = None; progress = None })
+    ≡ Some (record { name = codes "shell"; file = Some (codes "-"); threads = None; workers = None; journal = Some (codes "b"); explain = Some (codes "false"); format = Some (codes "text"); progress = None })
 unfolding clap_on_literals
 standard_input = refl
 

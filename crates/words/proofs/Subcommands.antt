@@ -32,35 +32,35 @@ module _ (met : Option (Text × List Row)) (rows : List Row) where
   no_check_asked is none (Run f t k j e o p) h = absurd (omega (arith, sym (ap name_key h.1) ∙ ap name_key is))
   no_check_asked is none (Replay f j e o p) h = absurd (omega (arith, sym (ap name_key h.1) ∙ ap name_key is))
   no_check_asked is none (Explain k) h = absurd (omega (arith, sym (ap name_key h.1) ∙ ap name_key is))
-  no_check_asked is none (Shell f j e) h = absurd (omega (arith, sym (ap name_key h.1) ∙ ap name_key is))
+  no_check_asked is none (Shell f j e o) h = absurd (omega (arith, sym (ap name_key h.1) ∙ ap name_key is))
 
   pub no_run_asked : met ≡ Some (codes "run", rows) → ((w : Words) → IsRun rows w → ⊥) → (w : Words) → IsAsked met w → ⊥
   no_run_asked is none (Check f e) h = absurd (omega (arith, sym (ap name_key h.1) ∙ ap name_key is))
   no_run_asked is none (Run f t k j e o p) h = none (Run f t k j e o p) (subst (λ r. IsRun r (Run f t k j e o p)) (sym (ap (rows_in rows) h.1) ∙ ap (rows_in rows) is) h.2)
   no_run_asked is none (Replay f j e o p) h = absurd (omega (arith, sym (ap name_key h.1) ∙ ap name_key is))
   no_run_asked is none (Explain k) h = absurd (omega (arith, sym (ap name_key h.1) ∙ ap name_key is))
-  no_run_asked is none (Shell f j e) h = absurd (omega (arith, sym (ap name_key h.1) ∙ ap name_key is))
+  no_run_asked is none (Shell f j e o) h = absurd (omega (arith, sym (ap name_key h.1) ∙ ap name_key is))
 
   pub no_replay_asked : met ≡ Some (codes "replay", rows) → ((w : Words) → IsReplay rows w → ⊥) → (w : Words) → IsAsked met w → ⊥
   no_replay_asked is none (Check f e) h = absurd (omega (arith, sym (ap name_key h.1) ∙ ap name_key is))
   no_replay_asked is none (Run f t k j e o p) h = absurd (omega (arith, sym (ap name_key h.1) ∙ ap name_key is))
   no_replay_asked is none (Replay f j e o p) h = none (Replay f j e o p) (subst (λ r. IsReplay r (Replay f j e o p)) (sym (ap (rows_in rows) h.1) ∙ ap (rows_in rows) is) h.2)
   no_replay_asked is none (Explain k) h = absurd (omega (arith, sym (ap name_key h.1) ∙ ap name_key is))
-  no_replay_asked is none (Shell f j e) h = absurd (omega (arith, sym (ap name_key h.1) ∙ ap name_key is))
+  no_replay_asked is none (Shell f j e o) h = absurd (omega (arith, sym (ap name_key h.1) ∙ ap name_key is))
 
   pub no_explain_asked : met ≡ Some (codes "explain", rows) → ((w : Words) → IsExplain rows w → ⊥) → (w : Words) → IsAsked met w → ⊥
   no_explain_asked is none (Check f e) h = absurd (omega (arith, sym (ap name_key h.1) ∙ ap name_key is))
   no_explain_asked is none (Run f t k j e o p) h = absurd (omega (arith, sym (ap name_key h.1) ∙ ap name_key is))
   no_explain_asked is none (Replay f j e o p) h = absurd (omega (arith, sym (ap name_key h.1) ∙ ap name_key is))
   no_explain_asked is none (Explain k) h = none (Explain k) (subst (λ r. IsExplain r (Explain k)) (sym (ap (rows_in rows) h.1) ∙ ap (rows_in rows) is) h.2)
-  no_explain_asked is none (Shell f j e) h = absurd (omega (arith, sym (ap name_key h.1) ∙ ap name_key is))
+  no_explain_asked is none (Shell f j e o) h = absurd (omega (arith, sym (ap name_key h.1) ∙ ap name_key is))
 
   pub no_shell_asked : met ≡ Some (codes "shell", rows) → ((w : Words) → IsShell rows w → ⊥) → (w : Words) → IsAsked met w → ⊥
   no_shell_asked is none (Check f e) h = absurd (omega (arith, sym (ap name_key h.1) ∙ ap name_key is))
   no_shell_asked is none (Run f t k j e o p) h = absurd (omega (arith, sym (ap name_key h.1) ∙ ap name_key is))
   no_shell_asked is none (Replay f j e o p) h = absurd (omega (arith, sym (ap name_key h.1) ∙ ap name_key is))
   no_shell_asked is none (Explain k) h = absurd (omega (arith, sym (ap name_key h.1) ∙ ap name_key is))
-  no_shell_asked is none (Shell f j e) h = none (Shell f j e) (subst (λ r. IsShell r (Shell f j e)) (sym (ap (rows_in rows) h.1) ∙ ap (rows_in rows) is) h.2)
+  no_shell_asked is none (Shell f j e o) h = none (Shell f j e o) (subst (λ r. IsShell r (Shell f j e o)) (sym (ap (rows_in rows) h.1) ∙ ap (rows_in rows) is) h.2)
 
 pub passed_on : {A : Type 0} (o : Option A) (P Q : Type 0) → (P → Q) → IfNone o P → IfNone o Q
 passed_on None P Q f h = f h

@@ -59,11 +59,11 @@ abbrev pub IsExplain : List Row → Words → Type 0
 IsExplain rows (Explain kind) = HasNumber rows (codes "number") 49 (kind_number kind)
 IsExplain rows _ = ⊥
 
--- the matches of `shell`: a file, and a path where one is given
+-- the matches of `shell`: a file, a path where one is given, and a format
 abbrev pub IsShell : List Row → Words → Type 0
-IsShell rows (Shell file journal explain) = (first_of (codes "file") rows ≡ Some file.now)
+IsShell rows (Shell file journal explain format) = (first_of (codes "file") rows ≡ Some file.now)
     × (first_of (codes "journal") rows ≡ option_map (λ path. path.now) journal)
-    × IsFlag rows (codes "explain") explain
+    × IsFlag rows (codes "explain") explain × HasFormat rows format
 IsShell rows _ = ⊥
 
 -- the subcommand that was met, with its matches, asks for this
@@ -76,8 +76,8 @@ IsAsked met (Replay file journal explain format progress) = (rows : List Row)
     × (met ≡ Some (codes "replay", rows)) × IsReplay rows (Replay file journal explain format progress)
 IsAsked met (Explain kind) =
     (rows : List Row) × (met ≡ Some (codes "explain", rows)) × IsExplain rows (Explain kind)
-IsAsked met (Shell file journal explain) = (rows : List Row)
-    × (met ≡ Some (codes "shell", rows)) × IsShell rows (Shell file journal explain)
+IsAsked met (Shell file journal explain format) = (rows : List Row)
+    × (met ≡ Some (codes "shell", rows)) × IsShell rows (Shell file journal explain format)
 
 -- the words are the program's name, the command and a file, which does not begin with a hyphen
 pub record IsFileLine (command file : Text) (words : List Text) : Type 0 where

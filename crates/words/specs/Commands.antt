@@ -59,10 +59,10 @@ replay_app = with_rule (with_rule (with_rule (with_rule (with_rule (new_app (cod
 abbrev pub explain_app : App
 explain_app = with_rule (new_app (codes "explain")) (known_rule (codes "number"))
 
--- `shell FILE [--journal PATH] [--explain]`
+-- `shell FILE [--journal PATH] [--explain] [--format FORMAT]`
 abbrev pub shell_app : App
-shell_app = with_rule (with_rule (with_rule (new_app (codes "shell")) (file_rule (codes "file")))
-    (path_rule (codes "journal"))) (flag_rule (codes "explain"))
+shell_app = with_rule (with_rule (with_rule (with_rule (new_app (codes "shell")) (file_rule (codes "file")))
+    (path_rule (codes "journal"))) (flag_rule (codes "explain"))) (choice_rule (codes "format"))
 
 -- the program, which has to be given one of its commands
 abbrev pub program : App

@@ -18,14 +18,12 @@ pub fn not_utf8(alloc: Global) -> Result<Error, AllocError>
     command.error(ErrorKind::InvalidValue, "a word is not UTF-8")
 }
 
-// What stands below the program's help.
-const AFTER_HELP: &str = "\
-A scenario is a TOML file of four lists, for example:
-  routers = [\"a\", \"b\"]
-  links = [\"a b 5 2\"]            # the cost is 5 from a, and 2 from b
-  prefixes = [\"10.0.0.0/8 a 1\"]  # a is attached: packets end there, at cost 1
-  script = [\"up a b\", \"settle\", \"table b\"]
-
+// The commands of a script, between two texts.
+macro_rules! commands {
+    ($before:literal, $behind:literal) => {
+        concat!(
+            $before,
+            "\
 Commands of a script and of the shell:
   up A B                  The link of A and B comes up, in its next session.
   down A B                It goes down, and the messages on it are lost.
@@ -38,6 +36,10 @@ Commands of a script and of the shell:
   release A               A sends the oldest message that it holds.
   try STEP                Does one of the steps above, and prints if it was refused.
   settle                  Routers do what they have to do, until nothing is left.
+  next A                  Prints what A has to do next.
+  queue A B               Prints what A has yet to take from B.
+  queue A A               Prints the notices of its attachments that A has yet to take.
+  held A                  Prints the messages that A holds.
   state A PREFIX          Prints what A knows of the prefix, as distances and a row.
   table A                 Prints the rows that A has in force.
   lookup A ADDR           Prints the row by which A forwards packets to the address.
@@ -46,7 +48,33 @@ Commands of a script and of the shell:
   inject A ADDR           Gives the workers such a packet.
   drain                   Waits for the workers, and prints what they answered.
   report                  Prints all links, routers and machines.
+",
+            $behind
+        )
+    };
+}
 
+/// The commands of a shell: those of a script, and its own.
+pub const SHELL_COMMANDS: &str = commands!(
+    "",
+    "\n\
+Commands of the shell alone:
+  help                    Prints this.
+  say TEXT                Prints the text.
+  quit                    Ends the shell, as the end of its input does."
+);
+
+// What stands below the program's help.
+const AFTER_HELP: &str = commands!(
+    "\
+A scenario is a TOML file of four lists, for example:
+  routers = [\"a\", \"b\"]
+  links = [\"a b 5 2\"]            # the cost is 5 from a, and 2 from b
+  prefixes = [\"10.0.0.0/8 a 1\"]  # a is attached: packets end there, at cost 1
+  script = [\"up a b\", \"settle\", \"table b\"]
+
+",
+    "\n\
 Exit status:
   0  All is done. A replay agrees with its journal.
   1  The command line, the scenario or the journal has a fault.
@@ -58,7 +86,8 @@ FILE is a path, or - for the standard input. If the program prints a number, as 
 (docs/dualnet.1) has the rest.
 
 Example:
-  dualnet run examples/two-routers.toml";
+  dualnet run examples/two-routers.toml"
+);
 
 pub(crate) fn program_command<'a>(alloc: Global) -> Result<Command<'a>, AllocError>
     ensures { IfOk result (λ c. app_of c ≡ program) }
@@ -148,7 +177,8 @@ fn shell_command<'a>(alloc: Global) -> Result<Command<'a>, AllocError>
         .after_help("Example:\n  dualnet shell examples/ring.toml")
         .arg(scenario_arg(alloc))?
         .arg(journal_arg(alloc))?
-        .arg(explain_arg(alloc))
+        .arg(explain_arg(alloc))?
+        .arg(format_arg(alloc))
 }
 
 pub(crate) fn scenario_arg<'a>(alloc: Global) -> Arg<'a>

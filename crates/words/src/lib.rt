@@ -8,7 +8,7 @@
 //!   dualnet check FILE [--explain]
 //!   dualnet run FILE [--threads N] [--workers N] [--journal PATH] [--explain] [--format F] [--progress]
 //!   dualnet replay FILE JOURNAL [--explain] [--format F] [--progress]
-//!   dualnet shell FILE [--journal PATH] [--explain]
+//!   dualnet shell FILE [--journal PATH] [--explain] [--format F]
 //!   dualnet explain NUMBER
 //!   dualnet-view FILE [JOURNAL] [-o PATH] [--json]
 //! ```
@@ -43,7 +43,7 @@ mod words;
 
 pub use clap::Error;
 pub use clap::error::ErrorKind;
-pub use commands::not_utf8;
+pub use commands::{SHELL_COMMANDS, not_utf8};
 pub use format::Format;
 pub use status::exit_status;
 pub use view::{ViewWords, read_view_words};

@@ -51,6 +51,7 @@ pub enum Words<'a> {
         file: &'a str,
         journal: Option<&'a str>,
         explain: bool,
+        format: Format,
     },
 }
 
@@ -173,10 +174,12 @@ fn shell_words<'a>(matches: &ArgMatches<'a>) -> Option<Words<'a>>
     let file = matches.get_str("file")?;
     let journal = matches.get_str("journal");
     let explain = flag(matches, "explain");
+    let format = named_format(matches)?;
     Some(Words::Shell {
         file,
         journal,
         explain,
+        format,
     })
 }
 

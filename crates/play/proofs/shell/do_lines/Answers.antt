@@ -7,3 +7,10 @@ loop-line-preserved g c = record {
   tried = tried_more c.args.fabric.now c.loop-line.fabric c.do_line.new.fabric c.loop-line.invariant.tried c.do_line.ensures.tried;
   names = c.do_line.ensures.names ∙ c.loop-line.invariant.names;
 }
+
+pub returns-then-not-do_line : goal.returns-then-not-do_line
+returns-then-not-do_line g c = record {
+  tried = tried_more c.args.fabric.now c.loop-line.fabric c.do_line.new.fabric c.loop-line.invariant.tried c.do_line.ensures.tried;
+  fault = tt;
+  names = c.do_line.ensures.names ∙ c.loop-line.invariant.names;
+}

@@ -1,5 +1,5 @@
 use Rattle.play.proofs.Trying.{tried_one, tried_or}
-use Rattle.play.proofs.shell.do_line.Goals as goal
+use Rattle.play.proofs.shell.do_typed.Goals as goal
 
 pub returns-in-Err-done : goal.returns-in-Err-done
 returns-in-Err-done g c = record {
@@ -8,8 +8,8 @@ returns-in-Err-done g c = record {
   names = c.do_command-done.ensures.names;
 }
 
-pub returns-in_default : goal.returns-in_default
-returns-in_default g c = record {
+pub returns-in-Ok-done : goal.returns-in-Ok-done
+returns-in-Ok-done g c = record {
   tried = tried_one c.in-Ok.command c.args.fabric.now c.do_command-done.new.fabric
       (tried_or c.in-Ok.command c.args.fabric.now c.do_command-done.new.fabric c.do_command-done.result c.do_command-done.ensures.ok c.do_command-done.ensures.err);
   names = c.do_command-done.ensures.names;

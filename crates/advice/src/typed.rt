@@ -1,0 +1,37 @@
+//! Why a line that was typed into a shell is not done.
+
+use crate::command::tell_command;
+use crate::shown::shown;
+use explanations::Kind;
+use network_model::LinkSpec;
+use script::Names;
+use std::alloc::Global;
+use std::io;
+use std::io::Write;
+
+/// A line that was typed into a shell, and its fault.
+#[derive(Clone, Copy)]
+pub struct Typed<'a> {
+    pub names: &'a Names,
+    pub links: &'a [LinkSpec],
+    /// Its number, from 1.
+    pub number: usize,
+    /// Its bytes, which need not be UTF-8.
+    pub line: &'a [u8],
+    pub kind: Kind,
+}
+
+/// Tells of a line that was typed what is wrong with it, when the fault comes, and what to do.
+pub fn advise_typed<W: Write>(alloc: Global, typed: &Typed<'_>, out: &mut W) -> io::Result<()> {
+    let number = typed.number;
+    match str::from_utf8(typed.line) {
+        Ok(line) => {
+            writeln!(out, "  line {number}: {}", shown(line))?;
+            if matches!(typed.kind, Kind::BadCommand | Kind::BadCost) {
+                tell_command(alloc, typed.names, typed.links, line, out)?;
+            }
+        }
+        Err(_) => writeln!(out, "  line {number} is not UTF-8")?,
+    }
+    write!(out, "{}", typed.kind.page().brief())
+}

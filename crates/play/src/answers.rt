@@ -1,0 +1,165 @@
+//! What a shell prints beside the lines of its commands.
+
+use advice::{Typed, advise_typed};
+use network_model::LinkSpec;
+use plans::{Fault, refuse};
+use reports::Printer;
+use script::Names;
+use std::alloc::Global;
+use std::io::Write;
+use std::{fmt, io};
+use words::SHELL_COMMANDS;
+
+/// Prints the commands of a shell.
+pub(crate) fn print_help<W: Write>(printer: &Printer<'_>, out: &mut W) -> io::Result<()> {
+    let text = Escaped {
+        text: SHELL_COMMANDS,
+    };
+    let json = format_args!("{{\"kind\":\"help\",\"text\":\"{text}\"}}");
+    printer.print(SHELL_COMMANDS, json, out)
+}
+
+/// Prints a text.
+pub(crate) fn print_said<W: Write>(
+    printer: &Printer<'_>,
+    said: &str,
+    out: &mut W,
+) -> io::Result<()> {
+    let text = Escaped { text: said };
+    let json = format_args!("{{\"kind\":\"said\",\"text\":\"{text}\"}}");
+    printer.print(said, json, out)
+}
+
+/// A line that was typed, and how it is told of where it is not done.
+#[derive(Clone, Copy)]
+pub(crate) struct Told<'a> {
+    pub alloc: Global,
+    pub names: &'a Names,
+    pub links: &'a [LinkSpec],
+    /// Whether more is told of a fault.
+    pub explain: bool,
+    /// Its number, from 1.
+    pub number: usize,
+    pub line: &'a [u8],
+}
+
+impl Told<'_> {
+    // Tells more of the fault of the line.
+    fn advise<W: Write>(&self, fault: Fault, out: &mut W) -> io::Result<()> {
+        let typed = Typed {
+            names: self.names,
+            links: self.links,
+            number: self.number,
+            line: self.line,
+            kind: fault.kind(),
+        };
+        advise_typed(self.alloc, &typed, out)
+    }
+}
+
+/// Tells on `err` why a line was not done, after all that was printed before, and more where that is asked
+/// for. A write that fails is lost.
+pub(crate) fn tell_fault<W: Write, E: Write>(
+    told: &Told<'_>,
+    fault: Fault,
+    out: &mut W,
+    err: &mut E,
+) {
+    let _ = out.flush();
+    let _ = refuse(fault, err);
+    if told.explain {
+        let _ = told.advise(fault, err);
+    }
+}
+
+/// Begins the object that answers the line of this number, up to its list of lines.
+pub(crate) fn begin_answer<W: Write>(number: usize, out: &mut W) -> io::Result<()> {
+    write!(
+        out,
+        "{{\"kind\":\"answer\",\"command\":{number},\"lines\":["
+    )
+}
+
+/// Ends that object: the fault, if there is one, what is told more of it, and how many steps were done.
+pub(crate) fn end_answer<W: Write>(
+    told: &Told<'_>,
+    fault: Option<Fault>,
+    steps: usize,
+    out: &mut W,
+) -> io::Result<()> {
+    match fault {
+        Some(fault) => {
+            let cause = fault.cause;
+            write!(out, "],\"fault\":\"{cause}\"")?;
+            if told.explain {
+                let mut bytes = Vec::new(told.alloc);
+                // Where there is no memory for all of it, what there is memory for is told.
+                let _ = told.advise(fault, &mut bytes);
+                let text = str::from_utf8(&bytes).unwrap_or("");
+                let text = Escaped { text };
+                write!(out, ",\"told\":\"{text}\"")?;
+            }
+        }
+        None => write!(out, "],\"fault\":null")?,
+    }
+    writeln!(out, ",\"steps\":{steps}}}")
+}
+
+/// A text inside the quotes of JSON.
+#[derive(Clone, Copy)]
+pub(crate) struct Escaped<'a> {
+    pub text: &'a str,
+}
+
+impl fmt::Display for Escaped<'_> {
+    fn fmt<W: fmt::Write>(&self, f: &mut fmt::Formatter<W>) -> fmt::Result {
+        for letter in self.text.chars() {
+            match letter {
+                '"' => write!(f, "\\\"")?,
+                '\\' => write!(f, "\\\\")?,
+                '\n' => write!(f, "\\n")?,
+                '\0'..='\u{1f}' => write!(f, "\\u{:04x}", u32::from(letter))?,
+                _ => write!(f, "{letter}")?,
+            }
+        }
+        Ok(())
+    }
+}
+
+/// A writer that makes of lines the elements of a list: a comma stands between two, and no line feed.
+#[derive(Drop)]
+pub(crate) struct Listed<'a, W> {
+    out: &'a mut W,
+    // Whether a line has ended, so that a comma comes before the next.
+    has_ended: bool,
+}
+
+impl<'a, W: Write> Listed<'a, W> {
+    /// The list that goes on behind what `out` was given.
+    pub(crate) fn new(out: &'a mut W) -> Listed<'a, W> {
+        Listed {
+            out,
+            has_ended: false,
+        }
+    }
+}
+
+impl<W: Write> Write for Listed<'_, W> {
+    fn write(&mut self, buf: &[u8]) -> io::Result<usize> {
+        let end = buf.iter().position(|byte| *byte == b'\n');
+        if end == Some(0) {
+            self.has_ended = true;
+            return Ok(1);
+        }
+        if self.has_ended {
+            self.out.write_all(b",")?;
+            self.has_ended = false;
+        }
+        let line = &buf[..end.unwrap_or(buf.len())];
+        self.out.write(line)
+    }
+
+    fn flush(&mut self) -> io::Result<()> {
+        self.out.flush()
+    }
+}
