@@ -1,15 +1,15 @@
 -- Commands that are tried one after another.
 use Rattle.std.specs.Prelude.{⊤}
-use Rattle.std.proofs.Common.{◌≤◌, Bool, inl, inr, List, [], ◌∷◌, ◌++◌, Result, Ok, Err, IfErr, OnOk, length, refl, ap, subst}
+use Rattle.std.proofs.Common.{◌≤◌, inl, inr, List, [], ◌∷◌, ◌++◌, Result, Ok, Err, IfErr, OnOk, length, refl, ap, subst}
 use Rattle.fabric.specs.Fabric.{Fabric, opening_fabric}
 use Rattle.texts.specs.Words.{Text}
+use Rattle.script.specs.Directories.{Directory}
 use Rattle.script.specs.declared.command.Command.{Command}
 use Rattle.plans.specs.declared.fault.Cause.{Cause}
 use Rattle.plans.specs.declared.fault.Fault.{Fault}
 use Rattle.plans.specs.declared.plan.Plan.{Plan}
 use Rattle.plans.specs.Faults.{most_bytes}
 use Rattle.plans.proofs.Planned.{IsPlanned}
-use Rattle.reports.specs.Ends.{KeepsJournal}
 use Rattle.play.specs.Commands.{IsDone, IsRefused}
 use Rattle.play.specs.Shell.{AreTried, IsShellEnd, IsTried, StopsShell, StopsShellPlan, TriesPlan}
 
@@ -34,15 +34,15 @@ tried_or c f g (Ok x) done refused = inl done
 tried_or c f g (Err e) done refused = inr (e, refused)
 
 -- what was tried on the network of a plan of a text
-pub shell_ends : (wanted : Bool) (text : Text) (plan : Plan) (old new : Text) → length text ≤ most_bytes → IsPlanned text plan → TriesPlan wanted plan old new → IsShellEnd wanted text old new
-shell_ends wanted text plan old new short planned tries = record {
+pub shell_ends : (Keeps : Directory → Fabric → Type 0) (text : Text) (plan : Plan) → length text ≤ most_bytes → IsPlanned text plan → TriesPlan Keeps plan → IsShellEnd Keeps text
+shell_ends Keeps text plan short planned tries = record {
   short = short;
   parts = planned.0;
   scenario = planned.1;
   commands = tries.1.0;
   fabric = tries.0;
   tried = subst (λ (h : Fabric). AreTried tries.1.0 h tries.0) (ap opening_fabric planned.2.network) tries.1.1;
-  keeps = subst (λ d. KeepsJournal wanted d tries.0 old new) planned.2.directory tries.2;
+  keeps = subst (λ d. Keeps d tries.0) planned.2.directory tries.2;
 }
 
 pub shell_stops : (text : Text) (fault : Fault) → StopsShellPlan fault → StopsShell text fault

@@ -8,17 +8,17 @@ use Rattle.reports.specs.declared.end.End.{End}
 use Rattle.reports.specs.declared.end.End.TheVariants.{Done}
 use Rattle.plans.specs.Faults.{OfBytes, status_of}
 use Rattle.plans.specs.Scenarios.{StopsReading}
-use Rattle.reports.specs.Ends.{IsChecked, Replays, StopsReplay, status_at}
+use Rattle.reports.specs.Ends.{IsChecked, KeepsJournal, Replays, StopsReplay, status_at}
 use Rattle.play.specs.Runs.{IsRunToEnd, StopsFor}
 use Rattle.play.specs.Shell.{IsShellEnd, StopsShell}
 
 -- how a command ends that has met no fault, where the text of a journal is wanted or not
 abbrev pub Ends : Bool → Words → Option Text → Option Text → Text → Text → End → Type 0
 Ends wanted (Check _ _) scenario journal old new end = (end ≡ Done) × (new ≡ old) × OfBytes scenario IsChecked
-Ends wanted (Run _ _ _ _ _ _ _) scenario journal old new end = (end ≡ Done) × OfBytes scenario (λ bytes. IsRunToEnd wanted bytes old new)
+Ends wanted (Run _ _ _ _ _ _ _) scenario journal old new end = (end ≡ Done) × OfBytes scenario (IsRunToEnd (λ d f. KeepsJournal wanted d f old new))
 Ends wanted (Replay _ _ _ _ _) scenario journal old new end = (new ≡ old) × OfBytes scenario (λ bytes. OfBytes journal (λ lines. Replays bytes lines end))
 Ends wanted (Explain _) scenario journal old new end = (end ≡ Done) × (new ≡ old)
-Ends wanted (Shell _ _ _ _) scenario journal old new end = (end ≡ Done) × OfBytes scenario (λ bytes. IsShellEnd wanted bytes old new)
+Ends wanted (Shell _ _ _ _) scenario journal old new end = (end ≡ Done) × OfBytes scenario (IsShellEnd (λ d f. KeepsJournal wanted d f old new))
 
 -- why a command stops
 abbrev pub Stops : Words → Option Text → Option Text → Fault → Type 0

@@ -1,14 +1,13 @@
 -- How runs end.
-use Rattle.std.specs.Prelude.{◌≤◌, Bool, ◌⊎◌, length}
+use Rattle.std.specs.Prelude.{◌≤◌, ◌⊎◌, length}
 use Rattle.fabric.specs.Fabric.{Fabric, opening_fabric}
 use Rattle.texts.specs.Words.{Text}
 use Rattle.script.specs.Reading.{Parts}
-use Rattle.script.specs.Directories.{directory_of}
+use Rattle.script.specs.Directories.{Directory, directory_of}
 use Rattle.plans.specs.declared.fault.Fault.{Fault}
 use Rattle.plans.specs.declared.plan.Plan.{Plan}
 use Rattle.plans.specs.Faults.{most_bytes, IsUnanswered, IsWantOfMemory, IsWithoutReaders}
 use Rattle.plans.specs.Scenarios.{IsScenario, StopsReading, network_read}
-use Rattle.reports.specs.Ends.{KeepsJournal}
 use Rattle.play.specs.Commands.{AreDone, StopsAtCommand}
 
 -- ---- to the end
@@ -20,15 +19,15 @@ pub record IsEndOf (bytes : Text) (f : Fabric) : Type 0 where
   pub scenario : IsScenario bytes parts
   pub done : AreDone parts.commands (opening_fabric (network_read parts)) f
 
--- the commands of a plan were done to the end, and their journal was kept, if it is wanted
-abbrev pub RunsPlan : Bool → Plan → Text → Text → Type 0
-RunsPlan wanted plan old new = (fabric : Fabric) × AreDone plan.commands.items (opening_fabric plan.network) fabric × KeepsJournal wanted plan.directory fabric old new
+-- the commands of a plan were done to the end, and of their fabric this was kept
+abbrev pub RunsPlan : (Directory → Fabric → Type 0) → Plan → Type 0
+RunsPlan Keeps plan = (fabric : Fabric) × AreDone plan.commands.items (opening_fabric plan.network) fabric × Keeps plan.directory fabric
 
--- the commands of a scenario were done to the end, and their journal was kept, if it is wanted
-pub record IsRunToEnd (wanted : Bool) (bytes old new : Text) : Type 0 where
+-- the commands of a scenario were done to the end, and of their fabric this was kept
+pub record IsRunToEnd (Keeps : Directory → Fabric → Type 0) (bytes : Text) : Type 0 where
   pub fabric : Fabric
   pub is_end : IsEndOf bytes fabric
-  pub keeps : KeepsJournal wanted (directory_of is_end.parts.names is_end.parts.links) fabric old new
+  pub keeps : Keeps (directory_of is_end.parts.names is_end.parts.links) fabric
 
 -- ---- stops
 

@@ -20,7 +20,8 @@
 //! ```
 //!
 //! `kept` gets the text of the journal of a run or a shell that ended with 0. `told` is the fault for which
-//! the program stopped, so that its caller can give advice.
+//! the program stopped, so that its caller can give advice. Who wants something else of a run gives a [`Keeper`]
+//! to [`run_quietly`]: it gets the fabric at the end.
 //!
 //! A script's commands are done on a `Fabric` (`src/session.rt`). A step is `Fabric::step`. `settle` is the
 //! call `settle` of `control`, which may start threads. A look-up or a trace asks the images in force. Jobs
@@ -48,5 +49,5 @@ mod shell;
 pub use control::{NO_THRESHOLDS, NoGate, THRESHOLDS, Thresholds, TurnGate};
 pub use dispatch::Host;
 pub use plans::{Cause, Fault, Plan, Source, read_bytes, read_plan, read_text, refuse};
-pub use program::{play, play_by};
-pub use reports::End;
+pub use program::{play, play_by, run_quietly};
+pub use reports::{End, Keeper};

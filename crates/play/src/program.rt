@@ -3,7 +3,6 @@
 ghost use Rattle.std.specs.Prelude.{◌≡◌, ◌⊎◌, true, IfOk, IfErr, OnOk, vec_len};
 ghost use Rattle.fabric.specs.Writers.{opening_tables};
 ghost use Rattle.plans.specs.Faults.{IsUnanswered, IsWantOfMemory, OfBytes};
-ghost use Rattle.reports.specs.Ends.{KeepsJournal};
 ghost use Rattle.play.specs.Commands.{AreDone, StopsAtCommand};
 ghost use Rattle.play.specs.Runs.{IsRunToEnd, RunsPlan, StopsFor, StopsPlan};
 ghost use Rattle.play.specs.Outcomes.{Ends, IsPlayed, Stops};
@@ -15,12 +14,13 @@ use control::{Crew, NoGate, THRESHOLDS, Thresholds, TurnGate};
 use dispatch::Host;
 use fabric::{Fabric, FabricName, Unnamed};
 use plans::{Fault, Plan, read_plan, read_text, refuse};
-use reports::{End, check, end_line, replay};
+use reports::{End, JournalText, Keeper, check, end_line, replay};
 use script::Command;
 use std::alloc::Global;
+use std::io;
 use std::io::{Read, Write};
 use std::marker::Brand;
-use words::Words;
+use words::{Format, Words};
 
 /// Does what the words ask for, and answers the exit status. Only a replay and a shell read `journal`:
 /// the shell reads its commands there. A fault is a line on `err`, and where the program stops for it,
@@ -141,7 +141,8 @@ where
                 format,
                 progress,
             };
-            run(rt, alloc, scenario, options, gate, out, err, wanted, kept)
+            let mut keeper = JournalText { wanted, kept };
+            run(rt, alloc, scenario, options, gate, out, err, &mut keeper)
         }
         Words::Replay {
             file: _,
@@ -159,15 +160,18 @@ where
             journal: _,
             explain,
             format,
-        } => shell(
-            rt, alloc, scenario, journal, explain, format, out, err, wanted, kept,
-        ),
+        } => {
+            let mut keeper = JournalText { wanted, kept };
+            shell(
+                rt, alloc, scenario, journal, explain, format, out, err, &mut keeper,
+            )
+        }
     }
 }
 
-// Opens the network of a scenario, does its commands, says how many steps were done, and keeps their
-// journal.
-fn run<H, G, R, W, E>(
+// Opens the network of a scenario, does its commands, says how many steps were done, and has kept what is to be
+// kept of the run.
+fn run<H, G, R, W, E, K>(
     rt: &H,
     alloc: Global,
     scenario: R,
@@ -175,8 +179,7 @@ fn run<H, G, R, W, E>(
     gate: &G,
     out: &mut W,
     err: &mut E,
-    wanted: bool,
-    kept: &mut Vec<u8>,
+    keeper: &mut K,
 ) -> Result<End, Fault>
 where
     H: Host,
@@ -184,22 +187,70 @@ where
     R: Read + Drop,
     W: Write,
     E: Write,
+    K: Keeper,
     ensures ok { IfOk result (λ end. (end ≡ End.Done)
         × OfBytes (R.remaining scenario)
-        (λ bytes. IsRunToEnd wanted bytes kept.old.items kept.new.items)) }
+        (IsRunToEnd (λ d f. K.keeps keeper.old d f keeper.new))) }
     ensures fault { IfErr result (λ e. OfBytes (R.remaining scenario) (λ bytes. StopsFor bytes e)) }
 {
     let text = read_text(alloc, scenario)?;
     let plan = read_plan(alloc, text.as_str())?;
-    let unnamed = Unnamed::many(alloc, plan.network.routers())?;
-    run_plan::<Brand, H, G, W, E>(
-        rt, alloc, plan, unnamed, options, gate, out, err, wanted, kept,
-    )?;
+    run_plan(rt, alloc, plan, options, gate, out, err, keeper)?;
     Ok(End::Done)
 }
 
-// Opens the network of a plan under a name, does its commands, and keeps their journal.
-fn run_plan<B, H, G, W, E>(
+/// Does the script of a plan by one thread and one worker, and has kept what is to be kept of the run. What the
+/// script prints is lost, and nothing is told of how far it is.
+pub fn run_quietly<H, K>(rt: &H, alloc: Global, plan: Plan, keeper: &mut K) -> Result<(), Fault>
+where
+    H: Host,
+    K: Keeper,
+    ensures ok { OnOk result (RunsPlan (λ d f. K.keeps keeper.old d f keeper.new) plan) }
+    ensures fault { IfErr result (StopsPlan plan) }
+{
+    let options = Options {
+        crew: Crew {
+            threads: 1,
+            thresholds: THRESHOLDS,
+        },
+        workers: 1,
+        explain: false,
+        format: Format::Text,
+        progress: false,
+    };
+    let mut out = io::sink();
+    let mut err = io::sink();
+    run_plan(rt, alloc, plan, options, &NoGate, &mut out, &mut err, keeper)
+}
+
+// Does the script of a plan, and has kept what is to be kept of the run.
+fn run_plan<H, G, W, E, K>(
+    rt: &H,
+    alloc: Global,
+    plan: Plan,
+    options: Options,
+    gate: &G,
+    out: &mut W,
+    err: &mut E,
+    keeper: &mut K,
+) -> Result<(), Fault>
+where
+    H: Host,
+    G: TurnGate + Sync,
+    W: Write,
+    E: Write,
+    K: Keeper,
+    ensures ok { OnOk result (RunsPlan (λ d f. K.keeps keeper.old d f keeper.new) plan) }
+    ensures fault { IfErr result (StopsPlan plan) }
+{
+    let unnamed = Unnamed::many(alloc, plan.network.routers())?;
+    run_named::<Brand, H, G, W, E, K>(
+        rt, alloc, plan, unnamed, options, gate, out, err, keeper,
+    )
+}
+
+// The same, where the network is opened under a name.
+fn run_named<B, H, G, W, E, K>(
     rt: &H,
     alloc: Global,
     plan: Plan,
@@ -208,8 +259,7 @@ fn run_plan<B, H, G, W, E>(
     gate: &G,
     out: &mut W,
     err: &mut E,
-    wanted: bool,
-    kept: &mut Vec<u8>,
+    keeper: &mut K,
 ) -> Result<(), Fault>
 where
     B: FabricName + Send + Sync + 'static,
@@ -217,10 +267,11 @@ where
     G: TurnGate + Sync,
     W: Write,
     E: Write,
+    K: Keeper,
     requires books { unnamed.items ≡ B.books }
     requires each { vec_len unnamed ≡ plan.network.routers }
     requires openings { opening_tables plan.network ≡ B.openings }
-    ensures ok { OnOk result (RunsPlan wanted plan kept.old.items kept.new.items) }
+    ensures ok { OnOk result (RunsPlan (λ d f. K.keeps keeper.old d f keeper.new) plan) }
     ensures fault { IfErr result (StopsPlan plan) }
 {
     let Plan {
@@ -231,22 +282,21 @@ where
     let workers = options.workers.max(1).min(16);
     let (mut fabric, readers) = Fabric::<B>::open(rt, alloc, network, unnamed, workers)?;
     let ended = match Session::new(rt, alloc, &directory, readers, options, gate) {
-        Ok(session) => run_commands(session, &mut fabric, &commands, out, err, wanted, kept),
+        Ok(session) => run_commands(session, &mut fabric, &commands, out, err, keeper),
         Err(memory) => Err(Fault::from(memory)),
     };
     fabric.close(rt);
     ended
 }
 
-// Does the commands, and keeps the journal of their steps.
-fn run_commands<B, H, G, W, E>(
+// Does the commands, and has kept what is to be kept of the run.
+fn run_commands<B, H, G, W, E, K>(
     session: Session<'_, B, H, G>,
     fabric: &mut Fabric<B>,
     commands: &[Command],
     out: &mut W,
     err: &mut E,
-    wanted: bool,
-    kept: &mut Vec<u8>,
+    keeper: &mut K,
 ) -> Result<(), Fault>
 where
     B: FabricName + Send + Sync + 'static,
@@ -254,9 +304,9 @@ where
     G: TurnGate + Sync,
     W: Write,
     E: Write,
+    K: Keeper,
     ensures ok { OnOk result (AreDone commands.now fabric.old fabric.new) }
-    ensures keeps { OnOk result (KeepsJournal wanted (session.entry.directory).now
-        fabric.new kept.old.items kept.new.items) }
+    ensures keeps { OnOk result (K.keeps keeper.old (session.entry.directory).now fabric.new keeper.new) }
     ensures fault { IfErr result (λ e. StopsAtCommand commands.now fabric.old fabric.new e
         ⊎ IsUnanswered e ⊎ IsWantOfMemory e) }
 {
@@ -264,5 +314,5 @@ where
     let progress = session.options.progress;
     let done = session.do_commands(fabric, commands, out, err);
     end_line(progress, err);
-    session.finish(fabric, done, wanted, out, kept)
+    session.finish(fabric, done, out, keeper)
 }

@@ -5,7 +5,6 @@ ghost use Rattle.network_model.specs.Network.{most_workers};
 ghost use Rattle.fabric.specs.Writers.{IsReaderPort};
 ghost use Rattle.script.specs.declared.command.Command.TheVariants as Command;
 ghost use Rattle.plans.specs.Faults.{IsUnanswered, IsWantOfMemory, OfWorkers};
-ghost use Rattle.reports.specs.Ends.{KeepsJournal};
 ghost use Rattle.play.specs.Commands.{IsDone, IsRefused, AreDone, StopsAtCommand};
 
 use crate::commands::{look_up, show_trace, try_step};
@@ -19,7 +18,7 @@ use network_model::NoMemory;
 use plans::{Cause, Fault};
 use publication::ImageReader;
 use reports::{
-    Printer, keep, print_report, print_state, show_held, show_next, show_queue, show_table,
+    Keeper, Printer, print_report, print_state, show_held, show_next, show_queue, show_table,
 };
 use script::{Command, Directory, Key, Place};
 use std::alloc::Global;
@@ -185,19 +184,17 @@ where
         Ok(())
     }
 
-    /// Waits for the workers, and, where all commands were done, says how many steps were, and keeps
-    /// their journal, if it is wanted.
-    pub fn finish<W: Write>(
+    /// Waits for the workers. If all commands were done, it says how many steps were done, and has kept what
+    /// is to be kept of the run.
+    pub fn finish<W: Write, K: Keeper>(
         self,
         fabric: &Fabric<B>,
         done: Result<(), Fault>,
-        wanted: bool,
         out: &mut W,
-        kept: &mut Vec<u8>,
+        keeper: &mut K,
     ) -> Result<(), Fault>
         ensures done { OnOk result (IsOk done) }
-        ensures keeps { OnOk result (KeepsJournal wanted (self.entry.directory).now
-            fabric.now kept.old.items kept.new.items) }
+        ensures keeps { OnOk result (K.keeps keeper.old (self.entry.directory).now fabric.now keeper.new) }
         ensures fault { IfErr result (λ e. (done ≡ Err e) ⊎ IsUnanswered e ⊎ IsWantOfMemory e) }
     {
         let Session {
@@ -223,7 +220,7 @@ where
         };
         let json = EndLine::Done { steps };
         let _ = printer.print(format_args!("done: {steps} steps"), json, out);
-        match keep(fabric, directory, wanted, kept) {
+        match keeper.keep(fabric, directory) {
             Ok(()) => Ok(()),
             Err(memory) => Err(Fault::from(memory)),
         }

@@ -4,7 +4,6 @@ ghost use Rattle.std.specs.Prelude.{◌≡◌, ◌⊎◌, IfErr, IfOk, List, OnO
 ghost use Rattle.fabric.specs.Writers.{opening_tables};
 ghost use Rattle.script.specs.declared.command.Command.{Command as CommandOf};
 ghost use Rattle.plans.specs.Faults.{IsUnanswered, IsWantOfMemory, OfBytes};
-ghost use Rattle.reports.specs.Ends.{KeepsJournal};
 ghost use Rattle.play.specs.Shell.{AreTried, CannotReadOn, IsShellEnd, StopsShell, StopsShellPlan, TriesPlan};
 
 use crate::answers::{Listed, Told, begin_answer, end_answer, print_help, print_said, tell_fault};
@@ -14,7 +13,7 @@ use control::{Crew, NoGate, THRESHOLDS, TurnGate};
 use dispatch::Host;
 use fabric::{Fabric, FabricName, Unnamed};
 use plans::{Cause, Fault, Plan, read_failure, read_plan, read_text};
-use reports::{End, Printer};
+use reports::{End, Keeper, Printer};
 use script::read_command;
 use std::alloc::Global;
 use std::io::{BufRead, BufReader, Read, Write};
@@ -23,8 +22,9 @@ use words::Format;
 
 /// Opens the network of a scenario, and does the commands that the lines of `input` say, each answered
 /// at once. One that cannot be read or is refused ends nothing: it is told on `err`, and as JSON in its
-/// answer. At the end of the input, or at `quit`, it says how many steps were done, and keeps their journal.
-pub fn shell<H, R, J, W, E>(
+/// answer. At the end of the input, or at `quit`, it says how many steps were done, and has kept what is to be
+/// kept of them.
+pub fn shell<H, R, J, W, E, K>(
     rt: &H,
     alloc: Global,
     scenario: R,
@@ -33,8 +33,7 @@ pub fn shell<H, R, J, W, E>(
     format: Format,
     out: &mut W,
     err: &mut E,
-    wanted: bool,
-    kept: &mut Vec<u8>,
+    keeper: &mut K,
 ) -> Result<End, Fault>
 where
     H: Host,
@@ -42,23 +41,24 @@ where
     J: Read + Drop,
     W: Write,
     E: Write,
+    K: Keeper,
     ensures ok { IfOk result (λ end. (end ≡ End.Done)
         × OfBytes (R.remaining scenario)
-        (λ bytes. IsShellEnd wanted bytes kept.old.items kept.new.items)) }
+        (IsShellEnd (λ d f. K.keeps keeper.old d f keeper.new))) }
     ensures fault { IfErr result (λ e. OfBytes (R.remaining scenario)
         (λ bytes. StopsShell bytes e)) }
 {
     let text = read_text(alloc, scenario)?;
     let plan = read_plan(alloc, text.as_str())?;
     let unnamed = Unnamed::many(alloc, plan.network.routers())?;
-    open_shell::<Brand, H, J, W, E>(
-        rt, alloc, plan, unnamed, input, explain, format, out, err, wanted, kept,
+    open_shell::<Brand, H, J, W, E, K>(
+        rt, alloc, plan, unnamed, input, explain, format, out, err, keeper,
     )?;
     Ok(End::Done)
 }
 
-// Opens the network of a plan under a name, does the commands of the lines, and keeps their journal.
-fn open_shell<B, H, J, W, E>(
+// Opens the network of a plan under a name, does the commands of the lines, and has kept what is to be kept.
+fn open_shell<B, H, J, W, E, K>(
     rt: &H,
     alloc: Global,
     plan: Plan,
@@ -68,8 +68,7 @@ fn open_shell<B, H, J, W, E>(
     format: Format,
     out: &mut W,
     err: &mut E,
-    wanted: bool,
-    kept: &mut Vec<u8>,
+    keeper: &mut K,
 ) -> Result<(), Fault>
 where
     B: FabricName + Send + Sync + 'static,
@@ -77,10 +76,11 @@ where
     J: Read + Drop,
     W: Write,
     E: Write,
+    K: Keeper,
     requires books { unnamed.items ≡ B.books }
     requires each { vec_len unnamed ≡ plan.network.routers }
     requires openings { opening_tables plan.network ≡ B.openings }
-    ensures ok { OnOk result (TriesPlan wanted plan kept.old.items kept.new.items) }
+    ensures ok { OnOk result (TriesPlan (λ d f. K.keeps keeper.old d f keeper.new) plan) }
     ensures fault { IfErr result StopsShellPlan }
 {
     let Plan {
@@ -101,22 +101,21 @@ where
     };
     let (mut fabric, readers) = Fabric::<B>::open(rt, alloc, network, unnamed, 1)?;
     let ended = match Session::new(rt, alloc, &directory, readers, options, &NoGate) {
-        Ok(session) => run_lines(session, &mut fabric, input, out, err, wanted, kept),
+        Ok(session) => run_lines(session, &mut fabric, input, out, err, keeper),
         Err(memory) => Err(Fault::from(memory)),
     };
     fabric.close(rt);
     ended
 }
 
-// Does the commands of the lines, and keeps the journal of their steps.
-fn run_lines<B, H, G, J, W, E>(
+// Does the commands of the lines, and has kept what is to be kept.
+fn run_lines<B, H, G, J, W, E, K>(
     session: Session<'_, B, H, G>,
     fabric: &mut Fabric<B>,
     input: J,
     out: &mut W,
     err: &mut E,
-    wanted: bool,
-    kept: &mut Vec<u8>,
+    keeper: &mut K,
 ) -> Result<(), Fault>
 where
     B: FabricName + Send + Sync + 'static,
@@ -125,15 +124,15 @@ where
     J: Read + Drop,
     W: Write,
     E: Write,
+    K: Keeper,
     ensures ok { OnOk result ((commands : List CommandOf)
         × AreTried commands fabric.old fabric.new) }
-    ensures keeps { OnOk result (KeepsJournal wanted (session.entry.directory).now
-        fabric.new kept.old.items kept.new.items) }
+    ensures keeps { OnOk result (K.keeps keeper.old (session.entry.directory).now fabric.new keeper.new) }
     ensures fault { IfErr result (λ e. CannotReadOn e ⊎ IsUnanswered e ⊎ IsWantOfMemory e) }
 {
     let mut session = session;
     let read = do_lines(&mut session, fabric, input, out, err);
-    session.finish(fabric, read, wanted, out, kept)
+    session.finish(fabric, read, out, keeper)
 }
 
 // Does the commands of the lines in order, to the end of the input or to `quit`.

@@ -10,7 +10,8 @@
 //! - [`show_next`] prints what a router has to do next, [`show_queue`] what it has yet to take from a port, and
 //!   [`show_held`] what it holds.
 //! - [`check`] says what a scenario holds, or its first fault.
-//! - [`keep`] adds the text of a run's journal, with the report, to a list of bytes.
+//! - A [`Keeper`] keeps something of a run that has come to its end. [`JournalText`] keeps the text of its journal,
+//!   with the report.
 //! - [`replay`] does the steps of a journal from the opening of its network, and compares the reports.
 //!
 //! ```text
@@ -48,7 +49,7 @@ mod waiting;
 
 pub use checking::check;
 pub use end::End;
-pub use keeping::keep;
+pub use keeping::{JournalText, Keeper};
 pub use printer::Printer;
 pub use progress::{end_line, tell_commands};
 pub use replaying::replay;

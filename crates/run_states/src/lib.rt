@@ -20,7 +20,8 @@
 //! {"kind":"state","number":2,"queues":[{"end":0,"link":0,"take":1}],"routers":[..],"step":"deliver a b"}
 //! ```
 //!
-//! [`write_states`] does the steps from the opening. Before each step it marks what the step may change
+//! [`write_states`] does lawful steps from the opening. [`run_from_opening`] says how many steps of a list are lawful.
+//! Before each step it marks what the step may change
 //! (`Marks` in `specs/Marks.antt`). When a state is told, it compares what is marked with the world, and
 //! writes what differs.
 //!
@@ -46,4 +47,4 @@ mod states;
 mod values;
 
 pub use fault::StatesFault;
-pub use states::write_states;
+pub use states::{run_from_opening, write_states};

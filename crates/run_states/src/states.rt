@@ -34,9 +34,26 @@ use std::alloc::{AllocError, Global};
 use std::io::{ErrorKind, Write};
 use world::{Network, Ran, World};
 
+/// How far steps come from the opening of a network, and why the next is refused, if one is.
+pub fn run_from_opening(
+    alloc: Global,
+    network: &Network,
+    steps: &[Step],
+) -> Result<Ran, NoMemory>
+    ensures { IfOk result (λ ran. (w : model.World)
+        × Runs (model.opening network.now) (take ran.done steps.now) w
+        × MatchOption ran.refusal (ran.done ≡ length steps.now)
+        (StopsAt (refusal w) steps.now ran.done)) }
+{
+    // The opening has room for as many steps as a slice can have.
+    let _many = count(steps);
+    let mut ended = World::open(alloc, network)?;
+    Ok(ended.run(steps))
+}
+
 /// Writes what a network opens with, and its state at the opening, after each step whose number is a
-/// multiple of `every` (each step where that is 0), and after the last: a line of JSON each. Where a step is
-/// refused, the one before it is the last.
+/// multiple of `every` (each step where that is 0), and after the last: a line of JSON each. The steps are lawful,
+/// one after another from the opening.
 pub fn write_states<'n, W: Write>(
     alloc: Global,
     network: &'n Network,
@@ -44,22 +61,13 @@ pub fn write_states<'n, W: Write>(
     steps: &[Step],
     every: usize,
     out: &mut W,
-) -> Result<Ran, StatesFault>
-    ensures ran { IfOk result (λ ran. (w : model.World)
-        × Runs (model.opening network.now) (take ran.done steps.now) w
-        × MatchOption ran.refusal (ran.done ≡ length steps.now)
-        (StopsAt (refusal w) steps.now ran.done)) }
-    ensures written { IfOk result (λ ran. (text : Text)
-        × IsStatesText network.now directory.now (take ran.done steps.now) (stride_of every) text
+) -> Result<(), StatesFault>
+    requires { (w : model.World) × Runs (model.opening network.now) steps.now w }
+    ensures { OnOk result ((text : Text)
+        × IsStatesText network.now directory.now steps.now (stride_of every) text
         × Appends (W.contents out.old) (W.contents out.new) text) }
 {
-    // The opening has room for as many steps as a slice can have.
-    let _many = count(steps);
-    let mut ended = World::open(alloc, network)?;
-    let ran = ended.run(steps);
-    let done = &steps[..ran.done];
-    write_done(alloc, network, directory, done, stride(every), out)?;
-    Ok(ran)
+    write_done(alloc, network, directory, steps, stride(every), out)
 }
 
 fn count(steps: &[Step]) -> usize

@@ -6,17 +6,18 @@
 //! of that scenario's network, and of nothing else.
 //!
 //! ```text
-//!   scenario --------------------> network --.
-//!   journal, or the one that a                +--> states (`run_states`) --> lines, or a page (`view_page`)
-//!   run of the script keeps -----> steps  ----'
+//!   scenario --> its script is done --> the fabric --> network, steps --.
+//!                                                                        +--> states --> lines, or a page
+//!   scenario --> its network, a journal ------------> network, steps --'
 //! ```
 //!
 //! ```text
 //! let status = show(&rt, alloc, &words, scenario, journal, &mut out, &mut err);
 //! ```
 //!
-//! [`show`] reads the scenario. Without a journal it runs the script by `play`, and takes the journal that is
-//! kept. What the script prints is lost. Then it reads the journal, and does its steps.
+//! [`show`] reads the scenario. Without a journal `play` does its script. At the end of the run it hands the
+//! fabric over, whose steps are lawful. What the script prints is lost. A journal's steps are first done once,
+//! to see how many of them are lawful. `run_states` writes the states, and `view_page` the page.
 //!
 //! What always holds (`IsShown` in `specs/Shown.antt`): status 0 is answered only if the bytes are those of a
 //! scenario, and all steps are lawful. Then their states were written. Lines have the state after each step.

@@ -1,25 +1,27 @@
 //! Writes the states of a run.
 
-ghost use Rattle.std.specs.Prelude.{◌≡◌, ◌≤◌, ℕ, [], IfOk, None, Ok, is_some, length, take, true};
+ghost use Rattle.std.specs.Prelude.{◌≡◌, ◌≤◌, ℕ, IfOk, None, OnOk, is_some, length};
 ghost use Rattle.network_model.specs.World as model;
 ghost use Rattle.network_model.specs.Run.{Runs};
 ghost use Rattle.texts.specs.Words.{Text};
 ghost use Rattle.plans.specs.Faults.{Gives, OfBytes, most_bytes};
 ghost use Rattle.play.specs.Runs.{IsRunToEnd};
 ghost use Rattle.run_states.specs.Told.{IsStatesText};
-ghost use Rattle.view.specs.Shown.{AreLines, IsShown, IsWrittenUpTo};
+ghost use Rattle.view.specs.Shown.{IsJournalShown, IsRunShown, IsShown, IsWritten};
 
 use crate::limited::Limited;
+use fabric::{Fabric, FabricName};
 use journal::read_journal;
 use network_model::{NoMemory, Step};
-use play::{Cause, Fault, Host, Plan, play, read_bytes, read_plan, read_text, refuse};
-use run_states::{StatesFault, write_states};
+use play::{
+    Cause, Fault, Host, Keeper, Plan, read_bytes, read_plan, read_text, refuse, run_quietly,
+};
+use run_states::{StatesFault, run_from_opening, write_states};
 use script::Directory;
 use std::alloc::Global;
-use std::io;
 use std::io::{Read, Write};
 use view_page::write_page;
-use words::{Format, ViewWords, Words};
+use words::ViewWords;
 use world::{Network, Ran};
 
 /// The most bytes of states that a page has, where fewer states make them fewer.
@@ -43,121 +45,38 @@ where
     J: Read + Drop,
     W: Write,
     E: Write,
-    ensures { result ≡ 0 → OfBytes (R.remaining scenario) (λ bytes. (lines : Text)
-        × AreLines (is_some words.now.journal) bytes (J.remaining journal) lines
-        × IsShown words.now.json bytes lines (W.contents out.old) (W.contents out.new)) }
+    ensures { result ≡ 0 → OfBytes (R.remaining scenario) (IsShown (is_some words.now.journal)
+        words.now.json (J.remaining journal) (W.contents out.old) (W.contents out.new)) }
 {
     let text = match read_text(alloc, scenario) {
         Ok(text) => text,
         Err(cause) => return refuse(Fault::from(cause), err),
     };
     if words.journal.is_some() {
-        return show_journal(alloc, words.json, text.as_str(), journal, out, err);
+        return match show_journal(alloc, words.json, text.as_str(), journal, out) {
+            Ok(ran) => tell(ran, err),
+            Err(fault) => refuse(fault, err),
+        };
     }
-    show_script(rt, alloc, words.json, text.as_str(), out, err)
+    match show_script(rt, alloc, words.json, text.as_str(), out) {
+        Ok(()) => 0,
+        Err(fault) => refuse(fault, err),
+    }
 }
 
-// Writes the states of the steps that a journal says.
-fn show_journal<J: Read + Drop, W: Write, E: Write>(
+// Writes the states of the steps that a journal says, up to the first that is refused.
+fn show_journal<J: Read + Drop, W: Write>(
     alloc: Global,
     json: bool,
     text: &str,
     journal: J,
     out: &mut W,
-    err: &mut E,
-) -> u8
-    requires { length text.now ≤ most_bytes }
-    ensures { result ≡ 0 → (lines : Text) × Gives (J.remaining journal) lines
-        × IsShown json text.now lines (W.contents out.old) (W.contents out.new) }
-{
-    match read_bytes(alloc, journal) {
-        Ok(lines) => write_run(alloc, json, text, &lines, out, err),
-        Err(cause) => refuse(Fault::from(cause), err),
-    }
-}
-
-// Runs the script of a scenario, and writes the states of its steps.
-fn show_script<H: Host, W: Write, E: Write>(
-    rt: &H,
-    alloc: Global,
-    json: bool,
-    text: &str,
-    out: &mut W,
-    err: &mut E,
-) -> u8
-    requires { length text.now ≤ most_bytes }
-    ensures { result ≡ 0 → (lines : Text) × IsRunToEnd true text.now [] lines
-        × IsShown json text.now lines (W.contents out.old) (W.contents out.new) }
-{
-    let mut lines = Vec::new(alloc);
-    let status = run(rt, alloc, text, err, &mut lines);
-    if status != 0 {
-        return status;
-    }
-    write_run(alloc, json, text, &lines, out, err)
-}
-
-// Runs the script of a scenario, and keeps its journal.
-fn run<H: Host, E: Write>(
-    rt: &H,
-    alloc: Global,
-    text: &str,
-    err: &mut E,
-    journal: &mut Vec<u8>,
-) -> u8
-    ensures { result ≡ 0 → IsRunToEnd true text.now journal.old.items journal.new.items }
-{
-    let words = Words::Run {
-        file: "",
-        threads: 1,
-        workers: 1,
-        journal: None,
-        explain: false,
-        format: Format::Text,
-        progress: false,
-    };
-    play(
-        rt,
-        alloc,
-        &words,
-        text.as_bytes(),
-        io::empty(),
-        &mut io::sink(),
-        err,
-        journal,
-        &mut None,
-    )
-}
-
-// Writes the states of the steps of a journal, and answers the exit status.
-fn write_run<W: Write, E: Write>(
-    alloc: Global,
-    json: bool,
-    text: &str,
-    journal: &[u8],
-    out: &mut W,
-    err: &mut E,
-) -> u8
-    requires { length text.now ≤ most_bytes }
-    ensures { result ≡ 0 → IsShown json text.now journal.now (W.contents out.old) (W.contents out.new) }
-{
-    match write_journal(alloc, json, text, journal, out) {
-        Ok(ran) => tell(ran, err),
-        Err(fault) => refuse(fault, err),
-    }
-}
-
-fn write_journal<W: Write>(
-    alloc: Global,
-    json: bool,
-    text: &str,
-    journal: &[u8],
-    out: &mut W,
 ) -> Result<Ran, Fault>
     requires { length text.now ≤ most_bytes }
-    ensures { IfOk result (λ ran. ran.refusal ≡ None
-        → IsShown json text.now journal.now (W.contents out.old) (W.contents out.new)) }
+    ensures { IfOk result (λ ran. ran.refusal ≡ None → (lines : Text) × Gives (J.remaining journal) lines
+        × IsJournalShown json text.now lines (W.contents out.old) (W.contents out.new)) }
 {
+    let lines = read_bytes(alloc, journal)?;
     let Plan {
         network,
         directory,
@@ -168,12 +87,79 @@ fn write_journal<W: Write>(
         directory.names(),
         network.links(),
         network.attachments(),
-        journal,
+        &lines,
     )?;
-    write_steps(alloc, json, &network, &directory, &journal.steps, out)
+    let ran = run_from_opening(alloc, &network, &journal.steps)?;
+    let lawful = &journal.steps[..ran.done];
+    match write_steps(alloc, json, &network, &directory, lawful, out) {
+        Ok(()) => Ok(ran),
+        Err(StatesFault::NoMemory) => Err(Fault::from(NoMemory)),
+        Err(StatesFault::Unwritten) => Err(Fault::from(Cause::Unwritable)),
+    }
 }
 
-// Writes the states of steps, up to the first that is refused.
+// Does the script of a scenario, and writes the states of its steps.
+fn show_script<H: Host, W: Write>(
+    rt: &H,
+    alloc: Global,
+    json: bool,
+    text: &str,
+    out: &mut W,
+) -> Result<(), Fault>
+    requires { length text.now ≤ most_bytes }
+    ensures { OnOk result (IsRunToEnd
+        (λ d f. IsRunShown json d f (W.contents out.old) (W.contents out.new)) text.now) }
+{
+    let plan = read_plan(alloc, text)?;
+    let mut states = States {
+        alloc,
+        json,
+        out,
+        is_unwritten: false,
+    };
+    run_quietly(rt, alloc, plan, &mut states)?;
+    if states.is_unwritten {
+        return Err(Fault::from(Cause::Unwritable));
+    }
+    Ok(())
+}
+
+// Writes the states of a run that has come to its end.
+#[derive(Drop)]
+struct States<'o, W: Write> {
+    alloc: Global,
+    json: bool,
+    out: &'o mut W,
+    // Whether a write has failed.
+    is_unwritten: bool,
+}
+
+impl<W: Write> Keeper for States<'_, W> {
+    ghost use Rattle.std.specs.Prelude.{◌≡◌, false};
+    ghost use Rattle.view.specs.Shown.{IsRunShown};
+
+    ghost keeps = { λ old d f new. new.is_unwritten ≡ false
+        → IsRunShown old.json d f (W.contents old.out.now) (W.contents new.out.now) };
+
+    fn keep<B: FabricName>(
+        &mut self,
+        fabric: &Fabric<B>,
+        directory: &Directory,
+    ) -> Result<(), NoMemory> {
+        let network = fabric.network();
+        let steps = fabric.journal();
+        match write_steps(self.alloc, self.json, network, directory, steps, self.out) {
+            Ok(()) => Ok(()),
+            Err(StatesFault::NoMemory) => Err(NoMemory),
+            Err(StatesFault::Unwritten) => {
+                self.is_unwritten = true;
+                Ok(())
+            }
+        }
+    }
+}
+
+// Writes the states of lawful steps, as lines or in a page.
 fn write_steps<W: Write>(
     alloc: Global,
     json: bool,
@@ -181,17 +167,18 @@ fn write_steps<W: Write>(
     directory: &Directory,
     steps: &[Step],
     out: &mut W,
-) -> Result<Ran, Fault>
-    ensures { IfOk result (IsWrittenUpTo json network.now directory.now steps.now (W.contents out.old) (W.contents out.new)) }
+) -> Result<(), StatesFault>
+    requires { (w : model.World) × Runs (model.opening network.now) steps.now w }
+    ensures { OnOk result
+        (IsWritten json network.now directory.now steps.now (W.contents out.old) (W.contents out.new)) }
 {
     if json {
-        let written = write_states(alloc, network, directory, steps, 1, out);
-        return into_fault(written);
+        return write_states(alloc, network, directory, steps, 1, out);
     }
-    let (states, ran) = states_of_page(alloc, network, directory, steps)?;
+    let states = states_of_page(alloc, network, directory, steps)?;
     match write_page(&states, out) {
-        Ok(()) => Ok(ran),
-        Err(_) => Err(Fault::from(Cause::Unwritable)),
+        Ok(()) => Ok(()),
+        Err(_) => Err(StatesFault::Unwritten),
     }
 }
 
@@ -202,12 +189,10 @@ fn states_of_page(
     network: &Network,
     directory: &Directory,
     steps: &[Step],
-) -> Result<(Vec<u8>, Ran), Fault>
-    ensures runs { IfOk result (λ r. (w : model.World)
-        × Runs (model.opening network.now) (take (r.1).done steps.now) w) }
-    ensures whole { IfOk result (λ r. (r.1).refusal ≡ None → (r.1).done ≡ length steps.now) }
-    ensures states { IfOk result (λ r. (every : ℕ)
-        × IsStatesText network.now directory.now (take (r.1).done steps.now) every (r.0).items) }
+) -> Result<Vec<u8>, StatesFault>
+    requires { (w : model.World) × Runs (model.opening network.now) steps.now w }
+    ensures { IfOk result (λ states. (every : ℕ)
+        × IsStatesText network.now directory.now steps.now every states.items) }
 {
     let mut every: usize = 1;
     for _ in 0..20 {
@@ -216,26 +201,14 @@ fn states_of_page(
         }
         let mut states = Limited::new(alloc, MOST_BYTES);
         match write_states(alloc, network, directory, steps, every, &mut states) {
-            Ok(ran) => return Ok((states.bytes, ran)),
-            Err(StatesFault::NoMemory) => return Err(Fault::from(NoMemory)),
+            Ok(()) => return Ok(states.bytes),
+            Err(StatesFault::NoMemory) => return Err(StatesFault::NoMemory),
             Err(StatesFault::Unwritten) => every = every.saturating_mul(2),
         }
     }
     let mut states = Vec::new(alloc);
-    let written = write_states(alloc, network, directory, steps, steps.len(), &mut states);
-    let ran = into_fault(written)?;
-    Ok((states, ran))
-}
-
-// Why states are not written, as a fault of the program.
-fn into_fault(written: Result<Ran, StatesFault>) -> Result<Ran, Fault>
-    ensures { IfOk result (λ ran. written ≡ Ok ran) }
-{
-    match written {
-        Ok(ran) => Ok(ran),
-        Err(StatesFault::NoMemory) => Err(Fault::from(NoMemory)),
-        Err(StatesFault::Unwritten) => Err(Fault::from(Cause::Unwritable)),
-    }
+    write_states(alloc, network, directory, steps, steps.len(), &mut states)?;
+    Ok(states)
 }
 
 // Tells of a step that was refused, and answers the exit status.
