@@ -20,7 +20,7 @@ use Rattle.plans.proofs.Planned.{IsPlanned}
 use Rattle.reports.specs.Ends.{IsJournalOf}
 use Rattle.run_states.specs.declared.fault.StatesFault.{StatesFault}
 use Rattle.run_states.specs.Told.{IsStatesText}
-use Rattle.view_page.specs.Page.{page_text}
+use Rattle.view.specs.Page.{page_text}
 use Rattle.view.specs.Shown.{IsShown, IsWritten, IsWrittenUpTo}
 
 -- how far steps came from an opening, and why the next was refused, if one was

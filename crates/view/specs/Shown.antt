@@ -13,7 +13,7 @@ use Rattle.plans.specs.Scenarios.{network_read}
 use Rattle.reports.specs.Ends.{RunsWhole}
 use Rattle.play.specs.Runs.{IsRunToEnd}
 use Rattle.run_states.specs.Told.{IsStatesText}
-use Rattle.view_page.specs.Page.{page_text}
+use Rattle.view.specs.Page.{page_text}
 
 -- the states of these steps were written: as lines, one for each step, or in a page, after so many steps each
 pub record IsWritten (json : Bool) (n : Network) (d : Directory) (steps : List Step) (old new : Option Text) : Type 0 where

@@ -17,7 +17,19 @@
 //!
 //! [`show`] reads the scenario. Without a journal `play` does its script. At the end of the run it hands the
 //! fabric over, whose steps are lawful. What the script prints is lost. A journal's steps are first done once,
-//! to see how many of them are lawful. `run_states` writes the states, and `view_page` the page.
+//! to see how many of them are lawful. `run_states` writes the states.
+//!
+//! A page is one file that needs no other, so it opens anywhere. The states stand in it as lines of JSON, between
+//! fixed texts:
+//!
+//! ```text
+//!   HEAD  STYLE  BODY        the page up to the states        `src/markup.rt`, `src/style.rt`
+//!   {"kind":"opening",..}    the states
+//!   {"kind":"state",..}
+//!   FOOT  SCRIPT  END        the script that reads them       `src/code.rt`
+//! ```
+//!
+//! The texts are read as they stand: no other tool makes them or packs them.
 //!
 //! What always holds (`IsShown` in `specs/Shown.antt`): status 0 is answered only if the bytes are those of a
 //! scenario, and all steps are lawful. Then their states were written. Lines have the state after each step.
@@ -27,9 +39,17 @@
 //! has those after every second step, or every fourth, and so on. So the states are written into a list that
 //! refuses to grow beyond (`src/limited.rt`), and written anew if it refuses. If even few states are too
 //! many, the page has the first and the last.
+//!
+//! The states stand in HTML without an escape, so no `<` may be among them. There is none, because names,
+//! prefixes, words and numbers have none. What the script does with the states has no contract. `bench/view`
+//! opens pages in a browser, and compares what they show with the program's output and with a plain model.
 #![tactic(auto)]
 
+mod code;
 mod limited;
+mod markup;
+mod page;
+mod style;
 mod view;
 
 pub use view::show;

@@ -10,6 +10,7 @@ ghost use Rattle.run_states.specs.Told.{IsStatesText};
 ghost use Rattle.view.specs.Shown.{IsJournalShown, IsRunShown, IsShown, IsWritten};
 
 use crate::limited::Limited;
+use crate::page::write_page;
 use fabric::{Fabric, FabricName};
 use journal::read_journal;
 use network_model::{NoMemory, Step};
@@ -20,7 +21,6 @@ use run_states::{StatesFault, run_from_opening, write_states};
 use script::Directory;
 use std::alloc::Global;
 use std::io::{Read, Write};
-use view_page::write_page;
 use words::ViewWords;
 use world::{Network, Ran};
 

@@ -2,7 +2,7 @@ use Rattle.std.proofs.Common.{subst}
 use Rattle.std.proofs.lemmas.Result.{on_ok_weaker}
 use Rattle.std.specs.Io.KnownBytes.{Appends}
 use Rattle.texts.proofs.Printed.{Appends-append}
-use Rattle.view_page.proofs.page.write_page.Goals as goal
+use Rattle.view.proofs.page.write_page.Goals as goal
 
 -- part by part: what was written before, and then this part
 pub returns : goal.returns
