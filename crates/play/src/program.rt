@@ -14,7 +14,7 @@ use control::{Crew, NoGate, THRESHOLDS, Thresholds, TurnGate};
 use dispatch::Host;
 use fabric::{Fabric, FabricName, Unnamed};
 use plans::{Fault, Plan, read_plan, read_text, refuse};
-use reports::{End, JournalText, Keeper, check, end_line, replay};
+use reports::{End, JournalText, Keeper, ReplayOptions, check, end_line, replay};
 use script::Command;
 use std::alloc::Global;
 use std::io;
@@ -147,10 +147,17 @@ where
         Words::Replay {
             file: _,
             journal: _,
-            explain: _,
+            explain,
             format,
             progress,
-        } => replay(rt, alloc, scenario, journal, format, progress, out, err),
+        } => {
+            let options = ReplayOptions {
+                explain,
+                format,
+                progress,
+            };
+            replay(rt, alloc, scenario, journal, options, out, err)
+        }
         Words::Explain { kind } => {
             let _ = write!(out, "{}", kind.page());
             Ok(End::Done)

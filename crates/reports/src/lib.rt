@@ -52,7 +52,7 @@ pub use end::End;
 pub use keeping::{JournalText, Keeper};
 pub use printer::Printer;
 pub use progress::{end_line, tell_commands};
-pub use replaying::replay;
+pub use replaying::{ReplayOptions, replay};
 pub use report::{print_report, print_state};
 pub use table::show_table;
 pub use waiting::{show_held, show_next, show_queue};

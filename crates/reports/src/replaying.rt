@@ -13,11 +13,13 @@ use crate::printer::Printer;
 use crate::progress::{end_line, tell_steps};
 use crate::report::print_report;
 use fabric::{Fabric, FabricName, Network, Ran, Step, Unnamed};
-use journal::{Journal, Version, first_difference, read_journal};
+use journal::{Journal, StepText, Version, first_difference, read_journal};
 use json_lines::EndLine;
-use network_model::NoMemory;
-use plans::{Fault, Plan, read_bytes, read_plan, read_text};
+use network_model::{LinkSpec, NoMemory, Refusal};
+use plans::{Cause, Fault, Plan, read_bytes, read_plan, read_text};
+use script::Directory;
 use std::alloc::Global;
+use std::io;
 use std::io::{Read, Write};
 use std::marker::Brand;
 use std::sync::Wait;
@@ -26,16 +28,26 @@ use words::Format;
 /// Where it is told how far a replay is, after how many steps each time.
 const SLICE: usize = 4096;
 
+/// How a replay is told of.
+#[derive(Clone, Copy, Debug, PartialEq, Eq)]
+pub struct ReplayOptions {
+    /// Whether more is told of a step that is refused, and of a report that differs.
+    pub explain: bool,
+    /// How what is printed is written.
+    pub format: Format,
+    /// Whether it is told how far the replay is.
+    pub progress: bool,
+}
+
 /// Does the steps of a journal from the opening of its scenario's network, and compares the report of
 /// what they made with the journal's, but for a journal of the first version. Both files are read whole
-/// before the first step is done. It is told on `err` how far it is, where that is asked for.
+/// before the first step is done. What is told besides goes to `err`.
 pub fn replay<H, R, J, W, E>(
     rt: &H,
     alloc: Global,
     scenario: R,
     journal: J,
-    format: Format,
-    progress: bool,
+    options: ReplayOptions,
     out: &mut W,
     err: &mut E,
 ) -> Result<End, Fault>
@@ -67,10 +79,10 @@ where
     let unnamed = Unnamed::many(alloc, network.routers())?;
     let printer = Printer {
         directory: &directory,
-        format,
+        format: options.format,
     };
     let end = replay_named::<Brand, H, W, E>(
-        rt, alloc, network, unnamed, &printer, &journal, progress, out, err,
+        rt, alloc, network, unnamed, &printer, &journal, options, out, err,
     )?;
     Ok(end)
 }
@@ -83,7 +95,7 @@ fn replay_named<B: FabricName, H: Wait, W: Write, E: Write>(
     unnamed: Vec<Unnamed>,
     printer: &Printer<'_>,
     journal: &Journal<'_>,
-    progress: bool,
+    options: ReplayOptions,
     out: &mut W,
     err: &mut E,
 ) -> Result<End, Fault>
@@ -95,7 +107,7 @@ fn replay_named<B: FabricName, H: Wait, W: Write, E: Write>(
     ensures fault { IfErr result (λ e. IsWantOfMemory e ⊎ IsWithoutReaders e) }
 {
     let (mut fabric, _ports) = Fabric::<B>::open(rt, alloc, network, unnamed, 0)?;
-    let ended = replay_steps(rt, alloc, &mut fabric, printer, journal, progress, out, err);
+    let ended = replay_steps(rt, alloc, &mut fabric, printer, journal, options, out, err);
     fabric.close(rt);
     ended
 }
@@ -108,15 +120,15 @@ fn replay_steps<B: FabricName, H: Wait, W: Write, E: Write>(
     fabric: &mut Fabric<B>,
     printer: &Printer<'_>,
     journal: &Journal<'_>,
-    progress: bool,
+    options: ReplayOptions,
     out: &mut W,
     err: &mut E,
 ) -> Result<End, Fault>
     ensures ok { IfOk result (StepsReplay journal.now.version journal.now.steps.items fabric.old fabric.new) }
     ensures fault { IfErr result IsWantOfMemory }
 {
-    let ran = run_slices(rt, fabric, &journal.steps, progress, err);
-    end_line(progress, err);
+    let ran = run_slices(rt, fabric, &journal.steps, options.progress, err);
+    end_line(options.progress, err);
     if let Some(refusal) = ran.refusal {
         let step = ran.done + 1;
         let _ = printer.print(
@@ -126,6 +138,11 @@ fn replay_steps<B: FabricName, H: Wait, W: Write, E: Write>(
             ),
             out,
         );
+        if options.explain {
+            let _ = out.flush();
+            let links = fabric.network().links();
+            let _ = tell_refused(printer.directory, links, journal, ran.done, refusal, err);
+        }
         return Ok(End::Refused);
     }
     match journal.version {
@@ -135,8 +152,28 @@ fn replay_steps<B: FabricName, H: Wait, W: Write, E: Write>(
             let _ = printer.print(format_args!("replay done: {steps} steps"), json, out);
             Ok(End::Done)
         }
-        Version::Two => compare(alloc, fabric, printer, journal, out),
+        Version::Two => compare(alloc, fabric, printer, journal, options.explain, out, err),
     }
+}
+
+// Tells of the step that is refused after so many: its line of the journal, when its refusal comes, and what to
+// do.
+fn tell_refused<E: Write>(
+    directory: &Directory,
+    links: &[LinkSpec],
+    journal: &Journal<'_>,
+    done: usize,
+    refusal: Refusal,
+    err: &mut E,
+) -> io::Result<()> {
+    // The steps begin in line 2.
+    let line = done.saturating_add(2);
+    if let Some(&step) = journal.steps.get(done) {
+        let step = StepText::new(directory, links, step);
+        writeln!(err, "  line {line} of the journal: {step}")?;
+    }
+    let kind = Fault::from(Cause::Refused(refusal)).kind();
+    write!(err, "{}", kind.page().brief())
 }
 
 // Does the steps in order, up to the first that is refused, and tells how far it is, where that is
@@ -189,12 +226,14 @@ fn run_slice<B: FabricName, H: Wait>(
 }
 
 // Compares the report of what the steps of a journal made with the journal's.
-fn compare<B: FabricName, W: Write>(
+fn compare<B: FabricName, W: Write, E: Write>(
     alloc: Global,
     fabric: &Fabric<B>,
     printer: &Printer<'_>,
     journal: &Journal<'_>,
+    explain: bool,
     out: &mut W,
+    err: &mut E,
 ) -> Result<End, Fault>
     ensures end { IfOk result (λ end. (end ≡ End.Done) ⊎ (end ≡ End.Differs)) }
     ensures fault { IfErr result IsWantOfMemory }
@@ -215,6 +254,10 @@ fn compare<B: FabricName, W: Write>(
                 json,
                 out,
             );
+            if explain {
+                let _ = out.flush();
+                let _ = tell_difference(line, journal.report, &printed, err);
+            }
             Ok(End::Differs)
         }
         None => {
@@ -224,4 +267,37 @@ fn compare<B: FabricName, W: Write>(
             Ok(End::Done)
         }
     }
+}
+
+// Tells of the line of a report that differs: as the journal has it, and as the replay has it.
+fn tell_difference<E: Write>(
+    number: usize,
+    journal: &[u8],
+    replay: &[u8],
+    err: &mut E,
+) -> io::Result<()> {
+    writeln!(err, "  the journal has: {}", shown_line(journal, number))?;
+    writeln!(err, "  the replay has:  {}", shown_line(replay, number))
+}
+
+// The line of this number, from 1. What is not safe to print on a terminal is not shown.
+fn shown_line(report: &[u8], number: usize) -> &str {
+    let Ok(text) = str::from_utf8(report) else {
+        return "a line that is not UTF-8";
+    };
+    for (before, line) in text.lines().enumerate() {
+        if before + 1 == number {
+            return if is_plain(line) {
+                line
+            } else {
+                "a line that is long, or has other characters than ASCII"
+            };
+        }
+    }
+    "no line"
+}
+
+// Whether a line is short, and has only what can be seen.
+fn is_plain(line: &str) -> bool {
+    line.len() <= 200 && line.bytes().all(|byte| matches!(byte, b' '..=b'~'))
 }
