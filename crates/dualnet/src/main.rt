@@ -34,7 +34,7 @@ use journal::JournalFault;
 use play::{Cause, Fault, Host, NoGate, Source, THRESHOLDS, play_by, refuse};
 use program_files::{
     Input, exit_code, given_words, is_one_file, kept_path, open_file, replayed_path, scenario_path,
-    tell,
+    tell, tell_unreadable,
 };
 use std::io::{BufWriter, IsTerminal, LineWriter, Read, Write};
 use std::process::ExitCode;
@@ -122,6 +122,9 @@ fn run_over<H: Host, W: Write>(
 // Tells more of a fault, where that is asked for.
 fn tell_more(rt: &HostRuntime, words: &Words<'_>, fault: Fault, scenario: &[u8], second: &[u8]) {
     if let Some(file) = file_to_explain(words) {
+        if fault.cause == Cause::Unreadable {
+            tell_files(rt, words);
+        }
         tell_line(rt, words, fault, second);
         let _ = advise_bytes(file, scenario, &mut rt.stderr());
         let faulty = Faulty {
@@ -165,6 +168,15 @@ fn second_input(rt: &HostRuntime, words: &Words<'_>) -> Source<Input> {
             Some(path) => open_file(rt, path),
             None => Source::Missing,
         },
+    }
+}
+
+// Tells why the files that are read cannot be read.
+fn tell_files(rt: &HostRuntime, words: &Words<'_>) {
+    for path in [scenario_path(words), replayed_path(words)] {
+        if let Some(path) = path {
+            tell_unreadable(rt, path, &mut rt.stderr());
+        }
     }
 }
 

@@ -3,7 +3,7 @@
 ghost use Rattle.std.specs.Prelude.{◌≡◌, true};
 
 use plans::Source;
-use std::io::Read;
+use std::io::{Read, Write};
 use std::os::unix::fs::MetadataExt;
 use std::{fs, io};
 
@@ -32,6 +32,27 @@ pub fn open_file(rt: &HostRuntime, path: &str) -> Source<Input> {
         Ok(file) => Source::Open(Input::File(file)),
         Err(_) => Source::Missing,
     }
+}
+
+/// Tells why a file cannot be read, if it cannot: its path, and the system's words. A write that fails is lost.
+pub fn tell_unreadable<E: Write>(rt: &HostRuntime, path: &str, err: &mut E) {
+    if path == "-" {
+        return;
+    }
+    if let Err(error) = try_read(rt, path) {
+        let _ = writeln!(err, "  {path}: {error}");
+    }
+}
+
+// Reads a byte of a file. Of a pipe none is read, because its writer may have ended.
+fn try_read(rt: &HostRuntime, path: &str) -> io::Result<()> {
+    let found = fs::metadata(rt, path)?;
+    if !found.is_file() && !found.is_dir() {
+        return Ok(());
+    }
+    let mut file = fs::open(rt, path)?;
+    let _count = file.read(&mut [0])?;
+    Ok(())
 }
 
 /// Whether two paths lead to one file, by whatever spelling or link.

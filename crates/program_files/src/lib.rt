@@ -15,6 +15,7 @@
 //!   is read, and the journal that is written. [`is_read`] says so for `dualnet-view`.
 //! - [`open_file`] never fails. A file that cannot be opened is `Source::Missing`, and each read of it fails.
 //!   So `plans` finds that it is unreadable, as it finds all other faults of a scenario.
+//! - [`tell_unreadable`] says why, in the system's words.
 //! - [`tell`] prints an error of the command line, or the help that was asked for, and answers the status.
 //!
 //! What always holds: the paths are those that the definition reads off the words (`specs/Paths.antt`). Two
@@ -30,6 +31,6 @@ mod files;
 mod given;
 mod paths;
 
-pub use files::{Input, is_one_file, open_file};
+pub use files::{Input, is_one_file, open_file, tell_unreadable};
 pub use given::{exit_code, given_words, tell};
 pub use paths::{is_read, kept_path, replayed_path, scenario_path};

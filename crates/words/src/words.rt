@@ -85,7 +85,7 @@ fn refusal_of(matches: &ArgMatches<'_>) -> &'static str {
     if matches.subcommand_matches("explain").is_some() {
         "the program prints no such number"
     } else {
-        "no such format: write text or json"
+        "'--format' takes text or json"
     }
 }
 
