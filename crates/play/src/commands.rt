@@ -1,17 +1,44 @@
 //! Commands that print what a network does.
 
-ghost use Rattle.std.specs.Prelude.{◌≡◌, ◌⊎◌, IfErr, OnOk};
+ghost use Rattle.std.specs.Prelude.{◌≡◌, ◌⊎◌, IfErr, OnErr, OnOk};
+ghost use Rattle.world.specs.Steps.{IsDoneOr};
+ghost use Rattle.fabric.specs.Fabric.{fabric_refusal};
 ghost use Rattle.script.specs.declared.command.Command.TheVariants as Command;
 ghost use Rattle.plans.specs.Faults.{OfRefusal};
 ghost use Rattle.play.specs.Commands.{CannotTrace, IsDone, IsRefused, IsStepDone, IsStepRefused};
 
 use fabric::{Fabric, FabricName, Refusal, Step};
 use plans::Cause;
-use reports::Printer;
+use reports::{Printer, moved_by, tell_moved};
 use std::alloc::Global;
 use std::io::Write;
 use std::sync::Wait;
 use tracer::{trace, trace_through};
+
+/// Does a step, and prints what it moved, if more is to be told. What it prints may be lost.
+pub fn do_step<B: FabricName, H: Wait, W: Write>(
+    rt: &H,
+    fabric: &mut Fabric<B>,
+    printer: &Printer<'_>,
+    explain: bool,
+    step: Step,
+    out: &mut W,
+) -> Result<(), Refusal>
+    ensures ok { OnOk result (IsDone (Command.Step step) fabric.old fabric.new) }
+    ensures err { OnErr result (fabric.new ≡ fabric.old) }
+    ensures cause { IsDoneOr (fabric_refusal fabric.old step) result }
+{
+    let moved = if explain {
+        moved_by(fabric, step)
+    } else {
+        None
+    };
+    let done = fabric.step(rt, step);
+    if let (Ok(()), Some(moved)) = (&done, moved) {
+        let _ = tell_moved(printer, moved, out);
+    }
+    done
+}
 
 /// Does a step, and says whether it was refused. What it prints may be lost.
 pub fn try_step<B: FabricName, H: Wait, W: Write>(

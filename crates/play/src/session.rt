@@ -7,7 +7,7 @@ ghost use Rattle.script.specs.declared.command.Command.TheVariants as Command;
 ghost use Rattle.plans.specs.Faults.{IsUnanswered, IsWantOfMemory, OfWorkers};
 ghost use Rattle.play.specs.Commands.{IsDone, IsRefused, AreDone, StopsAtCommand};
 
-use crate::commands::{look_up, show_trace, try_step};
+use crate::commands::{do_step, look_up, show_trace, try_step};
 use crate::options::Options;
 use crate::progress::ScriptProgress;
 use control::{Progress, TurnGate, settle};
@@ -122,7 +122,8 @@ where
         };
         match command {
             Command::Step(step) => {
-                let done = fabric.step(self.rt, step);
+                let explain = self.options.explain;
+                let done = do_step(self.rt, fabric, &printer, explain, step, out);
                 into_cause(done)
             }
             Command::Try(step) => {

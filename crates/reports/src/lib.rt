@@ -8,7 +8,7 @@
 //! - [`print_state`] prints one machine, and why it is at that, if more is to be told. [`show_table`] prints
 //!   a router's published rows.
 //! - [`show_next`] prints what a router has to do next, [`show_queue`] what it has yet to take from a port, and
-//!   [`show_held`] what it holds.
+//!   [`show_held`] what it holds. [`tell_moved`] prints what a step takes from a queue, or sends.
 //! - [`check`] says what a scenario holds, or its first fault.
 //! - A [`Keeper`] keeps something of a run that has come to its end. [`JournalText`] keeps the text of its journal,
 //!   with the report.
@@ -39,6 +39,7 @@
 mod checking;
 mod end;
 mod keeping;
+mod moved;
 mod printer;
 mod progress;
 mod reasons;
@@ -50,6 +51,7 @@ mod waiting;
 pub use checking::check;
 pub use end::End;
 pub use keeping::{JournalText, Keeper};
+pub use moved::{Moved, moved_by, tell_moved};
 pub use printer::Printer;
 pub use progress::{end_line, tell_commands};
 pub use replaying::{ReplayOptions, replay};

@@ -8,11 +8,11 @@ use Rattle.play.proofs.session.Session.do_command.Goals as goal
 pub returns-in-Step-clause-err : goal.returns-in-Step-clause-err
 returns-in-Step-clause-err g c =
     let f = c.args.fabric.now in
-    let after = c.step-done.new.self in
-    let done = c.step-done.result in
+    let after = c.do_step-done.new.fabric in
+    let done = c.do_step-done.result in
     subst (λ command. IfErr c.into_cause.result (IsRefused command f after)) (sym c.in-Step.is)
     (caused_by done c.into_cause.result (IsRefused (Command.Step c.in-Step.step) f after) c.into_cause.ensures
-    (step_refused (fabric_refusal f c.in-Step.step) done f after c.step-done.ensures.cause c.step-done.ensures.err))
+    (step_refused (fabric_refusal f c.in-Step.step) done f after c.do_step-done.ensures.cause c.do_step-done.ensures.err))
 
 pub returns-in-Settle-clause-err : goal.returns-in-Settle-clause-err
 returns-in-Settle-clause-err g c =
