@@ -20,7 +20,7 @@ pub fn do_step<B: FabricName, H: Wait, W: Write>(
     rt: &H,
     fabric: &mut Fabric<B>,
     printer: &Printer<'_>,
-    explain: bool,
+    moves: bool,
     step: Step,
     out: &mut W,
 ) -> Result<(), Refusal>
@@ -28,7 +28,7 @@ pub fn do_step<B: FabricName, H: Wait, W: Write>(
     ensures err { OnErr result (fabric.new ≡ fabric.old) }
     ensures cause { IsDoneOr (fabric_refusal fabric.old step) result }
 {
-    let moved = if explain {
+    let moved = if moves {
         moved_by(fabric, step)
     } else {
         None

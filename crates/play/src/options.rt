@@ -12,6 +12,8 @@ pub struct Options {
     pub workers: u8,
     /// Whether more is told of a machine's state, and of a command that a shell cannot do.
     pub explain: bool,
+    /// Whether it is told what each step takes or sends.
+    pub moves: bool,
     /// How what is printed is written.
     pub format: Format,
     /// Whether it is told how far the run is.

@@ -138,6 +138,7 @@ where
                 },
                 workers,
                 explain,
+                moves: false,
                 format,
                 progress,
             };
@@ -222,6 +223,7 @@ where
         },
         workers: 1,
         explain: false,
+        moves: false,
         format: Format::Text,
         progress: false,
     };

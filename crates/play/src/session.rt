@@ -122,8 +122,8 @@ where
         };
         match command {
             Command::Step(step) => {
-                let explain = self.options.explain;
-                let done = do_step(self.rt, fabric, &printer, explain, step, out);
+                let moves = self.options.moves;
+                let done = do_step(self.rt, fabric, &printer, moves, step, out);
                 into_cause(done)
             }
             Command::Try(step) => {

@@ -96,6 +96,7 @@ where
         crew,
         workers: 1,
         explain,
+        moves: explain,
         format,
         progress: false,
     };
