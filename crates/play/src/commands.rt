@@ -35,7 +35,7 @@ pub fn do_step<B: FabricName, H: Wait, W: Write>(
     };
     let done = fabric.step(rt, step);
     if let (Ok(()), Some(moved)) = (&done, moved) {
-        let _ = tell_moved(printer, moved, out);
+        let _ = tell_moved(printer, &moved, out);
     }
     done
 }

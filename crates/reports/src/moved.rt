@@ -54,29 +54,29 @@ pub fn moved_by<B: FabricName>(fabric: &Fabric<B>, step: Step) -> Option<Moved> 
 /// Prints it as `show_queue` and `show_held` do, as text two columns to the right.
 pub fn tell_moved<W: Write>(
     printer: &Printer<'_>,
-    moved: Moved,
+    moved: &Moved,
     out: &mut W,
 ) -> io::Result<()> {
     let names = printer.directory;
-    match moved {
+    match *moved {
         Moved::Item {
             router,
             port,
             session,
             item,
         } => {
-            let text = names.queued(router, port, session, item);
             let json = json_lines::queued(names, router, port, session, item);
+            let text = names.queued(router, port, session, item);
             printer.print(format_args!("  {text}"), json, out)
         }
         Moved::Notice { router, notice } => {
-            let text = names.noticed(router, notice);
             let json = json_lines::noticed(names, router, notice);
+            let text = names.noticed(router, notice);
             printer.print(format_args!("  {text}"), json, out)
         }
         Moved::Message { router, held } => {
-            let text = names.held(router, true, held);
             let json = json_lines::held(names, router, true, held);
+            let text = names.held(router, true, held);
             printer.print(format_args!("  {text}"), json, out)
         }
     }
