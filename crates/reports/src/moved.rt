@@ -3,8 +3,9 @@
 use crate::printer::Printer;
 use fabric::{Fabric, FabricName, Step};
 use network_model::{Held, Item, Notice};
-use std::io;
 use std::io::Write;
+use std::{fmt, io};
+use words::Format;
 
 /// What a delivery takes, or a release sends.
 #[derive(Clone, Copy, Debug, PartialEq, Eq)]
@@ -58,26 +59,36 @@ pub fn tell_moved<W: Write>(
     out: &mut W,
 ) -> io::Result<()> {
     let names = printer.directory;
-    match *moved {
+    match moved {
         Moved::Item {
             router,
             port,
             session,
             item,
         } => {
-            let json = json_lines::queued(names, router, port, session, item);
-            let text = names.queued(router, port, session, item);
-            printer.print(format_args!("  {text}"), json, out)
+            let json = json_lines::queued(names, *router, *port, *session, *item);
+            let text = names.queued(*router, *port, *session, *item);
+            tell(printer, text, json, out)
         }
         Moved::Notice { router, notice } => {
-            let json = json_lines::noticed(names, router, notice);
-            let text = names.noticed(router, notice);
-            printer.print(format_args!("  {text}"), json, out)
+            let json = json_lines::noticed(names, *router, *notice);
+            tell(printer, names.noticed(*router, *notice), json, out)
         }
         Moved::Message { router, held } => {
-            let json = json_lines::held(names, router, true, held);
-            let text = names.held(router, true, held);
-            printer.print(format_args!("  {text}"), json, out)
+            let json = json_lines::held(names, *router, true, *held);
+            tell(printer, names.held(*router, true, *held), json, out)
         }
+    }
+}
+
+fn tell<T, J, W>(printer: &Printer<'_>, text: T, json: J, out: &mut W) -> io::Result<()>
+where
+    T: fmt::Display + Drop,
+    J: fmt::Display + Drop,
+    W: Write,
+{
+    match printer.format {
+        Format::Text => writeln!(out, "  {text}"),
+        Format::Json => writeln!(out, "{json}"),
     }
 }

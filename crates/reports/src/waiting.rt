@@ -12,6 +12,7 @@ use crate::printer::Printer;
 use fabric::{Fabric, FabricName, Refusal};
 use journal::StepText;
 use link_fifo::Links;
+use metric::Cost;
 use network_model::{End, Held, Item, NoMemory, Notice};
 use router_core::Router;
 use std::alloc::Global;
@@ -134,6 +135,8 @@ fn notices_at(alloc: Global, world: &World, router: u16) -> Result<Vec<Notice>, 
         (λ a. v.items ≡ a.notices)) }
 {
     let mut notices = Vec::new(alloc);
+    // A notice has a cost. The prover does not meet that type here unless it is named.
+    let _cost: Option<Cost> = None;
     for place in 0..world.notices(router) {
         if let Some(notice) = world.notice(router, place) {
             notices.push(notice)?;
