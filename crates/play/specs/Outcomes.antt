@@ -15,10 +15,10 @@ use Rattle.play.specs.Shell.{IsShellEnd, StopsShell}
 -- how a command ends that has met no fault, where the text of a journal is wanted or not
 abbrev pub Ends : Bool → Words → Option Text → Option Text → Text → Text → End → Type 0
 Ends wanted (Check _ _) scenario journal old new end = (end ≡ Done) × (new ≡ old) × OfBytes scenario IsChecked
-Ends wanted (Run _ _ _ _ _ _ _) scenario journal old new end = (end ≡ Done) × OfBytes scenario (IsRunToEnd (λ d f. KeepsJournal wanted d f old new))
+Ends wanted (Run _ _ _ _ _ _ _) scenario journal old new end = (end ≡ Done) × OfBytes scenario (IsRunToEnd (λ d f. KeepsJournal wanted d f (Some old) (Some new)))
 Ends wanted (Replay _ _ _ _ _) scenario journal old new end = (new ≡ old) × OfBytes scenario (λ bytes. OfBytes journal (λ lines. Replays bytes lines end))
 Ends wanted (Explain _) scenario journal old new end = (end ≡ Done) × (new ≡ old)
-Ends wanted (Shell _ _ _ _) scenario journal old new end = (end ≡ Done) × OfBytes scenario (IsShellEnd (λ d f. KeepsJournal wanted d f old new))
+Ends wanted (Shell _ _ _ _) scenario journal old new end = (end ≡ Done) × OfBytes scenario (IsShellEnd (λ d f. KeepsJournal wanted d f (Some old) (Some new)))
 
 -- why a command stops
 abbrev pub Stops : Words → Option Text → Option Text → Fault → Type 0

@@ -29,15 +29,15 @@ pub fn do_step<B: FabricName, H: Wait, W: Write>(
     ensures cause { IsDoneOr (fabric_refusal fabric.old step) result }
 {
     let moved = if moves {
-        moved_by(fabric, step)
+        moved_by(fabric, &step)
     } else {
         None
     };
-    let done = fabric.step(rt, step);
-    if let (Ok(()), Some(moved)) = (&done, moved) {
-        let _ = tell_moved(printer, &moved, out);
+    fabric.step(rt, step)?;
+    if let Some(moved) = &moved {
+        let _ = tell_moved(printer, moved, out);
     }
-    done
+    Ok(())
 }
 
 /// Does a step, and says whether it was refused. What it prints may be lost.

@@ -142,8 +142,8 @@ where
                 format,
                 progress,
             };
-            let mut keeper = JournalText { wanted, kept };
-            run(rt, alloc, scenario, options, gate, out, err, &mut keeper)
+            let mut keeper = JournalText { wanted };
+            run(rt, alloc, scenario, options, gate, out, err, &mut keeper, kept)
         }
         Words::Replay {
             file: _,
@@ -169,9 +169,9 @@ where
             explain,
             format,
         } => {
-            let mut keeper = JournalText { wanted, kept };
+            let mut keeper = JournalText { wanted };
             shell(
-                rt, alloc, scenario, journal, explain, format, out, err, &mut keeper,
+                rt, alloc, scenario, journal, explain, format, out, err, &mut keeper, kept,
             )
         }
     }
@@ -179,7 +179,7 @@ where
 
 // Opens the network of a scenario, does its commands, says how many steps were done, and has kept what is to be
 // kept of the run.
-fn run<H, G, R, W, E, K>(
+fn run<H, G, R, W, E, K, V>(
     rt: &H,
     alloc: Global,
     scenario: R,
@@ -188,6 +188,7 @@ fn run<H, G, R, W, E, K>(
     out: &mut W,
     err: &mut E,
     keeper: &mut K,
+    kept: &mut V,
 ) -> Result<End, Fault>
 where
     H: Host,
@@ -196,24 +197,32 @@ where
     W: Write,
     E: Write,
     K: Keeper,
+    V: Write,
     ensures ok { IfOk result (λ end. (end ≡ End.Done)
         × OfBytes (R.remaining scenario)
-        (IsRunToEnd (λ d f. K.keeps keeper.old d f keeper.new))) }
+        (IsRunToEnd (λ d f. K.keeps keeper.old d f (V.contents kept.old) (V.contents kept.new) keeper.new))) }
     ensures fault { IfErr result (λ e. OfBytes (R.remaining scenario) (λ bytes. StopsFor bytes e)) }
 {
     let text = read_text(alloc, scenario)?;
     let plan = read_plan(alloc, text.as_str())?;
-    run_plan(rt, alloc, plan, options, gate, out, err, keeper)?;
+    run_plan(rt, alloc, plan, options, gate, out, err, keeper, kept)?;
     Ok(End::Done)
 }
 
 /// Does the script of a plan by one thread and one worker, and has kept what is to be kept of the run. What the
 /// script prints is lost, and nothing is told of how far it is.
-pub fn run_quietly<H, K>(rt: &H, alloc: Global, plan: Plan, keeper: &mut K) -> Result<(), Fault>
+pub fn run_quietly<H, K, V>(
+    rt: &H,
+    alloc: Global,
+    plan: Plan,
+    keeper: &mut K,
+    kept: &mut V,
+) -> Result<(), Fault>
 where
     H: Host,
     K: Keeper,
-    ensures ok { OnOk result (RunsPlan (λ d f. K.keeps keeper.old d f keeper.new) plan) }
+    V: Write,
+    ensures ok { OnOk result (RunsPlan (λ d f. K.keeps keeper.old d f (V.contents kept.old) (V.contents kept.new) keeper.new) plan) }
     ensures fault { IfErr result (StopsPlan plan) }
 {
     let options = Options {
@@ -229,11 +238,11 @@ where
     };
     let mut out = io::sink();
     let mut err = io::sink();
-    run_plan(rt, alloc, plan, options, &NoGate, &mut out, &mut err, keeper)
+    run_plan(rt, alloc, plan, options, &NoGate, &mut out, &mut err, keeper, kept)
 }
 
 // Does the script of a plan, and has kept what is to be kept of the run.
-fn run_plan<H, G, W, E, K>(
+fn run_plan<H, G, W, E, K, V>(
     rt: &H,
     alloc: Global,
     plan: Plan,
@@ -242,6 +251,7 @@ fn run_plan<H, G, W, E, K>(
     out: &mut W,
     err: &mut E,
     keeper: &mut K,
+    kept: &mut V,
 ) -> Result<(), Fault>
 where
     H: Host,
@@ -249,17 +259,18 @@ where
     W: Write,
     E: Write,
     K: Keeper,
-    ensures ok { OnOk result (RunsPlan (λ d f. K.keeps keeper.old d f keeper.new) plan) }
+    V: Write,
+    ensures ok { OnOk result (RunsPlan (λ d f. K.keeps keeper.old d f (V.contents kept.old) (V.contents kept.new) keeper.new) plan) }
     ensures fault { IfErr result (StopsPlan plan) }
 {
     let unnamed = Unnamed::many(alloc, plan.network.routers())?;
-    run_named::<Brand, H, G, W, E, K>(
-        rt, alloc, plan, unnamed, options, gate, out, err, keeper,
+    run_named::<Brand, H, G, W, E, K, V>(
+        rt, alloc, plan, unnamed, options, gate, out, err, keeper, kept,
     )
 }
 
 // The same, where the network is opened under a name.
-fn run_named<B, H, G, W, E, K>(
+fn run_named<B, H, G, W, E, K, V>(
     rt: &H,
     alloc: Global,
     plan: Plan,
@@ -269,6 +280,7 @@ fn run_named<B, H, G, W, E, K>(
     out: &mut W,
     err: &mut E,
     keeper: &mut K,
+    kept: &mut V,
 ) -> Result<(), Fault>
 where
     B: FabricName + Send + Sync + 'static,
@@ -277,10 +289,11 @@ where
     W: Write,
     E: Write,
     K: Keeper,
+    V: Write,
     requires books { unnamed.items ≡ B.books }
     requires each { vec_len unnamed ≡ plan.network.routers }
     requires openings { opening_tables plan.network ≡ B.openings }
-    ensures ok { OnOk result (RunsPlan (λ d f. K.keeps keeper.old d f keeper.new) plan) }
+    ensures ok { OnOk result (RunsPlan (λ d f. K.keeps keeper.old d f (V.contents kept.old) (V.contents kept.new) keeper.new) plan) }
     ensures fault { IfErr result (StopsPlan plan) }
 {
     let Plan {
@@ -291,7 +304,7 @@ where
     let workers = options.workers.max(1).min(16);
     let (mut fabric, readers) = Fabric::<B>::open(rt, alloc, network, unnamed, workers)?;
     let ended = match Session::new(rt, alloc, &directory, readers, options, gate) {
-        Ok(session) => run_commands(session, &mut fabric, &commands, out, err, keeper),
+        Ok(session) => run_commands(session, &mut fabric, &commands, out, err, keeper, kept),
         Err(memory) => Err(Fault::from(memory)),
     };
     fabric.close(rt);
@@ -299,13 +312,14 @@ where
 }
 
 // Does the commands, and has kept what is to be kept of the run.
-fn run_commands<B, H, G, W, E, K>(
+fn run_commands<B, H, G, W, E, K, V>(
     session: Session<'_, B, H, G>,
     fabric: &mut Fabric<B>,
     commands: &[Command],
     out: &mut W,
     err: &mut E,
     keeper: &mut K,
+    kept: &mut V,
 ) -> Result<(), Fault>
 where
     B: FabricName + Send + Sync + 'static,
@@ -314,8 +328,10 @@ where
     W: Write,
     E: Write,
     K: Keeper,
+    V: Write,
     ensures ok { OnOk result (AreDone commands.now fabric.old fabric.new) }
-    ensures keeps { OnOk result (K.keeps keeper.old (session.entry.directory).now fabric.new keeper.new) }
+    ensures keeps { OnOk result (K.keeps keeper.old (session.entry.directory).now
+        fabric.new (V.contents kept.old) (V.contents kept.new) keeper.new) }
     ensures fault { IfErr result (λ e. StopsAtCommand commands.now fabric.old fabric.new e
         ⊎ IsUnanswered e ⊎ IsWantOfMemory e) }
 {
@@ -323,5 +339,5 @@ where
     let progress = session.options.progress;
     let done = session.do_commands(fabric, commands, out, err);
     end_line(progress, err);
-    session.finish(fabric, done, out, keeper)
+    session.finish(fabric, done, out, keeper, kept)
 }

@@ -187,15 +187,17 @@ where
 
     /// Waits for the workers. If all commands were done, it says how many steps were done, and has kept what
     /// is to be kept of the run.
-    pub fn finish<W: Write, K: Keeper>(
+    pub fn finish<W: Write, K: Keeper, V: Write>(
         self,
         fabric: &Fabric<B>,
         done: Result<(), Fault>,
         out: &mut W,
         keeper: &mut K,
+        kept: &mut V,
     ) -> Result<(), Fault>
         ensures done { OnOk result (IsOk done) }
-        ensures keeps { OnOk result (K.keeps keeper.old (self.entry.directory).now fabric.now keeper.new) }
+        ensures keeps { OnOk result (K.keeps keeper.old (self.entry.directory).now fabric.now
+            (V.contents kept.old) (V.contents kept.new) keeper.new) }
         ensures fault { IfErr result (λ e. (done ≡ Err e) ⊎ IsUnanswered e ⊎ IsWantOfMemory e) }
     {
         let Session {
@@ -221,7 +223,7 @@ where
         };
         let json = EndLine::Done { steps };
         let _ = printer.print(format_args!("done: {steps} steps"), json, out);
-        match keeper.keep(fabric, directory) {
+        match keeper.keep(fabric, directory, kept) {
             Ok(()) => Ok(()),
             Err(memory) => Err(Fault::from(memory)),
         }

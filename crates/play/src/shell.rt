@@ -24,7 +24,7 @@ use words::Format;
 /// at once. One that cannot be read or is refused ends nothing: it is told on `err`, and as JSON in its
 /// answer. At the end of the input, or at `quit`, it says how many steps were done, and has kept what is to be
 /// kept of them.
-pub fn shell<H, R, J, W, E, K>(
+pub fn shell<H, R, J, W, E, K, V>(
     rt: &H,
     alloc: Global,
     scenario: R,
@@ -34,6 +34,7 @@ pub fn shell<H, R, J, W, E, K>(
     out: &mut W,
     err: &mut E,
     keeper: &mut K,
+    kept: &mut V,
 ) -> Result<End, Fault>
 where
     H: Host,
@@ -42,23 +43,24 @@ where
     W: Write,
     E: Write,
     K: Keeper,
+    V: Write,
     ensures ok { IfOk result (λ end. (end ≡ End.Done)
         × OfBytes (R.remaining scenario)
-        (IsShellEnd (λ d f. K.keeps keeper.old d f keeper.new))) }
+        (IsShellEnd (λ d f. K.keeps keeper.old d f (V.contents kept.old) (V.contents kept.new) keeper.new))) }
     ensures fault { IfErr result (λ e. OfBytes (R.remaining scenario)
         (λ bytes. StopsShell bytes e)) }
 {
     let text = read_text(alloc, scenario)?;
     let plan = read_plan(alloc, text.as_str())?;
     let unnamed = Unnamed::many(alloc, plan.network.routers())?;
-    open_shell::<Brand, H, J, W, E, K>(
-        rt, alloc, plan, unnamed, input, explain, format, out, err, keeper,
+    open_shell::<Brand, H, J, W, E, K, V>(
+        rt, alloc, plan, unnamed, input, explain, format, out, err, keeper, kept,
     )?;
     Ok(End::Done)
 }
 
 // Opens the network of a plan under a name, does the commands of the lines, and has kept what is to be kept.
-fn open_shell<B, H, J, W, E, K>(
+fn open_shell<B, H, J, W, E, K, V>(
     rt: &H,
     alloc: Global,
     plan: Plan,
@@ -69,6 +71,7 @@ fn open_shell<B, H, J, W, E, K>(
     out: &mut W,
     err: &mut E,
     keeper: &mut K,
+    kept: &mut V,
 ) -> Result<(), Fault>
 where
     B: FabricName + Send + Sync + 'static,
@@ -77,10 +80,11 @@ where
     W: Write,
     E: Write,
     K: Keeper,
+    V: Write,
     requires books { unnamed.items ≡ B.books }
     requires each { vec_len unnamed ≡ plan.network.routers }
     requires openings { opening_tables plan.network ≡ B.openings }
-    ensures ok { OnOk result (TriesPlan (λ d f. K.keeps keeper.old d f keeper.new) plan) }
+    ensures ok { OnOk result (TriesPlan (λ d f. K.keeps keeper.old d f (V.contents kept.old) (V.contents kept.new) keeper.new) plan) }
     ensures fault { IfErr result StopsShellPlan }
 {
     let Plan {
@@ -102,7 +106,7 @@ where
     };
     let (mut fabric, readers) = Fabric::<B>::open(rt, alloc, network, unnamed, 1)?;
     let ended = match Session::new(rt, alloc, &directory, readers, options, &NoGate) {
-        Ok(session) => run_lines(session, &mut fabric, input, out, err, keeper),
+        Ok(session) => run_lines(session, &mut fabric, input, out, err, keeper, kept),
         Err(memory) => Err(Fault::from(memory)),
     };
     fabric.close(rt);
@@ -110,13 +114,14 @@ where
 }
 
 // Does the commands of the lines, and has kept what is to be kept.
-fn run_lines<B, H, G, J, W, E, K>(
+fn run_lines<B, H, G, J, W, E, K, V>(
     session: Session<'_, B, H, G>,
     fabric: &mut Fabric<B>,
     input: J,
     out: &mut W,
     err: &mut E,
     keeper: &mut K,
+    kept: &mut V,
 ) -> Result<(), Fault>
 where
     B: FabricName + Send + Sync + 'static,
@@ -126,14 +131,16 @@ where
     W: Write,
     E: Write,
     K: Keeper,
+    V: Write,
     ensures ok { OnOk result ((commands : List CommandOf)
         × AreTried commands fabric.old fabric.new) }
-    ensures keeps { OnOk result (K.keeps keeper.old (session.entry.directory).now fabric.new keeper.new) }
+    ensures keeps { OnOk result (K.keeps keeper.old (session.entry.directory).now
+        fabric.new (V.contents kept.old) (V.contents kept.new) keeper.new) }
     ensures fault { IfErr result (λ e. CannotReadOn e ⊎ IsUnanswered e ⊎ IsWantOfMemory e) }
 {
     let mut session = session;
     let read = do_lines(&mut session, fabric, input, out, err);
-    session.finish(fabric, read, out, keeper)
+    session.finish(fabric, read, out, keeper, kept)
 }
 
 // Does the commands of the lines in order, to the end of the input or to `quit`.

@@ -29,12 +29,12 @@ prints_ok (Ok u) old mid new before more = prints_both old mid new before more
 prints_ok (Err e) old mid new before more = tt
 
 -- a journal, and then a report
-pub kept_is : {E : Type 0} (r s : Result Unit E) (b c : Bool) (old mid new given text : Text) → b ≡ is_err r → b ≡ false → c ≡ is_err s → c ≡ false
-    → OnOk r (Appends (Some old) (Some mid) given) → OnOk s (Prints (Some mid) (Some new)) → given ≡ text → (report : Text) × (new ≡ old ++ text ++ report)
+pub kept_is : {E : Type 0} (r s : Result Unit E) (b c : Bool) (old mid new : Option Text) (given text : Text) → b ≡ is_err r → b ≡ false → c ≡ is_err s → c ≡ false
+    → OnOk r (Appends old mid given) → OnOk s (Prints mid new) → given ≡ text → (report : Text) × Appends old new (text ++ report)
 kept_is (Err e) s b c old mid new given text is wrong is2 wrong2 first second same = absurd (true≢false (sym is ∙ wrong))
 kept_is (Ok u) (Err e) b c old mid new given text is wrong is2 wrong2 first second same = absurd (true≢false (sym is2 ∙ wrong2))
 kept_is (Ok u) (Ok v) b c old mid new given text is wrong is2 wrong2 first second same =
-    (second.0, second.1 ∙ ap (λ t. t ++ second.0) (first ∙ ap (λ t. old ++ t) same))
+    (second.0, Appends-append old mid new text second.0 (subst (Appends old mid) same first) second.1)
 
 -- what was printed in a format
 pub printed_in : (format : Format) (text json : Text) (old new : Option Text) → IfSome (with_newline (in_format format (Some text) (Some json))) (Appends old new)

@@ -1,5 +1,6 @@
 -- How a check and a replay end, and what is kept of a run.
 use Rattle.std.specs.Prelude.{◌≡◌, ℕ, Bool, false, true, ◌≤◌, ◌++◌, ◌⊎◌, List, Option, None, length, take}
+use Rattle.std.specs.Io.KnownBytes.{Appends}
 use Rattle.network_model.specs.declared.step.Step.{Step}
 use Rattle.network_model.specs.declared.step.Refusal.{Refusal}
 use Rattle.network_model.specs.World.{World, opening}
@@ -37,8 +38,8 @@ pub record IsChecked (bytes : Text) : Type 0 where
 -- ---- journals that are kept
 
 -- the text of a fabric's journal was added, if it is wanted: its steps, and then a report
-abbrev pub KeepsJournal : Bool → Directory → Fabric → Text → Text → Type 0
-KeepsJournal true d f old new = (report : Text) × (new ≡ old ++ journal_text d f.network.links f.journal ++ report)
+abbrev pub KeepsJournal : Bool → Directory → Fabric → Option Text → Option Text → Type 0
+KeepsJournal true d f old new = (report : Text) × Appends old new (journal_text d f.network.links f.journal ++ report)
 KeepsJournal false d f old new = new ≡ old
 
 -- ---- replay

@@ -24,9 +24,9 @@ pub enum Moved {
 }
 
 /// What a step is about to take or to send, if it is lawful and does either.
-pub fn moved_by<B: FabricName>(fabric: &Fabric<B>, step: Step) -> Option<Moved> {
+pub fn moved_by<B: FabricName>(fabric: &Fabric<B>, step: &Step) -> Option<Moved> {
     let world = fabric.world();
-    match step {
+    match *step {
         Step::Deliver { router, port } => match world.port(router, port) {
             Some(place) if usize::from(place.link) < world.links().len() => {
                 let session = world.links().session(place.link);

@@ -114,10 +114,9 @@ fn show_script<H: Host, W: Write>(
     let mut states = States {
         alloc,
         json,
-        out,
         is_unwritten: false,
     };
-    run_quietly(rt, alloc, plan, &mut states)?;
+    run_quietly(rt, alloc, plan, &mut states, out)?;
     if states.is_unwritten {
         return Err(Fault::from(Cause::Unwritable));
     }
@@ -126,29 +125,28 @@ fn show_script<H: Host, W: Write>(
 
 // Writes the states of a run that has come to its end.
 #[derive(Drop)]
-struct States<'o, W: Write> {
+struct States {
     alloc: Global,
     json: bool,
-    out: &'o mut W,
     // Whether a write has failed.
     is_unwritten: bool,
 }
 
-impl<W: Write> Keeper for States<'_, W> {
+impl Keeper for States {
     ghost use Rattle.std.specs.Prelude.{◌≡◌, false};
     ghost use Rattle.view.specs.Shown.{IsRunShown};
 
-    ghost keeps = { λ old d f new. new.is_unwritten ≡ false
-        → IsRunShown old.json d f (W.contents old.out.now) (W.contents new.out.now) };
+    ghost keeps = { λ old d f before after new. new.is_unwritten ≡ false → IsRunShown old.json d f before after };
 
-    fn keep<B: FabricName>(
+    fn keep<B: FabricName, W: Write>(
         &mut self,
         fabric: &Fabric<B>,
         directory: &Directory,
+        kept: &mut W,
     ) -> Result<(), NoMemory> {
         let network = fabric.network();
         let steps = fabric.journal();
-        match write_steps(self.alloc, self.json, network, directory, steps, self.out) {
+        match write_steps(self.alloc, self.json, network, directory, steps, kept) {
             Ok(()) => Ok(()),
             Err(StatesFault::NoMemory) => Err(NoMemory),
             Err(StatesFault::Unwritten) => {

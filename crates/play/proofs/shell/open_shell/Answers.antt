@@ -8,7 +8,7 @@ pub returns-clause-ok : goal.returns-clause-ok
 returns-clause-ok g c = elim c.match-new.branch [
   | in-Ok w ↦
       let e = w.run_lines-ended in
-      rw (w.ended-is, w.keeper-is) (tries_plan (λ d f. g.K.Keeper.keeps c.args.keeper.now d f e.new.keeper) c.args.plan (w.in-Ok.session.directory).now c.in_ok-fabric.fabric e.new.fabric w.in-Ok.ensures c.in_ok-fabric.ensures.ok
+      rw (w.ended-is, w.kept-is, w.keeper-is) (tries_plan (λ d f. g.K.Keeper.keeps c.args.keeper.now d f (g.V.Write.contents c.args.kept.now) (g.V.Write.contents e.new.kept) e.new.keeper) c.args.plan (w.in-Ok.session.directory).now c.in_ok-fabric.fabric e.new.fabric w.in-Ok.ensures c.in_ok-fabric.ensures.ok
       e.result e.ensures.ok e.ensures.keeps)
-  | in-Err w ↦ subst (λ r. OnOk r (TriesPlan (λ d f. g.K.Keeper.keeps c.args.keeper.now d f c.match-new.keeper) c.args.plan)) (sym w.ended-is) tt
+  | in-Err w ↦ subst (λ r. OnOk r (TriesPlan (λ d f. g.K.Keeper.keeps c.args.keeper.now d f (g.V.Write.contents c.args.kept.now) (g.V.Write.contents c.match-new.kept) c.match-new.keeper) c.args.plan)) (sym w.ended-is) tt
 ]

@@ -16,4 +16,4 @@ pub returns-clause-ok : goal.returns-clause-ok
 returns-clause-ok g c =
     let text = string_bytes c.in_ok-text.text in
     let planned : IsPlanned text c.in_ok-plan.plan = rw (← c.as_str.ensures.value) c.in_ok-plan.ensures.ok in
-    (refl, (text, c.in_ok-text.ensures.whole, shell_ends (λ d f. g.K.Keeper.keeps c.args.keeper.now d f c.open_shell.new.keeper) text c.in_ok-plan.plan c.in_ok-text.ensures.short planned c.in_ok-open_shell.ensures.ok))
+    (refl, (text, c.in_ok-text.ensures.whole, shell_ends (λ d f. g.K.Keeper.keeps c.args.keeper.now d f (g.V.Write.contents c.args.kept.now) (g.V.Write.contents c.open_shell.new.kept) c.open_shell.new.keeper) text c.in_ok-plan.plan c.in_ok-text.ensures.short planned c.in_ok-open_shell.ensures.ok))
