@@ -1,4 +1,4 @@
 mod Doing
-mod Running
+pub mod Running
 mod Trying
 mod Sessions

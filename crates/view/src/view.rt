@@ -53,12 +53,44 @@ where
         Err(cause) => return refuse(Fault::from(cause), err),
     };
     if words.journal.is_some() {
-        return match show_journal(alloc, words.json, text.as_str(), journal, out) {
-            Ok(ran) => tell(ran, err),
-            Err(fault) => refuse(fault, err),
-        };
+        return end_journal(alloc, words.json, text.as_str(), journal, out, err);
     }
-    match show_script(rt, alloc, words.json, text.as_str(), out) {
+    end_script(rt, alloc, words.json, text.as_str(), out, err)
+}
+
+// Writes the states of the steps that a journal says, and answers the exit status.
+fn end_journal<J: Read + Drop, W: Write, E: Write>(
+    alloc: Global,
+    json: bool,
+    text: &str,
+    journal: J,
+    out: &mut W,
+    err: &mut E,
+) -> u8
+    requires { length text.now ≤ most_bytes }
+    ensures { result ≡ 0 → (lines : Text) × Gives (J.remaining journal) lines
+        × IsJournalShown json text.now lines (W.contents out.old) (W.contents out.new) }
+{
+    match show_journal(alloc, json, text, journal, out) {
+        Ok(ran) => tell(ran, err),
+        Err(fault) => refuse(fault, err),
+    }
+}
+
+// Does the script of a scenario, writes the states of its steps, and answers the exit status.
+fn end_script<H: Host, W: Write, E: Write>(
+    rt: &H,
+    alloc: Global,
+    json: bool,
+    text: &str,
+    out: &mut W,
+    err: &mut E,
+) -> u8
+    requires { length text.now ≤ most_bytes }
+    ensures { result ≡ 0 → IsRunToEnd
+        (λ d f. IsRunShown json d f (W.contents out.old) (W.contents out.new)) text.now }
+{
+    match show_script(rt, alloc, json, text, out) {
         Ok(()) => 0,
         Err(fault) => refuse(fault, err),
     }
