@@ -1,0 +1,10 @@
+-- The proofs of timed simulations.
+pub mod Lists
+pub mod Moments
+pub mod Runs
+pub mod Ports
+pub mod Soonest
+pub mod Motions
+pub mod Lawful
+pub mod Rest
+pub mod Example

@@ -1,0 +1,4 @@
+pub mod Links
+pub mod Timed
+pub mod Events
+pub mod Runs
