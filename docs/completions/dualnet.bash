@@ -31,7 +31,7 @@ _dualnet() {
     replay) options="--explain --format --progress --help" ;;
     shell) options="--journal --explain --format --help" ;;
     explain)
-        numbers=$(seq 1 49)
+        numbers=$(seq 1 52)
         mapfile -t COMPREPLY < <(compgen -W "$numbers --help" -- "$word")
         return
         ;;

@@ -1,7 +1,7 @@
--- The numbers that the program prints, and their names.
+-- The numbers of faults, and their names.
 use Rattle.std.specs.Prelude.{ℕ, List, codes}
 use Rattle.explanations.specs.declared.kind.Kind.{Kind}
-use Rattle.explanations.specs.declared.kind.Kind.TheVariants.{NoSlash, BadAddress, BadLength, HostBits, BadCost, UnknownRouter, UnknownLink, NoThread, AlreadyUp, IsDown, SessionsSpent, NothingToDeliver, NothingDue, NothingRipe, JournalFull, NoMemory, Busy, Stale, NoReaderPlace, BadRouters, BadLink, TooManyLinks, BadOwner, UnknownPrefix, NotAttached, Stranger, Doubled, Missing, Closed, NoImage, WrongTicket, BadToml, BadKey, BadName, BadLine, BadCommand, TooLarge, Unreadable, BadJournal, Unwritable}
+use Rattle.explanations.specs.declared.kind.Kind.TheVariants.{NoSlash, BadAddress, BadLength, HostBits, BadCost, UnknownRouter, UnknownLink, NoThread, AlreadyUp, IsDown, SessionsSpent, NothingToDeliver, NothingDue, NothingRipe, JournalFull, NoMemory, Busy, Stale, NoReaderPlace, BadRouters, BadLink, TooManyLinks, BadOwner, UnknownPrefix, NotAttached, Stranger, Doubled, Missing, Closed, NoImage, WrongTicket, BadToml, BadKey, BadName, BadLine, BadCommand, TooLarge, Unreadable, BadJournal, Unwritable, PastMoment, TimeSpent}
 
 -- the number of a kind
 abbrev pub kind_number : Kind → ℕ
@@ -45,6 +45,8 @@ kind_number TooLarge = 46
 kind_number Unreadable = 47
 kind_number BadJournal = 48
 kind_number Unwritable = 49
+kind_number PastMoment = 51
+kind_number TimeSpent = 52
 
 -- its name
 abbrev pub name_of : Kind → List ℕ
@@ -88,3 +90,5 @@ name_of TooLarge = codes "TooLarge"
 name_of Unreadable = codes "Unreadable"
 name_of BadJournal = codes "BadJournal"
 name_of Unwritable = codes "Unwritable"
+name_of PastMoment = codes "PastMoment"
+name_of TimeSpent = codes "TimeSpent"

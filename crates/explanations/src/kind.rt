@@ -1,9 +1,9 @@
-//! The numbers that the program prints.
+//! The numbers of faults.
 
 ghost use Rattle.std.specs.Prelude.{◌≡◌, ◌≢◌, IfSome, IfNone};
 ghost use Rattle.explanations.specs.Numbers.{kind_number, name_of};
 
-/// A number that the program prints, by its meaning.
+/// The number of a fault, by its meaning.
 #[derive(Clone, Copy, Debug, PartialEq, Eq)]
 pub enum Kind {
     NoSlash,
@@ -46,10 +46,12 @@ pub enum Kind {
     Unreadable,
     BadJournal,
     Unwritable,
+    PastMoment,
+    TimeSpent,
 }
 
 impl Kind {
-    /// The kind of a number, or none if the program never prints that number.
+    /// The kind of a number, or none if no fault of this list has that number.
     pub fn of(number: u8) -> Option<Kind>
         ensures some { IfSome result (λ k. kind_number k ≡ number) }
         ensures none { IfNone result ((k : Kind) → kind_number k ≢ number) }
@@ -95,6 +97,8 @@ impl Kind {
             47 => Some(Kind::Unreadable),
             48 => Some(Kind::BadJournal),
             49 => Some(Kind::Unwritable),
+            51 => Some(Kind::PastMoment),
+            52 => Some(Kind::TimeSpent),
             _ => None,
         }
     }
@@ -144,6 +148,8 @@ impl Kind {
             Kind::Unreadable => 47,
             Kind::BadJournal => 48,
             Kind::Unwritable => 49,
+            Kind::PastMoment => 51,
+            Kind::TimeSpent => 52,
         }
     }
 
@@ -192,6 +198,8 @@ impl Kind {
             Kind::Unreadable => "Unreadable",
             Kind::BadJournal => "BadJournal",
             Kind::Unwritable => "Unwritable",
+            Kind::PastMoment => "PastMoment",
+            Kind::TimeSpent => "TimeSpent",
         }
     }
 }

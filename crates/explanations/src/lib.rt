@@ -1,4 +1,4 @@
-//! The numbers that the program prints, and a page for each: what it says, when it comes, and what to do.
+//! The numbers of faults, and a page for each: what it says, when it comes, and what to do.
 //!
 //! The problem: a fault is a few letters, for example `45 BadCommand`, because people and programs have to
 //! tell it from others. That is too short if you meet it for the first time. So `dualnet explain 45` prints
@@ -13,6 +13,7 @@
 //!
 //! A [`Kind`] is a number with its name and its [`Page`]. The numbers have gaps, because some are only for
 //! the libraries for C (`c_interface`). For example, 7 says there that a handle is empty, and is no kind here.
+//! The program prints each kind but 51 and 52, which are faults of simulated time (`timed_simulation`).
 //!
 //! ```text
 //! let kind = Kind::of(45)?;                    // None for a number that is never printed

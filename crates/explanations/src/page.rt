@@ -56,6 +56,8 @@ impl Kind {
             Kind::Unreadable => UNREADABLE,
             Kind::BadJournal => BAD_JOURNAL,
             Kind::Unwritable => UNWRITABLE,
+            Kind::PastMoment => PAST_MOMENT,
+            Kind::TimeSpent => TIME_SPENT,
         }
     }
 }
@@ -365,4 +367,18 @@ const UNWRITABLE: Page = Page {
     cause: "the journal or the page could not be written, or would have replaced a file that is read",
     example: "`dualnet run FILE --journal /no-such-folder/journal`",
     remedy: "check the path, its permissions and the free space on the disk",
+};
+
+const PAST_MOMENT: Page = Page {
+    kind: Kind::PastMoment,
+    cause: "in simulated time, a change is given for a moment before the present one",
+    example: "a link is to go down at 100 microseconds, and the clock shows 250",
+    remedy: "give the change for the present moment, or a later one",
+};
+
+const TIME_SPENT: Page = Page {
+    kind: Kind::TimeSpent,
+    cause: "in simulated time, the next event is due at 2^64 - 1 microseconds or later, which the clock cannot show",
+    example: "a direction of a link with a delay of 18,446,744,073,709,551,615 microseconds",
+    remedy: "give shorter delays, and earlier moments",
 };

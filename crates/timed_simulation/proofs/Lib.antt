@@ -4,6 +4,11 @@ pub mod Moments
 pub mod Runs
 pub mod Ports
 pub mod Soonest
+pub mod Rising
+pub mod Timely
+pub mod Steps
+pub mod First
+pub mod OnTime
 pub mod Motions
 pub mod Lawful
 pub mod Rest

@@ -1,16 +1,21 @@
 -- What events leave of what every timed simulation keeps.
-use Rattle.std.proofs.Common.{refl, sym, ap, subst, ◌∙◌, arith, inl, inr, length-append, ◌≡◌, ◌⊎◌, ℕ, ◌+◌, ◌≤◌, if◌then◌else◌, List, [], ◌∷◌, ◌++◌, drop, length, Option, Some, None}
-use Rattle.packet_loops.proofs.Common.{World, Network, opening, Lawful, next, Refusal, Runs}
+use Rattle.std.proofs.Common.{refl, sym, ap, subst, ◌∙◌, arith, inl, inr, length-append, ◌≡◌, ◌⊎◌, ℕ, ◌+◌, ◌≤◌, ◌<◌, if◌then◌else◌, List, [], ◌∷◌, ◌++◌, drop, map, length, IfSome, Option, Some, None}
+use Rattle.packet_loops.proofs.Common.{World, Network, IsNetwork, opening, Lawful, next, Refusal, Runs}
 use Rattle.world.specs.Steps.{CanBeRefused}
 use Rattle.world.proofs.Runs.{with_last_step}
 use Rattle.simulation.specs.Simulation.{Simulation, after_step, opening_simulation}
 use Rattle.timed_simulation.specs.declared.events.Change.{Change}
 use Rattle.timed_simulation.specs.declared.events.Event.{Event}
 use Rattle.timed_simulation.specs.declared.events.RouterTime.{RouterTime}
-use Rattle.timed_simulation.specs.Links.{TimedLink, links_after, motion_of}
-use Rattle.timed_simulation.specs.Timed.{Timed, after_event, after_events, begins_at, routers_after, timed_of, world_of}
+use Rattle.timed_simulation.specs.declared.links.LinkDelays.{LinkDelays}
+use Rattle.timed_simulation.specs.Links.{TimedLink, last_moment, links_after, motion_of, opening_link}
+use Rattle.timed_simulation.specs.Timed.{Timed, after_event, after_events, begins_at, opening_router, opening_timed, routers_after, timed_of, world_of}
+use Rattle.timed_simulation.specs.Events.{next_event}
+use Rattle.timed_simulation.specs.Due.{IsDue, IsFirst, RisesFrom}
 use Rattle.timed_simulation.specs.Runs.{Ascends, IsNext, IsTimed, IsTimedRun, LeadsTo, steps_of}
 use Rattle.timed_simulation.proofs.Moments.{next-after}
+use Rattle.timed_simulation.proofs.First.{next_due, next_first}
+use Rattle.timed_simulation.proofs.OnTime.{on_time_after, opened}
 
 -- ---- one event more
 
@@ -35,18 +40,45 @@ runs_push w es v e runs lawful = subst (λ ss. Runs w ss (next v e.step)) (sym (
 
 -- ---- what is kept
 
-pub kept_open : (t : Timed) (n : Network) → t.simulation ≡ opening_simulation n → t.clock ≡ 0 → IsTimed t
-kept_open t n opened at = record {
+pub kept_open : (n : Network) → IsNetwork n → (delays : List LinkDelays) (waits : List ℕ) → length delays ≡ length n.links → length waits ≡ n.routers → IsTimed (opening_timed n delays waits)
+kept_open n valid delays waits each_link each_router = record {
+  valid = valid;
+  on_time = opened n delays waits each_link each_router;
   done = [];
   ascends = omega arith;
-  runs = subst (λ (s : Simulation). opening s.network ≡ s.world) (sym opened) refl;
+  runs = refl;
 }
+
+-- what is next, is due just then, and nothing is due sooner
+pub is_next : (t : Timed) (e : Event) → IsTimed t → next_event t ≡ Some e → e.moment < last_moment → Lawful (world_of t) e.step → IsNext t e
+is_next t e kept next short lawful = record { next = next; due = next_due t kept.on_time e next; first = next_first t kept.on_time e next; in_time = short; lawful = lawful }
 
 pub kept_after : (t : Timed) (e : Event) → IsTimed t → IsNext t e → IsTimed (after_event t e)
 kept_after t e kept is = record {
+  valid = kept.valid;
+  on_time = on_time_after t kept.valid (steps_of kept.done) kept.runs kept.on_time e is.next (next-after t e is.next) is.in_time is.lawful;
   done = kept.done ++ e ∷ [];
   ascends = ascends_push 0 kept.done t.clock e kept.ascends (next-after t e is.next);
   runs = runs_push (opening (t.simulation).network) kept.done (world_of t) e kept.runs is.lawful;
+}
+
+-- the same of what is next, if anything is
+pub due_if : (t : Timed) → IsTimed t → (o : Option Event) → o ≡ next_event t → IfSome o (IsDue t)
+due_if t kept None is = tt
+due_if t kept (Some e) is = next_due t kept.on_time e (sym is)
+
+pub first_if : (t : Timed) → IsTimed t → (o : Option Event) → o ≡ next_event t → IfSome o (IsFirst t)
+first_if t kept None is = tt
+first_if t kept (Some e) is = next_first t kept.on_time e (sym is)
+
+-- with other changes, of which none is late
+pub kept_changes : (t : Timed) (cs : List Change) → IsTimed t → RisesFrom (λ (c : Change). c.moment) t.clock cs → IsTimed (record t { changes = cs })
+kept_changes t cs kept rises = record {
+  valid = kept.valid;
+  on_time = record { on_links = (kept.on_time).on_links; at_routers = (kept.on_time).at_routers; of_changes = rises };
+  done = kept.done;
+  ascends = kept.ascends;
+  runs = kept.runs;
 }
 
 -- ---- runs
@@ -63,6 +95,14 @@ run_more old mid new done e run is made = subst (λ u. IsTimedRun old u (done + 
   runs = runs_push (world_of old) run.events (world_of mid) e run.runs is.lawful;
   after = ap (λ u. after_event u e) run.after ∙ sym (after_push old run.events e);
 })
+
+-- ---- the parts of an opening
+
+pub opened_parts : (n : Network) (delays : List LinkDelays) (waits : List ℕ) (s : Simulation) (ks : List TimedLink) (rs : List RouterTime) → s ≡ opening_simulation n → ks ≡ map opening_link delays → rs ≡ map opening_router waits → timed_of s 0 ks rs [] ≡ opening_timed n delays waits
+opened_parts n delays waits s ks rs simulation links routers =
+    ap (λ x. timed_of x 0 ks rs []) simulation
+    ∙ ap (λ x. timed_of (opening_simulation n) 0 x rs []) links
+    ∙ ap (λ x. timed_of (opening_simulation n) 0 (map opening_link delays) x []) routers
 
 -- ---- the parts of an event
 

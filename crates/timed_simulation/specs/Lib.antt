@@ -1,4 +1,5 @@
 pub mod Links
 pub mod Timed
 pub mod Events
+pub mod Due
 pub mod Runs

@@ -4,6 +4,7 @@ use Rattle.network_model.specs.declared.step.Step.{Step}
 use Rattle.network_model.specs.declared.step.Refusal.{Refusal}
 use Rattle.network_model.specs.World.{opening}
 use Rattle.network_model.specs.Step.{Lawful}
+use Rattle.network_model.specs.Network.{IsNetwork}
 use Rattle.network_model.specs.Run.{Runs}
 use Rattle.network_model.specs.Turns.{is_settled}
 use Rattle.simulation.specs.Simulation.{simulation_refusal}
@@ -13,13 +14,16 @@ use Rattle.timed_simulation.specs.declared.fault.TimeFault.TheVariants.{PastMome
 use Rattle.timed_simulation.specs.Links.{last_moment}
 use Rattle.timed_simulation.specs.Timed.{Timed, after_event, after_events, world_of}
 use Rattle.timed_simulation.specs.Events.{next_event}
+use Rattle.timed_simulation.specs.Due.{IsDue, IsFirst, IsOnTime}
 
 abbrev pub steps_of : List Event → List Step
 steps_of es = map (λ e. e.step) es
 
--- the event is the next one, its moment is before the last, and its step is lawful
+-- the event is the next one: it is due just then, and nothing is due sooner. Its moment is before the last, and its step is lawful
 pub record IsNext (t : Timed) (e : Event) : Type 0 where
   pub next : next_event t ≡ Some e
+  pub due : IsDue t e
+  pub first : IsFirst t e
   pub in_time : e.moment < last_moment
   pub lawful : Lawful (world_of t) e.step
 
@@ -42,8 +46,10 @@ pub record IsTimedRun (old new : Timed) (done : ℕ) : Type 0 where
   pub runs : Runs (world_of old) (steps_of events) (world_of new)
   pub after : new ≡ after_events old events
 
--- what always holds: some events whose moments never decrease, and none of which is after the present moment, lead by lawful steps from the opening of the network to its world
+-- what always holds: some events whose moments never decrease, and none of which is after the present moment, lead by lawful steps from the opening of the network, which has no fault, to its world; and what is left to do is on time
 pub record IsTimed (t : Timed) : Type 0 where
+  pub valid : IsNetwork (t.simulation).network
+  pub on_time : IsOnTime (world_of t) t.clock t.links t.routers t.changes
   pub done : List Event
   pub ascends : Ascends 0 done t.clock
   pub runs : Runs (opening (t.simulation).network) (steps_of done) (world_of t)

@@ -11,10 +11,10 @@ use thiserror::Error;
 #[derive(Clone, Copy, Debug, PartialEq, Eq, Drop, Error)]
 pub enum TimeFault {
     /// The moment of the change is before the present one.
-    #[error("36 PastMoment")]
+    #[error("51 PastMoment")]
     PastMoment,
     /// The moment of the next event is 2^64 - 1 microseconds, the last that the clock can show, or later.
-    #[error("37 TimeSpent")]
+    #[error("52 TimeSpent")]
     TimeSpent,
     /// The step of the next event is refused.
     #[error(transparent)]

@@ -7,6 +7,7 @@ ghost use Rattle.simulation.specs.Headline as headline;
 ghost use Rattle.simulation.specs.Simulation as simulations;
 ghost use Rattle.timed_simulation.specs.Timed.{after_event, opening_timed, with_change, world_of};
 ghost use Rattle.timed_simulation.specs.Events.{arrival_event, change_event, event_now, home_event, next_event, own_event, publication_event, publication_moment, router_event, waiting_event};
+ghost use Rattle.timed_simulation.specs.Due.{IsDue, IsFirst, NothingIsLate, NothingIsLeftOut};
 ghost use Rattle.timed_simulation.specs.Runs.{IsAtRest, IsDoneUntil, IsGivenOr, IsNext, IsStoppedAt, IsStoppedFor, IsTimed, IsTimedRun};
 
 use crate::events::{
@@ -74,6 +75,8 @@ impl<A: SmallAllocator> TimedSimulation<A> {
         requires each_router { length routers.now ≡ network.routers }
         ensures { IfOk result (λ t. t ≡ opening_timed network links.now routers.now) }
     {
+        // A network has no fault, which its type keeps.
+        let _routers = network.routers();
         let links = opening_links(alloc, links)?;
         let routers = opening_routers(alloc, routers)?;
         let simulation = Simulation::open(alloc, network)?;
@@ -231,12 +234,15 @@ impl<A: SmallAllocator> TimedSimulation<A> {
 
     /// What is done next, if anything is left to do: the soonest of the changes that were given, and of what
     /// the routers have to do. Of one moment changes come first, as they were given, and then routers by
-    /// number.
+    /// number. It is due just then, and nothing that is left to do is due sooner.
     pub fn next_event(&self) -> Option<Event>
-        ensures { result ≡ next_event self.now }
+        ensures next { result ≡ next_event self.now }
+        ensures due { IfSome result (IsDue self.now) }
+        ensures first { IfSome result (IsFirst self.now) }
     {
         let mut first = None;
-        for router in 0..self.simulation.network().routers() {
+        for place in 0..self.simulation.network().routers() {
+            let router = place as u16;
             first = sooner(first, self.router_event(router));
         }
         sooner(self.change_event(), first)
@@ -315,13 +321,14 @@ impl<A: SmallAllocator> TimedSimulation<A> {
         ensures stop { MatchOption result.fault
             (IsDoneUntil moment self.new ⊎ (result.done ≡ most))
             (IsStoppedAt self.new) }
+        ensures on_time { NothingIsLate self.new }
         ensures forwards { simulations.ForwardsAsPublished (self.new).simulation }
         ensures no_loop { headline.NeverMeetsTwice (self.new).simulation }
         ensures least_cost { headline.LeadsAtLeastCost (self.new).simulation }
         ensures converges { headline.ConvergesLeftAlone (self.new).simulation }
     {
         let ran = self.do_events(moment, most);
-        self.simulation.holds();
+        self.holds();
         ran
     }
 
@@ -358,6 +365,7 @@ impl<A: SmallAllocator> TimedSimulation<A> {
         ensures stop { MatchOption result.fault
             (IsAtRest self.new ⊎ (result.done ≡ most))
             (IsStoppedAt self.new) }
+        ensures on_time { NothingIsLate self.new }
         ensures forwards { simulations.ForwardsAsPublished (self.new).simulation }
         ensures no_loop { headline.NeverMeetsTwice (self.new).simulation }
         ensures least_cost { headline.LeadsAtLeastCost (self.new).simulation }
@@ -370,10 +378,13 @@ impl<A: SmallAllocator> TimedSimulation<A> {
     }
 
     /// It does nothing. What holds of every timed simulation, for whoever has one: some events, whose moments
-    /// never decrease, lead by lawful steps from the opening of the network to its world; and the four parts
-    /// of the headline.
+    /// never decrease, lead by lawful steps from the opening of the network to its world; nothing that is left
+    /// to do was due before the present moment, and whatever a router may do is due at some moment; and the
+    /// four parts of the headline.
     pub fn holds(&self)
         ensures timed { IsTimed self.now }
+        ensures on_time { NothingIsLate self.now }
+        ensures whole { NothingIsLeftOut self.now }
         ensures forwards { simulations.ForwardsAsPublished (self.now).simulation }
         ensures no_loop { headline.NeverMeetsTwice (self.now).simulation }
         ensures least_cost { headline.LeadsAtLeastCost (self.now).simulation }

@@ -143,14 +143,14 @@ no_replay_format rows none (Replay f j e o p) h = none o h.3
 no_replay_format rows none (Explain k) h = h
 no_replay_format rows none (Shell f j e o) h = h
 
-pub no_explain : (rows : List Row) → ((n : ℕ) → HasNumber rows (codes "number") 49 n → ⊥) → (w : Words) → IsExplain rows w → ⊥
+pub no_explain : (rows : List Row) → ((n : ℕ) → HasNumber rows (codes "number") 52 n → ⊥) → (w : Words) → IsExplain rows w → ⊥
 no_explain rows none (Check f e) h = h
 no_explain rows none (Run f t k j e o p) h = h
 no_explain rows none (Replay f j e o p) h = h
 no_explain rows none (Explain k) h = none (kind_number k) h
 no_explain rows none (Shell f j e o) h = h
 
-pub no_kind : (rows : List Row) (n : ℕ) → ((m : ℕ) → HasNumber rows (codes "number") 49 m → n ≡ m) → ((k : Kind) → kind_number k ≢ n) → (w : Words) → IsExplain rows w → ⊥
+pub no_kind : (rows : List Row) (n : ℕ) → ((m : ℕ) → HasNumber rows (codes "number") 52 m → n ≡ m) → ((k : Kind) → kind_number k ≢ n) → (w : Words) → IsExplain rows w → ⊥
 no_kind rows n same other (Check f e) h = h
 no_kind rows n same other (Run f t k j e o p) h = h
 no_kind rows n same other (Replay f j e o p) h = h

@@ -71,7 +71,7 @@ version : asks (codes "--version" ∷ []) ≡ DisplayVersion ∷ []
 unfolding clap_on_literals
 version = refl
 
-great_number : asks (codes "explain" ∷ codes "50" ∷ []) ≡ ValueValidation ∷ []
+great_number : asks (codes "explain" ∷ codes "53" ∷ []) ≡ ValueValidation ∷ []
 unfolding clap_on_literals
 great_number = refl
 

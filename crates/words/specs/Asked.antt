@@ -54,9 +54,9 @@ IsReplay rows (Replay file journal explain format progress) = (first_of (codes "
     × IsFlag rows (codes "explain") explain × HasFormat rows format × IsFlag rows (codes "progress") progress
 IsReplay rows _ = ⊥
 
--- the matches of `explain`: a number that the program prints
+-- the matches of `explain`: the number of a fault
 abbrev pub IsExplain : List Row → Words → Type 0
-IsExplain rows (Explain kind) = HasNumber rows (codes "number") 49 (kind_number kind)
+IsExplain rows (Explain kind) = HasNumber rows (codes "number") 52 (kind_number kind)
 IsExplain rows _ = ⊥
 
 -- the matches of `shell`: a file, a path where one is given, and a format

@@ -34,9 +34,9 @@ choice_rule id = record (new_rule id) { long = Some id; value_names = 1; default
 abbrev pub flag_rule : Text → Rule
 flag_rule id = record (new_rule id) { long = Some id; action = Some SetTrue }
 
--- a number of 1 to 49 that has to be there
+-- a number of 1 to 52 that has to be there
 abbrev pub known_rule : Text → Rule
-known_rule id = record (new_rule id) { value_names = 1; required = true; parser = Some (Signed (pos 1) (pos 49)) }
+known_rule id = record (new_rule id) { value_names = 1; required = true; parser = Some (Signed (pos 1) (pos 52)) }
 
 -- `check FILE [--explain]`
 abbrev pub check_app : App

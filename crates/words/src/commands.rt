@@ -268,14 +268,14 @@ fn small_number<'a>() -> ValueParser<'a>
     value_parser!(u8).range(1..=16)
 }
 
-// A number that the program prints: 1 to 49.
+// The number of a fault: 1 to 52.
 fn known_number<'a>() -> ValueParser<'a>
-    ensures { result ≡ Signed (pos 1) (pos 49) }
+    ensures { result ≡ Signed (pos 1) (pos 52) }
 {
-    value_parser!(u8).range(1..=49)
+    value_parser!(u8).range(1..=52)
 }
 
-// A number that the program prints, which has to be there.
+// The number of a fault, which has to be there.
 fn known_arg<'a>(alloc: Global) -> Arg<'a>
     ensures rule { rule_of result ≡ known_rule (codes "number") }
     ensures local { result.global ≡ false }

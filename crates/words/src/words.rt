@@ -162,7 +162,7 @@ fn explain_words<'a>(matches: &ArgMatches<'a>) -> Option<Words<'a>>
     ensures some { IfSome result (IsExplain (rows_of (found_of matches.now))) }
     ensures none { IfNone result ((w : Words) → IsExplain (rows_of (found_of matches.now)) w → ⊥) }
 {
-    let number = number(matches, "number", 49)?;
+    let number = number(matches, "number", 52)?;
     let kind = Kind::of(number)?;
     Some(Words::Explain { kind })
 }

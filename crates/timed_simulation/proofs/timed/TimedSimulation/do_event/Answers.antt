@@ -10,7 +10,7 @@ use Rattle.timed_simulation.specs.Links.{last_moment, link_of, links_after, moti
 use Rattle.timed_simulation.specs.Timed.{after_event, begins_at, routers_after, timed_of, Timed}
 use Rattle.timed_simulation.specs.Events.{next_event}
 use Rattle.timed_simulation.specs.Runs.{steps_of, IsNext, IsStoppedFor, IsTimed}
-use Rattle.timed_simulation.proofs.Runs.{after_parts, kept_after, same_parts, stopped_as}
+use Rattle.timed_simulation.proofs.Runs.{after_parts, is_next, kept_after, same_parts, stopped_as}
 use Rattle.timed_simulation.proofs.timed.TimedSimulation.do_event.Goals as goal
 
 pub motion_of-motion-requires : goal.motion_of-motion-requires
@@ -61,7 +61,7 @@ invariant_of-self-2 g c =
     let e : Event = c.args.event in
     let motion = c.motion_of-motion.ensures ∙ ap (λ w. motion_of w e.step) c.world.ensures in
     let begins = c.begins_at-begins.ensures ∙ ap (λ w. begins_at w e.step) c.world-2.ensures in
-    let is : IsNext old e = record { next = ap next_event c.self.view_is ∙ c.requires; in_time = c.if-event-ge18446744073709551615.false; lawful = c.in_ok-step.ensures.ok.0 } in
+    let is : IsNext old e = is_next old e c.self.invariant (ap next_event c.self.view_is ∙ c.requires) c.if-event-ge18446744073709551615.false c.in_ok-step.ensures.ok.0 in
     subst IsTimed
     (sym (after_parts old e c.step.new.self (map link_of c.note.new.links.items) c.note_begun.new.routers.items c.take_done.new.changes.items c.in_ok-step.ensures.ok.1
     (c.note.ensures ∙ ap (λ o. links_after e.moment o (map link_of c.reserve.new.links.items)) motion ∙ ap (links_after e.moment (motion_of c.self.inside.simulation.world e.step)) c.in_ok-reserve.ensures.same)
@@ -75,7 +75,7 @@ returns-clause-ok g c =
     let e : Event = c.args.event in
     let motion = c.motion_of-motion.ensures ∙ ap (λ w. motion_of w e.step) c.world.ensures in
     let begins = c.begins_at-begins.ensures ∙ ap (λ w. begins_at w e.step) c.world-2.ensures in
-    let is : IsNext old e = record { next = ap next_event c.self.view_is ∙ c.requires; in_time = c.if-event-ge18446744073709551615.false; lawful = c.in_ok-step.ensures.ok.0 } in
+    let is : IsNext old e = is_next old e c.self.invariant (ap next_event c.self.view_is ∙ c.requires) c.if-event-ge18446744073709551615.false c.in_ok-step.ensures.ok.0 in
     subst (λ t. IsNext t e × (timed_of c.step.new.self e.moment (map link_of c.note.new.links.items) c.note_begun.new.routers.items c.take_done.new.changes.items ≡ after_event t e)) c.self.view_is (
       is,
       after_parts old e c.step.new.self (map link_of c.note.new.links.items) c.note_begun.new.routers.items c.take_done.new.changes.items c.in_ok-step.ensures.ok.1
