@@ -12,7 +12,7 @@ use Rattle.timed_simulation.specs.declared.events.RouterTime.{RouterTime}
 use Rattle.timed_simulation.specs.Links.{TimedLink, last_moment, later, towards}
 use Rattle.timed_simulation.specs.Timed.{Timed, world_of}
 use Rattle.timed_simulation.specs.Events.{arrival_event, arrival_moment, change_event, event_now, home_event, next_event, own_event, publication_event, publication_moment, router_event, sooner, soonest, waiting_event}
-use Rattle.timed_simulation.specs.Due.{ArrivesAt, IsChange, IsDue, IsFirst, IsOnTime, IsOwnDue, IsTimelyLink, IsToldAt, NothingIsLate, NothingIsLeftOut, PublishesAt, ReleasesAt, RisesFrom}
+use Rattle.timed_simulation.specs.Due.{ArrivesAt, IsChange, IsDue, IsFirst, IsOnTime, IsOwnDue, IsTimelyLink, IsToldAt, NothingIsDue, NothingIsLate, NothingIsLeftOut, PublishesAt, ReleasesAt, RisesFrom}
 use Rattle.timed_simulation.proofs.Rising.{rises_at}
 use Rattle.timed_simulation.proofs.Ports.{place_of_front, port_of_notice, port_of_place}
 use Rattle.timed_simulation.proofs.Timely.{arrival_of}
@@ -193,31 +193,37 @@ module _ (t : Timed) (K : IsOnTime (world_of t) t.clock t.links t.routers t.chan
 
   -- ---- nothing is due sooner than what is done next
 
-  own_first : (e : Event) → next_event t ≡ Some e → (m : ℕ) (s : Step) → IsOwnDue t m s → e.moment ≤ m
-  own_first e is m s D = by_found (own_before t m (own_later m s D) s D)
+  change_before : (m : ℕ) (s : Step) → IsChange t m s → Before m (next_event t)
+  change_before m s D = by_changes t.changes refl K.of_changes D.at
     where
-      by_found : Before m (next_event t) → e.moment ≤ m
-      by_found (x, at, le) = (let same : e.moment ≡ x.moment = ap (λ (y : Event). y.moment) (Some_injective (sym is ∙ at)) in omega (arith, same, le))
-
-  change_first : (e : Event) → next_event t ≡ Some e → (m : ℕ) (s : Step) → IsChange t m s → e.moment ≤ m
-  change_first e is m s D = by_changes t.changes refl K.of_changes D.at
-    where
-      by_found : (n : ℕ) → Before n (next_event t) → e.moment ≤ n
-      by_found n (x, at, le) = (let same : e.moment ≡ x.moment = ap (λ (y : Event). y.moment) (Some_injective (sym is ∙ at)) in omega (arith, same, le))
-
-      by_changes : (cs : List Change) → t.changes ≡ cs → RisesFrom (λ (c : Change). c.moment) t.clock cs → slice_get cs D.place ≡ Some (record { moment = m; step = s }) → e.moment ≤ m
+      by_changes : (cs : List Change) → t.changes ≡ cs → RisesFrom (λ (c : Change). c.moment) t.clock cs → slice_get cs D.place ≡ Some (record { moment = m; step = s }) → Before m (next_event t)
       by_changes [] are r at = absurd (None_not_Some at)
       by_changes (c ∷ cs) are r at =
-          let soon : e.moment ≤ c.moment = by_found c.moment (first_change_before t c.moment r.0 c (ap (λ (xs : List Change). slice_get xs 0) are) (omega arith)) in
+          let soon = first_change_before t c.moment r.0 c (ap (λ (xs : List Change). slice_get xs 0) are) (omega arith) in
+          let before = soon.2 in
           let later : c.moment ≤ m = rises_at (λ (x : Change). x.moment) c.moment (c ∷ cs) D.place (record { moment = m; step = s }) (omega arith, r.1) at in
-          omega (arith, soon, later)
+          (soon.0, soon.1, omega (arith, before, later))
+
+  -- where something is left to do, an event is next, and is no later
+  due_before : (d : Event) → IsDue t d → Before d.moment (next_event t)
+  due_before d due = by_kind d.given due
+    where
+      by_kind : (b : Bool) → MatchBool b (IsChange t d.moment d.step) (IsOwnDue t d.moment d.step) → Before d.moment (next_event t)
+      by_kind true D = change_before d.moment d.step D
+      by_kind false D = own_before t d.moment (own_later d.moment d.step D) d.step D
 
   pub next_first : (e : Event) → next_event t ≡ Some e → IsFirst t e
-  next_first e is d due = by_kind d.given due
+  next_first e is d due = by_found (due_before d due)
     where
-      by_kind : (b : Bool) → MatchBool b (IsChange t d.moment d.step) (IsOwnDue t d.moment d.step) → e.moment ≤ d.moment
-      by_kind true D = change_first e is d.moment d.step D
-      by_kind false D = own_first e is d.moment d.step D
+      by_found : Before d.moment (next_event t) → e.moment ≤ d.moment
+      by_found (x, at, le) = (let same : e.moment ≡ x.moment = ap (λ (y : Event). y.moment) (Some_injective (sym is ∙ at)) in omega (arith, same, le))
+
+  -- so where none is next, nothing is left to do
+  pub nothing_due : next_event t ≡ None → NothingIsDue t
+  nothing_due none d due = by_found (due_before d due)
+    where
+      by_found : Before d.moment (next_event t) → ⊥
+      by_found (x, at, le) = None_not_Some (sym none ∙ at)
 
   -- ---- what is done next is due
 
@@ -345,6 +351,13 @@ module _ (t : Timed) (K : IsOnTime (world_of t) t.clock t.links t.routers t.chan
   pub next_due : (e : Event) → next_event t ≡ Some e → IsDue t e
   next_due e is = subst IsDueIf is (due_of_two (change_event t) (soonest (router_event t) (length (world_of t).routers)) change_due
       (due_of_many (router_event t) (length (world_of t).routers) (λ i below. (let R = element_there (world_of t).routers i below in router_due i R.0 R.1))))
+
+  pub none_next : NothingIsDue t → next_event t ≡ None
+  none_next nothing = by_next (next_event t) refl
+    where
+      by_next : (o : Option Event) → next_event t ≡ o → o ≡ None
+      by_next None is = refl
+      by_next (Some e) is = absurd (nothing e (next_due e is))
 
   -- ---- nothing is left out
 

@@ -9,6 +9,7 @@ pub mod Timely
 pub mod Steps
 pub mod First
 pub mod OnTime
+pub mod Since
 pub mod Motions
 pub mod Lawful
 pub mod Rest

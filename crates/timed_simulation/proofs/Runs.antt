@@ -1,5 +1,5 @@
 -- What events leave of what every timed simulation keeps.
-use Rattle.std.proofs.Common.{refl, sym, ap, subst, ◌∙◌, arith, inl, inr, length-append, ◌≡◌, ◌⊎◌, ℕ, ◌+◌, ◌≤◌, ◌<◌, if◌then◌else◌, List, [], ◌∷◌, ◌++◌, drop, map, length, IfSome, Option, Some, None}
+use Rattle.std.proofs.Common.{refl, sym, ap, subst, ◌∙◌, arith, inl, inr, length-append, ◌≡◌, ◌⊎◌, ℕ, ◌+◌, ◌≤◌, ◌<◌, if◌then◌else◌, List, [], ◌∷◌, ◌++◌, drop, map, length, IfSome, IfNone, Option, Some, None}
 use Rattle.packet_loops.proofs.Common.{World, Network, IsNetwork, opening, Lawful, next, Refusal, Runs}
 use Rattle.world.specs.Steps.{CanBeRefused}
 use Rattle.world.proofs.Runs.{with_last_step}
@@ -11,11 +11,12 @@ use Rattle.timed_simulation.specs.declared.links.LinkDelays.{LinkDelays}
 use Rattle.timed_simulation.specs.Links.{TimedLink, last_moment, links_after, motion_of, opening_link}
 use Rattle.timed_simulation.specs.Timed.{Timed, after_event, after_events, begins_at, opening_router, opening_timed, routers_after, timed_of, world_of}
 use Rattle.timed_simulation.specs.Events.{next_event}
-use Rattle.timed_simulation.specs.Due.{IsDue, IsFirst, RisesFrom}
+use Rattle.timed_simulation.specs.Due.{IsDue, IsFirst, NothingIsDue, RisesFrom}
 use Rattle.timed_simulation.specs.Runs.{Ascends, IsNext, IsTimed, IsTimedRun, LeadsTo, steps_of}
 use Rattle.timed_simulation.proofs.Moments.{next-after}
-use Rattle.timed_simulation.proofs.First.{next_due, next_first}
+use Rattle.timed_simulation.proofs.First.{next_due, next_first, nothing_due}
 use Rattle.timed_simulation.proofs.OnTime.{on_time_after, opened}
+use Rattle.timed_simulation.proofs.Since.{none_due, since_after}
 
 -- ---- one event more
 
@@ -47,6 +48,7 @@ kept_open n valid delays waits each_link each_router = record {
   done = [];
   ascends = omega arith;
   runs = refl;
+  since = λ i x at due. absurd (none_due n valid i due);
 }
 
 -- what is next, is due just then, and nothing is due sooner
@@ -60,6 +62,7 @@ kept_after t e kept is = record {
   done = kept.done ++ e ∷ [];
   ascends = ascends_push 0 kept.done t.clock e kept.ascends (next-after t e is.next);
   runs = runs_push (opening (t.simulation).network) kept.done (world_of t) e kept.runs is.lawful;
+  since = since_after (opening (t.simulation).network) kept.done (world_of t) t.routers e kept.runs is.lawful kept.since;
 }
 
 -- the same of what is next, if anything is
@@ -71,6 +74,10 @@ pub first_if : (t : Timed) → IsTimed t → (o : Option Event) → o ≡ next_e
 first_if t kept None is = tt
 first_if t kept (Some e) is = next_first t kept.on_time e (sym is)
 
+pub nothing_if : (t : Timed) → IsTimed t → (o : Option Event) → o ≡ next_event t → IfNone o (NothingIsDue t)
+nothing_if t kept None is = nothing_due t kept.on_time (sym is)
+nothing_if t kept (Some e) is = tt
+
 -- with other changes, of which none is late
 pub kept_changes : (t : Timed) (cs : List Change) → IsTimed t → RisesFrom (λ (c : Change). c.moment) t.clock cs → IsTimed (record t { changes = cs })
 kept_changes t cs kept rises = record {
@@ -79,6 +86,7 @@ kept_changes t cs kept rises = record {
   done = kept.done;
   ascends = kept.ascends;
   runs = kept.runs;
+  since = kept.since;
 }
 
 -- ---- runs

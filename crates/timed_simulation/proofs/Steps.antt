@@ -106,6 +106,26 @@ module _ (w : World) (m : ℕ) (fits : m ≤ last_moment) (xs : List TimedLink) 
 
 -- ---- routers
 
+-- of a router that releases a message nothing more is due
+pub still_due : (r : Router) → is_due (router_releasing r) ≡ true → is_due r ≡ true
+still_due r due = by_cause (or_cases (nat_lt 0 (length (changed_rows r.table))) (nat_lt ((r.gate).ripe - 1) (length (drop 1 (r.gate).held))) due)
+  where
+    more : (held : List Held) → nat_lt ((r.gate).ripe - 1) (length (drop 1 held)) ≡ true → nat_lt (r.gate).ripe (length held) ≡ true
+    more [] lt = (let less : (r.gate).ripe - 1 < 0 = ltb-true ((r.gate).ripe - 1) 0 lt in absurd (omega (arith, less)))
+    more (h ∷ hs) lt = (let less : (r.gate).ripe - 1 < length hs = ltb-true ((r.gate).ripe - 1) (length hs) lt in lt-ltb (r.gate).ripe (length (h ∷ hs)) (omega (arith, less)))
+
+    or_left : (b c : Bool) → b ≡ true → (b || c) ≡ true
+    or_left true c is = refl
+    or_left false c is = absurd (false≢true is)
+
+    or_right : (b c : Bool) → c ≡ true → (b || c) ≡ true
+    or_right true c is = refl
+    or_right false c is = is
+
+    by_cause : (nat_lt 0 (length (changed_rows r.table)) ≡ true) ⊎ (nat_lt ((r.gate).ripe - 1) (length (drop 1 (r.gate).held)) ≡ true) → is_due r ≡ true
+    by_cause (inl rows) = or_left (nat_lt 0 (length (changed_rows r.table))) (nat_lt (r.gate).ripe (length (r.gate).held)) rows
+    by_cause (inr held) = or_right (nat_lt 0 (length (changed_rows r.table))) (nat_lt (r.gate).ripe (length (r.gate).held)) (more (r.gate).held held)
+
 module _ (w : World) (m : ℕ) (fits : m ≤ last_moment) (xs : List RouterTime) (T : AreTimelyRouters m w.routers xs) where
   -- a router is changed, which has something to publish only if it had before
   changed_due : (i : ℕ) (f : Router → Router) → ((r : Router) → slice_get w.routers i ≡ Some r → is_due (f r) ≡ true → is_due r ≡ true) → AreTimelyRouters m (changed_at i f w.routers) xs
@@ -138,26 +158,6 @@ module _ (w : World) (m : ℕ) (fits : m ≤ last_moment) (xs : List RouterTime)
       by_due : (b : Bool) → is_due_at w i ≡ b → AreTimelyRouters m (changed_at i f w.routers) (routers_after m (if b then None else Some i) xs)
       by_due true due = changed_due i f (λ r at _. sym (ap (λ (o : Option Router). option_map_or is_due o false) at) ∙ due)
       by_due false _ = changed_now i f
-
-  -- of a router that releases a message nothing more is due
-  still_due : (r : Router) → is_due (router_releasing r) ≡ true → is_due r ≡ true
-  still_due r due = by_cause (or_cases (nat_lt 0 (length (changed_rows r.table))) (nat_lt ((r.gate).ripe - 1) (length (drop 1 (r.gate).held))) due)
-    where
-      more : (held : List Held) → nat_lt ((r.gate).ripe - 1) (length (drop 1 held)) ≡ true → nat_lt (r.gate).ripe (length held) ≡ true
-      more [] lt = (let less : (r.gate).ripe - 1 < 0 = ltb-true ((r.gate).ripe - 1) 0 lt in absurd (omega (arith, less)))
-      more (h ∷ hs) lt = (let less : (r.gate).ripe - 1 < length hs = ltb-true ((r.gate).ripe - 1) (length hs) lt in lt-ltb (r.gate).ripe (length (h ∷ hs)) (omega (arith, less)))
-
-      or_left : (b c : Bool) → b ≡ true → (b || c) ≡ true
-      or_left true c is = refl
-      or_left false c is = absurd (false≢true is)
-
-      or_right : (b c : Bool) → c ≡ true → (b || c) ≡ true
-      or_right true c is = refl
-      or_right false c is = is
-
-      by_cause : (nat_lt 0 (length (changed_rows r.table)) ≡ true) ⊎ (nat_lt ((r.gate).ripe - 1) (length (drop 1 (r.gate).held)) ≡ true) → is_due r ≡ true
-      by_cause (inl rows) = or_left (nat_lt 0 (length (changed_rows r.table))) (nat_lt (r.gate).ripe (length (r.gate).held)) rows
-      by_cause (inr held) = or_right (nat_lt 0 (length (changed_rows r.table))) (nat_lt (r.gate).ripe (length (r.gate).held)) (more (r.gate).held held)
 
   pub routers_next : (s : Step) → Lawful w s → AreTimelyRouters m (next w s).routers (routers_after m (begins_at w s) xs)
   routers_next (LinkUp l) L = T

@@ -1,5 +1,5 @@
 -- What is left to do and when it is due, whichever of it is first; and that nothing of it is late.
-use Rattle.std.specs.Prelude.{ℕ, ◌≡◌, ◌≤◌, ◌⊎◌, true, MatchBool, List, [], ◌∷◌, map, length, Some, slice_get}
+use Rattle.std.specs.Prelude.{ℕ, ◌≡◌, ◌≤◌, ◌<◌, ◌⊎◌, true, MatchBool, List, [], ◌∷◌, map, length, Some, slice_get}
 use Rattle.network_model.specs.declared.step.Step.{Step}
 use Rattle.network_model.specs.declared.step.Step.TheVariants.{LinkUp, LinkDown, SetCost, Deliver, Publish, Release, Attach, Detach}
 use Rattle.network_model.specs.declared.item.Item.{Item}
@@ -78,6 +78,14 @@ IsDue t e = MatchBool e.given (IsChange t e.moment e.step) (IsOwnDue t e.moment 
 -- nothing that is left to do is due before this event
 abbrev pub IsFirst : Timed → Event → Type 0
 IsFirst t e = (d : Event) → IsDue t d → e.moment ≤ d.moment
+
+-- nothing at all is left to do
+abbrev pub NothingIsDue : Timed → Type 0
+NothingIsDue t = (d : Event) → IsDue t d → ⊥
+
+-- nothing that is left to do is due up to this moment
+abbrev pub IsDoneUntil : ℕ → Timed → Type 0
+IsDoneUntil moment t = (d : Event) → IsDue t d → moment < d.moment
 
 -- nothing is late: the clock has passed nothing that is left to do
 abbrev pub NothingIsLate : Timed → Type 0

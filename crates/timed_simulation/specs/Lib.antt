@@ -2,4 +2,5 @@ pub mod Links
 pub mod Timed
 pub mod Events
 pub mod Due
+pub mod Since
 pub mod Runs

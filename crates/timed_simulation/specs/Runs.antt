@@ -1,5 +1,5 @@
 -- Lists of events, done in the order of their moments.
-use Rattle.std.specs.Prelude.{◌≡◌, ℕ, ◌≤◌, ◌<◌, ◌⊎◌, true, false, List, [], ◌∷◌, map, length, Some, Result, Err, MatchOption, IsOkUnless, MatchBool, nat_lt}
+use Rattle.std.specs.Prelude.{◌≡◌, ℕ, ◌≤◌, ◌<◌, ◌⊎◌, true, false, List, [], ◌∷◌, map, length, Some, slice_get, Result, Err, IsOkUnless, MatchBool, nat_lt}
 use Rattle.network_model.specs.declared.step.Step.{Step}
 use Rattle.network_model.specs.declared.step.Refusal.{Refusal}
 use Rattle.network_model.specs.World.{opening}
@@ -9,12 +9,14 @@ use Rattle.network_model.specs.Run.{Runs}
 use Rattle.network_model.specs.Turns.{is_settled}
 use Rattle.simulation.specs.Simulation.{simulation_refusal}
 use Rattle.timed_simulation.specs.declared.events.Event.{Event}
+use Rattle.timed_simulation.specs.declared.events.RouterTime.{RouterTime}
 use Rattle.timed_simulation.specs.declared.fault.TimeFault.{TimeFault}
 use Rattle.timed_simulation.specs.declared.fault.TimeFault.TheVariants.{PastMoment, TimeSpent, Refused}
 use Rattle.timed_simulation.specs.Links.{last_moment}
-use Rattle.timed_simulation.specs.Timed.{Timed, after_event, after_events, world_of}
+use Rattle.timed_simulation.specs.Timed.{Timed, after_event, after_events, is_due_at, world_of}
 use Rattle.timed_simulation.specs.Events.{next_event}
 use Rattle.timed_simulation.specs.Due.{IsDue, IsFirst, IsOnTime}
+use Rattle.timed_simulation.specs.Since.{HoldsSince}
 
 abbrev pub steps_of : List Event → List Step
 steps_of es = map (λ e. e.step) es
@@ -46,19 +48,16 @@ pub record IsTimedRun (old new : Timed) (done : ℕ) : Type 0 where
   pub runs : Runs (world_of old) (steps_of events) (world_of new)
   pub after : new ≡ after_events old events
 
--- what always holds: some events whose moments never decrease, and none of which is after the present moment, lead by lawful steps from the opening of the network, which has no fault, to its world; and what is left to do is on time
+-- what always holds: some events whose moments never decrease, and none of which is after the present moment, lead by lawful steps from the opening of the network, which has no fault, to its world; what is left to do is on time, and since when a router has something to publish is written down right
 pub record IsTimed (t : Timed) : Type 0 where
   pub valid : IsNetwork (t.simulation).network
   pub on_time : IsOnTime (world_of t) t.clock t.links t.routers t.changes
   pub done : List Event
   pub ascends : Ascends 0 done t.clock
   pub runs : Runs (opening (t.simulation).network) (steps_of done) (world_of t)
+  pub since : (i : ℕ) (x : RouterTime) → slice_get t.routers i ≡ Some x → is_due_at (world_of t) i ≡ true → HoldsSince (λ w. is_due_at w i) x.since (opening (t.simulation).network) done
 
--- nothing is left to do up to this moment
-abbrev pub IsDoneUntil : ℕ → Timed → Type 0
-IsDoneUntil moment t = MatchOption (next_event t) (Unit {0}) (λ e. moment < e.moment)
-
--- nothing at all is left to do
+-- no change is left, and the network is settled
 abbrev pub IsAtRest : Timed → Type 0
 IsAtRest t = (t.changes ≡ []) × (is_settled (world_of t) ≡ true)
 

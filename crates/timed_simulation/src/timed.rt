@@ -1,14 +1,14 @@
 //! The timed simulation: a simulation, and when what is left to do is due.
 
-ghost use Rattle.std.specs.Prelude.{ℕ, Err, IsTrue, ◌≡◌, ◌≤◌, ◌<◌, ◌+◌, ◌↔◌, ◌⊎◌, false, None, Some, drop, length, slice_get, IfOk, IfErr, IfSome, OnOk, OnErr, MatchOption};
+ghost use Rattle.std.specs.Prelude.{ℕ, Err, IsTrue, ◌≡◌, ◌≤◌, ◌<◌, ◌+◌, ◌↔◌, ◌⊎◌, false, None, Some, drop, length, slice_get, IfOk, IfErr, IfSome, IfNone, OnOk, OnErr, MatchOption};
 ghost use Rattle.network_model.specs.World.{degree_of, place_at};
 ghost use Rattle.coming_to_rest.specs.Worlds.{is_own};
 ghost use Rattle.simulation.specs.Headline as headline;
 ghost use Rattle.simulation.specs.Simulation as simulations;
 ghost use Rattle.timed_simulation.specs.Timed.{after_event, opening_timed, with_change, world_of};
 ghost use Rattle.timed_simulation.specs.Events.{arrival_event, change_event, event_now, home_event, next_event, own_event, publication_event, publication_moment, router_event, waiting_event};
-ghost use Rattle.timed_simulation.specs.Due.{IsDue, IsFirst, NothingIsLate, NothingIsLeftOut};
-ghost use Rattle.timed_simulation.specs.Runs.{IsAtRest, IsDoneUntil, IsGivenOr, IsNext, IsStoppedAt, IsStoppedFor, IsTimed, IsTimedRun};
+ghost use Rattle.timed_simulation.specs.Due.{IsDoneUntil, IsDue, IsFirst, NothingIsDue, NothingIsLate, NothingIsLeftOut};
+ghost use Rattle.timed_simulation.specs.Runs.{IsAtRest, IsGivenOr, IsNext, IsStoppedAt, IsStoppedFor, IsTimed, IsTimedRun};
 
 use crate::events::{
     Change, Event, RouterTime, begins_at, insert_change, note_begun, opening_routers, sooner,
@@ -113,7 +113,7 @@ impl<A: SmallAllocator> TimedSimulation<A> {
     /// Whether nothing is left to do: each change that was given is done, and the network is settled.
     pub fn is_at_rest(&self) -> bool
         ensures rest { IsTrue result ↔ IsAtRest self.now }
-        ensures none { next_event self.now ≡ None → IsTrue result }
+        ensures nothing { IsTrue result ↔ NothingIsDue self.now }
         ensures least_cost { IsTrue result → headline.HasBestRows (self.now).simulation }
     {
         self.changes.is_empty() && self.simulation.is_settled()
@@ -234,11 +234,13 @@ impl<A: SmallAllocator> TimedSimulation<A> {
 
     /// What is done next, if anything is left to do: the soonest of the changes that were given, and of what
     /// the routers have to do. Of one moment changes come first, as they were given, and then routers by
-    /// number. It is due just then, and nothing that is left to do is due sooner.
+    /// number. It is due just then, and nothing that is left to do is due sooner. If there is none, nothing
+    /// is left to do.
     pub fn next_event(&self) -> Option<Event>
         ensures next { result ≡ next_event self.now }
         ensures due { IfSome result (IsDue self.now) }
         ensures first { IfSome result (IsFirst self.now) }
+        ensures none { IfNone result (NothingIsDue self.now) }
     {
         let mut first = None;
         for place in 0..self.simulation.network().routers() {

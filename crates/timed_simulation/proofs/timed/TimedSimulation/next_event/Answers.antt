@@ -4,7 +4,7 @@ use Rattle.simulation.proofs.Idle.{router_count}
 use Rattle.timed_simulation.specs.Timed.{world_of}
 use Rattle.timed_simulation.specs.Events.{change_event, router_event, sooner, soonest}
 use Rattle.timed_simulation.specs.Runs.{steps_of, IsTimed}
-use Rattle.timed_simulation.proofs.Runs.{due_if, first_if}
+use Rattle.timed_simulation.proofs.Runs.{due_if, first_if, nothing_if}
 use Rattle.timed_simulation.proofs.timed.TimedSimulation.next_event.Goals as goal
 
 pub router_event-requires : goal.router_event-requires
@@ -32,3 +32,6 @@ returns-clause-due g c = due_if c.args.self.now (subst IsTimed c.self.view_is c.
 
 pub returns-clause-first : goal.returns-clause-first
 returns-clause-first g c = first_if c.args.self.now (subst IsTimed c.self.view_is c.self.invariant) c.sooner.result (returns-clause-next g c)
+
+pub returns-clause-none : goal.returns-clause-none
+returns-clause-none g c = nothing_if c.args.self.now (subst IsTimed c.self.view_is c.self.invariant) c.sooner.result (returns-clause-next g c)
