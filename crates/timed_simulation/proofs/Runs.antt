@@ -106,11 +106,12 @@ run_more old mid new done e run is made = subst (λ u. IsTimedRun old u (done + 
 
 -- ---- the parts of an opening
 
-pub opened_parts : (n : Network) (delays : List LinkDelays) (waits : List ℕ) (s : Simulation) (ks : List TimedLink) (rs : List RouterTime) → s ≡ opening_simulation n → ks ≡ map opening_link delays → rs ≡ map opening_router waits → timed_of s 0 ks rs [] ≡ opening_timed n delays waits
-opened_parts n delays waits s ks rs simulation links routers =
-    ap (λ x. timed_of x 0 ks rs []) simulation
-    ∙ ap (λ x. timed_of (opening_simulation n) 0 x rs []) links
-    ∙ ap (λ x. timed_of (opening_simulation n) 0 (map opening_link delays) x []) routers
+pub opened_parts : (n : Network) (delays : List LinkDelays) (waits : List ℕ) (s : Simulation) (ks : List TimedLink) (rs : List RouterTime) (cs : List Change) → s ≡ opening_simulation n → ks ≡ map opening_link delays → rs ≡ map opening_router waits → cs ≡ [] → timed_of s 0 ks rs cs ≡ opening_timed n delays waits
+opened_parts n delays waits s ks rs cs simulation links routers changes =
+    ap (λ x. timed_of x 0 ks rs cs) simulation
+    ∙ ap (λ x. timed_of (opening_simulation n) 0 x rs cs) links
+    ∙ ap (λ x. timed_of (opening_simulation n) 0 (map opening_link delays) x cs) routers
+    ∙ ap (timed_of (opening_simulation n) 0 (map opening_link delays) (map opening_router waits)) changes
 
 -- ---- the parts of an event
 
