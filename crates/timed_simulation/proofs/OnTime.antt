@@ -1,6 +1,6 @@
 -- Each event leaves the moments of what is left to do on time.
-use Rattle.std.proofs.Common.{refl, sym, ap, subst, ◌∙◌, arith, inl, inr, ◌≡◌, ℕ, ◌+◌, ◌<◌, ◌≤◌, Bool, true, false, if◌then◌else◌, List, [], ◌∷◌, map, drop, length, Option, Some, None, option_map, option_and_then, slice_get}
-use Rattle.packet_loops.proofs.Common.{None_not_Some, Some_injective, element_there, slice_get_within, slice_get-map, length-map, length-map-range_with_len, Prefix, Item, Place, End, A, B, Link, LinkSpec, Network, Router, Side, World, opening, opening_link, opening_router_of, place_at, place_of, side, front_at, IsNetwork, Lawful, Runs, next}
+use Rattle.std.proofs.Common.{refl, sym, ap, subst, ◌∙◌, arith, inl, ◌≡◌, ℕ, ◌<◌, ◌≤◌, Bool, true, false, if◌then◌else◌, List, [], map, drop, length, Option, Some, option_map, option_and_then, slice_get}
+use Rattle.packet_loops.proofs.Common.{element_there, slice_get-map, length-map, length-map-range_with_len, Prefix, Item, Place, End, A, B, Link, LinkSpec, Network, Side, World, opening, opening_link, opening_router_of, place_at, place_of, side, front_at, IsNetwork, Lawful, Runs, next}
 use Rattle.network_model.specs.declared.step.Step.{Step}
 use Rattle.network_model.specs.declared.step.Step.TheVariants.{Deliver, Publish}
 use Rattle.packet_loops.proofs.WorldLaws.{Runs-shape}
@@ -12,15 +12,14 @@ use Rattle.timed_simulation.specs.declared.links.Arrival.{Arrival}
 use Rattle.timed_simulation.specs.declared.links.LinkDelays.{LinkDelays}
 use Rattle.timed_simulation.specs.declared.events.Change.{Change}
 use Rattle.timed_simulation.specs.declared.events.Event.{Event}
-use Rattle.timed_simulation.specs.declared.events.RouterTime.{RouterTime}
 use Rattle.timed_simulation.specs.Links.{TimedLink, last_moment, later, links_after, motion_of, towards, opening_link as opening_times}
 use Rattle.timed_simulation.specs.Timed.{Timed, begins_at, opening_router as opening_time, routers_after, world_of}
-use Rattle.timed_simulation.specs.Events.{change_event, next_event}
+use Rattle.timed_simulation.specs.Events.{next_event}
 use Rattle.timed_simulation.specs.Due.{AreTimelyLinks, AreTimelyRouters, IsFirst, IsOnTime, IsTimelyLink, RisesFrom}
 use Rattle.timed_simulation.proofs.Rising.{rises_later, rises_tail}
 use Rattle.timed_simulation.proofs.Timely.{item_of, later_timely, mapped_from}
 use Rattle.timed_simulation.proofs.Steps.{links_next, routers_next}
-use Rattle.timed_simulation.proofs.First.{next_due, next_first}
+use Rattle.timed_simulation.proofs.First.{next_first}
 
 -- ---- the opening
 

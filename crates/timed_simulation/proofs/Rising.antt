@@ -1,5 +1,5 @@
 -- Moments that never decrease, in lists to which something is added or from which something is taken.
-use Rattle.std.proofs.Common.{refl, sym, subst, arith, ◌≡◌, ◌∙◌, ℕ, zero, suc, ◌≤◌, ◌<◌, ◌+◌, Bool, true, false, not, nat_lt, ltb-true, ltb-false, cond, List, [], ◌∷◌, ◌++◌, drop, filter, length, insert, position, unwrap_or, Some, None, slice_get}
+use Rattle.std.proofs.Common.{refl, sym, subst, arith, ◌≡◌, ℕ, zero, suc, ◌≤◌, ◌<◌, ◌+◌, Bool, true, false, not, nat_lt, ltb-true, ltb-false, cond, List, [], ◌∷◌, ◌++◌, drop, filter, length, insert, unwrap_or, Some, None, slice_get}
 use Rattle.std.specs.List.{prefix_len}
 use Rattle.packet_loops.proofs.Common.{None_not_Some, Some_injective}
 use Rattle.timed_simulation.specs.declared.events.Change.{Change}

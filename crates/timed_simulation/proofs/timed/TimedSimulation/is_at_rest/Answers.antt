@@ -1,4 +1,4 @@
-use Rattle.std.proofs.Common.{◌≡◌, ◌∙◌, sym, ap, subst, eq-eqb, eqb-true, length, true, List, []}
+use Rattle.std.proofs.Common.{◌≡◌, ◌∙◌, sym, ap, subst, eq-eqb, eqb-true, length, List, []}
 use Rattle.std.proofs.lemmas.List.{nil_from_length}
 use Rattle.packet_loops.proofs.Common.{false≢true, is_settled}
 use Rattle.timed_simulation.specs.declared.events.Change.{Change}
