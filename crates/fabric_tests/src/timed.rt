@@ -21,6 +21,7 @@ const MOST: u64 = 4096;
 const ADDR: u32 = 0x0A00_0001;
 
 const UP: Step = Step::LinkUp { link: 0 };
+
 const DOWN: Step = Step::LinkDown { link: 0 };
 
 // The two routers and their link, counted.
@@ -108,9 +109,20 @@ fn what_is_on_its_way_is_lost(rt: HostRuntime) {
     timed.at(3, UP).expect(&rt, "memory");
     let ran = timed.run_until(19, usize::MAX);
     assert_eq!(rt; (ran.done, ran.fault, timed.now()), (5, None, 18));
-    are_done(&rt, &mut timed, &[(20, DOWN), (25, deliver(0)), (27, deliver(1))]);
+    are_done(
+        &rt,
+        &mut timed,
+        &[(20, DOWN), (25, deliver(0)), (27, deliver(1))],
+    );
     assert!(rt; timed.is_at_rest());
-    assert_eq!(rt; timed.simulation().lookup(1, ADDR).expect(&rt, "router").matched, None);
+    assert_eq!(rt;
+        timed
+            .simulation()
+            .lookup(1, ADDR)
+            .expect(&rt, "router")
+            .matched,
+        None
+    );
 }
 
 // A change for a past moment is not taken. One whose step is refused stays the first, until it is withdrawn.
@@ -122,7 +134,10 @@ fn refused_changes(rt: HostRuntime) {
     timed.at(4, UP).expect(&rt, "memory");
     timed.at(4, DOWN).expect(&rt, "memory");
     let ran = timed.run_to_rest(usize::MAX);
-    assert_eq!(rt; (ran.done, ran.fault), (1, Some(TimeFault::Refused(Refusal::AlreadyUp))));
+    assert_eq!(rt;
+        (ran.done, ran.fault),
+        (1, Some(TimeFault::Refused(Refusal::AlreadyUp)))
+    );
     assert_eq!(rt; timed.at(2, DOWN), Err(TimeFault::PastMoment));
     assert_eq!(rt; timed.changes().len(), 2);
     let withdrawn = timed.withdraw().expect(&rt, "a change");
@@ -140,14 +155,16 @@ fn time_is_spent(rt: HostRuntime) {
         to_a: u64::MAX,
         to_b: 1,
     }];
-    let mut timed = TimedSimulation::open(alloc, counted(&rt, alloc), &delays, &[0, 0])
-        .expect(&rt, "memory");
+    let mut timed = TimedSimulation::open(alloc, counted(&rt, alloc), &delays, &[0, 0]).expect(
+        &rt, "memory",
+    );
     timed.at(7, UP).expect(&rt, "memory");
     let ran = timed.run_to_rest(usize::MAX);
     assert_eq!(rt; ran.fault, Some(TimeFault::TimeSpent));
     assert_eq!(rt; (ran.done, timed.now()), (2, 8));
-    let told = format!(in alloc; "{} {}", TimeFault::PastMoment, TimeFault::TimeSpent)
-        .expect(&rt, "memory");
+    let told = format!(in alloc; "{} {}", TimeFault::PastMoment, TimeFault::TimeSpent).expect(
+        &rt, "memory",
+    );
     assert!(rt; told.as_str() == "51 PastMoment 52 TimeSpent");
 }
 
@@ -164,7 +181,11 @@ fn tell<A: SmallAllocator>(out: &mut String, timed: &TimedSimulation<A>) -> fmt:
     Ok(())
 }
 
-fn report_of<A: SmallAllocator>(rt: &impl Abort, alloc: Global, timed: &TimedSimulation<A>) -> String {
+fn report_of<A: SmallAllocator>(
+    rt: &impl Abort,
+    alloc: Global,
+    timed: &TimedSimulation<A>,
+) -> String {
     let mut report = String::new(alloc);
     tell(&mut report, timed).expect(rt, "memory");
     report
@@ -185,7 +206,10 @@ fn do_refused(
         if ran.fault == None {
             return;
         }
-        assert_eq!(rt; (ran.done, ran.fault), (0, Some(TimeFault::Refused(Refusal::NoMemory))));
+        assert_eq!(rt;
+            (ran.done, ran.fault),
+            (0, Some(TimeFault::Refused(Refusal::NoMemory)))
+        );
         assert!(rt; report_of(rt, alloc, timed) == before);
     }
     panic!(rt; "refused for ever");
@@ -198,14 +222,14 @@ fn give_refused(
     memory: &Refusing<Global>,
     timed: &mut TimedSimulation<&Refusing<Global>>,
     moment: u64,
-    change: Step,
+    change: &Step,
 )
-    requires { is_own change ≡ false }
+    requires { is_own change.now ≡ false }
 {
     let before = report_of(rt, alloc, timed);
     for nth in 1..MOST {
         memory.refuse(Refused::From(nth));
-        let end = timed.at(moment, change);
+        let end = timed.at(moment, *change);
         let _was_met = memory.was_met(rt, end.is_err());
         if end.is_ok() {
             return;
@@ -233,8 +257,8 @@ fn refused_allocations(rt: HostRuntime) {
     }
     assert!(rt; memory.met() > 3);
     let mut timed = opened(&rt, alloc, &memory);
-    give_refused(&rt, alloc, &memory, &mut timed, 3, UP);
-    give_refused(&rt, alloc, &memory, &mut timed, 60, DOWN);
+    give_refused(&rt, alloc, &memory, &mut timed, 3, &UP);
+    give_refused(&rt, alloc, &memory, &mut timed, 60, &DOWN);
     for _event in 0..12 {
         do_refused(&rt, alloc, &memory, &mut timed);
     }

@@ -127,8 +127,11 @@ module _ (t : Timed) (m : ℕ) (from : t.clock ≤ m) where
   told : (i q : ℕ) → IsToldAt t m i q → Before m (next_event t)
   told i q D =
       let (degree, _) = port_of_notice (world_of t) i q D.notice D.waits in
-      of_router i D.router D.at (of_waiting i (of_home i (event_now t (Deliver i q),
-      ap (option_and_then (λ (d : ℕ). option_map (λ (n : Notice). event_now t (Deliver i d)) (notice_at (world_of t) i d))) degree ∙ ap (option_map (λ (n : Notice). event_now t (Deliver i q))) D.waits, from)))
+      of_router i D.router D.at (of_waiting i (of_home i (
+        event_now t (Deliver i q),
+        ap (option_and_then (λ (d : ℕ). option_map (λ (n : Notice). event_now t (Deliver i d)) (notice_at (world_of t) i d))) degree ∙ ap (option_map (λ (n : Notice). event_now t (Deliver i q))) D.waits,
+        from,
+      )))
 
   pub own_before : (s : Step) → IsOwnDue t m s → Before m (next_event t)
   own_before (Release i) D = released i D
