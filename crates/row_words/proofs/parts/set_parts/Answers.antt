@@ -1,0 +1,34 @@
+use Rattle.std.proofs.Common.{◌≡◌, ◌+◌, ◌<◌, ◌^◌, ◌++◌, ◌∙◌, List, length, map, arith, ap, sym, subst}
+use Rattle.ipv4_prefix.specs.Prefix.{Prefix}
+use Rattle.network_model.specs.Publication.{Image, with_rows}
+use Rattle.network_model.specs.declared.route.Entry.{Entry}
+use Rattle.row_words.specs.Rows.{marked, numbered, AreKept}
+use Rattle.row_words.specs.declared.cells.Marked.{Marked}
+use Rattle.row_words.proofs.Marks.{kept_set, marked_set}
+use Rattle.row_words.proofs.parts.set_parts.Goals as goal
+
+pub returns-clause-kept : goal.returns-clause-kept
+returns-clause-kept g c =
+    let cells = c.args.cells.now.items in
+    let rows = c.args.rows.now in
+    let table = c.args.image.now.rows in
+    let count : c.len-count.result ≡ length cells = omega (arith, c.len-count.ensures, c.args.cells.now.ok.0) in
+    let slots = c.deref.ensures.value ∙ c.in_ok-slots.ensures ∙ ap (λ n. numbered n rows) count in
+    let set : c.set_rows.new.image.rows ≡ with_rows (numbered (length cells) rows) table =
+    ap (λ (i : Image). i.rows) c.in_default.ensures.ok ∙ ap (λ ss. with_rows ss table) slots in
+    let room : length cells + length rows < 2 ^ 24 = omega (arith, count, c.if-rows-count.false, c.requires.few) in
+    subst (AreKept c.set_rows.new.image.rows) (sym c.in_ok-add_cells.ensures.ok)
+    (subst (λ t. AreKept t (cells ++ map (λ r. r.1) rows)) (sym set) (kept_set cells rows table c.requires room))
+
+pub returns-clause-ok : goal.returns-clause-ok
+returns-clause-ok g c =
+    let cells = c.args.cells.now.items in
+    let rows = c.args.rows.now in
+    let table = c.args.image.now.rows in
+    let count : c.len-count.result ≡ length cells = omega (arith, c.len-count.ensures, c.args.cells.now.ok.0) in
+    let slots = c.deref.ensures.value ∙ c.in_ok-slots.ensures ∙ ap (λ n. numbered n rows) count in
+    let set : c.set_rows.new.image.rows ≡ with_rows (numbered (length cells) rows) table =
+    ap (λ (i : Image). i.rows) c.in_default.ensures.ok ∙ ap (λ ss. with_rows ss table) slots in
+    ap (λ xs. marked xs c.set_rows.new.image.rows) c.in_ok-add_cells.ensures.ok
+    ∙ ap (marked (cells ++ map (λ r. r.1) rows)) set
+    ∙ marked_set cells rows table c.requires
