@@ -6,8 +6,8 @@ ghost use Rattle.row_words.specs.Rows.{marked, marked_answer, with_marked, witho
 
 use crate::cells::Marked;
 use crate::parts::{
-    MOST_CELLS, Parts, anew, answer_row, answer_word, answer_words, first_cells, first_row, remove_part,
-    set_parts,
+    MOST_CELLS, Parts, anew, answer_row, answer_word, answer_words, first_cells, first_row,
+    remove_part, set_parts,
 };
 use array_bitmap::Image;
 use array_bitmap::parts::{FirstBits, copy, set_generation, with};

@@ -33,6 +33,3 @@ mod parts;
 pub use cells::{Marked, NO_WORD};
 pub use image::WordImage;
 pub use network_model::{Entry, NoMemory, Prefix};
-
-#[cfg(test)]
-mod tests;

@@ -55,7 +55,11 @@ pub(crate) fn set_parts<A: Allocator + Copy>(
 }
 
 /// Takes the row of a prefix out, and says whether there was one.
-pub(crate) fn remove_part<A: Allocator>(image: &mut Image<A>, cells: &[Marked], prefix: Prefix) -> bool
+pub(crate) fn remove_part<A: Allocator>(
+    image: &mut Image<A>,
+    cells: &[Marked],
+    prefix: Prefix,
+) -> bool
     requires { AreKept image.old.rows cells.now }
     ensures kept { AreKept image.new.rows cells.now }
     ensures rows { marked cells.now image.new.rows
