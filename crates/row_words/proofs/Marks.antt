@@ -251,6 +251,12 @@ pub words_found : (cells : List Marked) (rows : List (Prefix × Entry)) → AreK
 words_found cells rows kept [] = refl
 words_found cells rows kept (addr ∷ addrs) = λ i. word_found cells addr rows kept.few kept.none kept.slots i ∷ words_found cells rows kept addrs i
 
+-- their rows stand for those of the table
+pub rows_found : (cells : List Marked) (rows : List (Prefix × Entry)) (addrs : List ℕ)
+    → map (option_map (λ r. (r.0, mark_in cells r.1))) (map (λ addr. longest_match addr rows) addrs) ≡ map (λ addr. longest_match addr (marked cells rows)) addrs
+rows_found cells rows [] = refl
+rows_found cells rows (addr ∷ addrs) = λ i. sym (longest_marked cells addr rows) i ∷ rows_found cells rows addrs i
+
 -- ---- rows that are listed
 
 -- where there is no first one, there is none

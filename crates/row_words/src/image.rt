@@ -6,8 +6,8 @@ ghost use Rattle.row_words.specs.Rows.{marked, marked_answer, with_marked, witho
 
 use crate::cells::Marked;
 use crate::parts::{
-    MOST_CELLS, Parts, anew, answer_row, answer_word, answer_words, first_cells, first_row,
-    remove_part, set_parts,
+    MOST_CELLS, Parts, anew, answer_row, answer_rows, answer_word, answer_words, first_cells,
+    first_row, remove_part, set_parts,
 };
 use array_bitmap::Image;
 use array_bitmap::parts::{FirstBits, copy, set_generation, with};
@@ -147,6 +147,14 @@ impl<A: Allocator> WordImage<A> {
         ensures { result ≡ marked_answer self.now addr }
     {
         answer_row(&self.image, &self.cells, addr)
+    }
+
+    /// As `lookup` for each of the addresses, which go down side by side, 32 at a time. It takes no memory.
+    pub fn lookup_all(&self, addrs: &[u32], answers: &mut [Option<(Prefix, Marked)>])
+        requires { length answers.old ≡ length addrs.now }
+        ensures { answers.new ≡ map (marked_answer self.now) addrs.now }
+    {
+        answer_rows(&self.image, &self.cells, addrs, answers);
     }
 
     /// The word of what `lookup` answers; [`crate::NO_WORD`] if no row covers the address.

@@ -1,6 +1,6 @@
 //! The image of numbers and the cells, changed together.
 
-ghost use Rattle.std.specs.Prelude.{◌≡◌, ◌+◌, ◌^◌, ◌<◌, ◌∷◌, [], IfOk, OnErr, OnOk, length, map};
+ghost use Rattle.std.specs.Prelude.{◌≡◌, ◌+◌, ◌^◌, ◌<◌, ◌≤◌, ◌∷◌, [], IfOk, OnErr, OnOk, length, map};
 ghost use Rattle.std.specs.Option.{option_map};
 ghost use Rattle.array_bitmap.specs.Cursor.{first_row_from};
 ghost use Rattle.ipv4_prefix.specs.LongestMatch.{longest_match};
@@ -11,9 +11,13 @@ use array_bitmap::parts::{FirstBits, remove_row, set_generation, set_rows, with}
 use array_bitmap::{Image, next_prefix};
 use network_model::{Entry, NoMemory, Prefix};
 use std::alloc::Allocator;
+use std::cmp::min;
 
 /// How many cells there may be: their numbers have 24 bits.
 pub(crate) const MOST_CELLS: usize = 0x100_0000;
+
+/// How many rows are read at once before their cells are.
+const BURST: usize = 32;
 
 /// The cells of no rows, with room for those of so many.
 pub(crate) fn first_cells<A: Allocator>(alloc: A, count: usize) -> Result<Vec<Marked, A>, NoMemory>
@@ -143,6 +147,58 @@ pub(crate) fn answer_row<A: Allocator>(
     ensures { result ≡ longest_match addr (marked cells.now image.now.rows) }
 {
     mark_row(cells, image.lookup(addr))
+}
+
+/// The rows for which rows of the image stand.
+fn mark_rows(
+    cells: &[Marked],
+    found: &[Option<(Prefix, Entry)>],
+    answers: &mut [Option<(Prefix, Marked)>],
+)
+    requires { length answers.old ≡ length found.now }
+    ensures { answers.new
+        ≡ map (option_map (λ r. (r.0, mark_in cells.now r.1))) found.now }
+{
+    for k in 0..found.len() {
+        answers[k] = mark_row(cells, found[k]);
+    }
+}
+
+/// Answers at most 32 addresses by their rows.
+fn burst_rows<A: Allocator>(
+    image: &Image<A>,
+    cells: &[Marked],
+    addrs: &[u32],
+    answers: &mut [Option<(Prefix, Marked)>],
+)
+    requires few { length addrs.now ≤ 32 }
+    requires one_each { length answers.old ≡ length addrs.now }
+    ensures { answers.new
+        ≡ map (λ addr. longest_match addr (marked cells.now image.now.rows)) addrs.now }
+{
+    let mut room = [None; BURST];
+    let found = &mut room[..addrs.len()];
+    image.lookup_all(addrs, found);
+    mark_rows(cells, found, answers);
+}
+
+/// Answers addresses by their rows.
+pub(crate) fn answer_rows<A: Allocator>(
+    image: &Image<A>,
+    cells: &[Marked],
+    addrs: &[u32],
+    answers: &mut [Option<(Prefix, Marked)>],
+)
+    requires { length answers.old ≡ length addrs.now }
+    ensures { answers.new
+        ≡ map (λ addr. longest_match addr (marked cells.now image.now.rows)) addrs.now }
+{
+    let mut done = 0;
+    while done < addrs.len() {
+        let end = min(done + BURST, addrs.len());
+        burst_rows(image, cells, &addrs[done..end], &mut answers[done..end]);
+        done = end;
+    }
 }
 
 /// The first row at a prefix or after it.
