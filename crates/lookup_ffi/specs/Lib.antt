@@ -1,3 +1,5 @@
+pub mod Tables
+pub mod Kept
 pub mod Handles
 pub mod Faults
 pub mod Rows

@@ -1,6 +1,6 @@
 -- What handles of writers and readers hold, and what their calls can answer.
 use Rattle.std.specs.Prelude.{◌≡◌, ℕ, ◌⊎◌, ◌==◌, ◌≤◌, ◌<◌, Bool, true, false, Option, None, Some}
-use Rattle.network_model.specs.Publication.{Image}
+use Rattle.row_words.specs.Rows.{WordTable}
 use Rattle.c_interface.specs.Faults.{fault_number, IsDoneOrFull}
 use Rattle.c_interface.specs.Handles.{held}
 use Rattle.c_interface.specs.declared.fault.Fault.{Fault}
@@ -18,7 +18,7 @@ abbrev pub handle_reader : ReaderHandle → Option History
 handle_reader h = held h.holds h.value
 
 -- what the call answers that makes a writer, by the image, if there is one
-abbrev pub IsOpenStatus : Option Image → ℕ → ℕ → Type 0
+abbrev pub IsOpenStatus : Option WordTable → ℕ → ℕ → Type 0
 IsOpenStatus None readers status = status ≡ fault_number Empty
 IsOpenStatus (Some image) readers status = ((1024 < readers) × (status ≡ fault_number BadCount)) ⊎ ((readers ≤ 1024) × IsDoneOrFull status)
 

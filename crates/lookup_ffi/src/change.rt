@@ -1,13 +1,12 @@
 //! What a publication changes, as the writer keeps it for its second copy.
 
-ghost use Rattle.std.specs.Prelude.{◌≡◌, None, Some, IfErr, IfOk, IsOkUnless, OnErr, OnOk, map};
+ghost use Rattle.std.specs.Prelude.{◌≡◌, None, Some, IfErr, IfOk, IsOkUnless, OnErr, OnOk};
 ghost use Rattle.lookup_ffi.specs.Prefixes.{first_block_fault};
 
-use crate::patch::Patch;
+use crate::patch::{NewRows, Patch};
 use crate::prefixes::{Block, copy_blocks};
-use crate::rows::read_rows;
 use crate::shared::Shared;
-use c_interface::{Fault, Row};
+use c_interface::Fault;
 use std::alloc::Global;
 
 /// Rows to set, and prefixes whose rows are then taken out.
@@ -19,26 +18,23 @@ pub struct Change {
 }
 
 impl Change {
-    ghost use Rattle.c_interface.specs.Rows.{row_entry};
     ghost use Rattle.lookup_ffi.specs.Faults.{IsPatchFault};
     ghost use Rattle.lookup_ffi.specs.Histories.{followed};
-    ghost use Rattle.lookup_ffi.specs.Rows.{first_row_fault};
+    ghost use Rattle.lookup_ffi.specs.Images.{new_rows};
 
     /// The change of these rows and prefixes.
     pub fn of(
         alloc: Global,
         generation: u64,
-        rows: &[Row],
+        rows: NewRows,
         blocks: &[Block],
     ) -> Result<Change, Fault>
-        requires rows { first_row_fault rows.now ≡ None }
-        requires blocks { first_block_fault blocks.now ≡ None }
+        requires { first_block_fault blocks.now ≡ None }
         ensures generation { IfOk result (λ c. c.patch.generation ≡ generation) }
-        ensures rows { IfOk result (λ c. c.patch.rows.items ≡ map row_entry rows.now) }
+        ensures rows { IfOk result (λ c. new_rows c.patch.rows ≡ new_rows rows) }
         ensures blocks { IfOk result (λ c. c.blocks.items ≡ blocks.now) }
         ensures err { IsOkUnless result Fault.NoMemory }
     {
-        let rows = read_rows(alloc, rows)?;
         let blocks = copy_blocks(alloc, blocks)?;
         Ok(Change {
             patch: Patch { generation, rows },
@@ -52,6 +48,6 @@ impl Change {
         ensures unchanged { OnErr result (image.new ≡ image.old) }
         ensures err { IfErr result IsPatchFault }
     {
-        image.change(&self.patch, &self.blocks)
+        image.change(*self.blocks.allocator(), &self.patch, &self.blocks)
     }
 }

@@ -1,7 +1,7 @@
 //! What C holds of an image. No other module sees its pointer.
 
 ghost use Rattle.std.specs.Prelude.{◌≡◌, MatchOption, None, Some};
-ghost use Rattle.network_model.specs.Publication.{Image as Rows};
+ghost use Rattle.row_words.specs.Rows.{WordTable};
 
 use crate::shared::Shared;
 use std::alloc::Global;
@@ -16,7 +16,7 @@ pub struct ImageHandle {
     image: *mut u8,
     holds: bool,
     alloc: Global,
-    ghost value: { Rows },
+    ghost value: { WordTable },
 }
 
 impl Model for ImageHandle {

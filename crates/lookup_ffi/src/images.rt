@@ -1,27 +1,46 @@
 //! Boxed images, for handles.
 
-ghost use Rattle.std.specs.Prelude.{◌≡◌, None, IfOk, IsOkUnless, map};
+ghost use Rattle.std.specs.Prelude.{◌≡◌, None, IfOk, IsOkUnless, length};
 ghost use Rattle.lookup_ffi.specs.Images.{new_image};
-ghost use Rattle.c_interface.specs.Rows.{row_entry};
 ghost use Rattle.lookup_ffi.specs.Rows.{first_row_fault};
+ghost use Rattle.lookup_ffi.specs.Tables.{plain_rows, worded_rows};
 
+use crate::kept::Kept;
+use crate::patch::Patch;
+use crate::rows::worded_rows;
 use crate::shared::Shared;
-use array_bitmap::parts::{FirstBits, copy, set_row, with};
 use c_interface::{Fault, Row};
 use std::alloc::Global;
 
 /// An image of generation 0 of these rows, set in order.
 pub fn image_of_rows(alloc: Global, rows: &[Row]) -> Result<Box<Shared>, Fault>
     requires { first_row_fault rows.now ≡ None }
-    ensures ok { IfOk result (λ image. image.value ≡ new_image (map row_entry rows.now)) }
+    ensures ok { IfOk result (λ image. image.value ≡ new_image (plain_rows rows.now)) }
     ensures err { IsOkUnless result Fault.NoMemory }
 {
-    let mut image = with(alloc, FirstBits::for_rows(rows.len()))?;
+    let mut image = Kept::plain(alloc, rows.len())?;
     // One by one: room for all at once would be room for the longest way of each.
     for &row in rows {
         let (prefix, entry) = row.read()?;
-        set_row(&mut image, prefix, entry)?;
+        image.set_entry(alloc, prefix, entry)?;
     }
+    Ok(Box::new(alloc, Shared::new(alloc, image)?)?)
+}
+
+/// An image of generation 0 of these rows, each with a word, set in order.
+pub fn image_of_words(alloc: Global, rows: &[Row], words: &[u32]) -> Result<Box<Shared>, Fault>
+    requires rows { first_row_fault rows.now ≡ None }
+    requires count { length words.now ≡ length rows.now }
+    ensures ok { IfOk result (λ image. image.value ≡ new_image (worded_rows rows.now words.now)) }
+    ensures err { IsOkUnless result Fault.NoMemory }
+{
+    let mut image = Kept::with_words(alloc, rows.len())?;
+    let rows = worded_rows(alloc, rows, words)?;
+    let patch = Patch {
+        generation: 0,
+        rows,
+    };
+    patch.apply_to(&mut image, alloc)?;
     Ok(Box::new(alloc, Shared::new(alloc, image)?)?)
 }
 
@@ -38,6 +57,6 @@ pub fn copy_image(alloc: Global, image: &Shared) -> Result<Box<Shared>, Fault>
     ensures ok { IfOk result (λ other. other.value ≡ image.now) }
     ensures err { IsOkUnless result Fault.NoMemory }
 {
-    let image = copy(image.get(), alloc)?;
+    let image = image.get().copy(alloc)?;
     Ok(Box::new(alloc, Shared::new(alloc, image)?)?)
 }

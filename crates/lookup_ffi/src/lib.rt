@@ -33,15 +33,15 @@
 //! is told, and no two arguments overlap.
 #![tactic(auto)]
 
-ghost use Rattle.std.specs.Prelude.{◌≡◌, ◌≢◌, ◌<◌, None, Some, OnOk, OnErr, IfOk, IfErr, IfSome, IfNone, length, map};
+ghost use Rattle.std.specs.Prelude.{◌≡◌, ◌≢◌, ◌<◌, None, Some, OnOk, OnErr, IfOk, IfErr, IfSome, IfNone, length};
 ghost use Rattle.std.specs.Option.{option_map};
 ghost use Rattle.lookup_ffi.specs.Handles.{handle_image};
 ghost use Rattle.lookup_ffi.specs.Images.{new_image, patched};
 ghost use Rattle.c_interface.specs.Faults.{fault_number, IsStatusBy};
-ghost use Rattle.c_interface.specs.Rows.{row_entry};
 ghost use Rattle.lookup_ffi.specs.Faults.{IsApplyStatus, IsGiveStatus, IsLookupStatus};
 ghost use Rattle.lookup_ffi.specs.Rows.{answer_rows, first_row_fault};
-ghost use Rattle.lookup_ffi.specs.Prefixes.{cursor_fault, cursor_prefix, first_block_fault, rows_status, withdrawn, IsFilledIn, IsRemoveStatus};
+ghost use Rattle.lookup_ffi.specs.Prefixes.{cursor_fault, cursor_prefix, first_block_fault, listed_row, rows_status, withdrawn, IsFilledIn, IsRemoveStatus};
+ghost use Rattle.lookup_ffi.specs.Tables.{plain_rows};
 
 use c_interface::{Fault, Row, status};
 use std::alloc::Global;
@@ -50,6 +50,7 @@ mod board;
 mod change;
 mod handle;
 mod images;
+mod kept;
 mod past;
 mod patch;
 mod prefixes;
@@ -58,6 +59,7 @@ mod reader_handle;
 mod readers;
 mod rows;
 mod shared;
+mod words;
 mod writer;
 mod writer_handle;
 
@@ -70,7 +72,7 @@ use rows::{answer_all, check_rows};
 fn make(alloc: Global, rows: &[Row], image: &mut ImageHandle) -> Result<(), Fault>
     ensures ok { OnOk result (first_row_fault rows.now ≡ None) }
     ensures made { OnOk result (handle_image image.new
-        ≡ Some (new_image (map row_entry rows.now))) }
+        ≡ Some (new_image (plain_rows rows.now))) }
     ensures unchanged { OnErr result (handle_image image.new ≡ handle_image image.old) }
     ensures err { IfErr result (λ f. IsStatusBy (first_row_fault rows.now) (fault_number f)) }
 {
@@ -85,7 +87,7 @@ fn make(alloc: Global, rows: &[Row], image: &mut ImageHandle) -> Result<(), Faul
 #[unsafe(no_mangle)]
 pub extern "C" fn tuhvondi_image_new(alloc: Global, rows: &[Row], image: &mut ImageHandle) -> u32
     ensures status { IsStatusBy (first_row_fault rows.now) result }
-    ensures done { result ≡ 0 → handle_image image.new ≡ Some (new_image (map row_entry rows.now)) }
+    ensures done { result ≡ 0 → handle_image image.new ≡ Some (new_image (plain_rows rows.now)) }
     ensures refused { result ≢ 0 → handle_image image.new ≡ handle_image image.old }
 {
     status(make(alloc, rows, image))
@@ -95,7 +97,7 @@ pub extern "C" fn tuhvondi_image_new(alloc: Global, rows: &[Row], image: &mut Im
 fn apply(alloc: Global, image: &mut ImageHandle, generation: u64, rows: &[Row]) -> Result<(), Fault>
     ensures ok { OnOk result (IsApplyStatus (first_row_fault rows.now) (handle_image image.old) 0) }
     ensures patched { OnOk result (handle_image image.new
-        ≡ option_map (patched generation (map row_entry rows.now)) (handle_image image.old)) }
+        ≡ option_map (patched generation (plain_rows rows.now)) (handle_image image.old)) }
     ensures unchanged { OnErr result (handle_image image.new ≡ handle_image image.old) }
     ensures err { IfErr result (λ f.
         IsApplyStatus (first_row_fault rows.now) (handle_image image.old) (fault_number f)) }
@@ -121,7 +123,7 @@ pub extern "C" fn tuhvondi_image_apply(
 ) -> u32
     ensures status { IsApplyStatus (first_row_fault rows.now) (handle_image image.old) result }
     ensures done { result ≡ 0 → handle_image image.new
-        ≡ option_map (patched generation (map row_entry rows.now)) (handle_image image.old) }
+        ≡ option_map (patched generation (plain_rows rows.now)) (handle_image image.old) }
     ensures refused { result ≢ 0 → handle_image image.new ≡ handle_image image.old }
 {
     status(apply(alloc, image, generation, rows))
@@ -308,7 +310,7 @@ fn list(
 ) -> Result<(usize, Block), Fault>
     ensures image { handle_image image.new ≡ handle_image image.old }
     ensures ok { OnOk result (rows_status (cursor_fault from) (handle_image image.old) ≡ 0) }
-    ensures rows { IfOk result (λ r. IfSome (handle_image image.old) (λ i. IsFilledIn
+    ensures rows { IfOk result (λ r. IfSome (handle_image image.old) (λ i. IsFilledIn listed_row
         i.rows (cursor_prefix from) rows.old rows.new r.0 (cursor_prefix r.1))) }
     ensures unchanged { OnErr result (rows.new ≡ rows.old) }
     ensures err { IfErr result (λ f.
@@ -336,7 +338,7 @@ pub extern "C" fn tuhvondi_image_rows(
     written: &mut usize,
 ) -> u32
     ensures status { result ≡ rows_status (cursor_fault from.old) (handle_image image.old) }
-    ensures done { result ≡ 0 → IfSome (handle_image image.old) (λ i. IsFilledIn
+    ensures done { result ≡ 0 → IfSome (handle_image image.old) (λ i. IsFilledIn listed_row
         i.rows (cursor_prefix from.old) rows.old rows.new written.new (cursor_prefix from.new)) }
     ensures refused { result ≢ 0 →
         (rows.new ≡ rows.old) × (written.new ≡ written.old) × (from.new ≡ from.old) }

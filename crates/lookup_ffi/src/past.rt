@@ -5,19 +5,20 @@ ghost use Rattle.lookup_ffi.specs.Histories.{GoesOn, head_of, with_image};
 
 use crate::shared::Shared;
 use logbook::{Gain, Offer, Plain, Play, Rule, Seen, Start, Word};
-use network_model::{Entry, Prefix};
+use network_model::Prefix;
+use row_words::Marked;
 use std::marker::Model;
 
 /// An image that was published. No value of this type is made.
 pub struct Edition {
     generation: u64,
-    rows: [(Prefix, Entry); 0],
+    rows: [(Prefix, Marked); 0],
 }
 
 impl Model for Edition {
-    ghost use Rattle.network_model.specs.Publication.{Image};
+    ghost use Rattle.row_words.specs.Rows.{WordTable};
 
-    ghost Value = { Image };
+    ghost Value = { WordTable };
 
     ghost view = { λ e. record { generation = e.generation; rows = e.rows } };
 }

@@ -2,10 +2,10 @@
 
 ghost use Rattle.std.specs.Prelude.{◌≡◌, ◌≤◌, None, IfOk, IfErr, IsOkUnless, OnOk, length};
 ghost use Rattle.array_bitmap.specs.Cursor.{rows_onward};
-ghost use Rattle.lookup_ffi.specs.Prefixes.{block_of, block_fault, first_block_fault, cursor_fault, cursor_prefix, without_rows, IsFilledIn};
+ghost use Rattle.lookup_ffi.specs.Prefixes.{block_of, block_fault, first_block_fault, cursor_fault, cursor_prefix, listed_row, listed_word, without_rows, IsFilledIn};
 
-use array_bitmap::parts::remove_row;
-use array_bitmap::{Image, next_prefix};
+use crate::kept::Kept;
+use array_bitmap::next_prefix;
 use c_interface::{Fault, Row, read_prefix};
 use network_model::Prefix;
 use std::alloc::Global;
@@ -81,7 +81,7 @@ pub fn copy_blocks(alloc: Global, blocks: &[Block]) -> Result<Vec<Block>, Fault>
 }
 
 /// Takes the rows of prefixes out of an image.
-pub fn remove_rows(image: &mut Image, blocks: &[Block])
+pub fn remove_rows(image: &mut Kept, blocks: &[Block])
     requires { first_block_fault blocks.now ≡ None }
     ensures { image.new ≡ record image.old { rows = without_rows blocks.now image.old.rows } }
 {
@@ -89,14 +89,14 @@ pub fn remove_rows(image: &mut Image, blocks: &[Block])
         let Ok(prefix) = block.read() else {
             unreachable!()
         };
-        remove_row(image, prefix);
+        image.remove_row(prefix);
     }
 }
 
 /// Writes the rows of an image from a prefix on, as many as there is room for, and says how many they
 /// are, and where the others begin.
-pub fn list_rows(image: &Image, from: Option<Prefix>, rows: &mut [Row]) -> (usize, Option<Prefix>)
-    ensures { IsFilledIn image.now.rows from rows.old rows.new result.0 result.1 }
+pub fn list_rows(image: &Kept, from: Option<Prefix>, rows: &mut [Row]) -> (usize, Option<Prefix>)
+    ensures { IsFilledIn listed_row image.now.rows from rows.old rows.new result.0 result.1 }
 {
     let mut at = from;
     let mut count = 0;
@@ -108,7 +108,35 @@ pub fn list_rows(image: &Image, from: Option<Prefix>, rows: &mut [Row]) -> (usiz
             return (count, None);
         };
         at = next_prefix(row.0);
-        rows[count] = Row::answer(Some(row));
+        rows[count] = Row::answer(Some((row.0, row.1.entry)));
+        count += 1;
+    }
+    (count, at)
+}
+
+/// As `list_rows`, with the word of each row at its place in another list.
+pub fn list_words(
+    image: &Kept,
+    from: Option<Prefix>,
+    rows: &mut [Row],
+    words: &mut [u32],
+) -> (usize, Option<Prefix>)
+    requires { length words.old ≡ length rows.old }
+    ensures rows { IsFilledIn listed_row image.now.rows from rows.old rows.new result.0 result.1 }
+    ensures words { IsFilledIn listed_word image.now.rows from words.old words.new result.0 result.1 }
+{
+    let mut at = from;
+    let mut count = 0;
+    while count < rows.len() {
+        let Some(start) = at else {
+            return (count, None);
+        };
+        let Some(row) = image.first_row_from(start) else {
+            return (count, None);
+        };
+        at = next_prefix(row.0);
+        rows[count] = Row::answer(Some((row.0, row.1.entry)));
+        words[count] = row.1.word;
         count += 1;
     }
     (count, at)

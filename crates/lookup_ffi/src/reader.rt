@@ -3,7 +3,7 @@
 ghost use Rattle.std.specs.Prelude.{◌≡◌, ◌+◌, ◌<◌, All, IfNone, IfSome, IsTrue, false, length};
 ghost use Rattle.std.specs.Arc.{arc_value};
 ghost use Rattle.lookup_ffi.specs.Histories.{GoesOn, last_image};
-ghost use Rattle.lookup_ffi.specs.Rows.{answer_rows};
+ghost use Rattle.lookup_ffi.specs.Rows.{answer_rows, answer_words};
 
 use crate::board::{Board, Page};
 use crate::past::Past;
@@ -67,6 +67,20 @@ fn enter<'a>(board: &'a Board, first: usize, past: &Past) -> Option<Claim<'a, Op
     None
 }
 
+// The page, unless it is of an older image than the reader knows of.
+fn newer<'a>(page: &'a Option<Page>, past: &Past) -> Option<&'a Page>
+    requires { IfSome page.now (λ p. p.past.book ≡ past.now.book) }
+    ensures { IfSome result (λ p. GoesOn past.now p.now.past) }
+{
+    let Some(page) = page else {
+        return None;
+    };
+    if !past.begins(page.past()) {
+        return None;
+    }
+    Some(page)
+}
+
 // Answers by a page, unless it is of an older image than the reader knows of.
 fn answer_by(
     page: &Option<Page>,
@@ -83,14 +97,31 @@ fn answer_by(
     ensures nothing { IfNone result
         ((answers.new ≡ answers.old) × (generation.new ≡ generation.old)) }
 {
-    let Some(page) = page else {
-        return None;
-    };
-    if !past.begins(page.past()) {
-        return None;
-    }
+    let page = newer(page, past)?;
     let image = page.image().get();
     answer_all(image, addrs, answers);
+    *generation = image.generation();
+    Some(page.past().again())
+}
+
+// As `answer_by`, with words.
+fn words_by(
+    page: &Option<Page>,
+    past: &Past,
+    addrs: &[u32],
+    words: &mut [u32],
+    generation: &mut u64,
+) -> Option<Past>
+    requires book { IfSome page.now (λ p. p.past.book ≡ past.now.book) }
+    requires count { length words.old ≡ length addrs.now }
+    ensures later { IfSome result (λ p. GoesOn past.now p) }
+    ensures words { IfSome result (λ p. IfSome (last_image p.images)
+        (λ i. (words.new ≡ answer_words i addrs.now) × (generation.new ≡ i.generation))) }
+    ensures nothing { IfNone result ((words.new ≡ words.old) × (generation.new ≡ generation.old)) }
+{
+    let page = newer(page, past)?;
+    let image = page.image().get();
+    image.lookup_words(addrs, words);
     *generation = image.generation();
     Some(page.past().again())
 }
@@ -119,6 +150,29 @@ impl ImageReader {
             return false;
         };
         let found = answer_by(claim.get(), &self.past, addrs, answers, generation);
+        claim.leave();
+        match found {
+            Some(past) => {
+                self.past = past;
+                true
+            }
+            None => false,
+        }
+    }
+
+    /// As `lookup`, with the words of the answers.
+    pub fn lookup_words(&mut self, addrs: &[u32], words: &mut [u32], generation: &mut u64) -> bool
+        requires count { length words.old ≡ length addrs.now }
+        ensures later { GoesOn self.old self.new }
+        ensures words { IsTrue result → IfSome (last_image self.new.images)
+            (λ i. (words.new ≡ answer_words i addrs.now) × (generation.new ≡ i.generation)) }
+        ensures nothing { result ≡ false
+            → (words.new ≡ words.old) × (generation.new ≡ generation.old) }
+    {
+        let Some(claim) = enter(&self.seat.board, self.seat.first, &self.past) else {
+            return false;
+        };
+        let found = words_by(claim.get(), &self.past, addrs, words, generation);
         claim.leave();
         match found {
             Some(past) => {

@@ -1,22 +1,24 @@
 //! The calls of C by which one thread changes an image while others look up in it, under no lock.
 
-ghost use Rattle.std.specs.Prelude.{◌≡◌, ◌≢◌, ◌≤◌, ◌∷◌, [], IfErr, IfOk, IfSome, IsOkUnless, None, OnErr, OnOk, Some, length};
+ghost use Rattle.std.specs.Prelude.{◌≡◌, ◌≢◌, ◌≤◌, ◌∷◌, [], IfErr, IfOk, IfSome, IsOkUnless, IsSome, None, OnErr, OnOk, Some, is_some, length};
 ghost use Rattle.c_interface.specs.Faults.{first_of, fault_number};
+ghost use Rattle.lookup_ffi.specs.Faults.{IsPatchFault};
 ghost use Rattle.lookup_ffi.specs.Handles.{handle_image};
 ghost use Rattle.lookup_ffi.specs.Histories.{GoesOn, changed, last_image, with_image};
 ghost use Rattle.lookup_ffi.specs.Prefixes.{first_block_fault};
 ghost use Rattle.lookup_ffi.specs.Readers.{handle_reader, handle_writer, IsOpenStatus, IsPublishStatus, IsReadStatus, IsSeatStatus};
 ghost use Rattle.lookup_ffi.specs.Rows.{answer_rows, first_row_fault};
+ghost use Rattle.lookup_ffi.specs.Tables.{plain_rows};
 
 use crate::change::Change;
 use crate::handle::ImageHandle;
+use crate::kept::Kept;
 use crate::prefixes::{Block, check_blocks};
 use crate::reader::ImageReader;
 use crate::reader_handle::ReaderHandle;
-use crate::rows::check_rows;
+use crate::rows::{check_rows, plain_rows};
 use crate::writer::ImageWriter;
 use crate::writer_handle::WriterHandle;
-use array_bitmap::Image;
 use c_interface::{Fault, Row, status};
 use std::alloc::Global;
 
@@ -24,7 +26,7 @@ use std::alloc::Global;
 const MOST_READERS: usize = 1024;
 
 // A writer in a box of its own.
-fn make_writer(alloc: Global, image: &Image, readers: usize) -> Result<Box<ImageWriter>, Fault>
+fn make_writer(alloc: Global, image: &Kept, readers: usize) -> Result<Box<ImageWriter>, Fault>
     requires { readers ≤ 1024 }
     ensures ok { IfOk result (λ w. w.value.images ≡ image.now ∷ []) }
     ensures err { IsOkUnless result Fault.NoMemory }
@@ -41,6 +43,7 @@ fn open(
 ) -> Result<(), Fault>
     ensures image { handle_image image.new ≡ handle_image image.old }
     ensures ok { OnOk result (IsOpenStatus (handle_image image.old) readers 0) }
+    ensures held { OnOk result (IsSome (handle_writer writer.new)) }
     ensures made { OnOk result (IfSome (handle_image image.old)
         (λ i. IfSome (handle_writer writer.new) (λ h. h.images ≡ i ∷ []))) }
     ensures unchanged { OnErr result (handle_writer writer.new ≡ handle_writer writer.old) }
@@ -70,12 +73,32 @@ pub extern "C" fn tuhvondi_writer_new(
     writer: &mut WriterHandle,
 ) -> u32
     ensures status { IsOpenStatus (handle_image image.old) readers result }
+    ensures held { result ≡ 0 → IsSome (handle_writer writer.new) }
     ensures done { result ≡ 0 → IfSome (handle_image image.old)
         (λ i. IfSome (handle_writer writer.new) (λ h. h.images ≡ i ∷ [])) }
     ensures refused { result ≢ 0 → handle_writer writer.new ≡ handle_writer writer.old }
     ensures image { handle_image image.new ≡ handle_image image.old }
 {
     status(open(alloc, image, readers, writer))
+}
+
+// Publishes rows without words and prefixes. Refused, it changes nothing.
+fn publish_rows(
+    alloc: Global,
+    writer: &mut ImageWriter,
+    generation: u64,
+    rows: &[Row],
+    prefixes: &[Block],
+) -> Result<(), Fault>
+    requires rows { first_row_fault rows.now ≡ None }
+    requires prefixes { first_block_fault prefixes.now ≡ None }
+    ensures ok { OnOk result (IfSome (last_image writer.old.images) (λ i. writer.new
+        ≡ with_image writer.old (changed generation (plain_rows rows.now) prefixes.now i))) }
+    ensures unchanged { OnErr result (writer.new ≡ writer.old) }
+    ensures err { IfErr result IsPatchFault }
+{
+    let rows = plain_rows(alloc, rows)?;
+    writer.publish(Change::of(alloc, generation, rows, prefixes)?)
 }
 
 // Publishes a change of a handle's writer.
@@ -90,7 +113,7 @@ fn publish(
         (first_block_fault prefixes.now)) (handle_writer writer.old) 0) }
     ensures published { OnOk result (IfSome (handle_writer writer.old)
         (λ h. IfSome (last_image h.images) (λ i. handle_writer writer.new
-        ≡ Some (with_image h (changed generation rows.now prefixes.now i))))) }
+        ≡ Some (with_image h (changed generation (plain_rows rows.now) prefixes.now i))))) }
     ensures unchanged { OnErr result (handle_writer writer.new ≡ handle_writer writer.old) }
     ensures err { IfErr result (λ f. IsPublishStatus (first_of (first_row_fault rows.now)
         (first_block_fault prefixes.now)) (handle_writer writer.old) (fault_number f)) }
@@ -100,10 +123,7 @@ fn publish(
     let Some(mut held) = writer.take(alloc) else {
         return Err(Fault::Empty);
     };
-    let outcome = match Change::of(alloc, generation, rows, prefixes) {
-        Ok(change) => held.publish(change),
-        Err(fault) => Err(fault),
-    };
+    let outcome = publish_rows(alloc, &mut held, generation, rows, prefixes);
     writer.put(held);
     outcome
 }
@@ -124,7 +144,7 @@ pub extern "C" fn tuhvondi_writer_publish(
         (first_block_fault prefixes.now)) (handle_writer writer.old) result }
     ensures done { result ≡ 0 → IfSome (handle_writer writer.old)
         (λ h. IfSome (last_image h.images) (λ i. handle_writer writer.new
-        ≡ Some (with_image h (changed generation rows.now prefixes.now i)))) }
+        ≡ Some (with_image h (changed generation (plain_rows rows.now) prefixes.now i)))) }
     ensures refused { result ≢ 0 → handle_writer writer.new ≡ handle_writer writer.old }
 {
     status(publish(alloc, writer, generation, rows, prefixes))
@@ -182,6 +202,7 @@ fn read(
     answers: &mut [Row],
     generation: &mut u64,
 ) -> Result<(), Fault>
+    ensures kept { is_some (handle_reader reader.new) ≡ is_some (handle_reader reader.old) }
     ensures later { IfSome (handle_reader reader.old)
         (λ h. IfSome (handle_reader reader.new) (λ k. GoesOn h k)) }
     ensures ok { OnOk result
@@ -222,6 +243,7 @@ pub extern "C" fn tuhvondi_reader_lookup(
 ) -> u32
     ensures status { IsReadStatus
         (handle_reader reader.old) (length addrs.now) (length answers.old) result }
+    ensures kept { is_some (handle_reader reader.new) ≡ is_some (handle_reader reader.old) }
     ensures later { IfSome (handle_reader reader.old)
         (λ h. IfSome (handle_reader reader.new) (λ k. GoesOn h k)) }
     ensures done { result ≡ 0 → IfSome (handle_reader reader.new)

@@ -6,11 +6,10 @@ ghost use Rattle.lookup_ffi.specs.Histories.{followed, head_of, last_image, with
 
 use crate::board::{Board, clear_side, fill_side, make_places};
 use crate::change::Change;
+use crate::kept::Kept;
 use crate::past::{Head, Past};
 use crate::reader::ImageReader;
 use crate::shared::Shared;
-use array_bitmap::Image;
-use array_bitmap::parts::copy;
 use c_interface::Fault;
 use core::mem::replace_with;
 use std::alloc::Global;
@@ -166,14 +165,14 @@ fn turn(writer: ImageWriter, change: Change) -> (ImageWriter, Result<(), Fault>)
 impl ImageWriter {
     /// The writer of an image like this one, with room for so many readers.
     #[tactic(auto, using(crate::proofs::Beginnings::last_more))]
-    pub fn new(alloc: Global, image: &Image, readers: usize) -> Result<ImageWriter, Fault>
+    pub fn new(alloc: Global, image: &Kept, readers: usize) -> Result<ImageWriter, Fault>
         requires { readers ≤ 1024 }
         ensures ok { IfOk result (λ w. w.images ≡ image.now ∷ []) }
         ensures err { IsOkUnless result Fault.NoMemory }
     {
         let (head, none) = Past::open();
-        let shown = Shared::new(alloc, copy(image, alloc)?)?;
-        let hidden = Shared::new(alloc, copy(image, alloc)?)?;
+        let shown = Shared::new(alloc, image.copy(alloc)?)?;
+        let hidden = Shared::new(alloc, image.copy(alloc)?)?;
         let places = make_places(alloc, readers, &none)?;
         let board = Arc::new(
             alloc,

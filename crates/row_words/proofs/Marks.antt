@@ -18,8 +18,7 @@ use Rattle.network_model.specs.declared.route.Entry.{Entry}
 use Rattle.network_model.proofs.RowLaws.{map-put, sorted-put, with_rows-sorted}
 use Rattle.array_bitmap.specs.Words.{nothing, word_of, answer_word}
 use Rattle.array_bitmap.specs.Removal.{without_row}
-use Rattle.array_bitmap.specs.Cursor.{is_before, rows_from}
-use Rattle.array_bitmap.specs.Cursor.{first_row_from}
+use Rattle.array_bitmap.specs.Cursor.{is_before, rows_from, rows_onward, first_row_from, IsHeadFrom}
 use Rattle.array_bitmap.proofs.RowsFrom.{all_from}
 use Rattle.std.proofs.lemmas.Option.{none-some}
 use Rattle.row_words.specs.Rows.{slot_entry, slot_of, slot_word, no_mark, mark_in, marked, numbered, with_marked, without_marked, word_or_none, IsSlot, AreSlots, AreKept}
@@ -54,6 +53,25 @@ module _ {X Y : Type 0} (f : X → Y) where
         | true ↦ ap (λ xs. under r ∷ xs) (filter_under t rs)
         | false ↦ filter_under t rs
       ]
+
+  -- so are the rows from a prefix on
+  onward_under : (o : Option Prefix) (rows : List (Prefix × X)) → rows_onward o (map under rows) ≡ map under (rows_onward o rows)
+  onward_under None rows = refl
+  onward_under (Some at) rows = filter_under (λ q. not (is_before q at)) rows
+
+  -- the first of them
+  pub first_under : (at : Prefix) (rows : List (Prefix × X)) → first_row_from at (map under rows) ≡ option_map under (first_row_from at rows)
+  first_under at rows = ap (λ rs. slice_get rs 0) (filter_under (λ q. not (is_before q at)) rows) ∙ head_map (rows_from at rows)
+    where
+      head_map : (rs : List (Prefix × X)) → slice_get (map under rs) 0 ≡ option_map under (slice_get rs 0)
+      head_map [] = refl
+      head_map (r ∷ rs) = refl
+
+  -- and those that come after the first
+  pub head_under : (at : Prefix) (rows : List (Prefix × X)) (o : Option (Prefix × X)) → IfSome o (IsHeadFrom at rows) → IfSome (option_map under o) (IsHeadFrom at (map under rows))
+  head_under at rows None head = head
+  head_under at rows (Some r) head = λ next is.
+      filter_under (λ q. not (is_before q at)) rows ∙ ap (map under) (head next is) ∙ ap (λ rs. under r ∷ rs) (sym (onward_under next rows))
 
 -- ---- numbers of cells
 
@@ -276,11 +294,3 @@ module _ (cells : List Marked) (items all : List (Prefix × Marked)) (left : Lis
       ∙ (λ i. items ++ (row.0, is i) ∷ marked cells others)
       ∙ ap (λ rs. items ++ marked cells rs) (sym next)
       ∙ listed
-
--- the first row from a prefix on stands for that of the rows
-pub first_marked : (cells : List Marked) (at : Prefix) (rows : List (Prefix × Entry)) → first_row_from at (marked cells rows) ≡ option_map (λ r. (r.0, mark_in cells r.1)) (first_row_from at rows)
-first_marked cells at rows = ap (λ rs. slice_get rs 0) (filter_under (mark_in cells) (λ q. not (is_before q at)) rows) ∙ head_map (rows_from at rows)
-  where
-    head_map : (rs : List (Prefix × Entry)) → slice_get (marked cells rs) 0 ≡ option_map (λ r. (r.0, mark_in cells r.1)) (slice_get rs 0)
-    head_map [] = refl
-    head_map (r ∷ rs) = refl

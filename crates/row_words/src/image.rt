@@ -1,7 +1,7 @@
 //! Images with words.
 
-ghost use Rattle.std.specs.Prelude.{◌≡◌, ◌<◌, [], IfOk, OnErr, OnOk, length, map};
-ghost use Rattle.array_bitmap.specs.Cursor.{first_row_from};
+ghost use Rattle.std.specs.Prelude.{◌≡◌, ◌<◌, [], IfOk, IfSome, OnErr, OnOk, length, map};
+ghost use Rattle.array_bitmap.specs.Cursor.{first_row_from, IsHeadFrom};
 ghost use Rattle.row_words.specs.Rows.{marked, marked_answer, with_marked, without_marked, word_answer, AreKept};
 
 use crate::cells::Marked;
@@ -176,7 +176,8 @@ impl<A: Allocator> WordImage<A> {
     /// The first row at a prefix or after it, in the order of prefixes, by address and then by length; None
     /// if there is none.
     pub fn first_row_from(&self, at: Prefix) -> Option<(Prefix, Marked)>
-        ensures { result ≡ first_row_from at (self.now).rows }
+        ensures first { result ≡ first_row_from at (self.now).rows }
+        ensures head { IfSome result (IsHeadFrom at (self.now).rows) }
     {
         first_row(&self.image, &self.cells, at)
     }

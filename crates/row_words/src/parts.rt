@@ -1,8 +1,8 @@
 //! The image of numbers and the cells, changed together.
 
-ghost use Rattle.std.specs.Prelude.{◌≡◌, ◌+◌, ◌^◌, ◌<◌, ◌≤◌, ◌∷◌, [], IfOk, OnErr, OnOk, length, map};
+ghost use Rattle.std.specs.Prelude.{◌≡◌, ◌+◌, ◌^◌, ◌<◌, ◌≤◌, ◌∷◌, [], IfOk, IfSome, OnErr, OnOk, length, map};
 ghost use Rattle.std.specs.Option.{option_map};
-ghost use Rattle.array_bitmap.specs.Cursor.{first_row_from};
+ghost use Rattle.array_bitmap.specs.Cursor.{first_row_from, IsHeadFrom};
 ghost use Rattle.ipv4_prefix.specs.LongestMatch.{longest_match};
 ghost use Rattle.row_words.specs.Rows.{mark_in, marked, no_mark, slot_word, with_marked, without_marked, word_or_none, AreKept};
 
@@ -207,7 +207,8 @@ pub(crate) fn first_row<A: Allocator>(
     cells: &[Marked],
     at: Prefix,
 ) -> Option<(Prefix, Marked)>
-    ensures { result ≡ first_row_from at (marked cells.now image.now.rows) }
+    ensures first { result ≡ first_row_from at (marked cells.now image.now.rows) }
+    ensures head { IfSome result (IsHeadFrom at (marked cells.now image.now.rows)) }
 {
     mark_row(cells, image.first_row_from(at))
 }

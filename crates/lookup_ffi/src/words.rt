@@ -1,0 +1,351 @@
+//! The calls of C for rows that have a word of the caller's own, for example the index of a next hop.
+//!
+//! A row that another call sets has the word 2^32 - 1. A look-up answers that word, too, if no row covers the
+//! address.
+
+ghost use Rattle.std.specs.Prelude.{◌≡◌, ◌≢◌, None, Some, OnOk, OnErr, IfOk, IfErr, IfSome, is_some, length};
+ghost use Rattle.std.specs.Option.{option_map};
+ghost use Rattle.c_interface.specs.Faults.{IsStatusBy, first_of, fault_number};
+ghost use Rattle.lookup_ffi.specs.Faults.{IsApplyStatus, IsLookupStatus, IsPatchFault};
+ghost use Rattle.lookup_ffi.specs.Handles.{handle_image};
+ghost use Rattle.lookup_ffi.specs.Histories.{GoesOn, changed, last_image, with_image};
+ghost use Rattle.lookup_ffi.specs.Images.{new_image, patched};
+ghost use Rattle.lookup_ffi.specs.Prefixes.{cursor_fault, cursor_prefix, first_block_fault, listed_row, listed_word, rows_status, IsFilledIn};
+ghost use Rattle.lookup_ffi.specs.Readers.{handle_reader, handle_writer, IsPublishStatus, IsReadStatus};
+ghost use Rattle.lookup_ffi.specs.Rows.{answer_words, count_fault, first_row_fault, words_fault};
+ghost use Rattle.lookup_ffi.specs.Tables.{worded_rows};
+
+use crate::change::Change;
+use crate::handle::ImageHandle;
+use crate::images::image_of_words;
+use crate::prefixes::{Block, check_blocks, list_words};
+use crate::reader_handle::ReaderHandle;
+use crate::rows::{check_words, worded_rows};
+use crate::writer::ImageWriter;
+use crate::writer_handle::WriterHandle;
+use c_interface::{Fault, Row, status};
+use std::alloc::Global;
+
+// Makes an image of rows with words and puts it into a handle.
+fn make(alloc: Global, rows: &[Row], words: &[u32], image: &mut ImageHandle) -> Result<(), Fault>
+    ensures ok { OnOk result (words_fault rows.now words.now ≡ None) }
+    ensures made { OnOk result (handle_image image.new
+        ≡ Some (new_image (worded_rows rows.now words.now))) }
+    ensures unchanged { OnErr result (handle_image image.new ≡ handle_image image.old) }
+    ensures err { IfErr result (λ f. IsStatusBy (words_fault rows.now words.now) (fault_number f)) }
+{
+    check_words(rows, words)?;
+    image.put(image_of_words(alloc, rows, words)?);
+    Ok(())
+}
+
+/// As `tuhvondi_image_new`, with a word for each row. 8: there are not as many words as rows, and no row has
+/// a fault. 20: memory was refused, or there are more than 16,777,215 rows.
+#[unsafe(no_mangle)]
+pub extern "C" fn tuhvondi_image_new_words(
+    alloc: Global,
+    rows: &[Row],
+    words: &[u32],
+    image: &mut ImageHandle,
+) -> u32
+    ensures status { IsStatusBy (words_fault rows.now words.now) result }
+    ensures done { result ≡ 0 →
+        handle_image image.new ≡ Some (new_image (worded_rows rows.now words.now)) }
+    ensures refused { result ≢ 0 → handle_image image.new ≡ handle_image image.old }
+{
+    status(make(alloc, rows, words, image))
+}
+
+// Sets rows with words over those of a handle's image, and its generation.
+fn apply(
+    alloc: Global,
+    image: &mut ImageHandle,
+    generation: u64,
+    rows: &[Row],
+    words: &[u32],
+) -> Result<(), Fault>
+    ensures ok { OnOk result
+        (IsApplyStatus (words_fault rows.now words.now) (handle_image image.old) 0) }
+    ensures patched { OnOk result (handle_image image.new
+        ≡ option_map (patched generation (worded_rows rows.now words.now)) (handle_image image.old)) }
+    ensures unchanged { OnErr result (handle_image image.new ≡ handle_image image.old) }
+    ensures err { IfErr result (λ f.
+        IsApplyStatus (words_fault rows.now words.now) (handle_image image.old) (fault_number f)) }
+{
+    check_words(rows, words)?;
+    let Some(mut held) = image.take(alloc) else {
+        return Err(Fault::Empty);
+    };
+    let outcome = held.apply_words(alloc, generation, rows, words);
+    image.put(held);
+    outcome
+}
+
+/// As `tuhvondi_image_apply`, with a word for each row. 8: there are not as many words as rows, and no row
+/// has a fault. 20: memory was refused, or the image would have more than 16,777,215 rows.
+#[unsafe(no_mangle)]
+pub extern "C" fn tuhvondi_image_apply_words(
+    alloc: Global,
+    image: &mut ImageHandle,
+    generation: u64,
+    rows: &[Row],
+    words: &[u32],
+) -> u32
+    ensures status { IsApplyStatus (words_fault rows.now words.now) (handle_image image.old) result }
+    ensures done { result ≡ 0 → handle_image image.new
+        ≡ option_map (patched generation (worded_rows rows.now words.now)) (handle_image image.old) }
+    ensures refused { result ≢ 0 → handle_image image.new ≡ handle_image image.old }
+{
+    status(apply(alloc, image, generation, rows, words))
+}
+
+// Answers addresses by the words of a handle's image.
+fn look_up(
+    alloc: Global,
+    image: &mut ImageHandle,
+    addrs: &[u32],
+    words: &mut [u32],
+) -> Result<(), Fault>
+    ensures image { handle_image image.new ≡ handle_image image.old }
+    ensures ok { OnOk result
+        (IsLookupStatus (handle_image image.old) (length addrs.now) (length words.old) 0) }
+    ensures words { OnOk result
+        (IfSome (handle_image image.old) (λ i. words.new ≡ answer_words i addrs.now)) }
+    ensures unchanged { OnErr result (words.new ≡ words.old) }
+    ensures err { IfErr result (λ f. IsLookupStatus
+        (handle_image image.old) (length addrs.now) (length words.old) (fault_number f)) }
+{
+    let Some(held) = image.take(alloc) else {
+        return Err(Fault::Empty);
+    };
+    let outcome = if addrs.len() == words.len() {
+        held.get().lookup_words(addrs, words);
+        Ok(())
+    } else {
+        Err(Fault::BadCount)
+    };
+    image.put(held);
+    outcome
+}
+
+/// As `tuhvondi_image_lookup`, but writes the words of the rows that answer, and nothing else of them.
+#[unsafe(no_mangle)]
+pub extern "C" fn tuhvondi_image_lookup_words(
+    alloc: Global,
+    image: &mut ImageHandle,
+    addrs: &[u32],
+    words: &mut [u32],
+) -> u32
+    ensures status { IsLookupStatus
+        (handle_image image.old) (length addrs.now) (length words.old) result }
+    ensures done { result ≡ 0 →
+        IfSome (handle_image image.old) (λ i. words.new ≡ answer_words i addrs.now) }
+    ensures refused { result ≢ 0 → words.new ≡ words.old }
+    ensures image { handle_image image.new ≡ handle_image image.old }
+{
+    status(look_up(alloc, image, addrs, words))
+}
+
+// Finds out whether a cursor is one, and lists have one length.
+fn check_list(from: Block, rows: &[Row], words: &[u32]) -> Result<(), Fault>
+    ensures count { OnOk result (length words.now ≡ length rows.now) }
+    ensures ok { OnOk result (first_of (cursor_fault from)
+        (count_fault (length rows.now) (length words.now)) ≡ None) }
+    ensures err { IfErr result (λ f. first_of (cursor_fault from)
+        (count_fault (length rows.now) (length words.now)) ≡ Some f) }
+{
+    let _ = from.read_cursor()?;
+    if rows.len() != words.len() {
+        return Err(Fault::BadCount);
+    }
+    Ok(())
+}
+
+// Writes the rows of a handle's image and their words, from where a cursor stands.
+fn list(
+    alloc: Global,
+    image: &mut ImageHandle,
+    from: Block,
+    rows: &mut [Row],
+    words: &mut [u32],
+) -> Result<(usize, Block), Fault>
+    ensures image { handle_image image.new ≡ handle_image image.old }
+    ensures ok { OnOk result (rows_status (first_of (cursor_fault from)
+        (count_fault (length rows.old) (length words.old))) (handle_image image.old) ≡ 0) }
+    ensures rows { IfOk result (λ r. IfSome (handle_image image.old) (λ i. IsFilledIn listed_row
+        i.rows (cursor_prefix from) rows.old rows.new r.0 (cursor_prefix r.1))) }
+    ensures words { IfOk result (λ r. IfSome (handle_image image.old) (λ i. IsFilledIn listed_word
+        i.rows (cursor_prefix from) words.old words.new r.0 (cursor_prefix r.1))) }
+    ensures unchanged { OnErr result ((rows.new ≡ rows.old) × (words.new ≡ words.old)) }
+    ensures err { IfErr result (λ f. rows_status (first_of (cursor_fault from)
+        (count_fault (length rows.old) (length words.old))) (handle_image image.old)
+        ≡ fault_number f) }
+{
+    check_list(from, rows, words)?;
+    let at = from.read_cursor()?;
+    let Some(held) = image.take(alloc) else {
+        return Err(Fault::Empty);
+    };
+    let (count, onward) = list_words(held.get(), at, rows, words);
+    image.put(held);
+    Ok((count, Block::cursor(onward)))
+}
+
+/// As `tuhvondi_image_rows`, with the word of each row. 8: there are not as many places for words as for
+/// rows, and the cursor is a prefix.
+#[unsafe(no_mangle)]
+pub extern "C" fn tuhvondi_image_rows_words(
+    alloc: Global,
+    image: &mut ImageHandle,
+    from: &mut Block,
+    rows: &mut [Row],
+    words: &mut [u32],
+    written: &mut usize,
+) -> u32
+    ensures status { result ≡ rows_status (first_of (cursor_fault from.old)
+        (count_fault (length rows.old) (length words.old))) (handle_image image.old) }
+    ensures done { result ≡ 0 → IfSome (handle_image image.old) (λ i. IsFilledIn listed_row
+        i.rows (cursor_prefix from.old) rows.old rows.new written.new (cursor_prefix from.new)) }
+    ensures words { result ≡ 0 → IfSome (handle_image image.old) (λ i. IsFilledIn listed_word
+        i.rows (cursor_prefix from.old) words.old words.new written.new (cursor_prefix from.new)) }
+    ensures refused { result ≢ 0 → (rows.new ≡ rows.old) × (words.new ≡ words.old)
+        × (written.new ≡ written.old) × (from.new ≡ from.old) }
+    ensures image { handle_image image.new ≡ handle_image image.old }
+{
+    match list(alloc, image, *from, rows, words) {
+        Ok((count, onward)) => {
+            *written = count;
+            *from = onward;
+            0
+        }
+        Err(fault) => fault.number(),
+    }
+}
+
+// Publishes rows with words and prefixes. Refused, it changes nothing.
+fn publish_rows(
+    alloc: Global,
+    writer: &mut ImageWriter,
+    generation: u64,
+    rows: &[Row],
+    words: &[u32],
+    prefixes: &[Block],
+) -> Result<(), Fault>
+    requires rows { first_row_fault rows.now ≡ None }
+    requires count { length words.now ≡ length rows.now }
+    requires prefixes { first_block_fault prefixes.now ≡ None }
+    ensures ok { OnOk result (IfSome (last_image writer.old.images) (λ i. writer.new
+        ≡ with_image writer.old (changed generation (worded_rows rows.now words.now) prefixes.now i))) }
+    ensures unchanged { OnErr result (writer.new ≡ writer.old) }
+    ensures err { IfErr result IsPatchFault }
+{
+    let rows = worded_rows(alloc, rows, words)?;
+    writer.publish(Change::of(alloc, generation, rows, prefixes)?)
+}
+
+// Publishes a change with words of a handle's writer.
+fn publish(
+    alloc: Global,
+    writer: &mut WriterHandle,
+    generation: u64,
+    rows: &[Row],
+    words: &[u32],
+    prefixes: &[Block],
+) -> Result<(), Fault>
+    ensures ok { OnOk result (IsPublishStatus (first_of (words_fault rows.now words.now)
+        (first_block_fault prefixes.now)) (handle_writer writer.old) 0) }
+    ensures published { OnOk result (IfSome (handle_writer writer.old)
+        (λ h. IfSome (last_image h.images) (λ i. handle_writer writer.new ≡ Some (with_image h
+        (changed generation (worded_rows rows.now words.now) prefixes.now i))))) }
+    ensures unchanged { OnErr result (handle_writer writer.new ≡ handle_writer writer.old) }
+    ensures err { IfErr result (λ f. IsPublishStatus (first_of (words_fault rows.now words.now)
+        (first_block_fault prefixes.now)) (handle_writer writer.old) (fault_number f)) }
+{
+    check_words(rows, words)?;
+    check_blocks(prefixes)?;
+    let Some(mut held) = writer.take(alloc) else {
+        return Err(Fault::Empty);
+    };
+    let outcome = publish_rows(alloc, &mut held, generation, rows, words, prefixes);
+    writer.put(held);
+    outcome
+}
+
+/// As `tuhvondi_writer_publish`, with a word for each row. 8: there are not as many words as rows, and no row
+/// has a fault. 20: memory was refused, or the image would have more than 16,777,215 rows.
+#[unsafe(no_mangle)]
+pub extern "C" fn tuhvondi_writer_publish_words(
+    alloc: Global,
+    writer: &mut WriterHandle,
+    generation: u64,
+    rows: &[Row],
+    words: &[u32],
+    prefixes: &[Block],
+) -> u32
+    ensures status { IsPublishStatus (first_of (words_fault rows.now words.now)
+        (first_block_fault prefixes.now)) (handle_writer writer.old) result }
+    ensures done { result ≡ 0 → IfSome (handle_writer writer.old)
+        (λ h. IfSome (last_image h.images) (λ i. handle_writer writer.new ≡ Some (with_image h
+        (changed generation (worded_rows rows.now words.now) prefixes.now i)))) }
+    ensures refused { result ≢ 0 → handle_writer writer.new ≡ handle_writer writer.old }
+{
+    status(publish(alloc, writer, generation, rows, words, prefixes))
+}
+
+// Answers addresses by the words of a handle's reader.
+fn read(
+    alloc: Global,
+    reader: &mut ReaderHandle,
+    addrs: &[u32],
+    words: &mut [u32],
+    generation: &mut u64,
+) -> Result<(), Fault>
+    ensures kept { is_some (handle_reader reader.new) ≡ is_some (handle_reader reader.old) }
+    ensures later { IfSome (handle_reader reader.old)
+        (λ h. IfSome (handle_reader reader.new) (λ k. GoesOn h k)) }
+    ensures ok { OnOk result
+        (IsReadStatus (handle_reader reader.old) (length addrs.now) (length words.old) 0) }
+    ensures words { OnOk result (IfSome (handle_reader reader.new)
+        (λ h. IfSome (last_image h.images)
+        (λ i. (words.new ≡ answer_words i addrs.now) × (generation.new ≡ i.generation)))) }
+    ensures unchanged { OnErr result
+        ((words.new ≡ words.old) × (generation.new ≡ generation.old)) }
+    ensures err { IfErr result (λ f. IsReadStatus
+        (handle_reader reader.old) (length addrs.now) (length words.old) (fault_number f)) }
+{
+    let Some(mut held) = reader.take(alloc) else {
+        return Err(Fault::Empty);
+    };
+    let outcome = if addrs.len() != words.len() {
+        Err(Fault::BadCount)
+    } else if held.lookup_words(addrs, words, generation) {
+        Ok(())
+    } else {
+        Err(Fault::Shared)
+    };
+    reader.put(held);
+    outcome
+}
+
+/// As `tuhvondi_reader_lookup`, but writes the words of the rows that answer, and nothing else of them.
+#[unsafe(no_mangle)]
+pub extern "C" fn tuhvondi_reader_lookup_words(
+    alloc: Global,
+    reader: &mut ReaderHandle,
+    addrs: &[u32],
+    words: &mut [u32],
+    generation: &mut u64,
+) -> u32
+    ensures status { IsReadStatus
+        (handle_reader reader.old) (length addrs.now) (length words.old) result }
+    ensures kept { is_some (handle_reader reader.new) ≡ is_some (handle_reader reader.old) }
+    ensures later { IfSome (handle_reader reader.old)
+        (λ h. IfSome (handle_reader reader.new) (λ k. GoesOn h k)) }
+    ensures done { result ≡ 0 → IfSome (handle_reader reader.new)
+        (λ h. IfSome (last_image h.images)
+        (λ i. (words.new ≡ answer_words i addrs.now) × (generation.new ≡ i.generation))) }
+    ensures refused { result ≢ 0
+        → (words.new ≡ words.old) × (generation.new ≡ generation.old) }
+{
+    status(read(alloc, reader, addrs, words, generation))
+}
