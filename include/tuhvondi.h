@@ -285,6 +285,55 @@ uint32_t tuhvondi_image_generation(struct tuhvondi_image *image, uint64_t *gener
 /* Lets go of the image, if there is one. The handle then holds none. */
 void tuhvondi_image_free(struct tuhvondi_image *image);
 
+/* ---- rows with a word of your own
+ *
+ * A data plane often keeps more for a row than where packets go, for example the index of a next hop in an
+ * adjacency table. So a row can have a word of 32 bits. The library never reads it: a look-up gives it back.
+ *
+ *     struct tuhvondi_row rows[] = {{0x0a000000, 8, TUHVONDI_VIA, 1, 4}};
+ *     uint32_t indices[] = {700}, addrs[] = {0x0a010203}, found[1];
+ *     tuhvondi_image_new_words(rows, 1, indices, 1, &image);
+ *     tuhvondi_image_lookup_words(&image, addrs, 1, found, 1);      (found[0] is 700)
+ *
+ * examples/c/adjacency.c has more. You can mix these calls with the others. If another call sets a row, the
+ * word of the row is TUHVONDI_NO_WORD. An image takes no memory for words until a call gives it a row with a
+ * word. That call makes the image anew, in memory of its own, in the time of listing all rows and setting
+ * them. An image with words has at most 16,777,214 rows, and takes 8 to 32 bytes more for each. */
+
+/* The word of a row that another call set. A look-up answers it, too, if no row covers the address. */
+#define TUHVONDI_NO_WORD UINT32_MAX
+
+/* As tuhvondi_image_new, and words[i] is the word of rows[i].
+ * Refused, in this order: as tuhvondi_image_new for the rows; TUHVONDI_BAD_COUNT if there are not as many
+ * words as rows; TUHVONDI_NO_MEMORY, also if there are more than 16,777,214 rows. */
+uint32_t tuhvondi_image_new_words(const struct tuhvondi_row *rows, size_t row_count,
+                                  const uint32_t *words, size_t word_count,
+                                  struct tuhvondi_image *image);
+
+/* As tuhvondi_image_apply, and words[i] is the word of rows[i]. From time to time such a call makes the image
+ * anew from its rows, because rows that are set again or taken out leave room behind.
+ * Refused, in this order: as tuhvondi_image_apply for the rows; TUHVONDI_BAD_COUNT if there are not as many
+ * words as rows; TUHVONDI_NO_IMAGE_HELD; TUHVONDI_SHARED while other handles hold the image;
+ * TUHVONDI_NO_MEMORY, also if these rows and those of the image are more than 16,777,214. */
+uint32_t tuhvondi_image_apply_words(struct tuhvondi_image *image, uint64_t generation,
+                                    const struct tuhvondi_row *rows, size_t row_count,
+                                    const uint32_t *words, size_t word_count);
+
+/* Looks up as tuhvondi_image_lookup does, and writes into words[i] the word of the row that answers addrs[i],
+ * and nothing else. If no row covers the address, the word is TUHVONDI_NO_WORD. It takes no memory.
+ * Refused, and then nothing is written: TUHVONDI_NO_IMAGE_HELD, and TUHVONDI_BAD_COUNT if there are not as
+ * many words as addresses. */
+uint32_t tuhvondi_image_lookup_words(struct tuhvondi_image *image,
+                                     const uint32_t *addrs, size_t addr_count,
+                                     uint32_t *words, size_t word_count);
+
+/* As tuhvondi_image_rows, and writes the word of rows[i] into words[i].
+ * Refused, in this order, and then nothing is written: TUHVONDI_BAD_LENGTH, TUHVONDI_HOST_BITS;
+ * TUHVONDI_BAD_COUNT if there is not room for as many words as rows; TUHVONDI_NO_IMAGE_HELD. */
+uint32_t tuhvondi_image_rows_words(struct tuhvondi_image *image, struct tuhvondi_prefix *from,
+                                   struct tuhvondi_row *rows, size_t row_count,
+                                   uint32_t *words, size_t word_count, size_t *written);
+
 /* ---- a table that changes while it forwards
  *
  * You cannot change an image that several handles hold: the call is refused. If you lock it, packets wait.
@@ -347,6 +396,24 @@ uint32_t tuhvondi_reader_lookup(struct tuhvondi_reader *reader,
                                 const uint32_t *addrs, size_t addr_count,
                                 struct tuhvondi_row *answers, size_t answer_count,
                                 uint64_t *generation);
+
+/* As tuhvondi_writer_publish, and words[i] is the word of rows[i] (see above, rows with a word of your own).
+ * Refused, in this order: TUHVONDI_BAD_LENGTH, TUHVONDI_HOST_BITS, TUHVONDI_BAD_KIND for the rows;
+ * TUHVONDI_BAD_COUNT if there are not as many words as rows; and then as tuhvondi_writer_publish for the
+ * prefixes and the rest. TUHVONDI_NO_MEMORY, also if these rows and those of the image are more than
+ * 16,777,214. */
+uint32_t tuhvondi_writer_publish_words(struct tuhvondi_writer *writer, uint64_t generation,
+                                       const struct tuhvondi_row *rows, size_t row_count,
+                                       const uint32_t *words, size_t word_count,
+                                       const struct tuhvondi_prefix *prefixes, size_t prefix_count);
+
+/* Looks up as tuhvondi_reader_lookup does, and writes into words[i] the word of the row that answers addrs[i],
+ * and nothing else. If no row covers the address, the word is TUHVONDI_NO_WORD. It takes no memory.
+ * Refused, and then nothing is written: as tuhvondi_reader_lookup, with words in place of answers. */
+uint32_t tuhvondi_reader_lookup_words(struct tuhvondi_reader *reader,
+                                      const uint32_t *addrs, size_t addr_count,
+                                      uint32_t *words, size_t word_count,
+                                      uint64_t *generation);
 
 /* Frees the reader, if there is one. You may then make another in its place. */
 void tuhvondi_reader_free(struct tuhvondi_reader *reader);

@@ -51,6 +51,44 @@ class Images(unittest.TestCase):
         self.assertEqual(list(image), [rows[prefix] for prefix in sorted(rows)])
         self.assertEqual(len(image), len(rows))
 
+    def test_words_are_those_of_the_longest_match(self):
+        draw = random.Random(2)
+        for _ in range(20):
+            rows = {row.prefix: row for row in (random_row(draw) for _ in range(draw.randrange(60)))}
+            words = {prefix: draw.choice([None, draw.randrange(2 ** 32 - 1)]) for prefix in rows}
+            with Image(rows.values()) as image:
+                self.assertEqual(image.lookup_words(["10.0.0.1"]), [None])
+                for _ in range(5):
+                    worded = [prefix for prefix in rows if words[prefix] is not None]
+                    image.apply([rows[prefix] for prefix in rows if words[prefix] is None])
+                    image.apply([rows[prefix] for prefix in worded], words=[words[prefix] for prefix in worded])
+                    self.compare_words(draw, image, rows, words)
+                    gone = draw.sample(sorted(rows), min(len(rows), 3))
+                    image.remove(gone)
+                    for prefix in gone:
+                        del rows[prefix], words[prefix]
+                    for prefix in rows:
+                        words[prefix] = draw.choice([None, 0, 2 ** 32 - 2])
+
+    def compare_words(self, draw, image, rows, words):
+        addresses = [IPv4Address(draw.getrandbits(32)) for _ in range(50)]
+        addresses += [prefix.broadcast_address for prefix in rows]
+        found = [longest(rows, address) for address in addresses]
+        self.assertEqual(image.lookup_many(addresses), found)
+        self.assertEqual(image.lookup_words(addresses), [row and words[row.prefix] for row in found])
+        self.assertEqual(list(image.rows_and_words()), [(rows[prefix], words[prefix]) for prefix in sorted(rows)])
+
+    def test_words_that_are_none(self):
+        row = Row.local("10.0.0.0/8")
+        for words in ([-1], [2 ** 32 - 1]):
+            with self.assertRaises(ValueError):
+                Image([row], words=words)
+        image = Image([row], words=[1])
+        for words in ([], [1, 2]):
+            with self.assertRaises(tuhvondi.BadCount):
+                image.apply([row], words=words)
+        self.assertEqual((image.lookup_words(["10.0.0.1"]), image.generation), ([1], 0))
+
     def test_many_rows_are_listed(self):
         rows = [Row.via(IPv4Network((number << 8, 24)), number % 32) for number in range(1500)]
         image = Image(rows)

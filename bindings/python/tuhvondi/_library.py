@@ -23,6 +23,8 @@ INFINITY = 0xFFFFFFFF
 NO_PORT = 255
 # The length of a cursor at the end of the rows.
 NO_PREFIX = 33
+# The word of a row that was given without one, and of an address that no row covers.
+NO_WORD = 0xFFFFFFFF
 
 
 class LibraryNotFound(ImportError):
@@ -153,6 +155,10 @@ FUNCTIONS: dict[str, list[Any]] = {
     "tuhvondi_image_bytes": [_IMAGE, _SIZE],
     "tuhvondi_image_generation": [_IMAGE, _NUMBER],
     "tuhvondi_image_free": [_IMAGE],
+    "tuhvondi_image_new_words": [_ROWS, c_size_t, _U32S, c_size_t, _IMAGE],
+    "tuhvondi_image_apply_words": [_IMAGE, c_uint64, _ROWS, c_size_t, _U32S, c_size_t],
+    "tuhvondi_image_lookup_words": [_IMAGE, _U32S, c_size_t, _U32S, c_size_t],
+    "tuhvondi_image_rows_words": [_IMAGE, POINTER(PrefixParts), _ROWS, c_size_t, _U32S, c_size_t, _SIZE],
     "tuhvondi_router_new": [_U32S, c_size_t, POINTER(AttachmentParts), c_size_t, c_size_t, _ROUTER],
     "tuhvondi_router_link_up": [_ROUTER, c_uint8, c_uint16, c_uint32],
     "tuhvondi_router_link_down": [_ROUTER, c_uint8],

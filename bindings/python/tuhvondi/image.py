@@ -15,6 +15,19 @@ from .status import refusal
 _MANY = 512
 
 
+def _words_array(words: Iterable[int]) -> tuple[ctypes.Array[ctypes.c_uint32], int]:
+    """Words as the library takes them, and how many they are."""
+    given = list(words)
+    for word in given:
+        if not 0 <= word < _library.NO_WORD:
+            raise ValueError(f"the word {word} is outside 0 to 2^32 - 2")
+    return (ctypes.c_uint32 * max(1, len(given)))(*given), len(given)
+
+
+def _word_of(word: int) -> Optional[int]:
+    return None if word == _library.NO_WORD else word
+
+
 class Image(Owner):
     """A forwarding table: it answers an address by the row with the longest prefix that covers it.
 
@@ -28,15 +41,24 @@ class Image(Owner):
     >>> len(image), image.generation
     (3, 1)
 
+    A row can have a *word* of yours, a number below 2^32 - 1, for example the index of a next hop:
+
+    >>> image = Image([Row.local("10.0.0.0/8"), Row.local("10.1.0.0/16")], words=[700, 12])
+    >>> image.lookup_words(["10.1.2.3", "10.2.2.3", "11.0.0.1"])
+    [12, 700, None]
+
     Raises NoMemory if memory is refused.
     """
 
     _kind = "image"
 
-    def __init__(self, rows: Iterable[Row] = ()) -> None:
+    def __init__(self, rows: Iterable[Row] = (), words: Optional[Iterable[int]] = None) -> None:
         super().__init__()
         given, count = rows_array(rows)
-        self._need(self._library.image_new(given, count, self._at))
+        if words is None:
+            self._need(self._library.image_new(given, count, self._at))
+        else:
+            self._need(self._library.image_new_words(given, count, *_words_array(words), self._at))
 
     @staticmethod
     def _need(status: int) -> None:
@@ -49,19 +71,28 @@ class Image(Owner):
             raise ValueError(f"the generation {number} is outside 0 to 2^64 - 1")
         return number
 
-    def apply(self, rows: Iterable[Row], generation: Optional[int] = None) -> None:
+    def apply(self, rows: Iterable[Row], generation: Optional[int] = None,
+              words: Optional[Iterable[int]] = None) -> None:
         """Sets rows over those of the image, in order, and the generation: the next one, or the one that you
-        give.
+        give. With `words`, each row has the word at its place. Without, the rows have no words.
 
         >>> image = Image()
         >>> image.apply([Row.local("10.0.0.0/8")], generation=7)
         >>> image.generation
         7
+        >>> image.apply([Row.local("10.0.0.0/8")], words=[5])
+        >>> image.lookup_words(["10.0.0.1"])
+        [5]
 
-        Raises Shared while others hold the image, and NoMemory. The image is then as it was.
+        Raises BadCount if there are not as many words as rows, Shared while others hold the image, and
+        NoMemory. The image is then as it was.
         """
         given, count = rows_array(rows)
-        self._need(self._library.image_apply(self._at, self._next(generation), given, count))
+        number = self._next(generation)
+        if words is None:
+            self._need(self._library.image_apply(self._at, number, given, count))
+        else:
+            self._need(self._library.image_apply_words(self._at, number, given, count, *_words_array(words)))
 
     def remove(self, prefixes: Iterable[Prefix], generation: Optional[int] = None) -> None:
         """Takes the rows of prefixes out, if there are any, and sets the generation.
@@ -99,6 +130,20 @@ class Image(Owner):
         self._need(self._library.image_lookup(self._at, addrs, count, answers, count))
         return [row_of(parts) for parts in answers[:count]]
 
+    def lookup_words(self, addresses: Iterable[Address]) -> list[Optional[int]]:
+        """For each address the word of the row that answers it, or None if the row has no word or no row covers
+        the address.
+
+        >>> Image([Row.local("10.0.0.0/8")], words=[700]).lookup_words(["10.1.2.3", "11.0.0.1"])
+        [700, None]
+        """
+        numbers = [address_number(address) for address in addresses]
+        count = len(numbers)
+        addrs = (ctypes.c_uint32 * max(1, count))(*numbers)
+        words = (ctypes.c_uint32 * max(1, count))()
+        self._need(self._library.image_lookup_words(self._at, addrs, count, words, count))
+        return [_word_of(word) for word in words[:count]]
+
     def rows(self, first: Prefix = "0.0.0.0/0") -> Iterator[Row]:
         """The rows from a prefix on, in the order of their prefixes: by address, and then by length.
 
@@ -106,14 +151,25 @@ class Image(Owner):
         >>> [str(row) for row in image.rows()]
         ['10.0.0.0/7 unreachable', '10.0.0.0/8 local']
         """
+        for row, _ in self.rows_and_words(first):
+            yield row
+
+    def rows_and_words(self, first: Prefix = "0.0.0.0/0") -> Iterator[tuple[Row, Optional[int]]]:
+        """As `rows`, each with its word, or None if it has none.
+
+        >>> image = Image([Row.local("10.0.0.0/8")], words=[700])
+        >>> [(str(row), word) for row, word in image.rows_and_words()]
+        [('10.0.0.0/8 local', 700)]
+        """
         cursor = _library.PrefixParts(*prefix_parts(first))
         while True:
-            parts, written = (_library.RowParts * _MANY)(), c_size_t()
-            self._need(self._library.image_rows(self._at, byref(cursor), parts, _MANY, byref(written)))
-            for each in parts[:written.value]:
+            parts, words, written = (_library.RowParts * _MANY)(), (ctypes.c_uint32 * _MANY)(), c_size_t()
+            self._need(self._library.image_rows_words(self._at, byref(cursor), parts, _MANY, words, _MANY,
+                                                      byref(written)))
+            for each, word in zip(parts[:written.value], words):
                 row = row_of(each)
                 if row is not None:
-                    yield row
+                    yield row, _word_of(word)
             if written.value < _MANY:
                 return
 

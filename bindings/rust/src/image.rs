@@ -3,6 +3,15 @@
 use crate::{Prefix, Row, Status, sys};
 use std::net::Ipv4Addr;
 
+/// The word of a row that was given without one. A look-up of words answers it, too, if no row covers the
+/// address.
+///
+/// ```
+/// # use tuhvondi::*;
+/// assert_eq!(NO_WORD, u32::MAX);
+/// ```
+pub const NO_WORD: u32 = u32::MAX;
+
 /// What an image answers for an address: a row, or none.
 ///
 /// ```
@@ -113,6 +122,38 @@ impl Image {
         Ok(image)
     }
 
+    /// As [`Image::new`], with a word of your own for each row, for example the index of a next hop.
+    ///
+    /// ```
+    /// # use tuhvondi::*;
+    /// # let net: Prefix = "10.0.0.0/8".parse()?;
+    /// let mut image = Image::with_words(&[Row::new(net, Target::Local)], &[700])?;
+    /// assert_eq!(image.lookup_word(net.addr()), 700);
+    /// assert_eq!(image.lookup_word([8, 8, 8, 8].into()), NO_WORD);
+    /// # Ok::<(), Box<dyn std::error::Error>>(())
+    /// ```
+    ///
+    /// # Errors
+    ///
+    /// [`Status::BadCount`] if there are not as many words as rows; [`Status::NoMemory`], also for more than
+    /// 16,777,214 rows.
+    pub fn with_words(rows: &[Row], words: &[u32]) -> Result<Image, Status> {
+        let mut image = Image {
+            handle: sys::Handle::EMPTY,
+        };
+        // SAFETY: as in `new`.
+        Status::check(unsafe {
+            sys::tuhvondi_image_new_words(
+                rows.as_ptr(),
+                rows.len(),
+                words.as_ptr(),
+                words.len(),
+                &mut image.handle,
+            )
+        })?;
+        Ok(image)
+    }
+
     /// Sets rows over those of the image, in order, and its generation.
     ///
     /// ```
@@ -131,6 +172,41 @@ impl Image {
         // SAFETY: as in `new`; the handle is held by nobody else, and holds an image.
         Status::check(unsafe {
             sys::tuhvondi_image_apply(&mut self.handle, generation, rows.as_ptr(), rows.len())
+        })
+    }
+
+    /// As [`Image::apply`], with a word for each row. An image that has no words yet is made anew.
+    ///
+    /// ```
+    /// # use tuhvondi::*;
+    /// # let net: Prefix = "10.0.0.0/8".parse()?;
+    /// # let mut image = Image::new(&[Row::new(net, Target::Local)])?;
+    /// assert_eq!(image.lookup_word(net.addr()), NO_WORD);
+    /// image.apply_words(1, &[Row::new(net, Target::Local)], &[12])?;
+    /// assert_eq!(image.lookup_word(net.addr()), 12);
+    /// # Ok::<(), Box<dyn std::error::Error>>(())
+    /// ```
+    ///
+    /// # Errors
+    ///
+    /// [`Status::BadCount`] if there are not as many words as rows; [`Status::Shared`] while there is a
+    /// reader; [`Status::NoMemory`], also for more than 16,777,214 rows. The image is then as it was.
+    pub fn apply_words(
+        &mut self,
+        generation: u64,
+        rows: &[Row],
+        words: &[u32],
+    ) -> Result<(), Status> {
+        // SAFETY: as in `apply`.
+        Status::check(unsafe {
+            sys::tuhvondi_image_apply_words(
+                &mut self.handle,
+                generation,
+                rows.as_ptr(),
+                rows.len(),
+                words.as_ptr(),
+                words.len(),
+            )
         })
     }
 
@@ -198,6 +274,7 @@ impl Image {
                 len: prefix.len(),
             },
             rows: [Answer::default(); LISTED],
+            words: [NO_WORD; LISTED],
             next: LISTED,
             count: LISTED,
         }
@@ -328,6 +405,50 @@ impl Image {
         })
     }
 
+    /// The word of the row that answers an address, or [`NO_WORD`]. It takes no memory.
+    ///
+    /// ```
+    /// # use tuhvondi::*;
+    /// # let net: Prefix = "10.0.0.0/8".parse()?;
+    /// let mut image = Image::with_words(&[Row::new(net, Target::Local)], &[700])?;
+    /// assert_eq!(image.lookup_word([10, 1, 2, 3].into()), 700);
+    /// # Ok::<(), Box<dyn std::error::Error>>(())
+    /// ```
+    pub fn lookup_word(&mut self, addr: Ipv4Addr) -> u32 {
+        let mut words = [NO_WORD];
+        let done = self.lookup_words(&[addr.into()], &mut words);
+        debug_assert_eq!(done, Ok(()));
+        words[0]
+    }
+
+    /// Answers addresses by the words of their rows alone, each [`NO_WORD`] if no row covers the address.
+    ///
+    /// ```
+    /// # use tuhvondi::*;
+    /// # let net: Prefix = "10.0.0.0/8".parse()?;
+    /// let mut image = Image::with_words(&[Row::new(net, Target::Local)], &[700])?;
+    /// let mut words = [0; 2];
+    /// image.lookup_words(&[0x0a01_0203, 0x0808_0808], &mut words)?;
+    /// assert_eq!(words, [700, NO_WORD]);
+    /// # Ok::<(), Box<dyn std::error::Error>>(())
+    /// ```
+    ///
+    /// # Errors
+    ///
+    /// [`Status::BadCount`] if there are not as many words as addresses; nothing is then written.
+    pub fn lookup_words(&mut self, addrs: &[u32], words: &mut [u32]) -> Result<(), Status> {
+        // SAFETY: as in `lookup_all`.
+        Status::check(unsafe {
+            sys::tuhvondi_image_lookup_words(
+                &mut self.handle,
+                addrs.as_ptr(),
+                addrs.len(),
+                words.as_mut_ptr(),
+                words.len(),
+            )
+        })
+    }
+
     pub(crate) fn handle(&mut self) -> &mut sys::Handle {
         &mut self.handle
     }
@@ -370,8 +491,26 @@ pub struct Rows<'a> {
     below: Prefix,
     from: sys::Cursor,
     rows: [Answer; LISTED],
+    words: [u32; LISTED],
     next: usize,
     count: usize,
+}
+
+impl Rows<'_> {
+    /// The same rows, each with its word, or [`NO_WORD`] if it was given without one.
+    ///
+    /// ```
+    /// # use tuhvondi::*;
+    /// # let net: Prefix = "10.0.0.0/8".parse()?;
+    /// let row = Row::new(net, Target::Local);
+    /// let mut image = Image::with_words(&[row], &[700])?;
+    /// assert_eq!(image.rows().with_words().collect::<Vec<_>>(), [(row, 700)]);
+    /// # Ok::<(), Box<dyn std::error::Error>>(())
+    /// ```
+    pub fn with_words(self) -> impl Iterator<Item = (Row, u32)> {
+        let mut rows = self;
+        std::iter::from_fn(move || rows.next().map(|row| (row, rows.words[rows.next - 1])))
+    }
 }
 
 impl Iterator for Rows<'_> {
@@ -382,10 +521,12 @@ impl Iterator for Rows<'_> {
             self.next = 0;
             // SAFETY: as in `apply`; the cursor is a prefix, or what the library made of it.
             unsafe {
-                sys::tuhvondi_image_rows(
+                sys::tuhvondi_image_rows_words(
                     &mut self.image.handle,
                     &mut self.from,
                     self.rows.as_mut_ptr(),
+                    LISTED,
+                    self.words.as_mut_ptr(),
                     LISTED,
                     &mut self.count,
                 )
@@ -420,6 +561,15 @@ impl Reader {
     /// [`Status::BadCount`].
     pub fn lookup_all(&mut self, addrs: &[u32], answers: &mut [Answer]) -> Result<(), Status> {
         self.image.lookup_all(addrs, answers)
+    }
+
+    /// As [`Image::lookup_words`].
+    ///
+    /// # Errors
+    ///
+    /// [`Status::BadCount`].
+    pub fn lookup_words(&mut self, addrs: &[u32], words: &mut [u32]) -> Result<(), Status> {
+        self.image.lookup_words(addrs, words)
     }
 
     /// As [`Image::generation`].

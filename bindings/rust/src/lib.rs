@@ -33,7 +33,7 @@ mod status;
 mod sys;
 mod table;
 
-pub use image::{Answer, Image, Reader, Rows};
+pub use image::{Answer, Image, NO_WORD, Reader, Rows};
 pub use prefix::{BadPrefix, Prefix};
 pub use router::{Counts, Distance, Message, MessageKind, PrefixState, Publication, Router};
 pub use row::{Row, Target};

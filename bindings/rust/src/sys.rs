@@ -93,6 +93,24 @@ unsafe extern "C" {
         answer_count: usize,
         generation: *mut u64,
     ) -> u32;
+    pub(crate) fn tuhvondi_writer_publish_words(
+        writer: *mut Handle,
+        generation: u64,
+        rows: *const Row,
+        count: usize,
+        words: *const u32,
+        word_count: usize,
+        prefixes: *const Prefix,
+        prefix_count: usize,
+    ) -> u32;
+    pub(crate) fn tuhvondi_reader_lookup_words(
+        reader: *mut Handle,
+        addrs: *const u32,
+        count: usize,
+        words: *mut u32,
+        word_count: usize,
+        generation: *mut u64,
+    ) -> u32;
     pub(crate) fn tuhvondi_reader_free(reader: *mut Handle);
     pub(crate) fn tuhvondi_image_new(rows: *const Row, count: usize, image: *mut Handle) -> u32;
     pub(crate) fn tuhvondi_image_apply(
@@ -107,13 +125,6 @@ unsafe extern "C" {
         prefixes: *const Prefix,
         count: usize,
     ) -> u32;
-    pub(crate) fn tuhvondi_image_rows(
-        image: *mut Handle,
-        from: *mut Cursor,
-        rows: *mut Answer,
-        count: usize,
-        written: *mut usize,
-    ) -> u32;
     pub(crate) fn tuhvondi_image_row_count(image: *mut Handle, count: *mut usize) -> u32;
     pub(crate) fn tuhvondi_image_bytes(image: *mut Handle, bytes: *mut usize) -> u32;
     pub(crate) fn tuhvondi_image_share(image: *mut Handle, other: *mut Handle) -> u32;
@@ -124,6 +135,37 @@ unsafe extern "C" {
         addr_count: usize,
         answers: *mut Answer,
         answer_count: usize,
+    ) -> u32;
+    pub(crate) fn tuhvondi_image_new_words(
+        rows: *const Row,
+        count: usize,
+        words: *const u32,
+        word_count: usize,
+        image: *mut Handle,
+    ) -> u32;
+    pub(crate) fn tuhvondi_image_apply_words(
+        image: *mut Handle,
+        generation: u64,
+        rows: *const Row,
+        count: usize,
+        words: *const u32,
+        word_count: usize,
+    ) -> u32;
+    pub(crate) fn tuhvondi_image_lookup_words(
+        image: *mut Handle,
+        addrs: *const u32,
+        addr_count: usize,
+        words: *mut u32,
+        word_count: usize,
+    ) -> u32;
+    pub(crate) fn tuhvondi_image_rows_words(
+        image: *mut Handle,
+        from: *mut Cursor,
+        rows: *mut Answer,
+        count: usize,
+        words: *mut u32,
+        word_count: usize,
+        written: *mut usize,
     ) -> u32;
     pub(crate) fn tuhvondi_image_generation(image: *mut Handle, generation: *mut u64) -> u32;
     pub(crate) fn tuhvondi_image_free(image: *mut Handle);

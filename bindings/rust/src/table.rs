@@ -103,6 +103,46 @@ impl TableWriter {
         })
     }
 
+    /// As [`TableWriter::publish`], with a word for each row.
+    ///
+    /// ```
+    /// # use tuhvondi::*;
+    /// # let net: Prefix = "10.0.0.0/8".parse()?;
+    /// let mut writer = TableWriter::new(&mut Image::new(&[])?, 1)?;
+    /// let mut reader = writer.reader()?;
+    /// writer.publish_words(1, &[Row::new(net, Target::Local)], &[700], &[])?;
+    /// let mut words = [0; 2];
+    /// assert_eq!(reader.lookup_words(&[0x0a01_0203, 0x0808_0808], &mut words), Ok(1));
+    /// assert_eq!(words, [700, NO_WORD]);
+    /// # Ok::<(), Box<dyn std::error::Error>>(())
+    /// ```
+    ///
+    /// # Errors
+    ///
+    /// [`Status::BadCount`] if there are not as many words as rows; otherwise those of `publish`, and
+    /// [`Status::NoMemory`] for more than 16,777,214 rows. Nothing is then published.
+    pub fn publish_words(
+        &mut self,
+        generation: u64,
+        rows: &[Row],
+        words: &[u32],
+        prefixes: &[Prefix],
+    ) -> Result<(), Status> {
+        // SAFETY: as in `publish`.
+        Status::check(unsafe {
+            sys::tuhvondi_writer_publish_words(
+                &mut self.handle,
+                generation,
+                rows.as_ptr(),
+                rows.len(),
+                words.as_ptr(),
+                words.len(),
+                prefixes.as_ptr(),
+                prefixes.len(),
+            )
+        })
+    }
+
     /// A reader, for one thread. When it is dropped, another may be made in its place.
     ///
     /// ```
@@ -182,6 +222,28 @@ impl TableReader {
                 addrs.len(),
                 answers.as_mut_ptr(),
                 answers.len(),
+                &mut generation,
+            )
+        })?;
+        Ok(generation)
+    }
+
+    /// As [`TableReader::lookup_all`], with the words of the rows that answer, each [`NO_WORD`](crate::NO_WORD)
+    /// if no row covers the address. [`TableWriter::publish_words`] has an example.
+    ///
+    /// # Errors
+    ///
+    /// Those of `lookup_all`.
+    pub fn lookup_words(&mut self, addrs: &[u32], words: &mut [u32]) -> Result<u64, Status> {
+        let mut generation = 0;
+        // SAFETY: as in `lookup_all`.
+        Status::check(unsafe {
+            sys::tuhvondi_reader_lookup_words(
+                &mut self.handle,
+                addrs.as_ptr(),
+                addrs.len(),
+                words.as_mut_ptr(),
+                words.len(),
                 &mut generation,
             )
         })?;

@@ -4,17 +4,17 @@ use Rattle.std.proofs.lemmas.Bool.Decides.{nat_tests}
 use mathlib.Core.List.{IsPrefix}
 use prog.Atomic.{either}
 use Rattle.logbook.specs.Pages.{Cell, cell, keeps, no_nib, step, Moves, Goes}
-use Rattle.network_model.specs.Publication.{Image}
+use Rattle.row_words.specs.Rows.{WordTable}
 use Rattle.lookup_ffi.specs.Histories.{IsBookOf, Adds}
 use Rattle.lookup_ffi.proofs.Beginnings.{prefix_whole}
 
-abbrev pub shown : List Image → List Image
+abbrev pub shown : List WordTable → List WordTable
 shown log = []
 
-abbrev pub moved : List Image → List Image → ℕ → Type 0
+abbrev pub moved : List WordTable → List WordTable → ℕ → Type 0
 moved xs ys n = Unit {0}
 
-adds_goes : (log v : List Image) (e : Image) (old : ℕ) → length v ≡ old → IsPrefix v log → (b : Bool) → (length log == old) ≡ b
+adds_goes : (log v : List WordTable) (e : WordTable) (old : ℕ) → length v ≡ old → IsPrefix v log → (b : Bool) → (length log == old) ≡ b
     → Goes IsBookOf shown moved 0 (v, (no_nib, None)) (λ n. either (n == old) (old + 1) n) (Adds (step 0 old (old + 1) e) (v, (no_nib, None))) ((length log, true) ∷ (0, true) ∷ []) log
 adds_goes log v e old len pre true is =
     let here : length log ≡ old = grind (arith, nat_tests) in
@@ -41,12 +41,12 @@ adds_goes log v e old len pre false is =
     )
 
 -- whatever the book is, the exchange adds the image to all that was seen, or finds that the list is longer
-pub adds_moves : (v : List Image) (e : Image) (old : ℕ) → length v ≡ old
+pub adds_moves : (v : List WordTable) (e : WordTable) (old : ℕ) → length v ≡ old
     → Moves IsBookOf shown moved 0 (v, (no_nib, None)) (λ n. either (n == old) (old + 1) n) (Adds (step 0 old (old + 1) e) (v, (no_nib, None)))
 adds_moves v e old len cs log kept pre away =
     let P : List Cell → Type 0 = λ c. (0 < length c) × ((cell c 0).1 ≡ true) × Goes IsBookOf shown moved 0 (v, (no_nib, None)) (λ n. either (n == old) (old + 1) n) (Adds (step 0 old (old + 1) e) (v, (no_nib, None))) c log in
     subst P (sym kept) (omega arith, refl, adds_goes log v e old len pre (length log == old) refl)
 
 -- where the number found is the one expected, the image was added
-pub adds_match : (found old : ℕ) (w v p : List Image) → found ≡ old → MatchBool (found == old) (w ≡ v ++ p) (length w ≡ found) → w ≡ v ++ p
+pub adds_match : (found old : ℕ) (w v p : List WordTable) → found ≡ old → MatchBool (found == old) (w ≡ v ++ p) (length w ≡ found) → w ≡ v ++ p
 adds_match found old w v p same m = let b : (found == old) ≡ true = grind (arith, nat_tests, same) in rw b at m

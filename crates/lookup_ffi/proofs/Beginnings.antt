@@ -1,7 +1,7 @@
 -- Beginnings of lists, and the last of a list of images.
 use Rattle.std.proofs.Common.{◌≡◌, ◌∙◌, ◌≤◌, List, [], ◌∷◌, ◌++◌, Some, length, refl, ap, sym, arith, length-append, append-nil}
 use mathlib.Core.List.{IsPrefix}
-use Rattle.network_model.specs.Publication.{Image}
+use Rattle.row_words.specs.Rows.{WordTable}
 use Rattle.lookup_ffi.specs.Histories.{History, GoesOn, last_or, last_image}
 
 module _ {A : Type 0} where
@@ -32,11 +32,11 @@ module _ {A : Type 0} where
 pub goes_on_self : (h : History) → GoesOn h h
 goes_on_self h = record { book = refl; images = ([], append-nil h.images) }
 
-last_or_more : (i j : Image) (is : List Image) → last_or i (is ++ j ∷ []) ≡ j
+last_or_more : (i j : WordTable) (is : List WordTable) → last_or i (is ++ j ∷ []) ≡ j
 last_or_more i j [] = refl
 last_or_more i j (k ∷ is) = last_or_more k j is
 
 -- the image that is added is the last
-pub last_more : (is : List Image) (j : Image) → last_image (is ++ j ∷ []) ≡ Some j
+pub last_more : (is : List WordTable) (j : WordTable) → last_image (is ++ j ∷ []) ≡ Some j
 last_more [] j = refl
 last_more (i ∷ is) j = ap Some (last_or_more i j is)

@@ -6,3 +6,4 @@ pub mod WriterWords
 pub mod ReaderWords
 pub mod Crossing
 pub mod AnswerRows
+pub mod Wordless

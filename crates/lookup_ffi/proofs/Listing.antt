@@ -3,20 +3,14 @@ use Rattle.std.proofs.Common.{ℕ, ◌≡◌, ◌+◌, ◌<◌, ◌≤◌, List,
 use Rattle.std.proofs.lemmas.List.{length-drop, length-take-le, take_all, drop_all, take_more, take_more_set, drop_more, get_or-drop, map-append}
 use Rattle.std.proofs.lemmas.Option.{none-some}
 use Rattle.ipv4_prefix.specs.Prefix.{Prefix}
-use Rattle.network_model.specs.declared.route.Entry.{Entry}
-use Rattle.c_interface.specs.Rows.{entry_row}
-use Rattle.c_interface.specs.declared.row.Row.{Row}
+use Rattle.row_words.specs.declared.cells.Marked.{Marked}
 use Rattle.array_bitmap.specs.Cursor.{rows_onward}
 use Rattle.lookup_ffi.specs.Prefixes.{IsFilledIn}
 
--- a row, as C has it
-abbrev pub shown : Prefix × Entry → Row
-shown r = entry_row r.0 r.1
-
 -- where no row is left, all are written
-pub filled_at_end : (rows : List (Prefix × Entry)) (from : Option Prefix) (old new : List Row) (count : ℕ) → count ≤ length old → count ≤ length (rows_onward from rows)
-    → take count new ≡ map shown (take count (rows_onward from rows)) → drop count new ≡ drop count old → drop count (rows_onward from rows) ≡ [] → IsFilledIn rows from old new count None
-filled_at_end rows from old new count room there first rest ended =
+pub filled_at_end : {X : Type 0} (shown : Prefix × Marked → X) (rows : List (Prefix × Marked)) (from : Option Prefix) (old new : List X) (count : ℕ) → count ≤ length old → count ≤ length (rows_onward from rows)
+    → take count new ≡ map shown (take count (rows_onward from rows)) → drop count new ≡ drop count old → drop count (rows_onward from rows) ≡ [] → IsFilledIn shown rows from old new count None
+filled_at_end shown rows from old new count room there first rest ended =
     let all = rows_onward from rows in
     let many : length all ≡ count = omega (arith, there, length-drop count all, ap length ended) in
     let whole : take (length old) all ≡ take count all = take_all (length old) all (omega (arith, many, room)) ∙ sym (take_all count all (omega (arith, many))) in
@@ -28,11 +22,11 @@ filled_at_end rows from old new count room there first rest ended =
     }
 
 -- where there is no first one, there is none
-pub none_of_first : (rows : List (Prefix × Entry)) → None ≡ slice_get rows 0 → rows ≡ []
+pub none_of_first : (rows : List (Prefix × Marked)) → None ≡ slice_get rows 0 → rows ≡ []
 none_of_first [] none = refl
 none_of_first (row ∷ rows) none = absurd (none-some row none)
 
-module _ (all : List (Prefix × Entry)) (row : Prefix × Entry) (others : List (Prefix × Entry)) (count : ℕ) (next : drop count all ≡ row ∷ others) where
+module _ (all : List (Prefix × Marked)) (row : Prefix × Marked) (others : List (Prefix × Marked)) (count : ℕ) (next : drop count all ≡ row ∷ others) where
   -- there is one more
   pub one_more_there : count + 1 ≤ length all
   one_more_there = omega (arith, length-drop count all, ap length next)
@@ -45,8 +39,8 @@ module _ (all : List (Prefix × Entry)) (row : Prefix × Entry) (others : List (
       take_more all count row (omega (arith, one_more_there)) ∙ ap (λ x. take count all ++ x ∷ []) it
 
   -- with it the list has one more
-  pub one_more_written : (new : List Row) → count < length new → take count new ≡ map shown (take count all) → take (count + 1) (set new count (shown row)) ≡ map shown (take (count + 1) all)
-  one_more_written new room first =
+  pub one_more_written : {X : Type 0} (shown : Prefix × Marked → X) (new : List X) → count < length new → take count new ≡ map shown (take count all) → take (count + 1) (set new count (shown row)) ≡ map shown (take (count + 1) all)
+  one_more_written shown new room first =
       take_more_set new count (shown row) room ∙ (λ i. first i ++ shown row ∷ []) ∙ sym (map-append shown (take count all) (row ∷ [])) ∙ ap (map shown) (sym one_more_row)
 
   -- the others follow

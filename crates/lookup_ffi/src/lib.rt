@@ -17,11 +17,13 @@
 //!   taken out of it (`tuhvondi_image_remove`).
 //! - Addresses are looked up many at a time. Rows are counted, and listed from a cursor on, which is a
 //!   prefix.
+//! - A row can have a word of the caller's own, beside its entry (`src/words.rt`). An image without words stays
+//!   as small and as fast as one that could have none (`src/kept.rt`).
 //! - Two handles can *share* one image, and each looks up in a thread of its own. While it is shared it is
 //!   not patched (9). A *copy* has the same rows in memory of its own.
 //!
 //! What always holds: the answers are those of the longest match over the rows that were given, set in order
-//! (`answer_rows` in `specs/Rows.antt`). The first row with a fault gives the status (`first_row_fault`), and
+//! (`answer_rows` and `answer_words` in `specs/Rows.antt`). The first row with a fault gives the status (`first_row_fault`), and
 //! comes before an empty handle. A refused call leaves the image of its handle, and the answers, as they are.
 //!
 //! What is tricky: a handle is for one call at a time, also for a look-up. The reason is that a call takes
@@ -407,3 +409,6 @@ pub extern "C" fn tuhvondi_image_free(alloc: Global, image: &mut ImageHandle)
 
 #[cfg(test)]
 mod tests;
+
+#[cfg(test)]
+mod word_tests;

@@ -131,12 +131,12 @@ pub fn list_words(
         let Some(start) = at else {
             return (count, None);
         };
-        let Some(row) = image.first_row_from(start) else {
+        let Some(one) = image.first_row_from(start) else {
             return (count, None);
         };
-        at = next_prefix(row.0);
-        rows[count] = Row::answer(Some((row.0, row.1.entry)));
-        words[count] = row.1.word;
+        at = next_prefix(one.0);
+        rows[count] = Row::answer(Some((one.0, one.1.entry)));
+        words[count] = one.1.word;
         count += 1;
     }
     (count, at)

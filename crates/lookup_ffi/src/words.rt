@@ -40,7 +40,7 @@ fn make(alloc: Global, rows: &[Row], words: &[u32], image: &mut ImageHandle) -> 
 }
 
 /// As `tuhvondi_image_new`, with a word for each row. 8: there are not as many words as rows, and no row has
-/// a fault. 20: memory was refused, or there are more than 16,777,215 rows.
+/// a fault. 20: memory was refused, or there are more than 16,777,214 rows.
 #[unsafe(no_mangle)]
 pub extern "C" fn tuhvondi_image_new_words(
     alloc: Global,
@@ -82,7 +82,7 @@ fn apply(
 }
 
 /// As `tuhvondi_image_apply`, with a word for each row. 8: there are not as many words as rows, and no row
-/// has a fault. 20: memory was refused, or the image would have more than 16,777,215 rows.
+/// has a fault. 20: memory was refused, or the image would have more than 16,777,214 rows.
 #[unsafe(no_mangle)]
 pub extern "C" fn tuhvondi_image_apply_words(
     alloc: Global,
@@ -272,7 +272,7 @@ fn publish(
 }
 
 /// As `tuhvondi_writer_publish`, with a word for each row. 8: there are not as many words as rows, and no row
-/// has a fault. 20: memory was refused, or the image would have more than 16,777,215 rows.
+/// has a fault. 20: memory was refused, or the image would have more than 16,777,214 rows.
 #[unsafe(no_mangle)]
 pub extern "C" fn tuhvondi_writer_publish_words(
     alloc: Global,

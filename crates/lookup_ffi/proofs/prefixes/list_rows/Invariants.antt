@@ -1,6 +1,6 @@
 use Rattle.std.proofs.Common.{◌≡◌, ◌≤◌, ◌-◌, map, length, take, drop}
-use Rattle.c_interface.specs.Rows.{entry_row}
 use Rattle.array_bitmap.specs.Cursor.{rows_onward}
+use Rattle.lookup_ffi.specs.Prefixes.{listed_row}
 use Rattle.lookup_ffi.proofs.prefixes.list_rows.Given as goal
 
 abbrev pub invariant-loop-count : goal.invariant-loop-count
@@ -8,7 +8,7 @@ invariant-loop-count l = record {
   room : length l.rows ≡ length l.fn.rows;
   within : l.count ≤ length l.rows;
   there : l.count ≤ length (rows_onward l.fn.from (l.image).rows);
-  first : take l.count l.rows ≡ map (λ r. entry_row r.0 r.1) (take l.count (rows_onward l.fn.from (l.image).rows));
+  first : take l.count l.rows ≡ map listed_row (take l.count (rows_onward l.fn.from (l.image).rows));
   rest : drop l.count l.rows ≡ drop l.count l.fn.rows;
   others : rows_onward l.at (l.image).rows ≡ drop l.count (rows_onward l.fn.from (l.image).rows);
 }

@@ -4,14 +4,14 @@ use Rattle.std.proofs.Math.Seq.{take-add}
 use Rattle.std.proofs.lemmas.List.{ext_get_or, get_or-map, get_or-set_same, length-set, length-map, map-append}
 use Rattle.std.proofs.lemmas.List.Edits.{length-between}
 use Rattle.std.proofs.lemmas.Slice.{take-put_mid}
-use Rattle.network_model.specs.Publication.{image_answer}
 use Rattle.c_interface.specs.declared.row.Row.{Row}
 use Rattle.c_interface.specs.Rows.{answer_row}
+use Rattle.lookup_ffi.specs.Rows.{entry_answer}
 use Rattle.lookup_ffi.proofs.rows.answer_all.Goals as goal
 
 pub loop-done-preserved : goal.loop-done-preserved
 loop-done-preserved c =
-    let f : ℕ → Row = λ addr. answer_row (image_answer c.args.image.now addr) in
+    let f : ℕ → Row = λ addr. answer_row (entry_answer c.args.image.now addr) in
     let zs = c.args.addrs.now in
     let done = c.loop-done.done in
     let end = c.min-end.result in
@@ -32,7 +32,7 @@ loop-done-preserved c =
 
 pub returns-then-addrs-eq1 : goal.returns-then-addrs-eq1
 returns-then-addrs-eq1 c =
-    let f : ℕ → Row = λ addr. answer_row (image_answer c.args.image.now addr) in
+    let f : ℕ → Row = λ addr. answer_row (entry_answer c.args.image.now addr) in
     let xs = c.args.addrs.now in
     let ys = c.args.answers.now in
     let one : length xs ≡ 1 = omega (arith, c.if-addrs-eq1.true) in
