@@ -12,8 +12,9 @@
  *      as before, and the call has to be done when it is made again.
  *   3. A look-up that stands still while its writer publishes, and one while its writer is freed.
  *   4. Image, writer and two readers freed in each order.
- *   5. STEPS random steps: rows that lie in each other are set, taken out, listed from anywhere by any number,
- *      and looked up in bursts of any length. Image and readers have to answer what the list has.
+ *   5. STEPS random steps: rows that lie in each other are set, with words and without, taken out, listed from
+ *      anywhere by any number, and looked up in bursts of any length. Image and readers have to answer what the
+ *      list has.
  *
  * It ends with status 1 if anything is not as it has to be, or if memory is not given back.
  */
@@ -125,6 +126,7 @@ static uint32_t below(uint32_t limit)
 
 struct list {
     struct tuhvondi_row rows[MOST_ROWS];
+    uint32_t words[MOST_ROWS];
     size_t count;
 };
 
@@ -158,15 +160,29 @@ static bool has(const struct list *list, size_t at, uint32_t addr, uint8_t len)
     return at < list->count && list->rows[at].addr == addr && list->rows[at].len == len;
 }
 
-static void set(struct list *list, struct tuhvondi_row row)
+static void set_word(struct list *list, struct tuhvondi_row row, uint32_t word)
 {
     size_t at = place_of(list, row.addr, row.len);
     if (!has(list, at, row.addr, row.len)) {
         NEED(list->count < MOST_ROWS);
         memmove(&list->rows[at + 1], &list->rows[at], (list->count - at) * sizeof row);
+        memmove(&list->words[at + 1], &list->words[at], (list->count - at) * sizeof word);
         list->count++;
     }
     list->rows[at] = row;
+    list->words[at] = word;
+}
+
+static void set(struct list *list, struct tuhvondi_row row)
+{
+    set_word(list, row, TUHVONDI_NO_WORD);
+}
+
+static void copy_list(struct list *to, const struct list *from)
+{
+    to->count = from->count;
+    memcpy(to->rows, from->rows, from->count * sizeof from->rows[0]);
+    memcpy(to->words, from->words, from->count * sizeof from->words[0]);
 }
 
 static void take_out(struct list *list, uint32_t addr, uint8_t len)
@@ -176,17 +192,34 @@ static void take_out(struct list *list, uint32_t addr, uint8_t len)
         return;
     list->count--;
     memmove(&list->rows[at], &list->rows[at + 1], (list->count - at) * sizeof list->rows[0]);
+    memmove(&list->words[at], &list->words[at + 1], (list->count - at) * sizeof list->words[0]);
 }
 
-static struct tuhvondi_row longest(const struct list *list, uint32_t addr)
+/* The place of the row that answers an address, or count. */
+static size_t place_of_longest(const struct list *list, uint32_t addr)
 {
     for (int len = 32; len >= 0; len--) {
         uint32_t net = addr & mask((uint8_t)len);
         size_t at = place_of(list, net, (uint8_t)len);
         if (has(list, at, net, (uint8_t)len))
-            return list->rows[at];
+            return at;
     }
-    return (struct tuhvondi_row){.kind = TUHVONDI_NO_ROW};
+    return list->count;
+}
+
+static struct tuhvondi_row longest(const struct list *list, uint32_t addr)
+{
+    size_t at = place_of_longest(list, addr);
+    return at < list->count ? list->rows[at] : (struct tuhvondi_row){.kind = TUHVONDI_NO_ROW};
+}
+
+/* The words are those that the list has for the addresses. */
+static void need_words(const struct list *list, const uint32_t *addrs, const uint32_t *words, size_t count)
+{
+    for (size_t i = 0; i < count; i++) {
+        size_t at = place_of_longest(list, addrs[i]);
+        NEED(words[i] == (at < list->count ? list->words[at] : TUHVONDI_NO_WORD));
+    }
 }
 
 static bool is_same(const struct tuhvondi_row *a, const struct tuhvondi_row *b)
@@ -204,13 +237,15 @@ static struct tuhvondi_row via(uint32_t addr, uint8_t len, uint8_t port)
 static void need_rows(struct tuhvondi_image *image, const struct list *list, uint64_t generation)
 {
     static struct tuhvondi_row rows[MOST_ROWS + 1];
+    static uint32_t words[MOST_ROWS + 1];
     struct tuhvondi_prefix from = TUHVONDI_FIRST_PREFIX;
     size_t count = 0;
     uint64_t its = ~generation;
-    NEED(tuhvondi_image_rows(image, &from, rows, MOST_ROWS + 1, &count) == TUHVONDI_DONE);
+    NEED(tuhvondi_image_rows_words(image, &from, rows, MOST_ROWS + 1, words, MOST_ROWS + 1, &count)
+         == TUHVONDI_DONE);
     NEED(count == list->count && from.len == TUHVONDI_NO_PREFIX);
     for (size_t i = 0; i < count; i++)
-        NEED(is_same(&rows[i], &list->rows[i]));
+        NEED(is_same(&rows[i], &list->rows[i]) && words[i] == list->words[i]);
     NEED(tuhvondi_image_generation(image, &its) == TUHVONDI_DONE && its == generation);
 }
 
@@ -239,7 +274,7 @@ static void refuse_arguments(void)
     struct tuhvondi_image image = TUHVONDI_NO_IMAGE, other = TUHVONDI_NO_IMAGE;
     struct tuhvondi_prefix from = TUHVONDI_FIRST_PREFIX;
     struct tuhvondi_row answers[3] = {via(1, 2, 3), via(1, 2, 3), via(1, 2, 3)};
-    uint32_t addrs[3] = {0, 1, UINT32_MAX};
+    uint32_t addrs[3] = {0, 1, UINT32_MAX}, words[3] = {3, 3, 3};
     uint64_t generation = 7;
     size_t count = 7;
 
@@ -250,13 +285,22 @@ static void refuse_arguments(void)
     NEED(tuhvondi_image_copy(&image, &other) == TUHVONDI_NO_IMAGE_HELD);
     NEED(tuhvondi_image_lookup(&image, addrs, 3, answers, 3) == TUHVONDI_NO_IMAGE_HELD);
     NEED(tuhvondi_image_rows(&image, &from, answers, 3, &count) == TUHVONDI_NO_IMAGE_HELD);
+    NEED(tuhvondi_image_apply_words(&image, 1, NULL, 0, NULL, 0) == TUHVONDI_NO_IMAGE_HELD);
+    NEED(tuhvondi_image_lookup_words(&image, addrs, 3, words, 2) == TUHVONDI_NO_IMAGE_HELD);
+    NEED(tuhvondi_image_rows_words(&image, &from, answers, 3, words, 3, &count) == TUHVONDI_NO_IMAGE_HELD);
     NEED(tuhvondi_image_row_count(&image, &count) == TUHVONDI_NO_IMAGE_HELD);
     NEED(tuhvondi_image_bytes(&image, &count) == TUHVONDI_NO_IMAGE_HELD);
     NEED(tuhvondi_image_generation(&image, &generation) == TUHVONDI_NO_IMAGE_HELD);
     NEED(count == 7 && generation == 7 && from.addr == 0 && from.len == 0 && answers[0].port == 3);
+    NEED(words[0] == 3);
     tuhvondi_image_free(&image);
 
     /* Empty lists, at null. */
+    NEED(tuhvondi_image_new_words(NULL, 0, NULL, 0, &image) == TUHVONDI_DONE);
+    NEED(tuhvondi_image_apply_words(&image, 2, NULL, 0, NULL, 0) == TUHVONDI_DONE);
+    NEED(tuhvondi_image_lookup_words(&image, NULL, 0, NULL, 0) == TUHVONDI_DONE);
+    NEED(tuhvondi_image_rows_words(&image, &from, NULL, 0, NULL, 0, &count) == TUHVONDI_DONE && count == 0);
+    count = 7;
     NEED(tuhvondi_image_new(NULL, 0, &image) == TUHVONDI_DONE);
     NEED(tuhvondi_image_apply(&image, 3, NULL, 0) == TUHVONDI_DONE);
     NEED(tuhvondi_image_remove(&image, 4, NULL, 0) == TUHVONDI_DONE);
@@ -270,6 +314,14 @@ static void refuse_arguments(void)
     NEED(tuhvondi_image_lookup(&image, addrs, 2, answers, 3) == TUHVONDI_BAD_COUNT);
     NEED(tuhvondi_image_lookup(&image, NULL, 0, answers, 3) == TUHVONDI_BAD_COUNT);
     NEED(tuhvondi_image_lookup(&image, addrs, 3, NULL, 0) == TUHVONDI_BAD_COUNT);
+    NEED(tuhvondi_image_lookup_words(&image, addrs, 3, words, 2) == TUHVONDI_BAD_COUNT);
+    NEED(tuhvondi_image_lookup_words(&image, NULL, 0, words, 3) == TUHVONDI_BAD_COUNT);
+    NEED(tuhvondi_image_rows_words(&image, &from, answers, 3, words, 2, &count) == TUHVONDI_BAD_COUNT);
+    NEED(tuhvondi_image_rows_words(&other, &from, answers, 2, words, 3, &count) == TUHVONDI_BAD_COUNT);
+    NEED(tuhvondi_image_new_words(answers, 0, words, 3, &image) == TUHVONDI_BAD_COUNT);
+    NEED(tuhvondi_image_apply_words(&image, 1, NULL, 0, words, 3) == TUHVONDI_BAD_COUNT);
+    NEED(tuhvondi_image_apply_words(&other, 1, NULL, 0, words, 3) == TUHVONDI_BAD_COUNT);
+    NEED(words[0] == 3 && words[1] == 3 && words[2] == 3);
     NEED(answers[0].port == 3 && answers[1].port == 3 && answers[2].port == 3);
     NEED(tuhvondi_image_lookup(&image, addrs, 3, answers, 3) == TUHVONDI_DONE);
     for (int i = 0; i < 3; i++)
@@ -282,6 +334,8 @@ static void refuse_arguments(void)
         NEED(tuhvondi_image_apply(&image, 9, rows, 3) == bad[i].fault);
         NEED(tuhvondi_image_apply(&other, 9, rows, 3) == bad[i].fault);
         NEED(tuhvondi_image_new(rows, 3, &image) == bad[i].fault);
+        NEED(tuhvondi_image_new_words(rows, 3, words, 2, &image) == bad[i].fault);
+        NEED(tuhvondi_image_apply_words(&image, 9, rows, 3, words, 2) == bad[i].fault);
         if (bad[i].fault != TUHVONDI_BAD_KIND) {
             NEED(tuhvondi_image_remove(&image, 9, prefixes, 3) == bad[i].fault);
             NEED(tuhvondi_image_remove(&other, 9, prefixes, 3) == bad[i].fault);
@@ -289,6 +343,9 @@ static void refuse_arguments(void)
             uint32_t fault = bad[i].row.len == TUHVONDI_NO_PREFIX ? (uint32_t)TUHVONDI_DONE : bad[i].fault;
             from = prefixes[1];
             NEED(tuhvondi_image_rows(&image, &from, rows, 3, &count) == fault);
+            from = prefixes[1];
+            NEED(tuhvondi_image_rows_words(&image, &from, rows, 3, words, 2, &count)
+                 == (fault == TUHVONDI_DONE ? (uint32_t)TUHVONDI_BAD_COUNT : fault));
         }
         need_rows(&image, &none, 4);
     }
@@ -324,11 +381,13 @@ static struct tuhvondi_prefix draw_prefix(void)
     return (struct tuhvondi_prefix){addr & mask(len), len};
 }
 
-/* Steps at the image and at the list, which begin with so many rows. */
-static void compare(uint64_t steps, uint32_t spread)
+/* Steps at the image and at the list, which begin with so many rows. From a step on half of the rows that are
+ * set have words. */
+static void compare(uint64_t steps, uint32_t spread, uint64_t words_from)
 {
     static struct list list;
     static struct tuhvondi_row rows[MOST_ROWS + 1];
+    static uint32_t row_words[MOST_ROWS + 1];
     list.count = 0;
     for (uint32_t i = 0; i < spread; i++) {
         rows[i] = via(i * 0x00060000, 32, (uint8_t)(i % 32));
@@ -353,6 +412,8 @@ static void compare(uint64_t steps, uint32_t spread)
             NEED(tuhvondi_image_remove(&image, step, gone, many) == TUHVONDI_DONE);
         } else {
             struct tuhvondi_row set_now[8];
+            uint32_t words[8];
+            bool has_words = step >= words_from && below(2) == 0;
             for (uint32_t i = 0; i < many; i++) {
                 struct tuhvondi_prefix at = draw_prefix();
                 set_now[i] = (struct tuhvondi_row){.addr = at.addr, .len = at.len, .kind = (uint8_t)below(3)};
@@ -360,17 +421,24 @@ static void compare(uint64_t steps, uint32_t spread)
                     set_now[i].port = (uint8_t)below(256);
                     set_now[i].session = (uint16_t)below(65536);
                 }
-                set(&list, set_now[i]);
+                words[i] = has_words ? below(UINT32_MAX) : TUHVONDI_NO_WORD;
+                set_word(&list, set_now[i], words[i]);
             }
-            NEED(tuhvondi_image_apply(&image, step, set_now, many) == TUHVONDI_DONE);
+            if (has_words)
+                NEED(tuhvondi_image_apply_words(&image, step, set_now, many, words, many) == TUHVONDI_DONE);
+            else
+                NEED(tuhvondi_image_apply(&image, step, set_now, many) == TUHVONDI_DONE);
         }
         most = list.count > most ? list.count : most;
 
         /* A burst. */
         uint32_t addrs[MOST_ADDRS], burst = below(MOST_ADDRS + 1);
+        uint32_t words[MOST_ADDRS];
         struct tuhvondi_row answers[MOST_ADDRS];
         for (uint32_t i = 0; i < burst; i++)
             addrs[i] = below(3) == 0 ? below(SPREAD) * 0x00060000 : draw_prefix().addr + below(3);
+        NEED(tuhvondi_image_lookup_words(&image, addrs, burst, words, burst) == TUHVONDI_DONE);
+        need_words(&list, addrs, words, burst);
         NEED(tuhvondi_image_lookup(&image, addrs, burst, answers, burst) == TUHVONDI_DONE);
         for (uint32_t i = 0; i < burst; i++) {
             struct tuhvondi_row found = longest(&list, addrs[i]);
@@ -382,11 +450,16 @@ static void compare(uint64_t steps, uint32_t spread)
         struct tuhvondi_prefix from = draw_prefix();
         size_t at = place_of(&list, from.addr, from.len), room = below(40);
         while (below(4) != 0) {
-            NEED(tuhvondi_image_rows(&image, &from, rows, room, &count) == TUHVONDI_DONE);
+            bool has_words = below(2) == 0;
+            NEED((has_words ? tuhvondi_image_rows_words(&image, &from, rows, room, row_words, room, &count)
+                            : tuhvondi_image_rows(&image, &from, rows, room, &count))
+                 == TUHVONDI_DONE);
             size_t left = list.count - at;
             NEED(count == (left < room ? left : room));
-            for (size_t i = 0; i < count; i++)
+            for (size_t i = 0; i < count; i++) {
                 NEED(is_same(&rows[i], &list.rows[at + i]));
+                NEED(!has_words || row_words[i] == list.words[at + i]);
+            }
             at += count;
             listed += count;
         }
@@ -414,39 +487,49 @@ static void compare(uint64_t steps, uint32_t spread)
 /* Each call that takes memory is refused each of its allocations. */
 static void refuse_memory(void)
 {
-    static struct list before, after;
+    static struct list lists[2], afters[2];
     static struct tuhvondi_row rows[200], more[50];
+    static uint32_t words[200];
     size_t refused = 0;
     for (size_t i = 0; i < 200; i++) {
         rows[i] = via(0x0a000000 + (uint32_t)i * 0x00010000, 16, (uint8_t)(i % 32));
-        set(&before, rows[i]);
+        words[i] = (uint32_t)i;
+        set(&lists[0], rows[i]);
+        set_word(&lists[1], rows[i], words[i]);
     }
-    after = before;
-    for (size_t i = 0; i < 50; i++) {
+    for (size_t i = 0; i < 50; i++)
         more[i] = via(0x0a000000 + (uint32_t)i * 0x01010100, 32, (uint8_t)(i % 32));
-        set(&after, more[i]);
-    }
-    for (int call = 0; call < 4; call++) {
+    /* Each call twice: of images without words, and of images with. The last two set rows of the other sort. */
+    for (int call = 0; call < 10; call++) {
         uint32_t status = TUHVONDI_NO_MEMORY;
+        bool has_words = call % 2, sets_words = call < 8 ? has_words : !has_words;
+        struct list *before = &lists[has_words], *after = &afters[has_words];
+        copy_list(after, before);
+        for (size_t i = 0; i < 50; i++)
+            set_word(after, more[i], sets_words ? words[i] : TUHVONDI_NO_WORD);
         for (size_t allowed = 0; status != TUHVONDI_DONE; allowed++) {
             struct tuhvondi_image image = TUHVONDI_NO_IMAGE, other = TUHVONDI_NO_IMAGE;
-            NEED(tuhvondi_image_new(rows, 200, &image) == TUHVONDI_DONE);
-            if (call > 0)
+            NEED((has_words ? tuhvondi_image_new_words(rows, 200, words, 200, &image)
+                            : tuhvondi_image_new(rows, 200, &image))
+                 == TUHVONDI_DONE);
+            if (call > 1)
                 NEED(tuhvondi_image_new(NULL, 0, &other) == TUHVONDI_DONE);
             until_refused = allowed;
             status = call == 0 ? tuhvondi_image_new(rows, 200, &other)
-                : call == 1    ? tuhvondi_image_share(&image, &other)
-                : call == 2    ? tuhvondi_image_copy(&image, &other)
+                : call == 1    ? tuhvondi_image_new_words(rows, 200, words, 200, &other)
+                : call < 4     ? tuhvondi_image_share(&image, &other)
+                : call < 6     ? tuhvondi_image_copy(&image, &other)
+                : sets_words   ? tuhvondi_image_apply_words(&image, 2, more, 50, words, 50)
                                : tuhvondi_image_apply(&image, 2, more, 50);
             until_refused = SIZE_MAX;
             NEED(status == TUHVONDI_DONE || status == TUHVONDI_NO_MEMORY);
             refused += status == TUHVONDI_NO_MEMORY;
-            bool done = status == TUHVONDI_DONE, applies = call == 3;
-            need_rows(&image, applies && done ? &after : &before, applies && done ? 2 : 0);
-            if (call == 0 && !done)
+            bool done = status == TUHVONDI_DONE, applies = call >= 6;
+            need_rows(&image, applies && done ? after : before, applies && done ? 2 : 0);
+            if (call < 2 && !done)
                 NEED(tuhvondi_image_row_count(&other, &(size_t){0}) == TUHVONDI_NO_IMAGE_HELD);
             else if (!applies)
-                need_rows(&other, done ? &before : &none, 0);
+                need_rows(&other, done ? before : &none, 0);
             tuhvondi_image_free(&image);
             tuhvondi_image_free(&other);
             NEED(blocks_out == 0);
@@ -456,12 +539,15 @@ static void refuse_memory(void)
     struct tuhvondi_image image = TUHVONDI_NO_IMAGE;
     struct tuhvondi_prefix prefix = {0x0a000000, 16}, from = TUHVONDI_FIRST_PREFIX;
     struct tuhvondi_row row;
+    uint32_t word;
     size_t count;
-    NEED(tuhvondi_image_new(rows, 200, &image) == TUHVONDI_DONE);
+    NEED(tuhvondi_image_new_words(rows, 200, words, 200, &image) == TUHVONDI_DONE);
     until_refused = 0;
     NEED(tuhvondi_image_remove(&image, 1, &prefix, 1) == TUHVONDI_DONE);
     NEED(tuhvondi_image_lookup(&image, &prefix.addr, 1, &row, 1) == TUHVONDI_DONE);
     NEED(tuhvondi_image_rows(&image, &from, &row, 1, &count) == TUHVONDI_DONE && count == 1);
+    NEED(tuhvondi_image_lookup_words(&image, &row.addr, 1, &word, 1) == TUHVONDI_DONE && word == 1);
+    NEED(tuhvondi_image_rows_words(&image, &from, &row, 1, &word, 1, &count) == TUHVONDI_DONE && word == 2);
     NEED(tuhvondi_image_row_count(&image, &count) == TUHVONDI_DONE && count == 199);
     until_refused = SIZE_MAX;
     tuhvondi_image_free(&image);
@@ -476,10 +562,15 @@ static void need_answers(struct tuhvondi_reader *reader, const struct list *list
 {
     uint32_t addrs[MOST_ADDRS];
     struct tuhvondi_row answers[MOST_ADDRS];
+    uint32_t words[MOST_ADDRS];
     for (size_t from = 0; from == 0 || from < list->count; from += MOST_ADDRS) {
         uint64_t its = ~generation;
         for (size_t i = 0; i < MOST_ADDRS; i++)
             addrs[i] = from + i < list->count ? list->rows[from + i].addr + (uint32_t)(i % 3) : (uint32_t)i << 24;
+        NEED(tuhvondi_reader_lookup_words(reader, addrs, MOST_ADDRS, words, MOST_ADDRS, &its) == TUHVONDI_DONE);
+        NEED(its == generation);
+        need_words(list, addrs, words, MOST_ADDRS);
+        its = ~generation;
         NEED(tuhvondi_reader_lookup(reader, addrs, MOST_ADDRS, answers, MOST_ADDRS, &its) == TUHVONDI_DONE);
         NEED(its == generation);
         for (size_t i = 0; i < MOST_ADDRS; i++) {
@@ -496,7 +587,7 @@ static void refuse_reader_arguments(void)
     struct tuhvondi_writer writer = TUHVONDI_NO_WRITER;
     struct tuhvondi_reader reader = TUHVONDI_NO_READER, other = TUHVONDI_NO_READER;
     struct tuhvondi_row answers[3] = {via(1, 2, 3), via(1, 2, 3), via(1, 2, 3)};
-    uint32_t addrs[3] = {0, 1, UINT32_MAX};
+    uint32_t addrs[3] = {0, 1, UINT32_MAX}, words[3] = {3, 3, 3};
     uint64_t generation = 7;
 
     /* Empty handles. */
@@ -506,6 +597,8 @@ static void refuse_reader_arguments(void)
     NEED(tuhvondi_writer_reader(&writer, &reader) == TUHVONDI_NO_IMAGE_HELD);
     NEED(tuhvondi_reader_lookup(&reader, addrs, 3, answers, 3, &generation) == TUHVONDI_NO_IMAGE_HELD);
     NEED(tuhvondi_reader_lookup(&reader, addrs, 3, answers, 2, &generation) == TUHVONDI_NO_IMAGE_HELD);
+    NEED(tuhvondi_reader_lookup_words(&reader, addrs, 3, words, 2, &generation) == TUHVONDI_NO_IMAGE_HELD);
+    NEED(tuhvondi_writer_publish_words(&writer, 1, NULL, 0, NULL, 0, NULL, 0) == TUHVONDI_NO_IMAGE_HELD);
     NEED(generation == 7 && answers[0].port == 3);
     tuhvondi_reader_free(&reader);
     tuhvondi_writer_free(&writer);
@@ -561,6 +654,8 @@ static void refuse_reader_arguments(void)
     NEED(tuhvondi_reader_lookup(&reader, addrs, 2, answers, 3, &generation) == TUHVONDI_BAD_COUNT);
     NEED(tuhvondi_reader_lookup(&reader, NULL, 0, answers, 3, &generation) == TUHVONDI_BAD_COUNT);
     NEED(tuhvondi_reader_lookup(&reader, addrs, 3, NULL, 0, &generation) == TUHVONDI_BAD_COUNT);
+    NEED(tuhvondi_reader_lookup_words(&reader, addrs, 2, words, 3, &generation) == TUHVONDI_BAD_COUNT);
+    NEED(words[0] == 3 && words[1] == 3 && words[2] == 3);
     NEED(generation == 7 && answers[0].port == 3 && answers[1].port == 3 && answers[2].port == 3);
 
     /* Rows and prefixes that are none: the first row with a fault, or else the first prefix. */
@@ -571,6 +666,9 @@ static void refuse_reader_arguments(void)
         struct tuhvondi_writer empty = TUHVONDI_NO_WRITER;
         NEED(tuhvondi_writer_publish(&writer, 9, rows, 3, later, 2) == bad[i].fault);
         NEED(tuhvondi_writer_publish(&empty, 9, rows, 3, later, 2) == bad[i].fault);
+        NEED(tuhvondi_writer_publish_words(&writer, 9, rows, 3, addrs, 2, later, 2) == bad[i].fault);
+        NEED(tuhvondi_writer_publish_words(&empty, 9, rows, 1, addrs, 2, later, 2) == TUHVONDI_BAD_COUNT);
+        NEED(tuhvondi_writer_publish_words(&empty, 9, rows, 1, addrs, 1, later, 2) == TUHVONDI_HOST_BITS);
         if (bad[i].fault != TUHVONDI_BAD_KIND) {
             NEED(tuhvondi_writer_publish(&writer, 9, rows, 1, prefixes, 3) == bad[i].fault);
             NEED(tuhvondi_writer_publish(&empty, 9, rows, 1, prefixes, 3) == bad[i].fault);
@@ -608,11 +706,16 @@ static void refuse_reader_arguments(void)
     NEED(blocks_out == 0);
 }
 
-/* Publishes generation 1 or 2: rows that are set, and prefixes whose rows are taken out. */
+/* Publishes generation 1 or 2: rows that are set, the second time with words, and prefixes whose rows are taken
+ * out. */
 static uint32_t publish_part(struct tuhvondi_writer *writer, int part, struct tuhvondi_row rows[2][50],
                              struct tuhvondi_prefix gone[2][5])
 {
-    return tuhvondi_writer_publish(writer, (uint64_t)part + 1, rows[part], 50, gone[part], 5);
+    uint32_t words[50];
+    for (uint32_t i = 0; i < 50; i++)
+        words[i] = i;
+    return part == 0 ? tuhvondi_writer_publish(writer, 1, rows[0], 50, gone[0], 5)
+                     : tuhvondi_writer_publish_words(writer, 2, rows[1], 50, words, 50, gone[1], 5);
 }
 
 /* Each call of a writer that takes memory is refused each of its allocations. */
@@ -630,7 +733,7 @@ static void refuse_writers_memory(void)
         lists[k + 1] = lists[k];
         for (size_t i = 0; i < 50; i++) {
             more[k][i] = via(0x0a000000 + (uint32_t)(i + 50 * k) * 0x01010100, 32, (uint8_t)(i % 32));
-            set(&lists[k + 1], more[k][i]);
+            set_word(&lists[k + 1], more[k][i], k == 0 ? TUHVONDI_NO_WORD : (uint32_t)i);
         }
         for (size_t i = 0; i < 5; i++) {
             gone[k][i] = (struct tuhvondi_prefix){rows[5 * k + i].addr, rows[5 * k + i].len};
@@ -853,12 +956,14 @@ static void compare_readers(uint64_t steps)
         struct tuhvondi_row rows[8];
         struct tuhvondi_prefix gone[8];
         uint32_t sets = below(8), takes = list.count > MOST_ROWS - 100 ? 8 : below(6);
-        changed.count = list.count;
-        memcpy(changed.rows, list.rows, list.count * sizeof list.rows[0]);
+        uint32_t words[8];
+        bool has_words = step > steps / 4 && below(2) == 0;
+        copy_list(&changed, &list);
         for (uint32_t i = 0; i < sets; i++) {
             struct tuhvondi_prefix at = draw_prefix();
             rows[i] = via(at.addr, at.len, (uint8_t)below(256));
-            set(&changed, rows[i]);
+            words[i] = has_words ? below(UINT32_MAX) : TUHVONDI_NO_WORD;
+            set_word(&changed, rows[i], words[i]);
         }
         for (uint32_t i = 0; i < takes; i++) {
             gone[i] = draw_prefix();
@@ -870,17 +975,18 @@ static void compare_readers(uint64_t steps)
         }
         until_refused = below(4) == 0 ? below(6) : SIZE_MAX;
         bool is_open = until_refused == SIZE_MAX;
-        uint32_t status = tuhvondi_writer_publish(&writer, step, rows, sets, gone, takes);
+        uint32_t status = has_words
+            ? tuhvondi_writer_publish_words(&writer, step, rows, sets, words, sets, gone, takes)
+            : tuhvondi_writer_publish(&writer, step, rows, sets, gone, takes);
         until_refused = SIZE_MAX;
         NEED(status == TUHVONDI_DONE || (status == TUHVONDI_NO_MEMORY && !is_open));
         refused += status == TUHVONDI_NO_MEMORY;
         if (status == TUHVONDI_DONE) {
             generation = step;
-            list.count = changed.count;
-            memcpy(list.rows, changed.rows, changed.count * sizeof list.rows[0]);
+            copy_list(&list, &changed);
         }
         for (int k = 0; k < 2; k++) {
-            uint32_t addrs[MOST_ADDRS], burst = below(MOST_ADDRS + 1);
+            uint32_t addrs[MOST_ADDRS], found_words[MOST_ADDRS], burst = below(MOST_ADDRS + 1);
             struct tuhvondi_row answers[MOST_ADDRS];
             uint64_t its = ~generation;
             if (below(64) == 0) {
@@ -889,6 +995,10 @@ static void compare_readers(uint64_t steps)
             }
             for (uint32_t i = 0; i < burst; i++)
                 addrs[i] = draw_prefix().addr + below(3);
+            NEED(tuhvondi_reader_lookup_words(&readers[k], addrs, burst, found_words, burst, &its) == TUHVONDI_DONE);
+            NEED(its == generation);
+            need_words(&list, addrs, found_words, burst);
+            its = ~generation;
             NEED(tuhvondi_reader_lookup(&readers[k], addrs, burst, answers, burst, &its) == TUHVONDI_DONE);
             NEED(its == generation);
             for (uint32_t i = 0; i < burst; i++) {
@@ -917,8 +1027,10 @@ int main(int argc, char **argv)
     publish_beside_a_look_up();
     free_in_each_order();
     compare_readers(steps);
-    compare(steps, 0);
-    compare(steps / 10, SPREAD);
+    compare(steps, 0, UINT64_MAX);
+    compare(steps, 0, steps / 2);
+    compare(steps / 10, SPREAD, UINT64_MAX);
+    compare(steps / 10, SPREAD, steps / 20);
     puts("all as they have to be");
     return 0;
 }

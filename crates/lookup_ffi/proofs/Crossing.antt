@@ -1,14 +1,16 @@
--- Writers and readers go to other threads.
+-- Images, writers and readers go to other threads.
 use denote.Param.Send.{IsSend, IsSync, sendable}
 use Rattle.std.proofs.Crossing.{frees, crosses}
 use Rattle.std_alloc.proofs.arc.Arc.TheSendSync as arc
 use Rattle.std_alloc.proofs.vec.Vec.TheSendSync as vec
 use Rattle.std_heap.proofs.Global.TheSendSync as heap
 use Rattle.array_bitmap.proofs.image.Image.TheSendSync as tree
+use Rattle.row_words.proofs.image.WordImage.TheSendSync as words
 use Rattle.logbook.proofs.tokens.Seen.TheSendSync as seen
 use Rattle.logbook.proofs.word.Word.TheSendSync as word
 use Rattle.counted_slot.proofs.Counted.TheSendSync as counted
 use Rattle.lookup_ffi.specs.contracts.past.Past as Past
+use Rattle.lookup_ffi.specs.contracts.kept.Kept as Kept
 use Rattle.lookup_ffi.specs.contracts.shared.Shared as Shared
 use Rattle.lookup_ffi.specs.contracts.board.Page as Page
 use Rattle.lookup_ffi.specs.contracts.board.Place as Place
@@ -22,11 +24,17 @@ past_send = search (sendable, crosses, seen.the_send) depth 40
 past_sync : IsSync Past.the_row
 past_sync = search (sendable, crosses, seen.the_sync) depth 40
 
-shared_send : IsSend Shared.the_row
-shared_send = search (sendable, crosses, arc.the_send, tree.the_send, tree.the_sync, heap.the_send, heap.the_sync, frees) depth 40
+kept_send : IsSend Kept.the_row
+kept_send = search (sendable, crosses, tree.the_send, words.the_send, heap.the_send, frees) depth 40
+
+kept_sync : IsSync Kept.the_row
+kept_sync = search (sendable, crosses, tree.the_sync, words.the_sync, heap.the_sync) depth 40
+
+pub shared_send : IsSend Shared.the_row
+shared_send = search (sendable, crosses, arc.the_send, kept_send, kept_sync, heap.the_send, heap.the_sync, frees) depth 40
 
 shared_sync : IsSync Shared.the_row
-shared_sync = search (sendable, crosses, arc.the_sync, tree.the_send, tree.the_sync, heap.the_send, heap.the_sync, frees) depth 40
+shared_sync = search (sendable, crosses, arc.the_sync, kept_send, kept_sync, heap.the_send, heap.the_sync, frees) depth 40
 
 page_send : IsSend Page.the_row
 page_send = search (sendable, crosses, past_send, shared_send) depth 40
