@@ -13,7 +13,9 @@ ghost use Rattle.lookup_ffi.specs.Rows.{answer_rows, answer_words, entry_answer}
 ghost use Rattle.lookup_ffi.specs.Tables.{wordless, wordless_rows, wordless_table};
 
 use crate::rows::{answer, answer_burst, answer_marked, answer_marked_burst};
-use array_bitmap::parts::{FirstBits, copy, remove_row, set_generation, set_row, set_rows, widen, with};
+use array_bitmap::parts::{
+    FirstBits, copy, remove_row, set_generation, set_row, set_rows, widen, with,
+};
 use array_bitmap::{Image, next_prefix};
 use c_interface::Row;
 use network_model::{Entry, NoMemory, Prefix};
@@ -152,12 +154,7 @@ impl Kept {
     }
 
     /// Sets a row without a word. A refused call changes nothing.
-    pub fn set_entry(
-        &mut self,
-        alloc: Global,
-        prefix: Prefix,
-        entry: Entry,
-    ) -> Result<(), NoMemory>
+    pub fn set_entry(&mut self, alloc: Global, prefix: Prefix, entry: Entry) -> Result<(), NoMemory>
         ensures ok { OnOk result (self.new ≡ record self.old {
           rows = with_marked ((prefix, wordless entry) ∷ []) self.old.rows;
         }) }

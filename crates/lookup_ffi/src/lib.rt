@@ -409,6 +409,5 @@ pub extern "C" fn tuhvondi_image_free(alloc: Global, image: &mut ImageHandle)
 
 #[cfg(test)]
 mod tests;
-
 #[cfg(test)]
 mod word_tests;

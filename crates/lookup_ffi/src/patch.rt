@@ -43,12 +43,7 @@ impl Patch {
 
 /// Sets one row without a word in an image, and its generation, with no list of rows. Refused, it changes
 /// nothing.
-pub fn apply_row(
-    image: &mut Kept,
-    alloc: Global,
-    generation: u64,
-    row: Row,
-) -> Result<(), Fault>
+pub fn apply_row(image: &mut Kept, alloc: Global, generation: u64, row: Row) -> Result<(), Fault>
     requires { row_fault row ≡ None }
     ensures ok { OnOk result (image.new ≡ patched generation (plain_rows (row ∷ [])) image.old) }
     ensures unchanged { OnErr result (image.new ≡ image.old) }

@@ -60,11 +60,7 @@ fn read_rows(alloc: Global, rows: &[Row]) -> Result<Vec<(Prefix, Entry)>, Fault>
 }
 
 /// The prefixes and entries of rows, with their words.
-fn read_words(
-    alloc: Global,
-    rows: &[Row],
-    words: &[u32],
-) -> Result<Vec<(Prefix, Marked)>, Fault>
+fn read_words(alloc: Global, rows: &[Row], words: &[u32]) -> Result<Vec<(Prefix, Marked)>, Fault>
     requires rows { first_row_fault rows.now ≡ None }
     requires count { length words.now ≡ length rows.now }
     ensures ok { IfOk result (λ v. v.items ≡ worded_rows rows.now words.now) }

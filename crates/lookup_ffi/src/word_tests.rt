@@ -64,7 +64,10 @@ fn an_image_is_made_with_words(rt: HostRuntime) {
         tuhvondi_image_lookup(alloc, &mut image, &addrs, &mut answers),
         0
     );
-    assert_eq!(rt; (answers[0], answers[1], answers[2].kind), (rows[2], rows[1], 3));
+    assert_eq!(rt;
+        (answers[0], answers[1], answers[2].kind),
+        (rows[2], rows[1], 3)
+    );
     // A row that is set without a word has none any more.
     assert_eq!(rt; tuhvondi_image_apply(alloc, &mut image, 1, &rows[1..2]), 0);
     assert_eq!(rt; word(alloc, &mut image, 0x0a01_0203), Ok(NO_WORD));
@@ -97,7 +100,14 @@ fn an_image_without_words_is_given_some(rt: HostRuntime) {
     let mut words = [7; 3];
     let mut count = 0;
     assert_eq!(rt;
-        tuhvondi_image_rows_words(alloc, &mut image, &mut from, &mut listed, &mut words, &mut count),
+        tuhvondi_image_rows_words(
+            alloc,
+            &mut image,
+            &mut from,
+            &mut listed,
+            &mut words,
+            &mut count
+        ),
         0
     );
     assert_eq!(rt; (count, from.len), (2, 33));
@@ -168,7 +178,14 @@ fn readers_see_the_words_that_are_published(rt: HostRuntime) {
             len: 8,
         }];
         assert_eq!(rt;
-            tuhvondi_writer_publish_words(alloc, &mut writer, u64::from(generation), &rows[..1], &words, &gone),
+            tuhvondi_writer_publish_words(
+                alloc,
+                &mut writer,
+                u64::from(generation),
+                &rows[..1],
+                &words,
+                &gone
+            ),
             0
         );
         assert_eq!(rt;

@@ -11,7 +11,7 @@
 //! ```text
 //!   addresses, values                 texts that are no prefixes; values of several tests
 //!   pools, node_pools, word_pools     blocks that are taken and given back
-//!   images, array_images              rows that are set, listed and taken out, and looked up
+//!   images, array_images, word_images rows that are set, listed and taken out, and looked up
 //!   patches, compiled                 images of tables, and what patches make of them
 //!   machines, replies                 worked tables of one machine, with origin states and awaited ports
 //!   links, tables, gates, routers, worlds
@@ -67,6 +67,8 @@ mod tables;
 mod values;
 #[cfg(test)]
 mod wide;
+#[cfg(test)]
+mod word_images;
 #[cfg(test)]
 mod word_pools;
 #[cfg(test)]

@@ -6,6 +6,7 @@ use crate::gates::held;
 use crate::links::one_link;
 use crate::routers::{one_port, take, up};
 use crate::values::{addr, prefix, ten, update};
+use crate::word_images::set_words;
 use dual_machine::{Cost, Distance, Event, Kind, Machine, PortInfo, Sends};
 use image_compiler::compile;
 use link_fifo::{LinkRefusal, Links};
@@ -41,6 +42,8 @@ enum Call {
     // An image of an array takes two rows, is copied, or made anew.
     SetTwo,
     CopyFive(bool),
+    // An image with words takes two rows.
+    SetWords,
     // A router takes the notice that its link came up.
     AcceptNotice,
     // A router takes the first message of a prefix.
@@ -60,6 +63,7 @@ impl Call {
             Call::Compile => compile_two(rt, alloc, &heap, left),
             Call::SetTwo => set_two(rt, &heap, left),
             Call::CopyFive(anew) => copy_five(rt, &heap, left, anew),
+            Call::SetWords => set_words(rt, &heap, left),
             Call::AcceptNotice => accept_notice(rt, &heap, left),
             Call::AcceptMessage => accept_message(rt, &heap, left),
         }
@@ -304,6 +308,11 @@ fn an_image_of_an_array_needs_room_for_its_blocks(rt: HostRuntime) {
     needs_room(&rt, rt.alloc(), Call::SetTwo);
     needs_room(&rt, rt.alloc(), Call::CopyFive(false));
     needs_room(&rt, rt.alloc(), Call::CopyFive(true));
+}
+
+#[test]
+fn an_image_with_words_needs_room_for_its_cells(rt: HostRuntime) {
+    needs_room(&rt, rt.alloc(), Call::SetWords);
 }
 
 #[test]

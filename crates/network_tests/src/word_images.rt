@@ -1,0 +1,105 @@
+//! Images with words beside a plain list of rows.
+
+use crate::refusals::ballast;
+use linked_list_allocator::LocalHeap;
+use network_model::{Entry, Prefix};
+use row_words::{Marked, NO_WORD, WordImage};
+use std::process::Abort;
+
+const ROWS: usize = 48;
+
+// The prefix of a row of the list: of 8 to 31 bits. Of two that cover an address, the later is longer.
+fn prefix_of(k: usize) -> Prefix
+    requires { k < 48 }
+{
+    let base = if k % 2 == 0 { 0x0a0f_0f0f } else { 0x0bf0_f0f0 };
+    Prefix::covering(base, (8 + k / 2) as u8)
+}
+
+fn marked(word: u32) -> Marked {
+    Marked {
+        entry: Entry::Local,
+        word,
+    }
+}
+
+// The word that answers an address, by a scan.
+fn scan(list: &[Option<Marked>; 48], addr: u32) -> u32 {
+    let mut word = NO_WORD;
+    for k in 0..ROWS {
+        if let Some(mark) = list[k]
+            && prefix_of(k).covers(addr)
+        {
+            word = mark.word;
+        }
+    }
+    word
+}
+
+#[test]
+fn words_are_those_of_a_list(rt: HostRuntime) {
+    let alloc = rt.alloc();
+    let mut image = WordImage::new(alloc, 0).expect(&rt, "memory");
+    let mut list = [None; 48];
+    let mut number = 12_345u32;
+    for _ in 0..400 {
+        number = number.wrapping_mul(1_664_525).wrapping_add(1_013_904_223);
+        let k = (number >> 16) as usize % ROWS;
+        let mark = marked(number);
+        if number % 0x4000 < 0x1000 {
+            image.remove_row(prefix_of(k));
+            list[k] = None;
+        } else {
+            image
+                .set_rows(alloc, &[(prefix_of(k), mark)])
+                .expect(&rt, "memory");
+            list[k] = Some(mark);
+        }
+        let addrs = [
+            0x0a0f_0f0f,
+            0x0bf0_f0f0,
+            0x0a0f_0f8f,
+            0x0bf0_0000,
+            0x0c00_0000,
+        ];
+        let mut words = [7; 5];
+        image.lookup_words(&addrs, &mut words);
+        for j in 0..5 {
+            assert_eq!(rt; words[j], scan(&list, addrs[j]));
+        }
+    }
+}
+
+// A row that is set again many times takes no more memory than at first.
+#[test]
+fn cells_of_rows_that_are_set_again_are_given_back(rt: HostRuntime) {
+    let alloc = rt.alloc();
+    let mut image = WordImage::new(alloc, 0).expect(&rt, "memory");
+    for word in 0..5000 {
+        image
+            .set_rows(alloc, &[(prefix_of(3), marked(word))])
+            .expect(&rt, "memory");
+    }
+    assert_eq!(rt; image.lookup_word(0x0bf0_f0f0), 4999);
+    assert!(rt; image.bytes() < 64 * 1024);
+}
+
+// Two rows are set in an image of one, over a heap with so many bytes left.
+pub(crate) fn set_words(rt: &impl Abort, heap: &LocalHeap, left: usize) -> bool {
+    let rows = [(prefix_of(1), marked(11)), (prefix_of(40), marked(12))];
+    let mut image = WordImage::new(heap, 0).expect(rt, "room");
+    image
+        .set_rows(heap, &[(prefix_of(0), marked(10))])
+        .expect(rt, "room");
+    let weight = ballast(rt, heap, left);
+    let first = image.set_rows(heap, &rows);
+    drop(weight);
+    if first.is_err() {
+        assert_eq!(rt; image.row_count(), 1);
+        assert_eq!(rt; image.lookup_word(0x0a0f_0f0f), 10);
+        image.set_rows(heap, &rows).expect(rt, "room");
+    }
+    assert_eq!(rt; image.row_count(), 3);
+    assert_eq!(rt; image.lookup_word(0x0a0f_0f0f), 12);
+    first.is_err()
+}
