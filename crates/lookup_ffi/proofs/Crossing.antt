@@ -10,6 +10,8 @@ use Rattle.logbook.proofs.tokens.Seen.TheSendSync as seen
 use Rattle.logbook.proofs.word.Word.TheSendSync as word
 use Rattle.counted_slot.proofs.Counted.TheSendSync as counted
 use Rattle.lookup_ffi.specs.contracts.past.Past as Past
+use Rattle.lookup_ffi.specs.contracts.patch.NewRows as NewRows
+use Rattle.lookup_ffi.specs.contracts.change.Change as Change
 use Rattle.lookup_ffi.specs.contracts.kept.Kept as Kept
 use Rattle.lookup_ffi.specs.contracts.shared.Shared as Shared
 use Rattle.lookup_ffi.specs.contracts.board.Page as Page
@@ -31,10 +33,10 @@ kept_sync : IsSync Kept.the_row
 kept_sync = search (sendable, crosses, tree.the_sync, words.the_sync, heap.the_sync) depth 40
 
 pub shared_send : IsSend Shared.the_row
-shared_send = search (sendable, crosses, arc.the_send, kept_send, kept_sync, heap.the_send, heap.the_sync, frees) depth 40
+shared_send = search (sendable, crosses, arc.the_send, kept_send, kept_sync, frees) depth 40
 
 shared_sync : IsSync Shared.the_row
-shared_sync = search (sendable, crosses, arc.the_sync, kept_send, kept_sync, heap.the_send, heap.the_sync, frees) depth 40
+shared_sync = search (sendable, crosses, arc.the_sync, kept_send, kept_sync, frees) depth 40
 
 page_send : IsSend Page.the_row
 page_send = search (sendable, crosses, past_send, shared_send) depth 40
@@ -54,8 +56,14 @@ board_send = search (sendable, crosses, vec.the_send, place_send, heap.the_send,
 board_sync : IsSync Board.the_row
 board_sync = search (sendable, crosses, vec.the_sync, place_sync, heap.the_sync) depth 40
 
+rows_send : IsSend NewRows.the_row
+rows_send = search (sendable, crosses, vec.the_send, heap.the_send, frees) depth 40
+
+change_send : IsSend Change.the_row
+change_send = search (sendable, crosses, vec.the_send, rows_send, heap.the_send, frees) depth 40
+
 pub writer_sends : IsSend Writer.the_row
-writer_sends = search (sendable, crosses, arc.the_send, vec.the_send, word.the_send, board_send, board_sync, shared_send, past_send, heap.the_send, heap.the_sync, frees) depth 40
+writer_sends = search (sendable, crosses, arc.the_send, word.the_send, board_send, board_sync, shared_send, past_send, change_send, heap.the_send, heap.the_sync, frees) depth 40
 
 pub reader_sends : IsSend Reader.the_row
 reader_sends = search (sendable, crosses, arc.the_send, board_send, board_sync, past_send, heap.the_send, heap.the_sync, frees) depth 40

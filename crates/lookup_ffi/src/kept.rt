@@ -5,6 +5,7 @@
 
 ghost use Rattle.std.specs.Prelude.{◌≡◌, ◌≤◌, ◌∷◌, [], IfOk, IfSome, OnErr, OnOk, length, map, true};
 ghost use Rattle.std.specs.FinMap.{is_sorted};
+ghost use Rattle.std.specs.Option.{option_map};
 ghost use Rattle.array_bitmap.specs.Cursor.{first_row_from, IsHeadFrom};
 ghost use Rattle.ipv4_prefix.specs.Prefix.{prefix_cmp};
 ghost use Rattle.c_interface.specs.Rows.{answer_row};
@@ -57,6 +58,16 @@ fn wordless(entry: Entry) -> Marked
     }
 }
 
+/// A row without a word of its own, if there is one.
+fn wordless_row(found: Option<(Prefix, Entry)>) -> Option<(Prefix, Marked)>
+    ensures { result ≡ option_map (λ r. (r.0, wordless r.1)) found }
+{
+    match found {
+        Some((prefix, entry)) => Some((prefix, wordless(entry))),
+        None => None,
+    }
+}
+
 // An image with words, of the rows of one without, and with room for so many more.
 fn make_words(image: &Image, alloc: Global, more: usize) -> Result<WordImage, NoMemory>
     requires { is_sorted prefix_cmp image.now.rows ≡ true }
@@ -64,13 +75,14 @@ fn make_words(image: &Image, alloc: Global, more: usize) -> Result<WordImage, No
 {
     let mut words = WordImage::new(alloc, image.row_count().saturating_add(more))?;
     words.set_generation(image.generation());
-    let mut cursor = Some(Prefix::covering(0, 0));
+    let first = Prefix::covering(0, 0);
+    let mut cursor = Some(first);
     while let Some(at) = cursor {
-        let Some((prefix, entry)) = image.first_row_from(at) else {
+        let Some(row) = image.first_row_from(at) else {
             return Ok(words);
         };
-        words.set_rows(alloc, &[(prefix, wordless(entry))])?;
-        cursor = next_prefix(prefix);
+        words.set_rows(alloc, &[(row.0, wordless(row.1))])?;
+        cursor = next_prefix(row.0);
     }
     Ok(words)
 }
@@ -247,10 +259,7 @@ impl Kept {
         ensures head { IfSome result (IsHeadFrom at (self.now).rows) }
     {
         match &self.form {
-            Form::Plain(image) => match image.first_row_from(at) {
-                Some((prefix, entry)) => Some((prefix, wordless(entry))),
-                None => None,
-            },
+            Form::Plain(image) => wordless_row(image.first_row_from(at)),
             Form::Words(image) => image.first_row_from(at),
         }
     }

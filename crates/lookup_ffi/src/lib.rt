@@ -17,7 +17,7 @@
 //!   taken out of it (`tuhvondi_image_remove`).
 //! - Addresses are looked up many at a time. Rows are counted, and listed from a cursor on, which is a
 //!   prefix.
-//! - A row can have a word of the caller's own, beside its entry (`src/words.rt`). An image without words stays
+//! - A row can have a word of the caller's own, beside its entry (`src/word_calls.rt`). An image without words stays
 //!   as small and as fast as one that could have none (`src/kept.rt`).
 //! - Two handles can *share* one image, and each looks up in a thread of its own. While it is shared it is
 //!   not patched (9). A *copy* has the same rows in memory of its own.
@@ -61,7 +61,7 @@ mod reader_handle;
 mod readers;
 mod rows;
 mod shared;
-mod words;
+mod word_calls;
 mod writer;
 mod writer_handle;
 

@@ -4,7 +4,7 @@ use crate::handle::ImageHandle;
 use crate::prefixes::Block;
 use crate::reader_handle::ReaderHandle;
 use crate::readers::{tuhvondi_writer_new, tuhvondi_writer_publish, tuhvondi_writer_reader};
-use crate::words::{
+use crate::word_calls::{
     tuhvondi_image_apply_words, tuhvondi_image_lookup_words, tuhvondi_image_new_words,
     tuhvondi_image_rows_words, tuhvondi_reader_lookup_words, tuhvondi_writer_publish_words,
 };

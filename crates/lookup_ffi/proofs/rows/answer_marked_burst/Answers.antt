@@ -1,4 +1,4 @@
-use Rattle.std.proofs.Common.{ℕ, ◌≡◌, ◌<◌, ◌∙◌, arith, ap, sym, length, map, get_or, None, option_map}
+use Rattle.std.proofs.Common.{ℕ, ◌<◌, ◌∙◌, arith, ap, sym, length, map, get_or, None, option_map}
 use Rattle.std.proofs.lemmas.List.{ext_get_or, get_or-map, length-map}
 use Rattle.c_interface.specs.declared.row.Row.{Row}
 use Rattle.c_interface.specs.Rows.{answer_row}

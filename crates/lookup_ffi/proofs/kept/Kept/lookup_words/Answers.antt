@@ -1,0 +1,14 @@
+use Rattle.std.proofs.Common.{◌∙◌, length, replicate, ap}
+use Rattle.lookup_ffi.specs.Rows.{answer_words}
+use Rattle.lookup_ffi.specs.Tables.{no_word}
+use Rattle.lookup_ffi.proofs.Wordless.{its_table, wordless_words}
+use Rattle.lookup_ffi.proofs.kept.Kept.lookup_words.Goals as goal
+
+pub returns-in-Plain : goal.returns-in-Plain
+returns-in-Plain c =
+    let image = c.in-Plain.field-0 in
+    let addrs = c.args.addrs.now in
+    c.fill.ensures.after (λ y is. is)
+    ∙ ap (λ n. replicate n no_word) c.requires
+    ∙ wordless_words image addrs
+    ∙ ap (λ t. answer_words t addrs) (its_table c.self.inside.form image c.args.self.now c.in-Plain.is c.self.view_is)
