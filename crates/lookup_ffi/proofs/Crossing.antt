@@ -10,7 +10,6 @@ use Rattle.logbook.proofs.tokens.Seen.TheSendSync as seen
 use Rattle.logbook.proofs.word.Word.TheSendSync as word
 use Rattle.counted_slot.proofs.Counted.TheSendSync as counted
 use Rattle.lookup_ffi.specs.contracts.past.Past as Past
-use Rattle.lookup_ffi.specs.contracts.patch.NewRows as NewRows
 use Rattle.lookup_ffi.specs.contracts.change.Change as Change
 use Rattle.lookup_ffi.specs.contracts.kept.Kept as Kept
 use Rattle.lookup_ffi.specs.contracts.shared.Shared as Shared
@@ -56,11 +55,8 @@ board_send = search (sendable, crosses, vec.the_send, place_send, heap.the_send,
 board_sync : IsSync Board.the_row
 board_sync = search (sendable, crosses, vec.the_sync, place_sync, heap.the_sync) depth 40
 
-rows_send : IsSend NewRows.the_row
-rows_send = search (sendable, crosses, vec.the_send, heap.the_send, frees) depth 40
-
 change_send : IsSend Change.the_row
-change_send = search (sendable, crosses, vec.the_send, rows_send, heap.the_send, frees) depth 40
+change_send = search (sendable, crosses, vec.the_send, frees) depth 40
 
 pub writer_sends : IsSend Writer.the_row
 writer_sends = search (sendable, crosses, arc.the_send, word.the_send, board_send, board_sync, shared_send, past_send, change_send, heap.the_send, heap.the_sync, frees) depth 40

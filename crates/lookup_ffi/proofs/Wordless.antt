@@ -1,8 +1,7 @@
 -- Rows of an image without words, beside the rows of its table.
-use Rattle.std.proofs.Common.{ℕ, ◌≡◌, ◌∙◌, true, List, [], ◌∷◌, length, map, not, replicate, Option, None, Some, IfSome, Result, Ok, Err, OnOk, OnErr, option_map, refl, ap, sym, subst}
+use Rattle.std.proofs.Common.{ℕ, ◌≡◌, ◌∙◌, true, List, [], ◌∷◌, length, map, not, replicate, Option, None, Some, Result, Ok, Err, OnOk, OnErr, option_map, refl, ap, sym, subst}
 use Rattle.std.specs.FinMap.{put, is_sorted}
 use Rattle.ipv4_prefix.specs.Prefix.{Prefix, prefix_cmp, prefix_eq}
-use Rattle.ipv4_prefix.specs.LongestMatch.{longest_match}
 use Rattle.network_model.specs.Publication.{Image, image_answer, with_rows}
 use Rattle.network_model.specs.declared.route.Entry.{Entry}
 use Rattle.network_model.proofs.RowLaws.{map-put, with_rows-sorted}
@@ -11,8 +10,8 @@ use Rattle.c_interface.specs.Rows.{row_entry, answer_row}
 use Rattle.c_interface.specs.declared.row.Row.{Row}
 use Rattle.row_words.specs.Rows.{WordTable, with_marked, without_marked, word_or_none}
 use Rattle.row_words.specs.declared.cells.Marked.{Marked}
-use Rattle.row_words.proofs.Marks.{longest_under, filter_under, sorted_with, sorted_without}
-use Rattle.lookup_ffi.specs.Kept.{form_table, IsInOrder}
+use Rattle.row_words.proofs.Marks.{longest_under, filter_under, sorted_with}
+use Rattle.lookup_ffi.specs.Kept.{form_table}
 use Rattle.lookup_ffi.specs.Rows.{answer_rows, answer_words, entry_answer, image_rows}
 use Rattle.lookup_ffi.specs.Tables.{no_word, wordless, wordless_rows, wordless_table, plain_rows}
 use Rattle.lookup_ffi.specs.declared.kept.Form.{Form}

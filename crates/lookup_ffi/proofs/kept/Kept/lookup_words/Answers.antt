@@ -1,4 +1,4 @@
-use Rattle.std.proofs.Common.{◌∙◌, length, replicate, ap}
+use Rattle.std.proofs.Common.{◌∙◌, replicate, ap}
 use Rattle.lookup_ffi.specs.Rows.{answer_words}
 use Rattle.lookup_ffi.specs.Tables.{no_word}
 use Rattle.lookup_ffi.proofs.Wordless.{its_table, wordless_words}
