@@ -84,22 +84,19 @@ fn cells_of_rows_that_are_set_again_are_given_back(rt: HostRuntime) {
     assert!(rt; image.bytes() < 64 * 1024);
 }
 
-// Two rows are set in an image of one, over a heap with so many bytes left.
+// Two rows are set in an image without any, over a heap with so many bytes left.
 pub(crate) fn set_words(rt: &impl Abort, heap: &LocalHeap, left: usize) -> bool {
     let rows = [(prefix_of(1), marked(11)), (prefix_of(40), marked(12))];
     let mut image = WordImage::new(heap, 0).expect(rt, "room");
-    image
-        .set_rows(heap, &[(prefix_of(0), marked(10))])
-        .expect(rt, "room");
     let weight = ballast(rt, heap, left);
     let first = image.set_rows(heap, &rows);
     drop(weight);
     if first.is_err() {
-        assert_eq!(rt; image.row_count(), 1);
-        assert_eq!(rt; image.lookup_word(0x0a0f_0f0f), 10);
+        assert_eq!(rt; image.row_count(), 0);
+        assert_eq!(rt; image.lookup_word(0x0a0f_0f0f), NO_WORD);
         image.set_rows(heap, &rows).expect(rt, "room");
     }
-    assert_eq!(rt; image.row_count(), 3);
+    assert_eq!(rt; image.row_count(), 2);
     assert_eq!(rt; image.lookup_word(0x0a0f_0f0f), 12);
     first.is_err()
 }
