@@ -1,5 +1,7 @@
 //! Images with words beside a plain list of rows.
 
+ghost use Rattle.std.specs.Prelude.{◌<◌};
+
 use crate::refusals::ballast;
 use linked_list_allocator::LocalHeap;
 use network_model::{Entry, Prefix};
