@@ -1,4 +1,4 @@
-use Rattle.std.proofs.Common.{◌∙◌, replicate, ap}
+use Rattle.std.proofs.Common.{rules, ◌∙◌, replicate, ap}
 use Rattle.lookup_ffi.specs.Rows.{answer_words}
 use Rattle.lookup_ffi.specs.Tables.{no_word}
 use Rattle.lookup_ffi.proofs.Wordless.{its_table, wordless_words}
@@ -12,3 +12,6 @@ returns-in-Plain c =
     ∙ ap (λ n. replicate n no_word) c.requires
     ∙ wordless_words image addrs
     ∙ ap (λ t. answer_words t addrs) (its_table c.self.inside.form image c.args.self.now c.in-Plain.is c.self.view_is)
+
+pub returns-in-Words : goal.returns-in-Words
+returns-in-Words c = search rules
