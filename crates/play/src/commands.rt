@@ -28,11 +28,7 @@ pub fn do_step<B: FabricName, H: Wait, W: Write>(
     ensures err { OnErr result (fabric.new ≡ fabric.old) }
     ensures cause { IsDoneOr (fabric_refusal fabric.old step) result }
 {
-    let moved = if moves {
-        moved_by(fabric, &step)
-    } else {
-        None
-    };
+    let moved = if moves { moved_by(fabric, &step) } else { None };
     fabric.step(rt, step)?;
     if let Some(moved) = &moved {
         let _ = tell_moved(printer, moved, out);

@@ -143,7 +143,17 @@ where
                 progress,
             };
             let mut keeper = JournalText { wanted };
-            run(rt, alloc, scenario, options, gate, out, err, &mut keeper, kept)
+            run(
+                rt,
+                alloc,
+                scenario,
+                options,
+                gate,
+                out,
+                err,
+                &mut keeper,
+                kept,
+            )
         }
         Words::Replay {
             file: _,
@@ -171,7 +181,16 @@ where
         } => {
             let mut keeper = JournalText { wanted };
             shell(
-                rt, alloc, scenario, journal, explain, format, out, err, &mut keeper, kept,
+                rt,
+                alloc,
+                scenario,
+                journal,
+                explain,
+                format,
+                out,
+                err,
+                &mut keeper,
+                kept,
             )
         }
     }
@@ -238,7 +257,9 @@ where
     };
     let mut out = io::sink();
     let mut err = io::sink();
-    run_plan(rt, alloc, plan, options, &NoGate, &mut out, &mut err, keeper, kept)
+    run_plan(
+        rt, alloc, plan, options, &NoGate, &mut out, &mut err, keeper, kept,
+    )
 }
 
 // Does the script of a plan, and has kept what is to be kept of the run.

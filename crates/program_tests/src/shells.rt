@@ -22,14 +22,20 @@ const SCENARIO: &[u8] =
     b"routers = [\"a\", \"b\"]\nlinks = [\"a b 1 1\"]\nprefixes = [\"10.0.0.0/8 a\"]\nscript = []\n";
 
 // Lines that end with a carriage return, that are no UTF-8, and the last of which has no end.
-const TYPED: &[u8] = b"up a b\r\n\xff\nsettle\r\nsay \"\\\x01\nsay \xc3\n\n\xf0\x9f\x99\x82\ntable b";
+const TYPED: &[u8] =
+    b"up a b\r\n\xff\nsettle\r\nsay \"\\\x01\nsay \xc3\n\n\xf0\x9f\x99\x82\ntable b";
 
 #[test]
 fn a_line_that_is_no_text_ends_nothing(rt: HostRuntime) {
     let got = play_in_memory(&rt, rt.alloc(), &SHELL, SCENARIO, TYPED);
-    assert_eq!(rt; got.out.as_slice(), b"\"\\\x01\nb 10.0.0.0/8 via a 1\ndone: 9 steps\n".as_slice());
-    assert_eq!(rt; got.err.as_slice(),
-        b"dualnet: 45 BadCommand\ndualnet: 45 BadCommand\ndualnet: 45 BadCommand\n".as_slice());
+    assert_eq!(rt;
+        got.out.as_slice(),
+        b"\"\\\x01\nb 10.0.0.0/8 via a 1\ndone: 9 steps\n".as_slice()
+    );
+    assert_eq!(rt;
+        got.err.as_slice(),
+        b"dualnet: 45 BadCommand\ndualnet: 45 BadCommand\ndualnet: 45 BadCommand\n".as_slice()
+    );
     assert_eq!(rt; got.status, 0);
 }
 

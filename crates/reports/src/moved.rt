@@ -18,9 +18,15 @@ pub enum Moved {
         item: Item,
     },
     /// A notice of the router's own attachments.
-    Notice { router: u16, notice: Notice },
+    Notice {
+        router: u16,
+        notice: Notice,
+    },
     /// A message that the router holds.
-    Message { router: u16, held: Held },
+    Message {
+        router: u16,
+        held: Held,
+    },
 }
 
 /// What a step is about to take or to send, if it is lawful and does either.
@@ -53,11 +59,7 @@ pub fn moved_by<B: FabricName>(fabric: &Fabric<B>, step: &Step) -> Option<Moved>
 }
 
 /// Prints it as `show_queue` and `show_held` do, as text two columns to the right.
-pub fn tell_moved<W: Write>(
-    printer: &Printer<'_>,
-    moved: &Moved,
-    out: &mut W,
-) -> io::Result<()> {
+pub fn tell_moved<W: Write>(printer: &Printer<'_>, moved: &Moved, out: &mut W) -> io::Result<()> {
     let names = printer.directory;
     match moved {
         Moved::Item {

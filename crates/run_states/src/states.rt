@@ -35,11 +35,7 @@ use std::io::{ErrorKind, Write};
 use world::{Network, Ran, World};
 
 /// How far steps come from the opening of a network, and why the next is refused, if one is.
-pub fn run_from_opening(
-    alloc: Global,
-    network: &Network,
-    steps: &[Step],
-) -> Result<Ran, NoMemory>
+pub fn run_from_opening(alloc: Global, network: &Network, steps: &[Step]) -> Result<Ran, NoMemory>
     ensures { IfOk result (λ ran. (w : model.World)
         × Runs (model.opening network.now) (take ran.done steps.now) w
         × MatchOption ran.refusal (ran.done ≡ length steps.now)

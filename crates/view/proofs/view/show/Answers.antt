@@ -9,7 +9,9 @@ returns g c = λ zero.
     let journal = g.J.Read.remaining c.args.journal in
     let old = g.W.Write.contents c.args.out.now in
     let new = g.W.Write.contents c.end_script.new.out in
-    let text = string_bytes c.in-Ok.text in
-    (text, c.in-Ok.ensures.whole,
-     subst (λ b. IsShown b json journal old new text) (sym c.if-is_some.false ∙ c.is_some.ensures)
-     (subst (IsRunToEnd (λ d f. IsRunShown json d f old new)) c.as_str-2.ensures.value (c.end_script.ensures zero)))
+    let text = string_bytes c.in-Ok.text in (
+      text,
+      c.in-Ok.ensures.whole,
+      subst (λ b. IsShown b json journal old new text) (sym c.if-is_some.false ∙ c.is_some.ensures)
+          (subst (IsRunToEnd (λ d f. IsRunShown json d f old new)) c.as_str-2.ensures.value (c.end_script.ensures zero)),
+    )

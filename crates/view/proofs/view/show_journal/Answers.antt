@@ -18,7 +18,9 @@ returns-in-Ok g c = λ none.
     let new = g.W.Write.contents c.write_steps.new.out in
     let journal = journal_of text lines c.deref.result.now plan c.names.result.now c.links.result.now c.attachments.result.now read.version steps read.report.now
     c.requires planned c.names.ensures c.links.ensures.links c.attachments.ensures.attachments c.deref.ensures.value c.in_ok-journal.ensures.ok in
-    let came = subst (λ ss. CameTo plan.network ss ran) c.deref-2.ensures.value c.in_ok-ran.ensures in
-    (lines, c.in_ok-lines.ensures.whole,
-     shown_whole c.args.json text lines plan planned read.version steps old new ran journal came
-     (subst (λ ss. IsWritten c.args.json plan.network plan.directory (take ran.done ss) old new) c.deref-3.ensures.value c.in-Ok.ensures) none)
+    let came = subst (λ ss. CameTo plan.network ss ran) c.deref-2.ensures.value c.in_ok-ran.ensures in (
+      lines,
+      c.in_ok-lines.ensures.whole,
+      shown_whole c.args.json text lines plan planned read.version steps old new ran journal came
+          (subst (λ ss. IsWritten c.args.json plan.network plan.directory (take ran.done ss) old new) c.deref-3.ensures.value c.in-Ok.ensures) none,
+    )
