@@ -1,5 +1,5 @@
-//! Tests of publications, queues, workers, fabrics, control threads, traces and simulated time, each through
-//! its public surface.
+//! Tests of publications, queues, workers, fabrics, control threads and traces, each through its public
+//! surface.
 //!
 //! The problem: some facts of threads and of memory are in no clause. For example, a reader sees what its
 //! writer publishes while both go on. Two workers answer at the same time. A turn lets the lock go while it
@@ -12,7 +12,6 @@
 //!   worker_pools                  200 jobs for one, two and sixteen threads
 //!   fabrics, controls, outside    steps, turns, threads that serve and settle side by side
 //!   traces                        packets along the images in force
-//!   timed                         networks in simulated time: which events are done, and when
 //!   scripts, refusals, rooms      want of memory; `refusing` is an allocator that refuses the n-th time
 //! ```
 //!
@@ -59,8 +58,6 @@ mod rooms;
 mod scripts;
 #[cfg(test)]
 mod tickets;
-#[cfg(test)]
-mod timed;
 #[cfg(test)]
 mod traces;
 #[cfg(test)]
