@@ -5,7 +5,6 @@ ghost use Rattle.fabric.specs.Fabric.{count_lent};
 ghost use Rattle.fabric.specs.Writers.{opening_tables};
 ghost use Rattle.control.specs.Names.{IsNamed};
 
-use crate::networks::two_routers;
 use crate::outside::{publish_outside, settle_side_by_side};
 use control::{Control, ControlName, Opening, Refusal, Share, Step, TurnGate};
 use fabric::{Fabric, MOST_STEPS, Network, Unnamed};
@@ -19,6 +18,7 @@ use std::sync::atomic::{AtomicU64, Ordering};
 use std::thread;
 use std::thread::Threads;
 use std::time::{Clock, Duration};
+use test_support::two_routers;
 
 pub(crate) const UP: Step = Step::LinkUp { link: 0 };
 
@@ -41,7 +41,7 @@ enum Trial {
 fn two<H: Threads + Wait + Abort + Clock + Sync>(rt: &H, alloc: Global, shares: u8, trial: Trial)
     requires { 0 < shares }
 {
-    let network = two_routers(rt, alloc);
+    let network = two_routers(alloc).expect(rt, "network");
     let unnamed = Unnamed::many(alloc, network.routers()).expect(rt, "memory");
     opened::<Brand, H>(rt, alloc, network, unnamed, shares, trial);
 }

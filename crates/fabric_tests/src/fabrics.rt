@@ -3,12 +3,12 @@
 ghost use Rattle.std.specs.Prelude.{◌≡◌, vec_len};
 ghost use Rattle.fabric.specs.Writers.{opening_tables};
 
-use crate::networks::{ten, two_routers};
 use fabric::{Answer, Entry, Fabric, FabricName, ImageReader, Network, Refusal, Step, Unnamed};
 use std::alloc::Global;
 use std::marker::Brand;
 use std::process::Abort;
 use std::sync::Wait;
+use test_support::{ten, two_routers};
 
 // The steps by which router 1 learns the way of router 0, and publishes it.
 pub const LEARNS: [Step; 7] = [
@@ -58,7 +58,7 @@ fn opened<B: FabricName, H: Wait + Abort>(
 }
 
 fn two<H: Wait + Abort>(rt: &H, alloc: Global, trial: Trial) {
-    let network = two_routers(rt, alloc);
+    let network = two_routers(alloc).expect(rt, "network");
     let unnamed = Unnamed::many(alloc, network.routers()).expect(rt, "memory");
     opened::<Brand, H>(rt, alloc, network, unnamed, trial);
 }

@@ -6,7 +6,7 @@ ghost use Rattle.fabric.specs.Writers.{opening_tables};
 ghost use Rattle.control.specs.Names.{IsNamed};
 
 use crate::controls::gets_to;
-use crate::networks::{port_of, ten, two_routers};
+use crate::ports::port_of;
 use control::{Control, ControlName, Opening, Share, Step, TurnGate};
 use fabric::{Fabric, Network, Unnamed};
 use forwarder::{Answer, ForwardPort, ImageReader};
@@ -20,6 +20,7 @@ use std::sync::atomic::{AtomicU64, Ordering};
 use std::thread;
 use std::thread::Threads;
 use std::time::Clock;
+use test_support::{ten, two_routers};
 
 // 10.0.0.1
 const ADDR: u32 = 0x0A00_0001;
@@ -221,7 +222,7 @@ fn port<B: FabricName>(
 #[test]
 fn job_while_a_turn_waits(rt: HostRuntime) {
     let alloc = rt.alloc();
-    let network = two_routers(&rt, alloc);
+    let network = two_routers(alloc).expect(&rt, "network");
     let unnamed = Unnamed::many(alloc, network.routers()).expect(&rt, "memory");
     opened::<Brand, _>(&rt, alloc, network, unnamed);
 }

@@ -12,7 +12,7 @@
 //!   worker_pools                  200 jobs for one, two and sixteen threads
 //!   fabrics, controls, outside    steps, turns, threads that serve and settle side by side
 //!   traces                        packets along the images in force
-//!   scripts, refusals, rooms      want of memory; `refusing` is an allocator that refuses the n-th time
+//!   scripts, refusals, rooms      want of memory
 //! ```
 //!
 //! Want of memory is tried on scripts of two and three routers. Of each step the first, second, third ..
@@ -41,17 +41,15 @@ mod fabrics;
 #[cfg(test)]
 mod jobs;
 #[cfg(test)]
-mod networks;
-#[cfg(test)]
 mod outside;
+#[cfg(test)]
+mod ports;
 #[cfg(test)]
 mod publications;
 #[cfg(test)]
 mod queues;
 #[cfg(test)]
 mod refusals;
-#[cfg(test)]
-mod refusing;
 #[cfg(test)]
 mod rooms;
 #[cfg(test)]

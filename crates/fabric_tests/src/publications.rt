@@ -4,7 +4,6 @@ ghost use Rattle.std.specs.Prelude.{◌≡◌, ◌⊎◌, ◌∷◌, [], All, ma
 ghost use Rattle.std.specs.Thread.{IsSend, IsSync};
 ghost use Rattle.publication.specs.Lists.{opening_of, patched_prefixes};
 
-use crate::networks::ten;
 use publication::{
     Answer, Entry, FabricName, ImageReader, ImageWriter, Job, NoImage, NoMemory, Patch, Prefix,
     ReadGate, Told, Unnamed, close_all, open, open_all,
@@ -17,6 +16,7 @@ use std::sync::atomic::{AtomicBool, AtomicU64, Ordering};
 use std::thread;
 use std::thread::{Threads, join};
 use std::time::{Clock, Duration};
+use test_support::ten;
 use tree_bitmap::Image;
 use tree_bitmap::parts::empty;
 

@@ -4,9 +4,7 @@
 ghost use Rattle.std.specs.Prelude.{◌≡◌, ◌∷◌, [], length};
 ghost use Rattle.publication.specs.Lists.{opening_of};
 
-use crate::networks::ten;
 use crate::publications::{found, set, via};
-use crate::refusing::{Refused, Refusing};
 use crate::workers::{port_of, put};
 use forwarder::{ForwardPort, JobGate, Reply, work};
 use network_model::Refusal;
@@ -22,6 +20,7 @@ use std::sync::atomic::{AtomicBool, AtomicU64, Ordering};
 use std::thread;
 use std::thread::Threads;
 use std::time::{Clock, Duration};
+use test_support::{Refused, Refusing, ten};
 use tree_bitmap::Image;
 use tree_bitmap::parts::empty;
 
@@ -159,7 +158,7 @@ fn is_publication_refused<'h, B: FabricName, R: Wait + Abort>(
     let rows = Vec::from_slice(memory, &last).expect(rt, "memory");
     memory.refuse(refused);
     let second = set(rt, memory, writer, &[(wide, via(1)), (narrow, via(1))]);
-    let was_met = memory.was_met(rt, second.is_err());
+    let was_met = memory.was_met(second.is_err()).expect(rt, "refusal");
     let Err(NoMemory) = second else {
         return was_met;
     };
@@ -324,7 +323,9 @@ where
     work_beside(rt, memory, gate, &mut seats);
     let other = seats.pop().expect(rt, "seat").end;
     let one = seats.pop().expect(rt, "seat").end;
-    let was_met = memory.was_met(rt, one.is_err() || other.is_err());
+    let was_met = memory
+        .was_met(one.is_err() || other.is_err())
+        .expect(rt, "refusal");
     for end in [one, other] {
         assert!(rt; end == Ok(1) || end == Ok(5) || end == Err(Refusal::NoMemory));
     }
@@ -340,7 +341,7 @@ fn is_queue_refused<B: FabricName>(rt: &impl Abort, alloc: Global, refused: Refu
     let memory = Refusing::new(alloc);
     memory.refuse(refused);
     let has_failed = PacketQueue::new::<B, _>(&memory, 2).is_err();
-    let was_met = memory.was_met(rt, has_failed);
+    let was_met = memory.was_met(has_failed).expect(rt, "refusal");
     let (_injector, takers) = PacketQueue::new::<B, _>(&memory, 2).expect(rt, "memory");
     assert_eq!(rt; takers.len(), 2);
     was_met

@@ -4,7 +4,6 @@
 ghost use Rattle.std.specs.Prelude.{◌≡◌, vec_len};
 ghost use Rattle.fabric.specs.Writers.{opening_tables};
 
-use crate::networks::two_routers;
 use fabric::{Fabric, FabricName, MOST_STEPS, Network, Refusal, Step, Unnamed};
 use linked_list_allocator::LocalHeap;
 use packet_queue::PacketQueue;
@@ -12,6 +11,7 @@ use std::alloc::Global;
 use std::marker::Brand;
 use std::process::Abort;
 use std::sync::Wait;
+use test_support::two_routers;
 
 // More than an opening takes.
 const HEAP: usize = 64 << 20;
@@ -114,7 +114,7 @@ fn is_opening_refused_over<'h, B: FabricName, H: Wait + Abort>(
 // the heap as it was.
 fn is_opening_refused<H: Wait + Abort>(rt: &H, alloc: Global, left: usize) -> bool {
     let heap = LocalHeap::new(alloc, HEAP).expect(rt, "memory");
-    let network = two_routers(rt, alloc);
+    let network = two_routers(alloc).expect(rt, "network");
     let unnamed = Unnamed::many(&heap, network.routers()).expect(rt, "room");
     let end = is_opening_refused_over::<Brand, H>(rt, alloc, &heap, network, unnamed, left);
     assert_eq!(rt; heap.used(), 0);

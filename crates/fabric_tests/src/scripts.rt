@@ -5,8 +5,6 @@
 ghost use Rattle.std.specs.Prelude.{◌≡◌, vec_len, false};
 ghost use Rattle.fabric.specs.Writers.{opening_tables};
 
-use crate::networks::{link, ten, two_routers};
-use crate::refusing::{Refused, Refusing};
 use crate::tickets::give_back;
 use fabric::{Entry, Fabric, FabricName, Network, Prefix, Refusal, Step, Ticket, Unnamed};
 use network_model::{Cost, Distance, SmallAllocator};
@@ -17,6 +15,7 @@ use std::fmt::Write;
 use std::marker::Brand;
 use std::process::Abort;
 use std::sync::Wait;
+use test_support::{Refused, Refusing, link, ten, two_routers};
 
 // More allocations than a call makes.
 const MOST: u64 = 4096;
@@ -129,7 +128,7 @@ fn step<B: FabricName, H: Wait + Abort>(
     for nth in sweep.first..MOST + 1 {
         memory.refuse(sweep.refused(nth));
         let end = fabric.step(rt, *next);
-        let _was_met = memory.was_met(rt, end.is_err());
+        let _was_met = memory.was_met(end.is_err()).expect(rt, "refusal");
         if end.is_ok() {
             return;
         }
@@ -154,7 +153,7 @@ fn lent<'h, B: FabricName, H: Wait + Abort>(
     for nth in sweep.first..MOST + 1 {
         memory.refuse(sweep.refused(nth));
         let end = fabric.ticket(router);
-        let _was_met = memory.was_met(rt, end.is_err());
+        let _was_met = memory.was_met(end.is_err()).expect(rt, "refusal");
         match end {
             Ok(ticket) => return ticket,
             Err(refusal) => assert_eq!(rt; refusal, Refusal::NoMemory),
@@ -180,7 +179,7 @@ fn publish_ticket<'h, B: FabricName, H: Wait + Abort>(
         }
         memory.refuse(sweep.refused(nth));
         let end = ticket.publish(rt);
-        let _was_met = memory.was_met(rt, end.is_err());
+        let _was_met = memory.was_met(end.is_err()).expect(rt, "refusal");
         if end.is_ok() {
             return;
         }
@@ -278,11 +277,17 @@ fn open_and_run<'h, B: FabricName, H: Wait + Abort>(
 // in a triangle 0 2 at this one. Router 1 has 0 at its port 0, and 2 has 1 there and 0 at port 1. In a line
 // router 2 is attached to all, at cost 1.
 fn made(rt: &impl Abort, alloc: Global, shape: Shape) -> Network {
-    let mut links = vec![in alloc; link(rt, 0, 1, 1), link(rt, 1, 2, 1)].expect(rt, "memory");
+    let mut links = vec![in alloc;
+        link(0, 1, 1).expect(rt, "cost"),
+        link(1, 2, 1).expect(rt, "cost"),
+    ]
+    .expect(rt, "memory");
     let mut attachments = vec![in alloc; (ten(), 0, Cost::ONE)].expect(rt, "memory");
     match shape {
-        Shape::Two => return two_routers(rt, alloc),
-        Shape::Triangle(cost) => links.push(link(rt, 0, 2, cost)).expect(rt, "memory"),
+        Shape::Two => return two_routers(alloc).expect(rt, "network"),
+        Shape::Triangle(cost) => links
+            .push(link(0, 2, cost).expect(rt, "cost"))
+            .expect(rt, "memory"),
         Shape::Line => attachments.push((any(), 2, Cost::ONE)).expect(rt, "memory"),
     }
     Network::new(3, links, attachments).expect(rt, "network")
@@ -494,7 +499,7 @@ fn is_opening_refused_over<'m, B: FabricName, H: Wait + Abort>(
 {
     memory.refuse(refused);
     let end = Fabric::<B, _>::open(rt, memory, network, unnamed, 1);
-    let was_met = memory.was_met(rt, end.is_err());
+    let was_met = memory.was_met(end.is_err()).expect(rt, "refusal");
     match end {
         Ok((fabric, _ports)) => fabric.close(rt),
         Err(refusal) => {
@@ -507,7 +512,7 @@ fn is_opening_refused_over<'m, B: FabricName, H: Wait + Abort>(
 // Whether an opening of two routers, and of a reader of each for one worker, meets a refusal of these.
 fn is_opening_refused<H: Wait + Abort>(rt: &H, alloc: Global, refused: Refused) -> bool {
     let memory = Refusing::new(alloc);
-    let network = two_routers(rt, alloc);
+    let network = two_routers(alloc).expect(rt, "network");
     let unnamed = Unnamed::many(&memory, network.routers()).expect(rt, "memory");
     is_opening_refused_over::<Brand, H>(rt, &memory, network, unnamed, refused)
 }

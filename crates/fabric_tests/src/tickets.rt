@@ -4,13 +4,13 @@ ghost use Rattle.std.specs.Prelude.{◌≡◌, vec_len, false};
 ghost use Rattle.fabric.specs.Writers.{opening_tables};
 
 use crate::fabrics::LEARNS;
-use crate::networks::two_routers;
 use fabric::{Fabric, FabricName, Network, Refusal, Step, Ticket, Unnamed};
 use network_model::SmallAllocator;
 use std::alloc::Global;
 use std::marker::Brand;
 use std::process::Abort;
 use std::sync::Wait;
+use test_support::two_routers;
 use tracer::{Ending, TraceFault, trace};
 
 // An address of the prefix of router 0.
@@ -151,7 +151,7 @@ fn opened<B: FabricName, H: Wait + Abort>(
 #[test]
 fn goes_on_while_a_writer_is_out(rt: HostRuntime) {
     let alloc = rt.alloc();
-    let network = two_routers(&rt, alloc);
+    let network = two_routers(alloc).expect(&rt, "network");
     let unnamed = Unnamed::many(alloc, network.routers()).expect(&rt, "memory");
     opened::<Brand, HostRuntime>(&rt, alloc, network, unnamed);
 }

@@ -3,13 +3,13 @@
 ghost use Rattle.std.specs.Prelude.{◌≡◌, vec_len};
 ghost use Rattle.fabric.specs.Writers.{opening_tables};
 
-use crate::networks::{link, ten};
 use fabric::{Network, Prefix, Unnamed};
 use network_model::Cost;
 use std::alloc::Global;
 use std::marker::Brand;
 use std::process::Abort;
 use std::sync::Wait;
+use test_support::{link, ten};
 use tracer::{Ending, Fabric, FabricName, TraceFault, trace};
 
 // The routers.
@@ -26,7 +26,11 @@ const LONGER: u32 = 0x0A01_0001;
 
 // In a line: a is attached to 10.0.0.0/8, and b to 10.1.0.0/16.
 fn line(rt: &impl Abort, alloc: Global) -> Network {
-    let links = vec![in alloc; link(rt, A, B, 1), link(rt, B, C, 1)].expect(rt, "memory");
+    let links = vec![in alloc;
+        link(A, B, 1).expect(rt, "cost"),
+        link(B, C, 1).expect(rt, "cost"),
+    ]
+    .expect(rt, "memory");
     let short = (ten(), A, Cost::ONE);
     let long = (Prefix::covering(0x0A01_0000, 16), B, Cost::ONE);
     let attachments = vec![in alloc; short, long].expect(rt, "memory");

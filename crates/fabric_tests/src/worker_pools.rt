@@ -4,7 +4,7 @@ ghost use Rattle.std.specs.Prelude.{◌≡◌, ◌≤◌, All, IfOk, length, map
 ghost use Rattle.network_model.specs.Network.{most_workers};
 
 use crate::controls::gets_to;
-use crate::networks::{port_of, ten};
+use crate::ports::port_of;
 use crate::publications::via;
 use forwarder::{Answer, GatherFault, ImageReader};
 use network_model::Refusal;
@@ -16,6 +16,7 @@ use std::sync::atomic::{AtomicU64, Ordering};
 use std::sync::{Arc, Wait};
 use std::thread::Threads;
 use std::time::Clock;
+use test_support::ten;
 use tree_bitmap::Image;
 use tree_bitmap::parts::{empty, set_row};
 use worker_pool::{FabricName, ForwardPort, Job, JobGate, PoolFault, Reply, WorkerPool};

@@ -3,7 +3,6 @@
 ghost use Rattle.std.specs.Prelude.{◌≡◌, ◌∷◌, [], length};
 ghost use Rattle.publication.specs.Lists.{new_writing};
 
-use crate::networks::ten;
 use crate::publications::via;
 use forwarder::{ForwardPort, GatherFault, JobGate, Reply, gather, work};
 use network_model::{Answer, Refusal};
@@ -17,6 +16,7 @@ use std::sync::atomic::{AtomicBool, AtomicU64, Ordering};
 use std::thread;
 use std::thread::{Threads, join};
 use std::time::{Clock, Duration};
+use test_support::ten;
 use tree_bitmap::Image;
 use tree_bitmap::parts::empty;
 

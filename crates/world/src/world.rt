@@ -148,6 +148,21 @@ impl<A: SmallAllocator> World<A> {
         self.attachments.get(usize::from(router))?.notice(place)
     }
 
+    /// Each prefix that some router is or was attached to, once.
+    pub fn prefixes(&self) -> &[Prefix]
+        ensures { result.now ≡ (self.now).prefixes }
+    {
+        &self.prefixes
+    }
+
+    /// What a router's attachment to the prefix costs; none where it is not attached, or where there is no such
+    /// router.
+    pub fn attachment(&self, router: u16, prefix: Prefix) -> Option<Cost>
+        ensures { result ≡ model.attachment_at self.now router prefix }
+    {
+        self.attachments.get(usize::from(router))?.cost(prefix)
+    }
+
     /// What a router has to do next: the first of a release, a publication, and a delivery by ascending
     /// port that is lawful, the notices of its attachments last; none where nothing is, or where there
     /// is no such router.

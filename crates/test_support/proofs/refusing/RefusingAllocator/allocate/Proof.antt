@@ -40,14 +40,14 @@ use Rattle.std.proofs.alloc.Calls.{Al, α, seen, token, Answer, answer_val, Answ
 use Rattle.std.proofs.alloc.Shapes.{after}
 use Rattle.std.specs.Allocator.{block_if_ok}
 use Rattle.std.specs.contracts.sync.atomic.AtomicU64 as word
-use Rattle.fabric_tests.specs.contracts.refusing.is_refused as asked
-use Rattle.fabric_tests.proofs.refusing.is_refused.Symbol as asked_symbol
-use Rattle.fabric_tests.proofs.refusing.is_refused.Met as asked_met
-use Rattle.fabric_tests.specs.contracts.refusing.Refusing as refusing
-use Rattle.fabric_tests.specs.contracts.refusing.RefusingAllocator.allocate as own
-use Rattle.fabric_tests.specs.contracts.refusing.RefusingAllocator.allocate.Key as key
-use Rattle.fabric_tests.proofs.refusing.RefusingAllocator.allocate.Statement.{statement}
-use Rattle.fabric_tests.proofs.refusing.RefusingAllocator.allocate.Code as code
+use Rattle.test_support.specs.contracts.refusing.is_refused as asked
+use Rattle.test_support.proofs.refusing.is_refused.Symbol as asked_symbol
+use Rattle.test_support.proofs.refusing.is_refused.Met as asked_met
+use Rattle.test_support.specs.contracts.refusing.Refusing as refusing
+use Rattle.test_support.specs.contracts.refusing.RefusingAllocator.allocate as own
+use Rattle.test_support.specs.contracts.refusing.RefusingAllocator.allocate.Key as key
+use Rattle.test_support.proofs.refusing.RefusingAllocator.allocate.Statement.{statement}
+use Rattle.test_support.proofs.refusing.RefusingAllocator.allocate.Code as code
 
 -- the call of `is_refused`: what it is handed, and what it gives back
 module _ {M : Type 1} {𝓤 : Ura M} (𝓛 : Logic 𝓤) (mem : Memory → SProp 𝓤) (run : Routine → Fun 𝓤) where
@@ -145,7 +145,7 @@ unfolding tables_of
 allocate_spec 𝓤 𝓛 𝓜 𝓡 wired Y L g d d' met _ =
     let Z : Al = record { row = Y; laws = L; g = g; d = d; drops = d' } in
     let 𝓣 : Tables 𝓤 𝓛.H = tables_of 𝓤 𝓛.H 𝓜 (tables 𝓤 𝓛.H 𝓜 𝓡 𝓡.env) in
-    let test = cited 𝓤 𝓛.H _ 𝓜 𝓡 𝓡.env asked_symbol.name (𝓡.env asked_symbol.name) refl (asked_met.met 𝓤 𝓛 𝓜 𝓡 (code.calls-fabric_tests::refusing::is_refused 𝓡.env wired)) in
+    let test = cited 𝓤 𝓛.H _ 𝓜 𝓡 𝓡.env asked_symbol.name (𝓡.env asked_symbol.name) refl (asked_met.met 𝓤 𝓛 𝓜 𝓡 (code.calls-test_support::refusing::is_refused 𝓡.env wired)) in
     let c = own.clauses Y g d d' 𝓛 𝓜.mem 𝓡.returns in
     let Wp = WpFn 𝓤 𝓛.H 𝓣.C 𝓣.Λ (here Z) in
     let plainly = Goes-dropped 𝓛 2 (plain (λ _. usize)) yes (λ κs x f. refl) in

@@ -2,23 +2,22 @@
 
 use std::alloc::{AllocError, Allocator};
 use std::fmt;
-use std::process::Abort;
 use std::sync::atomic::{AtomicU64, Ordering};
 
 // What is left where each allocation is refused.
 const ALL: u64 = 1 << 63;
 
-// Which of the allocations to come are refused, counted from 1.
+/// Which of the allocations to come are refused, counted from 1.
 #[derive(Clone, Copy)]
 pub enum Refused {
-    // This one, and no other.
+    /// This one, and no other.
     One(u64),
-    // This one, and all behind it.
+    /// This one, and all behind it.
     From(u64),
 }
 
-// Passes each call on to another allocator, but for the allocations that it refuses. A growth is an
-// allocation too.
+/// Passes each call on to another allocator, but for the allocations that it refuses. A growth is an
+/// allocation too.
 pub struct Refusing<A: Allocator> {
     inner: A,
     // 1 where the next allocation alone is refused, 2 where the next but one is, and so on; `ALL` more where
@@ -29,7 +28,7 @@ pub struct Refusing<A: Allocator> {
 }
 
 impl<A: Allocator> Refusing<A> {
-    // Refuses none yet.
+    /// Refuses none yet.
     pub fn new(inner: A) -> Refusing<A> {
         Refusing {
             inner,
@@ -38,7 +37,7 @@ impl<A: Allocator> Refusing<A> {
         }
     }
 
-    // Refuses these of the allocations to come.
+    /// Refuses these of the allocations to come.
     pub fn refuse(&self, refused: Refused) {
         let left = match refused {
             Refused::One(nth) => nth,
@@ -47,21 +46,23 @@ impl<A: Allocator> Refusing<A> {
         self.left.store(left, Ordering::SeqCst);
     }
 
-    // Whether a call met a refusal, when it ends; from now on none is refused. A call that met none has not
-    // failed. A call of which one allocation alone is refused may be done nevertheless: a list that is
-    // collected first asks for as much as it may need, and then for less.
-    pub fn was_met(&self, rt: &impl Abort, has_failed: bool) -> bool {
+    /// Whether a call met a refusal, when it ends; from now on none is refused. None if that does not fit: a
+    /// call that met none has failed, or all behind one were refused and it has not. A call of which one
+    /// allocation alone is refused may be done nevertheless: a list that is collected first asks for as much as
+    /// it may need, and then for less.
+    pub fn was_met(&self, has_failed: bool) -> Option<bool> {
         let left = self.left.swap(0, Ordering::SeqCst);
-        assert!(rt; has_failed || left != ALL);
         let was_met = left == 0 || left == ALL;
-        assert!(rt; was_met || !has_failed);
+        if has_failed && !was_met || !has_failed && left == ALL {
+            return None;
+        }
         if was_met {
             self.met.fetch_add(1, Ordering::SeqCst);
         }
-        was_met
+        Some(was_met)
     }
 
-    // How many calls met a refusal.
+    /// How many calls met a refusal.
     pub fn met(&self) -> u64 {
         self.met.load(Ordering::SeqCst)
     }

@@ -34,11 +34,11 @@ use denote.Triple.Statement.{Triple}
 use denote.Triple.Table.{entered}
 use denote.Triple.Walked.{Stays, stay_dropped, walk_of, ends_at, walked, Goes-dropped, walk_Meets}
 use Rattle.std.proofs.alloc.Calls.{Al, α, seen, token, gives_key, Gives, at_gives, Gives-goes, Gives-Gives}
-use Rattle.fabric_tests.specs.contracts.refusing.Refusing as refusing
-use Rattle.fabric_tests.specs.contracts.refusing.RefusingAllocator.deallocate as own
-use Rattle.fabric_tests.specs.contracts.refusing.RefusingAllocator.deallocate.Key as key
-use Rattle.fabric_tests.proofs.refusing.RefusingAllocator.deallocate.Statement.{statement}
-use Rattle.fabric_tests.proofs.refusing.RefusingAllocator.deallocate.Code as code
+use Rattle.test_support.specs.contracts.refusing.Refusing as refusing
+use Rattle.test_support.specs.contracts.refusing.RefusingAllocator.deallocate as own
+use Rattle.test_support.specs.contracts.refusing.RefusingAllocator.deallocate.Key as key
+use Rattle.test_support.proofs.refusing.RefusingAllocator.deallocate.Statement.{statement}
+use Rattle.test_support.proofs.refusing.RefusingAllocator.deallocate.Code as code
 
 module _ (Z : Al) where
   abbrev args : Args
