@@ -16,6 +16,9 @@ from pathlib import Path
 from tempfile import NamedTemporaryFile
 from typing import NamedTuple
 
+ROOT = Path(__file__).resolve().parent.parent
+sys.path.insert(0, str(ROOT / "model"))
+
 from networks import SCENARIOS
 
 NETWORKS = list(SCENARIOS)

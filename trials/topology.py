@@ -9,9 +9,9 @@ from random import Random
 from typing import NamedTuple
 
 ROOT = Path(__file__).resolve().parent.parent
-sys.path.insert(0, str(ROOT / "bench"))
+sys.path.insert(0, str(ROOT / "model"))
 
-# What a trial of the daemon takes from bench comes from here, since this knows where it is.
+# What a trial of the daemon takes from model comes from here, since this knows where it is.
 from built import built
 from networks import Scenario, ups
 

@@ -1,7 +1,7 @@
 #!/usr/bin/env python3
 """Writes the scenarios of the benchmark of settling.
 
-    python3 bench/networks.py FOLDER
+    python3 model/networks.py FOLDER
 
 writes grid.toml, line.toml, flap.toml, star.toml, mesh.toml and outage.toml, and each once more with a
 `report` at its end, as grid-report.toml and so on.

@@ -1,7 +1,7 @@
 /* Makes the calls of images, writers and readers (include/tuhvondi.h) with hostile arguments, beside a plain
  * list of rows.
  *
- *     cc -g -fsanitize=address,undefined -Iinclude bench/images.c libtuhvondi.a -pthread \
+ *     cc -g -fsanitize=address,undefined -Iinclude trials/images.c libtuhvondi.a -pthread \
  *         -Wl,--wrap=malloc,--wrap=realloc,--wrap=free && ./a.out [STEPS [SEED]]
  *
  *   1. Hostile arguments: empty handles, empty lists at null, lists of other lengths, prefixes that are none,

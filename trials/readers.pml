@@ -1,5 +1,5 @@
 /* Two copies of a table, one writer, two readers: the protocol of board.rt, reader.rt and writer.rt of crates/lookup_ffi,
- * in every order of its steps. bench/readers runs it.
+ * in every order of its steps. trials/readers runs it.
  *
  * Errors that -D plants: SKIP_CLEAR, a writer that takes no pages out; FREE_WHILE_READ, one that takes them from
  * readers; NO_CLAIM, a reader that claims nothing; NO_SECOND_LOOK, one that does not look again which copy is shown.

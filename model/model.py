@@ -1,7 +1,7 @@
 #!/usr/bin/env python3
 """A plain model of a network of routers that route by DUAL.
 
-    python3 bench/model.py [--time] SCENARIO.toml
+    python3 model/model.py [--time] SCENARIO.toml
 
 does the script of a scenario and prints what `dualnet run` prints for it. It shares no code with
 the program, and is there to be compared with it: in what it prints, and in how long it takes. It

@@ -1,7 +1,7 @@
 #!/usr/bin/env python3
 """Writes a random scenario: a small network and a script of 200 commands.
 
-    python3 bench/random_networks.py SEED > SCENARIO.toml
+    python3 model/random_networks.py SEED > SCENARIO.toml
 
 The same seed gives the same scenario. Each step is tried, so that none of them ends the run.
 """

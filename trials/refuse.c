@@ -1,7 +1,7 @@
 /* Refuses one call of a program that is preloaded with this: the call of number REFUSE, from 1, of
  * the kind that REFUSE_KIND names, `memory` (malloc and realloc) or `thread` (pthread_create). With
  * REFUSE 0 it refuses none. It counts them in the first eight bytes of the file REFUSE_COUNT, since a
- * program that ends by _exit runs nothing more. bench/refuse compiles it. */
+ * program that ends by _exit runs nothing more. trials/refuse compiles it. */
 #define _GNU_SOURCE
 #include <dlfcn.h>
 #include <errno.h>

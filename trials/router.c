@@ -1,6 +1,6 @@
 /* Times one router of 32 ports and 4,096 prefixes, as C has it (include/tuhvondi_router.h).
  *
- *     cc -O2 -Iinclude bench/router.c libtuhvondi.a && ./a.out [PREFIXES [UPDATES [SEED]]]
+ *     cc -O2 -Iinclude trials/router.c libtuhvondi.a && ./a.out [PREFIXES [UPDATES [SEED]]]
  *
  * It brings 32 links up, has each neighbour tell its distance to each prefix, and then times: updates from
  * drawn neighbours, most of them with news; the same with each publication, image and release; the loss of

@@ -2,7 +2,7 @@
 
 What may happen to them, and what is claimed of them after each step, as the definitions of `daemon_laws` have it. The
 machine is that of the plain model. Functions that say what may be, and functions that say what happens, are small, so that
-`bench/processes` can plant an error in one of them."""
+`trials/processes` can plant an error in one of them."""
 
 from collections import deque
 from collections.abc import Callable

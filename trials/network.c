@@ -1,7 +1,7 @@
 /* Makes the calls of a whole network (include/tuhvondi_network.h) with hostile arguments and refused memory,
  * and compares a network that has settled with least costs that are reckoned here.
  *
- *     cc -g -fsanitize=address,undefined -Iinclude bench/network.c libtuhvondi.a \
+ *     cc -g -fsanitize=address,undefined -Iinclude trials/network.c libtuhvondi.a \
  *         -Wl,--wrap=malloc,--wrap=realloc,--wrap=free && ./a.out [STEPS [SEED]]
  *
  *   1. Hostile arguments: an empty handle, numbers of routers, links and ports that are none, steps and

@@ -1,7 +1,7 @@
 #!/usr/bin/env python3
 """Writes the states of a scenario's run, as the page reads them, by the plain model.
 
-    python3 bench/view_states.py [--every E] SCENARIO.toml
+    python3 model/view_states.py [--every E] SCENARIO.toml
 
 One JSON object a line: the opening of the run, then the state at the start, after each E-th step (1)
 and after the last, each with only what has changed. It presumes a scenario without faults.

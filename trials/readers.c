@@ -1,7 +1,7 @@
 /* Readers that never wait, in C11 atomics: the protocol of crates/lookup_ffi (board.rt, reader.rt, writer.rt), for
  * ThreadSanitizer, which sees no accesses of the archive, and for times.
  *
- *     bench/readers [LIB]       runs it in all its forms
+ *     trials/readers [LIB]       runs it in all its forms
  *     ./readers [READERS [BURST [SECONDS [claims|words]]]]
  *
  * -DSTAND_IN  takes plain memory for images, so that a race is seen
