@@ -50,7 +50,8 @@ class Documentation(unittest.TestCase):
                 continue
             items = [(name, each)]
             if inspect.isclass(each) and not issubclass(each, enum.Enum):
-                items += [(f"{name}.{key}", getattr(each, key)) for key, value in vars(each).items()
+                items += [(f"{name}.{key}", getattr(each, key)) for base in each.__mro__
+                          if base.__module__.startswith("tuhvondi") for key, value in vars(base).items()
                           if not key.startswith("_") and (inspect.isfunction(value) or isinstance(
                               value, (property, classmethod, staticmethod)))]
             lacking += [key for key, value in items if ">>>" not in (inspect.getdoc(value) or "")]

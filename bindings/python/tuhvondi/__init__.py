@@ -5,8 +5,10 @@ What is here
 
 - `Network`: a whole network in one process. Links fail and come up again, routers settle, and you ask for
   tables, distances and the ways of packets. Begin here if you simulate.
-- `Router`: one router. You bring it what its links bring, and forward by its rows. Begin here if your event
-  loop has a clock and delays, or if routers are processes of their own.
+- `TimedNetwork`: a network in simulated time. Messages are on their way for a time, and routers take a time to
+  publish. Begin here if you ask how long a network takes.
+- `Router`: one router. You bring it what its links bring, and forward by its rows. Begin here if you have an
+  event loop of your own, or if routers are processes of their own.
 - `Image`: a forwarding table, which answers addresses by the longest match.
 - `tuhvondi.study`: each link or router of a network fails alone, from one settled state: messages, rounds to
   rest, active routers, outages. `python3 -m tuhvondi study FILE` does it with a file of GraphML.
@@ -49,7 +51,8 @@ Units
 A cost is a whole number from 1 to 65535 and has no unit. A distance is a sum of costs, that of the attachment
 at the end included; `math.inf` says that there is no way. A session says how often a link came up. Addresses
 are texts such as "10.1.2.3", numbers of 32 bits, or `ipaddress.IPv4Address`. Prefixes are texts such as
-"10.0.0.0/8" or `ipaddress.IPv4Network`. A network has no clock: its time is counted in steps.
+"10.0.0.0/8" or `ipaddress.IPv4Network`. A network has no clock: its time is counted in steps. Moments and
+delays of a timed network are whole numbers of microseconds, and its opening is at moment 0.
 
 What is proved
 ==============
@@ -75,9 +78,10 @@ from .rows import Address, Distance, Kind, Prefix, Row
 from .status import (AlreadyUp, AskedTwice, BadCost, BadCount, BadKind, BadLength, BadLimits,
                      BadLink, BadOwner, BadRouters, EmptyHandle, GenerationsSpent, HostBits, IsDown,
                      NoMemory, NotAttached, NothingDue, NothingRipe, NothingToDeliver,
-                     OtherSession, Refused, SessionsSpent, Shared, StepsSpent, StillUsed,
-                     TooManyLinks, TooManyPorts, TooManyPrefixes, Unasked, UnknownLink,
+                     OtherSession, PastMoment, Refused, SessionsSpent, Shared, StepsSpent, StillUsed,
+                     TimeSpent, TooManyLinks, TooManyPorts, TooManyPrefixes, Unasked, UnknownLink,
                      UnknownPort, UnknownPrefix, UnknownRouter)
+from .timed import Event, TimedNetwork
 
 __version__ = "0.1.0"
 
@@ -85,13 +89,14 @@ __all__ = [
     "study",
     "Network", "Counts", "End", "Entry", "Held", "HeldMessage", "Item", "ItemKind", "LinkState",
     "MachineState", "Notice", "Step", "StepKind", "Trace", "default_attachments",
+    "TimedNetwork", "Event",
     "Router", "Message", "MessageKind", "PrefixState", "Publication", "RouterCounts",
     "Image", "Row", "Kind",
     "Address", "Distance", "Prefix",
     "Refused", "LibraryNotFound", "AlreadyUp", "AskedTwice", "BadCost", "BadCount", "BadKind",
     "BadLength", "BadLimits", "BadLink", "BadOwner", "BadRouters", "EmptyHandle", "GenerationsSpent",
     "HostBits", "IsDown", "NoMemory", "NotAttached", "NothingDue", "NothingRipe",
-    "NothingToDeliver", "OtherSession", "SessionsSpent", "Shared", "StepsSpent", "StillUsed",
-    "TooManyLinks", "TooManyPorts", "TooManyPrefixes", "Unasked", "UnknownLink", "UnknownPort",
+    "NothingToDeliver", "OtherSession", "PastMoment", "SessionsSpent", "Shared", "StepsSpent", "StillUsed",
+    "TimeSpent", "TooManyLinks", "TooManyPorts", "TooManyPrefixes", "Unasked", "UnknownLink", "UnknownPort",
     "UnknownPrefix", "UnknownRouter",
 ]

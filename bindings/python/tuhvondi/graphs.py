@@ -3,11 +3,13 @@
 from __future__ import annotations
 
 import xml.etree.ElementTree as ElementTree
-from typing import Any, Callable, Dict, Hashable, Iterator, List, Mapping, Tuple, Union
+from typing import Any, Callable, Dict, Hashable, Iterator, List, Mapping, Tuple, Type, Union
 
 from .status import BadCost, BadLink
 
 CostGiven = Union[str, int, Callable[[Hashable, Hashable, Mapping[str, Any]], int]]
+# The delay of an edge that has no such attribute, in microseconds.
+_DELAY = 1000
 
 
 class Graph:
@@ -34,15 +36,22 @@ class Graph:
         return self._directed
 
 
-def _whole(cost: Any, where: str) -> int:
-    """A cost as a whole number. A text of a file, or a number such as 5.0, is one; 5.5 is none."""
+def _whole(value: Any, where: str, name: str = "cost", fault: Type[ValueError] = BadCost) -> int:
+    """A value as a whole number. A text of a file, or a number such as 5.0, is one; 5.5 is none."""
     try:
-        number = float(cost)
+        number = float(value)
         if number != int(number):
             raise ValueError
     except (TypeError, ValueError, OverflowError):
-        raise BadCost(f"{cost!r} of {where} is no whole number: give `cost` a function that rounds") from None
+        raise fault(f"{value!r} of {where} is no whole number: give `{name}` a function that rounds") from None
     return int(number)
+
+
+def _value_of(given: CostGiven, near: Hashable, far: Hashable, data: Mapping[str, Any], other: int) -> Any:
+    """What is given of an edge: by the name of its attribute, by a number for all, or by a function."""
+    if callable(given):
+        return given(near, far, data)
+    return data.get(given, other) if isinstance(given, str) else given
 
 
 def links_of(graph: Any, cost: CostGiven = "weight") -> "list[tuple[Hashable, Hashable, int, int]]":
@@ -59,11 +68,7 @@ def links_of(graph: Any, cost: CostGiven = "weight") -> "list[tuple[Hashable, Ha
             raise BadLink(f"{where} is a loop")
         if (near, far) in costs or (not graph.is_directed() and (far, near) in costs):
             raise BadLink(f"{where} has another beside it: make a Graph or a DiGraph of it first")
-        if callable(cost):
-            found = cost(near, far, data)
-        else:
-            found = data.get(cost, 1) if isinstance(cost, str) else cost
-        costs[near, far] = _whole(found, where)
+        costs[near, far] = _whole(_value_of(cost, near, far, data, 1), where)
     links: "dict[tuple[Hashable, Hashable], tuple[int, int]]" = {}
     for (near, far), to in costs.items():
         if not graph.is_directed():
@@ -73,6 +78,25 @@ def links_of(graph: Any, cost: CostGiven = "weight") -> "list[tuple[Hashable, Ha
         elif (far, near) not in links:
             links[near, far] = (to, costs[far, near])
     return [(near, far, to, back) for (near, far), (to, back) in links.items()]
+
+
+def delays_of(graph: Any, delay: CostGiven = "delay") -> "dict[tuple[Hashable, Hashable], int]":
+    """The delays of a graph, in microseconds, by the node that sends and the node that receives. Without an
+    attribute it is 1000.
+
+    >>> graph = Graph({"a": {}, "b": {}}, [("a", "b", {"delay": "70"})], directed=False)
+    >>> delays_of(graph)
+    {('a', 'b'): 70, ('b', 'a'): 70}
+
+    Raises ValueError if a delay is no whole number.
+    """
+    delays: "dict[tuple[Hashable, Hashable], int]" = {}
+    for near, far, data in graph.edges(data=True):
+        found = _value_of(delay, near, far, data, _DELAY)
+        delays[near, far] = _whole(found, f"the edge of {near!r} and {far!r}", "delay", ValueError)
+        if not graph.is_directed():
+            delays[far, near] = delays[near, far]
+    return delays
 
 
 def _local(tag: str) -> str:

@@ -294,46 +294,17 @@ def default_attachments(routers: Sequence[Name]) -> "dict[Name, IPv4Network]":
     return {name: network_of(0x0A000000 | number << 8, 24) for number, name in enumerate(routers)}
 
 
-class Network(Owner):
-    """A network of routers that route by DUAL, with the table in force at each.
+class Whole(Owner):
+    """Routers with links and attachments, and what can be asked of them. `Network` and `TimedNetwork` say what it
+    is made of, and how it goes on.
 
-    - routers: their names, 1 to 65,536; a name is whatever can be a key of a dict
-    - links: tuples of two names and a cost, 1 to 65535, or two names, the cost from the first, and the cost
-      from the second; at most 65,536, at most 32 at a router, and at most one between two routers
-    - attachments: by router, the prefixes to which it is attached: one, several, or several with their costs
-      (1 if you give none). Without them each router has a prefix of its own: 10.0.0.0/24, 10.0.1.0/24 and so
-      on. No other prefix can be attached later.
-    - up: whether all links come up at once; else all are down. In a large network `tuhvondi.study.start`,
-      which has them come up one by one, takes far fewer steps.
-
-    Nothing happens but by steps: those of `settle`, those that you choose (`do`), and those by which links
-    and attachments change. A ring of three routers:
-
-    >>> net = Network("abc", [("a", "b", 1), ("b", "c", 1), ("a", "c", 5)], {"a": "10.0.0.0/8"})
-    >>> net.settle().messages > 0
+    >>> net = Network("ab", [("a", "b", 5)])
+    >>> isinstance(net, Whole)
     True
-    >>> net.distances("10.0.0.0/8")
-    {'a': 1, 'b': 2, 'c': 3}
-    >>> net.fail("b", "c")
-    >>> print(net.trace("c", "10.1.2.3"))   # c has not heard of it
-    c: dead link
-    >>> _ = net.settle()
-    >>> print(net.trace("c", "10.1.2.3"))
-    c a: delivered
-    >>> net.distance("c", "10.0.0.0/8")
-    6
-
-    Whatever steps are done, in whatever order, it is proved of the library that no packet meets a router
-    twice, and that rows lead at least cost if nothing is left to do. There is no clock:
-    `examples/python/own_loop.py` has one.
-
-    Raises BadRouters, BadLink, TooManyLinks, BadOwner, BadCost, NoMemory.
     """
 
-    _kind = "network"
-
     def __init__(self, routers: Iterable[Name], links: Iterable[LinkGiven],
-                 attachments: Optional[Attachments] = None, *, up: bool = True) -> None:
+                 attachments: Optional[Attachments] = None) -> None:
         super().__init__()
         self._names = tuple(routers)
         self._numbers = {name: number for number, name in enumerate(self._names)}
@@ -355,11 +326,7 @@ class Network(Owner):
         owners = self._owners(default_attachments(self._names) if attachments is None else attachments)
         self._prefixes = sorted({(addr, length) for addr, length, _, _ in owners})
         self._open(given, owners)
-        # The steps that were done, for pickles: a kind of record, and a step, or a seed and a number of steps.
-        self._done = bytearray()
         self._hops = (ctypes.c_uint16 * max(1, len(self._names)))()
-        if up:
-            self.restore()
 
     def _ends(self, link: LinkGiven) -> "tuple[int, int, int, int]":
         if not 3 <= len(link) <= 4:
@@ -395,8 +362,8 @@ class Network(Owner):
         owner_parts = (_library.OwnerParts * max(1, len(owners)))(
             *[(addr, cost, router, length) for addr, length, cost, router in owners])
         place = _library.FaultPlaceParts()
-        status = self._library.network_within(byref(_library.LimitsParts(*_WIDEST)), len(self._names), link_parts,
-                                              len(links), owner_parts, len(owners), byref(place), self._at)
+        status = self._new(byref(_library.LimitsParts(*_WIDEST)), len(self._names), link_parts, len(links), owner_parts,
+                           len(owners), place)
         if status:
             where = ""
             if place.list == 1:
@@ -408,46 +375,14 @@ class Network(Owner):
             raise refusal(status, BY_NETWORK, where)
         self._given = (links, owners)
 
-    # ---- making a network of a graph, and a graph of a network
+    def _new(self, limits: Any, routers: int, links: Any, link_count: int, owners: Any, owner_count: int,
+             place: _library.FaultPlaceParts) -> int:
+        """Has the library open the network of these parts, and answers its status."""
+        raise NotImplementedError
 
-    @classmethod
-    def from_networkx(cls, graph: Any, attachments: Optional[Attachments] = None,
-                      cost: Union[str, int, Callable[[Name, Name, Mapping[str, Any]], int]] = "weight", *,
-                      up: bool = True) -> Network:
-        """The network of a graph of networkx, or of a graph that has its `nodes`, `edges` and `is_directed`.
-
-        `cost` is the cost of an edge, 1 to 65535: the name of its attribute, and 1 if the edge has none; a
-        number for all; or a function of the two nodes and the attributes. In a directed graph each edge has
-        an edge back, and each of the two gives the cost from its first node.
-
-        >>> import networkx
-        >>> net = Network.from_networkx(networkx.cycle_graph(4), {0: "10.0.0.0/8"}, cost=10)
-        >>> _ = net.settle()
-        >>> net.distances("10.0.0.0/8")
-        {0: 1, 1: 11, 2: 21, 3: 11}
-
-        Raises BadLink for loops, for parallel edges, and for an edge without an edge back. Others are as for
-        a Network.
-        """
-        return cls(list(graph.nodes), graphs.links_of(graph, cost), attachments, up=up)
-
-    @classmethod
-    def from_graphml(cls, path: Any, attachments: Optional[Attachments] = None,
-                     cost: Union[str, int, Callable[[Name, Name, Mapping[str, Any]], int]] = "weight", *,
-                     up: bool = True) -> Network:
-        """The network of a file of GraphML. It needs no networkx. Routers are named by their labels, if each
-        node has one of its own, else by their ids. `cost` is as for `from_networkx`.
-
-        >>> import io
-        >>> file = io.StringIO('''<graphml><graph edgedefault="undirected">
-        ... <node id="a"/><node id="b"/><edge source="a" target="b"/></graph></graphml>''')
-        >>> Network.from_graphml(file).routers
-        ('a', 'b')
-
-        Raises ValueError if the file is no GraphML. Others are as for `from_networkx`.
-        """
-        graph = graphs.read_graphml(path)
-        return cls(list(graph.nodes), graphs.links_of(graph, cost), attachments, up=up)
+    def _call(self, name: str) -> Any:
+        """The function of the library that answers of what this is."""
+        return getattr(self._library, f"{self._kind}_{name}")
 
     def to_networkx(self, down: bool = False) -> Any:
         """A graph of networkx of the network as it is now: a Graph, or a DiGraph if a link has two costs.
@@ -513,7 +448,7 @@ class Network(Owner):
         """
         near, far = self._number(router), self._number(other)
         parts = _library.LinkStateParts()
-        self._need(self._library.network_link(self._at, self._link(near, far), byref(parts)))
+        self._need(self._call("link")(self._at, self._link(near, far), byref(parts)))
         ends = [(parts.from_a, parts.to_a), (parts.from_b, parts.to_b)]
         (cost, to_near), (back, to_far) = ends if parts.a == near else ends[::-1]
         return LinkState(router, other, cost, back, bool(parts.up), parts.session, to_near, to_far)
@@ -556,6 +491,323 @@ class Network(Owner):
     def _need(status: int, detail: str = "") -> None:
         if status:
             raise refusal(status, BY_NETWORK, detail)
+
+    def _parts_of(self, step: Step) -> "tuple[_library.StepParts, str]":
+        """A step as the library has it, and what a refusal says of it."""
+        kind, near = StepKind(step.kind), self._number(step.router)
+        if kind in (StepKind.ATTACH, StepKind.DETACH):
+            if step.prefix is None:
+                raise UnknownPrefix("the step names none")
+            addr, length = prefix_parts(step.prefix)
+            cost = self._cost(step.cost or 0, f"the attachment of {step.router}") if kind == StepKind.ATTACH else 0
+            return _library.StepParts(addr=addr, cost=cost, subject=near, kind=kind, len=length), str(step.prefix)
+        if kind in (StepKind.PUBLISH, StepKind.RELEASE):
+            return _library.StepParts(subject=near, kind=kind), ""
+        if step.neighbour is None:
+            if kind != StepKind.DELIVER:
+                raise BadLink("the step names one router")
+            return _library.StepParts(subject=near, kind=kind, port=len(self._neighbours[near])), ""
+        far = self._number(step.neighbour)
+        link, names = self._link(near, far), f"{step.router!r} and {step.neighbour!r}"
+        if kind in (StepKind.LINK_UP, StepKind.LINK_DOWN):
+            return _library.StepParts(subject=link, kind=kind), names
+        cost = self._cost(step.cost or 0, f"the link of {names}") if kind == StepKind.SET_COST else 0
+        return _library.StepParts(subject=near, kind=kind, port=self._ports[near, far], cost=cost), ""
+
+    def _step_of(self, parts: _library.StepParts) -> Optional[Step]:
+        """A step of the library, or None where it says that there is none."""
+        if parts.kind > StepKind.DETACH:
+            return None
+        kind, cost = StepKind(parts.kind), parts.cost or None
+        if kind in (StepKind.LINK_UP, StepKind.LINK_DOWN):
+            a, b = self._pairs[parts.subject]
+            return Step(kind, self._names[a], self._names[b])
+        router, neighbours = self._names[parts.subject], self._neighbours[parts.subject]
+        if kind in (StepKind.ATTACH, StepKind.DETACH):
+            return Step(kind, router, prefix=network_of(parts.addr, parts.len), cost=cost)
+        if kind in (StepKind.DELIVER, StepKind.SET_COST) and parts.port < len(neighbours):
+            return Step(kind, router, self._names[neighbours[parts.port]], cost=cost)
+        return Step(kind, router)
+
+    # ---- what can be asked
+
+    @property
+    def counts(self) -> Counts:
+        """How many steps were done since the opening, and how many messages of each kind they put on links.
+        The steps by which links come up at the opening count.
+
+        >>> Network("ab", [("a", "b", 5)]).counts
+        Counts(steps=1, updates=0, queries=0, replies=0)
+        """
+        parts = _library.NetworkCountsParts()
+        self._need(self._call("counts")(self._at, byref(parts)))
+        return Counts(parts.steps, parts.updates, parts.queries, parts.replies)
+
+    def _entry(self, router: int, parts: _library.RowParts) -> Optional[Entry]:
+        if parts.kind > Kind.UNREACHABLE:
+            return None
+        prefix, kind = network_of(parts.addr, parts.len), Kind(parts.kind)
+        if kind == Kind.VIA:
+            return Entry(prefix, kind, self._names[self._neighbours[router][parts.port]], parts.session)
+        return Entry(prefix, kind)
+
+    def lookup(self, router: Name, address: Address) -> Optional[Entry]:
+        """The row in force at a router with the longest prefix that covers an address, or None.
+
+        >>> net = Network("ab", [("a", "b", 5)], {"a": "10.0.0.0/8"})
+        >>> _ = net.settle()
+        >>> print(net.lookup("b", "10.1.2.3"))
+        10.0.0.0/8 via a, session 1
+
+        Raises UnknownRouter.
+        """
+        number = self._number(router)
+        addrs, answers = (ctypes.c_uint32 * 1)(address_number(address)), (_library.RowParts * 1)()
+        self._need(self._call("lookup")(self._at, number, addrs, 1, answers, 1))
+        return self._entry(number, answers[0])
+
+    def trace(self, router: Name, address: Address) -> Trace:
+        """Follows a packet for an address from a router on, along the tables in force, to its end.
+
+        No router is passed twice: that is proved.
+
+        >>> net = Network("abc", [("a", "b", 5), ("b", "c", 5)], {"a": "10.0.0.0/8"})
+        >>> net.trace("c", "10.1.2.3").end.name
+        'NO_ROUTE'
+        >>> _ = net.settle()
+        >>> print(net.trace("c", "10.1.2.3"))
+        c b a: delivered
+
+        Raises UnknownRouter.
+        """
+        count, end = c_size_t(), c_uint8()
+        self._need(self._call("trace")(
+            self._at, self._number(router), address_number(address), self._hops, len(self._names),
+            byref(count), byref(end)))
+        return Trace(tuple(self._names[number] for number in self._hops[:count.value]), End(end.value))
+
+    def table(self, router: Name) -> List[Entry]:
+        """The rows in force at a router, in the order of their prefixes.
+
+        >>> net = Network("ab", [("a", "b", 5)])
+        >>> _ = net.settle()
+        >>> for row in net.table("b"):
+        ...     print(row)
+        10.0.0.0/24 via a, session 1
+        10.0.1.0/24 local
+
+        Raises UnknownRouter.
+        """
+        number = self._number(router)
+        rows = (_library.RowParts * max(1, len(self._prefixes)))()
+        written, more = c_size_t(), c_uint8()
+        self._need(self._call("rows")(self._at, number, rows, len(self._prefixes),
+                                              byref(written), byref(more)))
+        entries = (self._entry(number, parts) for parts in rows[:written.value])
+        return [entry for entry in entries if entry is not None]
+
+    def _machine(self, router: int, prefix: "tuple[int, int]", parts: _library.MachineParts) -> bool:
+        """Writes what a router has of a prefix, and answers whether it has heard of it."""
+        status = self._call("machine")(self._at, router, *prefix, byref(parts))
+        if status == UnknownPrefix.number:
+            return False
+        self._need(status)
+        return True
+
+    def state(self, router: Name, prefix: Prefix) -> Optional[MachineState]:
+        """What a router has of a prefix, or None if it has not heard of it.
+
+        >>> net = Network("abc", [("a", "b", 1), ("b", "c", 1)], {"a": "10.0.0.0/8"})
+        >>> net.state("c", "10.0.0.0/8") is None
+        True
+
+        Raises UnknownRouter.
+        """
+        number = self._number(router)
+        parts = _library.MachineParts()
+        if not self._machine(number, prefix_parts(prefix), parts):
+            return None
+        names = [self._names[far] for far in self._neighbours[number]]
+        state = parts.state
+        return MachineState(
+            distance=distance_of(state.rd),
+            feasible=distance_of(state.fd),
+            attached=state.attached or None,
+            active=bool(state.active),
+            owed=names[state.owed] if state.owed < len(names) else None,
+            awaited=tuple(name for name, awaits in zip(names, state.awaited) if awaits),
+            next=names[parts.successor] if parts.successor < len(names) else None,
+            reported={name: distance_of(it.reported) for name, it in zip(names, parts.neighbours) if it.up},
+        )
+
+    def active(self) -> "list[tuple[Name, IPv4Network]]":
+        """The routers in which a diffusing computation is under way, each with its prefix.
+
+        >>> net = Network("abc", [("a", "b", 1), ("b", "c", 1)], {"a": "10.0.0.0/8"})
+        >>> _ = net.settle()
+        >>> net.fail("a", "b")
+        >>> net.do(Step(StepKind.DELIVER, "b", "a"))
+        >>> net.active()
+        [('b', IPv4Network('10.0.0.0/8'))]
+        """
+        parts = _library.MachineParts()
+        return [(name, network_of(*prefix))
+                for number, name in enumerate(self._names) for prefix in self._prefixes
+                if self._machine(number, prefix, parts) and parts.state.active]
+
+    def distance(self, router: Name, prefix: Prefix) -> Distance:
+        """A router's distance to a prefix, the cost of the attachment included: a sum of costs, or math.inf.
+
+        >>> net = Network("ab", [("a", "b", 5)], {"a": {"10.0.0.0/8": 2}})
+        >>> net.distance("b", "10.0.0.0/8")
+        inf
+        >>> _ = net.settle()
+        >>> net.distance("b", "10.0.0.0/8")
+        7
+
+        Raises UnknownRouter.
+        """
+        parts = _library.MachineParts()
+        found = self._machine(self._number(router), prefix_parts(prefix), parts)
+        return distance_of(parts.state.rd) if found else math.inf
+
+    def distances(self, prefix: Optional[Prefix] = None) -> "dict[Any, Any]":
+        """The distance of each router to a prefix, or, without one, such a dict for each prefix.
+
+        >>> net = Network("ab", [("a", "b", 5)])
+        >>> _ = net.settle()
+        >>> net.distances("10.0.1.0/24")
+        {'a': 6, 'b': 1}
+        >>> len(net.distances())
+        2
+        """
+        if prefix is not None:
+            return {name: self.distance(name, prefix) for name in self._names}
+        return {each: self.distances(each) for each in self.prefixes}
+
+    def distance_rows(self) -> "list[dict[str, Any]]":
+        """A row for each router and prefix, as `pandas.DataFrame` and `csv.DictWriter` take them.
+
+        >>> net = Network("ab", [("a", "b", 5)], {"a": "10.0.0.0/8"})
+        >>> _ = net.settle()
+        >>> net.distance_rows()[1]
+        {'router': 'b', 'prefix': '10.0.0.0/8', 'distance': 6, 'feasible': 6, 'next': 'a', 'active': False}
+        """
+        rows = []
+        for prefix in self.prefixes:
+            for name in self._names:
+                state = self.state(name, prefix)
+                rows.append({
+                    "router": name, "prefix": str(prefix),
+                    "distance": state.distance if state else math.inf,
+                    "feasible": state.feasible if state else math.inf,
+                    "next": state.next if state else None, "active": bool(state and state.active),
+                })
+        return rows
+
+    def to_pandas(self) -> Any:
+        """The rows of `distance_rows` as a DataFrame, if pandas is installed.
+
+        >>> Network("a", []).to_pandas()   # doctest: +SKIP
+          router       prefix  distance  feasible  next  active
+        0      a  10.0.0.0/24         1         1  None   False
+        """
+        import pandas  # pylint: disable=import-outside-toplevel
+
+        return pandas.DataFrame(self.distance_rows())
+
+
+class Network(Whole):
+    """A network of routers that route by DUAL, with the table in force at each.
+
+    - routers: their names, 1 to 65,536; a name is whatever can be a key of a dict
+    - links: tuples of two names and a cost, 1 to 65535, or two names, the cost from the first, and the cost
+      from the second; at most 65,536, at most 32 at a router, and at most one between two routers
+    - attachments: by router, the prefixes to which it is attached: one, several, or several with their costs
+      (1 if you give none). Without them each router has a prefix of its own: 10.0.0.0/24, 10.0.1.0/24 and so
+      on. No other prefix can be attached later.
+    - up: whether all links come up at once; else all are down. In a large network `tuhvondi.study.start`,
+      which has them come up one by one, takes far fewer steps.
+
+    Nothing happens but by steps: those of `settle`, those that you choose (`do`), and those by which links
+    and attachments change. A ring of three routers:
+
+    >>> net = Network("abc", [("a", "b", 1), ("b", "c", 1), ("a", "c", 5)], {"a": "10.0.0.0/8"})
+    >>> net.settle().messages > 0
+    True
+    >>> net.distances("10.0.0.0/8")
+    {'a': 1, 'b': 2, 'c': 3}
+    >>> net.fail("b", "c")
+    >>> print(net.trace("c", "10.1.2.3"))   # c has not heard of it
+    c: dead link
+    >>> _ = net.settle()
+    >>> print(net.trace("c", "10.1.2.3"))
+    c a: delivered
+    >>> net.distance("c", "10.0.0.0/8")
+    6
+
+    Whatever steps are done, in whatever order, it is proved of the library that no packet meets a router
+    twice, and that rows lead at least cost if nothing is left to do. There is no clock:
+    `TimedNetwork` has one.
+
+    Raises BadRouters, BadLink, TooManyLinks, BadOwner, BadCost, NoMemory.
+    """
+
+    _kind = "network"
+
+    def __init__(self, routers: Iterable[Name], links: Iterable[LinkGiven],
+                 attachments: Optional[Attachments] = None, *, up: bool = True) -> None:
+        super().__init__(routers, links, attachments)
+        # The steps that were done, for pickles: a kind of record, and a step, or a seed and a number of steps.
+        self._done = bytearray()
+        if up:
+            self.restore()
+
+    def _new(self, limits: Any, routers: int, links: Any, link_count: int, owners: Any, owner_count: int,
+             place: _library.FaultPlaceParts) -> int:
+        return self._library.network_within(limits, routers, links, link_count, owners, owner_count,
+                                            byref(place), self._at)
+
+    # ---- making a network of a graph
+
+    @classmethod
+    def from_networkx(cls, graph: Any, attachments: Optional[Attachments] = None,
+                      cost: Union[str, int, Callable[[Name, Name, Mapping[str, Any]], int]] = "weight", *,
+                      up: bool = True) -> Network:
+        """The network of a graph of networkx, or of a graph that has its `nodes`, `edges` and `is_directed`.
+
+        `cost` is the cost of an edge, 1 to 65535: the name of its attribute, and 1 if the edge has none; a
+        number for all; or a function of the two nodes and the attributes. In a directed graph each edge has
+        an edge back, and each of the two gives the cost from its first node.
+
+        >>> import networkx
+        >>> net = Network.from_networkx(networkx.cycle_graph(4), {0: "10.0.0.0/8"}, cost=10)
+        >>> _ = net.settle()
+        >>> net.distances("10.0.0.0/8")
+        {0: 1, 1: 11, 2: 21, 3: 11}
+
+        Raises BadLink for loops, for parallel edges, and for an edge without an edge back. Others are as for
+        a Network.
+        """
+        return cls(list(graph.nodes), graphs.links_of(graph, cost), attachments, up=up)
+
+    @classmethod
+    def from_graphml(cls, path: Any, attachments: Optional[Attachments] = None,
+                     cost: Union[str, int, Callable[[Name, Name, Mapping[str, Any]], int]] = "weight", *,
+                     up: bool = True) -> Network:
+        """The network of a file of GraphML. It needs no networkx. Routers are named by their labels, if each
+        node has one of its own, else by their ids. `cost` is as for `from_networkx`.
+
+        >>> import io
+        >>> file = io.StringIO('''<graphml><graph edgedefault="undirected">
+        ... <node id="a"/><node id="b"/><edge source="a" target="b"/></graph></graphml>''')
+        >>> Network.from_graphml(file).routers
+        ('a', 'b')
+
+        Raises ValueError if the file is no GraphML. Others are as for `from_networkx`.
+        """
+        graph = graphs.read_graphml(path)
+        return cls(list(graph.nodes), graphs.links_of(graph, cost), attachments, up=up)
 
     # ---- how it changes
 
@@ -707,13 +959,7 @@ class Network(Owner):
         parts = _library.StepParts()
         number = self._number(router)
         self._need(self._library.network_next_step(self._at, number, byref(parts)))
-        if parts.kind > StepKind.DETACH:
-            return None
-        kind = StepKind(parts.kind)
-        neighbours = self._neighbours[number]
-        if kind == StepKind.DELIVER and parts.port < len(neighbours):
-            return Step(kind, router, self._names[neighbours[parts.port]])
-        return Step(kind, router)
+        return self._step_of(parts)
 
     def do(self, step: Step) -> None:
         """Does a step.
@@ -730,35 +976,7 @@ class Network(Owner):
 
         Raises what the change of its kind raises, and NothingToDeliver, NothingDue, NothingRipe, StepsSpent.
         """
-        kind = StepKind(step.kind)
-        if kind in (StepKind.LINK_UP, StepKind.LINK_DOWN):
-            if step.neighbour is None:
-                raise BadLink("the step names one router")
-            self._change(step.router, step.neighbour, kind)
-        elif kind == StepKind.SET_COST:
-            self.set_cost(step.router, step.neighbour, step.cost or 0)
-        elif kind == StepKind.ATTACH:
-            self.attach(step.router, self._prefix(step), step.cost or 0)
-        elif kind == StepKind.DETACH:
-            self.detach(step.router, self._prefix(step))
-        else:
-            near = self._number(step.router)
-            port = 0
-            if kind == StepKind.DELIVER:
-                port = len(self._neighbours[near])
-                if step.neighbour is not None:
-                    far = self._number(step.neighbour)
-                    self._link(near, far)
-                    port = self._ports[near, far]
-            self._step(_library.StepParts(subject=near, kind=kind, port=port))
-
-    @staticmethod
-    def _prefix(step: Step) -> IPv4Network:
-        if step.prefix is None:
-            raise UnknownPrefix("the step names none")
-        return step.prefix
-
-    # ---- what can be asked
+        self._step(*self._parts_of(step))
 
     @property
     def is_settled(self) -> bool:
@@ -770,191 +988,6 @@ class Network(Owner):
         settled = c_uint8()
         self._need(self._library.network_is_settled(self._at, byref(settled)))
         return bool(settled.value)
-
-    @property
-    def counts(self) -> Counts:
-        """How many steps were done since the opening, and how many messages of each kind they put on links.
-        The steps by which links come up at the opening count.
-
-        >>> Network("ab", [("a", "b", 5)]).counts
-        Counts(steps=1, updates=0, queries=0, replies=0)
-        """
-        parts = _library.NetworkCountsParts()
-        self._need(self._library.network_counts(self._at, byref(parts)))
-        return Counts(parts.steps, parts.updates, parts.queries, parts.replies)
-
-    def _entry(self, router: int, parts: _library.RowParts) -> Optional[Entry]:
-        if parts.kind > Kind.UNREACHABLE:
-            return None
-        prefix, kind = network_of(parts.addr, parts.len), Kind(parts.kind)
-        if kind == Kind.VIA:
-            return Entry(prefix, kind, self._names[self._neighbours[router][parts.port]], parts.session)
-        return Entry(prefix, kind)
-
-    def lookup(self, router: Name, address: Address) -> Optional[Entry]:
-        """The row in force at a router with the longest prefix that covers an address, or None.
-
-        >>> net = Network("ab", [("a", "b", 5)], {"a": "10.0.0.0/8"})
-        >>> _ = net.settle()
-        >>> print(net.lookup("b", "10.1.2.3"))
-        10.0.0.0/8 via a, session 1
-
-        Raises UnknownRouter.
-        """
-        number = self._number(router)
-        addrs, answers = (ctypes.c_uint32 * 1)(address_number(address)), (_library.RowParts * 1)()
-        self._need(self._library.network_lookup(self._at, number, addrs, 1, answers, 1))
-        return self._entry(number, answers[0])
-
-    def trace(self, router: Name, address: Address) -> Trace:
-        """Follows a packet for an address from a router on, along the tables in force, to its end.
-
-        No router is passed twice: that is proved.
-
-        >>> net = Network("abc", [("a", "b", 5), ("b", "c", 5)], {"a": "10.0.0.0/8"})
-        >>> net.trace("c", "10.1.2.3").end.name
-        'NO_ROUTE'
-        >>> _ = net.settle()
-        >>> print(net.trace("c", "10.1.2.3"))
-        c b a: delivered
-
-        Raises UnknownRouter.
-        """
-        count, end = c_size_t(), c_uint8()
-        self._need(self._library.network_trace(
-            self._at, self._number(router), address_number(address), self._hops, len(self._names),
-            byref(count), byref(end)))
-        return Trace(tuple(self._names[number] for number in self._hops[:count.value]), End(end.value))
-
-    def table(self, router: Name) -> List[Entry]:
-        """The rows in force at a router, in the order of their prefixes.
-
-        >>> net = Network("ab", [("a", "b", 5)])
-        >>> _ = net.settle()
-        >>> for row in net.table("b"):
-        ...     print(row)
-        10.0.0.0/24 via a, session 1
-        10.0.1.0/24 local
-
-        Raises UnknownRouter.
-        """
-        number = self._number(router)
-        rows = (_library.RowParts * max(1, len(self._prefixes)))()
-        written, more = c_size_t(), c_uint8()
-        self._need(self._library.network_rows(self._at, number, rows, len(self._prefixes),
-                                              byref(written), byref(more)))
-        entries = (self._entry(number, parts) for parts in rows[:written.value])
-        return [entry for entry in entries if entry is not None]
-
-    def _machine(self, router: int, prefix: "tuple[int, int]", parts: _library.MachineParts) -> bool:
-        """Writes what a router has of a prefix, and answers whether it has heard of it."""
-        status = self._library.network_machine(self._at, router, *prefix, byref(parts))
-        if status == UnknownPrefix.number:
-            return False
-        self._need(status)
-        return True
-
-    def state(self, router: Name, prefix: Prefix) -> Optional[MachineState]:
-        """What a router has of a prefix, or None if it has not heard of it.
-
-        >>> net = Network("abc", [("a", "b", 1), ("b", "c", 1)], {"a": "10.0.0.0/8"})
-        >>> net.state("c", "10.0.0.0/8") is None
-        True
-
-        Raises UnknownRouter.
-        """
-        number = self._number(router)
-        parts = _library.MachineParts()
-        if not self._machine(number, prefix_parts(prefix), parts):
-            return None
-        names = [self._names[far] for far in self._neighbours[number]]
-        state = parts.state
-        return MachineState(
-            distance=distance_of(state.rd),
-            feasible=distance_of(state.fd),
-            attached=state.attached or None,
-            active=bool(state.active),
-            owed=names[state.owed] if state.owed < len(names) else None,
-            awaited=tuple(name for name, awaits in zip(names, state.awaited) if awaits),
-            next=names[parts.successor] if parts.successor < len(names) else None,
-            reported={name: distance_of(it.reported) for name, it in zip(names, parts.neighbours) if it.up},
-        )
-
-    def active(self) -> "list[tuple[Name, IPv4Network]]":
-        """The routers in which a diffusing computation is under way, each with its prefix.
-
-        >>> net = Network("abc", [("a", "b", 1), ("b", "c", 1)], {"a": "10.0.0.0/8"})
-        >>> _ = net.settle()
-        >>> net.fail("a", "b")
-        >>> net.do(Step(StepKind.DELIVER, "b", "a"))
-        >>> net.active()
-        [('b', IPv4Network('10.0.0.0/8'))]
-        """
-        parts = _library.MachineParts()
-        return [(name, network_of(*prefix))
-                for number, name in enumerate(self._names) for prefix in self._prefixes
-                if self._machine(number, prefix, parts) and parts.state.active]
-
-    def distance(self, router: Name, prefix: Prefix) -> Distance:
-        """A router's distance to a prefix, the cost of the attachment included: a sum of costs, or math.inf.
-
-        >>> net = Network("ab", [("a", "b", 5)], {"a": {"10.0.0.0/8": 2}})
-        >>> net.distance("b", "10.0.0.0/8")
-        inf
-        >>> _ = net.settle()
-        >>> net.distance("b", "10.0.0.0/8")
-        7
-
-        Raises UnknownRouter.
-        """
-        parts = _library.MachineParts()
-        found = self._machine(self._number(router), prefix_parts(prefix), parts)
-        return distance_of(parts.state.rd) if found else math.inf
-
-    def distances(self, prefix: Optional[Prefix] = None) -> "dict[Any, Any]":
-        """The distance of each router to a prefix, or, without one, such a dict for each prefix.
-
-        >>> net = Network("ab", [("a", "b", 5)])
-        >>> _ = net.settle()
-        >>> net.distances("10.0.1.0/24")
-        {'a': 6, 'b': 1}
-        >>> len(net.distances())
-        2
-        """
-        if prefix is not None:
-            return {name: self.distance(name, prefix) for name in self._names}
-        return {each: self.distances(each) for each in self.prefixes}
-
-    def distance_rows(self) -> "list[dict[str, Any]]":
-        """A row for each router and prefix, as `pandas.DataFrame` and `csv.DictWriter` take them.
-
-        >>> net = Network("ab", [("a", "b", 5)], {"a": "10.0.0.0/8"})
-        >>> _ = net.settle()
-        >>> net.distance_rows()[1]
-        {'router': 'b', 'prefix': '10.0.0.0/8', 'distance': 6, 'feasible': 6, 'next': 'a', 'active': False}
-        """
-        rows = []
-        for prefix in self.prefixes:
-            for name in self._names:
-                state = self.state(name, prefix)
-                rows.append({
-                    "router": name, "prefix": str(prefix),
-                    "distance": state.distance if state else math.inf,
-                    "feasible": state.feasible if state else math.inf,
-                    "next": state.next if state else None, "active": bool(state and state.active),
-                })
-        return rows
-
-    def to_pandas(self) -> Any:
-        """The rows of `distance_rows` as a DataFrame, if pandas is installed.
-
-        >>> Network("a", []).to_pandas()   # doctest: +SKIP
-          router       prefix  distance  feasible  next  active
-        0      a  10.0.0.0/24         1         1  None   False
-        """
-        import pandas  # pylint: disable=import-outside-toplevel
-
-        return pandas.DataFrame(self.distance_rows())
 
     def under_way(self, sender: Name, receiver: Name) -> List[Item]:
         """What a router has yet to take from a neighbour, oldest first.

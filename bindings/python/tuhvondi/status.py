@@ -228,12 +228,24 @@ class BadLimits(Refused, ValueError):
     number, text = 50, "a limit is above the widest"
 
 
+class PastMoment(Refused, ValueError):
+    """The moment of a change is before the present one."""
+
+    number, text = 51, "the moment is past"
+
+
+class TimeSpent(Refused):
+    """The next event is due at 2^64 - 1 microseconds, the last moment that the clock can show, or later."""
+
+    number, text = 52, "the next event is due when the clock cannot go on"
+
+
 _OF_ALL = (BadLength, HostBits, BadCost, BadKind, EmptyHandle, BadCount, AlreadyUp, IsDown, NothingDue,
            NothingRipe, NoMemory, UnknownPrefix, NotAttached)
 _OF_ROUTERS = (*_OF_ALL, Shared, UnknownPort, TooManyPorts, TooManyPrefixes, OtherSession,
                GenerationsSpent, Unasked, AskedTwice, StillUsed)
 _OF_NETWORKS = (*_OF_ALL, UnknownRouter, UnknownLink, SessionsSpent, NothingToDeliver, StepsSpent,
-                BadRouters, BadLink, TooManyLinks, BadOwner, BadLimits)
+                BadRouters, BadLink, TooManyLinks, BadOwner, BadLimits, PastMoment, TimeSpent)
 
 # The exceptions by their numbers. Of three numbers an image or a router means something else than a network.
 BY_ROUTER: "dict[int, Type[Refused]]" = {each.number: each for each in _OF_ROUTERS}

@@ -29,8 +29,8 @@ use Rattle.std_heap.proofs.Global.TheLaws as global_laws
 use Rattle.c_interface.specs.Handles.{held_owns}
 use Rattle.c_interface.proofs.Handles as handles
 use Rattle.c_interface.proofs.Handles.{HeapArg, bits, heap_bits, heap_fits, heap_spelled, tokens}
-use Rattle.network_ffi.specs.contracts.running.Running as running
-use Rattle.network_ffi.proofs.running.Running.TheLaws as the_laws
+use Rattle.network_calls.specs.contracts.running.Running as running
+use Rattle.network_calls.proofs.running.Running.TheLaws as the_laws
 use Rattle.network_ffi.specs.contracts.handle.NetworkHandle as handle
 use Rattle.network_ffi.proofs.Destruct++none.drop.Symbol as heap_drop
 

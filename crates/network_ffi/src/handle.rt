@@ -3,7 +3,7 @@
 ghost use Rattle.std.specs.Prelude.{◌≡◌, MatchOption, None, Some};
 ghost use Rattle.simulation.specs.Simulation.{Simulation as State};
 
-use crate::running::Running;
+use network_calls::Running;
 use std::alloc::Global;
 use std::marker::Model;
 use std::mem::replace;
@@ -21,7 +21,7 @@ pub struct NetworkHandle {
 
 impl Model for NetworkHandle {
     ghost use Rattle.c_interface.specs.Handles.{held_owns};
-    ghost use Rattle.network_ffi.specs.contracts.running.Running.{the_row as running_row};
+    ghost use Rattle.network_calls.specs.contracts.running.Running.{the_row as running_row};
 
     ghost also_owns = { λ h. held_owns running_row h.alloc h.holds h.network h.value };
 }

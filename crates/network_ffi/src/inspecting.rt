@@ -1,22 +1,19 @@
 //! The calls that show what is on a machine, a link, a queue, a gate and a queue of notices.
 
-ghost use Rattle.std.specs.Prelude.{◌≡◌, ◌≢◌, None, Some, IfErr, IfOk, IfSome, OnErr, OnOk, option_map, slice_get};
-ghost use Rattle.single_router.specs.States.{flag};
-ghost use Rattle.world.specs.Steps.{port_refusal};
-ghost use Rattle.network_ffi.specs.Calls.{at_link, at_machine, at_port, at_router, machine_refusal, shown_machine};
-ghost use Rattle.network_ffi.specs.Failures.{status_by};
+ghost use Rattle.std.specs.Prelude.{◌≡◌, ◌≢◌, Some, IfSome, option_map, slice_get};
+ghost use Rattle.network_calls.specs.Calls.{at_link, at_machine, at_port, at_router, shown_machine};
+ghost use Rattle.network_calls.specs.Failures.{status_by};
 ghost use Rattle.network_ffi.specs.Handles.{handle_network};
-ghost use Rattle.network_ffi.specs.Parts.{as_prefix};
-ghost use Rattle.network_ffi.specs.Shown.{gate_at, link_shown, AreHeldShown, AreNoticesShown, IsQueueShown};
+ghost use Rattle.network_calls.specs.Parts.{as_prefix};
+ghost use Rattle.network_calls.specs.Shown.{gate_at, link_shown, AreHeldShown, AreNoticesShown, IsQueueShown};
 
-use crate::failure::Failure;
-use crate::gate::{GateShown, NoticeShown, write_held, write_notices};
 use crate::handle::NetworkHandle;
-use crate::link::{ItemShown, LinkShown, port_place, write_items};
-use crate::machine::MachineShown;
 use c_interface::{Fault, read_prefix};
-use network_model::{Prefix, Refusal};
-use simulation::World;
+use network_calls::{
+    Failure, GateShown, ItemShown, LinkShown, MachineShown, NoticeShown, machine_of, queue_of,
+    write_held, write_notices,
+};
+use network_model::Refusal;
 use single_router::Frame;
 use std::alloc::Global;
 
@@ -52,18 +49,6 @@ pub extern "C" fn tuhvondi_network_machine(
         }
         Err(refusal) => Failure::Refused(refusal).number(),
     }
-}
-
-// What a router's machine for a prefix has.
-fn machine_of(world: &World, router: u16, prefix: Prefix) -> Result<MachineShown, Refusal>
-    ensures ok { IfOk result (λ m. shown_machine world.now router prefix ≡ Some m) }
-    ensures known { OnOk result (machine_refusal world.now router prefix ≡ None) }
-    ensures err { IfErr result (λ e. machine_refusal world.now router prefix ≡ Some e) }
-{
-    let Some(found) = world.routers().get(usize::from(router)) else {
-        return Err(Refusal::UnknownRouter);
-    };
-    MachineShown::at(found, prefix).ok_or(Refusal::UnknownPrefix)
 }
 
 /// Writes what a link has now. It takes no memory.
@@ -124,23 +109,6 @@ pub extern "C" fn tuhvondi_network_queue(
         }
         Err(refusal) => Failure::Refused(refusal).number(),
     }
-}
-
-// Writes the items that a router has yet to take from a port.
-fn queue_of(
-    world: &World,
-    router: u16,
-    port: u8,
-    items: &mut [ItemShown],
-) -> Result<(usize, bool), Refusal>
-    ensures ok { IfOk result (λ t. IsQueueShown
-        world.now router port items.old items.new t.0 (flag t.1)) }
-    ensures known { OnOk result (port_refusal world.now router port ≡ None) }
-    ensures unchanged { OnErr result (items.new ≡ items.old) }
-    ensures err { IfErr result (λ e. port_refusal world.now router port ≡ Some e) }
-{
-    let place = port_place(world, router, port)?;
-    Ok(write_items(world, place, items))
 }
 
 /// Writes what a router holds back. It takes no memory.

@@ -15,10 +15,10 @@
 //! ```
 //!
 //! The words: a *handle* is a pointer to a network in a box, and a flag if there is one. A *status* is 0, or
-//! the number of why a call is refused (`failure_number` in `specs/Failures.antt`).
+//! the number of why a call is refused (`failure_number` in `specs/Failures.antt` of `network_calls`).
 //!
 //! What always holds: the tests have an order. Faults of the numbers come first, then an empty handle, then
-//! the network's own refusal, and want of memory last (`step_fault` in `specs/Calls.antt`). If a call is
+//! the network's own refusal, and want of memory last (`step_fault` in `specs/Calls.antt` of `network_calls`). If a call is
 //! done, the network is what `simulation` says, by the very definitions that its contracts cite. So all that
 //! is proved of a simulation holds of it, for example that no packet circles. If a call is refused, the
 //! network stays as it was, and nothing is written but what the contract names. Only `tuhvondi_network_new`,
@@ -38,37 +38,25 @@ ghost use Rattle.c_interface.specs.Faults.{fault_number};
 ghost use Rattle.single_router.specs.States.{flag};
 ghost use Rattle.simulation.specs.Simulation.{after_step, opening_simulation};
 ghost use Rattle.network_ffi.specs.Handles.{handle_network};
-ghost use Rattle.network_ffi.specs.Failures.{failure_number, status_by, IsStatusBy};
+ghost use Rattle.network_calls.specs.Failures.{failure_number, status_by, IsStatusBy};
 ghost use Rattle.network_model.specs.Network.{program_limits, widest_limits, AreWithin};
-ghost use Rattle.network_ffi.specs.Parts.{limits_of, list_fault, network_failure, parts_network, IsNotOpened};
-ghost use Rattle.network_ffi.specs.Steps.{parts_of_step, step_of};
-ghost use Rattle.network_ffi.specs.Calls.{at_all, at_router, counts_of, ending_number, lookup_fault, step_fault, IsAnswered, IsFollowed, IsListed, IsRun, IsSettling};
+ghost use Rattle.network_calls.specs.Parts.{limits_of, list_fault, network_failure, parts_network, IsNotOpened};
+ghost use Rattle.network_calls.specs.Steps.{parts_of_step, step_of};
+ghost use Rattle.network_calls.specs.Calls.{at_all, at_router, counts_of, lookup_fault, step_fault, IsAnswered, IsFollowed, IsListed, IsRun, IsSettling};
 
 use c_interface::{Fault, Row};
-use network_model::{Ending, Limits, Refusal};
+use network_calls::{
+    AttachmentParts, Counts, Failure, FaultPlace, LimitsParts, LinkParts, StepParts, copy_of,
+    look_up, open, open_within, rows_of, status, trace_of,
+};
+use network_model::{Limits, Refusal};
 use simulation::Order;
 use std::alloc::Global;
 
-mod counts;
-mod failure;
-mod gate;
 mod handle;
 mod inspecting;
-mod link;
-mod machine;
-mod opening;
-mod parts;
-mod rows;
-mod running;
-mod step;
 
-use counts::Counts;
-use failure::{Failure, status};
 use handle::NetworkHandle;
-use opening::{copy_of, open, open_within};
-use parts::{AttachmentParts, FaultPlace, LimitsParts, LinkParts};
-use rows::{answer_all, write_published};
-use step::StepParts;
 
 /// Opens the network of so many routers, with these links and attachments, and puts it into the handle; the
 /// network that the handle held is freed. If none is opened, it answers why, and writes where that stands.
@@ -306,38 +294,6 @@ pub extern "C" fn tuhvondi_network_is_settled(
     0
 }
 
-// Answers addresses by the image in force at a router.
-fn look_up(
-    alloc: Global,
-    network: &mut NetworkHandle,
-    router: u16,
-    addrs: &[u32],
-    answers: &mut [Row],
-) -> Result<(), Failure>
-    ensures network { handle_network network.new ≡ handle_network network.old }
-    ensures ok { OnOk result (lookup_fault
-        router (length addrs.now) (length answers.old) (handle_network network.old) ≡ None) }
-    ensures answers { OnOk result
-        (IfSome (handle_network network.old) (IsAnswered router addrs.now answers.new)) }
-    ensures unchanged { OnErr result (answers.new ≡ answers.old) }
-    ensures err { IfErr result (λ f. lookup_fault
-        router (length addrs.now) (length answers.old) (handle_network network.old) ≡ Some f) }
-{
-    let Some(held) = network.take(alloc) else {
-        return Err(Failure::Given(Fault::Empty));
-    };
-    let outcome = match held.get().images().get(usize::from(router)) {
-        None => Err(Failure::Refused(Refusal::UnknownRouter)),
-        Some(image) if addrs.len() == answers.len() => {
-            answer_all(image, addrs, answers);
-            Ok(())
-        }
-        Some(_) => Err(Failure::Given(Fault::BadCount)),
-    };
-    network.put(held);
-    outcome
-}
-
 /// Writes, for each address, the row with the longest prefix that covers it, of the image in force at a
 /// router. If no row does, the kind is 3. It takes no memory.
 #[unsafe(no_mangle)]
@@ -355,7 +311,12 @@ pub extern "C" fn tuhvondi_network_lookup(
     ensures refused { result ≢ 0 → answers.new ≡ answers.old }
     ensures network { handle_network network.new ≡ handle_network network.old }
 {
-    status(look_up(alloc, network, router, addrs, answers))
+    let Some(held) = network.take(alloc) else {
+        return Fault::Empty.number();
+    };
+    let outcome = look_up(held.get(), router, addrs, answers);
+    network.put(held);
+    status(outcome)
 }
 
 /// Writes the routers that a packet for an address passes from a router on, along the images in force, as
@@ -381,26 +342,15 @@ pub extern "C" fn tuhvondi_network_trace(
     let Some(held) = network.take(alloc) else {
         return Fault::Empty.number();
     };
-    let followed = held.get().trace(router, addr, hops);
+    let followed = trace_of(held.get(), router, addr, hops);
     network.put(held);
-    let Some(traced) = followed else {
-        return Failure::Refused(Refusal::UnknownRouter).number();
-    };
-    *count = traced.count;
-    *end = ending_number(traced.end);
-    0
-}
-
-fn ending_number(end: Option<Ending>) -> u8
-    ensures { result ≡ ending_number end }
-{
-    match end {
-        Some(Ending::Delivered) => 0,
-        Some(Ending::NoRoute) => 1,
-        Some(Ending::Unreachable) => 2,
-        Some(Ending::DeadLink) => 3,
-        Some(Ending::Crossed) => 4,
-        None => 255,
+    match followed {
+        Ok((passed, number)) => {
+            *count = passed;
+            *end = number;
+            0
+        }
+        Err(refusal) => Failure::Refused(refusal).number(),
     }
 }
 
@@ -426,17 +376,16 @@ pub extern "C" fn tuhvondi_network_rows(
     let Some(held) = network.take(alloc) else {
         return Fault::Empty.number();
     };
-    let told = match held.get().world().routers().get(usize::from(router)) {
-        Some(found) => Some(write_published(found.table().published_rows(), rows)),
-        None => None,
-    };
+    let told = rows_of(held.get().world(), router, rows);
     network.put(held);
-    let Some((count, left)) = told else {
-        return Failure::Refused(Refusal::UnknownRouter).number();
-    };
-    *written = count;
-    *more = u8::from(left);
-    0
+    match told {
+        Ok((count, left)) => {
+            *written = count;
+            *more = u8::from(left);
+            0
+        }
+        Err(refusal) => Failure::Refused(refusal).number(),
+    }
 }
 
 /// Writes how many steps were done since the opening, and how many messages of each kind they put on links.

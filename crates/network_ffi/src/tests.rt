@@ -1,16 +1,10 @@
 //! The calls, as C makes them.
 
-use crate::counts::Counts;
-use crate::gate::{GateShown, NoticeShown};
 use crate::handle::NetworkHandle;
 use crate::inspecting::{
     tuhvondi_network_gate, tuhvondi_network_held, tuhvondi_network_link, tuhvondi_network_machine,
     tuhvondi_network_notices, tuhvondi_network_queue,
 };
-use crate::link::{ItemShown, LinkShown};
-use crate::machine::{MachineShown, NeighbourShown};
-use crate::parts::{AttachmentParts, FaultPlace, LimitsParts, LinkParts};
-use crate::step::StepParts;
 use crate::{
     tuhvondi_network_copy, tuhvondi_network_counts, tuhvondi_network_free,
     tuhvondi_network_is_settled, tuhvondi_network_lookup, tuhvondi_network_new,
@@ -19,6 +13,10 @@ use crate::{
     tuhvondi_network_within,
 };
 use c_interface::Row;
+use network_calls::{
+    AttachmentParts, Counts, FaultPlace, GateShown, ItemShown, LimitsParts, LinkParts, LinkShown,
+    MachineShown, NeighbourShown, NoticeShown, StepParts,
+};
 use single_router::{Frame, State};
 use std::alloc::Global;
 

@@ -1,9 +1,9 @@
 use Rattle.std.proofs.Common.{rules, ◌≡◌, Result, Ok, Err, Option, None, Some, IfErr, inr, sym, ap, subst}
 use Rattle.simulation.specs.Simulation.{Simulation}
-use Rattle.network_ffi.specs.Calls.{IsDoneOrFails, running_fault, step_fault}
-use Rattle.network_ffi.specs.Failures.{failure_number, IsStatusBy}
+use Rattle.network_calls.specs.Calls.{IsDoneOrFails, running_fault, step_fault}
+use Rattle.network_calls.specs.Failures.{failure_number, IsStatusBy}
 use Rattle.network_ffi.specs.Handles.{handle_network}
-use Rattle.network_ffi.specs.declared.failure.Failure.{Failure}
+use Rattle.network_calls.specs.declared.failure.Failure.{Failure}
 use Rattle.network_ffi.proofs.do_step.Goals as goal
 
 -- what a network refuses is told by its number

@@ -1,6 +1,6 @@
 use Rattle.std.proofs.Common.{arith, inr, subst}
 use Rattle.network_model.specs.Network.{program_limits, widest_limits, AreWithin}
-use Rattle.network_ffi.specs.Parts.{list_fault, network_failure, IsOpeningFault}
+use Rattle.network_calls.specs.Parts.{list_fault, network_failure, IsOpeningFault}
 use Rattle.network_ffi.proofs.tuhvondi_network_new.Goals as goal
 
 -- the program's limits are within the widest

@@ -11,7 +11,7 @@ use Rattle.std_heap.specs.contracts.Global as Heap
 use Rattle.std_heap.specs.contracts.GlobalAllocator.TheImpl.{ghosts}
 use Rattle.std_heap.proofs.Global.TheSendSync as heap
 use Rattle.c_interface.specs.Handles.{held_owns}
-use Rattle.network_ffi.specs.contracts.running.Running as Content
+use Rattle.network_calls.specs.contracts.running.Running as Content
 use Rattle.network_ffi.proofs.Crossing.{running_sends}
 use Rattle.network_ffi.specs.contracts.handle.NetworkHandle.{the_row, the_type}
 

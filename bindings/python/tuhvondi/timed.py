@@ -1,0 +1,280 @@
+"""A whole network of routers in simulated time: a discrete-event simulation."""
+
+from __future__ import annotations
+
+import math
+import operator
+from ctypes import byref, c_size_t, c_uint8, c_uint64
+from typing import Any, Callable, Iterable, Mapping, NamedTuple, Optional, Tuple, Union
+
+from . import _library, graphs
+from .network import _AT_ONCE, Attachments, Counts, LinkGiven, Name, Step, StepKind, Whole
+from .rows import number_of
+
+# The delay from one router to another: a number for all, by the two names, or a function of them.
+DelayGiven = Union[int, Mapping[Tuple[Name, Name], int], Callable[[Name, Name], int]]
+# How long a router takes to publish: a number for all, by its name, or a function of it.
+PublicationGiven = Union[int, Mapping[Name, int], Callable[[Name], int]]
+
+# The last moment that the clock can show, at which nothing is done any more.
+_LAST = 2 ** 64 - 1
+
+
+class Event(NamedTuple):
+    """A step at a moment, in microseconds since the opening, and whether it is a change that you gave.
+
+    >>> print(Event(1500, Step(StepKind.LINK_DOWN, "a", "b"), given=True))
+    1500: link down a b
+    """
+
+    moment: int
+    step: Step
+    given: bool
+
+    def __str__(self) -> str:
+        words = [self.step.kind.name.lower().replace("_", " "), self.step.router, *(
+            it for it in self.step[2:] if it is not None)]
+        return f"{self.moment}: {' '.join(map(str, words))}"
+
+
+class TimedNetwork(Whole):
+    """A network of routers in simulated time. It is made of routers, links and attachments as a `Network` is.
+
+    - delay: how long an item is on its way over a link, in microseconds: a number for all; a dict by the names
+      of the router that sends and the router that receives; or a function of the two. If a dict has one
+      direction alone, that counts for both.
+    - publication: how long after a router has something to publish it publishes, in microseconds: a number for
+      all, a dict by name, or a function of the name.
+    - up: whether all links come up at moment 0; else all are down.
+
+    What is due first is done first, and the clock jumps from one event to the next. Of one moment your changes
+    come first, in the order in which you gave them, and then routers in the order in which you named them. So
+    what happens is determined by what you give. A link that fails, a second after the opening:
+
+    >>> links = [("a", "b", 1), ("b", "c", 1), ("c", "a", 5)]
+    >>> net = TimedNetwork("abc", links, {"a": "10.0.0.0/8"}, delay=500, publication=100)
+    >>> _ = net.run_to_rest()
+    >>> net.at(1_000_000, Step(StepKind.LINK_DOWN, "a", "b"))
+    >>> _ = net.run_until(1_000_000)
+    >>> print(net.trace("b", "10.1.2.3"))
+    b: dead link
+    >>> _ = net.run_to_rest()
+    >>> print(net.trace("b", "10.1.2.3"), "- at rest since", net.now)
+    b c a: delivered - at rest since 1002300
+
+    All that is proved of a network holds of this one at every moment, whatever the delays are. It is also
+    proved that nothing is done before it is due, and that nothing that is due is left out.
+
+    Raises what a `Network` raises, and ValueError if a delay is none.
+    """
+
+    _kind = "timed"
+
+    def __init__(self, routers: Iterable[Name], links: Iterable[LinkGiven],
+                 attachments: Optional[Attachments] = None, *, delay: DelayGiven = 1000,
+                 publication: PublicationGiven = 1000, up: bool = True) -> None:
+        self._delay, self._publication = delay, publication
+        super().__init__(routers, links, attachments)
+        if up:
+            for a, b in self._pairs:
+                self.at(0, Step(StepKind.LINK_UP, self._names[a], self._names[b]))
+
+    def _new(self, limits: Any, routers: int, links: Any, link_count: int, owners: Any, owner_count: int,
+             place: _library.FaultPlaceParts) -> int:
+        delays = (_library.DelayParts * max(1, link_count))(
+            *[(self._between(b, a), self._between(a, b)) for a, b in self._pairs])
+        publications = (c_uint64 * max(1, routers))(*[self._to_publish(name) for name in self._names])
+        return self._library.timed_new(limits, routers, links, link_count, owners, owner_count, delays, link_count,
+                                       publications, routers, byref(place), self._at)
+
+    def _between(self, sender: int, receiver: int) -> int:
+        """How long an item is on its way."""
+        a, b = self._names[sender], self._names[receiver]
+        found = self._delay
+        if callable(found):
+            found = found(a, b)
+        elif isinstance(found, Mapping):
+            found = found[a, b] if (a, b) in found else found.get((b, a))
+        return self._microseconds(found, f"delay from {a!r} to {b!r}")
+
+    def _to_publish(self, name: Name) -> int:
+        """How long a router takes to publish."""
+        found = self._publication
+        if callable(found):
+            found = found(name)
+        elif isinstance(found, Mapping):
+            found = found.get(name)
+        return self._microseconds(found, f"publication of {name!r}")
+
+    @staticmethod
+    def _microseconds(value: Any, what: str) -> int:
+        try:
+            number = operator.index(value)
+        except TypeError:
+            raise ValueError(f"the {what} is {value!r}, and no whole number of microseconds") from None
+        return number_of(what, number, _LAST)
+
+    # ---- making a network of a graph
+
+    @classmethod
+    def from_networkx(cls, graph: Any, attachments: Optional[Attachments] = None,
+                      cost: graphs.CostGiven = "weight", *, delay: graphs.CostGiven = "delay",
+                      publication: PublicationGiven = 1000, up: bool = True) -> TimedNetwork:
+        """The network of a graph of networkx, as `Network.from_networkx`.
+
+        `delay` is the delay of an edge, in microseconds: the name of its attribute, and 1000 if the edge has
+        none; a number for all; or a function of the two nodes and the attributes. In a directed graph that of
+        each edge counts from its first node.
+
+        >>> import networkx
+        >>> net = TimedNetwork.from_networkx(networkx.path_graph(3), {0: "10.0.0.0/8"}, delay=50, publication=0)
+        >>> _ = net.run_to_rest()
+        >>> net.now
+        200
+
+        Raises ValueError if a delay is no whole number. Others are as for `Network.from_networkx`.
+        """
+        return cls(list(graph.nodes), graphs.links_of(graph, cost), attachments,
+                   delay=graphs.delays_of(graph, delay), publication=publication, up=up)
+
+    @classmethod
+    def from_graphml(cls, path: Any, attachments: Optional[Attachments] = None,
+                     cost: graphs.CostGiven = "weight", *, delay: graphs.CostGiven = "delay",
+                     publication: PublicationGiven = 1000, up: bool = True) -> TimedNetwork:
+        """The network of a file of GraphML, as `Network.from_graphml`. `delay` is as for `from_networkx`.
+
+        >>> import io
+        >>> file = io.StringIO('''<graphml><graph edgedefault="undirected">
+        ... <node id="a"/><node id="b"/><edge source="a" target="b"/></graph></graphml>''')
+        >>> TimedNetwork.from_graphml(file).routers
+        ('a', 'b')
+
+        Raises ValueError if the file is no GraphML. Others are as for `from_networkx`.
+        """
+        return cls.from_networkx(graphs.read_graphml(path), attachments, cost, delay=delay,
+                                 publication=publication, up=up)
+
+    # ---- how it goes on
+
+    def at(self, moment: int, step: Step) -> None:
+        """Gives a change that is to be done at a moment, after those that you gave before for the same one. It
+        is a step of a link, a cost or an attachment. Whether it can be done shows when its moment comes.
+
+        >>> net = TimedNetwork("ab", [("a", "b", 5)], up=False)
+        >>> net.at(30, Step(StepKind.LINK_UP, "a", "b"))
+        >>> net.at(70, Step(StepKind.SET_COST, "a", "b", cost=9))
+        >>> print(net.next_event)
+        30: link up a b
+
+        Raises UnknownRouter, UnknownLink, BadCost, BadKind if it is a step that routers do, PastMoment,
+        NoMemory.
+        """
+        parts, detail = self._parts_of(step)
+        number_of("moment", moment, _LAST)
+        self._need(self._library.timed_at(self._at, moment, byref(parts)), detail)
+
+    def withdraw(self) -> Optional[Event]:
+        """Takes the first of the changes that are to be done off the list, or answers None. So you go on if a
+        run has stopped at a change that is refused.
+
+        >>> net = TimedNetwork("ab", [("a", "b", 5)])
+        >>> net.at(30, Step(StepKind.LINK_UP, "a", "b"))   # it is up then
+        >>> net.run_to_rest()
+        Traceback (most recent call last):
+        ...
+        tuhvondi.status.AlreadyUp: the link is up: 30: link up a b
+        >>> print(net.withdraw())
+        30: link up a b
+        >>> net.run_to_rest().updates, net.is_at_rest
+        (4, True)
+        """
+        parts = _library.EventParts()
+        self._need(self._library.timed_withdraw(self._at, byref(parts)))
+        return self._event_of(parts)
+
+    def run_until(self, moment: int, most: Optional[int] = None) -> Counts:
+        """Does what is due up to a moment, that included, or at most so many events. Answers how many steps and
+        messages these were. `now` is then the moment of the last of them.
+
+        >>> net = TimedNetwork("ab", [("a", "b", 5)], {"a": "10.0.0.0/8"}, delay=500, publication=100)
+        >>> net.run_until(599).steps, net.now   # the link came up, and both routers heard of it
+        (3, 500)
+        >>> print(net.next_event)
+        600: publish a
+
+        Raises TimeSpent, StepsSpent, NoMemory, and what a change raises that cannot be done. That change stays
+        the next event. The events before stay done.
+        """
+        number_of("moment", moment, _LAST)
+        return self._run(most, lambda wanted, done: self._library.timed_run_until(self._at, moment, wanted, done))
+
+    def run_to_rest(self, most: Optional[int] = None) -> Counts:
+        """Does all that is left to do, as `run_until` does. `now` is then the moment since which the network is
+        at rest.
+
+        >>> net = TimedNetwork("ab", [("a", "b", 5)], {"a": "10.0.0.0/8"}, delay=500, publication=100)
+        >>> net.run_to_rest().steps, net.now
+        (9, 1700)
+        >>> net.distances("10.0.0.0/8")
+        {'a': 1, 'b': 6}
+        """
+        return self._run(most, lambda wanted, done: self._library.timed_run_to_rest(self._at, wanted, done))
+
+    def _run(self, most: Optional[int], call: Callable[[int, Any], int]) -> Counts:
+        before = self.counts
+        left = math.inf if most is None else most
+        if left < 0:
+            raise ValueError(f"there are no {most} events")
+        done = c_size_t()
+        while left > 0:
+            wanted = int(min(left, _AT_ONCE))
+            done.value = 0
+            status = call(wanted, byref(done))
+            if status:
+                event = self.next_event
+                self._need(status, str(event) if event else "")
+            if done.value < wanted:
+                break
+            left -= wanted
+        return self.counts.since(before)
+
+    # ---- what time it is
+
+    @property
+    def now(self) -> int:
+        """The moment of the last event, in microseconds since the opening.
+
+        >>> TimedNetwork("ab", []).now
+        0
+        """
+        moment = c_uint64()
+        self._need(self._library.timed_now(self._at, byref(moment)))
+        return moment.value
+
+    @property
+    def next_event(self) -> Optional[Event]:
+        """What is done next, or None if nothing is left to do.
+
+        >>> print(TimedNetwork("ab", [("a", "b", 5)]).next_event)
+        0: link up a b
+        """
+        parts = _library.EventParts()
+        self._need(self._library.timed_next(self._at, byref(parts)))
+        return self._event_of(parts)
+
+    @property
+    def is_at_rest(self) -> bool:
+        """Whether nothing is left to do: each change that you gave is done, and the network is settled. Rows
+        then lead at least cost.
+
+        >>> TimedNetwork("ab", [("a", "b", 5)]).is_at_rest, TimedNetwork("ab", []).is_at_rest
+        (False, True)
+        """
+        rests = c_uint8()
+        self._need(self._library.timed_is_at_rest(self._at, byref(rests)))
+        return bool(rests.value)
+
+    def _event_of(self, parts: _library.EventParts) -> Optional[Event]:
+        """An event of the library, or None where it says that there is none."""
+        step = self._step_of(parts.step)
+        return None if step is None else Event(parts.moment, step, bool(parts.given))

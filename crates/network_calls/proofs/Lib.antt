@@ -1,0 +1,4 @@
+pub mod Lists
+pub mod Ran
+pub mod Positive
+pub mod Items

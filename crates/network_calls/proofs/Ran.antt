@@ -1,0 +1,59 @@
+-- Steps of C that are read and done, one after another.
+use Rattle.std.proofs.Common.{refl, sym, ap, subst, ◌∙◌, arith, ◌≡◌, ℕ, ◌+◌, ◌<◌, List, [], ◌∷◌, ◌++◌, map, length, take, get_or, Option, Some, None, option_map, Result, Ok, Err, MatchOption}
+use Rattle.std.specs.Option.{option_map_or}
+use Rattle.std.proofs.lemmas.List.{map-append, take_more}
+use Rattle.std.proofs.lemmas.Option.{slice_get-get_or}
+use Rattle.network_model.specs.declared.step.Refusal.{Refusal}
+use Rattle.network_model.specs.Step.{Lawful}
+use Rattle.network_model.specs.Run.{Runs}
+use Rattle.world.specs.Steps.{IsDoneOr}
+use Rattle.world.proofs.Runs.{with_last_step}
+use Rattle.simulation.specs.Simulation.{Simulation, after_step, after_steps, simulation_refusal}
+use Rattle.simulation.proofs.Simulations.{after_push}
+use Rattle.network_calls.specs.Calls.{IsDoneOrFails, IsRanTo, StopsBy, running_fault}
+use Rattle.network_calls.specs.Steps.{parts_of_step_fault, step_of}
+use Rattle.network_calls.specs.declared.failure.Failure.{Failure}
+use Rattle.network_calls.specs.declared.failure.Failure.TheVariants.{Given, Refused}
+use Rattle.network_calls.specs.declared.step.StepParts.{StepParts}
+
+-- nothing done
+pub ran_none : (parts : List StepParts) (s : Simulation) → IsRanTo parts s s 0
+ran_none parts s = record { within = omega arith; runs = refl; after = refl }
+
+-- one step more
+pub ran_more : (parts : List StepParts) (old mid new : Simulation) (done : ℕ) (p : StepParts) → IsRanTo parts old mid done → done < length parts → p ≡ get_or parts done p
+    → Lawful mid.world (step_of p) → new ≡ after_step mid (step_of p) → IsRanTo parts old new (done + 1)
+ran_more parts old mid new done p ran below read lawful is =
+    let steps : map step_of (take (done + 1) parts) ≡ map step_of (take done parts) ++ step_of p ∷ [] =
+    ap (map step_of) (take_more parts done p below ∙ ap (λ x. take done parts ++ x ∷ []) (sym read)) ∙ map-append step_of (take done parts) (p ∷ []) in
+    record {
+      within = omega (arith, below);
+      runs = subst (λ ss. Runs old.world ss new.world) (sym steps)
+          (subst (Runs old.world (map step_of (take done parts) ++ step_of p ∷ [])) (sym (ap (λ (x : Simulation). x.world) is))
+          (with_last_step old.world (map step_of (take done parts)) mid.world (step_of p) ran.runs lawful));
+      after = is ∙ ap (λ x. after_step x (step_of p)) ran.after ∙ sym (after_push old (map step_of (take done parts)) (step_of p)) ∙ sym (ap (after_steps old) steps);
+    }
+
+-- a step that was refused stops a run there
+fails_as : (o : Option Failure) (f : Failure) → IsDoneOrFails {X = Unit {0}} o (Err f) → MatchOption o (f ≡ Refused Refusal.NoMemory) (λ e. f ≡ e)
+fails_as None f h = h
+fails_as (Some e) f h = let inner : ◌≡◌ {A = Result (Unit {0}) Failure} (Err f) (Err e) = h in cc
+
+pub stops : (parts : List StepParts) (mid new : Simulation) (done : ℕ) (p : StepParts) (f : Failure) → done < length parts → p ≡ get_or parts done p → new ≡ mid → IsDoneOrFails {X = Unit {0}} (running_fault p mid) (Err f) → StopsBy parts new done (Err f)
+stops parts mid new done p f below read same cause =
+    (p, slice_get-get_or parts done p below ∙ ap Some (sym read), subst (λ s. MatchOption (running_fault p s) (f ≡ Refused Refusal.NoMemory) (λ e. f ≡ e)) (sym same) (fails_as (running_fault p mid) f cause))
+
+-- what a step that was read is refused for
+pub reads : (p : StepParts) (s : Simulation) → parts_of_step_fault p ≡ None → running_fault p s ≡ option_map (λ e. Refused e) (simulation_refusal s (step_of p))
+reads p s none = ap (λ o. option_map_or (λ f. Some (Given f)) o (option_map (λ e. Refused e) (simulation_refusal s (step_of p)))) none
+
+pub unread : (p : StepParts) (s : Simulation) (f : _) → parts_of_step_fault p ≡ Some f → running_fault p s ≡ Some (Given f)
+unread p s f is = ap (λ o. option_map_or (λ g. Some (Given g)) o (option_map (λ e. Refused e) (simulation_refusal s (step_of p)))) is
+
+pub done_as : (o : Option Refusal) → IsDoneOr {X = Unit {0}} o (Ok (tt {0})) → IsDoneOrFails {X = Unit {0}} (option_map (λ e. Refused e) o) (Ok (tt {0}))
+done_as None h = tt
+done_as (Some e) h = absurd (let no : ◌≡◌ {A = Result (Unit {0}) Refusal} (Ok (tt {0})) (Err e) = h in cc)
+
+pub refused_as : (o : Option Refusal) (e : Refusal) → IsDoneOr {X = Unit {0}} o (Err e) → IsDoneOrFails {X = Unit {0}} (option_map (λ x. Refused x) o) (Err (Refused e))
+refused_as None e h = ap (λ x. Refused x) h
+refused_as (Some c) e h = let inner : ◌≡◌ {A = Result (Unit {0}) Refusal} (Err e) (Err c) = h in (let same : e ≡ c = cc in ap (λ x. Err (Refused x)) same)

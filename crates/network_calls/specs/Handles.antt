@@ -1,0 +1,7 @@
+-- What stands in a handle that holds no network.
+use Rattle.std.specs.Prelude.{[]}
+use Rattle.simulation.specs.Simulation.{Simulation, simulation_of}
+use Rattle.simulation.specs.Counts.{none_sent}
+
+abbrev pub no_network : Simulation
+no_network = simulation_of (record { routers = 0; links = []; attachments = [] }) (record { places = []; links = []; prefixes = []; attachments = []; routers = [] }) [] 0 none_sent

@@ -1,0 +1,6 @@
+pub mod Handles
+pub mod Failures
+pub mod Parts
+pub mod Steps
+pub mod Shown
+pub mod Calls

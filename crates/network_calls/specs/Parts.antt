@@ -1,0 +1,98 @@
+-- The parts of a network as C has them, and the first of their faults.
+use Rattle.std.specs.Prelude.{◌≡◌, ◌⊎◌, ℕ, ◌+◌, nat_le, ◌&&◌, if◌then◌else◌, List, [], ◌∷◌, map, Option, None, Some, option_map}
+use Rattle.std.specs.Option.{option_map_or}
+use Rattle.metric.specs.Distance.{greatest_cost}
+use Rattle.ipv4_prefix.specs.Prefix.{Prefix}
+use Rattle.network_model.specs.declared.network.Limits.{Limits}
+use Rattle.network_model.specs.declared.network.LinkSpec.{LinkSpec}
+use Rattle.network_model.specs.declared.network.NetworkFault.{NetworkFault}
+use Rattle.network_model.specs.declared.network.NetworkFault.TheVariants.{BadRouters, BadLink, TooManyLinks, BadOwner}
+use Rattle.network_model.specs.World.{Network}
+use Rattle.network_model.specs.Network.{network_fault, widest_limits, AreWithin}
+use Rattle.c_interface.specs.Faults.{first_of}
+use Rattle.c_interface.specs.Rows.{prefix_fault}
+use Rattle.c_interface.specs.declared.fault.Fault.{Fault}
+use Rattle.c_interface.specs.declared.fault.Fault.TheVariants.{BadCost, NoMemory}
+use Rattle.network_calls.specs.Failures.{failure_number}
+use Rattle.network_calls.specs.declared.failure.Failure.{Failure}
+use Rattle.network_calls.specs.declared.failure.Failure.TheVariants.{Given, BadLimits, Network as InNetwork}
+use Rattle.network_calls.specs.declared.parts.LimitsParts.{LimitsParts}
+use Rattle.network_calls.specs.declared.parts.LinkParts.{LinkParts}
+use Rattle.network_calls.specs.declared.parts.AttachmentParts.{AttachmentParts}
+use Rattle.network_calls.specs.declared.parts.FaultPlace.{FaultPlace}
+
+-- why a number is no cost
+abbrev pub cost_fault : ℕ → Option Fault
+cost_fault n = if nat_le 1 n && nat_le n greatest_cost then None else Some BadCost
+
+-- the prefix of these numbers, where they are one
+abbrev pub as_prefix : ℕ → ℕ → Prefix
+as_prefix addr len = record { addr = addr; len = len }
+
+-- ---- limits
+
+abbrev pub limits_of : LimitsParts → Limits
+limits_of l = record { routers = l.routers; links = l.links; ports = l.ports; prefixes = l.prefixes; attachments = l.attachments }
+
+-- ---- links
+
+abbrev pub link_fault : LinkParts → Option Fault
+link_fault l = first_of (cost_fault l.from_a) (cost_fault l.from_b)
+
+abbrev pub link_spec : LinkParts → LinkSpec
+link_spec l = record { a = l.a; b = l.b; from_a = l.from_a; from_b = l.from_b }
+
+-- ---- attachments
+
+abbrev pub attachment_fault : AttachmentParts → Option Fault
+attachment_fault a = first_of (prefix_fault a.addr a.len) (cost_fault a.cost)
+
+abbrev pub attachment_row : AttachmentParts → Prefix × ℕ × ℕ
+attachment_row a = (as_prefix a.addr a.len, a.router, a.cost)
+
+-- ---- the whole
+
+-- the network of these parts
+abbrev pub parts_network : ℕ → List LinkParts → List AttachmentParts → Network
+parts_network routers links attachments = record { routers = routers; links = map link_spec links; attachments = map attachment_row attachments }
+
+-- the first of these that has a fault, by its place, which begins here
+abbrev pub first_place : {X : Type 0} → (X → Option Fault) → ℕ → List X → Option (Fault × ℕ)
+first_place fault k [] = None
+first_place fault k (x ∷ xs) = option_map_or (λ f. Some (f, k)) (fault x) (first_place fault (k + 1) xs)
+
+-- where the fault of a network stands: in no list, or in the one of links, 1, or of attachments, 2
+abbrev pub place_of : NetworkFault → FaultPlace
+place_of BadRouters = record { position = 0; list = 0 }
+place_of (BadLink l) = record { position = l; list = 1 }
+place_of (TooManyLinks l) = record { position = l; list = 1 }
+place_of (BadOwner p) = record { position = p; list = 2 }
+
+-- a fault of a list, with its place
+abbrev pub listed : ℕ → Fault × ℕ → Failure × FaultPlace
+listed list f = (Given f.0, record { position = f.1; list = list })
+
+-- the first fault of the lists of which a network is made, with its place: a link's costs, or else an attachment's prefix or cost
+abbrev pub list_fault : List LinkParts → List AttachmentParts → Option (Failure × FaultPlace)
+list_fault links attachments = option_map_or (λ f. Some (listed 1 f)) (first_place link_fault 0 links) (option_map (listed 2) (first_place attachment_fault 0 attachments))
+
+-- the first fault within these limits of the network that these make, with its place
+abbrev pub network_failure : Limits → ℕ → List LinkParts → List AttachmentParts → Option (Failure × FaultPlace)
+network_failure limits routers links attachments = option_map (λ f. (InNetwork f, place_of f)) (network_fault limits (parts_network routers links attachments))
+
+-- why no network is opened, by the faults of the lists and of the network: that of the lists comes first; then memory may be refused, which stands in no list, or else it is the network's
+abbrev pub IsOpeningFault : Option (Failure × FaultPlace) → Option (Failure × FaultPlace) → Failure × FaultPlace → Type 0
+IsOpeningFault None network f = (f ≡ (Given NoMemory, record { position = 0; list = 0 })) ⊎ (network ≡ Some f)
+IsOpeningFault (Some e) network f = f ≡ e
+
+-- why no network is opened within these limits: first that one of them is above the widest, which stands in no list
+abbrev pub IsFaultWithin : Limits → ℕ → List LinkParts → List AttachmentParts → Failure × FaultPlace → Type 0
+IsFaultWithin limits routers links attachments f =
+    ((AreWithin limits widest_limits → ⊥) × (f ≡ (BadLimits, record { position = 0; list = 0 })))
+    ⊎ (AreWithin limits widest_limits × IsOpeningFault (list_fault links attachments) (network_failure limits routers links attachments) f)
+
+-- what a call answers and writes that opens no network
+pub record IsNotOpened (limits : Limits) (routers : ℕ) (links : List LinkParts) (attachments : List AttachmentParts) (status : ℕ) (place : FaultPlace) : Type 0 where
+  pub failure : Failure
+  pub cause : IsFaultWithin limits routers links attachments (failure, place)
+  pub number : status ≡ failure_number failure

@@ -1,8 +1,0 @@
-use Rattle.std.proofs.Common.{slice_get}
-use Rattle.network_model.specs.World.{side}
-use Rattle.network_ffi.specs.Shown.{item_shown}
-use Rattle.network_ffi.proofs.Items.{AreFirstOf}
-use Rattle.network_ffi.proofs.link.write_items.Given as goal
-
-abbrev pub invariant-loop-at : goal.invariant-loop-at
-invariant-loop-at l = AreFirstOf (λ k. (side (l.place).end k).inbox) item_shown l.fn.items (slice_get (l.world).links (l.place).link) l.items l.at

@@ -1,9 +1,0 @@
-use Rattle.std.proofs.Common.{◌≡◌, length, take}
-use Rattle.network_ffi.specs.Calls.{answer_rows}
-use Rattle.network_ffi.proofs.rows.answer_all.Given as goal
-
-abbrev pub invariant-loop-place : goal.invariant-loop-place
-invariant-loop-place l = record {
-  count : length l.answers ≡ length l.addrs;
-  answered : take l.place l.answers ≡ answer_rows l.image (take l.place l.addrs);
-}

@@ -1,0 +1,3 @@
+pub mod Handles
+pub mod Parts
+pub mod Calls

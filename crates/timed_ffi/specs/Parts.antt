@@ -1,0 +1,57 @@
+-- Delays, changes and events as C has them.
+use Rattle.std.specs.Prelude.{◌≡◌, ℕ, ◌==◌, ◌&&◌, Bool, if◌then◌else◌, MatchBool, List, map, length, Option, None, Some}
+use Rattle.coming_to_rest.specs.Worlds.{is_own}
+use Rattle.network_model.specs.declared.network.Limits.{Limits}
+use Rattle.c_interface.specs.Faults.{first_of}
+use Rattle.c_interface.specs.declared.fault.Fault.{Fault}
+use Rattle.c_interface.specs.declared.fault.Fault.TheVariants.{BadCount, BadKind}
+use Rattle.single_router.specs.States.{flag}
+use Rattle.timed_simulation.specs.declared.links.LinkDelays.{LinkDelays}
+use Rattle.timed_simulation.specs.declared.events.Event.{Event}
+use Rattle.timed_simulation.specs.Timed.{Timed, opening_timed}
+use Rattle.network_calls.specs.Failures.{failure_number}
+use Rattle.network_calls.specs.Parts.{parts_network, IsFaultWithin}
+use Rattle.network_calls.specs.Steps.{parts_of_step, parts_of_step_fault, step_of}
+use Rattle.network_calls.specs.declared.failure.Failure.{Failure}
+use Rattle.network_calls.specs.declared.failure.Failure.TheVariants.{Given}
+use Rattle.network_calls.specs.declared.parts.AttachmentParts.{AttachmentParts}
+use Rattle.network_calls.specs.declared.parts.FaultPlace.{FaultPlace}
+use Rattle.network_calls.specs.declared.parts.LinkParts.{LinkParts}
+use Rattle.network_calls.specs.declared.step.StepParts.{StepParts}
+use Rattle.timed_ffi.specs.declared.parts.DelayParts.{DelayParts}
+use Rattle.timed_ffi.specs.declared.parts.EventParts.{EventParts}
+
+-- ---- openings
+
+abbrev pub delays_of : DelayParts → LinkDelays
+delays_of d = record { to_a = d.to_a; to_b = d.to_b }
+
+-- there are delays for each link, and one for each router
+abbrev pub is_counted : ℕ → List LinkParts → List DelayParts → List ℕ → Bool
+is_counted routers links delays publications = length delays == length links && length publications == routers
+
+-- the network of these parts as it opens, with these delays
+abbrev pub opening_parts : ℕ → List LinkParts → List AttachmentParts → List DelayParts → List ℕ → Timed
+opening_parts routers links attachments delays publications = opening_timed (parts_network routers links attachments) (map delays_of delays) publications
+
+-- why none is opened: that a delay is missing or one too many comes first, which stands in no list
+abbrev pub IsTimedFault : Limits → ℕ → List LinkParts → List AttachmentParts → List DelayParts → List ℕ → Failure × FaultPlace → Type 0
+IsTimedFault limits routers links attachments delays publications f =
+    MatchBool (is_counted routers links delays publications) (IsFaultWithin limits routers links attachments f) (f ≡ (Given BadCount, record { position = 0; list = 0 }))
+
+-- what a call answers and writes that opens none
+pub record IsTimedNotOpened (limits : Limits) (routers : ℕ) (links : List LinkParts) (attachments : List AttachmentParts) (delays : List DelayParts) (publications : List ℕ) (status : ℕ) (place : FaultPlace) : Type 0 where
+  pub failure : Failure
+  pub cause : IsTimedFault limits routers links attachments delays publications (failure, place)
+  pub number : status ≡ failure_number failure
+
+-- ---- changes and events
+
+-- why these parts are no change that can be given: they are no step, or one that a router does
+abbrev pub change_fault : StepParts → Option Fault
+change_fault s = first_of (parts_of_step_fault s) (if is_own (step_of s) then Some BadKind else None)
+
+-- the parts of an event; of none the step's kind is 255
+abbrev pub parts_of_event : Option Event → EventParts
+parts_of_event None = record { moment = 0; step = parts_of_step None; given = 0 }
+parts_of_event (Some e) = record { moment = e.moment; step = parts_of_step (Some e.step); given = flag e.given }

@@ -1,0 +1,102 @@
+/* A ring of five routers in simulated time, each of whose links fails and comes up again: for how long packets
+ * are lost, and when the network is at rest.
+ *
+ *     cc -o delays examples/c/delays.c $(pkg-config --cflags --libs tuhvondi) && ./delays
+ *
+ * It prints what stands in delays.out beside it. Each second a link changes. What that leads to is done event by
+ * event, and after each event a packet is followed from each router.
+ */
+#include <tuhvondi_timed.h>
+
+#include <inttypes.h>
+#include <stdio.h>
+#include <stdlib.h>
+
+enum { ROUTERS = 5, ADDRESS = 0x0a010203, SECOND = 1000000 };
+
+static struct tuhvondi_timed timed = TUHVONDI_NO_TIMED;
+
+static void need(uint32_t status)
+{
+    if (status == TUHVONDI_DONE)
+        return;
+    fprintf(stderr, "delays: refused with %" PRIu32 ": %s\n", status, tuhvondi_timed_status_text(status));
+    exit(1);
+}
+
+/* How many of the packets, one from each router, do not arrive now. */
+static unsigned lost(void)
+{
+    unsigned count = 0;
+    for (uint16_t router = 0; router < ROUTERS; router++) {
+        uint16_t hops[ROUTERS];
+        size_t passed;
+        uint8_t end;
+        need(tuhvondi_timed_trace(&timed, router, ADDRESS, hops, ROUTERS, &passed, &end));
+        count += end != TUHVONDI_DELIVERED;
+    }
+    return count;
+}
+
+/* A link comes up or goes down at this moment, and routers do what that leads to, until nothing is left. */
+static void change(uint64_t moment, uint16_t link, uint8_t kind)
+{
+    struct tuhvondi_step step = {.subject = link, .kind = kind};
+    struct tuhvondi_event next;
+    uint64_t now, found = moment;
+    unsigned most_lost = 0;
+    uint8_t rests = 0;
+    size_t done;
+    need(tuhvondi_timed_at(&timed, moment, &step));
+    while (!rests) {
+        unsigned before;
+        need(tuhvondi_timed_next(&timed, &next));
+        need(tuhvondi_timed_run_until(&timed, next.moment, 1, &done));
+        before = lost();
+        if (before > most_lost)
+            most_lost = before;
+        if (before > 0)
+            found = UINT64_MAX;
+        else if (found == UINT64_MAX)
+            found = next.moment;
+        need(tuhvondi_timed_is_at_rest(&timed, &rests));
+    }
+    need(tuhvondi_timed_now(&timed, &now));
+    printf("%2" PRIu64 " s: link %u %s: ", moment / SECOND, (unsigned)link,
+           kind == TUHVONDI_LINK_UP ? "comes up" : "goes down");
+    if (found == UINT64_MAX)
+        printf("%u lost still", lost());
+    else if (most_lost > 0)
+        printf("at most %u lost, for %" PRIu64 " ms", most_lost, (found - moment) / 1000);
+    else
+        printf("none lost");
+    printf("; at rest after %" PRIu64 " ms\n", (now - moment) / 1000);
+}
+
+int main(void)
+{
+    /* The link from router i to the next costs i + 1, and takes as many milliseconds either way. A router
+     * publishes two milliseconds after it has something to publish. Router 0 is attached to 10.0.0.0/8. */
+    struct tuhvondi_limits limits = TUHVONDI_PROGRAM_LIMITS;
+    struct tuhvondi_link links[ROUTERS];
+    struct tuhvondi_delays delays[ROUTERS];
+    uint64_t publications[ROUTERS], second = 0;
+    struct tuhvondi_owner owner = {.addr = 0x0a000000, .cost = 1, .router = 0, .len = 8};
+    struct tuhvondi_fault_place place;
+    for (uint16_t i = 0; i < ROUTERS; i++) {
+        links[i] = (struct tuhvondi_link){.from_a = i + 1, .from_b = i + 1,
+                                          .a = i, .b = (i + 1) % ROUTERS};
+        delays[i].to_a = delays[i].to_b = (i + 1) * 1000;
+        publications[i] = 2000;
+    }
+    need(tuhvondi_timed_new(&limits, ROUTERS, links, ROUTERS, &owner, 1, delays, ROUTERS,
+                            publications, ROUTERS, &place, &timed));
+    for (uint16_t link = 0; link < ROUTERS; link++)
+        change(++second * SECOND, link, TUHVONDI_LINK_UP);
+    for (uint16_t link = 0; link < ROUTERS; link++) {
+        change(++second * SECOND, link, TUHVONDI_LINK_DOWN);
+        change(++second * SECOND, link, TUHVONDI_LINK_UP);
+    }
+    tuhvondi_timed_free(&timed);
+    return 0;
+}
