@@ -1,0 +1,14 @@
+-- The proofs of what goes on.
+pub mod Lists
+pub mod OneMore
+pub mod Recorded
+pub mod OneByOne
+pub mod Machines
+pub mod Alike
+pub mod Known
+pub mod AtRest
+pub mod Computing
+pub mod Stops
+pub mod Watching
+pub mod Whole
+pub mod Example

@@ -1,0 +1,61 @@
+-- Elements of lists, by their places: after a push and after a write.
+use Rattle.std.proofs.Common.{refl, ap, subst, arith, inl, inr, ◌≡◌, ◌≢◌, ◌⊎◌, ℕ, zero, suc, ◌<◌, List, [], ◌∷◌, ◌++◌, length, set, Some, slice_get}
+use Rattle.packet_loops.proofs.Common.{None_not_Some, Some_injective}
+use Rattle.timed_reports.specs.Records.{IsListed}
+
+module _ {A : Type 0} where
+  -- what stands in a list stands there after a push
+  pub get_first : (xs ys : List A) (k : ℕ) (x : A) → slice_get xs k ≡ Some x → slice_get (xs ++ ys) k ≡ Some x
+  get_first [] ys k x at = absurd (None_not_Some at)
+  get_first (z ∷ xs) ys zero x at = at
+  get_first (z ∷ xs) ys (suc k) x at = get_first xs ys k x at
+
+  pub listed_first : (x : A) (xs ys : List A) → IsListed x xs → IsListed x (xs ++ ys)
+  listed_first x xs ys (k, at) = (k, get_first xs ys k x at)
+
+  -- what was pushed stands there
+  pub listed_last : (x : A) (xs : List A) → IsListed x (xs ++ x ∷ [])
+  listed_last x [] = (0, refl)
+  listed_last x (z ∷ xs) = (let (k, at) = listed_last x xs in (suc k, at))
+
+  -- and nothing else
+  pub get_pushed : (xs : List A) (y : A) (k : ℕ) (x : A) → slice_get (xs ++ y ∷ []) k ≡ Some x → (slice_get xs k ≡ Some x) ⊎ (y ≡ x)
+  get_pushed [] y zero x at = inr (Some_injective at)
+  get_pushed [] y (suc k) x at = inl at
+  get_pushed (z ∷ xs) y zero x at = inl at
+  get_pushed (z ∷ xs) y (suc k) x at = get_pushed xs y k x at
+
+  pub listed_pushed : (x : A) (xs : List A) (y : A) → IsListed x (xs ++ y ∷ []) → IsListed x xs ⊎ (y ≡ x)
+  listed_pushed x xs y (k, at) = by_place (get_pushed xs y k x at)
+    where
+      by_place : (slice_get xs k ≡ Some x) ⊎ (y ≡ x) → IsListed x xs ⊎ (y ≡ x)
+      by_place (inl before) = inl (k, before)
+      by_place (inr same) = inr same
+
+  -- what holds of each element holds after a push
+  pub each_pushed : (P : A → Type 0) (xs : List A) (y : A) → ((k : ℕ) (x : A) → slice_get xs k ≡ Some x → P x) → P y → (k : ℕ) (x : A) → slice_get (xs ++ y ∷ []) k ≡ Some x → P x
+  each_pushed P xs y each holds k x at = by_place (get_pushed xs y k x at)
+    where
+      by_place : (slice_get xs k ≡ Some x) ⊎ (y ≡ x) → P x
+      by_place (inl before) = each k x before
+      by_place (inr same) = subst P same holds
+
+  -- an element stands at each place of a list
+  pub get_within : (xs : List A) (k : ℕ) → k < length xs → (x : A) × (slice_get xs k ≡ Some x)
+  get_within [] k below = absurd (omega (arith, below))
+  get_within (x ∷ xs) zero below = (x, refl)
+  get_within (x ∷ xs) (suc k) below = get_within xs k (omega (arith, below))
+
+  -- what was written at a place stands there
+  pub set_same : (xs : List A) (k : ℕ) (x y : A) → slice_get xs k ≡ Some x → slice_get (set xs k y) k ≡ Some y
+  set_same [] k x y at = absurd (None_not_Some at)
+  set_same (z ∷ xs) zero x y at = refl
+  set_same (z ∷ xs) (suc k) x y at = set_same xs k x y at
+
+  -- another place keeps what it had
+  pub set_other : (xs : List A) (k j : ℕ) (y : A) → j ≢ k → slice_get (set xs k y) j ≡ slice_get xs j
+  set_other [] k j y apart = refl
+  set_other (z ∷ xs) zero zero y apart = absurd (apart refl)
+  set_other (z ∷ xs) zero (suc j) y apart = refl
+  set_other (z ∷ xs) (suc k) zero y apart = refl
+  set_other (z ∷ xs) (suc k) (suc j) y apart = set_other xs k j y (λ e. apart (ap suc e))

@@ -1,0 +1,183 @@
+-- What an event leaves of a report, if what it may have moved is looked at.
+use Rattle.std.proofs.Common.{refl, sym, ap, subst, ◌∙◌, arith, append-nil, append_assoc, length-append, ◌≡◌, ℕ, ◌+◌, List, [], ◌∷◌, ◌++◌, length, None, Some, Result, Ok, Err, OnOk, OnErr, slice_get, ◌≤◌}
+use Rattle.packet_loops.proofs.Common.{length-map-range_with_len, opening_router_of, Prefix, World, Network, opening, prefixes_of, IsNetwork, Lawful, next, Runs}
+use Rattle.timed_simulation.specs.declared.events.Event.{Event}
+use Rattle.timed_simulation.specs.declared.links.LinkDelays.{LinkDelays}
+use Rattle.timed_simulation.specs.Timed.{Timed, after_event, opening_timed, world_of}
+use Rattle.timed_simulation.specs.Runs.{Ascends, IsNext, IsTimed, LeadsTo, steps_of}
+use Rattle.simulation.specs.Simulation.{Simulation}
+use Rattle.timed_simulation.proofs.Moments.{next-after}
+use Rattle.timed_simulation.proofs.Runs.{run_more, run_none}
+use Rattle.reachability.specs.Ways.{IsCutOff, IsJoined}
+use Rattle.reachability.proofs.Joined.{joined}
+use Rattle.packet_loops.proofs.WorldLaws.{next-shape}
+use Rattle.timed_reports.specs.declared.spells.Spell.{Spell}
+use Rattle.timed_reports.specs.declared.spells.Watched.{Watched}
+use Rattle.timed_reports.specs.Going.{IsComputing}
+use Rattle.timed_reports.specs.Records.{AreLooked, AreWatched, IsElsewhere, IsRecorded, MovesNoWay}
+use Rattle.timed_reports.specs.Reports.{IsReport, IsReportOf, IsReportRun, RecordsEvent, Reported, reported_of}
+use Rattle.timed_reports.proofs.OneMore.{ascends_all, leads_all, runs_all}
+use Rattle.timed_reports.proofs.Recorded.{recorded_after, recorded_opening, watched_after}
+use Rattle.timed_reports.proofs.Machines.{computing_too, same_machines}
+use Rattle.timed_reports.proofs.Alike.{alike_after, alike_turned, cut_off_alike}
+use Rattle.timed_reports.proofs.Known.{computing_known, cut_off_known}
+use Rattle.timed_reports.proofs.AtRest.{none_computing_yet, none_out_yet}
+
+module _ (n : Network) (es : List Event) (v : World) (runs : Runs (opening n) (steps_of es) v) (e : Event) (lawful : Lawful v e.step) (past new : List Spell) (cs ds : List Watched) (each : AreWatched n.routers (prefixes_of n.attachments) cs) where
+  abbrev after : World
+  after = next v e.step
+
+  computations_after : IsRecorded IsComputing (opening n) es v past cs → AreLooked IsComputing after e.moment (IsElsewhere e.step) (length cs) cs ds past new → IsRecorded IsComputing (opening n) (es ++ e ∷ []) after new ds
+  computations_after R L = recorded_after IsComputing (opening n) es v e runs lawful (IsElsewhere e.step)
+      (λ c aside. let same = same_machines v c.router e.step c.prefix c.since aside in (computing_too v after c.prefix c.router same, computing_too after v c.prefix c.router (sym same)))
+      past new cs ds n.routers (prefixes_of n.attachments) each
+      (computing_known n (steps_of es) v runs)
+      (computing_known n (steps_of (es ++ e ∷ [])) after (runs_all (opening n) es v e runs lawful))
+      R L
+
+  outages_after : IsRecorded IsCutOff (opening n) es v past cs → AreLooked IsCutOff after e.moment (MovesNoWay e.step) (length cs) cs ds past new → IsRecorded IsCutOff (opening n) (es ++ e ∷ []) after new ds
+  outages_after R L = recorded_after IsCutOff (opening n) es v e runs lawful (MovesNoWay e.step)
+      (λ c none. let same = alike_after v e.step none in (cut_off_alike v after same c.prefix c.router, cut_off_alike after v (alike_turned v after same) c.prefix c.router))
+      past new cs ds n.routers (prefixes_of n.attachments) each
+      (cut_off_known n (steps_of es) v runs)
+      (cut_off_known n (steps_of (es ++ e ∷ [])) after (runs_all (opening n) es v e runs lawful))
+      R L
+
+-- what an event leaves of a report
+pub report_after : (es : List Event) (old : Reported) (e : Event) (computations : List Spell) (computing : List Watched) (outages : List Spell) (cut_off : List Watched) → IsReportOf es old → IsNext old.timed e
+    → AreLooked IsComputing (next (world_of old.timed) e.step) e.moment (IsElsewhere e.step) (length old.computing) old.computing computing old.computations computations
+    → AreLooked IsCutOff (next (world_of old.timed) e.step) e.moment (MovesNoWay e.step) (length old.cut_off) old.cut_off cut_off old.outages outages
+    → IsReportOf (es ++ e ∷ []) (reported_of (after_event old.timed e) computations computing outages cut_off)
+report_after es old e computations computing outages cut_off R is L M =
+    let n : Network = ((old.timed).simulation).network in
+    record {
+      valid = R.valid;
+      ascends = ascends_all 0 es (old.timed).clock e R.ascends (next-after old.timed e is.next);
+      runs = runs_all (opening n) es (world_of old.timed) e R.runs is.lawful;
+      computations = computations_after n es (world_of old.timed) R.runs e is.lawful old.computations computations old.computing computing R.each_computing R.computations L;
+      each_computing = watched_after IsComputing (next (world_of old.timed) e.step) e.moment (IsElsewhere e.step) old.computations computations old.computing computing n.routers (prefixes_of n.attachments) L R.each_computing;
+      outages = outages_after n es (world_of old.timed) R.runs e is.lawful old.outages outages old.cut_off cut_off R.each_cut_off R.outages M;
+      each_cut_off = watched_after IsCutOff (next (world_of old.timed) e.step) e.moment (MovesNoWay e.step) old.outages outages old.cut_off cut_off n.routers (prefixes_of n.attachments) M R.each_cut_off;
+    }
+
+-- the same of what the code has of it
+pub records_event : (old : Reported) (e : Event) (timed : Timed) (w u : World) (past out : List Spell) (computations : List Spell) (computing : List Watched) (outages : List Spell) (cut_off : List Watched) → IsNext old.timed e → timed ≡ after_event old.timed e → w ≡ world_of timed → u ≡ world_of timed → past ≡ old.computations → out ≡ old.outages
+    → AreLooked IsComputing w e.moment (IsElsewhere e.step) (length old.computing) old.computing computing past computations
+    → AreLooked IsCutOff u e.moment (MovesNoWay e.step) (length old.cut_off) old.cut_off cut_off out outages
+    → RecordsEvent old e (reported_of timed computations computing outages cut_off)
+records_event old e timed w u past out computations computing outages cut_off is made at at_out before before_out L M es R =
+    let same : w ≡ next (world_of old.timed) e.step = at ∙ ap world_of made in
+    let same_out : u ≡ next (world_of old.timed) e.step = at_out ∙ ap world_of made in
+    subst (λ (t : Timed). IsReportOf (es ++ e ∷ []) (reported_of t computations computing outages cut_off)) (sym made)
+    (report_after es old e computations computing outages cut_off R is
+    (subst (λ (v : World). AreLooked IsComputing v e.moment (IsElsewhere e.step) (length old.computing) old.computing computing old.computations computations) same
+    (subst (λ (xs : List Spell). AreLooked IsComputing w e.moment (IsElsewhere e.step) (length old.computing) old.computing computing xs computations) before L))
+    (subst (λ (v : World). AreLooked IsCutOff v e.moment (MovesNoWay e.step) (length old.cut_off) old.cut_off cut_off old.outages outages) same_out
+    (subst (λ (xs : List Spell). AreLooked IsCutOff u e.moment (MovesNoWay e.step) (length old.cut_off) old.cut_off cut_off xs outages) before_out M)))
+
+-- the world fits together after the event
+pub joined_after : (old : Reported) (e : Event) (timed : Timed) (w : World) → IsReport old → IsNext old.timed e → timed ≡ after_event old.timed e → w ≡ world_of timed → IsJoined w
+joined_after old e timed w K is made at =
+    let n : Network = ((old.timed).simulation).network in
+    let R : IsReportOf K.done old = K.exact in
+    subst IsJoined (sym (at ∙ ap world_of made)) (joined n R.valid (steps_of (K.done ++ e ∷ [])) (next (world_of old.timed) e.step) (runs_all (opening n) K.done (world_of old.timed) e R.runs is.lawful))
+
+-- and has as many routers
+pub as_many_after : (old new : Timed) (e : Event) → new ≡ after_event old e → length (world_of new).routers ≡ length (world_of old).routers
+as_many_after old new e made = ap (λ (t : Timed). length (world_of t).routers) made ∙ (next-shape (world_of old) e.step).routers
+
+-- parts that stand for what was before
+pub same_report : (r : Reported) (timed : Timed) (xs ys : List Spell) → timed ≡ r.timed → xs ≡ r.computations → ys ≡ r.outages → reported_of timed xs r.computing ys r.cut_off ≡ r
+same_report r timed xs ys same past out =
+    ap (λ (t : Timed). reported_of t xs r.computing ys r.cut_off) same
+    ∙ ap (λ (zs : List Spell). reported_of r.timed zs r.computing ys r.cut_off) past
+    ∙ ap (λ (zs : List Spell). reported_of r.timed r.computations r.computing zs r.cut_off) out
+
+-- a report at the opening
+pub report_opening : (t : Timed) → IsNetwork (t.simulation).network → t.clock ≡ 0 → world_of t ≡ opening (t.simulation).network → (computing cut_off : List Watched)
+    → AreWatched ((t.simulation).network).routers (prefixes_of ((t.simulation).network).attachments) computing → ((x : ℕ) (c : Watched) → slice_get computing x ≡ Some c → c.since ≡ None)
+    → AreWatched ((t.simulation).network).routers (prefixes_of ((t.simulation).network).attachments) cut_off → ((x : ℕ) (c : Watched) → slice_get cut_off x ≡ Some c → c.since ≡ None)
+    → IsReportOf [] (reported_of t [] computing [] cut_off)
+report_opening t V clock at computing cut_off each none each_out none_out =
+    let n : Network = (t.simulation).network in
+    record {
+      valid = V;
+      ascends = omega arith;
+      runs = sym at;
+      computations = subst (λ (v : World). IsRecorded IsComputing (opening n) [] v [] computing) (sym at) (recorded_opening IsComputing (opening n) computing (none_computing_yet n V) none);
+      each_computing = each;
+      outages = subst (λ (v : World). IsRecorded IsCutOff (opening n) [] v [] cut_off) (sym at) (recorded_opening IsCutOff (opening n) cut_off (none_out_yet n V) none_out);
+      each_cut_off = each_out;
+    }
+
+-- ---- runs
+
+pub run_begins : (r : Reported) → IsReportRun r r 0
+run_begins r = record {
+  run = run_none r.timed;
+  events = [];
+  count = refl;
+  leads = refl;
+  exact = λ es R. subst (λ (xs : List Event). IsReportOf xs r) (sym (append-nil es)) R;
+}
+
+pub run_goes_on : (old mid new : Reported) (done : ℕ) (e : Event) → IsReportRun old mid done → IsNext mid.timed e → new.timed ≡ after_event mid.timed e → RecordsEvent mid e new → IsReportRun old new (done + 1)
+run_goes_on old mid new done e R is made records = record {
+  run = run_more old.timed mid.timed new.timed done e R.run is made;
+  events = R.events ++ e ∷ [];
+  count = (let longer : length (R.events ++ e ∷ []) ≡ length R.events + 1 = length-append R.events (e ∷ []) in let count = R.count in omega (arith, longer, count));
+  leads = subst (LeadsTo old.timed (R.events ++ e ∷ [])) (sym made) (leads_all old.timed R.events mid.timed e R.leads is);
+  exact = λ es E. subst (λ (xs : List Event). IsReportOf xs new) (append_assoc es R.events (e ∷ [])) (records (es ++ R.events) (R.exact es E));
+}
+
+-- what is kept
+pub kept_after : (old new : Reported) (e : Event) → IsReport old → RecordsEvent old e new → IsReport new
+kept_after old new e K records = record { done = K.done ++ e ∷ []; exact = records K.done K.exact }
+
+-- with another timed simulation of the same network, world and clock
+pub report_same : (t : Timed) (r : Reported) (es : List Event) → (t.simulation) ≡ ((r.timed).simulation) → t.clock ≡ (r.timed).clock → IsReportOf es r → IsReportOf es (record r { timed = t })
+report_same t r es same clock R = record {
+  valid = subst (λ (s : Simulation). IsNetwork s.network) (sym same) R.valid;
+  ascends = subst (Ascends 0 es) (sym clock) R.ascends;
+  runs = subst (λ (s : Simulation). Runs (opening s.network) (steps_of es) s.world) (sym same) R.runs;
+  computations = subst (λ (s : Simulation). IsRecorded IsComputing (opening s.network) es s.world r.computations r.computing) (sym same) R.computations;
+  each_computing = subst (λ (s : Simulation). AreWatched (s.network).routers (prefixes_of (s.network).attachments) r.computing) (sym same) R.each_computing;
+  outages = subst (λ (s : Simulation). IsRecorded IsCutOff (opening s.network) es s.world r.outages r.cut_off) (sym same) R.outages;
+  each_cut_off = subst (λ (s : Simulation). AreWatched (s.network).routers (prefixes_of (s.network).attachments) r.cut_off) (sym same) R.each_cut_off;
+}
+
+pub report_kept : (r : Reported) (t : Timed) → (t.simulation ≡ (r.timed).simulation) × (t.clock ≡ (r.timed).clock) → IsReport r → IsReport (record r { timed = t })
+report_kept r t same K = record { done = K.done; exact = report_same t r K.done same.0 same.1 K.exact }
+
+-- a change is given or not
+pub timed_either : {X E : Type 0} (r : Result X E) (old new other : Timed) → OnOk r (new ≡ other) → OnErr r (new ≡ old) → other.simulation ≡ old.simulation → other.clock ≡ old.clock → (new.simulation ≡ old.simulation) × (new.clock ≡ old.clock)
+timed_either (Ok x) old new other ok err simulation clock = (ap (λ (t : Timed). t.simulation) ok ∙ simulation, ap (λ (t : Timed). t.clock) ok ∙ clock)
+timed_either (Err e) old new other ok err simulation clock = (ap (λ (t : Timed). t.simulation) err, ap (λ (t : Timed). t.clock) err)
+
+pub on_ok : {X E P Q : Type 0} (r : Result X E) → (P → Q) → OnOk r P → OnOk r Q
+on_ok (Ok x) f holds = f holds
+on_ok (Err e) f holds = tt
+
+pub on_err : {X E P Q : Type 0} (r : Result X E) → (P → Q) → OnErr r P → OnErr r Q
+on_err (Ok x) f holds = tt
+on_err (Err e) f holds = f holds
+
+-- ---- the opening, as the code has it
+
+pub few_at : (t : Timed) → IsTimed t → length (world_of t).routers ≤ 65536
+few_at t K = (joined (t.simulation).network K.valid (steps_of K.done) (world_of t) K.runs).few_routers
+
+pub report_opened : (t : Timed) → IsTimed t → (n : Network) (delays : List LinkDelays) (waits : List ℕ) → t ≡ opening_timed n delays waits → (count : ℕ) → count ≡ length (world_of t).routers → (ps : List Prefix) → ps ≡ (world_of t).prefixes
+    → (computing cut_off : List Watched) → AreWatched count ps computing → ((x : ℕ) (c : Watched) → slice_get computing x ≡ Some c → c.since ≡ None) → AreWatched count ps cut_off → ((x : ℕ) (c : Watched) → slice_get cut_off x ≡ Some c → c.since ≡ None)
+    → (past out : List Spell) → past ≡ [] → out ≡ [] → IsReport (reported_of t past computing out cut_off)
+report_opened t K n delays waits is count count_is ps ps_is computing cut_off each none each_out none_out past out nothing nothing_out =
+    let m : Network = (t.simulation).network in
+    let at : world_of t ≡ opening m = ap world_of is ∙ sym (ap (λ (x : Timed). opening (x.simulation).network) is) in
+    let routers : count ≡ m.routers = count_is ∙ ap (λ (w : World). length w.routers) at ∙ length-map-range_with_len (opening_router_of m) 0 m.routers in
+    let prefixes : ps ≡ prefixes_of m.attachments = ps_is ∙ ap (λ (w : World). w.prefixes) at in
+    let all : (cs : List Watched) → AreWatched count ps cs → AreWatched m.routers (prefixes_of m.attachments) cs = λ cs e. subst (λ (k : ℕ). AreWatched k (prefixes_of m.attachments) cs) routers (subst (λ (qs : List Prefix). AreWatched count qs cs) prefixes e) in
+    record {
+      done = [];
+      exact = subst (λ (xs : List Spell). IsReportOf [] (reported_of t xs computing out cut_off)) (sym nothing) (subst (λ (xs : List Spell). IsReportOf [] (reported_of t [] computing xs cut_off)) (sym nothing_out)
+          (report_opening t K.valid (ap (λ (x : Timed). x.clock) is) at computing cut_off (all computing each) none (all cut_off each_out) none_out));
+    }

@@ -1,0 +1,10 @@
+use Rattle.std.proofs.Common.{◌≡◌, subst}
+use Rattle.timed_simulation.specs.Timed.{Timed}
+use Rattle.timed_simulation.specs.Due.{IsDoneUntil}
+use Rattle.timed_simulation.specs.Runs.{IsAtRest, IsStoppedAt}
+use Rattle.timed_reports.proofs.Stops.{rests_or}
+use Rattle.timed_reports.proofs.report.Report.run_to_rest.Goals as goal
+
+pub returns-clause-stop : goal.returns-clause-stop
+returns-clause-stop g c = rests_or 18446744073709551615 c.do_events-ran.result.fault (c.do_events-ran.new.self).timed (c.do_events-ran.result.done ≡ c.args.most) (IsStoppedAt (c.do_events-ran.new.self).timed)
+    (subst (λ (t : Timed). IsDoneUntil 18446744073709551615 t → IsAtRest t) c.timed.ensures c.rests.ensures) c.do_events-ran.ensures.stop

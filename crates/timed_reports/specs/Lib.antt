@@ -1,0 +1,5 @@
+pub mod Spells
+pub mod Going
+pub mod Records
+pub mod Looks
+pub mod Reports

@@ -1,0 +1,111 @@
+-- What is recorded of one kind of thing that goes on at routers for prefixes, and how a look at a world changes that.
+use Rattle.std.specs.Prelude.{ℕ, ◌≡◌, ◌≢◌, ◌<◌, ◌≤◌, ◌⊎◌, ◌↔◌, IsTrue, Bool, true, false, List, ◌++◌, length, Option, Some, None, option_map, option_to_list, slice_get, slice_set, unwrap_or}
+use Rattle.std.specs.List.{list_any}
+use Rattle.ipv4_prefix.specs.Prefix.{Prefix, prefix_eq}
+use Rattle.network_model.specs.declared.step.Step.{Step}
+use Rattle.network_model.specs.declared.step.Step.TheVariants.{LinkUp, LinkDown, SetCost, Deliver, Publish, Release, Attach, Detach}
+use Rattle.network_model.specs.World.{World}
+use Rattle.timed_simulation.specs.declared.events.Event.{Event}
+use Rattle.timed_reports.specs.declared.spells.Spell.{Spell}
+use Rattle.timed_reports.specs.declared.spells.Watched.{Watched}
+use Rattle.timed_reports.specs.Spells.{IsSpell}
+
+-- what may hold of a world for a prefix and a router
+abbrev pub Kind : Type 1
+Kind = Prefix → ℕ → World → Type 0
+
+-- the element stands in the list
+abbrev pub IsListed : {X : Type 0} → X → List X → Type 0
+IsListed x xs = (place : ℕ) × (slice_get xs place ≡ Some x)
+
+-- a spell at a router, for a prefix, from a moment to a moment
+abbrev pub spell : ℕ → Prefix → ℕ → ℕ → Spell
+spell i p from to = record { router = i; prefix = p; from = from; to = to }
+
+-- a router and a prefix, and since when it holds of them, if it does
+abbrev pub watched : ℕ → Prefix → Option ℕ → Watched
+watched i p since = record { router = i; prefix = p; since = since }
+
+-- it holds in this world of the router and the prefix
+abbrev pub HoldsOf : Kind → World → Watched → Type 0
+HoldsOf K w c = K c.prefix c.router w
+
+-- there is one for each of so many routers and each of these prefixes
+abbrev pub AreWatched : ℕ → List Prefix → List Watched → Type 0
+AreWatched count ps cs = (p : Prefix) (i : ℕ) → i < count → list_any (prefix_eq p) ps ≡ true → (since : Option ℕ) × IsListed (watched i p since) cs
+
+-- the record is exact: these events lead from the world w to the world v. A spell that ended stands in the list if and only if there was one; what goes on stands there with the moment at which it began if and only if it does; and where none stands, it does not hold
+pub record IsRecorded (K : Kind) (w : World) (es : List Event) (v : World) (past : List Spell) (cs : List Watched) : Type 0 where
+  pub ended : (p : Prefix) (i from to : ℕ) → IsListed (spell i p from to) past ↔ IsSpell (K p i) from (Some to) w es
+  pub going_on : (p : Prefix) (i from : ℕ) → IsListed (watched i p (Some from)) cs ↔ IsSpell (K p i) from None w es
+  pub resting : (p : Prefix) (i : ℕ) → IsListed (watched i p None) cs → K p i v → ⊥
+
+-- ---- a look at a world
+
+-- what is written of a router and a prefix at this moment: it goes on since it began, or begins now; or it does not hold
+abbrev pub seen : ℕ → Bool → Watched → Watched
+seen now true c = record c { since = Some (unwrap_or c.since now) }
+seen now false c = record c { since = None }
+
+-- the spell that ends by that, if one does
+abbrev pub ended_by : ℕ → Bool → Watched → Option Spell
+ended_by now true c = None
+ended_by now false c = option_map (λ from. spell c.router c.prefix from now) c.since
+
+-- it was looked at rightly
+pub record IsSeen (K : Kind) (v : World) (now : ℕ) (c d : Watched) : Type 0 where
+  pub holds : Bool
+  pub rightly : IsTrue holds ↔ HoldsOf K v c
+  pub written : d ≡ seen now holds c
+
+-- a spell that ends now
+pub record IsEnding (K : Kind) (v : World) (now : ℕ) (cs : List Watched) (s : Spell) : Type 0 where
+  pub place : ℕ
+  pub was : Watched
+  pub at : slice_get cs place ≡ Some was
+  pub from : ℕ
+  pub began : was.since ≡ Some from
+  pub over : HoldsOf K v was → ⊥
+  pub is : s ≡ spell was.router was.prefix from now
+
+-- the first of these were looked at, but for some that are left aside; what ended by that was listed, and nothing else
+pub record AreLooked (K : Kind) (v : World) (now : ℕ) (Aside : Watched → Type 0) (below : ℕ) (old new : List Watched) (before after : List Spell) : Type 0 where
+  pub as_many : length new ≡ length old
+  pub looked : (x : ℕ) (c d : Watched) → x < below → slice_get old x ≡ Some c → slice_get new x ≡ Some d → ((d ≡ c) × Aside c) ⊎ IsSeen K v now c d
+  pub rest : (x : ℕ) → below ≤ x → slice_get new x ≡ slice_get old x
+  pub kept : (s : Spell) → IsListed s before → IsListed s after
+  pub made : (s : Spell) → IsListed s after → IsListed s before ⊎ IsEnding K v now old s
+  pub listed : (x : ℕ) (c : Watched) (from : ℕ) → x < below → slice_get old x ≡ Some c → c.since ≡ Some from → Aside c ⊎ HoldsOf K v c ⊎ IsListed (spell c.router c.prefix from now) after
+
+-- one was left aside, or it was looked at and what that says is written
+abbrev pub IsLooked : Kind → World → ℕ → (Watched → Type 0) → ℕ → List Watched → List Watched → List Spell → List Spell → Type 0
+IsLooked K v now Aside place old new before after = (c : Watched) → slice_get old place ≡ Some c
+    → (Aside c × (new ≡ old) × (after ≡ before))
+    ⊎ ((holds : Bool) × (IsTrue holds ↔ HoldsOf K v c) × (new ≡ slice_set old place (seen now holds c)) × (after ≡ before ++ option_to_list (ended_by now holds c)))
+
+-- ---- which are left aside
+
+-- an item that a router takes is met by its own machines alone, and nothing else moves a machine
+abbrev pub IsElsewhere : Step → Watched → Type 0
+IsElsewhere (Deliver i q) c = c.router ≢ i
+IsElsewhere (LinkUp l) c = Unit {0}
+IsElsewhere (LinkDown l) c = Unit {0}
+IsElsewhere (SetCost i q cost) c = Unit {0}
+IsElsewhere (Publish i) c = Unit {0}
+IsElsewhere (Release i) c = Unit {0}
+IsElsewhere (Attach i p cost) c = Unit {0}
+IsElsewhere (Detach i p) c = Unit {0}
+
+-- whether a step may move ways: links, attachments and published rows do
+abbrev pub moves_ways : Step → Bool
+moves_ways (LinkUp l) = true
+moves_ways (LinkDown l) = true
+moves_ways (SetCost i q cost) = false
+moves_ways (Deliver i q) = false
+moves_ways (Publish i) = true
+moves_ways (Release i) = false
+moves_ways (Attach i p cost) = true
+moves_ways (Detach i p) = true
+
+abbrev pub MovesNoWay : Step → Watched → Type 0
+MovesNoWay s c = moves_ways s ≡ false
