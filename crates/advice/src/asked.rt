@@ -27,6 +27,12 @@ pub fn file_to_explain<'a>(words: &Words<'a>) -> Option<&'a str>
             format: _,
             progress: _,
         } => (file, explain),
+        Words::Time {
+            file,
+            times: _,
+            explain,
+            format: _,
+        } => (file, explain),
         Words::Explain { kind: _ } => return None,
         Words::Shell {
             file,

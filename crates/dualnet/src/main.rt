@@ -34,7 +34,7 @@ use journal::JournalFault;
 use play::{Cause, Fault, Host, NoGate, Source, THRESHOLDS, play_by, refuse};
 use program_files::{
     Input, exit_code, given_words, is_one_file, kept_path, open_file, replayed_path, scenario_path,
-    tell, tell_unreadable,
+    tell, tell_unreadable, times_path,
 };
 use std::io::{BufWriter, IsTerminal, LineWriter, Read, Write};
 use std::process::ExitCode;
@@ -155,7 +155,7 @@ fn first_input(rt: &HostRuntime, words: &Words<'_>) -> Source<Input> {
     }
 }
 
-// The journal that is replayed, or the commands of a shell.
+// The journal that is replayed, the document of times, or the commands of a shell.
 fn second_input(rt: &HostRuntime, words: &Words<'_>) -> Source<Input> {
     match *words {
         Words::Shell {
@@ -164,16 +164,24 @@ fn second_input(rt: &HostRuntime, words: &Words<'_>) -> Source<Input> {
             explain: _,
             format: _,
         } => Source::Open(Input::Standard(rt.stdin())),
-        _ => match replayed_path(words) {
+        _ => match second_path(words) {
             Some(path) => open_file(rt, path),
             None => Source::Missing,
         },
     }
 }
 
+// The file that is read beside the scenario.
+fn second_path<'a>(words: &Words<'a>) -> Option<&'a str> {
+    match times_path(words) {
+        Some(path) => Some(path),
+        None => replayed_path(words),
+    }
+}
+
 // Tells why the files that are read cannot be read.
 fn tell_files(rt: &HostRuntime, words: &Words<'_>) {
-    for path in [scenario_path(words), replayed_path(words)] {
+    for path in [scenario_path(words), second_path(words)] {
         if let Some(path) = path {
             tell_unreadable(rt, path, &mut rt.stderr());
         }

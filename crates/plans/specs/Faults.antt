@@ -14,7 +14,8 @@ use Rattle.network_model.specs.declared.step.Refusal.{Refusal}
 use Rattle.worker_pool.specs.declared.fault.PoolFault.{PoolFault}
 use Rattle.worker_pool.specs.declared.fault.PoolFault.TheVariants.{Memory as MemoryForWorkers, Refused as RefusedAtWork}
 use Rattle.plans.specs.declared.fault.Cause.{Cause}
-use Rattle.plans.specs.declared.fault.Cause.TheVariants.{Memory, Unreadable, TooLarge, Document, Lines, Network, Refused, Journal, Unwritable, Workers}
+use Rattle.plans.specs.declared.fault.Cause.TheVariants.{Memory, Unreadable, TooLarge, Document, Lines, Network, Refused, Journal, Times, TimeSpent, Unwritable, Workers}
+use Rattle.plans.specs.declared.times.TimesFault.TheVariants.{Document as NoTimes, Line as NoLineOfTimes}
 use Rattle.plans.specs.declared.fault.Fault.{Fault}
 
 -- ---- statuses
@@ -33,14 +34,19 @@ is_memory (Refused NoMemoryForStep) = true
 is_memory (Refused _) = false
 is_memory (Journal NoMemoryForJournal) = true
 is_memory (Journal _) = false
+is_memory (Times (NoTimes NoMemoryForLists)) = true
+is_memory (Times (NoLineOfTimes NoMemoryForLines _ _)) = true
+is_memory (Times _) = false
+is_memory TimeSpent = false
 is_memory Unwritable = false
 is_memory (Workers (MemoryForWorkers _)) = true
 is_memory (Workers (RefusedAtWork NoMemoryForStep)) = true
 is_memory (Workers _) = false
 
--- whether the cause came up after all input was read: a command was refused, workers did not answer, or the journal could not be written
+-- whether the cause came up after all input was read: a command was refused, workers did not answer, simulated time ran out, or the journal could not be written
 abbrev pub comes_late : Cause → Bool
 comes_late (Refused _) = true
+comes_late TimeSpent = true
 comes_late Unwritable = true
 comes_late (Workers _) = true
 comes_late _ = false

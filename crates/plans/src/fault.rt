@@ -5,9 +5,11 @@ ghost use Rattle.network_model.specs.Journal.{most_steps};
 ghost use Rattle.plans.specs.declared.fault.Cause.TheVariants.{Memory as OfMemory, Document as OfDocument, Refused as OfRefusal, Journal as OfJournal, Workers as OfWorkers};
 ghost use Rattle.plans.specs.Faults.{status_of, unplaced, line_fault, opening_fault};
 
+use crate::times::TimesFault;
 use journal::JournalFault;
 use network_model::{NetworkFault, NoMemory, Refusal};
 use script::{Key, Located, Place};
+use std::alloc::AllocFailed;
 use std::fmt;
 use std::io::Write;
 use thiserror::Error;
@@ -40,6 +42,12 @@ pub enum Cause {
     /// The text is no journal.
     #[error(transparent)]
     Journal(JournalFault),
+    /// The text is no document of times.
+    #[error(transparent)]
+    Times(TimesFault),
+    /// An event is due at the last moment that the clock of simulated time can show, or later.
+    #[error("52 TimeSpent")]
+    TimeSpent,
     /// The file of the journal could not be written.
     #[error("49 Unwritable")]
     Unwritable,
@@ -66,11 +74,40 @@ impl Fault {
             | Cause::Document(scenario::Fault::NoMemory)
             | Cause::Lines(script::Fault::NoMemory)
             | Cause::Journal(JournalFault::NoMemory)
+            | Cause::Times(
+                TimesFault::Document {
+                    fault: scenario::Fault::NoMemory,
+                },
+            )
+            | Cause::Times(
+                TimesFault::Line {
+                    fault: script::Fault::NoMemory,
+                    key: _,
+                    position: _,
+                },
+            )
+            | Cause::TimeSpent
             | Cause::Refused(_)
             | Cause::Unwritable
             | Cause::Workers(_) => 2,
             _ => 1,
         }
+    }
+}
+
+impl From<NoMemory> for Cause {
+    ghost from_gives = { λ memory e. e ≡ OfMemory memory };
+
+    fn from(error: NoMemory) -> Cause {
+        Cause::Memory(error)
+    }
+}
+
+impl<T: Drop> From<AllocFailed<T>> for Cause {
+    ghost from_gives = { λ _ e. (memory : _) × (e ≡ OfMemory memory) };
+
+    fn from(_error: AllocFailed<T>) -> Cause {
+        Cause::Memory(NoMemory)
     }
 }
 

@@ -1,6 +1,7 @@
 //! The number of each cause.
 
 use crate::fault::{Cause, Fault};
+use crate::times::TimesFault;
 use explanations::Kind;
 use forwarder::GatherFault;
 use ipv4_prefix::PrefixFault;
@@ -20,6 +21,8 @@ impl Fault {
             Cause::Network(fault) => network_kind(fault),
             Cause::Refused(refusal) => refusal_kind(refusal),
             Cause::Journal(fault) => journal_kind(fault),
+            Cause::Times(fault) => times_kind(fault),
+            Cause::TimeSpent => Kind::TimeSpent,
             Cause::Unwritable => Kind::Unwritable,
             Cause::Workers(fault) => pool_kind(fault),
         }
@@ -90,6 +93,18 @@ fn journal_kind(fault: JournalFault) -> Kind {
     match fault {
         JournalFault::BadText | JournalFault::BadLine { line: _ } => Kind::BadJournal,
         JournalFault::NoMemory => Kind::NoMemory,
+    }
+}
+
+fn times_kind(fault: TimesFault) -> Kind {
+    match fault {
+        TimesFault::Document { fault } => document_kind(fault),
+        TimesFault::Line {
+            fault,
+            key: _,
+            position: _,
+        } => line_kind(fault),
+        TimesFault::TooLarge => Kind::TooLarge,
     }
 }
 

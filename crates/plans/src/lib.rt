@@ -32,6 +32,9 @@
 //! network is made of what was read before the first faulty line. Only a name that is no router's name comes
 //! first.
 //!
+//! A document of times is read by `timing`. What can be wrong with it stands here ([`TimesFault`]), because a
+//! `Cause` can be that.
+//!
 //! `Cause` has a variant for each crate's faults, and `kind` says by which number of `explanations` it is
 //! told. No clause says that this number is the one which is displayed; the tests do.
 #![tactic(auto)]
@@ -41,8 +44,10 @@ mod files;
 mod kind;
 mod plan;
 mod read;
+mod times;
 
 pub use fault::{Cause, Fault, refuse};
 pub use files::Source;
 pub use plan::{Plan, read_plan};
 pub use read::{read_bytes, read_failure, read_text};
+pub use times::{TimesFault, TimesKey};

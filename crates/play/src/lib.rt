@@ -11,6 +11,7 @@
 //!   run       opens its network, and does its script, command by command
 //!   shell     opens its network, and does the commands of lines as they come
 //!   replay    does the steps of a journal, and compares the reports             `reports`
+//!   time      runs its network in simulated time, with delays and changes       `timing`
 //!   explain   prints the page of a number                                       `explanations`
 //! ```
 //!

@@ -20,10 +20,11 @@ use std::alloc::Global;
 use std::io;
 use std::io::{Read, Write};
 use std::marker::Brand;
+use timing::{TimeOptions, time};
 use words::{Format, Words};
 
-/// Does what the words ask for, and answers the exit status. Only a replay and a shell read `journal`:
-/// the shell reads its commands there. A fault is a line on `err`, and where the program stops for it,
+/// Does what the words ask for, and answers the exit status. Only a replay, a shell and a run in simulated time
+/// read `journal`: the shell reads its commands there, and the run its document of times. A fault is a line on `err`, and where the program stops for it,
 /// it is in `told`. A write to `out` or `err` that fails is lost, and changes nothing else. Where a run
 /// or a shell ends with status 0, its journal's text is added to `kept`.
 pub fn play<H, R, J, W, E>(
@@ -168,6 +169,15 @@ where
                 progress,
             };
             replay(rt, alloc, scenario, journal, options, out, err)
+        }
+        Words::Time {
+            file: _,
+            times: _,
+            explain: _,
+            format,
+        } => {
+            let options = TimeOptions { format };
+            time(alloc, scenario, journal, options, out)
         }
         Words::Explain { kind } => {
             let _ = write!(out, "{}", kind.page());

@@ -2,13 +2,14 @@
 use Rattle.std.specs.Prelude.{List, ℕ, Option, Some, None}
 use Rattle.std.specs.Borrow.{Bor}
 use Rattle.words.specs.declared.words.Words.{Words}
-use Rattle.words.specs.declared.words.Words.TheVariants.{Check, Run, Replay, Explain, Shell}
+use Rattle.words.specs.declared.words.Words.TheVariants.{Check, Run, Replay, Time, Explain, Shell}
 
 -- the scenario
 abbrev pub scenario_of : Words → Option (Bor (List ℕ))
 scenario_of (Check file explain) = Some file
 scenario_of (Run file threads workers journal explain format progress) = Some file
 scenario_of (Replay file journal explain format progress) = Some file
+scenario_of (Time file times explain format) = Some file
 scenario_of (Explain kind) = None
 scenario_of (Shell file journal explain format) = Some file
 
@@ -16,6 +17,11 @@ scenario_of (Shell file journal explain format) = Some file
 abbrev pub read_journal : Words → Option (Bor (List ℕ))
 read_journal (Replay file journal explain format progress) = Some journal
 read_journal _ = None
+
+-- the document of times
+abbrev pub read_times : Words → Option (Bor (List ℕ))
+read_times (Time file times explain format) = Some times
+read_times _ = None
 
 -- the journal that is written: that of a run or a shell, where it names one
 abbrev pub kept_journal : Words → Option (Bor (List ℕ))

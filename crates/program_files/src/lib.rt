@@ -11,8 +11,8 @@
 //! exit_code(&rt, status)                           // the end of `main`
 //! ```
 //!
-//! - `scenario_path`, `replayed_path` and `kept_path` say which file is which: the scenario, the journal that
-//!   is read, and the journal that is written. [`is_read`] says so for `dualnet-view`.
+//! - `scenario_path`, `replayed_path`, `times_path` and `kept_path` say which file is which: the scenario, the
+//!   journal that is read, the document of times, and the journal that is written. [`is_read`] says so for `dualnet-view`.
 //! - [`open_file`] never fails. A file that cannot be opened is `Source::Missing`, and each read of it fails.
 //!   So `plans` finds that it is unreadable, as it finds all other faults of a scenario.
 //! - [`tell_unreadable`] says why, in the system's words.
@@ -33,4 +33,4 @@ mod paths;
 
 pub use files::{Input, is_one_file, open_file, tell_unreadable};
 pub use given::{exit_code, given_words, tell};
-pub use paths::{is_read, kept_path, replayed_path, scenario_path};
+pub use paths::{is_read, kept_path, replayed_path, scenario_path, times_path};

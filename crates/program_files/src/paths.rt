@@ -1,7 +1,7 @@
 //! The files that a command line names.
 
 ghost use Rattle.std.specs.Prelude.{◌≡◌, IfSome, true};
-ghost use Rattle.program_files.specs.Paths.{scenario_of, read_journal, kept_journal};
+ghost use Rattle.program_files.specs.Paths.{scenario_of, read_journal, read_times, kept_journal};
 
 use crate::files::is_one_file;
 use words::{ViewWords, Words};
@@ -28,6 +28,12 @@ pub fn scenario_path<'a>(words: &Words<'a>) -> Option<&'a str>
             format: _,
             progress: _,
         } => Some(file),
+        Words::Time {
+            file,
+            times: _,
+            explain: _,
+            format: _,
+        } => Some(file),
         Words::Explain { kind: _ } => None,
         Words::Shell {
             file,
@@ -50,6 +56,21 @@ pub fn replayed_path<'a>(words: &Words<'a>) -> Option<&'a str>
             format: _,
             progress: _,
         } => Some(journal),
+        _ => None,
+    }
+}
+
+/// The file of the document of times.
+pub fn times_path<'a>(words: &Words<'a>) -> Option<&'a str>
+    ensures { result ≡ read_times words.now }
+{
+    match *words {
+        Words::Time {
+            file: _,
+            times,
+            explain: _,
+            format: _,
+        } => Some(times),
         _ => None,
     }
 }

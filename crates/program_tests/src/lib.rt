@@ -23,7 +23,7 @@
 //! tells(&rt, &got, "dualnet: 47 Unreadable\n");             // printed nothing but this, and kept nothing
 //! ```
 //!
-//! What a test expects comes from the definitions, from the man page or from the plain model in `bench`. It
+//! What a test expects comes from the definitions, from the man page or from the plain model in `model`. It
 //! never comes from what the program printed. For example, the lines of `views` were reckoned by that model.
 //!
 //! What is tricky: a fault displays its number and name by a derive, which has no contract. So `written` has

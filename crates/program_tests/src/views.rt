@@ -1,4 +1,4 @@
-//! The states of a run, as lines of JSON and in a page. What is expected was reckoned by the plain model of `bench`,
+//! The states of a run, as lines of JSON and in a page. What is expected was reckoned by the plain model of `model`,
 //! and is of two routers at the costs 1 and 2.
 
 use crate::files::Closed;

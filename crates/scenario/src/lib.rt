@@ -32,4 +32,4 @@ mod fault;
 mod lines;
 
 pub use fault::Fault;
-pub use lines::{Lines, read_scenario};
+pub use lines::{Lines, lines_at, read_scenario};

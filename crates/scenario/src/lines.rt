@@ -56,8 +56,8 @@ pub fn read_scenario(alloc: Global, text: &str) -> Result<Lines, Fault>
     })
 }
 
-// The strings of the array at a key.
-fn lines_at(alloc: Global, table: &Table, key: &str) -> Result<Vec<String>, Fault>
+/// The strings of the array at a key. A key that is not there, or has something else, is a `BadKey`.
+pub fn lines_at(alloc: Global, table: &Table, key: &str) -> Result<Vec<String>, Fault>
     ensures ok { IfOk result (λ v. texts_at key.now (table_view table.now)
         ≡ Some (map string_bytes v.items)) }
     ensures bad_key { result ≡ Err Fault.BadKey → texts_at key.now (table_view table.now) ≡ None }

@@ -41,7 +41,7 @@
 //! many, the page has the first and the last.
 //!
 //! The states stand in HTML without an escape, so no `<` may be among them. There is none, because names,
-//! prefixes, words and numbers have none. What the script does with the states has no contract. `bench/view`
+//! prefixes, words and numbers have none. What the script does with the states has no contract. `trials/view`
 //! opens pages in a browser, and compares what they show with the program's output and with a plain model.
 #![tactic(auto)]
 

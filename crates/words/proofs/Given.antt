@@ -6,12 +6,12 @@ use Rattle.clap.specs.Matches.{ReadsOne}
 use Rattle.clap.specs.declared.parser.matches.Found.{Found}
 use Rattle.clap.proofs.WalkLemmas.{first_value-rows, one_text-rows}
 use Rattle.words.specs.Formats.{format_text}
-use Rattle.words.specs.Asked.{HasFormat, HasNumber, IsCheck, IsExplain, IsFlag, IsReplay, IsRun, IsShell}
+use Rattle.words.specs.Asked.{HasFormat, HasNumber, IsCheck, IsExplain, IsFlag, IsReplay, IsRun, IsShell, IsTime}
 use Rattle.explanations.specs.Numbers.{kind_number}
 use Rattle.explanations.specs.declared.kind.Kind.{Kind}
 use Rattle.words.specs.declared.format.Format.{Format}
 use Rattle.words.specs.declared.words.Words.{Words}
-use Rattle.words.specs.declared.words.Words.TheVariants.{Check, Run, Replay, Explain, Shell}
+use Rattle.words.specs.declared.words.Words.TheVariants.{Check, Run, Replay, Time, Explain, Shell}
 
 -- a look-up gives the first text of its rows
 pub text_given : (r : Option (Bor Text)) (f : Found) (id : Text) → option_map (λ s. s.now) r ≡ first_value f id → first_of id (rows_of f) ≡ option_map (λ s. s.now) r
@@ -85,6 +85,7 @@ no_check rows none (Check f e) h =
     cc
 no_check rows none (Run f t k j e o p) h = h
 no_check rows none (Replay f j e o p) h = h
+no_check rows none (Time f t e o) h = h
 no_check rows none (Explain k) h = h
 no_check rows none (Shell f j e o) h = h
 
@@ -94,6 +95,7 @@ no_run rows none (Run f t k j e o p) h =
     let there = h.0 in
     cc
 no_run rows none (Replay f j e o p) h = h
+no_run rows none (Time f t e o) h = h
 no_run rows none (Explain k) h = h
 no_run rows none (Shell f j e o) h = h
 
@@ -101,6 +103,7 @@ pub no_threads : (rows : List Row) → ((n : ℕ) → HasNumber rows (codes "thr
 no_threads rows none (Check f e) h = h
 no_threads rows none (Run f t k j e o p) h = none t h.1
 no_threads rows none (Replay f j e o p) h = h
+no_threads rows none (Time f t e o) h = h
 no_threads rows none (Explain k) h = h
 no_threads rows none (Shell f j e o) h = h
 
@@ -108,6 +111,7 @@ pub no_workers : (rows : List Row) → ((n : ℕ) → HasNumber rows (codes "wor
 no_workers rows none (Check f e) h = h
 no_workers rows none (Run f t k j e o p) h = none k h.2
 no_workers rows none (Replay f j e o p) h = h
+no_workers rows none (Time f t e o) h = h
 no_workers rows none (Explain k) h = h
 no_workers rows none (Shell f j e o) h = h
 
@@ -115,6 +119,7 @@ pub no_run_format : (rows : List Row) → ((o : Format) → HasFormat rows o →
 no_run_format rows none (Check f e) h = h
 no_run_format rows none (Run f t k j e o p) h = none o h.5
 no_run_format rows none (Replay f j e o p) h = h
+no_run_format rows none (Time f t e o) h = h
 no_run_format rows none (Explain k) h = h
 no_run_format rows none (Shell f j e o) h = h
 
@@ -124,6 +129,7 @@ no_replay rows none (Run f t k j e o p) h = h
 no_replay rows none (Replay f j e o p) h =
     let there = h.0 in
     cc
+no_replay rows none (Time f t e o) h = h
 no_replay rows none (Explain k) h = h
 no_replay rows none (Shell f j e o) h = h
 
@@ -133,6 +139,7 @@ no_steps rows none (Run f t k j e o p) h = h
 no_steps rows none (Replay f j e o p) h =
     let there = h.1 in
     cc
+no_steps rows none (Time f t e o) h = h
 no_steps rows none (Explain k) h = h
 no_steps rows none (Shell f j e o) h = h
 
@@ -140,13 +147,43 @@ pub no_replay_format : (rows : List Row) → ((o : Format) → HasFormat rows o 
 no_replay_format rows none (Check f e) h = h
 no_replay_format rows none (Run f t k j e o p) h = h
 no_replay_format rows none (Replay f j e o p) h = none o h.3
+no_replay_format rows none (Time f t e o) h = h
 no_replay_format rows none (Explain k) h = h
 no_replay_format rows none (Shell f j e o) h = h
+
+pub no_time : (rows : List Row) → first_of (codes "file") rows ≡ None → (w : Words) → IsTime rows w → ⊥
+no_time rows none (Check f e) h = h
+no_time rows none (Run f t k j e o p) h = h
+no_time rows none (Replay f j e o p) h = h
+no_time rows none (Time f t e o) h =
+    let there = h.0 in
+    cc
+no_time rows none (Explain k) h = h
+no_time rows none (Shell f j e o) h = h
+
+pub no_times : (rows : List Row) → first_of (codes "times") rows ≡ None → (w : Words) → IsTime rows w → ⊥
+no_times rows none (Check f e) h = h
+no_times rows none (Run f t k j e o p) h = h
+no_times rows none (Replay f j e o p) h = h
+no_times rows none (Time f t e o) h =
+    let there = h.1 in
+    cc
+no_times rows none (Explain k) h = h
+no_times rows none (Shell f j e o) h = h
+
+pub no_time_format : (rows : List Row) → ((o : Format) → HasFormat rows o → ⊥) → (w : Words) → IsTime rows w → ⊥
+no_time_format rows none (Check f e) h = h
+no_time_format rows none (Run f t k j e o p) h = h
+no_time_format rows none (Replay f j e o p) h = h
+no_time_format rows none (Time f t e o) h = none o h.3
+no_time_format rows none (Explain k) h = h
+no_time_format rows none (Shell f j e o) h = h
 
 pub no_explain : (rows : List Row) → ((n : ℕ) → HasNumber rows (codes "number") 52 n → ⊥) → (w : Words) → IsExplain rows w → ⊥
 no_explain rows none (Check f e) h = h
 no_explain rows none (Run f t k j e o p) h = h
 no_explain rows none (Replay f j e o p) h = h
+no_explain rows none (Time f t e o) h = h
 no_explain rows none (Explain k) h = none (kind_number k) h
 no_explain rows none (Shell f j e o) h = h
 
@@ -154,6 +191,7 @@ pub no_kind : (rows : List Row) (n : ℕ) → ((m : ℕ) → HasNumber rows (cod
 no_kind rows n same other (Check f e) h = h
 no_kind rows n same other (Run f t k j e o p) h = h
 no_kind rows n same other (Replay f j e o p) h = h
+no_kind rows n same other (Time f t e o) h = h
 no_kind rows n same other (Explain k) h = other k (sym (same (kind_number k) h))
 no_kind rows n same other (Shell f j e o) h = h
 
@@ -161,6 +199,7 @@ pub no_shell : (rows : List Row) → first_of (codes "file") rows ≡ None → (
 no_shell rows none (Check f e) h = h
 no_shell rows none (Run f t k j e o p) h = h
 no_shell rows none (Replay f j e o p) h = h
+no_shell rows none (Time f t e o) h = h
 no_shell rows none (Explain k) h = h
 no_shell rows none (Shell f j e o) h =
     let there = h.0 in
@@ -170,5 +209,6 @@ pub no_shell_format : (rows : List Row) → ((o : Format) → HasFormat rows o �
 no_shell_format rows none (Check f e) h = h
 no_shell_format rows none (Run f t k j e o p) h = h
 no_shell_format rows none (Replay f j e o p) h = h
+no_shell_format rows none (Time f t e o) h = h
 no_shell_format rows none (Explain k) h = h
 no_shell_format rows none (Shell f j e o) h = none o h.3

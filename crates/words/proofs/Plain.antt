@@ -6,7 +6,7 @@ use Rattle.words.specs.Asked.{ChecksFile, HasFormat, HasNumber, IsAsked, IsFlag,
 use Rattle.words.specs.declared.format.Format.{Format}
 use Rattle.words.specs.declared.format.Format.TheVariants.{Text as ForPeople, Json}
 use Rattle.words.specs.declared.words.Words.{Words}
-use Rattle.words.specs.declared.words.Words.TheVariants.{Check, Run, Replay, Explain, Shell}
+use Rattle.words.specs.declared.words.Words.TheVariants.{Check, Run, Replay, Time, Explain, Shell}
 use Rattle.words.proofs.Lines.{Seen, seen, seen_check, seen_run, seen_replay}
 
 -- a part of what the matches have
@@ -41,6 +41,7 @@ module _ (met : Option (Text × List Row)) (file : Text) where
       (ap (λ o. unwrap_or o []) (sym h.2.0 ∙ ap (part (λ s. s.file) None) here), h.2.1.1 (ap (part (λ s. s.explain) None) here))
   check_asked (Run f t k j e o p) h is = omega (arith, ap key_seen (ap seen (sym h.1) ∙ is))
   check_asked (Replay f j e o p) h is = omega (arith, ap key_seen (ap seen (sym h.1) ∙ is))
+  check_asked (Time f t e o) h is = omega (arith, ap key_seen (ap seen (sym h.1) ∙ is))
   check_asked (Explain k) h is = omega (arith, ap key_seen (ap seen (sym h.1) ∙ is))
   check_asked (Shell f j e o) h is = omega (arith, ap key_seen (ap seen (sym h.1) ∙ is))
 
@@ -61,6 +62,7 @@ module _ (met : Option (Text × List Row)) (file : Text) where
       no_path (Some p) e = cc
   run_asked (Check f e) h is = omega (arith, ap key_seen (ap seen (sym h.1) ∙ is))
   run_asked (Replay f j e o p) h is = omega (arith, ap key_seen (ap seen (sym h.1) ∙ is))
+  run_asked (Time f t e o) h is = omega (arith, ap key_seen (ap seen (sym h.1) ∙ is))
   run_asked (Explain k) h is = omega (arith, ap key_seen (ap seen (sym h.1) ∙ is))
   run_asked (Shell f j e o) h is = omega (arith, ap key_seen (ap seen (sym h.1) ∙ is))
 
@@ -75,6 +77,7 @@ module _ (met : Option (Text × List Row)) (file : Text) where
       )
   replay_asked journal (Check f e) h is = omega (arith, ap key_seen (ap seen (sym h.1) ∙ is))
   replay_asked journal (Run f t k j e o p) h is = omega (arith, ap key_seen (ap seen (sym h.1) ∙ is))
+  replay_asked journal (Time f t e o) h is = omega (arith, ap key_seen (ap seen (sym h.1) ∙ is))
   replay_asked journal (Explain k) h is = omega (arith, ap key_seen (ap seen (sym h.1) ∙ is))
   replay_asked journal (Shell f j e o) h is = omega (arith, ap key_seen (ap seen (sym h.1) ∙ is))
 

@@ -65,6 +65,10 @@ standard_input : finds (codes "shell" ∷ codes "-" ∷ codes "--journal" ∷ co
 unfolding clap_on_literals
 standard_input = refl
 
+times : asks (codes "time" ∷ codes "a" ∷ codes "--format=json" ∷ codes "b" ∷ []) ≡ []
+unfolding clap_on_literals
+times = refl
+
 -- ---- what is refused
 
 version : asks (codes "--version" ∷ []) ≡ DisplayVersion ∷ []
@@ -126,6 +130,10 @@ option_of_run = refl
 format_of_check : asks (codes "check" ∷ codes "a" ∷ codes "--format" ∷ codes "json" ∷ []) ≡ UnknownArgument ∷ []
 unfolding clap_on_literals
 format_of_check = refl
+
+no_times : asks (codes "time" ∷ codes "a" ∷ []) ≡ MissingRequiredArgument ∷ []
+unfolding clap_on_literals
+no_times = refl
 
 no_journal : asks (codes "replay" ∷ codes "a" ∷ []) ≡ MissingRequiredArgument ∷ []
 unfolding clap_on_literals

@@ -5,9 +5,9 @@ use Rattle.std.specs.Option.{option_map_or}
 use Rattle.clap.specs.Words.{Row, Text, found_of, rows_of, subcommand_rows}
 use Rattle.clap.specs.declared.parser.matches.SubCommand.{SubCommand}
 use Rattle.clap.specs.declared.parser.matches.ArgMatches.TheViews.{out-SubCommand}
-use Rattle.words.specs.Asked.{IsAsked, IsCheck, IsExplain, IsReplay, IsRun, IsShell}
+use Rattle.words.specs.Asked.{IsAsked, IsCheck, IsExplain, IsReplay, IsRun, IsShell, IsTime}
 use Rattle.words.specs.declared.words.Words.{Words}
-use Rattle.words.specs.declared.words.Words.TheVariants.{Check, Run, Replay, Explain, Shell}
+use Rattle.words.specs.declared.words.Words.TheVariants.{Check, Run, Replay, Time, Explain, Shell}
 
 -- the name of the subcommand and its rows, which two clauses tell apart
 pub met_rows : {Z : Type 0} (o : Option (Box SubCommand Z)) (name : Text) (rows : List Row)
@@ -31,6 +31,7 @@ module _ (met : Option (Text × List Row)) (rows : List Row) where
   no_check_asked is none (Check f e) h = none (Check f e) (subst (λ r. IsCheck r (Check f e)) (sym (ap (rows_in rows) h.1) ∙ ap (rows_in rows) is) h.2)
   no_check_asked is none (Run f t k j e o p) h = absurd (omega (arith, sym (ap name_key h.1) ∙ ap name_key is))
   no_check_asked is none (Replay f j e o p) h = absurd (omega (arith, sym (ap name_key h.1) ∙ ap name_key is))
+  no_check_asked is none (Time f t e o) h = absurd (omega (arith, sym (ap name_key h.1) ∙ ap name_key is))
   no_check_asked is none (Explain k) h = absurd (omega (arith, sym (ap name_key h.1) ∙ ap name_key is))
   no_check_asked is none (Shell f j e o) h = absurd (omega (arith, sym (ap name_key h.1) ∙ ap name_key is))
 
@@ -38,6 +39,7 @@ module _ (met : Option (Text × List Row)) (rows : List Row) where
   no_run_asked is none (Check f e) h = absurd (omega (arith, sym (ap name_key h.1) ∙ ap name_key is))
   no_run_asked is none (Run f t k j e o p) h = none (Run f t k j e o p) (subst (λ r. IsRun r (Run f t k j e o p)) (sym (ap (rows_in rows) h.1) ∙ ap (rows_in rows) is) h.2)
   no_run_asked is none (Replay f j e o p) h = absurd (omega (arith, sym (ap name_key h.1) ∙ ap name_key is))
+  no_run_asked is none (Time f t e o) h = absurd (omega (arith, sym (ap name_key h.1) ∙ ap name_key is))
   no_run_asked is none (Explain k) h = absurd (omega (arith, sym (ap name_key h.1) ∙ ap name_key is))
   no_run_asked is none (Shell f j e o) h = absurd (omega (arith, sym (ap name_key h.1) ∙ ap name_key is))
 
@@ -45,13 +47,23 @@ module _ (met : Option (Text × List Row)) (rows : List Row) where
   no_replay_asked is none (Check f e) h = absurd (omega (arith, sym (ap name_key h.1) ∙ ap name_key is))
   no_replay_asked is none (Run f t k j e o p) h = absurd (omega (arith, sym (ap name_key h.1) ∙ ap name_key is))
   no_replay_asked is none (Replay f j e o p) h = none (Replay f j e o p) (subst (λ r. IsReplay r (Replay f j e o p)) (sym (ap (rows_in rows) h.1) ∙ ap (rows_in rows) is) h.2)
+  no_replay_asked is none (Time f t e o) h = absurd (omega (arith, sym (ap name_key h.1) ∙ ap name_key is))
   no_replay_asked is none (Explain k) h = absurd (omega (arith, sym (ap name_key h.1) ∙ ap name_key is))
   no_replay_asked is none (Shell f j e o) h = absurd (omega (arith, sym (ap name_key h.1) ∙ ap name_key is))
+
+  pub no_time_asked : met ≡ Some (codes "time", rows) → ((w : Words) → IsTime rows w → ⊥) → (w : Words) → IsAsked met w → ⊥
+  no_time_asked is none (Check f e) h = absurd (omega (arith, sym (ap name_key h.1) ∙ ap name_key is))
+  no_time_asked is none (Run f t k j e o p) h = absurd (omega (arith, sym (ap name_key h.1) ∙ ap name_key is))
+  no_time_asked is none (Replay f j e o p) h = absurd (omega (arith, sym (ap name_key h.1) ∙ ap name_key is))
+  no_time_asked is none (Time f t e o) h = none (Time f t e o) (subst (λ r. IsTime r (Time f t e o)) (sym (ap (rows_in rows) h.1) ∙ ap (rows_in rows) is) h.2)
+  no_time_asked is none (Explain k) h = absurd (omega (arith, sym (ap name_key h.1) ∙ ap name_key is))
+  no_time_asked is none (Shell f j e o) h = absurd (omega (arith, sym (ap name_key h.1) ∙ ap name_key is))
 
   pub no_explain_asked : met ≡ Some (codes "explain", rows) → ((w : Words) → IsExplain rows w → ⊥) → (w : Words) → IsAsked met w → ⊥
   no_explain_asked is none (Check f e) h = absurd (omega (arith, sym (ap name_key h.1) ∙ ap name_key is))
   no_explain_asked is none (Run f t k j e o p) h = absurd (omega (arith, sym (ap name_key h.1) ∙ ap name_key is))
   no_explain_asked is none (Replay f j e o p) h = absurd (omega (arith, sym (ap name_key h.1) ∙ ap name_key is))
+  no_explain_asked is none (Time f t e o) h = absurd (omega (arith, sym (ap name_key h.1) ∙ ap name_key is))
   no_explain_asked is none (Explain k) h = none (Explain k) (subst (λ r. IsExplain r (Explain k)) (sym (ap (rows_in rows) h.1) ∙ ap (rows_in rows) is) h.2)
   no_explain_asked is none (Shell f j e o) h = absurd (omega (arith, sym (ap name_key h.1) ∙ ap name_key is))
 
@@ -59,6 +71,7 @@ module _ (met : Option (Text × List Row)) (rows : List Row) where
   no_shell_asked is none (Check f e) h = absurd (omega (arith, sym (ap name_key h.1) ∙ ap name_key is))
   no_shell_asked is none (Run f t k j e o p) h = absurd (omega (arith, sym (ap name_key h.1) ∙ ap name_key is))
   no_shell_asked is none (Replay f j e o p) h = absurd (omega (arith, sym (ap name_key h.1) ∙ ap name_key is))
+  no_shell_asked is none (Time f t e o) h = absurd (omega (arith, sym (ap name_key h.1) ∙ ap name_key is))
   no_shell_asked is none (Explain k) h = absurd (omega (arith, sym (ap name_key h.1) ∙ ap name_key is))
   no_shell_asked is none (Shell f j e o) h = none (Shell f j e o) (subst (λ r. IsShell r (Shell f j e o)) (sym (ap (rows_in rows) h.1) ∙ ap (rows_in rows) is) h.2)
 

@@ -8,7 +8,7 @@ use Rattle.explanations.specs.Numbers.{kind_number}
 use Rattle.words.specs.Formats.{format_text}
 use Rattle.words.specs.declared.format.Format.{Format}
 use Rattle.words.specs.declared.format.Format.TheVariants.{Text as ForPeople}
-use Rattle.words.specs.declared.words.Words.TheVariants.{Check, Run, Replay, Explain, Shell}
+use Rattle.words.specs.declared.words.Words.TheVariants.{Check, Run, Replay, Time, Explain, Shell}
 
 -- the bytes of each word
 abbrev pub word_texts : List (Bor Text) → List Text
@@ -54,6 +54,13 @@ IsReplay rows (Replay file journal explain format progress) = (first_of (codes "
     × IsFlag rows (codes "explain") explain × HasFormat rows format × IsFlag rows (codes "progress") progress
 IsReplay rows _ = ⊥
 
+-- the matches of `time`: two files, and a format
+abbrev pub IsTime : List Row → Words → Type 0
+IsTime rows (Time file times explain format) = (first_of (codes "file") rows ≡ Some file.now)
+    × (first_of (codes "times") rows ≡ Some times.now)
+    × IsFlag rows (codes "explain") explain × HasFormat rows format
+IsTime rows _ = ⊥
+
 -- the matches of `explain`: the number of a fault
 abbrev pub IsExplain : List Row → Words → Type 0
 IsExplain rows (Explain kind) = HasNumber rows (codes "number") 52 (kind_number kind)
@@ -74,6 +81,8 @@ IsAsked met (Run file threads workers journal explain format progress) = (rows :
     × (met ≡ Some (codes "run", rows)) × IsRun rows (Run file threads workers journal explain format progress)
 IsAsked met (Replay file journal explain format progress) = (rows : List Row)
     × (met ≡ Some (codes "replay", rows)) × IsReplay rows (Replay file journal explain format progress)
+IsAsked met (Time file times explain format) = (rows : List Row)
+    × (met ≡ Some (codes "time", rows)) × IsTime rows (Time file times explain format)
 IsAsked met (Explain kind) =
     (rows : List Row) × (met ≡ Some (codes "explain", rows)) × IsExplain rows (Explain kind)
 IsAsked met (Shell file journal explain format) = (rows : List Row)

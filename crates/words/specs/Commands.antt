@@ -55,6 +55,11 @@ replay_app = with_rule (with_rule (with_rule (with_rule (with_rule (new_app (cod
     (file_rule (codes "journal"))) (flag_rule (codes "explain"))) (choice_rule (codes "format")))
     (flag_rule (codes "progress"))
 
+-- `time FILE TIMES [--explain] [--format FORMAT]`
+abbrev pub time_app : App
+time_app = with_rule (with_rule (with_rule (with_rule (new_app (codes "time")) (file_rule (codes "file")))
+    (file_rule (codes "times"))) (flag_rule (codes "explain"))) (choice_rule (codes "format"))
+
 -- `explain NUMBER`
 abbrev pub explain_app : App
 explain_app = with_rule (new_app (codes "explain")) (known_rule (codes "number"))
@@ -66,9 +71,9 @@ shell_app = with_rule (with_rule (with_rule (with_rule (new_app (codes "shell"))
 
 -- the program, which has to be given one of its commands
 abbrev pub program : App
-program = with_subcommand (with_subcommand (with_subcommand (with_subcommand (with_subcommand
+program = with_subcommand (with_subcommand (with_subcommand (with_subcommand (with_subcommand (with_subcommand
     (on_top (λ s. record s { subcommand_required = true }) (on_top (λ s. record s { has_version = true }) (new_app (codes "dualnet"))))
-    check_app.top) run_app.top) replay_app.top) explain_app.top) shell_app.top
+    check_app.top) run_app.top) replay_app.top) time_app.top) explain_app.top) shell_app.top
 
 -- a command that reads as this, with no global argument
 abbrev pub IsProgramCommand : App → Command → Type 0

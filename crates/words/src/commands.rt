@@ -3,7 +3,7 @@
 ghost use Rattle.std.specs.Prelude.{◌≡◌, IfOk, codes, false, pos};
 ghost use Rattle.clap.specs.declared.builder.value_parser.ValueParser.TheVariants.{Signed};
 ghost use Rattle.clap.specs.Words.{app_of, kind_of, rule_of};
-ghost use Rattle.words.specs.Commands.{IsProgramCommand, check_app, choice_rule, explain_app, file_rule, flag_rule, known_rule, number_rule, path_rule, program, replay_app, run_app, shell_app};
+ghost use Rattle.words.specs.Commands.{IsProgramCommand, check_app, choice_rule, explain_app, file_rule, flag_rule, known_rule, number_rule, path_rule, program, replay_app, run_app, shell_app, time_app};
 
 use clap::builder::ValueParser;
 use clap::error::ErrorKind;
@@ -100,6 +100,7 @@ pub(crate) fn program_command<'a>(alloc: Global) -> Result<Command<'a>, AllocErr
         .subcommand(check_command(alloc)?)?
         .subcommand(run_command(alloc)?)?
         .subcommand(replay_command(alloc)?)?
+        .subcommand(time_command(alloc)?)?
         .subcommand(explain_command(alloc)?)?
         .subcommand(shell_command(alloc)?)
 }
@@ -158,6 +159,26 @@ fn replay_command<'a>(alloc: Global) -> Result<Command<'a>, AllocError>
         .arg(explain_arg(alloc))?
         .arg(format_arg(alloc))?
         .arg(progress_arg(alloc))
+}
+
+fn time_command<'a>(alloc: Global) -> Result<Command<'a>, AllocError>
+    ensures { IfOk result (IsProgramCommand time_app) }
+{
+    let times = file_arg(
+        alloc,
+        "times",
+        "TIMES",
+        "Delays, and changes with their moments: a TOML file",
+    );
+    Command::new(alloc, "time")
+        .about(
+            "Runs the network of a scenario in simulated time, and prints a line for each change",
+        )
+        .after_help("Example:\n  dualnet time examples/ring.toml examples/ring-times.toml")
+        .arg(scenario_arg(alloc))?
+        .arg(times)?
+        .arg(explain_arg(alloc))?
+        .arg(format_arg(alloc))
 }
 
 fn explain_command<'a>(alloc: Global) -> Result<Command<'a>, AllocError>

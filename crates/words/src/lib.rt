@@ -8,6 +8,7 @@
 //!   dualnet check FILE [--explain]
 //!   dualnet run FILE [--threads N] [--workers N] [--journal PATH] [--explain] [--format F] [--progress]
 //!   dualnet replay FILE JOURNAL [--explain] [--format F] [--progress]
+//!   dualnet time FILE TIMES [--explain] [--format F]
 //!   dualnet shell FILE [--journal PATH] [--explain] [--format F]
 //!   dualnet explain NUMBER
 //!   dualnet-view FILE [JOURNAL] [-o PATH] [--json]

@@ -3,7 +3,7 @@
 ghost use Rattle.std.specs.Prelude.{◌≡◌, IfOk, IfErr, IfSome, IfNone, MatchResult, List, ℕ, [], ⊤, codes};
 ghost use Rattle.clap.specs.Words.{HasKind, Text, fault_of, first_of, kind_of, rows_of, found_of, subcommand_of, subcommand_rows_of};
 ghost use Rattle.words.specs.Commands.{program, kinds_of};
-ghost use Rattle.words.specs.Asked.{ChecksFile, HasFormat, HasNumber, IsAsked, IsCheck, IsExplain, IsFileLine, IsFlag, IsReplay, IsReplayLine, IsRun, IsShell, ReplaysFiles, RunsFile, word_texts};
+ghost use Rattle.words.specs.Asked.{ChecksFile, HasFormat, HasNumber, IsAsked, IsCheck, IsExplain, IsFileLine, IsFlag, IsReplay, IsReplayLine, IsRun, IsShell, IsTime, ReplaysFiles, RunsFile, word_texts};
 
 use crate::commands::program_command;
 use crate::format::Format;
@@ -40,6 +40,14 @@ pub enum Words<'a> {
         explain: bool,
         format: Format,
         progress: bool,
+    },
+    /// Run the network of the scenario in the file in simulated time. The second file has the delays, and
+    /// the changes with their moments.
+    Time {
+        file: &'a str,
+        times: &'a str,
+        explain: bool,
+        format: Format,
     },
     /// Explain a number.
     Explain {
@@ -104,6 +112,8 @@ fn read_matches<'a>(matches: &ArgMatches<'a>) -> Option<Words<'a>>
         explain_words(inner)
     } else if let Some(inner) = matches.subcommand_matches("shell") {
         shell_words(inner)
+    } else if let Some(inner) = matches.subcommand_matches("time") {
+        time_words(inner)
     } else {
         None
     }
@@ -155,6 +165,22 @@ fn replay_words<'a>(matches: &ArgMatches<'a>) -> Option<Words<'a>>
         explain,
         format,
         progress,
+    })
+}
+
+fn time_words<'a>(matches: &ArgMatches<'a>) -> Option<Words<'a>>
+    ensures some { IfSome result (IsTime (rows_of (found_of matches.now))) }
+    ensures none { IfNone result ((w : Words) → IsTime (rows_of (found_of matches.now)) w → ⊥) }
+{
+    let file = matches.get_str("file")?;
+    let times = matches.get_str("times")?;
+    let explain = flag(matches, "explain");
+    let format = named_format(matches)?;
+    Some(Words::Time {
+        file,
+        times,
+        explain,
+        format,
     })
 }
 

@@ -1,0 +1,42 @@
+//! What is wrong with a document of times.
+
+use std::fmt;
+use thiserror::Error;
+
+/// One of the three lists of a document of times.
+#[derive(Clone, Copy, Debug, PartialEq, Eq)]
+pub enum TimesKey {
+    Links,
+    Routers,
+    Changes,
+}
+
+impl fmt::Display for TimesKey {
+    fn fmt<W: fmt::Write>(&self, f: &mut fmt::Formatter<W>) -> fmt::Result {
+        f.write_str(match self {
+            TimesKey::Links => "links",
+            TimesKey::Routers => "routers",
+            TimesKey::Changes => "changes",
+        })
+    }
+}
+
+/// Why a document of times is none. Its text is its number and name, and the place if it has one.
+#[derive(Clone, Copy, Debug, PartialEq, Eq, Drop, Error)]
+pub enum TimesFault {
+    /// The document is no TOML, or has other keys or values.
+    #[error("{fault} in the times")]
+    Document {
+        fault: scenario::Fault,
+    },
+    /// The string at this position of the list, from 0, says no delay or no change.
+    #[error("{fault} at {key} {position} in the times")]
+    Line {
+        fault: script::Fault,
+        key: TimesKey,
+        position: usize,
+    },
+    /// There are more than 10,000 changes.
+    #[error("46 TooLarge in the times")]
+    TooLarge,
+}

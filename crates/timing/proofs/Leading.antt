@@ -1,0 +1,103 @@
+-- Runs in which changes are done, one after another.
+use Rattle.std.proofs.Common.{◌≡◌, ◌≢◌, ℕ, ◌+◌, ◌<◌, ◌≤◌, ◌⊎◌, inl, inr, zero, suc, List, [], ◌∷◌, ◌++◌, drop, get_or, length, Some, unwrap_or, refl, sym, ap, subst, ◌∙◌, arith}
+use Rattle.std.proofs.Common.{Result, Ok, Err, false, OnOk, true≢false}
+use Rattle.std.specs.Bool.{⊤}
+use Rattle.std.specs.Result.{is_err}
+use Rattle.network_model.specs.declared.step.Refusal.{Refusal}
+use Rattle.simulation.specs.Simulation.{simulation_refusal}
+use Rattle.timed_simulation.specs.declared.events.Change.{Change}
+use Rattle.timed_simulation.specs.declared.events.Event.{Event}
+use Rattle.timed_simulation.specs.declared.fault.TimeFault.TheVariants.{Refused}
+use Rattle.timed_simulation.specs.Timed.{Timed, after_event, with_change}
+use Rattle.timed_simulation.specs.Events.{next_event}
+use Rattle.timed_simulation.specs.Due.{IsDue, IsDoneUntil}
+use Rattle.timed_simulation.specs.Runs.{IsNext, IsStoppedAt, IsTimedRun, LeadsTo}
+use Rattle.timed_simulation.proofs.Runs.{run_more, run_none}
+use Rattle.timing.specs.declared.mark.Begun.{Begun}
+use Rattle.timing.specs.Runs.{IsBegun, Leads, with_changes}
+
+-- ---- one run after another
+
+run_on : (es : List Event) (old mid new : Timed) (done : ℕ) → IsTimedRun old mid done → LeadsTo mid es new → IsTimedRun old new (done + length es)
+run_on [] old mid new done run leads =
+    let same : done ≡ done + length {A = Event} [] = omega arith in
+    subst (λ u. IsTimedRun old u (done + length {A = Event} [])) leads (subst (IsTimedRun old mid) same run)
+run_on (e ∷ es) old mid new done run leads =
+    let one = run_more old mid (after_event mid e) done e run leads.0 refl in
+    let same : (done + 1) + length es ≡ done + length (e ∷ es) = omega arith in
+    subst (IsTimedRun old new) same (run_on es old (after_event mid e) new (done + 1) one leads.1)
+
+pub runs_on : (old mid new : Timed) (a b : ℕ) → IsTimedRun old mid a → IsTimedRun mid new b → (n : ℕ) × IsTimedRun old new n
+runs_on old mid new a b one two = (a + length two.events, run_on two.events old mid new a one two.leads)
+
+-- ---- changes
+
+pub leads_none : (t : Timed) → Leads t [] t
+leads_none t = (0, run_none t)
+
+pub leads_on : (t : Timed) (bs : List Begun) (u v : Timed) (n : ℕ) → Leads t bs u → IsTimedRun u v n → Leads t bs v
+leads_on t [] u v n leads run = runs_on t u v leads.0 n leads.1 run
+leads_on t (b ∷ bs) u v n leads run = (leads.0, leads.1, leads.2, leads.3, leads.4, leads_on leads.1 bs u v n leads.5 run)
+
+pub leads_push : (t : Timed) (bs : List Begun) (u v : Timed) (b : Begun) → Leads t bs u → IsBegun u b v → Leads t (bs ++ b ∷ []) v
+leads_push t [] u v b leads begun = (u, v, leads.0, leads.1, begun, (0, run_none v))
+leads_push t (x ∷ xs) u v b leads begun = (leads.0, leads.1, leads.2, leads.3, leads.4, leads_push leads.1 xs u v b leads.5 begun)
+
+-- ---- the next event
+
+-- what was to be done, and is not to be done any more, was done
+pub one_done : (t u : Timed) (e : Event) (n : ℕ) → next_event t ≡ Some e → IsDue t e → IsTimedRun t u n → n ≤ 1 → IsDoneUntil e.moment u ⊎ (n ≡ 1) → IsNext t e × (u ≡ after_event t e)
+one_done t u e n next due run few stop = go run.events run.count run.leads
+  where
+    go : (es : List Event) → length es ≡ n → LeadsTo t es u → IsNext t e × (u ≡ after_event t e)
+    go [] count leads = elim stop [
+      | inl until ↦ absurd (omega (arith, until e (subst (λ v. IsDue v e) leads due)))
+      | inr one ↦ absurd (omega (arith, count, one))
+    ]
+    go (x ∷ []) count leads =
+        let same : x ≡ e = ap (λ o. unwrap_or o e) (sym (leads.0).next ∙ next) in
+        (subst (IsNext t) same leads.0, sym leads.1 ∙ ap (after_event t) same)
+    go (x ∷ y ∷ ys) count leads = absurd (omega (arith, count, few))
+
+-- a run of no event changes nothing
+pub none_done : (t u : Timed) (n : ℕ) → IsTimedRun t u n → n ≡ 0 → u ≡ t
+none_done t u n run none = go run.events run.count run.leads
+  where
+    go : (es : List Event) → length es ≡ n → LeadsTo t es u → u ≡ t
+    go [] count leads = sym leads
+    go (x ∷ xs) count leads = absurd (omega (arith, count, none))
+
+-- why the next event was not done, if it was not for want of memory
+pub refused_as : (t : Timed) (e : Event) (refusal : Refusal) → next_event t ≡ Some e → IsStoppedAt t (Refused refusal) → refusal ≢ Refusal.NoMemory → simulation_refusal t.simulation e.step ≡ Some refusal
+refused_as t e refusal next stopped other =
+    let same : stopped.event ≡ e = ap (λ o. unwrap_or o e) (sym stopped.next ∙ next) in
+    elim (subst (λ (x : Event). (refusal ≡ Refusal.NoMemory) ⊎ (simulation_refusal t.simulation x.step ≡ Some refusal)) same stopped.cause.1) [
+      | inl memory ↦ absurd (other memory)
+      | inr is ↦ is
+    ]
+
+-- ---- changes that are given
+
+-- one more is given
+given_more : (cs : List Change) (i : ℕ) (d : Change) (t : Timed) → i < length cs
+    → with_changes (drop i cs) t ≡ with_changes (drop (suc i) cs) (with_change (get_or cs i d) t)
+given_more [] i d t within = absurd (omega (arith, within))
+given_more (c ∷ cs) zero d t within = refl
+given_more (c ∷ cs) (suc i) d t within = given_more cs i d t (omega (arith, within))
+
+-- what was done, where it was not refused
+on_ok : {X E : Type 0} (r : Result X E) (P : Type 0) → false ≡ is_err r → OnOk r P → P
+on_ok (Ok x) P ok holds = holds
+on_ok (Err e) P ok holds = absurd (true≢false (sym ok))
+
+-- what follows of it
+pub on_ok_more : {X E : Type 0} (r : Result X E) (P Q : Type 0) → (P → Q) → OnOk r P → OnOk r Q
+on_ok_more (Ok x) P Q more holds = more holds
+on_ok_more (Err e) P Q more holds = tt
+
+pub given_at : {E : Type 0} (cs : List Change) (i : ℕ) (c : Change) (r : Result ⊤ E) (t u wanted : Timed) → i < length cs → c ≡ get_or cs i c
+    → with_changes (drop i cs) t ≡ wanted → false ≡ is_err r → OnOk r (u ≡ with_change c t) → with_changes (drop (i + 1) cs) u ≡ wanted
+given_at cs i c r t u wanted within is so_far ok done =
+    let next : suc i ≡ i + 1 = omega arith in
+    subst (λ n. with_changes (drop n cs) u ≡ wanted) next
+    (ap (with_changes (drop (suc i) cs)) (on_ok r (u ≡ with_change c t) ok done ∙ ap (λ x. with_change x t) is) ∙ sym (given_more cs i c t within) ∙ so_far)

@@ -1,0 +1,6 @@
+pub mod Numbers
+pub mod Documents
+pub mod Listed
+pub mod Leading
+pub mod Reading
+pub mod Timing

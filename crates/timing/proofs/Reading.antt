@@ -1,0 +1,22 @@
+-- Lines that are read to the last.
+use Rattle.std.proofs.Common.{◌≡◌, ℕ, ◌≤◌, ◌<◌, zero, suc, List, [], ◌∷◌, All, get_or, length, String, string_bytes, Bool, true, false, not, true≢false, refl, subst, arith, take_all}
+use Rattle.std.specs.List.{AllZip}
+use Rattle.script.proofs.Common.{length-map, Text, texts, ReadsFirst}
+
+pub all_read : {X Z : Type 0} (Says : Text → X → Type 0) (lines : List (String Z)) (items : List X) (i : ℕ) → ReadsFirst Says (texts lines) items → length items ≡ i → length lines ≤ i
+    → AllZip Says (texts lines) items
+all_read Says lines items i reads count past =
+    subst (λ ls. AllZip Says ls items) (take_all (length items) (texts lines) (omega (arith, count, past, length-map lines string_bytes))) reads
+
+-- what holds of each item that a line says holds of all items
+pub all_said : {X : Type 0} (Says : Text → X → Type 0) (P : X → Type 0) (lines : List Text) (items : List X) → ((line : Text) (x : X) → Says line x → P x) → AllZip Says lines items → All P items
+all_said Says P [] [] each says i d within = absurd (omega (arith, within))
+all_said Says P [] (x ∷ xs) each says i d within = absurd says
+all_said Says P (line ∷ lines) [] each says i d within = absurd says
+all_said Says P (line ∷ lines) (x ∷ xs) each says zero d within = each line x says.0
+all_said Says P (line ∷ lines) (x ∷ xs) each says (suc i) d within = all_said Says P lines xs each says.1 i d (omega (arith, within))
+
+-- what is not so
+pub not_so : (b : Bool) → true ≡ not b → b ≡ false
+not_so false is = refl
+not_so true is = absurd (true≢false is)

@@ -1,0 +1,34 @@
+-- How a run in simulated time ends.
+use Rattle.std.specs.Prelude.{◌≡◌, ◌≤◌, ◌⊎◌, List, length}
+use Rattle.network_model.specs.World.{Network}
+use Rattle.texts.specs.Words.{Text}
+use Rattle.script.specs.Reading.{Parts}
+use Rattle.plans.specs.declared.fault.Fault.{Fault}
+use Rattle.plans.specs.Faults.{most_bytes}
+use Rattle.plans.specs.Scenarios.{IsScenario, StopsReading, network_read}
+use Rattle.timed_simulation.specs.Timed.{Timed, opening_timed}
+use Rattle.timed_simulation.specs.Runs.{IsAtRest}
+use Rattle.timing.specs.declared.times.Times.{Times}
+use Rattle.timing.specs.declared.mark.Begun.{Begun}
+use Rattle.timing.specs.Runs.{Leads, with_changes}
+use Rattle.timing.specs.Times.{IsTimes}
+
+-- a network with these delays was given these changes. Each was done or refused, and it came to rest
+pub record RunsTimes (n : Network) (times : Times) : Type 0 where
+  pub begun : List Begun
+  pub end : Timed
+  pub leads : Leads (with_changes times.changes.items (opening_timed n times.links.items times.routers.items)) begun end
+  pub rest : IsAtRest end
+
+-- the network of a scenario was run to rest with the delays and the changes of a document of times
+pub record IsTimedToEnd (bytes lines : Text) : Type 0 where
+  pub short : length bytes ≤ most_bytes
+  pub parts : Parts
+  pub scenario : IsScenario bytes parts
+  pub times : Times
+  pub says : IsTimes parts.names (network_read parts) lines times
+  pub runs : RunsTimes (network_read parts) times
+
+-- why a run ends before: for its scenario; or else for its document of times, or for an event that cannot be done
+abbrev pub StopsTime : Text → Fault → Type 0
+StopsTime bytes fault = StopsReading bytes fault ⊎ ((length bytes ≤ most_bytes) × (parts : Parts) × IsScenario bytes parts)

@@ -1,0 +1,33 @@
+-- Runs in which changes are done, or refused and taken off.
+use Rattle.std.specs.Prelude.{◌≡◌, ℕ, true, List, [], ◌∷◌, drop, Some, MatchOption}
+use Rattle.network_model.specs.Turns.{is_settled}
+use Rattle.simulation.specs.Simulation.{simulation_refusal}
+use Rattle.timed_simulation.specs.declared.events.Change.{Change}
+use Rattle.timed_simulation.specs.Timed.{Timed, after_event, with_change, world_of}
+use Rattle.timed_simulation.specs.Events.{next_event}
+use Rattle.timed_simulation.specs.Runs.{IsNext, IsTimedRun}
+use Rattle.timing.specs.declared.mark.Mark.{Mark}
+use Rattle.timing.specs.declared.mark.Begun.{Begun}
+
+-- how far a run is
+abbrev pub mark_of : Timed → Mark
+mark_of t = record { now = t.clock; steps = (t.simulation).steps; sent = (t.simulation).sent; rests = is_settled (world_of t) }
+
+-- with these changes given, one after another
+abbrev pub with_changes : List Change → Timed → Timed
+with_changes [] t = t
+with_changes (c ∷ cs) t = with_changes cs (with_change c t)
+
+-- a change is what is done next. It is done; or its step is refused for this reason, and it is taken off
+pub record IsBegun (t : Timed) (b : Begun) (u : Timed) : Type 0 where
+  pub next : next_event t ≡ Some b.event
+  pub given : (b.event).given ≡ true
+  pub before : b.before ≡ mark_of t
+  pub ends : MatchOption b.refusal
+      (IsNext t b.event × (u ≡ after_event t b.event))
+      (λ refusal. (simulation_refusal t.simulation (b.event).step ≡ Some refusal) × (u ≡ record t { changes = drop 1 t.changes }))
+
+-- events, each the next one, lead to the first change, and behind it to the others, and from the last on
+abbrev pub Leads : Timed → List Begun → Timed → Type 0
+Leads t [] u = (done : ℕ) × IsTimedRun t u done
+Leads t (b ∷ bs) u = (mid next : Timed) × (done : ℕ) × IsTimedRun t mid done × IsBegun mid b next × Leads next bs u

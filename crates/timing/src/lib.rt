@@ -1,0 +1,48 @@
+//! Runs a network in simulated time, as a scenario and a document of times say, and tells what comes of each
+//! change.
+//!
+//! The problem: a scenario says what a network is, and its script in which order steps are done. Nothing there
+//! says how long a message is on its way. So whoever wants to know when the network is at rest again gives a
+//! second document, with the delays, and with the changes at their moments:
+//!
+//! ```text
+//! links = ["a b 500 700"]          # microseconds from a to b, and from b to a
+//! routers = ["a 20"]               # from when a has something to publish until it publishes
+//! changes = ["0 up a b", "1000000 down a b"]
+//! link = 1000                      # of links that are not listed
+//! router = 100                     # of routers that are not listed
+//! ```
+//!
+//! ```text
+//! let end = time(alloc, scenario, times, options, &mut out)?;
+//!
+//!   0 up a b: at rest 1760 later, 9 steps, 2 updates 0 queries 0 replies
+//!   1000000 down a b: ..
+//!   done: 18 steps, at rest at 1000700
+//! ```
+//!
+//! - [`time`] reads both documents, runs the network to rest, and prints a line for each change, in the order of
+//!   the moments.
+//! - A change that is refused is told, and taken off. The run goes on.
+//!
+//! What always holds: what is done is what the simulation of the network has to do next, each time
+//! (`Leads` in `specs/Runs.antt`). A change that is told as refused is refused so. The delays and the changes are
+//! those that the document says (`IsTimes` in `specs/Times.antt`), and at the end the network is at rest
+//! (`IsTimedToEnd` in `specs/Ends.antt`).
+//!
+//! What is tricky: no clause says that a document which is right is read, nor how a line is printed. Cases do.
+#![tactic(auto)]
+
+mod document;
+mod given;
+mod lines;
+mod mark;
+mod moment;
+mod run;
+mod tell;
+mod timed;
+mod times;
+
+pub use mark::{Begun, Mark};
+pub use timed::{TimeOptions, time};
+pub use times::{Times, read_times};

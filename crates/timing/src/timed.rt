@@ -1,0 +1,91 @@
+//! Runs the network of a scenario in simulated time.
+
+ghost use Rattle.std.specs.Prelude.{◌≡◌, All, IfErr, IfOk, OnOk, false, length};
+ghost use Rattle.coming_to_rest.specs.Worlds.{is_own};
+ghost use Rattle.plans.specs.Faults.{OfBytes};
+ghost use Rattle.timing.specs.Ends.{IsTimedToEnd, RunsTimes, StopsTime};
+
+use crate::mark::Mark;
+use crate::run::{give, run_changes};
+use crate::tell::{tell_changes, tell_end};
+use crate::times::{Times, read_times};
+use plans::{Cause, Fault, Plan, read_plan, read_text};
+use reports::{End, Printer};
+use script::Directory;
+use std::alloc::Global;
+use std::io::{Read, Write};
+use timed_simulation::{Change, TimedSimulation};
+use words::Format;
+use world::Network;
+
+/// How a run in simulated time is told of.
+#[derive(Clone, Copy, Debug, PartialEq, Eq)]
+pub struct TimeOptions {
+    /// How what is printed is written.
+    pub format: Format,
+}
+
+/// Reads a scenario and a document of times, runs the network until it is at rest, and tells what came of each
+/// change. Both are read whole before the first event is done, and the scenario's script is not done. A write
+/// that fails is lost.
+pub fn time<R, J, W>(
+    alloc: Global,
+    scenario: R,
+    times: J,
+    options: TimeOptions,
+    out: &mut W,
+) -> Result<End, Fault>
+where
+    R: Read + Drop,
+    J: Read + Drop,
+    W: Write,
+    ensures ok { IfOk result (λ end. (end ≡ End.Done) × OfBytes (R.remaining scenario) (λ bytes.
+        OfBytes (J.remaining times) (IsTimedToEnd bytes))) }
+    ensures fault { IfErr result (λ e. OfBytes (R.remaining scenario) (λ bytes. StopsTime bytes e)) }
+{
+    let text = read_text(alloc, scenario)?;
+    let Plan {
+        network,
+        directory,
+        commands: _,
+    } = read_plan(alloc, text.as_str())?;
+    let lines = read_text(alloc, times)?;
+    let times = read_times(alloc, directory.names(), &network, lines.as_str())?;
+    run(alloc, network, &directory, &times, options, out)?;
+    Ok(End::Done)
+}
+
+// Runs a network with these delays and changes.
+fn run<W: Write>(
+    alloc: Global,
+    network: Network,
+    directory: &Directory,
+    times: &Times,
+    options: TimeOptions,
+    out: &mut W,
+) -> Result<(), Cause>
+    requires links { length times.now.links.items ≡ length network.links }
+    requires routers { length times.now.routers.items ≡ network.routers }
+    requires changes { All (λ c. is_own c.step ≡ false) times.now.changes.items }
+    ensures { OnOk result (RunsTimes network times.now) }
+{
+    let mut timed = TimedSimulation::open(alloc, network, &times.links, &times.routers)?;
+    give(&mut timed, &times.changes)?;
+    let mut begun = Vec::new(alloc);
+    let ran = run_changes(&mut timed, &mut begun);
+    let end = Mark::of(&timed);
+    let printer = Printer {
+        directory,
+        format: options.format,
+    };
+    tell_changes(
+        &printer,
+        timed.simulation().network().links(),
+        &begun,
+        end,
+        out,
+    );
+    ran?;
+    tell_end(&printer, end, out);
+    Ok(())
+}

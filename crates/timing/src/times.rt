@@ -1,0 +1,115 @@
+//! Reads the delays of a network and its changes.
+
+ghost use Rattle.std.specs.Prelude.{◌≡◌, All, IfErr, IfOk, false, length};
+ghost use Rattle.coming_to_rest.specs.Worlds.{is_own};
+ghost use Rattle.timing.specs.Times.{AreLinkDelays, AreRouterDelays, IsTimes};
+ghost use Rattle.texts.specs.Words.{texts};
+
+use crate::document::{Document, read_document};
+use crate::given::values;
+use crate::lines::{read_changes, read_links, read_routers};
+use network_model::NoMemory;
+use plans::{Cause, TimesFault};
+use scenario::Fault;
+use script::Names;
+use std::alloc::Global;
+use timed_simulation::{Change, LinkDelays};
+use world::Network;
+
+/// The greatest number of changes.
+const MOST_CHANGES: usize = 10_000;
+
+/// What a document of times says of a network, all in microseconds.
+#[derive(Drop)]
+pub struct Times {
+    /// How long an item is on its way, by the numbers of the links.
+    pub links: Vec<LinkDelays>,
+    /// How long routers take to publish, by their numbers.
+    pub routers: Vec<u64>,
+    /// The changes, each at its moment, in the order in which they stand.
+    pub changes: Vec<Change>,
+}
+
+/// Reads the delays and the changes of a network whose routers have these names.
+pub fn read_times(
+    alloc: Global,
+    names: &Names,
+    network: &Network,
+    text: &str,
+) -> Result<Times, Cause>
+    ensures times { IfOk result (IsTimes names.now network.now text.now) }
+    ensures links { IfOk result (λ t. length t.links.items ≡ length network.now.links) }
+    ensures routers { IfOk result (λ t. length t.routers.items ≡ network.now.routers) }
+    ensures changes { IfOk result (λ t. All (λ c. is_own c.step ≡ false) t.changes.items) }
+{
+    let document = match read_document(alloc, text) {
+        Ok(document) => document,
+        Err(fault) => return Err(document_cause(fault)),
+    };
+    if document.changes.len() > MOST_CHANGES {
+        return Err(Cause::Times(TimesFault::TooLarge));
+    }
+    let links = link_delays(alloc, names, network, &document.links, document.link)?;
+    let routers = router_delays(alloc, names, network, &document.routers, document.router)?;
+    let mut changes = Vec::new(alloc);
+    read_changes(
+        names,
+        network.links(),
+        network.attachments(),
+        &mut changes,
+        &document.changes,
+    )?;
+    Ok(Times {
+        links,
+        routers,
+        changes,
+    })
+}
+
+// Why a text is no document of times.
+fn document_cause(fault: Fault) -> Cause {
+    match fault {
+        Fault::NoMemory => Cause::Memory(NoMemory),
+        _ => Cause::Times(TimesFault::Document { fault }),
+    }
+}
+
+// The delays of all links.
+fn link_delays(
+    alloc: Global,
+    names: &Names,
+    network: &Network,
+    lines: &[String],
+    other: u64,
+) -> Result<Vec<LinkDelays>, Cause>
+    ensures delays { IfOk result (λ v.
+        AreLinkDelays names.now network.now (texts lines.now) other v.items) }
+    ensures count { IfOk result (λ v. length v.items ≡ length network.now.links) }
+{
+    let mut given = Vec::new(alloc);
+    read_links(names, network.links(), &mut given, lines)?;
+    let other = LinkDelays {
+        to_a: other,
+        to_b: other,
+    };
+    let delays = values(alloc, network.links().len(), other, &given)?;
+    Ok(delays)
+}
+
+// The delays of all routers.
+fn router_delays(
+    alloc: Global,
+    names: &Names,
+    network: &Network,
+    lines: &[String],
+    other: u64,
+) -> Result<Vec<u64>, Cause>
+    ensures delays { IfOk result (λ v.
+        AreRouterDelays names.now network.now (texts lines.now) other v.items) }
+    ensures count { IfOk result (λ v. length v.items ≡ network.now.routers) }
+{
+    let mut given = Vec::new(alloc);
+    read_routers(names, &mut given, lines)?;
+    let delays = values(alloc, network.routers(), other, &given)?;
+    Ok(delays)
+}
