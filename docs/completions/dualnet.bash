@@ -6,7 +6,7 @@ _dualnet() {
     local numbers options
     COMPREPLY=()
     if [[ $COMP_CWORD == 1 ]]; then
-        mapfile -t COMPREPLY < <(compgen -W "check run replay explain shell help --help --version" -- "$word")
+        mapfile -t COMPREPLY < <(compgen -W "check run replay time explain shell help --help --version" -- "$word")
         return
     fi
     case $before in
@@ -29,6 +29,7 @@ _dualnet() {
     check) options="--explain --help" ;;
     run) options="--threads --workers --journal --explain --format --progress --help" ;;
     replay) options="--explain --format --progress --help" ;;
+    time) options="--explain --format --help" ;;
     shell) options="--journal --explain --format --help" ;;
     explain)
         numbers=$(seq 1 52)
@@ -36,7 +37,7 @@ _dualnet() {
         return
         ;;
     help)
-        mapfile -t COMPREPLY < <(compgen -W "check run replay explain shell help" -- "$word")
+        mapfile -t COMPREPLY < <(compgen -W "check run replay time explain shell help" -- "$word")
         return
         ;;
     *) return ;;
