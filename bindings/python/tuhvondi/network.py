@@ -492,6 +492,23 @@ class Whole(Owner):
         if status:
             raise refusal(status, BY_NETWORK, detail)
 
+    def _in_parts(self, most: Optional[int], call: Callable[[int, c_size_t], None]) -> Counts:
+        """Does at most so many steps, or all, some at a time, and answers how many steps and messages these were.
+        `call` does at most the number that it is given, and writes how many it has done. It raises a refusal."""
+        before = self.counts
+        left = math.inf if most is None else most
+        if left < 0:
+            raise ValueError(f"there are no {most} steps")
+        done = c_size_t()
+        while left > 0:
+            wanted = int(min(left, _AT_ONCE))
+            done.value = 0
+            call(wanted, done)
+            if done.value < wanted:
+                break
+            left -= wanted
+        return self.counts.since(before)
+
     def _parts_of(self, step: Step) -> "tuple[_library.StepParts, str]":
         """A step as the library has it, and what a refusal says of it."""
         kind, near = StepKind(step.kind), self._number(step.router)
@@ -929,22 +946,14 @@ class Network(Whole):
         Raises StepsSpent, NoMemory. The steps before stay done.
         """
         number_of("seed", seed, 2 ** 64 - 1)
-        before = self.counts
-        left = math.inf if most is None else most
-        if left < 0:
-            raise ValueError(f"there are no {most} steps")
-        done = c_size_t()
-        while left > 0:
-            wanted = int(min(left, _AT_ONCE))
-            done.value = 0
+
+        def settle(wanted: int, done: c_size_t) -> None:
             status = self._library.network_settle(self._at, seed, wanted, byref(done))
             if done.value:
                 self._done += b"".join(it.to_bytes(8, "little") for it in (_SETTLING, seed, done.value))
             self._need(status)
-            if done.value < wanted:
-                break
-            left -= wanted
-        return self.counts.since(before)
+
+        return self._in_parts(most, settle)
 
     def next_step(self, router: Name) -> Optional[Step]:
         """What a router has to do next: a release; if it has none, a publication; else a delivery from its

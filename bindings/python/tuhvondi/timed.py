@@ -2,13 +2,12 @@
 
 from __future__ import annotations
 
-import math
 import operator
 from ctypes import byref, c_size_t, c_uint8, c_uint64
 from typing import Any, Callable, Iterable, Mapping, NamedTuple, Optional, Tuple, Union
 
 from . import _library, graphs
-from .network import _AT_ONCE, Attachments, Counts, LinkGiven, Name, Step, StepKind, Whole
+from .network import Attachments, Counts, LinkGiven, Name, Step, StepKind, Whole
 from .rows import number_of
 
 # The delay from one router to another: a number for all, by the two names, or a function of them.
@@ -221,22 +220,13 @@ class TimedNetwork(Whole):
         return self._run(most, lambda wanted, done: self._library.timed_run_to_rest(self._at, wanted, done))
 
     def _run(self, most: Optional[int], call: Callable[[int, Any], int]) -> Counts:
-        before = self.counts
-        left = math.inf if most is None else most
-        if left < 0:
-            raise ValueError(f"there are no {most} events")
-        done = c_size_t()
-        while left > 0:
-            wanted = int(min(left, _AT_ONCE))
-            done.value = 0
+        def run(wanted: int, done: c_size_t) -> None:
             status = call(wanted, byref(done))
             if status:
                 event = self.next_event
                 self._need(status, str(event) if event else "")
-            if done.value < wanted:
-                break
-            left -= wanted
-        return self.counts.since(before)
+
+        return self._in_parts(most, run)
 
     # ---- what time it is
 
