@@ -1,4 +1,4 @@
-/* Readers that never wait, in C11 atomics: the protocol of crates/lookup_ffi (board.rt, reader.rt, writer.rt), for
+/* Readers that never wait, in C11 atomics: the protocol of crates/lookup_calls (board.rt, reader.rt, writer.rt), for
  * ThreadSanitizer, which sees no accesses of the archive, and for times.
  *
  *     trials/readers [LIB]       runs it in all its forms

@@ -1,4 +1,4 @@
-/* Two copies of a table, one writer, two readers: the protocol of board.rt, reader.rt and writer.rt of crates/lookup_ffi,
+/* Two copies of a table, one writer, two readers: the protocol of board.rt, reader.rt and writer.rt of crates/lookup_calls,
  * in every order of its steps. trials/readers runs it.
  *
  * Errors that -D plants: SKIP_CLEAR, a writer that takes no pages out; FREE_WHILE_READ, one that takes them from

@@ -29,8 +29,8 @@ use Rattle.std_heap.proofs.Global.TheLaws as global_laws
 use Rattle.c_interface.specs.Handles.{held_owns}
 use Rattle.c_interface.proofs.Handles as handles
 use Rattle.c_interface.proofs.Handles.{HeapArg, bits, heap_bits, heap_fits, heap_spelled, tokens}
-use Rattle.lookup_ffi.specs.contracts.shared.Shared as shared
-use Rattle.lookup_ffi.proofs.shared.Shared.TheLaws as shared_laws
+use Rattle.lookup_calls.specs.contracts.shared.Shared as shared
+use Rattle.lookup_calls.proofs.shared.Shared.TheLaws as shared_laws
 use Rattle.lookup_ffi.specs.contracts.handle.ImageHandle as handle
 use Rattle.lookup_ffi.proofs.Destruct++none.drop.Symbol as heap_drop
 

@@ -29,8 +29,8 @@ use Rattle.std_heap.proofs.Global.TheLaws as global_laws
 use Rattle.c_interface.specs.Handles.{held_owns}
 use Rattle.c_interface.proofs.Handles as handles
 use Rattle.c_interface.proofs.Handles.{HeapArg, bits, heap_bits, heap_fits, heap_spelled, tokens}
-use Rattle.lookup_ffi.specs.contracts.writer.ImageWriter as content
-use Rattle.lookup_ffi.proofs.writer.ImageWriter.TheLaws as content_laws
+use Rattle.lookup_calls.specs.contracts.writer.ImageWriter as content
+use Rattle.lookup_calls.proofs.writer.ImageWriter.TheLaws as content_laws
 use Rattle.lookup_ffi.specs.contracts.writer_handle.WriterHandle as handle
 use Rattle.lookup_ffi.proofs.Destruct++none.drop.Symbol as heap_drop
 

@@ -3,7 +3,7 @@
 ghost use Rattle.std.specs.Prelude.{◌≡◌, MatchOption, None, Some};
 ghost use Rattle.row_words.specs.Rows.{WordTable};
 
-use crate::shared::Shared;
+use lookup_calls::Shared;
 use std::alloc::Global;
 use std::marker::Model;
 use std::mem::replace;
@@ -21,7 +21,7 @@ pub struct ImageHandle {
 
 impl Model for ImageHandle {
     ghost use Rattle.c_interface.specs.Handles.{held_owns};
-    ghost use Rattle.lookup_ffi.specs.contracts.shared.Shared.{the_row as image_row};
+    ghost use Rattle.lookup_calls.specs.contracts.shared.Shared.{the_row as image_row};
 
     ghost also_owns = { λ h. held_owns image_row h.alloc h.holds h.image h.value };
 }

@@ -17,19 +17,20 @@
 //!   taken out of it (`tuhvondi_image_remove`).
 //! - Addresses are looked up many at a time. Rows are counted, and listed from a cursor on, which is a
 //!   prefix.
-//! - A row can have a word of the caller's own, beside its entry (`src/word_calls.rt`). An image without words stays
-//!   as small and as fast as one that could have none (`src/kept.rt`).
+//! - A row can have a word of the caller's own, beside its entry (`src/word_calls.rt`).
+//! - A writer publishes changes of an image while readers look up in it (`src/readers.rt`).
 //! - Two handles can *share* one image, and each looks up in a thread of its own. While it is shared it is
 //!   not patched (9). A *copy* has the same rows in memory of its own.
 //!
 //! What always holds: the answers are those of the longest match over the rows that were given, set in order
-//! (`answer_rows` and `answer_words` in `specs/Rows.antt`). The first row with a fault gives the status (`first_row_fault`), and
-//! comes before an empty handle. A refused call leaves the image of its handle, and the answers, as they are.
+//! (`answer_rows` and `answer_words` in `specs/Rows.antt` of `lookup_calls`). The first row with a fault gives
+//! the status (`first_row_fault` there), and comes before an empty handle. A refused call leaves the image of
+//! its handle, and the answers, as they are.
 //!
 //! What is tricky: a handle is for one call at a time, also for a look-up. The reason is that a call takes
-//! the box out of the handle, and puts it back. So only three small functions touch a pointer
-//! (`src/handle.rt`). A program that may not stop its readers makes a copy, patches that, and lets readers
-//! change over: `examples/c/two_copies.c`.
+//! the box out of the handle, works on what is in it (`lookup_calls`), and puts it back. So only three small
+//! functions of a handle touch its pointer (`src/handle.rt`), and these are proved by hand. A program that may
+//! not stop its readers has a writer publish: `examples/c/two_copies.c`.
 //!
 //! The proofs take for granted that C keeps the rules of the header. For example, lists are as long as a call
 //! is told, and no two arguments overlap.
@@ -38,37 +39,26 @@
 ghost use Rattle.std.specs.Prelude.{◌≡◌, ◌≢◌, ◌<◌, None, Some, OnOk, OnErr, IfOk, IfErr, IfSome, IfNone, length};
 ghost use Rattle.std.specs.Option.{option_map};
 ghost use Rattle.lookup_ffi.specs.Handles.{handle_image};
-ghost use Rattle.lookup_ffi.specs.Images.{new_image, patched};
+ghost use Rattle.lookup_calls.specs.Images.{new_image, patched};
 ghost use Rattle.c_interface.specs.Faults.{fault_number, IsStatusBy};
-ghost use Rattle.lookup_ffi.specs.Faults.{IsApplyStatus, IsGiveStatus, IsLookupStatus};
-ghost use Rattle.lookup_ffi.specs.Rows.{answer_rows, first_row_fault};
-ghost use Rattle.lookup_ffi.specs.Prefixes.{cursor_fault, cursor_prefix, first_block_fault, listed_row, rows_status, withdrawn, IsFilledIn, IsRemoveStatus};
-ghost use Rattle.lookup_ffi.specs.Tables.{plain_rows};
+ghost use Rattle.lookup_calls.specs.Faults.{IsApplyStatus, IsGiveStatus, IsLookupStatus};
+ghost use Rattle.lookup_calls.specs.Rows.{answer_rows, first_row_fault};
+ghost use Rattle.lookup_calls.specs.Prefixes.{cursor_fault, cursor_prefix, first_block_fault, listed_row, rows_status, withdrawn, IsFilledIn, IsRemoveStatus};
+ghost use Rattle.lookup_calls.specs.Tables.{plain_rows};
 
 use c_interface::{Fault, Row, status};
+use lookup_calls::{
+    Block, check_blocks, check_rows, copy_image, image_of_rows, list_rows, look_up, share_image,
+};
 use std::alloc::Global;
 
-mod board;
-mod change;
 mod handle;
-mod images;
-mod kept;
-mod past;
-mod patch;
-mod prefixes;
-mod reader;
 mod reader_handle;
 mod readers;
-mod rows;
-mod shared;
 mod word_calls;
-mod writer;
 mod writer_handle;
 
 use handle::ImageHandle;
-use images::{copy_image, image_of_rows, share_image};
-use prefixes::{Block, check_blocks, list_rows};
-use rows::{answer_all, check_rows};
 
 // Makes an image of rows and puts it into a handle.
 fn make(alloc: Global, rows: &[Row], image: &mut ImageHandle) -> Result<(), Fault>
@@ -232,35 +222,6 @@ pub extern "C" fn tuhvondi_image_copy(
     status(give(alloc, image, other, true))
 }
 
-// Answers addresses by a handle's image.
-fn look_up(
-    alloc: Global,
-    image: &mut ImageHandle,
-    addrs: &[u32],
-    answers: &mut [Row],
-) -> Result<(), Fault>
-    ensures image { handle_image image.new ≡ handle_image image.old }
-    ensures ok { OnOk result
-        (IsLookupStatus (handle_image image.old) (length addrs.now) (length answers.old) 0) }
-    ensures answers { OnOk result
-        (IfSome (handle_image image.old) (λ i. answers.new ≡ answer_rows i addrs.now)) }
-    ensures unchanged { OnErr result (answers.new ≡ answers.old) }
-    ensures err { IfErr result (λ f. IsLookupStatus
-        (handle_image image.old) (length addrs.now) (length answers.old) (fault_number f)) }
-{
-    let Some(held) = image.take(alloc) else {
-        return Err(Fault::Empty);
-    };
-    let outcome = if addrs.len() == answers.len() {
-        answer_all(held.get(), addrs, answers);
-        Ok(())
-    } else {
-        Err(Fault::BadCount)
-    };
-    image.put(held);
-    outcome
-}
-
 /// Writes, for each address, the row of the image with the longest prefix that covers it, or kind 3
 /// where none does. It takes no memory. 7: the handle holds no image. 8: there are not as many answers
 /// as addresses. Refused, it writes nothing.
@@ -278,7 +239,12 @@ pub extern "C" fn tuhvondi_image_lookup(
     ensures refused { result ≢ 0 → answers.new ≡ answers.old }
     ensures image { handle_image image.new ≡ handle_image image.old }
 {
-    status(look_up(alloc, image, addrs, answers))
+    let Some(held) = image.take(alloc) else {
+        return Fault::Empty.number();
+    };
+    let outcome = look_up(held.get(), addrs, answers);
+    image.put(held);
+    status(outcome)
 }
 
 /// Writes which publication of its router the image is; 0 for a new one. 7: the handle holds no image,

@@ -1,9 +1,9 @@
 //! What C holds of a reader. No other module sees its pointer.
 
 ghost use Rattle.std.specs.Prelude.{◌≡◌, MatchOption, None, Some};
-ghost use Rattle.lookup_ffi.specs.Histories.{History};
+ghost use Rattle.lookup_calls.specs.Histories.{History};
 
-use crate::reader::ImageReader;
+use lookup_calls::ImageReader;
 use std::alloc::Global;
 use std::marker::Model;
 use std::mem::replace;
@@ -21,13 +21,13 @@ pub struct ReaderHandle {
 
 impl Model for ReaderHandle {
     ghost use Rattle.c_interface.specs.Handles.{held_owns};
-    ghost use Rattle.lookup_ffi.specs.contracts.reader.ImageReader.{the_row as reader_row};
+    ghost use Rattle.lookup_calls.specs.contracts.reader.ImageReader.{the_row as reader_row};
 
     ghost also_owns = { λ h. held_owns reader_row h.alloc h.holds h.reader h.value };
 }
 
 impl ReaderHandle {
-    ghost use Rattle.lookup_ffi.specs.Readers.{handle_reader};
+    ghost use Rattle.lookup_ffi.specs.Handles.{handle_reader};
 
     /// A handle that holds no reader.
     pub fn none(alloc: Global) -> ReaderHandle

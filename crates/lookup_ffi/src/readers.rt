@@ -1,38 +1,20 @@
 //! The calls of C by which one thread changes an image while others look up in it, under no lock.
 
-ghost use Rattle.std.specs.Prelude.{◌≡◌, ◌≢◌, ◌≤◌, ◌∷◌, [], IfErr, IfOk, IfSome, IsOkUnless, IsSome, None, OnErr, OnOk, Some, is_some, length};
+ghost use Rattle.std.specs.Prelude.{◌≡◌, ◌≢◌, ◌∷◌, [], IfErr, IfSome, IsSome, None, OnErr, OnOk, Some, is_some, length};
 ghost use Rattle.c_interface.specs.Faults.{first_of, fault_number};
-ghost use Rattle.lookup_ffi.specs.Faults.{IsPatchFault};
-ghost use Rattle.lookup_ffi.specs.Handles.{handle_image};
-ghost use Rattle.lookup_ffi.specs.Histories.{GoesOn, changed, last_image, with_image};
-ghost use Rattle.lookup_ffi.specs.Prefixes.{first_block_fault};
-ghost use Rattle.lookup_ffi.specs.Readers.{handle_reader, handle_writer, IsOpenStatus, IsPublishStatus, IsReadStatus, IsSeatStatus};
-ghost use Rattle.lookup_ffi.specs.Rows.{answer_rows, first_row_fault};
-ghost use Rattle.lookup_ffi.specs.Tables.{plain_rows};
+ghost use Rattle.lookup_calls.specs.Histories.{GoesOn, changed, last_image, with_image};
+ghost use Rattle.lookup_calls.specs.Prefixes.{first_block_fault};
+ghost use Rattle.lookup_calls.specs.Readers.{IsOpenStatus, IsPublishStatus, IsReadStatus, IsSeatStatus};
+ghost use Rattle.lookup_calls.specs.Rows.{answer_rows, first_row_fault};
+ghost use Rattle.lookup_calls.specs.Tables.{plain_rows};
+ghost use Rattle.lookup_ffi.specs.Handles.{handle_image, handle_reader, handle_writer};
 
-use crate::change::Change;
 use crate::handle::ImageHandle;
-use crate::kept::Kept;
-use crate::prefixes::{Block, check_blocks};
-use crate::reader::ImageReader;
 use crate::reader_handle::ReaderHandle;
-use crate::rows::{check_rows, plain_rows};
-use crate::writer::ImageWriter;
 use crate::writer_handle::WriterHandle;
 use c_interface::{Fault, Row, status};
+use lookup_calls::{Block, check_blocks, check_rows, publish_rows, read, reader_of, writer_of};
 use std::alloc::Global;
-
-/// The most readers that a writer may have.
-const MOST_READERS: usize = 1024;
-
-// A writer in a box of its own.
-fn make_writer(alloc: Global, image: &Kept, readers: usize) -> Result<Box<ImageWriter>, Fault>
-    requires { readers ≤ 1024 }
-    ensures ok { IfOk result (λ w. w.value.images ≡ image.now ∷ []) }
-    ensures err { IsOkUnless result Fault.NoMemory }
-{
-    Ok(Box::new(alloc, ImageWriter::new(alloc, image, readers)?)?)
-}
 
 // Makes a writer of an image like a handle's.
 fn open(
@@ -53,11 +35,7 @@ fn open(
     let Some(held) = image.take(alloc) else {
         return Err(Fault::Empty);
     };
-    let made = if readers > MOST_READERS {
-        Err(Fault::BadCount)
-    } else {
-        make_writer(alloc, held.get(), readers)
-    };
+    let made = writer_of(alloc, held.get(), readers);
     image.put(held);
     writer.put(made?);
     Ok(())
@@ -80,25 +58,6 @@ pub extern "C" fn tuhvondi_writer_new(
     ensures image { handle_image image.new ≡ handle_image image.old }
 {
     status(open(alloc, image, readers, writer))
-}
-
-// Publishes rows without words and prefixes. Refused, it changes nothing.
-fn publish_rows(
-    alloc: Global,
-    writer: &mut ImageWriter,
-    generation: u64,
-    rows: &[Row],
-    prefixes: &[Block],
-) -> Result<(), Fault>
-    requires rows { first_row_fault rows.now ≡ None }
-    requires prefixes { first_block_fault prefixes.now ≡ None }
-    ensures ok { OnOk result (IfSome (last_image writer.old.images) (λ i. writer.new
-        ≡ with_image writer.old (changed generation (plain_rows rows.now) prefixes.now i))) }
-    ensures unchanged { OnErr result (writer.new ≡ writer.old) }
-    ensures err { IfErr result IsPatchFault }
-{
-    let rows = plain_rows(alloc, rows)?;
-    writer.publish(Change::of(alloc, generation, rows, prefixes)?)
 }
 
 // Publishes a change of a handle's writer.
@@ -161,21 +120,10 @@ fn seat(alloc: Global, writer: &mut WriterHandle, reader: &mut ReaderHandle) -> 
     let Some(held) = writer.take(alloc) else {
         return Err(Fault::Empty);
     };
-    let made = match held.reader() {
-        Ok(one) => box_reader(alloc, one),
-        Err(fault) => Err(fault),
-    };
+    let made = reader_of(alloc, &held);
     writer.put(held);
     reader.put(made?);
     Ok(())
-}
-
-// A reader in a box of its own.
-fn box_reader(alloc: Global, reader: ImageReader) -> Result<Box<ImageReader>, Fault>
-    ensures ok { IfOk result (λ b. b.value ≡ reader) }
-    ensures err { IsOkUnless result Fault.NoMemory }
-{
-    Ok(Box::new(alloc, reader)?)
 }
 
 /// Has a reader's handle hold a reader of the writer; the one that it held is freed. 7: the handle holds
@@ -192,41 +140,6 @@ pub extern "C" fn tuhvondi_writer_reader(
     ensures writer { handle_writer writer.new ≡ handle_writer writer.old }
 {
     status(seat(alloc, writer, reader))
-}
-
-// Answers addresses by a handle's reader.
-fn read(
-    alloc: Global,
-    reader: &mut ReaderHandle,
-    addrs: &[u32],
-    answers: &mut [Row],
-    generation: &mut u64,
-) -> Result<(), Fault>
-    ensures kept { is_some (handle_reader reader.new) ≡ is_some (handle_reader reader.old) }
-    ensures later { IfSome (handle_reader reader.old)
-        (λ h. IfSome (handle_reader reader.new) (λ k. GoesOn h k)) }
-    ensures ok { OnOk result
-        (IsReadStatus (handle_reader reader.old) (length addrs.now) (length answers.old) 0) }
-    ensures answers { OnOk result (IfSome (handle_reader reader.new)
-        (λ h. IfSome (last_image h.images)
-        (λ i. (answers.new ≡ answer_rows i addrs.now) × (generation.new ≡ i.generation)))) }
-    ensures unchanged { OnErr result
-        ((answers.new ≡ answers.old) × (generation.new ≡ generation.old)) }
-    ensures err { IfErr result (λ f. IsReadStatus
-        (handle_reader reader.old) (length addrs.now) (length answers.old) (fault_number f)) }
-{
-    let Some(mut held) = reader.take(alloc) else {
-        return Err(Fault::Empty);
-    };
-    let outcome = if addrs.len() != answers.len() {
-        Err(Fault::BadCount)
-    } else if held.lookup(addrs, answers, generation) {
-        Ok(())
-    } else {
-        Err(Fault::Shared)
-    };
-    reader.put(held);
-    outcome
 }
 
 /// Writes, for each address, the row of the image that is published with the longest prefix that covers
@@ -252,7 +165,12 @@ pub extern "C" fn tuhvondi_reader_lookup(
     ensures refused { result ≢ 0
         → (answers.new ≡ answers.old) × (generation.new ≡ generation.old) }
 {
-    status(read(alloc, reader, addrs, answers, generation))
+    let Some(mut held) = reader.take(alloc) else {
+        return Fault::Empty.number();
+    };
+    let outcome = read(&mut held, addrs, answers, generation);
+    reader.put(held);
+    status(outcome)
 }
 
 /// Frees the writer, if there is one. Its readers go on with the image that was published last.

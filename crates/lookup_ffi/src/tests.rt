@@ -3,7 +3,6 @@
 ghost use Rattle.std.specs.Prelude.{◌-◌, ◌^◌, ◌<◌};
 
 use crate::handle::ImageHandle;
-use crate::prefixes::Block;
 use crate::reader_handle::ReaderHandle;
 use crate::readers::{
     tuhvondi_reader_free, tuhvondi_reader_lookup, tuhvondi_writer_free, tuhvondi_writer_new,
@@ -16,6 +15,7 @@ use crate::{
     tuhvondi_image_row_count, tuhvondi_image_rows, tuhvondi_image_share,
 };
 use c_interface::{Fault, Row};
+use lookup_calls::Block;
 use std::alloc::Global;
 use std::test::Fail;
 
@@ -154,7 +154,7 @@ fn a_copy_changes_alone(rt: HostRuntime) {
     let mut image = ImageHandle::none(alloc);
     let mut other = ImageHandle::none(alloc);
     assert_eq!(rt; tuhvondi_image_copy(alloc, &mut image, &mut other), 7);
-    let rows = [via(0x0a00_0000, 8, 1)];
+    let rows = [via(0x0a00_0000, 8, 1), via(0x0b00_0000, 8, 1)];
     assert_eq!(rt; tuhvondi_image_new(alloc, &rows, &mut image), 0);
     assert_eq!(rt; tuhvondi_image_copy(alloc, &mut image, &mut other), 0);
     let patch = [via(0x0a00_0000, 8, 2)];
@@ -167,6 +167,7 @@ fn a_copy_changes_alone(rt: HostRuntime) {
         answer(alloc, &mut other, 0x0a00_0001),
         Ok(via(0x0a00_0000, 8, 2))
     );
+    assert_eq!(rt; answer(alloc, &mut other, 0x0b00_0001), Ok(rows[1]));
     assert_eq!(rt; tuhvondi_image_apply(alloc, &mut image, 1, &patch), 0);
 }
 

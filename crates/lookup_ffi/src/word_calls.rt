@@ -6,24 +6,23 @@
 ghost use Rattle.std.specs.Prelude.{◌≡◌, ◌≢◌, None, Some, OnOk, OnErr, IfOk, IfErr, IfSome, is_some, length};
 ghost use Rattle.std.specs.Option.{option_map};
 ghost use Rattle.c_interface.specs.Faults.{IsStatusBy, first_of, fault_number};
-ghost use Rattle.lookup_ffi.specs.Faults.{IsApplyStatus, IsLookupStatus, IsPatchFault};
-ghost use Rattle.lookup_ffi.specs.Handles.{handle_image};
-ghost use Rattle.lookup_ffi.specs.Histories.{GoesOn, changed, last_image, with_image};
-ghost use Rattle.lookup_ffi.specs.Images.{new_image, patched};
-ghost use Rattle.lookup_ffi.specs.Prefixes.{cursor_fault, cursor_prefix, first_block_fault, listed_row, listed_word, rows_status, IsFilledIn};
-ghost use Rattle.lookup_ffi.specs.Readers.{handle_reader, handle_writer, IsPublishStatus, IsReadStatus};
-ghost use Rattle.lookup_ffi.specs.Rows.{answer_words, count_fault, first_row_fault, words_fault};
-ghost use Rattle.lookup_ffi.specs.Tables.{worded_rows};
+ghost use Rattle.lookup_calls.specs.Faults.{IsApplyStatus, IsLookupStatus};
+ghost use Rattle.lookup_calls.specs.Histories.{GoesOn, changed, last_image, with_image};
+ghost use Rattle.lookup_calls.specs.Images.{new_image, patched};
+ghost use Rattle.lookup_calls.specs.Prefixes.{cursor_fault, cursor_prefix, first_block_fault, listed_row, listed_word, rows_status, IsFilledIn};
+ghost use Rattle.lookup_calls.specs.Readers.{IsPublishStatus, IsReadStatus};
+ghost use Rattle.lookup_calls.specs.Rows.{answer_words, count_fault, words_fault};
+ghost use Rattle.lookup_calls.specs.Tables.{worded_rows};
+ghost use Rattle.lookup_ffi.specs.Handles.{handle_image, handle_reader, handle_writer};
 
-use crate::change::Change;
 use crate::handle::ImageHandle;
-use crate::images::image_of_words;
-use crate::prefixes::{Block, check_blocks, list_words};
 use crate::reader_handle::ReaderHandle;
-use crate::rows::{check_words, worded_rows};
-use crate::writer::ImageWriter;
 use crate::writer_handle::WriterHandle;
 use c_interface::{Fault, Row, status};
+use lookup_calls::{
+    Block, check_blocks, check_list, check_words, image_of_words, list_words, look_up_words,
+    publish_words, read_words,
+};
 use std::alloc::Global;
 
 // Makes an image of rows with words and puts it into a handle.
@@ -99,35 +98,6 @@ pub extern "C" fn tuhvondi_image_apply_words(
     status(apply(alloc, image, generation, rows, words))
 }
 
-// Answers addresses by the words of a handle's image.
-fn look_up(
-    alloc: Global,
-    image: &mut ImageHandle,
-    addrs: &[u32],
-    words: &mut [u32],
-) -> Result<(), Fault>
-    ensures image { handle_image image.new ≡ handle_image image.old }
-    ensures ok { OnOk result
-        (IsLookupStatus (handle_image image.old) (length addrs.now) (length words.old) 0) }
-    ensures words { OnOk result
-        (IfSome (handle_image image.old) (λ i. words.new ≡ answer_words i addrs.now)) }
-    ensures unchanged { OnErr result (words.new ≡ words.old) }
-    ensures err { IfErr result (λ f. IsLookupStatus
-        (handle_image image.old) (length addrs.now) (length words.old) (fault_number f)) }
-{
-    let Some(held) = image.take(alloc) else {
-        return Err(Fault::Empty);
-    };
-    let outcome = if addrs.len() == words.len() {
-        held.get().lookup_words(addrs, words);
-        Ok(())
-    } else {
-        Err(Fault::BadCount)
-    };
-    image.put(held);
-    outcome
-}
-
 /// As `tuhvondi_image_lookup`, but writes the words of the rows that answer, and nothing else of them.
 #[unsafe(no_mangle)]
 pub extern "C" fn tuhvondi_image_lookup_words(
@@ -143,22 +113,12 @@ pub extern "C" fn tuhvondi_image_lookup_words(
     ensures refused { result ≢ 0 → words.new ≡ words.old }
     ensures image { handle_image image.new ≡ handle_image image.old }
 {
-    status(look_up(alloc, image, addrs, words))
-}
-
-// Finds out whether a cursor is one, and lists have one length.
-fn check_list(from: Block, rows: &[Row], words: &[u32]) -> Result<(), Fault>
-    ensures count { OnOk result (length words.now ≡ length rows.now) }
-    ensures ok { OnOk result (first_of (cursor_fault from)
-        (count_fault (length rows.now) (length words.now)) ≡ None) }
-    ensures err { IfErr result (λ f. first_of (cursor_fault from)
-        (count_fault (length rows.now) (length words.now)) ≡ Some f) }
-{
-    let _ = from.read_cursor()?;
-    if rows.len() != words.len() {
-        return Err(Fault::BadCount);
-    }
-    Ok(())
+    let Some(held) = image.take(alloc) else {
+        return Fault::Empty.number();
+    };
+    let outcome = look_up_words(held.get(), addrs, words);
+    image.put(held);
+    status(outcome)
 }
 
 // Writes the rows of a handle's image and their words, from where a cursor stands.
@@ -222,27 +182,6 @@ pub extern "C" fn tuhvondi_image_rows_words(
     }
 }
 
-// Publishes rows with words and prefixes. Refused, it changes nothing.
-fn publish_rows(
-    alloc: Global,
-    writer: &mut ImageWriter,
-    generation: u64,
-    rows: &[Row],
-    words: &[u32],
-    prefixes: &[Block],
-) -> Result<(), Fault>
-    requires rows { first_row_fault rows.now ≡ None }
-    requires count { length words.now ≡ length rows.now }
-    requires prefixes { first_block_fault prefixes.now ≡ None }
-    ensures ok { OnOk result (IfSome (last_image writer.old.images) (λ i. writer.new
-        ≡ with_image writer.old (changed generation (worded_rows rows.now words.now) prefixes.now i))) }
-    ensures unchanged { OnErr result (writer.new ≡ writer.old) }
-    ensures err { IfErr result IsPatchFault }
-{
-    let rows = worded_rows(alloc, rows, words)?;
-    writer.publish(Change::of(alloc, generation, rows, prefixes)?)
-}
-
 // Publishes a change with words of a handle's writer.
 fn publish(
     alloc: Global,
@@ -266,7 +205,7 @@ fn publish(
     let Some(mut held) = writer.take(alloc) else {
         return Err(Fault::Empty);
     };
-    let outcome = publish_rows(alloc, &mut held, generation, rows, words, prefixes);
+    let outcome = publish_words(alloc, &mut held, generation, rows, words, prefixes);
     writer.put(held);
     outcome
 }
@@ -292,41 +231,6 @@ pub extern "C" fn tuhvondi_writer_publish_words(
     status(publish(alloc, writer, generation, rows, words, prefixes))
 }
 
-// Answers addresses by the words of a handle's reader.
-fn read(
-    alloc: Global,
-    reader: &mut ReaderHandle,
-    addrs: &[u32],
-    words: &mut [u32],
-    generation: &mut u64,
-) -> Result<(), Fault>
-    ensures kept { is_some (handle_reader reader.new) ≡ is_some (handle_reader reader.old) }
-    ensures later { IfSome (handle_reader reader.old)
-        (λ h. IfSome (handle_reader reader.new) (λ k. GoesOn h k)) }
-    ensures ok { OnOk result
-        (IsReadStatus (handle_reader reader.old) (length addrs.now) (length words.old) 0) }
-    ensures words { OnOk result (IfSome (handle_reader reader.new)
-        (λ h. IfSome (last_image h.images)
-        (λ i. (words.new ≡ answer_words i addrs.now) × (generation.new ≡ i.generation)))) }
-    ensures unchanged { OnErr result
-        ((words.new ≡ words.old) × (generation.new ≡ generation.old)) }
-    ensures err { IfErr result (λ f. IsReadStatus
-        (handle_reader reader.old) (length addrs.now) (length words.old) (fault_number f)) }
-{
-    let Some(mut held) = reader.take(alloc) else {
-        return Err(Fault::Empty);
-    };
-    let outcome = if addrs.len() != words.len() {
-        Err(Fault::BadCount)
-    } else if held.lookup_words(addrs, words, generation) {
-        Ok(())
-    } else {
-        Err(Fault::Shared)
-    };
-    reader.put(held);
-    outcome
-}
-
 /// As `tuhvondi_reader_lookup`, but writes the words of the rows that answer, and nothing else of them.
 #[unsafe(no_mangle)]
 pub extern "C" fn tuhvondi_reader_lookup_words(
@@ -347,5 +251,10 @@ pub extern "C" fn tuhvondi_reader_lookup_words(
     ensures refused { result ≢ 0
         → (words.new ≡ words.old) × (generation.new ≡ generation.old) }
 {
-    status(read(alloc, reader, addrs, words, generation))
+    let Some(mut held) = reader.take(alloc) else {
+        return Fault::Empty.number();
+    };
+    let outcome = read_words(&mut held, addrs, words, generation);
+    reader.put(held);
+    status(outcome)
 }

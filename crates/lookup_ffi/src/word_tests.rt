@@ -1,7 +1,6 @@
 //! The calls for rows with words, as C makes them.
 
 use crate::handle::ImageHandle;
-use crate::prefixes::Block;
 use crate::reader_handle::ReaderHandle;
 use crate::readers::{tuhvondi_writer_new, tuhvondi_writer_publish, tuhvondi_writer_reader};
 use crate::word_calls::{
@@ -14,6 +13,7 @@ use crate::{
     tuhvondi_image_remove,
 };
 use c_interface::Row;
+use lookup_calls::Block;
 use row_words::NO_WORD;
 use std::alloc::Global;
 use std::test::Fail;

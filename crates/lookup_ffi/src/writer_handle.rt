@@ -1,9 +1,9 @@
 //! What C holds of a writer. No other module sees its pointer.
 
 ghost use Rattle.std.specs.Prelude.{◌≡◌, MatchOption, None, Some};
-ghost use Rattle.lookup_ffi.specs.Histories.{History};
+ghost use Rattle.lookup_calls.specs.Histories.{History};
 
-use crate::writer::ImageWriter;
+use lookup_calls::ImageWriter;
 use std::alloc::Global;
 use std::marker::Model;
 use std::mem::replace;
@@ -21,13 +21,13 @@ pub struct WriterHandle {
 
 impl Model for WriterHandle {
     ghost use Rattle.c_interface.specs.Handles.{held_owns};
-    ghost use Rattle.lookup_ffi.specs.contracts.writer.ImageWriter.{the_row as writer_row};
+    ghost use Rattle.lookup_calls.specs.contracts.writer.ImageWriter.{the_row as writer_row};
 
     ghost also_owns = { λ h. held_owns writer_row h.alloc h.holds h.writer h.value };
 }
 
 impl WriterHandle {
-    ghost use Rattle.lookup_ffi.specs.Readers.{handle_writer};
+    ghost use Rattle.lookup_ffi.specs.Handles.{handle_writer};
 
     /// A handle that holds no writer.
     pub fn none(alloc: Global) -> WriterHandle

@@ -11,8 +11,8 @@ use Rattle.std_heap.specs.contracts.Global as Heap
 use Rattle.std_heap.specs.contracts.GlobalAllocator.TheImpl.{ghosts}
 use Rattle.std_heap.proofs.Global.TheSendSync as heap
 use Rattle.c_interface.specs.Handles.{held_owns}
-use Rattle.lookup_ffi.specs.contracts.shared.Shared as Shared
-use Rattle.lookup_ffi.proofs.Crossing.{shared_send}
+use Rattle.lookup_calls.specs.contracts.shared.Shared as Shared
+use Rattle.lookup_calls.proofs.Crossing.{shared_send}
 use Rattle.lookup_ffi.specs.contracts.handle.ImageHandle.{the_row, the_type}
 
 boxed : (alloc : Global) (holds : Bool) (p : Ptr) (x : Shared.the_row.Denot) → Keyless (held_owns Shared.the_row alloc holds p x)

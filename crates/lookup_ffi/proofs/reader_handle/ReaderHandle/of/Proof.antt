@@ -38,9 +38,9 @@ use Rattle.c_interface.specs.Handles.{held_owns}
 use Rattle.c_interface.proofs.Handles.{Pair, HeapArg, heap_laws, tokens, heap_fits, pair_told, pair_fits, bits, leaves_result}
 use Rattle.lookup_ffi.proofs.ReaderWords.{Image, Boxed, Handle, boxed_laws, ImageArg, image_laws, drops_heap, hands, fits, handle_had}
 use Rattle.lookup_ffi.proofs.Destruct++none.drop.Symbol.{glues}
-use Rattle.lookup_ffi.specs.contracts.lookup_ffi++reader++ImageReader+Destruct.drop as dropped
-use Rattle.lookup_ffi.proofs.lookup_ffi++reader++ImageReader+Destruct.drop.Symbol as drop
-use Rattle.lookup_ffi.proofs.lookup_ffi++reader++ImageReader+Destruct.drop.Met as drop_met
+use Rattle.lookup_ffi.specs.contracts.lookup_calls++reader++ImageReader+Destruct.drop as dropped
+use Rattle.lookup_ffi.proofs.lookup_calls++reader++ImageReader+Destruct.drop.Symbol as drop
+use Rattle.lookup_ffi.proofs.lookup_calls++reader++ImageReader+Destruct.drop.Met as drop_met
 use Rattle.lookup_ffi.specs.contracts.reader_handle.ReaderHandle.of as f
 use Rattle.lookup_ffi.proofs.reader_handle.ReaderHandle.of.Statement.{statement}
 use Rattle.lookup_ffi.proofs.reader_handle.ReaderHandle.of.Code as code
@@ -68,7 +68,7 @@ of_spec 𝓤 𝓛 𝓜 𝓡 wired =
     let known = met 𝓤 𝓛 𝓜 𝓡 (code.calls-std_alloc::boxed::Box::into_raw_with_allocator 𝓡.env wired) ImageArg HeapArg image_laws heap_laws ghosts dict drops_heap drops_image
     (passed 𝓡.env (code.calls-std_heap::GlobalAllocator::allocate 𝓡.env wired) (code.calls-std_heap::GlobalAllocator::deallocate 𝓡.env wired)
     (code.calls-std_heap::GlobalAllocator::grow 𝓡.env wired) (code.calls-std_heap::GlobalAllocator::shrink 𝓡.env wired) _ 𝓤 𝓛 𝓜 𝓡)
-    (glues 𝓡.env (code.calls-lookup_ffi::Destruct++none::drop 𝓡.env wired) HeapArg heap_laws _ 𝓤 𝓛 𝓜 𝓡) (drops 𝓤 𝓛 𝓜 𝓡 (code.calls-lookup_ffi::lookup_ffi++reader++ImageReader+Destruct::drop 𝓡.env wired)) in
+    (glues 𝓡.env (code.calls-lookup_ffi::Destruct++none::drop 𝓡.env wired) HeapArg heap_laws _ 𝓤 𝓛 𝓜 𝓡) (drops 𝓤 𝓛 𝓜 𝓡 (code.calls-lookup_ffi::lookup_calls++reader++ImageReader+Destruct::drop 𝓡.env wired)) in
     proved_at 𝓛 f.ended stayed c 𝓜 𝓡 (Goes-dropped 𝓛 0 (plain (λ _. Boxed)) yes (λ κs x w. refl), tt)
     f.Key.name code.function (code.unfolded 𝓤 𝓛.H 𝓜 𝓡 wired) (λ y are.
     let Post = (walk_of 𝓛 f.ended stayed c).post y in let b = y.0.3.0 in

@@ -11,8 +11,8 @@ use Rattle.std_heap.specs.contracts.Global as Heap
 use Rattle.std_heap.specs.contracts.GlobalAllocator.TheImpl.{ghosts}
 use Rattle.std_heap.proofs.Global.TheSendSync as heap
 use Rattle.c_interface.specs.Handles.{held_owns}
-use Rattle.lookup_ffi.specs.contracts.writer.ImageWriter as Content
-use Rattle.lookup_ffi.proofs.Crossing.{writer_sends}
+use Rattle.lookup_calls.specs.contracts.writer.ImageWriter as Content
+use Rattle.lookup_calls.proofs.Crossing.{writer_sends}
 use Rattle.lookup_ffi.specs.contracts.writer_handle.WriterHandle.{the_row, the_type}
 
 boxed : (alloc : Global) (holds : Bool) (p : Ptr) (x : Content.the_row.Denot) → Keyless (held_owns Content.the_row alloc holds p x)

@@ -1,0 +1,13 @@
+use Rattle.std.proofs.Common.{◌≤◌, ap, subst, sym, ◌∙◌, arith, length, List}
+use mathlib.Core.List.{IsPrefix}
+use Rattle.row_words.specs.Rows.{WordTable}
+use Rattle.lookup_calls.specs.Histories.{History}
+use Rattle.lookup_calls.proofs.Beginnings.{prefix_shorter}
+use Rattle.lookup_calls.proofs.past.Past.begins.Goals as goal
+
+pub returns : goal.returns
+returns c =
+    let both = c.learn.new.self.log in
+    let this : IsPrefix c.self.inside.seen.log both = subst (λ (l : List WordTable). IsPrefix l both) (ap (λ s. s.log) c.again-both.ensures) c.learn.ensures.2 in
+    let less : length c.self.inside.seen.log ≤ length c.other.inside.seen.log = omega (arith, c.self.invariant, c.other.invariant, c.if-self-other.false) in
+    λ _. rw (← c.self.view_is, ← c.other.view_is) (record { book = ap (λ (h : History). h.book) c.other.view_is ∙ (c.requires ∙ sym (ap (λ (h : History). h.book) c.self.view_is)); images = prefix_shorter _ _ both this c.learn.ensures.3 less })

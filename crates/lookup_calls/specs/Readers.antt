@@ -1,0 +1,33 @@
+-- What the calls of writers and readers can answer.
+use Rattle.std.specs.Prelude.{◌≡◌, ℕ, ◌⊎◌, ◌==◌, ◌≤◌, ◌<◌, Bool, true, false, Option, None, Some}
+use Rattle.row_words.specs.Rows.{WordTable}
+use Rattle.c_interface.specs.Faults.{fault_number, IsDoneOrFull}
+use Rattle.c_interface.specs.declared.fault.Fault.{Fault}
+use Rattle.c_interface.specs.declared.fault.Fault.TheVariants.{Empty, BadCount, Shared}
+use Rattle.lookup_calls.specs.Histories.{History}
+
+-- what the call answers that makes a writer, by the image, if there is one
+abbrev pub IsOpenStatus : Option WordTable → ℕ → ℕ → Type 0
+IsOpenStatus None readers status = status ≡ fault_number Empty
+IsOpenStatus (Some image) readers status = ((1024 < readers) × (status ≡ fault_number BadCount)) ⊎ ((readers ≤ 1024) × IsDoneOrFull status)
+
+-- what the call answers that makes a reader, by the writer, if there is one
+abbrev pub IsSeatStatus : Option History → ℕ → Type 0
+IsSeatStatus None status = status ≡ fault_number Empty
+IsSeatStatus (Some h) status = (status ≡ fault_number BadCount) ⊎ IsDoneOrFull status
+
+-- what the call answers that publishes, by the fault of its lists and by the writer, if there is one
+abbrev pub IsPublishStatus : Option Fault → Option History → ℕ → Type 0
+IsPublishStatus (Some f) writer status = status ≡ fault_number f
+IsPublishStatus None None status = status ≡ fault_number Empty
+IsPublishStatus None (Some h) status = (status ≡ fault_number Shared) ⊎ IsDoneOrFull status
+
+-- what a look-up by a reader answers that is there, by whether there are as many answers as addresses
+abbrev pub IsReadOf : Bool → ℕ → Type 0
+IsReadOf true status = (status ≡ 0) ⊎ (status ≡ fault_number Shared)
+IsReadOf false status = status ≡ fault_number BadCount
+
+-- what a look-up by a reader answers, by the reader, if there is one, and the numbers of addresses and of answers
+abbrev pub IsReadStatus : Option History → ℕ → ℕ → ℕ → Type 0
+IsReadStatus None addrs answers status = status ≡ fault_number Empty
+IsReadStatus (Some h) addrs answers status = IsReadOf (addrs == answers) status

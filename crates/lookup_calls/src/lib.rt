@@ -1,0 +1,53 @@
+//! What the calls on images do for C programs, below their handles (`lookup_ffi`).
+//!
+//! The problem: C gives rows, words and addresses as lists of numbers, and wants answers written over lists of
+//! its own. Meanwhile another thread may change the image. All of that needs no pointer and no name of C, so
+//! it stands here, and is proved once. A crate with tests is proved twice.
+//!
+//! ```text
+//!   Row, word ── check_rows, check_words ──> first fault, or none
+//!   rows ── image_of_rows, image_of_words ──> Shared ── apply, apply_words, remove ──> Shared
+//!   Shared ── get ──> Kept ── look_up, look_up_words, list_rows, list_words ──> what C is shown
+//!   Kept ── writer_of ──> ImageWriter ── publish_rows, publish_words
+//!                         ImageWriter ── reader_of ──> ImageReader ── read, read_words
+//! ```
+//!
+//! - An image is *kept* with words or without (`src/kept.rt`). Without words it stays as small and as fast as
+//!   one that could have none.
+//! - A *shared* image has several holders, and does not change while it has more than one (`src/shared.rt`).
+//! - A *writer* has two copies. Readers take the one that is shown, and the writer changes the other
+//!   (`src/writer.rt`). It keeps the last change, because the other copy misses it.
+//! - A *board* has two places for each reader, one for each copy (`src/board.rt`). Nobody waits there: each
+//!   tries, and is refused if the other has the place.
+//!
+//! What always holds: answers are those of the longest match over the rows that were given, set in order
+//! (`answer_rows` and `answer_words` in `specs/Rows.antt`). A reader never answers by an older image than
+//! before (`GoesOn` in `specs/Histories.antt`). A refused call changes nothing.
+//!
+//! What is tricky: what a reader knows of its writer is a list of images that exists in the proofs alone
+//! (`src/past.rt`). At run time only its length is there.
+#![tactic(auto)]
+
+mod board;
+mod change;
+mod images;
+mod kept;
+mod lookups;
+mod past;
+mod patch;
+mod prefixes;
+mod publishing;
+mod reader;
+mod rows;
+mod shared;
+mod writer;
+
+pub use images::{copy_image, image_of_rows, image_of_words, share_image};
+pub use kept::Kept;
+pub use lookups::{look_up, look_up_words, read, read_words};
+pub use prefixes::{Block, check_blocks, check_list, list_rows, list_words};
+pub use publishing::{publish_rows, publish_words, reader_of, writer_of};
+pub use reader::ImageReader;
+pub use rows::{check_rows, check_words};
+pub use shared::Shared;
+pub use writer::ImageWriter;

@@ -1,6 +1,0 @@
-use Rattle.std.proofs.Common.{◌≡◌, drop}
-use Rattle.lookup_ffi.specs.Prefixes.{first_block_fault}
-use Rattle.lookup_ffi.proofs.prefixes.check_blocks.Given as goal
-
-abbrev pub invariant-loop-block : goal.invariant-loop-block
-invariant-loop-block l = first_block_fault (drop l.block-index l.blocks) ≡ first_block_fault l.blocks

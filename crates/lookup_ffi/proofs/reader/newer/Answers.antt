@@ -1,5 +1,0 @@
-use Rattle.std.proofs.Common.{rules}
-use Rattle.lookup_ffi.proofs.reader.newer.Goals as goal
-
-pub returns : goal.returns
-returns c = search rules
