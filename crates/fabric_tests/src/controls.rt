@@ -15,10 +15,9 @@ use std::marker::Brand;
 use std::process::Abort;
 use std::sync::Wait;
 use std::sync::atomic::{AtomicU64, Ordering};
-use std::thread;
 use std::thread::Threads;
-use std::time::{Clock, Duration};
-use test_support::two_routers;
+use std::time::Clock;
+use test_support::{gets_to, two_routers};
 
 pub(crate) const UP: Step = Step::LinkUp { link: 0 };
 
@@ -313,17 +312,6 @@ fn first_thread_is_refused(rt: HostRuntime) {
 #[test]
 fn second_thread_is_refused(rt: HostRuntime) {
     two(&rt, rt.alloc(), 2, Trial::IsRefused { router: 1 });
-}
-
-// Whether the number gets there within 1000 polls, a millisecond apart.
-pub(crate) fn gets_to<H: Clock>(rt: &H, number: &AtomicU64, wanted: u64) -> bool {
-    for _ in 0..1000u16 {
-        if number.load(Ordering::SeqCst) >= wanted {
-            return true;
-        }
-        thread::sleep(rt, Duration::from_millis(1));
-    }
-    false
 }
 
 // The first turns of two threads wait for each other.

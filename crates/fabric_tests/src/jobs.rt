@@ -5,8 +5,6 @@ ghost use Rattle.fabric.specs.Fabric.{count_lent};
 ghost use Rattle.fabric.specs.Writers.{opening_tables};
 ghost use Rattle.control.specs.Names.{IsNamed};
 
-use crate::controls::gets_to;
-use crate::ports::port_of;
 use control::{Control, ControlName, Opening, Share, Step, TurnGate};
 use fabric::{Fabric, Network, Unnamed};
 use forwarder::{Answer, ForwardPort, ImageReader};
@@ -20,7 +18,7 @@ use std::sync::atomic::{AtomicU64, Ordering};
 use std::thread;
 use std::thread::Threads;
 use std::time::Clock;
-use test_support::{ten, two_routers};
+use test_support::{gets_to, ten, two_routers};
 
 // 10.0.0.1
 const ADDR: u32 = 0x0A00_0001;
@@ -216,7 +214,9 @@ fn port<B: FabricName>(
     let mut readers = ports.pop().expect(rt, "port");
     let second = readers.pop().expect(rt, "reader");
     let first = readers.pop().expect(rt, "reader");
-    port_of(rt, alloc, first, second)
+    let (one, two) = (first.view().router(), second.view().router());
+    assert!(rt; one == 0 && two == 1);
+    ForwardPort::new(vec![in alloc; first, second].expect(rt, "memory"))
 }
 
 #[test]

@@ -1,18 +1,15 @@
-//! Tests of publications, queues, workers, fabrics, control threads and traces, each through its public
-//! surface.
+//! Tests of fabrics, control threads and traces, each through its public surface.
 //!
-//! The problem: some facts of threads and of memory are in no clause. For example, a reader sees what its
-//! writer publishes while both go on. Two workers answer at the same time. A turn lets the lock go while it
-//! publishes. A body that does none of this meets every contract. So these tests make it happen: at a *gate*
-//! a thread waits until another has come so far.
+//! The problem: some facts of threads and of memory are in no clause. For example, a port answers a job while a
+//! turn waits. A turn lets the lock go while it publishes. A body that does neither meets every contract. So
+//! these tests make it happen: at a *gate* a thread waits until another has come so far.
 //!
 //! ```text
-//!   publications, tickets         what readers see meanwhile, and what is refused while a writer is out
-//!   queues, workers, jobs         jobs through queues, and what readers answer
-//!   worker_pools                  200 jobs for one, two and sixteen threads
 //!   fabrics, controls, outside    steps, turns, threads that serve and settle side by side
+//!   tickets                       what is refused while a writer is out
+//!   jobs                          what readers answer meanwhile
 //!   traces                        packets along the images in force
-//!   scripts, refusals, rooms      want of memory
+//!   scripts, rooms                want of memory
 //! ```
 //!
 //! Want of memory is tried on scripts of two and three routers. Of each step the first, second, third ..
@@ -43,14 +40,6 @@ mod jobs;
 #[cfg(test)]
 mod outside;
 #[cfg(test)]
-mod ports;
-#[cfg(test)]
-mod publications;
-#[cfg(test)]
-mod queues;
-#[cfg(test)]
-mod refusals;
-#[cfg(test)]
 mod rooms;
 #[cfg(test)]
 mod scripts;
@@ -58,7 +47,3 @@ mod scripts;
 mod tickets;
 #[cfg(test)]
 mod traces;
-#[cfg(test)]
-mod worker_pools;
-#[cfg(test)]
-mod workers;

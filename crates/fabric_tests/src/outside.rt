@@ -2,7 +2,7 @@
 
 ghost use Rattle.std.specs.Prelude.{◌≡◌, ◌<◌, true, vec_len};
 
-use crate::controls::{UP, gets_to, serves_after};
+use crate::controls::{UP, serves_after};
 use control::{Control, ControlName, Crew, NO_THRESHOLDS, Share, Step, TurnGate, settle};
 use fabric::Fabric;
 use network_model::Cost;
@@ -13,7 +13,7 @@ use std::sync::Wait;
 use std::sync::atomic::{AtomicU64, Ordering};
 use std::thread::Threads;
 use std::time::Clock;
-use test_support::ten;
+use test_support::{gets_to, ten};
 
 // Router 0 publishes once thread 1 has begun and ended a turn since router 0 had its ticket.
 #[derive(Drop)]

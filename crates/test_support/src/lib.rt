@@ -1,4 +1,5 @@
-//! What tests of several crates share: an allocator that refuses the n-th allocation, and small networks.
+//! What tests of several crates share: an allocator that refuses the n-th allocation, small networks, and a
+//! wait for another thread.
 //!
 //! A test of refused memory lends [`Refusing`] to what it tries, tells it which allocation is to be refused,
 //! makes one call, and asks [`Refusing::was_met`]. It counts on until a call meets no refusal.
@@ -17,6 +18,8 @@
 
 mod networks;
 mod refusing;
+mod waiting;
 
 pub use networks::{link, ten, two_routers};
 pub use refusing::{Refused, Refusing};
+pub use waiting::gets_to;

@@ -1,0 +1,371 @@
+//! Jobs at two routers, answered by workers.
+
+ghost use Rattle.std.specs.Prelude.{◌≡◌, ◌≤◌, All, IfOk, length, map, vec_len};
+ghost use Rattle.network_model.specs.Network.{most_workers};
+
+use crate::publications::via;
+use forwarder::{Answer, GatherFault, ImageReader};
+use network_model::Refusal;
+use publication::{Told, Unnamed, close_all, open_all};
+use std::alloc::{AllocError, Global};
+use std::marker::Brand;
+use std::process::Abort;
+use std::sync::atomic::{AtomicU64, Ordering};
+use std::sync::{Arc, Wait};
+use std::thread::Threads;
+use std::time::Clock;
+use test_support::{gets_to, ten};
+use tree_bitmap::Image;
+use tree_bitmap::parts::{empty, set_row};
+use worker_pool::{FabricName, ForwardPort, Job, JobGate, PoolFault, Reply, WorkerPool};
+
+// An image of 10.0.0.0/8 over the port that has the router's number.
+fn image(rt: &impl Abort, alloc: Global, router: u8) -> Image
+    ensures { result.generation ≡ 0 }
+{
+    let mut image = empty(alloc).expect(rt, "memory");
+    set_row(&mut image, ten(), via(router)).expect(rt, "memory");
+    image
+}
+
+// A port of the two routers.
+fn port_of<B: FabricName>(
+    rt: &impl Abort,
+    alloc: Global,
+    first: ImageReader<B>,
+    second: ImageReader<B>,
+) -> ForwardPort<B>
+    requires { length B.books ≡ 2 }
+{
+    let (one, two) = (first.view().router(), second.view().router());
+    assert!(rt; one == 0 && two == 1);
+    ForwardPort::new(vec![in alloc; first, second].expect(rt, "memory"))
+}
+
+// A port for each of so many workers.
+fn ports_of<B: FabricName>(
+    rt: &impl Abort,
+    alloc: Global,
+    workers: u8,
+    firsts: Vec<ImageReader<B>>,
+    seconds: Vec<ImageReader<B>>,
+) -> Vec<ForwardPort<B>>
+    requires { length B.books ≡ 2 }
+{
+    let (mut firsts, mut seconds) = (firsts, seconds);
+    let mut ports = Vec::new(alloc);
+    for _ in 0..workers {
+        let first = firsts.pop().expect(rt, "reader");
+        let second = seconds.pop().expect(rt, "reader");
+        let pushed = ports.push(port_of(rt, alloc, first, second));
+        assert!(rt; pushed.is_ok());
+    }
+    ports
+}
+
+// What the two routers have published.
+#[derive(Drop)]
+struct Tolds<B: FabricName> {
+    first: Told<B>,
+    second: Told<B>,
+}
+
+impl<B: FabricName> Tolds<B> {
+    // A job at the first router, where its number is even, and else at the second.
+    fn job(&self, number: u8) -> Job<B> {
+        let told = if number % 2 == 0 {
+            self.first.again()
+        } else {
+            self.second.again()
+        };
+        Job {
+            number: u64::from(number),
+            addr: 0x0A01_0203,
+            told,
+        }
+    }
+}
+
+// Gives the workers so many jobs, the greatest number first.
+fn ask<B: FabricName, R: Wait + Abort>(rt: &R, pool: &mut WorkerPool<B>, tolds: &Tolds<B>, jobs: u8)
+    ensures { pool.new.workers ≡ pool.old.workers }
+{
+    for place in 0..jobs {
+        pool.inject(rt, tolds.job(jobs - 1 - place))
+            .expect(rt, "job");
+    }
+}
+
+// There is one reply to each of so many jobs, in order of their numbers, from the router of each.
+fn are_right<B: FabricName, R: Abort>(rt: &R, replies: &[Reply<B>], jobs: u8) {
+    assert_eq!(rt; replies.len(), usize::from(jobs));
+    for number in 0..jobs {
+        let reply = replies.get(usize::from(number)).expect(rt, "reply");
+        let router = number % 2;
+        let job = reply.job();
+        assert_eq!(rt;
+            (job.number, job.router()),
+            (u64::from(number), u16::from(router))
+        );
+        let answer = Answer {
+            generation: 0,
+            matched: Some((ten(), via(router))),
+        };
+        assert_eq!(rt; reply.answer(), answer);
+    }
+}
+
+// The workers of these ports answer so many jobs, and give the ports back.
+fn answers<B, R>(
+    rt: R,
+    alloc: Global,
+    ports: Vec<ForwardPort<B>>,
+    tolds: &Tolds<B>,
+    jobs: u8,
+) -> Vec<ForwardPort<B>>
+where
+    B: FabricName + Send + Sync + 'static,
+    R: Threads + Wait + Abort + Copy + Send + 'static,
+    requires { vec_len ports ≤ most_workers }
+    ensures { vec_len result ≡ vec_len ports }
+{
+    let mut pool = WorkerPool::new(rt, alloc, ports).expect(&rt, "workers");
+    ask(&rt, &mut pool, tolds, jobs);
+    let (ports, replies) = pool.drain(&rt, alloc);
+    let Ok(replies) = replies else {
+        panic!(rt; "replies");
+    };
+    are_right(&rt, &replies, jobs);
+    ports
+}
+
+// How many jobs were taken, and how many of them waited in vain for another to be taken.
+#[derive(Drop)]
+struct Taken {
+    taken: AtomicU64,
+    missed: AtomicU64,
+}
+
+// Each of two jobs waits, once it is taken, until the other is taken too.
+#[derive(Drop)]
+struct Meeting<R> {
+    rt: R,
+    jobs: Arc<Taken, Global>,
+}
+
+impl<R: Clock + Copy> Clone for Meeting<R> {
+    fn clone(&self) -> Result<Self, AllocError> {
+        Ok(Meeting {
+            rt: self.rt,
+            jobs: Arc::try_clone(&self.jobs)?,
+        })
+    }
+}
+
+impl<R: Clock> JobGate for Meeting<R> {
+    fn before(&self, _job: u64) {
+        self.jobs.taken.fetch_add(1, Ordering::SeqCst);
+        if !gets_to(&self.rt, &self.jobs.taken, 2) {
+            self.jobs.missed.fetch_add(1, Ordering::SeqCst);
+        }
+    }
+
+    fn after(&self, _job: u64) {}
+}
+
+// The workers of these ports take a job each.
+fn meets<B, R>(rt: R, alloc: Global, ports: Vec<ForwardPort<B>>, tolds: &Tolds<B>)
+where
+    B: FabricName + Send + Sync + 'static,
+    R: Threads + Wait + Abort + Clock + Copy + Send + 'static,
+    requires { vec_len ports ≤ most_workers }
+{
+    let taken = Taken {
+        taken: AtomicU64::new(0),
+        missed: AtomicU64::new(0),
+    };
+    let jobs = Arc::new(alloc, taken).expect(&rt, "memory");
+    let gate = Meeting { rt, jobs };
+    let mut pool = WorkerPool::watched(rt, alloc, ports, &gate).expect(&rt, "workers");
+    ask(&rt, &mut pool, tolds, 2);
+    let (_ports, replies) = pool.drain(&rt, alloc);
+    let Ok(replies) = replies else {
+        panic!(rt; "replies");
+    };
+    are_right(&rt, &replies, 2);
+    assert_eq!(rt; gate.jobs.taken.load(Ordering::SeqCst), 2);
+    assert_eq!(rt; gate.jobs.missed.load(Ordering::SeqCst), 0);
+}
+
+// Workers that are ended give their ports back, by which others answer.
+fn answers_later<B, R>(rt: R, alloc: Global, ports: Vec<ForwardPort<B>>, tolds: &Tolds<B>)
+where
+    B: FabricName + Send + Sync + 'static,
+    R: Threads + Wait + Abort + Copy + Send + 'static,
+    requires { vec_len ports ≤ most_workers }
+{
+    let mut pool = WorkerPool::new(rt, alloc, ports).expect(&rt, "workers");
+    ask(&rt, &mut pool, tolds, 70);
+    let ports = pool.end(&rt);
+    let ports = answers(rt, alloc, ports, tolds, 3);
+    answers(rt, alloc, ports, tolds, 0);
+}
+
+// Three jobs, two of them with one number, or all of them at ports without an image, have this fault.
+fn has_fault<B, R>(
+    rt: R,
+    alloc: Global,
+    ports: Vec<ForwardPort<B>>,
+    tolds: &Tolds<B>,
+    fault: PoolFault,
+)
+where
+    B: FabricName + Send + Sync + 'static,
+    R: Threads + Wait + Abort + Copy + Send + 'static,
+    requires { vec_len ports ≤ most_workers }
+{
+    let mut pool = WorkerPool::new(rt, alloc, ports).expect(&rt, "workers");
+    ask(&rt, &mut pool, tolds, 2);
+    pool.inject(&rt, tolds.job(1)).expect(&rt, "job");
+    let (_ports, replies) = pool.drain(&rt, alloc);
+    assert_eq!(rt; replies.err(), Some(fault));
+}
+
+// Without workers each job is refused.
+fn refuses<B, R>(rt: R, alloc: Global, tolds: &Tolds<B>)
+where
+    B: FabricName + Send + Sync + 'static,
+    R: Threads + Wait + Abort + Copy + Send + 'static,
+{
+    let mut pool = WorkerPool::new(rt, alloc, Vec::new(alloc)).expect(&rt, "workers");
+    assert_eq!(rt; pool.inject(&rt, tolds.job(0)), Err(PoolFault::Closed));
+    let (ports, replies) = pool.drain(&rt, alloc);
+    assert!(rt; ports.is_empty());
+    let Ok(replies) = replies else {
+        panic!(rt; "replies");
+    };
+    are_right(&rt, &replies, 0);
+    let pool = WorkerPool::new(rt, alloc, ports).expect(&rt, "workers");
+    assert!(rt; pool.end(&rt).is_empty());
+}
+
+// What is done with ports of two routers.
+#[derive(Clone, Copy)]
+enum Trial {
+    Answers(u8),
+    Meets,
+    AnswersLater,
+    Doubles,
+    HasNoImage,
+    Refuses,
+}
+
+fn tried<B, R>(rt: R, alloc: Global, ports: Vec<ForwardPort<B>>, tolds: &Tolds<B>, trial: Trial)
+where
+    B: FabricName + Send + Sync + 'static,
+    R: Threads + Wait + Abort + Clock + Copy + Send + 'static,
+{
+    assert!(rt; ports.len() <= 16);
+    match trial {
+        Trial::Answers(jobs) => drop(answers(rt, alloc, ports, tolds, jobs)),
+        Trial::Meets => meets(rt, alloc, ports, tolds),
+        Trial::AnswersLater => answers_later(rt, alloc, ports, tolds),
+        Trial::Doubles => {
+            let fault = PoolFault::Gather(GatherFault::Doubled);
+            has_fault(rt, alloc, ports, tolds, fault);
+        }
+        Trial::HasNoImage => {
+            let fault = PoolFault::Refused(Refusal::NoImage);
+            has_fault(rt, alloc, ports, tolds, fault);
+        }
+        Trial::Refuses => refuses(rt, alloc, tolds),
+    }
+}
+
+// Opens the writers of two routers, makes a port for each worker, and does this; without an image it
+// does it when the writers are closed.
+fn opened<B, R>(
+    rt: R,
+    alloc: Global,
+    unnamed: Vec<Unnamed>,
+    images: Vec<Image>,
+    workers: u8,
+    trial: Trial,
+)
+where
+    B: FabricName + Send + Sync + 'static,
+    R: Threads + Wait + Abort + Clock + Copy + Send + 'static,
+    requires books { unnamed.items ≡ B.books }
+    requires rows { map (λ i. i.rows) images.items ≡ B.openings }
+    requires generation { All (λ i. i.generation ≡ 0) images.items }
+    requires each { vec_len unnamed ≡ 2 }
+    requires two { vec_len images ≡ 2 }
+{
+    let Ok((writers, mut lists)) = open_all::<B, _, R>(&rt, alloc, unnamed, images, workers) else {
+        panic!(rt; "open");
+    };
+    let tolds = Tolds {
+        first: writers[0].tell(),
+        second: writers[1].tell(),
+    };
+    let seconds = lists.pop().expect(&rt, "readers");
+    let firsts = lists.pop().expect(&rt, "readers");
+    let ports = ports_of(&rt, alloc, workers, firsts, seconds);
+    if let Trial::HasNoImage = trial {
+        close_all(&rt, writers);
+        tried(rt, alloc, ports, &tolds, trial);
+    } else {
+        tried(rt, alloc, ports, &tolds, trial);
+        close_all(&rt, writers);
+    }
+}
+
+fn pooled<R>(rt: R, alloc: Global, workers: u8, trial: Trial)
+where
+    R: Threads + Wait + Abort + Clock + Copy + Send + 'static,
+{
+    let (first, second) = (image(&rt, alloc, 0), image(&rt, alloc, 1));
+    let images = vec![in alloc; first, second].expect(&rt, "memory");
+    let unnamed = Unnamed::many(alloc, 2).expect(&rt, "memory");
+    opened::<Brand, R>(rt, alloc, unnamed, images, workers, trial);
+}
+
+#[test]
+fn one_worker_answers_all_jobs(rt: HostRuntime) {
+    pooled(rt, rt.alloc(), 1, Trial::Answers(200));
+}
+
+#[test]
+fn two_workers_answer_all_jobs(rt: HostRuntime) {
+    pooled(rt, rt.alloc(), 2, Trial::Answers(200));
+}
+
+#[test]
+fn two_workers_of_a_pool_meet_at_their_first_jobs(rt: HostRuntime) {
+    pooled(rt, rt.alloc(), 2, Trial::Meets);
+}
+
+#[test]
+fn sixteen_workers_answer_all_jobs(rt: HostRuntime) {
+    pooled(rt, rt.alloc(), 16, Trial::Answers(200));
+}
+
+#[test]
+fn the_ports_of_a_pool_come_back(rt: HostRuntime) {
+    pooled(rt, rt.alloc(), 2, Trial::AnswersLater);
+}
+
+#[test]
+fn a_number_that_two_jobs_have_is_found(rt: HostRuntime) {
+    pooled(rt, rt.alloc(), 2, Trial::Doubles);
+}
+
+#[test]
+fn workers_without_an_image(rt: HostRuntime) {
+    pooled(rt, rt.alloc(), 2, Trial::HasNoImage);
+}
+
+#[test]
+fn a_pool_of_no_workers_takes_no_job(rt: HostRuntime) {
+    pooled(rt, rt.alloc(), 0, Trial::Refuses);
+}
