@@ -1,14 +1,12 @@
 //! From which routers the published rows lead to a prefix.
 
 ghost use Rattle.std.specs.Prelude.{ℕ, ◌≡◌, ◌<◌, ◌↔◌, ◌&&◌, true, false, not, length};
-ghost use Rattle.network_model.specs.declared.route.Entry.{Entry as Entries};
-ghost use Rattle.network_model.specs.Forwarding.{entry_leads};
 ghost use Rattle.reachability.specs.Ways.{HasWay, IsJoined};
 ghost use Rattle.reachability.specs.Marks.{is_in, unmarked};
 ghost use Rattle.reachability.specs.Rounds.{AllRouted, OnlyRouted, leads_home};
 
 use crate::marks::{clear, is_in, mark};
-use network_model::{End, Entry, Prefix, SmallAllocator};
+use network_model::{Entry, Prefix, SmallAllocator};
 use world::World;
 
 /// Marks each router from which published rows lead home: over links that are up in the rows' sessions, to a
@@ -71,32 +69,10 @@ fn leads_home<A: SmallAllocator>(
 {
     match world.router(router).table().published(prefix) {
         Some(Entry::Local) => world.attachment(router, prefix).is_some(),
-        Some(Entry::Via { port, session }) => match far_router(world, router, port, session) {
+        Some(Entry::Via { port, session }) => match world.far_router(router, port, session) {
             Some(next) => is_in(marks, next),
             None => false,
         },
         Some(Entry::Unreachable) | None => false,
     }
-}
-
-// The router at the far end of the link at a port, if that is up in this session.
-fn far_router<A: SmallAllocator>(
-    world: &World<A>,
-    router: u16,
-    port: u8,
-    session: u16,
-) -> Option<u16>
-    requires { IsJoined world.now }
-    ensures { result ≡ entry_leads world.now router (Entries.Via port session) }
-{
-    let place = world.port(router, port)?;
-    let links = world.links();
-    if !links.is_up(place.link) || links.session(place.link) != session {
-        return None;
-    }
-    let far = match place.end {
-        End::A => End::B,
-        End::B => End::A,
-    };
-    Some(links.router(place.link, far))
 }

@@ -15,8 +15,8 @@ pub fn read_number(text: &str) -> Option<u32>
     text.parse().ok()
 }
 
-// Whether the text has neither a sign nor a leading zero, which `parse` would take.
-fn has_canonical_start(text: &str) -> bool
+/// Whether the text has neither a sign nor a leading zero, which `parse` would take.
+pub fn has_canonical_start(text: &str) -> bool
     ensures { IsTrue result ↔ HasCanonicalStart text.now }
 {
     !text.starts_with('+') && (text.len() == 1 || !text.starts_with('0'))

@@ -1,24 +1,14 @@
 -- What traces rest on, in the world of every run.
-use Rattle.std.proofs.Common.{sym, ap, ◌∙◌, arith, ◌≡◌, ◌<◌, List, length, slice_get, option_and_then}
-use Rattle.packet_loops.proofs.Common.{length-map, length-map-range_with_len, slice_get_within, Place, Network, World, opening, opening_link, IsNetwork, Runs, history, at_port}
+use Rattle.std.proofs.Common.{◌∙◌, arith, ◌≡◌, ◌<◌, List, length}
+use Rattle.packet_loops.proofs.Common.{length-map-range_with_len, Network, World, opening, IsNetwork, Runs, history}
 use Rattle.network_model.specs.declared.step.Step.{Step}
-use Rattle.packet_loops.proofs.Places.{laid}
 use Rattle.packet_loops.proofs.Runs.{reached}
 use Rattle.packet_loops.proofs.Walks.{leads_known}
 use Rattle.packet_loops.proofs.Wiring.{wired}
 use Rattle.packet_loops.proofs.WorldLaws.{Runs-shape}
-use Rattle.tracer.specs.Tracing.{HasLinksOfPorts, LeadsToRouters}
+use Rattle.tracer.specs.Tracing.{LeadsToRouters}
 
 module _ (n : Network) (ss : List Step) (w : World) (runs : Runs (opening n) ss w) where
-  -- the link at each port is one of the network's
-  pub links_of_ports : HasLinksOfPorts w
-  links_of_ports i q place at =
-      let shape = Runs-shape (opening n) ss w runs in
-      let same : length w.links ≡ length n.links = shape.links ∙ length-map n.links opening_link in
-      let L = laid n (at_port i q) place (ap (λ (ps : List (List Place)). option_and_then (λ (xs : List Place). slice_get xs q) (slice_get ps i)) (sym shape.places) ∙ at) in
-      let within : place.link < length n.links = slice_get_within n.links place.link L.spec L.is_link in
-      omega (arith, same, within)
-
   -- entries lead to its routers
   pub leads_to_routers : IsNetwork n → LeadsToRouters w
   leads_to_routers valid i entry k leads =

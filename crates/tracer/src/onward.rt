@@ -1,13 +1,12 @@
 //! What a trace does at one router.
 
 ghost use Rattle.std.specs.Prelude.{◌≡◌, ◌⊎◌, ◌<◌, length, IfOk, IfErr};
-ghost use Rattle.network_model.specs.declared.route.Entry.{Entry as Entries};
-ghost use Rattle.network_model.specs.Forwarding.{by_row, entry_leads, onward};
-ghost use Rattle.tracer.specs.Tracing.{HasLinksOfPorts, onward_of};
+ghost use Rattle.network_model.specs.Forwarding.{by_row, onward};
+ghost use Rattle.tracer.specs.Tracing.{onward_of};
 
 use crate::fault::{TraceFault, lookup_fault};
 use fabric::{Fabric, FabricName};
-use network_model::{End, Ending, Entry, Prefix};
+use network_model::{Ending, Entry, Prefix};
 use world::World;
 
 /// What a trace does at a router.
@@ -18,23 +17,6 @@ pub enum Onward {
     Goes { prefix: Prefix, router: u16 },
 }
 
-// The router at the far end of the link at a port, where that is up in this session.
-fn far_router(world: &World, router: u16, port: u8, session: u16) -> Option<u16>
-    requires { HasLinksOfPorts world.now }
-    ensures { result ≡ entry_leads world.now router (Entries.Via port session) }
-{
-    let place = world.port(router, port)?;
-    let links = world.links();
-    if !links.is_up(place.link) || links.session(place.link) != session {
-        return None;
-    }
-    let far = match place.end {
-        End::A => End::B,
-        End::B => End::A,
-    };
-    Some(links.router(place.link, far))
-}
-
 // By a row that a router gave, after a first router that matched this prefix, if it left one.
 fn by_row(
     world: &World,
@@ -42,7 +24,6 @@ fn by_row(
     first: Option<Prefix>,
     matched: Option<(Prefix, Entry)>,
 ) -> Onward
-    requires { HasLinksOfPorts world.now }
     ensures { onward_of result ≡ by_row world.now router first matched }
 {
     let Some((prefix, entry)) = matched else {
@@ -54,7 +35,7 @@ fn by_row(
     match entry {
         Entry::Local => Onward::Ends(Ending::Delivered),
         Entry::Unreachable => Onward::Ends(Ending::Unreachable),
-        Entry::Via { port, session } => match far_router(world, router, port, session) {
+        Entry::Via { port, session } => match world.far_router(router, port, session) {
             Some(router) => Onward::Goes { prefix, router },
             None => Onward::Ends(Ending::DeadLink),
         },
@@ -69,7 +50,6 @@ pub fn ask<B: FabricName>(
     router: u16,
 ) -> Result<Onward, TraceFault>
     requires known { router < length (fabric.old).world.routers }
-    requires links { HasLinksOfPorts (fabric.old).world }
     ensures ok { IfOk result (λ o. onward_of o ≡ onward (fabric.old).world addr first router) }
     ensures err { IfErr result (λ e. (e ≡ TraceFault.Stale) ⊎ (e ≡ TraceFault.NoImage)) }
     ensures same { fabric.new ≡ fabric.old }

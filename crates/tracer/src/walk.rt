@@ -10,7 +10,7 @@ ghost use Rattle.all_packets.specs.Through.{ThroughEnds, through as trace_throug
 ghost use Rattle.loop_freedom.specs.Network.{meets_twice};
 ghost use Rattle.packet_loops.specs.Packets.{TracesEnd};
 ghost use Rattle.tracer.specs.Following.{FollowsEnd, followed, kept_prefix};
-ghost use Rattle.tracer.specs.Tracing.{HasLinksOfPorts, LeadsToRouters};
+ghost use Rattle.tracer.specs.Tracing.{LeadsToRouters};
 
 use crate::fault::TraceFault;
 use crate::onward::{Onward, ask};
@@ -21,7 +21,6 @@ use std::alloc::Global;
 // The number of routers, and what holds of the traces of every fabric: its journal is a run.
 fn router_count<B: FabricName>(fabric: &Fabric<B>) -> usize
     ensures count { result ≡ length (fabric.now).world.routers }
-    ensures links { HasLinksOfPorts (fabric.now).world }
     ensures routers { LeadsToRouters (fabric.now).world }
     ensures traces { TracesEnd (fabric.now).world }
     ensures through { ThroughEnds (fabric.now).world }

@@ -17,3 +17,4 @@ pub mod Wider
 pub mod GivenSets
 pub mod CostsOfRouters
 pub mod Elements
+pub mod FarEnds

@@ -1,14 +1,16 @@
 //! The world: routers and links, and the steps that change them.
 
-ghost use Rattle.std.specs.Prelude.{ℕ, ◌≡◌, ◌+◌, ◌^◌, ◌<◌, ◌≤◌, ◌↔◌, true, false, length, map, take, slice_get, is_none, None, Some, Err, IfOk, IfErr, IfSome, IsOk, OnOk, OnErr, MatchOption, IsOkUnless, IsTrue, All, option_map, option_and_then};
+ghost use Rattle.std.specs.Prelude.{ℕ, ◌≡◌, ◌+◌, ◌^◌, ◌<◌, ◌≤◌, ◌↔◌, true, false, length, map, take, slice_get, is_none, None, Some, Err, IfOk, IfErr, IfSome, IsOk, OnOk, OnErr, MatchOption, IsOkUnless, IsTrue, All, option_map, option_and_then, if◌then◌else◌};
 ghost use Rattle.std.specs.List.{position_from};
 ghost use Rattle.std.specs.Option.{option_copied};
 ghost use Rattle.network_model.specs.World as model;
 ghost use Rattle.network_model.specs.Step as steps;
-ghost use Rattle.network_model.specs.Step.{refusal};
+ghost use Rattle.network_model.specs.Step.{is_up_in, refusal};
 ghost use Rattle.network_model.specs.Run.{Runs};
 ghost use Rattle.network_model.specs.Turns as turns;
 ghost use Rattle.network_model.specs.declared.item.Held.{Held};
+ghost use Rattle.network_model.specs.declared.route.Entry.{Entry as Entries};
+ghost use Rattle.network_model.specs.Forwarding.{entry_leads};
 ghost use Rattle.world.specs.Steps.{DeliversWithRoom, DeliveryNeedsMemory, DiscardsStale, IsDoneOr, HasRoomForSteps, IsPort, is_stale, port_refusal, prefix_refusal, StopsAt};
 ghost use Rattle.world.specs.Headline.{IsReached, HasWorldHeadline};
 ghost use Rattle.world.specs.Waiting.{is_waiting, waiting_port};
@@ -20,7 +22,7 @@ use crate::opening::{
     opening_attachments, opening_costs, opening_places, opening_prefixes, opening_routers,
 };
 use link_fifo::Links;
-use network_model::{Cost, NoMemory, Notice, Place, Prefix, Refusal, SmallAllocator, Step};
+use network_model::{Cost, End, NoMemory, Notice, Place, Prefix, Refusal, SmallAllocator, Step};
 use router_core::Router;
 use std::alloc::Global;
 use std::marker::Model;
@@ -32,6 +34,22 @@ pub struct Ran {
     pub done: usize,
     /// Why the next step was refused; None where all were done.
     pub refusal: Option<Refusal>,
+}
+
+// The router at the other end of the link at a place, if the link is up in this session.
+fn far_end<A: SmallAllocator>(links: &Links<A>, place: Place, session: u16) -> Option<u16>
+    requires { place.link < length links.now.links }
+    ensures { IfSome (slice_get links.now.links place.link) (λ k. result ≡ (if is_up_in session k
+        then Some (model.side (model.other place.end) k).router else None)) }
+{
+    if !links.is_up(place.link) || links.session(place.link) != session {
+        return None;
+    }
+    let far = match place.end {
+        End::A => End::B,
+        End::B => End::A,
+    };
+    Some(links.router(place.link, far))
 }
 
 /// A network that runs: its links, its routers, the place of each router's ports on the links, its
@@ -128,6 +146,15 @@ impl<A: SmallAllocator> World<A> {
     {
         let places = self.places.get(usize::from(router))?;
         places.get(usize::from(port)).copied()
+    }
+
+    /// The router at the far end of the link at a router's port, where there is such a port and its link is up
+    /// in this session.
+    pub fn far_router(&self, router: u16, port: u8, session: u16) -> Option<u16>
+        ensures { result ≡ entry_leads self.now router (Entries.Via port session) }
+    {
+        let place = self.port(router, port)?;
+        far_end(&self.links, place, session)
     }
 
     /// How many notices of its attachments a router has yet to take.

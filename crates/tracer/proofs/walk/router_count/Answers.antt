@@ -2,12 +2,9 @@ use Rattle.std.proofs.Common.{subst}
 use Rattle.network_model.specs.Network.{IsNetwork}
 use Rattle.packet_loops.proofs.Traces.{always_traces_end}
 use Rattle.all_packets.proofs.Through.{always_through_ends}
-use Rattle.tracer.proofs.Runs.{links_of_ports, leads_to_routers}
+use Rattle.tracer.proofs.Runs.{leads_to_routers}
 use Rattle.tracer.proofs.Walks.{follows_end}
 use Rattle.tracer.proofs.walk.router_count.Goals as goal
-
-pub returns-clause-links : goal.returns-clause-links
-returns-clause-links g c = links_of_ports c.args.fabric.now.network c.journal-journal.result.now c.args.fabric.now.world c.journal-journal.ensures.runs
 
 pub returns-clause-routers : goal.returns-clause-routers
 returns-clause-routers g c =

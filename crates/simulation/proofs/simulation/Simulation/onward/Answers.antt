@@ -1,9 +1,7 @@
-use Rattle.std.proofs.Common.{◌≡◌, ◌∙◌, None, sym, ap, subst, arith}
+use Rattle.std.proofs.Common.{◌≡◌, ◌∙◌, None, ap, subst, arith}
 use Rattle.network_model.specs.Forwarding.{by_row, row_for}
 use Rattle.simulation.specs.InForce.{images_in_force}
-use Rattle.simulation.specs.Runs.{HasLinksOfPorts}
 use Rattle.simulation.specs.Simulation.{Simulation, ForwardsAsPublished, simulation_of}
-use Rattle.simulation.proofs.Runs.{links_of_ports}
 use Rattle.simulation.proofs.Simulations.{forwards}
 use Rattle.simulation.proofs.Walks.{row_is}
 use Rattle.simulation.proofs.simulation.Simulation.onward.Goals as goal
@@ -14,9 +12,6 @@ image-requires g c =
     let every = F.every_router in
     let known = c.requires in
     omega (arith, every, known)
-
-pub by_row-requires : goal.by_row-requires
-by_row-requires g c = subst HasLinksOfPorts (sym c.world.ensures) (links_of_ports c.self.inside.network c.self.invariant.done c.self.inside.world c.self.invariant.runs)
 
 pub returns : goal.returns
 returns g c =

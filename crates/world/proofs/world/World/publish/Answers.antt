@@ -1,4 +1,4 @@
-use Rattle.std.proofs.Common.{◌≡◌, refl, ap, ◌∙◌, sym, set, slice_get}
+use Rattle.std.proofs.Common.{◌≡◌, refl, ap, ◌∙◌, sym, set, slice_get, rules}
 use Rattle.network_model.specs.declared.step.Step.TheVariants.{Publish}
 use Rattle.network_model.specs.World.{World}
 use Rattle.network_model.specs.Step as steps
@@ -20,3 +20,9 @@ invariant_of-self g c =
 
 pub returns-clause-ok : goal.returns-clause-ok
 returns-clause-ok g c = is_next g c ∙ ap (λ (w : World). steps.next w (Publish c.args.router)) c.self.view_is
+
+pub returns-then-not-due-clause-cause : goal.returns-then-not-due-clause-cause
+returns-then-not-due-clause-cause g c = search rules
+
+pub returns-clause-cause : goal.returns-clause-cause
+returns-clause-cause g c = search rules

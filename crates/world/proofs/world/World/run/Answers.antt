@@ -1,5 +1,5 @@
 use Rattle.packet_loops.proofs.Common.{⊤, get_or_from_slice_get, Lawful, next, refusal, Runs}
-use Rattle.std.proofs.Common.{◌≡◌, Some, suc, ◌+◌, ◌-◌, ◌++◌, [], ◌∷◌, take, length, sym, ap, subst, ◌∙◌, arith, add-one}
+use Rattle.std.proofs.Common.{◌≡◌, Some, suc, ◌+◌, ◌-◌, ◌++◌, [], ◌∷◌, take, length, sym, ap, subst, ◌∙◌, arith, add-one, rules}
 use Rattle.std.proofs.Math.Seq.{take-suc}
 use Rattle.network_model.specs.declared.step.Step.{Step}
 use Rattle.network_model.specs.declared.step.Step.TheVariants.{Publish}
@@ -43,3 +43,9 @@ returns-clause-reached g c = λ n reached. reached_on n c.args.self.now c.loop-d
 
 pub returns-clause-headline : goal.returns-clause-headline
 returns-clause-headline g c = λ n reached. sound_there n c.loop-done.self (returns-clause-reached g c n reached)
+
+pub returns-in-Err-clause-runs : goal.returns-in-Err-clause-runs
+returns-in-Err-clause-runs g c = search rules
+
+pub returns-clause-runs : goal.returns-clause-runs
+returns-clause-runs g c = search rules
