@@ -167,17 +167,14 @@ on_err (Err e) f holds = f holds
 pub few_at : (t : Timed) → IsTimed t → length (world_of t).routers ≤ 65536
 few_at t K = (joined (t.simulation).network K.valid (steps_of K.done) (world_of t) K.runs).few_routers
 
-pub report_opened : (t : Timed) → IsTimed t → (n : Network) (delays : List LinkDelays) (waits : List ℕ) → t ≡ opening_timed n delays waits → (count : ℕ) → count ≡ length (world_of t).routers → (ps : List Prefix) → ps ≡ (world_of t).prefixes
+pub report_opens : (t : Timed) → IsTimed t → (n : Network) (delays : List LinkDelays) (waits : List ℕ) → t ≡ opening_timed n delays waits → (count : ℕ) → count ≡ length (world_of t).routers → (ps : List Prefix) → ps ≡ (world_of t).prefixes
     → (computing cut_off : List Watched) → AreWatched count ps computing → ((x : ℕ) (c : Watched) → slice_get computing x ≡ Some c → c.since ≡ None) → AreWatched count ps cut_off → ((x : ℕ) (c : Watched) → slice_get cut_off x ≡ Some c → c.since ≡ None)
-    → (past out : List Spell) → past ≡ [] → out ≡ [] → IsReport (reported_of t past computing out cut_off)
-report_opened t K n delays waits is count count_is ps ps_is computing cut_off each none each_out none_out past out nothing nothing_out =
+    → (past out : List Spell) → past ≡ [] → out ≡ [] → IsReportOf [] (reported_of t past computing out cut_off)
+report_opens t K n delays waits is count count_is ps ps_is computing cut_off each none each_out none_out past out nothing nothing_out =
     let m : Network = (t.simulation).network in
     let at : world_of t ≡ opening m = ap world_of is ∙ sym (ap (λ (x : Timed). opening (x.simulation).network) is) in
     let routers : count ≡ m.routers = count_is ∙ ap (λ (w : World). length w.routers) at ∙ length-map-range_with_len (opening_router_of m) 0 m.routers in
     let prefixes : ps ≡ prefixes_of m.attachments = ps_is ∙ ap (λ (w : World). w.prefixes) at in
     let all : (cs : List Watched) → AreWatched count ps cs → AreWatched m.routers (prefixes_of m.attachments) cs = λ cs e. subst (λ (k : ℕ). AreWatched k (prefixes_of m.attachments) cs) routers (subst (λ (qs : List Prefix). AreWatched count qs cs) prefixes e) in
-    record {
-      done = [];
-      exact = subst (λ (xs : List Spell). IsReportOf [] (reported_of t xs computing out cut_off)) (sym nothing) (subst (λ (xs : List Spell). IsReportOf [] (reported_of t [] computing xs cut_off)) (sym nothing_out)
-          (report_opening t K.valid (ap (λ (x : Timed). x.clock) is) at computing cut_off (all computing each) none (all cut_off each_out) none_out));
-    }
+    subst (λ (xs : List Spell). IsReportOf [] (reported_of t xs computing out cut_off)) (sym nothing) (subst (λ (xs : List Spell). IsReportOf [] (reported_of t [] computing xs cut_off)) (sym nothing_out)
+    (report_opening t K.valid (ap (λ (x : Timed). x.clock) is) at computing cut_off (all computing each) none (all cut_off each_out) none_out))

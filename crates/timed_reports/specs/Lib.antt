@@ -3,3 +3,4 @@ pub mod Going
 pub mod Records
 pub mod Looks
 pub mod Reports
+pub mod Recordings

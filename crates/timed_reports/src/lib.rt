@@ -28,6 +28,9 @@
 //! report.cut_off();                                   // who is cut off now, and since when
 //! ```
 //!
+//! A record takes time with each event. So whoever may do without it opens a [`Recording`], which keeps one only
+//! if that is asked for.
+//!
 //! What always holds (`IsReport` in `specs/Reports.antt`): the record is exact of the events that were done. A
 //! spell that ended stands in its list if and only if there was one. What goes on stands there with the moment
 //! at which it began if and only if it goes on. At rest nobody is cut off, and no machine is computing
@@ -45,10 +48,12 @@ ghost use Rattle.timed_simulation.specs.Runs.{IsAtRest};
 ghost use Rattle.timed_reports.specs.Going.{IsComputing};
 
 mod looks;
+mod recording;
 mod report;
 mod spells;
 
 pub use network_model::{NoMemory, Prefix, SmallAllocator, Step};
+pub use recording::Recording;
 pub use report::Report;
 pub use spells::{Spell, Watched};
 pub use timed_simulation::{Change, Event, LinkDelays, TimeFault, TimedRan, TimedSimulation};

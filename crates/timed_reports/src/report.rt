@@ -1,13 +1,13 @@
 //! The report: a network in simulated time, and what goes on in it and went on.
 
-ghost use Rattle.std.specs.Prelude.{Err, ◌≡◌, ◌+◌, ◌≤◌, ◌⊎◌, false, Some, drop, length, slice_get, IfOk, IfErr, IfSome, OnOk, OnErr, MatchOption};
+ghost use Rattle.std.specs.Prelude.{Err, [], ◌≡◌, ◌+◌, ◌≤◌, ◌⊎◌, false, Some, drop, length, slice_get, IfOk, IfErr, IfSome, OnOk, OnErr, MatchOption};
 ghost use Rattle.std.specs.Vec.{vec_capacity, vec_len};
 ghost use Rattle.coming_to_rest.specs.Worlds.{is_own};
 ghost use Rattle.timed_simulation.specs.Timed.{after_event, opening_timed, with_change};
 ghost use Rattle.timed_simulation.specs.Events.{next_event};
 ghost use Rattle.timed_simulation.specs.Due.{IsDoneUntil, NothingIsLate};
 ghost use Rattle.timed_simulation.specs.Runs.{IsAtRest, IsGivenOr, IsNext, IsStoppedAt, IsTimed};
-ghost use Rattle.timed_reports.specs.Reports.{IsReport, IsReportRun, RecordsEvent};
+ghost use Rattle.timed_reports.specs.Reports.{IsReport, IsReportOf, IsReportRun, RecordsEvent};
 
 use crate::looks::{look_for_computations, look_for_outages};
 use crate::spells::{Spell, Watched, watch_all};
@@ -137,7 +137,8 @@ impl<A: SmallAllocator> Report<A> {
     ) -> Result<Report<A>, NoMemory>
         requires each_link { length links.now ≡ length network.links }
         requires each_router { length routers.now ≡ network.routers }
-        ensures { IfOk result (λ r. r.timed ≡ opening_timed network links.now routers.now) }
+        ensures opened { IfOk result (λ r. r.timed ≡ opening_timed network links.now routers.now) }
+        ensures fresh { IfOk result (λ r. IsReportOf [] r) }
     {
         let timed = TimedSimulation::open(alloc, network, links, routers)?;
         timed.holds();

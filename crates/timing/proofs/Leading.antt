@@ -13,6 +13,9 @@ use Rattle.timed_simulation.specs.Events.{next_event}
 use Rattle.timed_simulation.specs.Due.{IsDue, IsDoneUntil}
 use Rattle.timed_simulation.specs.Runs.{IsNext, IsStoppedAt, IsTimedRun, LeadsTo}
 use Rattle.timed_simulation.proofs.Runs.{run_more, run_none}
+use Rattle.timed_reports.specs.declared.recording.Recording.{Recording}
+use Rattle.timed_reports.specs.declared.recording.Recording.TheVariants.{On, Off}
+use Rattle.timed_reports.specs.Recordings.{timed_in, with_timed}
 use Rattle.timing.specs.declared.mark.Begun.{Begun}
 use Rattle.timing.specs.Runs.{IsBegun, Leads, with_changes}
 
@@ -77,6 +80,11 @@ refused_as t e refusal next stopped other =
     ]
 
 -- ---- changes that are given
+
+-- what becomes of the network in simulated time, whether a record is kept or not
+pub timed_with : (f : Timed → Timed) (r : Recording) → timed_in (with_timed f r) ≡ f (timed_in r)
+timed_with f (Off t) = refl
+timed_with f (On r) = refl
 
 -- one more is given
 given_more : (cs : List Change) (i : ℕ) (d : Change) (t : Timed) → i < length cs

@@ -3,4 +3,5 @@ pub mod Documents
 pub mod Listed
 pub mod Leading
 pub mod Reading
+pub mod Tallies
 pub mod Timing

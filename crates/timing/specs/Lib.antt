@@ -4,4 +4,5 @@ pub mod Given
 pub mod Lines
 pub mod Times
 pub mod Runs
+pub mod Tallies
 pub mod Ends

@@ -1,11 +1,12 @@
 -- Runs in which changes are done, or refused and taken off.
-use Rattle.std.specs.Prelude.{◌≡◌, ℕ, true, List, [], ◌∷◌, drop, Some, MatchOption}
+use Rattle.std.specs.Prelude.{◌≡◌, ℕ, true, List, [], ◌∷◌, Some, MatchOption}
 use Rattle.network_model.specs.Turns.{is_settled}
 use Rattle.simulation.specs.Simulation.{simulation_refusal}
 use Rattle.timed_simulation.specs.declared.events.Change.{Change}
 use Rattle.timed_simulation.specs.Timed.{Timed, after_event, with_change, world_of}
 use Rattle.timed_simulation.specs.Events.{next_event}
 use Rattle.timed_simulation.specs.Runs.{IsNext, IsTimedRun}
+use Rattle.timed_reports.specs.Recordings.{without_first}
 use Rattle.timing.specs.declared.mark.Mark.{Mark}
 use Rattle.timing.specs.declared.mark.Begun.{Begun}
 
@@ -25,7 +26,7 @@ pub record IsBegun (t : Timed) (b : Begun) (u : Timed) : Type 0 where
   pub before : b.before ≡ mark_of t
   pub ends : MatchOption b.refusal
       (IsNext t b.event × (u ≡ after_event t b.event))
-      (λ refusal. (simulation_refusal t.simulation (b.event).step ≡ Some refusal) × (u ≡ record t { changes = drop 1 t.changes }))
+      (λ refusal. (simulation_refusal t.simulation (b.event).step ≡ Some refusal) × (u ≡ without_first t))
 
 -- events, each the next one, lead to the first change, and behind it to the others, and from the last on
 abbrev pub Leads : Timed → List Begun → Timed → Type 0

@@ -39,6 +39,7 @@ mod lines;
 mod mark;
 mod moment;
 mod run;
+mod tally;
 mod tell;
 mod timed;
 mod times;

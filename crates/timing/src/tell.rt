@@ -1,71 +1,141 @@
 //! Tells what came of each change.
 
 use crate::mark::{Begun, Mark};
+use crate::tally::{Span, Tally, began_in, count_spells};
 use journal::StepText;
-use network_model::LinkSpec;
+use network_model::{LinkSpec, Refusal};
 use reports::Printer;
 use std::fmt;
 use std::io::Write;
+use timed_reports::{Report, Spell};
 
 /// Prints a line for each change, in the order of the moments. What is told of a change is what was done until
-/// the next one was, or until the run ended so far. A write that fails is lost.
+/// the next one was, or until the run ended so far. If spells are recorded, those that began in that time are told
+/// below, in the order in which they ended. A write that fails is lost.
 pub fn tell_changes<W: Write>(
     printer: &Printer<'_>,
     links: &[LinkSpec],
     begun: &[Begun],
     end: Mark,
+    report: Option<&Report>,
     out: &mut W,
 ) {
     for (place, one) in begun.iter().enumerate() {
-        let after = mark_after(begun, place, end);
-        tell_change(printer, links, one, after, out);
+        let (after, until) = next_change(begun, place, end);
+        let step = StepText::new(printer.directory, links, one.event.step);
+        let moment = one.event.moment;
+        match one.refusal {
+            Some(refusal) => tell_refusal(printer, moment, step, refusal, out),
+            None => {
+                let span = Span {
+                    from: moment,
+                    until,
+                };
+                let effect = Effect {
+                    moment,
+                    before: one.before,
+                    after,
+                };
+                tell_effect(printer, step, effect, span, report, out);
+            }
+        }
     }
 }
 
-// How far the run was before the change that was done next, or at its end.
-fn mark_after(begun: &[Begun], place: usize, end: Mark) -> Mark {
+// How far the run was before the change that was done next, and its moment; or how far it was at its end.
+fn next_change(begun: &[Begun], place: usize, end: Mark) -> (Mark, Option<u64>) {
     for later in begun.iter().skip(place.saturating_add(1)) {
         if later.refusal.is_none() {
-            return later.before;
+            return (later.before, Some(later.event.moment));
         }
     }
-    end
+    (end, None)
 }
 
-fn tell_change<W: Write>(
+fn tell_refusal<W: Write>(
     printer: &Printer<'_>,
-    links: &[LinkSpec],
-    one: &Begun,
-    after: Mark,
+    moment: u64,
+    step: StepText<'_>,
+    refusal: Refusal,
     out: &mut W,
 ) {
-    let moment = one.event.moment;
-    let step = StepText::new(printer.directory, links, one.event.step);
-    let _ = match one.refusal {
-        Some(refusal) => printer.print(
-            format_args!("{moment} {step}: refused {refusal}"),
-            format_args!(
-                "{{\"kind\":\"change\",\"moment\":{moment},\"step\":\"{step}\",\"refused\":\"{refusal}\"}}"
-            ),
-            out,
+    let _ = printer.print(
+        format_args!("{moment} {step}: refused {refusal}"),
+        format_args!(
+            "{{\"kind\":\"change\",\"moment\":{moment},\"step\":\"{step}\",\"refused\":\"{refusal}\"}}"
         ),
-        None => {
-            let effect = Effect {
-                moment,
-                before: one.before,
-                after,
-            };
-            let text = EffectText { effect };
-            let json = EffectJson { effect };
-            printer.print(
-                format_args!("{moment} {step}: {text}"),
-                format_args!(
-                    "{{\"kind\":\"change\",\"moment\":{moment},\"step\":\"{step}\",{json}}}"
-                ),
-                out,
-            )
-        }
+        out,
+    );
+}
+
+// Tells what came of a change that was done, with the spells that began in its time.
+fn tell_effect<W: Write>(
+    printer: &Printer<'_>,
+    step: StepText<'_>,
+    effect: Effect,
+    span: Span,
+    report: Option<&Report>,
+    out: &mut W,
+) {
+    let moment = effect.moment;
+    let text = EffectText { effect };
+    let json = EffectJson { effect };
+    let Some(report) = report else {
+        let _ = printer.print(
+            format_args!("{moment} {step}: {text}"),
+            format_args!("{{\"kind\":\"change\",\"moment\":{moment},\"step\":\"{step}\",{json}}}"),
+            out,
+        );
+        return;
     };
+    let Tally { count, longest } = count_spells(span, report.computations());
+    let Tally {
+        count: cuts,
+        longest: longest_cut,
+    } = count_spells(span, report.outages());
+    let _ = printer.print(
+        format_args!(
+            "{moment} {step}: {text}, {count} computations of at most {longest}, {cuts} outages of at most {longest_cut}"
+        ),
+        format_args!(
+            "{{\"kind\":\"change\",\"moment\":{moment},\"step\":\"{step}\",{json},\"computations\":{count},\"longest_computation\":{longest},\"outages\":{cuts},\"longest_outage\":{longest_cut}}}"
+        ),
+        out,
+    );
+    tell_spells(printer, "computation", span, report.computations(), out);
+    tell_spells(printer, "outage", span, report.outages(), out);
+}
+
+// Tells the spells of one kind that began in this time.
+fn tell_spells<W: Write>(
+    printer: &Printer<'_>,
+    kind: &str,
+    span: Span,
+    spells: &[Spell],
+    out: &mut W,
+) {
+    for spell in spells {
+        if began_in(span, spell) {
+            tell_spell(printer, kind, spell, out);
+        }
+    }
+}
+
+fn tell_spell<W: Write>(printer: &Printer<'_>, kind: &str, spell: &Spell, out: &mut W) {
+    let Spell {
+        router,
+        prefix,
+        from,
+        to,
+    } = *spell;
+    let name = printer.directory.name(Some(router));
+    let _ = printer.print(
+        format_args!("  {kind} at {name} for {prefix} from {from} to {to}"),
+        format_args!(
+            "{{\"kind\":\"{kind}\",\"router\":\"{name}\",\"prefix\":\"{prefix}\",\"from\":{from},\"to\":{to}}}"
+        ),
+        out,
+    );
 }
 
 // What came of a change that was done at this moment.

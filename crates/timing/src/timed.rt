@@ -9,13 +9,14 @@ use crate::mark::Mark;
 use crate::run::{give, run_changes};
 use crate::tell::{tell_changes, tell_end};
 use crate::times::{Times, read_times};
+use command_line::Format;
 use plans::{Cause, Fault, Plan, read_plan, read_text};
 use reports::{End, Printer};
 use script::Directory;
 use std::alloc::Global;
 use std::io::{Read, Write};
-use timed_simulation::{Change, TimedSimulation};
-use words::Format;
+use timed_reports::Recording;
+use timed_simulation::Change;
 use world::Network;
 
 /// How a run in simulated time is told of.
@@ -23,6 +24,8 @@ use world::Network;
 pub struct TimeOptions {
     /// How what is printed is written.
     pub format: Format,
+    /// Whether each computation and each outage is told.
+    pub spells: bool,
 }
 
 /// Reads a scenario and a document of times, runs the network until it is at rest, and tells what came of each
@@ -69,22 +72,23 @@ fn run<W: Write>(
     requires changes { All (λ c. is_own c.step ≡ false) times.now.changes.items }
     ensures { OnOk result (RunsTimes network times.now) }
 {
-    let mut timed = TimedSimulation::open(alloc, network, &times.links, &times.routers)?;
-    give(&mut timed, &times.changes)?;
+    let mut recording = Recording::open(
+        alloc,
+        options.spells,
+        network,
+        &times.links,
+        &times.routers,
+    )?;
+    give(&mut recording, &times.changes)?;
     let mut begun = Vec::new(alloc);
-    let ran = run_changes(&mut timed, &mut begun);
-    let end = Mark::of(&timed);
+    let ran = run_changes(&mut recording, &mut begun);
+    let end = Mark::of(recording.timed());
     let printer = Printer {
         directory,
         format: options.format,
     };
-    tell_changes(
-        &printer,
-        timed.simulation().network().links(),
-        &begun,
-        end,
-        out,
-    );
+    let links = recording.timed().simulation().network().links();
+    tell_changes(&printer, links, &begun, end, recording.report(), out);
     ran?;
     tell_end(&printer, end, out);
     Ok(())

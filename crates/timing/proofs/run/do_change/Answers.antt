@@ -1,8 +1,9 @@
 use Rattle.std.proofs.Common.{sym, subst, ◌∙◌}
+use Rattle.timed_reports.specs.Recordings.{timed_in}
 use Rattle.timing.proofs.Leading.{none_done, one_done, refused_as}
 use Rattle.timing.proofs.run.do_change.Goals as goal
 
 pub returns-in-None : goal.returns-in-None
 returns-in-None c =
-    one_done c.args.timed.now c.run_until-ran.new.self c.args.event.now c.run_until-ran.result.done c.requires.next c.requires.due c.run_until-ran.ensures.run c.run_until-ran.ensures.most
+    one_done (timed_in c.args.recording.now) (timed_in c.run_until-ran.new.self) c.args.event.now c.run_until-ran.result.done c.requires.next c.requires.due c.run_until-ran.ensures.run c.run_until-ran.ensures.most
     (rw c.in-None.is at c.run_until-ran.ensures.stop)
