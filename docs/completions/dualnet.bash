@@ -29,7 +29,7 @@ _dualnet() {
     check) options="--explain --help" ;;
     run) options="--threads --workers --journal --explain --format --progress --help" ;;
     replay) options="--explain --format --progress --help" ;;
-    time) options="--explain --format --help" ;;
+    time) options="--spells --explain --format --help" ;;
     shell) options="--journal --explain --format --help" ;;
     explain)
         numbers=$(seq 1 52)

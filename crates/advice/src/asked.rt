@@ -3,7 +3,7 @@
 ghost use Rattle.std.specs.Prelude.{◌≡◌};
 ghost use Rattle.advice.specs.Asked.{explained_file};
 
-use words::Words;
+use command_line::Words;
 
 /// The scenario in which the fault is, where more is to be told of it.
 pub fn file_to_explain<'a>(words: &Words<'a>) -> Option<&'a str>
@@ -30,6 +30,7 @@ pub fn file_to_explain<'a>(words: &Words<'a>) -> Option<&'a str>
         Words::Time {
             file,
             times: _,
+            spells: _,
             explain,
             format: _,
         } => (file, explain),

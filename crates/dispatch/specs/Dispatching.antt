@@ -9,7 +9,7 @@ use Rattle.publication.specs.declared.job.Job.{Job}
 use Rattle.publication.specs.Lists.{image_of}
 use Rattle.forwarder.specs.Replies.{Replied}
 use Rattle.texts.specs.Words.{Text}
-use Rattle.words.specs.declared.format.Format.{Format}
+use Rattle.command_line.specs.declared.format.Format.{Format}
 use Rattle.script.specs.Directories.{Directory}
 use Rattle.reports.specs.Formats.{packet_line}
 use Rattle.worker_pool.specs.Faults.{IsBeginFault, IsInjectFault}

@@ -2,7 +2,7 @@
 //!
 //! The problem: contracts and tests cannot see files, streams and the arguments of a process. So this crate
 //! has these alone, and as little else as it can. All that can be proved or tested stands in crates below:
-//! `words` reads the command line, `play` does what it asks for, `advice` tells more of a fault.
+//! `command_line` reads the command line, `play` does what it asks for, `advice` tells more of a fault.
 //!
 //! ```text
 //!   arguments  -->  read_words  -->  Words
@@ -20,7 +20,8 @@
 //! - Output is written line by line to a terminal, and else a block at a time.
 //! - With `--explain` the bytes of both files are kept as they are read, so that advice can show the line at
 //!   fault. The text of a journal is made only if a file is named for it.
-//! - A journal that would be written over the scenario is refused before the run begins (49).
+//! - A journal that would be written over the scenario, or to the standard output, is refused before the run
+//!   begins (49).
 //!
 //! What always holds: the exit status is the one that `play` promises for these words and files. If the
 //! journal cannot be written after that, it is 2. No function here has a contract of its own.
@@ -30,6 +31,7 @@
 #![tactic(auto)]
 
 use advice::{Faulty, advise, advise_bytes, advise_journal, file_to_explain, is_check};
+use command_line::{Words, read_words};
 use journal::JournalFault;
 use play::{Cause, Fault, Host, NoGate, Source, THRESHOLDS, play_by, refuse};
 use program_files::{
@@ -39,7 +41,6 @@ use program_files::{
 use std::io::{BufWriter, IsTerminal, LineWriter, Read, Write};
 use std::process::ExitCode;
 use std::{fs, io};
-use words::{Words, read_words};
 
 fn main(rt: HostRuntime) -> ExitCode {
     let status = status(&rt, &rt);
@@ -77,7 +78,7 @@ fn print_by<H: Host>(rt: &HostRuntime, wait: &H, words: &Words<'_>) -> io::Resul
 
 // Does what the words ask for, over the files that they name.
 fn run_words<H: Host, W: Write>(rt: &HostRuntime, wait: &H, words: &Words<'_>, out: &mut W) -> u8 {
-    if is_overwritten(rt, words) {
+    if is_unwritable(rt, words) {
         refuse(Fault::from(Cause::Unwritable), &mut rt.stderr())
     } else {
         let keeps = file_to_explain(words).is_some();
@@ -165,9 +166,17 @@ fn second_input(rt: &HostRuntime, words: &Words<'_>) -> Source<Input> {
             format: _,
         } => Source::Open(Input::Standard(rt.stdin())),
         _ => match second_path(words) {
-            Some(path) => open_file(rt, path),
-            None => Source::Missing,
+            Some(path) if path != "-" || !is_scenario_from_input(words) => open_file(rt, path),
+            _ => Source::Missing,
         },
+    }
+}
+
+// Whether the scenario is read from the standard input. Then no other file can be, because it is read once.
+fn is_scenario_from_input(words: &Words<'_>) -> bool {
+    match scenario_path(words) {
+        Some(path) => path == "-",
+        None => false,
     }
 }
 
@@ -199,9 +208,10 @@ fn tell_line(rt: &HostRuntime, words: &Words<'_>, fault: Fault, journal: &[u8]) 
     }
 }
 
-// Whether the journal is to be written over the scenario.
-fn is_overwritten(rt: &HostRuntime, words: &Words<'_>) -> bool {
+// Whether the journal is to be written to the standard output, which has the lines, or over the scenario.
+fn is_unwritable(rt: &HostRuntime, words: &Words<'_>) -> bool {
     match (scenario_path(words), kept_path(words)) {
+        (_, Some(journal)) if journal == "-" => true,
         (Some(scenario), Some(journal)) => is_one_file(rt, scenario, journal),
         _ => false,
     }

@@ -24,13 +24,13 @@
 //! the status is 2.
 #![tactic(auto)]
 
+use command_line::{ViewWords, read_view_words};
 use play::{Cause, Fault, Host, Source, refuse};
 use program_files::{exit_code, given_words, is_read, open_file, tell};
 use std::io::{BufWriter, Write};
 use std::process::ExitCode;
 use std::{fs, io};
 use view::show;
-use words::{ViewWords, read_view_words};
 
 fn main(rt: HostRuntime) -> ExitCode {
     let status = status(&rt, &rt);

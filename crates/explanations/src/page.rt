@@ -315,9 +315,9 @@ const BAD_TOML: Page = Page {
 
 const BAD_KEY: Page = Page {
     kind: Kind::BadKey,
-    cause: "the keys are not exactly `routers`, `links`, `prefixes` and `script`, or one is not an array of strings",
+    cause: "the keys of a scenario are not exactly `routers`, `links`, `prefixes` and `script`, a document of times has other keys than its five, or a value has another type",
     example: "an empty file, `router = [\"a\"]`, `links = 1`",
-    remedy: "write all four keys, with `[]` for an empty list",
+    remedy: "write all four keys of a scenario, with `[]` for an empty list",
 };
 
 const BAD_NAME: Page = Page {
@@ -329,14 +329,14 @@ const BAD_NAME: Page = Page {
 
 const BAD_LINE: Page = Page {
     kind: Kind::BadLine,
-    cause: "a line of `links` or `prefixes` is not written as below, or a prefix names an unknown router",
+    cause: "a line of `links`, `prefixes` or, in a document of times, `routers` is not written as below, or names what the scenario does not have",
     example: "the link `a b 1`, the prefix `10.0.0.0/8 z 1`",
-    remedy: "write a link as `A B C1 C2` and a prefix as `PREFIX ROUTER COST`, with whole numbers and single spaces",
+    remedy: "write a link as `A B C1 C2` and a prefix as `PREFIX ROUTER COST`, in a document of times `A B THERE BACK` and `ROUTER DELAY`, with whole numbers and single spaces",
 };
 
 const BAD_COMMAND: Page = Page {
     kind: Kind::BadCommand,
-    cause: "a line of the script is no command, or names a router, link or prefix that the scenario does not have",
+    cause: "a line of the script is no command, a line of the changes is not `MOMENT STEP`, or one names a router, link or prefix that the scenario does not have",
     example: "`setle`, `up a`, `up a z`, `up  a b`, `state a 11.0.0.0/8`",
     remedy: "see `dualnet --help` for the commands; `dualnet check FILE --explain` says what is wrong with the line",
 };
@@ -352,7 +352,7 @@ const UNREADABLE: Page = Page {
     kind: Kind::Unreadable,
     cause: "the file is not there, is a folder, or may not be read",
     example: "`dualnet run no-such-file.toml`",
-    remedy: "check the path and its permissions; `-` is the standard input",
+    remedy: "check the path and its permissions; `-` is the standard input, which is read once",
 };
 
 const BAD_JOURNAL: Page = Page {

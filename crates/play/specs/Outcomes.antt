@@ -1,8 +1,8 @@
 -- How the program ends, whatever it is asked for.
 use Rattle.std.specs.Prelude.{◌≡◌, ◌⊎◌, ℕ, Bool, Option, Some}
 use Rattle.texts.specs.Words.{Text}
-use Rattle.words.specs.declared.words.Words.{Words}
-use Rattle.words.specs.declared.words.Words.TheVariants.{Check, Run, Replay, Time, Explain, Shell}
+use Rattle.command_line.specs.declared.words.Words.{Words}
+use Rattle.command_line.specs.declared.words.Words.TheVariants.{Check, Run, Replay, Time, Explain, Shell}
 use Rattle.plans.specs.declared.fault.Fault.{Fault}
 use Rattle.reports.specs.declared.end.End.{End}
 use Rattle.reports.specs.declared.end.End.TheVariants.{Done}
@@ -18,7 +18,7 @@ abbrev pub Ends : Bool → Words → Option Text → Option Text → Text → Te
 Ends wanted (Check _ _) scenario journal old new end = (end ≡ Done) × (new ≡ old) × OfBytes scenario IsChecked
 Ends wanted (Run _ _ _ _ _ _ _) scenario journal old new end = (end ≡ Done) × OfBytes scenario (IsRunToEnd (λ d f. KeepsJournal wanted d f (Some old) (Some new)))
 Ends wanted (Replay _ _ _ _ _) scenario journal old new end = (new ≡ old) × OfBytes scenario (λ bytes. OfBytes journal (λ lines. Replays bytes lines end))
-Ends wanted (Time _ _ _ _) scenario journal old new end = (end ≡ Done) × (new ≡ old) × OfBytes scenario (λ bytes. OfBytes journal (IsTimedToEnd bytes))
+Ends wanted (Time _ _ _ _ _) scenario journal old new end = (end ≡ Done) × (new ≡ old) × OfBytes scenario (λ bytes. OfBytes journal (IsTimedToEnd bytes))
 Ends wanted (Explain _) scenario journal old new end = (end ≡ Done) × (new ≡ old)
 Ends wanted (Shell _ _ _ _) scenario journal old new end = (end ≡ Done) × OfBytes scenario (IsShellEnd (λ d f. KeepsJournal wanted d f (Some old) (Some new)))
 
@@ -27,7 +27,7 @@ abbrev pub Stops : Words → Option Text → Option Text → Fault → Type 0
 Stops (Check _ _) scenario journal fault = OfBytes scenario (λ bytes. StopsReading bytes fault)
 Stops (Run _ _ _ _ _ _ _) scenario journal fault = OfBytes scenario (λ bytes. StopsFor bytes fault)
 Stops (Replay _ _ _ _ _) scenario journal fault = OfBytes scenario (λ bytes. StopsReplay bytes journal fault)
-Stops (Time _ _ _ _) scenario journal fault = OfBytes scenario (λ bytes. StopsTime bytes fault)
+Stops (Time _ _ _ _ _) scenario journal fault = OfBytes scenario (λ bytes. StopsTime bytes fault)
 Stops (Explain _) scenario journal fault = ⊥
 Stops (Shell _ _ _ _) scenario journal fault = OfBytes scenario (λ bytes. StopsShell bytes fault)
 

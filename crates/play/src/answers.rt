@@ -1,6 +1,7 @@
 //! What a shell prints beside the lines of its commands.
 
 use advice::{Typed, advise_typed};
+use command_line::SHELL_COMMANDS;
 use network_model::LinkSpec;
 use plans::{Fault, refuse};
 use reports::Printer;
@@ -8,7 +9,6 @@ use script::Names;
 use std::alloc::Global;
 use std::io::Write;
 use std::{fmt, io};
-use words::SHELL_COMMANDS;
 
 /// Prints the commands of a shell.
 pub(crate) fn print_help<W: Write>(printer: &Printer<'_>, out: &mut W) -> io::Result<()> {

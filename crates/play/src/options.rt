@@ -1,7 +1,7 @@
 //! How the commands of a script are done.
 
+use command_line::Format;
 use control::Crew;
-use words::Format;
 
 /// How the commands of a script are done.
 #[derive(Clone, Copy, Debug, PartialEq, Eq)]

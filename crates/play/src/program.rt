@@ -10,6 +10,7 @@ ghost use Rattle.play.specs.Outcomes.{Ends, IsPlayed, Stops};
 use crate::options::Options;
 use crate::session::Session;
 use crate::shell::shell;
+use command_line::{Format, Words};
 use control::{Crew, NoGate, THRESHOLDS, Thresholds, TurnGate};
 use dispatch::Host;
 use fabric::{Fabric, FabricName, Unnamed};
@@ -21,7 +22,6 @@ use std::io;
 use std::io::{Read, Write};
 use std::marker::Brand;
 use timing::{TimeOptions, time};
-use words::{Format, Words};
 
 /// Does what the words ask for, and answers the exit status. Only a replay, a shell and a run in simulated time
 /// read `journal`: the shell reads its commands there, and the run its document of times. A fault is a line on `err`, and where the program stops for it,
@@ -173,10 +173,11 @@ where
         Words::Time {
             file: _,
             times: _,
+            spells,
             explain: _,
             format,
         } => {
-            let options = TimeOptions { format };
+            let options = TimeOptions { format, spells };
             time(alloc, scenario, journal, options, out)
         }
         Words::Explain { kind } => {

@@ -9,6 +9,7 @@ ghost use Rattle.play.specs.Shell.{AreTried, CannotReadOn, IsShellEnd, StopsShel
 use crate::answers::{Listed, Told, begin_answer, end_answer, print_help, print_said, tell_fault};
 use crate::options::Options;
 use crate::session::Session;
+use command_line::Format;
 use control::{Crew, NoGate, THRESHOLDS, TurnGate};
 use dispatch::Host;
 use fabric::{Fabric, FabricName, Unnamed};
@@ -18,7 +19,6 @@ use script::read_command;
 use std::alloc::Global;
 use std::io::{BufRead, BufReader, Read, Write};
 use std::marker::Brand;
-use words::Format;
 
 /// Opens the network of a scenario, and does the commands that the lines of `input` say, each answered
 /// at once. One that cannot be read or is refused ends nothing: it is told on `err`, and as JSON in its

@@ -1,15 +1,15 @@
 -- The files that a command names.
 use Rattle.std.specs.Prelude.{List, ℕ, Option, Some, None}
 use Rattle.std.specs.Borrow.{Bor}
-use Rattle.words.specs.declared.words.Words.{Words}
-use Rattle.words.specs.declared.words.Words.TheVariants.{Check, Run, Replay, Time, Explain, Shell}
+use Rattle.command_line.specs.declared.words.Words.{Words}
+use Rattle.command_line.specs.declared.words.Words.TheVariants.{Check, Run, Replay, Time, Explain, Shell}
 
 -- the scenario
 abbrev pub scenario_of : Words → Option (Bor (List ℕ))
 scenario_of (Check file explain) = Some file
 scenario_of (Run file threads workers journal explain format progress) = Some file
 scenario_of (Replay file journal explain format progress) = Some file
-scenario_of (Time file times explain format) = Some file
+scenario_of (Time file times spells explain format) = Some file
 scenario_of (Explain kind) = None
 scenario_of (Shell file journal explain format) = Some file
 
@@ -20,7 +20,7 @@ read_journal _ = None
 
 -- the document of times
 abbrev pub read_times : Words → Option (Bor (List ℕ))
-read_times (Time file times explain format) = Some times
+read_times (Time file times spells explain format) = Some times
 read_times _ = None
 
 -- the journal that is written: that of a run or a shell, where it names one

@@ -3,11 +3,11 @@
 ghost use Rattle.std.specs.Prelude.{◌≡◌, ◌≢◌, ◌⊎◌};
 ghost use Rattle.clap.specs.Words.{kind_of};
 
+use command_line::{Error, ErrorKind, exit_status, not_utf8};
 use network_model::NoMemory;
 use plans::{Fault, refuse};
 use std::process::ExitCode;
 use std::{env, io};
-use words::{Error, ErrorKind, exit_status, not_utf8};
 
 /// The words that the program was given, the first of them its name. Of one that is not UTF-8 it tells, and
 /// answers the exit status. An error where a growth is refused.

@@ -4,7 +4,7 @@ ghost use Rattle.std.specs.Prelude.{◌≡◌, IfSome, true};
 ghost use Rattle.program_files.specs.Paths.{scenario_of, read_journal, read_times, kept_journal};
 
 use crate::files::is_one_file;
-use words::{ViewWords, Words};
+use command_line::{ViewWords, Words};
 
 /// The file of the scenario.
 pub fn scenario_path<'a>(words: &Words<'a>) -> Option<&'a str>
@@ -31,6 +31,7 @@ pub fn scenario_path<'a>(words: &Words<'a>) -> Option<&'a str>
         Words::Time {
             file,
             times: _,
+            spells: _,
             explain: _,
             format: _,
         } => Some(file),
@@ -68,6 +69,7 @@ pub fn times_path<'a>(words: &Words<'a>) -> Option<&'a str>
         Words::Time {
             file: _,
             times,
+            spells: _,
             explain: _,
             format: _,
         } => Some(times),

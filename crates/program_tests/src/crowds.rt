@@ -1,10 +1,10 @@
 //! A network in which there is enough to publish for several control threads.
 
+use command_line::{Format, Words};
+use harness::{play_in_memory, run_in_memory};
 use play::Host;
 use std::alloc::{AllocError, Global};
 use std::process::Abort;
-use trial::{play_in_memory, run_in_memory};
-use words::{Format, Words};
 
 const LEAVES: u16 = 6;
 

@@ -1,11 +1,11 @@
 //! Files that cannot be read or written, and texts that are not UTF-8.
 
+use command_line::{Format, Words, exit_status, not_utf8};
+use harness::{Outcome, play_in_memory, run_in_memory};
 use play::{Host, Source, play};
 use std::alloc::Global;
 use std::io::{self, Read, Write};
 use std::process::Abort;
-use trial::{Outcome, play_in_memory, run_in_memory};
-use words::{Format, Words, exit_status, not_utf8};
 
 pub const CHECK: Words<'static> = Words::Check {
     file: "scenario.toml",

@@ -2,6 +2,8 @@
 
 use crate::lines::directory;
 use crate::written::is_written;
+use command_line::{Format, Words};
+use harness::{play_in_memory, run_in_memory};
 use json_lines::EndLine;
 use metric::{Cost, Distance};
 use network_model::{Ending, Entry, Neighbour, Prefix, Trace};
@@ -9,8 +11,6 @@ use script::{LinkLine, MachineLine, RouterLine};
 use serde_json::Value;
 use std::alloc::Global;
 use std::process::Abort;
-use trial::{play_in_memory, run_in_memory};
-use words::{Format, Words};
 
 const RUN: Words<'static> = Words::Run {
     file: "scenario.toml",

@@ -16,7 +16,7 @@
 //!   crowds    a network of 4,096 prefixes, which 1, 2, 4 and 16 threads settle
 //! ```
 //!
-//! Most run the program in memory (`trial`), and look at what it gave:
+//! Most run the program in memory (`harness`), and look at what it gave:
 //!
 //! ```text
 //! let got = run_in_memory(&rt, alloc, &CHECK, MISSING);     // a scenario that cannot be read

@@ -1,10 +1,10 @@
 //! Scenarios at the limits, and one past each.
 
 use crate::files::{CHECK, RUN, tells};
+use harness::run_in_memory;
 use std::alloc::{AllocError, Global};
 use std::io::{self, Read};
 use std::process::Abort;
-use trial::run_in_memory;
 
 const SHORT: &[u8] =
     b"routers = [\"a\"]\nlinks = []\nprefixes = []\nscript = [\"lookup a 0.0.0.0\"]\n";

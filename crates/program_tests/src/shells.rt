@@ -1,8 +1,8 @@
 //! Lines that are typed into a shell and that no file of cases can hold.
 
 use crate::json::are_objects;
-use trial::play_in_memory;
-use words::{Format, Words};
+use command_line::{Format, Words};
+use harness::play_in_memory;
 
 const SHELL: Words<'static> = Words::Shell {
     file: "scenario.toml",

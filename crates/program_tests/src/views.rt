@@ -2,12 +2,12 @@
 //! and is of two routers at the costs 1 and 2.
 
 use crate::files::Closed;
+use command_line::ViewWords;
 use play::{Host, Source};
 use std::alloc::Global;
 use std::io;
 use std::process::Abort;
 use view::show;
-use words::ViewWords;
 
 const LINES: ViewWords<'static> = ViewWords {
     file: "scenario.toml",

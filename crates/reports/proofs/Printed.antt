@@ -3,8 +3,8 @@ use Rattle.std.proofs.Common.{◌≡◌, ℕ, subst, [], ◌∷◌, ◌++◌, Op
 use Rattle.texts.specs.Words.{Text}
 use Rattle.texts.proofs.Printed.{Appends-append}
 use Rattle.std.specs.Fmt.{with_newline}
-use Rattle.words.specs.declared.format.Format.{Format}
-use Rattle.words.specs.declared.format.Format.TheVariants.{Text as ForPeople, Json}
+use Rattle.command_line.specs.declared.format.Format.{Format}
+use Rattle.command_line.specs.declared.format.Format.TheVariants.{Text as ForPeople, Json}
 use Rattle.reports.specs.Formats.{in_format}
 use Rattle.network_model.specs.World.{Router}
 use Rattle.script.specs.Directories.{Directory}

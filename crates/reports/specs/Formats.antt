@@ -3,8 +3,8 @@ use Rattle.std.specs.Prelude.{ℕ, Option}
 use Rattle.ipv4_prefix.specs.Prefix.{Prefix}
 use Rattle.network_model.specs.declared.route.Entry.{Entry}
 use Rattle.texts.specs.Words.{Text}
-use Rattle.words.specs.declared.format.Format.{Format}
-use Rattle.words.specs.declared.format.Format.TheVariants.{Text as ForPeople, Json}
+use Rattle.command_line.specs.declared.format.Format.{Format}
+use Rattle.command_line.specs.declared.format.Format.TheVariants.{Text as ForPeople, Json}
 use Rattle.script.specs.Directories.{Directory, lookup_text, packet_text, row_text}
 use Rattle.script.specs.Lines.{link_text, machine_text, unheard_text}
 use Rattle.script.specs.declared.lines.LinkLine.{LinkLine}

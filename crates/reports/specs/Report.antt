@@ -14,7 +14,7 @@ use Rattle.dual_machine.specs.State.{MachineState}
 use Rattle.texts.specs.Words.{Text}
 use Rattle.texts.specs.Lines.{lines_text}
 use Rattle.script.specs.Directories.{Directory}
-use Rattle.words.specs.declared.format.Format.{Format}
+use Rattle.command_line.specs.declared.format.Format.{Format}
 use Rattle.reports.specs.Formats.{machine_line, row_line, unheard_line}
 use Rattle.script.specs.declared.lines.LinkLine.{LinkLine}
 use Rattle.script.specs.declared.lines.RouterLine.{RouterLine}

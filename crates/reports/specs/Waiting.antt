@@ -11,7 +11,7 @@ use Rattle.script.specs.Directories.{Directory, name_text}
 use Rattle.script.specs.Waiting.{held_text, noticed_text, queued_text}
 use Rattle.json_lines.specs.Lines.{held_json, noticed_json, queued_json}
 use Rattle.journal.specs.Steps.{step_text}
-use Rattle.words.specs.declared.format.Format.{Format}
+use Rattle.command_line.specs.declared.format.Format.{Format}
 use Rattle.reports.specs.Formats.{in_format}
 
 -- ---- what a router has to do

@@ -5,12 +5,12 @@ ghost use Rattle.reports.specs.Ends.{KeepsJournal};
 
 use crate::printer::Printer;
 use crate::report::print_report;
+use command_line::Format;
 use fabric::{Fabric, FabricName};
 use journal::write_steps;
 use network_model::NoMemory;
 use script::Directory;
 use std::io::Write;
-use words::Format;
 
 /// Keeps something of a run that has come to its end.
 pub trait Keeper {

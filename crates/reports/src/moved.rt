@@ -1,11 +1,11 @@
 //! Tells what a step moves.
 
 use crate::printer::Printer;
+use command_line::Format;
 use fabric::{Fabric, FabricName, Step};
 use network_model::{Held, Item, Notice};
 use std::io::Write;
 use std::{fmt, io};
-use words::Format;
 
 /// What a delivery takes, or a release sends.
 #[derive(Clone, Copy, Debug, PartialEq, Eq)]

@@ -5,12 +5,12 @@ ghost use Rattle.std.specs.Fmt.{with_newline};
 ghost use Rattle.std.specs.Io.KnownBytes.{Appends};
 ghost use Rattle.reports.specs.Formats.{in_format, link_line, lookup_line, machine_line, packet_line};
 
+use command_line::Format;
 use ipv4_prefix::Prefix;
 use network_model::Entry;
 use script::{Directory, LinkLine, MachineLine};
 use std::io::Write;
 use std::{fmt, io};
-use words::Format;
 
 /// The names of a network's routers, and the format of the lines that tell of them.
 #[derive(Drop)]

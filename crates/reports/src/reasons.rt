@@ -1,6 +1,7 @@
 //! Prints why a machine is at what it is at.
 
 use crate::printer::Printer;
+use command_line::Format;
 use diffusing_replies::PortSet;
 use dual_machine::{Machine, Mode};
 use ipv4_prefix::Prefix;
@@ -9,7 +10,6 @@ use router_core::Router;
 use script::Directory;
 use std::io;
 use std::io::Write;
-use words::Format;
 
 /// Prints what a router's machine for a prefix knows, by lines of which those for people begin with two
 /// spaces: whose replies it awaits and to whom it owes one, where it is active; the router's own

@@ -12,6 +12,7 @@ use crate::end::End;
 use crate::printer::Printer;
 use crate::progress::{end_line, tell_steps};
 use crate::report::print_report;
+use command_line::Format;
 use fabric::{Fabric, FabricName, Network, Ran, Step, Unnamed};
 use journal::{Journal, StepText, Version, first_difference, read_journal};
 use json_lines::EndLine;
@@ -23,7 +24,6 @@ use std::io;
 use std::io::{Read, Write};
 use std::marker::Brand;
 use std::sync::Wait;
-use words::Format;
 
 /// Where it is told how far a replay is, after how many steps each time.
 const SLICE: usize = 4096;

@@ -2,12 +2,12 @@
 //! started whenever there is something to publish: the networks of cases reach no threshold of the program.
 
 use advice::{Faulty, advise, file_to_explain, is_check};
+use command_line::{Error, Format, Words, exit_status, read_words};
+use harness::case::{Given, Verdict, Wanted, judge};
+use harness::{Outcome, play_in_memory, play_in_memory_by};
 use play::{Host, NO_THRESHOLDS, NoGate};
 use std::alloc::{AllocError, Global};
 use std::io::Write;
-use trial::case::{Given, Verdict, Wanted, judge};
-use trial::{Outcome, play_in_memory, play_in_memory_by};
-use words::{Error, Format, Words, exit_status, read_words};
 
 /// What is asked, of which texts, and what it should give.
 #[derive(Clone, Copy)]

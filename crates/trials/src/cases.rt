@@ -18,11 +18,11 @@
 
 use crate::asking::{Case, is_right};
 use crate::faults::do_faults;
+use harness::case::{Tally, Text, Wanted};
 use play::Host;
 use std::alloc::{AllocError, Global};
 use std::fs;
 use std::io::{self, Write};
-use trial::case::{Tally, Text, Wanted};
 
 /// Whether a file, of cases or a table of faults, can be read, has cases, and all of them are right; tells
 /// how many there are, and of those that are not right.

@@ -2,14 +2,14 @@
 //! of the two has to print what stands beside it, in the file of the same name that ends in `.out`; and
 //! the journal of the run has to be replayed.
 
+use command_line::{Format, Words};
+use harness::example::{Verdict, judge};
+use harness::{play_in_memory, run_in_memory};
 use play::Host;
 use scenario::read_scenario;
 use std::alloc::{AllocError, Global};
 use std::fs;
 use std::io::{self, Write};
-use trial::example::{Verdict, judge};
-use trial::{play_in_memory, run_in_memory};
-use words::{Format, Words};
 
 /// Whether the example of this scenario's file is as it should be; tells what is found of it.
 pub fn is_example_right<H: Host, W: Write>(

@@ -3,10 +3,10 @@
 //! `dualnet: `, or `none` where `check` finds nothing. Lines that begin with `#` are comment.
 
 use crate::asking::{Case, is_right};
+use harness::case::{Tally, Text, Wanted};
 use play::Host;
 use std::alloc::{AllocError, Global};
 use std::io::Write;
-use trial::case::{Tally, Text, Wanted};
 
 /// Does the rows of a table, and tells of those that give something else.
 pub fn do_faults<H: Host, W: Write>(

@@ -25,7 +25,7 @@
 //! ..
 //! ```
 //!
-//! What always holds: what is right is said by the contracts of `trial`, so this program cannot call a case
+//! What always holds: what is right is said by the contracts of `harness`, so this program cannot call a case
 //! right that is not. Words that are done are not done again (the clause of `first_task`). A number that is
 //! drawn is below its bound (the clause of `Dice::below`).
 //!

@@ -5,15 +5,15 @@
 
 use crate::random::{Scenario, draw};
 use crate::traces::{PART, are_straight, step_lines, trace_all};
+use command_line::{Format, Words};
+use harness::soak::is_good;
+use harness::{play_in_memory, play_in_memory_by, run_in_memory};
 use play::{Host, NO_THRESHOLDS, Source, TurnGate};
 use std::alloc::{AllocError, Global};
 use std::io::{self, Write};
 use std::sync::atomic::{AtomicU64, Ordering};
 use std::thread;
 use std::time::{Clock, Duration};
-use trial::soak::is_good;
-use trial::{play_in_memory, play_in_memory_by, run_in_memory};
-use words::{Format, Words};
 
 const THREADS: u8 = 4;
 

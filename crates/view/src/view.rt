@@ -11,6 +11,7 @@ ghost use Rattle.view.specs.Shown.{IsJournalShown, IsRunShown, IsShown, IsWritte
 
 use crate::limited::Limited;
 use crate::page::write_page;
+use command_line::ViewWords;
 use fabric::{Fabric, FabricName};
 use journal::read_journal;
 use network_model::{NoMemory, Step};
@@ -21,7 +22,6 @@ use run_states::{StatesFault, run_from_opening, write_states};
 use script::Directory;
 use std::alloc::Global;
 use std::io::{Read, Write};
-use words::ViewWords;
 use world::{Network, Ran};
 
 /// The most bytes of states that a page has, where fewer states make them fewer.

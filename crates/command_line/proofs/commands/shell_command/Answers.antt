@@ -1,0 +1,19 @@
+use Rattle.std.proofs.Common.{◌∙◌, ap, codes}
+use Rattle.std.proofs.lemmas.Result.{IfOk-weaker}
+use Rattle.clap.specs.Words.{new_app}
+use Rattle.clap.specs.Simple.{app_of_fields}
+use Rattle.command_line.specs.Commands.{IsProgramCommand}
+use Rattle.command_line.proofs.Building.{one_more}
+use Rattle.command_line.proofs.commands.shell_command.Goals as goal
+
+pub returns : goal.returns
+returns c =
+    let none : IsProgramCommand (new_app (codes "shell")) c.after_help.result = (
+      ap app_of_fields c.after_help.ensures ∙ ap app_of_fields c.about.ensures ∙ c.new.ensures.app,
+      ap (λ f. f.has_globals) c.after_help.ensures ∙ ap (λ f. f.has_globals) c.about.ensures ∙ c.new.ensures.local,
+    ) in
+    let one = one_more c.after_help.result c.in_ok-arg.field-0 c.scenario_arg.result _ _ none c.in_ok-arg.ensures c.scenario_arg.ensures.rule c.scenario_arg.ensures.local in
+    let two = one_more c.in_ok-arg.field-0 c.in_ok-arg-2.field-0 c.journal_arg.result _ _ one c.in_ok-arg-2.ensures c.journal_arg.ensures.rule c.journal_arg.ensures.local in
+    let three = one_more c.in_ok-arg-2.field-0 c.in_ok-arg-3.field-0 c.explain_arg.result _ _ two c.in_ok-arg-3.ensures c.explain_arg.ensures.rule c.explain_arg.ensures.local in
+    IfOk-weaker c.arg-4.result _ _
+    (λ m added. one_more c.in_ok-arg-3.field-0 m c.format_arg.result _ _ three added c.format_arg.ensures.rule c.format_arg.ensures.local) c.arg-4.ensures

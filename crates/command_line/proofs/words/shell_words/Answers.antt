@@ -1,0 +1,21 @@
+use Rattle.std.proofs.Common.{codes}
+use Rattle.clap.specs.Words.{found_of, rows_of}
+use Rattle.command_line.proofs.Given.{some_given, none_given, text_given, if_none, no_shell, no_shell_format}
+use Rattle.command_line.proofs.words.shell_words.Goals as goal
+
+pub returns-in_err-file-clause-none : goal.returns-in_err-file-clause-none
+returns-in_err-file-clause-none c =
+    if_none c.from_residual.result _ (no_shell (rows_of (found_of c.args.matches.now))
+    (none_given c.get_str.result (found_of c.args.matches.now) (codes "file") c.get_str.ensures c.in_err-file.was))
+
+pub returns-in_err-format-clause-none : goal.returns-in_err-format-clause-none
+returns-in_err-format-clause-none c =
+    if_none c.from_residual-in_err-format.result _ (no_shell_format (rows_of (found_of c.args.matches.now)) c.in_err-format.ensures.none)
+
+pub returns-clause-some : goal.returns-clause-some
+returns-clause-some c = (
+  some_given c.get_str.result (found_of c.args.matches.now) (codes "file") c.in_ok-file.file c.get_str.ensures c.in_ok-file.was,
+  text_given c.get_str-journal.result (found_of c.args.matches.now) (codes "journal") c.get_str-journal.ensures,
+  c.flag-explain.ensures,
+  c.in_ok-format.ensures.some,
+)

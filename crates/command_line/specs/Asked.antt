@@ -1,0 +1,121 @@
+-- What the matches of the command line ask for.
+use Rattle.std.specs.Prelude.{◌≡◌, ◌≢◌, ◌≤◌, ℕ, Bool, true, false, List, [], ◌∷◌, Option, Some, None, map, option_map, slice_index, codes}
+use Rattle.std.specs.Borrow.{Bor}
+use Rattle.std.specs.Str.Parse.{IsNumeral, digits_value, without_leading_plus}
+use Rattle.clap.specs.Words.{Row, Text, first_of, one_of}
+use Rattle.command_line.specs.declared.words.Words.{Words}
+use Rattle.explanations.specs.Numbers.{kind_number}
+use Rattle.command_line.specs.Formats.{format_text}
+use Rattle.command_line.specs.declared.format.Format.{Format}
+use Rattle.command_line.specs.declared.format.Format.TheVariants.{Text as ForPeople}
+use Rattle.command_line.specs.declared.words.Words.TheVariants.{Check, Run, Replay, Time, Explain, Shell}
+
+-- the bytes of each word
+abbrev pub word_texts : List (Bor Text) → List Text
+word_texts words = map (λ w. w.now) words
+
+-- the text is the number in decimal digits, of which a plus may stand first
+abbrev pub IsNumberText : Text → ℕ → Type 0
+IsNumberText text n = IsNumeral 10 (without_leading_plus text)
+    × (n ≡ digits_value 10 (without_leading_plus text))
+
+-- the matches have the number at the name, and it is at least 1, and no more than this
+abbrev pub HasNumber : List Row → Text → ℕ → ℕ → Type 0
+HasNumber rows id most n = (text : Text) × (one_of id rows ≡ Some text) × IsNumberText text n
+    × (1 ≤ n) × (n ≤ most)
+
+-- whether an option with no value is among the matches
+abbrev pub IsFlag : List Row → Text → Bool → Type 0
+IsFlag rows id is = (one_of id rows ≡ Some (codes "true") → is ≡ true)
+    × (one_of id rows ≡ Some (codes "false") → is ≡ false)
+
+-- the format at the name `format`
+abbrev pub HasFormat : List Row → Format → Type 0
+HasFormat rows format = first_of (codes "format") rows ≡ Some (format_text format)
+
+-- the matches of `check`: a file
+abbrev pub IsCheck : List Row → Words → Type 0
+IsCheck rows (Check file explain) = (first_of (codes "file") rows ≡ Some file.now)
+    × IsFlag rows (codes "explain") explain
+IsCheck rows _ = ⊥
+
+-- the matches of `run`: a file, two numbers, a path where one is given, and a format
+abbrev pub IsRun : List Row → Words → Type 0
+IsRun rows (Run file threads workers journal explain format progress) = (first_of (codes "file") rows ≡ Some file.now)
+    × HasNumber rows (codes "threads") 16 threads × HasNumber rows (codes "workers") 16 workers
+    × (first_of (codes "journal") rows ≡ option_map (λ path. path.now) journal)
+    × IsFlag rows (codes "explain") explain × HasFormat rows format × IsFlag rows (codes "progress") progress
+IsRun rows _ = ⊥
+
+-- the matches of `replay`: two files, and a format
+abbrev pub IsReplay : List Row → Words → Type 0
+IsReplay rows (Replay file journal explain format progress) = (first_of (codes "file") rows ≡ Some file.now)
+    × (first_of (codes "journal") rows ≡ Some journal.now)
+    × IsFlag rows (codes "explain") explain × HasFormat rows format × IsFlag rows (codes "progress") progress
+IsReplay rows _ = ⊥
+
+-- the matches of `time`: two files, if spells are asked for, and a format
+abbrev pub IsTime : List Row → Words → Type 0
+IsTime rows (Time file times spells explain format) = (first_of (codes "file") rows ≡ Some file.now)
+    × (first_of (codes "times") rows ≡ Some times.now)
+    × IsFlag rows (codes "spells") spells × IsFlag rows (codes "explain") explain × HasFormat rows format
+IsTime rows _ = ⊥
+
+-- the matches of `explain`: the number of a fault
+abbrev pub IsExplain : List Row → Words → Type 0
+IsExplain rows (Explain kind) = HasNumber rows (codes "number") 52 (kind_number kind)
+IsExplain rows _ = ⊥
+
+-- the matches of `shell`: a file, a path where one is given, and a format
+abbrev pub IsShell : List Row → Words → Type 0
+IsShell rows (Shell file journal explain format) = (first_of (codes "file") rows ≡ Some file.now)
+    × (first_of (codes "journal") rows ≡ option_map (λ path. path.now) journal)
+    × IsFlag rows (codes "explain") explain × HasFormat rows format
+IsShell rows _ = ⊥
+
+-- the subcommand that was met, with its matches, asks for this
+abbrev pub IsAsked : Option (Text × List Row) → Words → Type 0
+IsAsked met (Check file explain) =
+    (rows : List Row) × (met ≡ Some (codes "check", rows)) × IsCheck rows (Check file explain)
+IsAsked met (Run file threads workers journal explain format progress) = (rows : List Row)
+    × (met ≡ Some (codes "run", rows)) × IsRun rows (Run file threads workers journal explain format progress)
+IsAsked met (Replay file journal explain format progress) = (rows : List Row)
+    × (met ≡ Some (codes "replay", rows)) × IsReplay rows (Replay file journal explain format progress)
+IsAsked met (Time file times spells explain format) = (rows : List Row)
+    × (met ≡ Some (codes "time", rows)) × IsTime rows (Time file times spells explain format)
+IsAsked met (Explain kind) =
+    (rows : List Row) × (met ≡ Some (codes "explain", rows)) × IsExplain rows (Explain kind)
+IsAsked met (Shell file journal explain format) = (rows : List Row)
+    × (met ≡ Some (codes "shell", rows)) × IsShell rows (Shell file journal explain format)
+
+-- the words are the program's name, the command and a file, which does not begin with a hyphen
+pub record IsFileLine (command file : Text) (words : List Text) : Type 0 where
+  pub name : Text
+  pub spelled : words ≡ name ∷ command ∷ file ∷ []
+  pub no_option : slice_index file 0 ≢ 45
+
+-- the words are the program's name, `replay` and two files, neither of which begins with a hyphen
+pub record IsReplayLine (file journal : Text) (words : List Text) : Type 0 where
+  pub name : Text
+  pub spelled : words ≡ name ∷ codes "replay" ∷ file ∷ journal ∷ []
+  pub no_option_file : slice_index file 0 ≢ 45
+  pub no_option_journal : slice_index journal 0 ≢ 45
+
+-- what is asked for is to check this file, and to explain nothing
+abbrev pub ChecksFile : Text → Words → Type 0
+ChecksFile file (Check given explain) = (given.now ≡ file) × (explain ≡ false)
+ChecksFile file _ = ⊥
+
+-- what is asked for is to run this file, by one thread and one worker, and to write no journal; it prints lines for people, and tells of no progress
+abbrev pub RunsFile : Text → Words → Type 0
+RunsFile file (Run given threads workers journal explain format progress) =
+    (given.now ≡ file) × (threads ≡ 1) × (workers ≡ 1) × (journal ≡ None) × (explain ≡ false)
+    × (format ≡ ForPeople) × (progress ≡ false)
+RunsFile file _ = ⊥
+
+-- what is asked for is to replay this journal over the network of this file; it prints lines for people, and tells of no progress
+abbrev pub ReplaysFiles : Text → Text → Words → Type 0
+ReplaysFiles file journal (Replay given steps explain format progress) =
+    (given.now ≡ file) × (steps.now ≡ journal) × (explain ≡ false) × (format ≡ ForPeople)
+    × (progress ≡ false)
+ReplaysFiles file journal _ = ⊥

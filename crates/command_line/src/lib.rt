@@ -1,0 +1,51 @@
+//! Reads the command lines of the programs: what the words of `dualnet` and of `dualnet-view` ask for.
+//!
+//! The problem: a command line has to be read as people expect it, with help, defaults, options in any order
+//! and good errors. The kit's crate `clap` does that, and has a definition of what it does. This crate tells
+//! `clap` of the commands, and makes of its matches a value with a type:
+//!
+//! ```text
+//!   dualnet check FILE [--explain]
+//!   dualnet run FILE [--threads N] [--workers N] [--journal PATH] [--explain] [--format F] [--progress]
+//!   dualnet replay FILE JOURNAL [--explain] [--format F] [--progress]
+//!   dualnet time FILE TIMES [--spells] [--explain] [--format F]
+//!   dualnet shell FILE [--journal PATH] [--explain] [--format F]
+//!   dualnet explain NUMBER
+//!   dualnet-view FILE [JOURNAL] [-o PATH] [--json]
+//! ```
+//!
+//! ```text
+//! match read_words(alloc, &["dualnet", "check", "ring.toml"]) {
+//!     Ok(Words::Check { file, explain }) => ..,      // "ring.toml", false
+//!     Ok(..) => ..,
+//!     Err(error) => exit_status(&error),             // 0 for help, 2 for want of memory, else 1
+//! }
+//! ```
+//!
+//! [`Words`] are what `dualnet` is asked for, [`ViewWords`] what `dualnet-view` is. A [`Format`] is `text` or
+//! `json`.
+//!
+//! What always holds: the words that are given are those of the matches that `clap`'s definition has for this
+//! line (`IsAsked` in `specs/Asked.antt`). If that definition finds no fault and a command, the words are
+//! read (`every`). The plain lines `NAME check FILE`, `NAME run FILE` and `NAME replay FILE JOURNAL` are read
+//! always. `specs/Commands.antt` has the options, their ranges and defaults: both numbers are 1 to 16, and 1
+//! if left out.
+//!
+//! What is tricky: help that is asked for comes as an error, too, because `clap` has it so. Two things are
+//! tested here and not by `clap`: the name of a format, and that a number to be explained is printed at all.
+//! Their errors are told as the other errors of the command line.
+#![tactic(auto)]
+
+mod commands;
+mod format;
+mod status;
+mod view;
+mod words;
+
+pub use clap::Error;
+pub use clap::error::ErrorKind;
+pub use commands::{SHELL_COMMANDS, not_utf8};
+pub use format::Format;
+pub use status::exit_status;
+pub use view::{ViewWords, read_view_words};
+pub use words::{Words, read_words};

@@ -1,0 +1,110 @@
+//! What the command line of the program that shows a run asks for.
+
+ghost use Rattle.std.specs.Prelude.{◌≡◌, [], IfErr, IfOk, IfSome, codes, false};
+ghost use Rattle.clap.specs.Words.{HasKind, app_of, fault_of, found_of, matches_of, rows_of, rule_of};
+ghost use Rattle.command_line.specs.Asked.{word_texts};
+ghost use Rattle.command_line.specs.Commands.{flag_rule};
+ghost use Rattle.command_line.specs.View.{IsView, output_rule, view_kinds_of, view_program, word_rule};
+
+use crate::commands::{flag_arg, path_arg, scenario_arg};
+use crate::words::flag;
+use clap::error::ErrorKind;
+use clap::{Arg, ArgMatches, Command, Error};
+use std::alloc::{AllocError, Global};
+
+/// What the command line asks for: the states of a run.
+#[derive(Clone, Copy, Debug, PartialEq, Eq)]
+pub struct ViewWords<'a> {
+    /// The file of the scenario.
+    pub file: &'a str,
+    /// The file of a journal of a run of it, or none if the script is to be run.
+    pub journal: Option<&'a str>,
+    /// The file to write to, or none if that is the standard output.
+    pub output: Option<&'a str>,
+    /// Whether the states are asked for as lines of JSON, and not in a page.
+    pub json: bool,
+}
+
+// What stands below the program's help.
+const AFTER_HELP: &str = "\
+`man dualnet-view` (docs/dualnet-view.1) describes the page and the lines of JSON.
+
+Example:
+  dualnet-view examples/ring.toml -o ring.html";
+
+fn view_command<'a>(alloc: Global) -> Result<Command<'a>, AllocError>
+    ensures { IfOk result (λ c. app_of c ≡ view_program) }
+{
+    Command::new(alloc, "dualnet-view")
+        .about("Writes the run of a network as a page for a browser, or as lines of JSON")
+        .version("0.1.0")
+        .after_help(AFTER_HELP)
+        .arg(scenario_arg(alloc))?
+        .arg(journal_arg(alloc))?
+        .arg(output_arg(alloc))?
+        .arg(json_arg(alloc))
+}
+
+// A word that may be left out.
+fn journal_arg<'a>(alloc: Global) -> Arg<'a>
+    ensures rule { rule_of result ≡ word_rule (codes "journal") }
+    ensures local { result.global ≡ false }
+{
+    Arg::new(alloc, "journal").value_name("JOURNAL").help(
+        "Journal whose steps are shown. If you name none, the script is run",
+    )
+}
+
+fn output_arg<'a>(alloc: Global) -> Arg<'a>
+    ensures rule { rule_of result ≡ output_rule }
+    ensures local { result.global ≡ false }
+{
+    path_arg(
+        alloc,
+        "output",
+        "Write to this file, and not to the standard output",
+    )
+    .short('o')
+}
+
+fn json_arg<'a>(alloc: Global) -> Arg<'a>
+    ensures rule { rule_of result ≡ flag_rule (codes "json") }
+    ensures local { result.global ≡ false }
+{
+    flag_arg(
+        alloc,
+        "json",
+        "Write a line of JSON for each state, and no page",
+    )
+}
+
+/// What the words ask for. The first word is the program's name. If you ask for help, it comes as an
+/// error too, and `exit_status` knows it by its kind. A file whose name begins with a hyphen stands
+/// after `--`.
+pub fn read_view_words<'a>(alloc: Global, words: &'a [&'a str]) -> Result<ViewWords<'a>, Error>
+    ensures asked { IfOk result (IsView (matches_of view_program (word_texts words.entry.now))) }
+    ensures taken { IfOk result (λ _. fault_of view_program (word_texts words.entry.now) ≡ []) }
+    ensures kinds { IfErr result (HasKind (view_kinds_of (word_texts words.entry.now))) }
+{
+    let mut command = view_command(alloc)?;
+    let matches = command.try_get_matches_from_mut(words)?;
+    match view_words(&matches) {
+        Some(asked) => Ok(asked),
+        None => Err(command.error(ErrorKind::InvalidValue, "no file is named")?),
+    }
+}
+
+fn view_words<'a>(matches: &ArgMatches<'a>) -> Option<ViewWords<'a>>
+    ensures { IfSome result (IsView (rows_of (found_of matches.now))) }
+{
+    let file = matches.get_str("file")?;
+    let journal = matches.get_str("journal");
+    let output = matches.get_str("output");
+    let json = flag(matches, "json");
+    Some(ViewWords {
+        file,
+        journal,
+        output,
+        json,
+    })
+}

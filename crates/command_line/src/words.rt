@@ -1,0 +1,242 @@
+//! What the command line asks for.
+
+ghost use Rattle.std.specs.Prelude.{◌≡◌, IfOk, IfErr, IfSome, IfNone, MatchResult, List, ℕ, [], ⊤, codes};
+ghost use Rattle.clap.specs.Words.{HasKind, Text, fault_of, first_of, kind_of, rows_of, found_of, subcommand_of, subcommand_rows_of};
+ghost use Rattle.command_line.specs.Commands.{program, kinds_of};
+ghost use Rattle.command_line.specs.Asked.{ChecksFile, HasFormat, HasNumber, IsAsked, IsCheck, IsExplain, IsFileLine, IsFlag, IsReplay, IsReplayLine, IsRun, IsShell, IsTime, ReplaysFiles, RunsFile, word_texts};
+
+use crate::commands::program_command;
+use crate::format::Format;
+use clap::error::ErrorKind;
+use clap::{ArgMatches, Error};
+use explanations::Kind;
+use std::alloc::Global;
+
+/// What the command line asks for.
+#[derive(Clone, Copy, Debug, PartialEq, Eq)]
+pub enum Words<'a> {
+    /// Read the scenario in the file, and say what it holds. Here and below, `explain` asks for more
+    /// about a fault.
+    Check {
+        file: &'a str,
+        explain: bool,
+    },
+    /// Run the script of the scenario in the file, by so many control threads and forwarding
+    /// workers, 1 to 16 of each. Then write the journal to the path, if there is one. Here and in a
+    /// replay, lines are printed in the format, and `progress` asks how much is done.
+    Run {
+        file: &'a str,
+        threads: u8,
+        workers: u8,
+        journal: Option<&'a str>,
+        explain: bool,
+        format: Format,
+        progress: bool,
+    },
+    /// Do the steps of the journal over the network of the scenario in the file.
+    Replay {
+        file: &'a str,
+        journal: &'a str,
+        explain: bool,
+        format: Format,
+        progress: bool,
+    },
+    /// Run the network of the scenario in the file in simulated time. The second file has the delays, and
+    /// the changes with their moments. `spells` asks for each computation and each outage.
+    Time {
+        file: &'a str,
+        times: &'a str,
+        spells: bool,
+        explain: bool,
+        format: Format,
+    },
+    /// Explain a number.
+    Explain {
+        kind: Kind,
+    },
+    /// Do commands from the standard input on the network of the scenario in the file. Then write the
+    /// journal to the path, if there is one.
+    Shell {
+        file: &'a str,
+        journal: Option<&'a str>,
+        explain: bool,
+        format: Format,
+    },
+}
+
+/// What the words ask for. The first word is the program's name. If you ask for help, it comes as an
+/// error too, and `exit_status` knows it by its kind. A file whose name begins with a hyphen stands
+/// after `--`.
+pub fn read_words<'a>(alloc: Global, words: &'a [&'a str]) -> Result<Words<'a>, Error>
+    ensures asked { IfOk result (IsAsked (subcommand_of program (word_texts words.entry.now))) }
+    ensures taken { IfOk result (λ _. fault_of program (word_texts words.entry.now) ≡ []) }
+    ensures kinds { IfErr result (HasKind (kinds_of (word_texts words.entry.now))) }
+    ensures every { (asked : Words) → fault_of program (word_texts words.entry.now) ≡ []
+        → IsAsked (subcommand_of program (word_texts words.entry.now)) asked
+        → MatchResult result (λ _. ⊤) (λ e. kind_of e ≡ ErrorKind.OutOfMemory) }
+    ensures check { (file : Text) → IsFileLine (codes "check") file (word_texts words.entry.now)
+        → MatchResult result (ChecksFile file) (λ e. kind_of e ≡ ErrorKind.OutOfMemory) }
+    ensures run { (file : Text) → IsFileLine (codes "run") file (word_texts words.entry.now)
+        → MatchResult result (RunsFile file) (λ e. kind_of e ≡ ErrorKind.OutOfMemory) }
+    ensures replay { (file journal : Text) → IsReplayLine file journal (word_texts words.entry.now)
+        → MatchResult result (ReplaysFiles file journal) (λ e. kind_of e ≡ ErrorKind.OutOfMemory) }
+{
+    let mut command = program_command(alloc)?;
+    let matches = command.try_get_matches_from_mut(words)?;
+    match read_matches(&matches) {
+        Some(asked) => Ok(asked),
+        None => Err(command.error(ErrorKind::InvalidValue, refusal_of(&matches))?),
+    }
+}
+
+// The error if the matches ask for nothing, though clap takes them.
+fn refusal_of(matches: &ArgMatches<'_>) -> &'static str {
+    if matches.subcommand_matches("explain").is_some() {
+        "the program prints no such number"
+    } else {
+        "'--format' takes text or json"
+    }
+}
+
+// None if the matches ask for nothing.
+fn read_matches<'a>(matches: &ArgMatches<'a>) -> Option<Words<'a>>
+    ensures some { IfSome result (IsAsked (subcommand_rows_of matches.now)) }
+    ensures none { IfNone result ((w : Words) → IsAsked (subcommand_rows_of matches.now) w → ⊥) }
+{
+    if let Some(inner) = matches.subcommand_matches("check") {
+        check_words(inner)
+    } else if let Some(inner) = matches.subcommand_matches("run") {
+        run_words(inner)
+    } else if let Some(inner) = matches.subcommand_matches("replay") {
+        replay_words(inner)
+    } else if let Some(inner) = matches.subcommand_matches("explain") {
+        explain_words(inner)
+    } else if let Some(inner) = matches.subcommand_matches("shell") {
+        shell_words(inner)
+    } else if let Some(inner) = matches.subcommand_matches("time") {
+        time_words(inner)
+    } else {
+        None
+    }
+}
+
+fn check_words<'a>(matches: &ArgMatches<'a>) -> Option<Words<'a>>
+    ensures some { IfSome result (IsCheck (rows_of (found_of matches.now))) }
+    ensures none { IfNone result ((w : Words) → IsCheck (rows_of (found_of matches.now)) w → ⊥) }
+{
+    let file = matches.get_str("file")?;
+    let explain = flag(matches, "explain");
+    Some(Words::Check { file, explain })
+}
+
+fn run_words<'a>(matches: &ArgMatches<'a>) -> Option<Words<'a>>
+    ensures some { IfSome result (IsRun (rows_of (found_of matches.now))) }
+    ensures none { IfNone result ((w : Words) → IsRun (rows_of (found_of matches.now)) w → ⊥) }
+{
+    let file = matches.get_str("file")?;
+    let threads = number(matches, "threads", 16)?;
+    let workers = number(matches, "workers", 16)?;
+    let journal = matches.get_str("journal");
+    let explain = flag(matches, "explain");
+    let format = named_format(matches)?;
+    let progress = flag(matches, "progress");
+    Some(Words::Run {
+        file,
+        threads,
+        workers,
+        journal,
+        explain,
+        format,
+        progress,
+    })
+}
+
+fn replay_words<'a>(matches: &ArgMatches<'a>) -> Option<Words<'a>>
+    ensures some { IfSome result (IsReplay (rows_of (found_of matches.now))) }
+    ensures none { IfNone result ((w : Words) → IsReplay (rows_of (found_of matches.now)) w → ⊥) }
+{
+    let file = matches.get_str("file")?;
+    let journal = matches.get_str("journal")?;
+    let explain = flag(matches, "explain");
+    let format = named_format(matches)?;
+    let progress = flag(matches, "progress");
+    Some(Words::Replay {
+        file,
+        journal,
+        explain,
+        format,
+        progress,
+    })
+}
+
+fn time_words<'a>(matches: &ArgMatches<'a>) -> Option<Words<'a>>
+    ensures some { IfSome result (IsTime (rows_of (found_of matches.now))) }
+    ensures none { IfNone result ((w : Words) → IsTime (rows_of (found_of matches.now)) w → ⊥) }
+{
+    let file = matches.get_str("file")?;
+    let times = matches.get_str("times")?;
+    let spells = flag(matches, "spells");
+    let explain = flag(matches, "explain");
+    let format = named_format(matches)?;
+    Some(Words::Time {
+        file,
+        times,
+        spells,
+        explain,
+        format,
+    })
+}
+
+fn explain_words<'a>(matches: &ArgMatches<'a>) -> Option<Words<'a>>
+    ensures some { IfSome result (IsExplain (rows_of (found_of matches.now))) }
+    ensures none { IfNone result ((w : Words) → IsExplain (rows_of (found_of matches.now)) w → ⊥) }
+{
+    let number = number(matches, "number", 52)?;
+    let kind = Kind::of(number)?;
+    Some(Words::Explain { kind })
+}
+
+fn shell_words<'a>(matches: &ArgMatches<'a>) -> Option<Words<'a>>
+    ensures some { IfSome result (IsShell (rows_of (found_of matches.now))) }
+    ensures none { IfNone result ((w : Words) → IsShell (rows_of (found_of matches.now)) w → ⊥) }
+{
+    let file = matches.get_str("file")?;
+    let journal = matches.get_str("journal");
+    let explain = flag(matches, "explain");
+    let format = named_format(matches)?;
+    Some(Words::Shell {
+        file,
+        journal,
+        explain,
+        format,
+    })
+}
+
+// Whether the option at the name is given.
+pub(crate) fn flag(matches: &ArgMatches<'_>, id: &str) -> bool
+    ensures { IsFlag (rows_of (found_of matches.now)) id.now result }
+{
+    matches.get_flag(id)
+}
+
+// The format that is named.
+fn named_format(matches: &ArgMatches<'_>) -> Option<Format>
+    ensures some { IfSome result (HasFormat (rows_of (found_of matches.now))) }
+    ensures none { IfNone result ((f : Format) → HasFormat (rows_of (found_of matches.now)) f → ⊥) }
+{
+    let name = matches.get_str("format")?;
+    Format::of(name)
+}
+
+// The number at the name, if it is 1 to `most`.
+fn number(matches: &ArgMatches<'_>, id: &str, most: u8) -> Option<u8>
+    ensures some { IfSome result (HasNumber (rows_of (found_of matches.now)) id.now most) }
+    ensures none { IfNone result ((n : ℕ) → HasNumber (rows_of (found_of matches.now)) id.now most n
+        → ⊥) }
+{
+    let number = matches.get_one::<u8>(id)?;
+    if number < 1 || number > most {
+        return None;
+    }
+    Some(number)
+}

@@ -1,0 +1,128 @@
+//! What the program does, held in memory, and what is found of it: for examples, cases, random scenarios and
+//! tests.
+//!
+//! The problem: a test of a program has to know its status, its output, its faults and its journal, all at
+//! once. A program that opens files and prints cannot be asked for these. But `play` runs over any readers
+//! and writers, so here it runs over lists of bytes:
+//!
+//! ```text
+//! let ran = play_in_memory(&rt, alloc, &words, b"routers = [..", journal);
+//! ran.status       // 0
+//! ran.out          // what it printed
+//! ran.err          // what it printed of a fault; `ran.fault` is the fault itself
+//! ran.kept         // the journal's text, if a run or a shell ended with 0
+//! ```
+//!
+//! Beside the [`Outcome`] stand the verdicts, each with its rule in a contract. So a trial cannot be called
+//! right by mistake:
+//!
+//! - `example::judge`: the run and the shell ended with 0 and printed what is wanted, to the byte. And the
+//!   replay of the run's journal ended with 0.
+//! - `case::judge`: status, output and fault are those that the case says, and so are journal and words, if
+//!   it asks for them (`IsAsWanted` in `specs/Wanted.antt`). A [`case::Tally`] is right only if a case was
+//!   counted and none was wrong.
+//! - `soak::is_good`: the run and its replay ended with 0, and no packet met a router twice.
+//!
+//! What always holds: what [`play_in_memory`] gives is an end or a fault of that command (`Gave` in
+//! `specs/Outcomes.antt`), as `play` promises.
+//!
+//! What is tricky: in a file without cases no case is wrong. So `Tally::is_right` is false if there was none.
+//! And `soak::is_good` only says what is made of two statuses. That they are those of a run and its replay is
+//! seen in the code of `trials`.
+#![tactic(auto)]
+
+pub mod case;
+pub mod example;
+pub mod soak;
+
+ghost use Rattle.std.specs.Prelude.{Option};
+ghost use Rattle.texts.specs.Words.{Text};
+ghost use Rattle.harness.specs.Outcomes.{Gave};
+
+use command_line::Words;
+use play::{Fault, Host, NoGate, Source, THRESHOLDS, Thresholds, TurnGate, play_by};
+use std::alloc::Global;
+use std::io;
+use std::io::Read;
+
+/// What the program gave.
+#[derive(Drop)]
+pub struct Outcome {
+    /// Its exit status.
+    pub status: u8,
+    /// What it printed.
+    pub out: Vec<u8>,
+    /// What it printed of a fault.
+    pub err: Vec<u8>,
+    /// The text of the journal of a run or a shell that ended with status 0; else nothing.
+    pub kept: Vec<u8>,
+    /// The fault for which it stopped, where it did.
+    pub fault: Option<Fault>,
+}
+
+/// Does what the words ask for, with the bytes of a scenario, and of a journal or the commands of a shell.
+pub fn play_in_memory<H, R, J>(
+    rt: &H,
+    alloc: Global,
+    words: &Words<'_>,
+    scenario: R,
+    journal: J,
+) -> Outcome
+where
+    H: Host,
+    R: Read + Drop,
+    J: Read + Drop,
+    ensures { Gave words.now (R.remaining scenario)
+        (J.remaining journal) result.status result.kept.items }
+{
+    play_in_memory_by(rt, alloc, THRESHOLDS, &NoGate, words, scenario, journal)
+}
+
+/// The same, by threads that are started from these thresholds on, and call this gate.
+pub fn play_in_memory_by<H, G, R, J>(
+    rt: &H,
+    alloc: Global,
+    thresholds: Thresholds,
+    gate: &G,
+    words: &Words<'_>,
+    scenario: R,
+    journal: J,
+) -> Outcome
+where
+    H: Host,
+    G: TurnGate + Sync,
+    R: Read + Drop,
+    J: Read + Drop,
+    ensures { Gave words.now (R.remaining scenario)
+        (J.remaining journal) result.status result.kept.items }
+{
+    let mut out = Vec::new(alloc);
+    let mut err = Vec::new(alloc);
+    let mut kept = Vec::new(alloc);
+    let mut fault = None;
+    let status = play_by(
+        rt, alloc, thresholds, gate, words, scenario, journal, &mut out, &mut err, true, &mut kept,
+        &mut fault,
+    );
+    Outcome {
+        status,
+        out,
+        err,
+        kept,
+        fault,
+    }
+}
+
+/// The same where there is no journal to replay.
+pub fn run_in_memory<H: Host, R: Read + Drop>(
+    rt: &H,
+    alloc: Global,
+    words: &Words<'_>,
+    scenario: R,
+) -> Outcome
+    ensures { (journal : Option Text)
+        × Gave words.now (R.remaining scenario) journal result.status result.kept.items }
+{
+    let missing: Source<io::Empty> = Source::Missing;
+    play_in_memory(rt, alloc, words, scenario, missing)
+}

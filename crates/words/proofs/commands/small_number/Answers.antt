@@ -1,8 +1,0 @@
-use Rattle.std.proofs.Common.{ap, pos, Some}
-use Rattle.words.proofs.Narrowed.{narrowed}
-use Rattle.words.proofs.commands.small_number.Goals as goal
-
-pub returns : goal.returns
-returns c =
-    narrowed c.value_parser.result c.range.result _ _ (pos 1) (pos 16) c.value_parser.ensures
-    (ap Some c.new.ensures.start) (ap Some c.new.ensures.end) c.range.ensures

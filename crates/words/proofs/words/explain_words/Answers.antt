@@ -1,7 +1,0 @@
-use Rattle.clap.specs.Words.{found_of, rows_of}
-use Rattle.words.proofs.Given.{if_none, no_explain}
-use Rattle.words.proofs.words.explain_words.Goals as goal
-
-pub returns-in_err-number-clause-none : goal.returns-in_err-number-clause-none
-returns-in_err-number-clause-none c =
-    if_none c.from_residual.result _ (no_explain (rows_of (found_of c.args.matches.now)) c.in_err-number.ensures.none)

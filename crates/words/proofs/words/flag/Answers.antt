@@ -1,6 +1,0 @@
-use Rattle.clap.specs.Words.{found_of}
-use Rattle.words.proofs.Given.{flag_read}
-use Rattle.words.proofs.words.flag.Goals as goal
-
-pub returns : goal.returns
-returns c = flag_read (found_of c.args.matches.now) c.args.id.now c.get_flag.result c.get_flag.ensures.value c.get_flag.ensures.other
