@@ -26,3 +26,12 @@ returns-clause-err c =
     subst (λ (x : Result Input Fault). IfErr c.tell-outcome.result (λ f. IsStatusOnlyBy (tell_fault x (handle_router c.args.router.now)) (ReadNeedsMemory x (handle_router c.args.router.now)) (fault_number f))) (sym is_read)
     (subst (λ (o : Option BoundedRouter). IfErr c.tell-outcome.result (λ f. IsStatusOnlyBy (tell_fault (Ok c.in_ok-input.input) o) (ReadNeedsMemory (Ok c.in_ok-input.input) o) (fault_number f))) (sym is_held)
     (refused (bounded_fault c.in_ok-input.input b) (InputNeedsMemory c.in_ok-input.input b.router) c.tell-outcome.result c.tell-outcome.ensures.cause))
+
+pub returns-in_err-input-clause-unchanged : goal.returns-in_err-input-clause-unchanged
+returns-in_err-input-clause-unchanged c = search rules
+
+pub returns-in_default-clause-unchanged : goal.returns-in_default-clause-unchanged
+returns-in_default-clause-unchanged c = search rules
+
+pub returns-clause-unchanged : goal.returns-clause-unchanged
+returns-clause-unchanged c = search rules

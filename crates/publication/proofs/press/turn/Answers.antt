@@ -1,4 +1,4 @@
-use Rattle.std.proofs.Common.{◌≡◌, ◌∙◌, map, ap, subst, sym}
+use Rattle.std.proofs.Common.{◌≡◌, ◌∙◌, map, ap, subst, sym, rules}
 use Rattle.image_patch.specs.Patches.{patched}
 use Rattle.publication.specs.Lists.{Begins, bundle_of, followed, image_of, patch_of, with_publication}
 use Rattle.publication.proofs.Beginnings.{begins_more}
@@ -25,3 +25,9 @@ show_as-requires g c =
     let image : c.deref_mut-2.result.now.image ≡ image_of openings c.announce.result = ap (λ e. e.image) c.deref_mut-2.ensures.value ∙ (c.in_default.ensures ∙ (next ∙ covered)) in
     goes_on openings desk.place.id desk.place.me.0.client desk.shown.value.image c.deref_mut-2.result.now.image desk.shown.value.told c.announce.result
     (subst (Begins desk.shown.value.told) (sym told) (begins_more desk.shown.value.told bundle)) image
+
+pub returns-in-Err : goal.returns-in-Err
+returns-in-Err g c = search rules
+
+pub returns : goal.returns
+returns g c = search rules

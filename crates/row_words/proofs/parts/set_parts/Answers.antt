@@ -1,4 +1,4 @@
-use Rattle.std.proofs.Common.{◌≡◌, ◌+◌, ◌<◌, ◌^◌, ◌++◌, ◌∙◌, List, length, map, arith, ap, sym, subst}
+use Rattle.std.proofs.Common.{◌≡◌, ◌+◌, ◌<◌, ◌^◌, ◌++◌, ◌∙◌, List, length, map, arith, ap, sym, subst, rules}
 use Rattle.ipv4_prefix.specs.Prefix.{Prefix}
 use Rattle.network_model.specs.Publication.{Image, with_rows}
 use Rattle.network_model.specs.declared.route.Entry.{Entry}
@@ -32,3 +32,36 @@ returns-clause-ok g c =
     ap (λ xs. marked xs c.set_rows.new.image.rows) c.in_ok-add_cells.ensures.ok
     ∙ ap (marked (cells ++ map (λ r. r.1) rows)) set
     ∙ marked_set cells rows table c.requires
+
+pub returns-then-rows-count-clause-kept : goal.returns-then-rows-count-clause-kept
+returns-then-rows-count-clause-kept g c = search rules
+
+pub returns-then-rows-count-clause-ok : goal.returns-then-rows-count-clause-ok
+returns-then-rows-count-clause-ok g c = search rules
+
+pub returns-then-rows-count-clause-cells : goal.returns-then-rows-count-clause-cells
+returns-then-rows-count-clause-cells g c = search rules
+
+pub returns-in_err-slots-clause-kept : goal.returns-in_err-slots-clause-kept
+returns-in_err-slots-clause-kept g c = search rules
+
+pub returns-in_err-slots-clause-ok : goal.returns-in_err-slots-clause-ok
+returns-in_err-slots-clause-ok g c = search rules
+
+pub returns-in_err-slots-clause-cells : goal.returns-in_err-slots-clause-cells
+returns-in_err-slots-clause-cells g c = search rules
+
+pub returns-in_err-add_cells-clause-kept : goal.returns-in_err-add_cells-clause-kept
+returns-in_err-add_cells-clause-kept g c = search rules
+
+pub returns-in_err-add_cells-clause-ok : goal.returns-in_err-add_cells-clause-ok
+returns-in_err-add_cells-clause-ok g c = search rules
+
+pub returns-in_err-add_cells-clause-cells : goal.returns-in_err-add_cells-clause-cells
+returns-in_err-add_cells-clause-cells g c = search rules
+
+pub returns-in-Err-clause-ok : goal.returns-in-Err-clause-ok
+returns-in-Err-clause-ok g c = search rules
+
+pub returns-clause-cells : goal.returns-clause-cells
+returns-clause-cells g c = search rules

@@ -1,4 +1,4 @@
-use Rattle.std.proofs.Common.{◌≡◌, ◌+◌, ◌*◌, ◌/◌, ◌%◌, ◌^◌, ◌-◌, ◌≤◌, arith, ap, sym, subst}
+use Rattle.std.proofs.Common.{◌≡◌, ◌+◌, ◌*◌, ◌/◌, ◌%◌, ◌^◌, ◌-◌, ◌≤◌, arith, ap, sym, subst, rules}
 use Rattle.array_bitmap.specs.Bits.{depth_of, path_start}
 use Rattle.array_bitmap.specs.Words.{found}
 use Rattle.array_bitmap.specs.Greatest.{GreatestBelow}
@@ -36,3 +36,6 @@ loop-above-preserved g c =
           subst (λ b. GreatestBelow (word_at (cells_of t) c.args.path) (c.loop-above.above + 1) (found b)) (sym w.best-is)
           (same_short (cells_of t) c.requires.sound.cells c.args.path c.loop-above.above c.loop-above.best c.index-word.result.now c.requires.fits within read c.loop-above.invariant w.if-word-ne-NOTHING.false)
     ]
+
+pub returns : goal.returns
+returns g c = search rules

@@ -1,4 +1,4 @@
-use Rattle.std.proofs.Common.{◌-◌, arith}
+use Rattle.std.proofs.Common.{◌-◌, arith, rules}
 use Rattle.node_pool.specs.FreeLists.{list_at}
 use Rattle.node_pool.specs.declared.cells.Cell.TheVariants.{Free}
 use Rattle.node_pool.proofs.Blocks.{used_within, filled_put, few_spare, give_linked}
@@ -21,3 +21,6 @@ pub returns-clause-freed : goal.returns-clause-freed
 returns-clause-freed g c =
     filled_put c.args.self.now.cells c.as_mut_slice.result.now c.fill.new.cells c.args.base c.args.size (Free (list_at c.args.self.now.free (c.args.size - 1)).first)
     c.as_mut_slice.ensures.value c.fill.auto.cells c.as_mut_slice.ensures.len c.fill.ensures
+
+pub returns-clause-one_more : goal.returns-clause-one_more
+returns-clause-one_more g c = search rules

@@ -1,4 +1,4 @@
-use Rattle.std.proofs.Common.{◌≡◌, suc, ◌+◌, ◌≤◌, List, [], ◌∷◌, drop, length, Option, Some, None, OnSome, IfNone, sym, ap, subst, ◌∙◌, arith}
+use Rattle.std.proofs.Common.{◌≡◌, suc, ◌+◌, ◌≤◌, List, [], ◌∷◌, drop, length, Option, Some, None, OnSome, IfNone, sym, ap, subst, ◌∙◌, arith, rules}
 use Rattle.network_model.specs.World.{Gate}
 use Rattle.network_model.specs.Step.{with_front_released, router_releasing}
 use Rattle.release_gate.specs.GateState.{GateState}
@@ -42,3 +42,6 @@ pub returns-clause-none : goal.returns-clause-none
 returns-clause-none g c =
     let i = c.self.inside in
     if_none c.release.result (λ is. ap (λ (gate : Gate). router_of i.ports.items i.machines.items i.effects.table.table gate i.generation) is ∙ c.self.view_is) c.release.ensures.none
+
+pub returns-clause-released : goal.returns-clause-released
+returns-clause-released g c = search rules

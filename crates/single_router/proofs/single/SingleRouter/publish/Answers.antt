@@ -19,3 +19,15 @@ returns-clause-ok c =
       sym more,
       subst (λ xs. IsWrittenOver (take n xs) c.args.rows.now c.write_changed.new.rows) changed c.write_changed.ensures.written,
     )
+
+pub returns-then-rows-count-clause-published : goal.returns-then-rows-count-clause-published
+returns-then-rows-count-clause-published c = search rules
+
+pub returns-then-not-due-clause-published : goal.returns-then-not-due-clause-published
+returns-then-not-due-clause-published c = search rules
+
+pub returns-then-generation-clause-published : goal.returns-then-generation-clause-published
+returns-then-generation-clause-published c = search rules
+
+pub returns-clause-published : goal.returns-clause-published
+returns-clause-published c = search rules

@@ -1,0 +1,11 @@
+use Rattle.std.proofs.Common.{rules}
+use Rattle.dual_machine.proofs.machine.Machine.complete.Goals as goal
+
+pub begin-requires-clause-room : goal.begin-requires-clause-room
+begin-requires-clause-room g c = search rules
+
+pub returns-then-condition_holds-clause-machine : goal.returns-then-condition_holds-clause-machine
+returns-then-condition_holds-clause-machine g c = search rules
+
+pub returns-else-condition_holds-clause-machine : goal.returns-else-condition_holds-clause-machine
+returns-else-condition_holds-clause-machine g c = search rules

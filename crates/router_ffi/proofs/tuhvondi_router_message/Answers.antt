@@ -1,0 +1,5 @@
+use Rattle.std.proofs.Common.{rules}
+use Rattle.router_ffi.proofs.tuhvondi_router_message.Goals as goal
+
+pub returns : goal.returns
+returns c = search rules
