@@ -20,7 +20,8 @@
  *
  *   - that TUHVONDI_SHARED, and TUHVONDI_BAD_COUNT of tuhvondi_writer_reader, are answered in the cases below
  *     alone, and TUHVONDI_NO_MEMORY only if memory was refused
- *   - that a look-up by a reader sees each publication that was done before it began
+ *   - that a look-up by a reader sees each publication that was done before it began (but it is proved of those
+ *     that tuhvondi_reader_learn told it of)
  *   - what tuhvondi_image_bytes writes
  *
  * The proof holds for every call that keeps to these rules:
@@ -380,6 +381,11 @@ uint32_t tuhvondi_writer_publish(struct tuhvondi_writer *writer, uint64_t genera
                                  const struct tuhvondi_row *rows, size_t row_count,
                                  const struct tuhvondi_prefix *prefixes, size_t prefix_count);
 
+/* Writes how many images the writer has published. The first is the one that it was made of. Hand the number to
+ * the threads that read, so that they learn of the publication (tuhvondi_reader_learn).
+ * Refused: TUHVONDI_NO_IMAGE_HELD if the handle holds no writer. */
+uint32_t tuhvondi_writer_published(struct tuhvondi_writer *writer, uint64_t *published);
+
 /* Makes a reader of the writer, puts it into the reader's handle, and frees the one that the handle held.
  * The reader may go to another thread. Each call writes the handle, so keep those of two threads 128 bytes
  * apart.
@@ -396,6 +402,13 @@ uint32_t tuhvondi_reader_lookup(struct tuhvondi_reader *reader,
                                 const uint32_t *addrs, size_t addr_count,
                                 struct tuhvondi_row *answers, size_t answer_count,
                                 uint64_t *generation);
+
+/* Has the reader learn that so many images were published. From now on it never answers by an image that is older
+ * than the last of these. For example, a withdrawn route is published, and tuhvondi_writer_published writes 7.
+ * Another thread is told 7, and its reader learns 7: no packet of that thread takes the old route any more.
+ * Refused: TUHVONDI_NO_IMAGE_HELD if the handle holds no reader; TUHVONDI_BAD_COUNT if fewer were published;
+ * TUHVONDI_SHARED if the writer published a thousand times during the call. */
+uint32_t tuhvondi_reader_learn(struct tuhvondi_reader *reader, uint64_t published);
 
 /* As tuhvondi_writer_publish, and words[i] is the word of rows[i] (see above, rows with a word of your own).
  * Refused, in this order: TUHVONDI_BAD_LENGTH, TUHVONDI_HOST_BITS, TUHVONDI_BAD_KIND for the rows;

@@ -598,6 +598,8 @@ static void refuse_reader_arguments(void)
     NEED(tuhvondi_reader_lookup(&reader, addrs, 3, answers, 3, &generation) == TUHVONDI_NO_IMAGE_HELD);
     NEED(tuhvondi_reader_lookup(&reader, addrs, 3, answers, 2, &generation) == TUHVONDI_NO_IMAGE_HELD);
     NEED(tuhvondi_reader_lookup_words(&reader, addrs, 3, words, 2, &generation) == TUHVONDI_NO_IMAGE_HELD);
+    NEED(tuhvondi_reader_learn(&reader, 0) == TUHVONDI_NO_IMAGE_HELD);
+    NEED(tuhvondi_writer_published(&writer, &generation) == TUHVONDI_NO_IMAGE_HELD);
     NEED(tuhvondi_writer_publish_words(&writer, 1, NULL, 0, NULL, 0, NULL, 0) == TUHVONDI_NO_IMAGE_HELD);
     NEED(generation == 7 && answers[0].port == 3);
     tuhvondi_reader_free(&reader);
@@ -945,7 +947,7 @@ static void compare_readers(uint64_t steps)
     struct tuhvondi_image image = TUHVONDI_NO_IMAGE;
     struct tuhvondi_writer writer = TUHVONDI_NO_WRITER;
     struct tuhvondi_reader readers[2] = {TUHVONDI_NO_READER, TUHVONDI_NO_READER};
-    uint64_t generation = 0, refused = 0, looked_up = 0;
+    uint64_t generation = 0, published = 1, refused = 0, looked_up = 0;
     list.count = 0;
     NEED(tuhvondi_image_new(NULL, 0, &image) == TUHVONDI_DONE);
     NEED(tuhvondi_writer_new(&image, 2, &writer) == TUHVONDI_DONE);
@@ -983,8 +985,11 @@ static void compare_readers(uint64_t steps)
         refused += status == TUHVONDI_NO_MEMORY;
         if (status == TUHVONDI_DONE) {
             generation = step;
+            published++;
             copy_list(&list, &changed);
         }
+        uint64_t told = 0;
+        NEED(tuhvondi_writer_published(&writer, &told) == TUHVONDI_DONE && told == published);
         for (int k = 0; k < 2; k++) {
             uint32_t addrs[MOST_ADDRS], found_words[MOST_ADDRS], burst = below(MOST_ADDRS + 1);
             struct tuhvondi_row answers[MOST_ADDRS];
@@ -995,6 +1000,8 @@ static void compare_readers(uint64_t steps)
             }
             for (uint32_t i = 0; i < burst; i++)
                 addrs[i] = draw_prefix().addr + below(3);
+            NEED(tuhvondi_reader_learn(&readers[k], below(2) == 0 ? told : below(3)) == TUHVONDI_DONE || told < 2);
+            NEED(tuhvondi_reader_learn(&readers[k], told + 1 + below(3)) == TUHVONDI_BAD_COUNT);
             NEED(tuhvondi_reader_lookup_words(&readers[k], addrs, burst, found_words, burst, &its) == TUHVONDI_DONE);
             NEED(its == generation);
             need_words(&list, addrs, found_words, burst);

@@ -83,6 +83,8 @@ unsafe extern "C" {
         prefixes: *const Prefix,
         prefix_count: usize,
     ) -> u32;
+    pub(crate) fn tuhvondi_writer_published(writer: *mut Handle, published: *mut u64) -> u32;
+    pub(crate) fn tuhvondi_reader_learn(reader: *mut Handle, published: u64) -> u32;
     pub(crate) fn tuhvondi_writer_reader(writer: *mut Handle, reader: *mut Handle) -> u32;
     pub(crate) fn tuhvondi_writer_free(writer: *mut Handle);
     pub(crate) fn tuhvondi_reader_lookup(

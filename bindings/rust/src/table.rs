@@ -143,6 +143,23 @@ impl TableWriter {
         })
     }
 
+    /// How many images were published, the first the one that the writer was made of. A thread that is told this
+    /// number can have its reader learn it ([`TableReader::learn`]).
+    ///
+    /// ```
+    /// # use tuhvondi::*;
+    /// let mut writer = TableWriter::new(&mut Image::new(&[])?, 1)?;
+    /// writer.publish(1, &[], &[])?;
+    /// assert_eq!(writer.published(), 2);
+    /// # Ok::<(), Status>(())
+    /// ```
+    pub fn published(&mut self) -> u64 {
+        let mut published = 0;
+        // SAFETY: as in `publish`. It is not refused, because the handle holds a writer.
+        unsafe { sys::tuhvondi_writer_published(&mut self.handle, &mut published) };
+        published
+    }
+
     /// A reader, for one thread. When it is dropped, another may be made in its place.
     ///
     /// ```
@@ -192,6 +209,28 @@ impl TableReader {
         let mut answers = [Answer::default()];
         while self.lookup_all(&[addr.into()], &mut answers).is_err() {}
         answers[0].row()
+    }
+
+    /// Learns that so many images were published: from now on no answer comes from one that is older than the
+    /// last of these.
+    ///
+    /// ```
+    /// # use tuhvondi::*;
+    /// let mut writer = TableWriter::new(&mut Image::new(&[])?, 1)?;
+    /// let mut reader = writer.reader()?;
+    /// writer.publish(1, &[], &[])?;
+    /// assert_eq!(reader.learn(writer.published()), Ok(()));
+    /// assert_eq!(reader.learn(3), Err(Status::BadCount));
+    /// # Ok::<(), Status>(())
+    /// ```
+    ///
+    /// # Errors
+    ///
+    /// [`Status::BadCount`] if fewer were published; [`Status::Shared`] if the writer published a thousand times
+    /// during the call.
+    pub fn learn(&mut self, published: u64) -> Result<(), Status> {
+        // SAFETY: the handle is held by nobody else, and holds a reader.
+        Status::check(unsafe { sys::tuhvondi_reader_learn(&mut self.handle, published) })
     }
 
     /// Answers addresses, each a number whose high byte is the first of the address, by one image, and says

@@ -1,5 +1,5 @@
 -- What the calls of writers and readers can answer.
-use Rattle.std.specs.Prelude.{◌≡◌, ℕ, ◌⊎◌, ◌==◌, ◌≤◌, ◌<◌, Bool, true, false, Option, None, Some}
+use Rattle.std.specs.Prelude.{◌≡◌, ℕ, ◌⊎◌, ◌==◌, ◌≤◌, ◌<◌, Bool, true, false, Option, None, Some, length}
 use Rattle.row_words.specs.Rows.{WordTable}
 use Rattle.c_interface.specs.Faults.{fault_number, IsDoneOrFull}
 use Rattle.c_interface.specs.declared.fault.Fault.{Fault}
@@ -31,3 +31,17 @@ IsReadOf false status = status ≡ fault_number BadCount
 abbrev pub IsReadStatus : Option History → ℕ → ℕ → ℕ → Type 0
 IsReadStatus None addrs answers status = status ≡ fault_number Empty
 IsReadStatus (Some h) addrs answers status = IsReadOf (addrs == answers) status
+
+-- why a reader does not learn that so many images were published: those that it knows of now are fewer, or it found no page
+abbrev pub IsUnlearned : ℕ → History → Fault → Type 0
+IsUnlearned published h f = ((f ≡ BadCount) × (length h.images < published)) ⊎ (f ≡ Shared)
+
+-- what the call by which a reader learns answers, by the reader as it is then, if there is one
+abbrev pub IsLearnStatus : ℕ → Option History → ℕ → Type 0
+IsLearnStatus published None status = status ≡ fault_number Empty
+IsLearnStatus published (Some h) status = ((status ≡ 0) × (published ≤ length h.images)) ⊎ (((status ≡ fault_number BadCount) × (length h.images < published)) ⊎ (status ≡ fault_number Shared))
+
+-- what the call that tells how many images were published answers, by the writer, if there is one
+abbrev pub IsCountStatus : Option History → ℕ → Type 0
+IsCountStatus None status = status ≡ fault_number Empty
+IsCountStatus (Some h) status = status ≡ 0

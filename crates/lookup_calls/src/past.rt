@@ -1,6 +1,6 @@
 //! The images that a writer has published. Their list exists in the proofs alone.
 
-ghost use Rattle.std.specs.Prelude.{◌≡◌, [], IfSome, IsTrue};
+ghost use Rattle.std.specs.Prelude.{◌≡◌, [], IfSome, IsTrue, length};
 ghost use Rattle.lookup_calls.specs.Histories.{GoesOn, head_of, with_image};
 
 use crate::shared::Shared;
@@ -111,6 +111,13 @@ impl Past {
             count: self.count,
             seen: self.seen.again(),
         }
+    }
+
+    /// How many images are on the list.
+    pub fn count(&self) -> u64
+        ensures { result ≡ length self.now.images }
+    {
+        self.count
     }
 
     /// Whether the other has no fewer images, and so begins with these.

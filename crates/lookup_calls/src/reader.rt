@@ -1,14 +1,15 @@
 //! A reader of an image that its writer changes meanwhile.
 
-ghost use Rattle.std.specs.Prelude.{◌≡◌, ◌+◌, ◌<◌, All, IfNone, IfSome, IsTrue, false, length};
+ghost use Rattle.std.specs.Prelude.{◌≡◌, ◌+◌, ◌<◌, ◌≤◌, All, IfErr, IfNone, IfSome, IsTrue, OnOk, false, length};
 ghost use Rattle.std.specs.Arc.{arc_value};
 ghost use Rattle.lookup_calls.specs.Histories.{GoesOn, last_image};
+ghost use Rattle.lookup_calls.specs.Readers.{IsUnlearned};
 ghost use Rattle.lookup_calls.specs.Rows.{answer_rows, answer_words};
 
 use crate::board::{Board, Page};
 use crate::past::Past;
 use crate::rows::answer_all;
-use c_interface::Row;
+use c_interface::{Fault, Row};
 use counted_slot::{Claim, ONE_READER, PRESENT};
 use std::marker::Model;
 use std::sync::Arc;
@@ -81,6 +82,15 @@ fn newer<'a>(page: &'a Option<Page>, past: &Past) -> Option<&'a Page>
     Some(page)
 }
 
+// What was published by the time of a page, unless the reader knows of more.
+fn past_by(page: &Option<Page>, past: &Past) -> Option<Past>
+    requires { IfSome page.now (λ p. p.past.book ≡ past.now.book) }
+    ensures { IfSome result (λ p. GoesOn past.now p) }
+{
+    let page = newer(page, past)?;
+    Some(page.past().again())
+}
+
 // Answers by a page, unless it is of an older image than the reader knows of.
 fn answer_by(
     page: &Option<Page>,
@@ -134,6 +144,33 @@ impl ImageReader {
     {
         let seat = Seat { board, first };
         ImageReader { seat, past }
+    }
+
+    /// Learns that so many images were published, the first that the writer was made of: from now on the reader
+    /// answers by none that is older than the last of these. It is refused with `BadCount` if fewer were
+    /// published, and with `Shared` if the writer published `TRIES` times meanwhile. It takes no memory.
+    pub fn learn(&mut self, published: u64) -> Result<(), Fault>
+        ensures later { GoesOn self.old self.new }
+        ensures ok { OnOk result (published ≤ length self.new.images) }
+        ensures err { IfErr result (IsUnlearned published self.new) }
+    {
+        if published <= self.past.count() {
+            return Ok(());
+        }
+        let Some(claim) = enter(&self.seat.board, self.seat.first, &self.past) else {
+            return Err(Fault::Shared);
+        };
+        let found = past_by(claim.get(), &self.past);
+        claim.leave();
+        let Some(past) = found else {
+            return Err(Fault::Shared);
+        };
+        let count = past.count();
+        self.past = past;
+        if count < published {
+            return Err(Fault::BadCount);
+        }
+        Ok(())
     }
 
     /// Answers addresses by the image that is shown, and says its generation. It takes no memory. False

@@ -1,6 +1,6 @@
 //! The writer of an image that others read meanwhile.
 
-ghost use Rattle.std.specs.Prelude.{◌≡◌, ◌⊎◌, ◌<◌, ◌≤◌, ◌∷◌, [], All, IfErr, IfOk, IfSome, IsOkUnless, MatchResult, OnErr, OnOk, Some};
+ghost use Rattle.std.specs.Prelude.{◌≡◌, ◌⊎◌, ◌<◌, ◌≤◌, ◌∷◌, [], All, IfErr, IfOk, IfSome, IsOkUnless, MatchResult, OnErr, OnOk, Some, length};
 ghost use Rattle.lookup_calls.specs.Faults.{IsPatchFault};
 ghost use Rattle.lookup_calls.specs.Histories.{followed, head_of, last_image, with_image};
 
@@ -204,6 +204,13 @@ impl ImageWriter {
         ensures err { IfErr result IsPatchFault }
     {
         replace_with(self, change, turn)
+    }
+
+    /// How many images it has published, the first that it was made of.
+    pub fn published(&self) -> u64
+        ensures { result ≡ length self.now.images }
+    {
+        self.past.count()
     }
 
     /// A reader. Refused if handles have all.

@@ -4,7 +4,7 @@ ghost use Rattle.std.specs.Prelude.{◌≡◌, ◌≢◌, ◌∷◌, [], IfErr, 
 ghost use Rattle.c_interface.specs.Faults.{first_of, fault_number};
 ghost use Rattle.lookup_calls.specs.Histories.{GoesOn, changed, last_image, with_image};
 ghost use Rattle.lookup_calls.specs.Prefixes.{first_block_fault};
-ghost use Rattle.lookup_calls.specs.Readers.{IsOpenStatus, IsPublishStatus, IsReadStatus, IsSeatStatus};
+ghost use Rattle.lookup_calls.specs.Readers.{IsCountStatus, IsLearnStatus, IsOpenStatus, IsPublishStatus, IsReadStatus, IsSeatStatus};
 ghost use Rattle.lookup_calls.specs.Rows.{answer_rows, first_row_fault};
 ghost use Rattle.lookup_calls.specs.Tables.{plain_rows};
 ghost use Rattle.lookup_ffi.specs.Handles.{handle_image, handle_reader, handle_writer};
@@ -109,6 +109,27 @@ pub extern "C" fn tuhvondi_writer_publish(
     status(publish(alloc, writer, generation, rows, prefixes))
 }
 
+/// Writes how many images the writer has published; the first is the one that it was made of. 7: the handle
+/// holds no writer, and nothing is written.
+#[unsafe(no_mangle)]
+pub extern "C" fn tuhvondi_writer_published(
+    alloc: Global,
+    writer: &mut WriterHandle,
+    published: &mut u64,
+) -> u32
+    ensures status { IsCountStatus (handle_writer writer.old) result }
+    ensures done { IfSome (handle_writer writer.old) (λ h. published.new ≡ length h.images) }
+    ensures refused { result ≢ 0 → published.new ≡ published.old }
+    ensures writer { handle_writer writer.new ≡ handle_writer writer.old }
+{
+    let Some(held) = writer.take(alloc) else {
+        return Fault::Empty.number();
+    };
+    *published = held.published();
+    writer.put(held);
+    0
+}
+
 // Makes a reader of a handle's writer.
 fn seat(alloc: Global, writer: &mut WriterHandle, reader: &mut ReaderHandle) -> Result<(), Fault>
     ensures writer { handle_writer writer.new ≡ handle_writer writer.old }
@@ -169,6 +190,28 @@ pub extern "C" fn tuhvondi_reader_lookup(
         return Fault::Empty.number();
     };
     let outcome = read(&mut held, addrs, answers, generation);
+    reader.put(held);
+    status(outcome)
+}
+
+/// Has the reader learn that so many images were published, the first that its writer was made of: it never
+/// answers by an older one than the last of these. It takes no memory and waits for nobody. 7: the handle holds
+/// no reader. 8: fewer were published. 9: the writer published a thousand times while the call looked.
+#[unsafe(no_mangle)]
+pub extern "C" fn tuhvondi_reader_learn(
+    alloc: Global,
+    reader: &mut ReaderHandle,
+    published: u64,
+) -> u32
+    ensures status { IsLearnStatus published (handle_reader reader.new) result }
+    ensures kept { is_some (handle_reader reader.new) ≡ is_some (handle_reader reader.old) }
+    ensures later { IfSome (handle_reader reader.old)
+        (λ h. IfSome (handle_reader reader.new) (λ k. GoesOn h k)) }
+{
+    let Some(mut held) = reader.take(alloc) else {
+        return Fault::Empty.number();
+    };
+    let outcome = held.learn(published);
     reader.put(held);
     status(outcome)
 }

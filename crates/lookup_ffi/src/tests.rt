@@ -5,8 +5,9 @@ ghost use Rattle.std.specs.Prelude.{◌-◌, ◌^◌, ◌<◌};
 use crate::handle::ImageHandle;
 use crate::reader_handle::ReaderHandle;
 use crate::readers::{
-    tuhvondi_reader_free, tuhvondi_reader_lookup, tuhvondi_writer_free, tuhvondi_writer_new,
-    tuhvondi_writer_publish, tuhvondi_writer_reader,
+    tuhvondi_reader_free, tuhvondi_reader_learn, tuhvondi_reader_lookup, tuhvondi_writer_free,
+    tuhvondi_writer_new, tuhvondi_writer_publish, tuhvondi_writer_published,
+    tuhvondi_writer_reader,
 };
 use crate::writer_handle::WriterHandle;
 use crate::{
@@ -404,6 +405,51 @@ fn readers_see_what_is_published(rt: HostRuntime) {
         answer(alloc, &mut image, 0x0b00_0001),
         Ok(via(0x0b00_0000, 8, 1))
     );
+}
+
+// A reader learns what its writer says, and no more than that.
+#[test]
+fn readers_learn_what_is_published(rt: HostRuntime) {
+    let alloc = rt.alloc();
+    let mut image = ImageHandle::none(alloc);
+    let mut writer = WriterHandle::none(alloc);
+    let mut reader = ReaderHandle::none(alloc);
+    let mut published = 77;
+    assert_eq!(rt;
+        tuhvondi_writer_published(alloc, &mut writer, &mut published),
+        7
+    );
+    assert_eq!(rt; published, 77);
+    assert_eq!(rt; tuhvondi_reader_learn(alloc, &mut reader, 0), 7);
+    assert_eq!(rt; tuhvondi_image_new(alloc, &[via(0, 0, 0)], &mut image), 0);
+    assert_eq!(rt; tuhvondi_writer_new(alloc, &mut image, 1, &mut writer), 0);
+    assert_eq!(rt; tuhvondi_writer_reader(alloc, &mut writer, &mut reader), 0);
+    for number in 1..=4u8 {
+        let count = u64::from(number);
+        assert_eq!(rt;
+            tuhvondi_writer_published(alloc, &mut writer, &mut published),
+            0
+        );
+        assert_eq!(rt; published, count);
+        for (learned, status) in [(count, 0), (count + 1, 8), (u64::MAX, 8), (0, 0)] {
+            assert_eq!(rt; tuhvondi_reader_learn(alloc, &mut reader, learned), status);
+        }
+        // A publication that is refused is none.
+        assert_eq!(rt;
+            tuhvondi_writer_publish(alloc, &mut writer, 9, &[via(1, 33, 1)], &[]),
+            3
+        );
+        let rows = [via(0, 0, number)];
+        assert_eq!(rt;
+            tuhvondi_writer_publish(alloc, &mut writer, count, &rows, &[]),
+            0
+        );
+        assert_eq!(rt; tuhvondi_reader_learn(alloc, &mut reader, count + 1), 0);
+        assert_eq!(rt; read(alloc, &mut reader, 7), Ok((rows[0], count)));
+    }
+    tuhvondi_writer_free(alloc, &mut writer);
+    assert_eq!(rt; tuhvondi_reader_learn(alloc, &mut reader, 6), 8);
+    assert_eq!(rt; tuhvondi_reader_learn(alloc, &mut reader, 5), 0);
 }
 
 // As many readers as a writer may have: each answers by a publication in the next look-up after it.

@@ -93,7 +93,10 @@ int main(void)
     for (size_t i = 0; i < READERS; i++) {
         uint32_t addrs[] = {0x0a000001, 0x0c000001};
         struct tuhvondi_row answers[2];
-        uint64_t generation;
+        uint64_t generation, published;
+        /* What this thread says of its publications, the reader learns: no answer is older from now on. */
+        need(tuhvondi_writer_published(&writer, &published));
+        need(tuhvondi_reader_learn(&readers[i], published));
         need(tuhvondi_reader_lookup(&readers[i], addrs, 2, answers, 2, &generation));
         printf("reader %zu: generation %d, by port %u, and %s\n", i, (int)generation, answers[0].port,
                answers[1].kind == TUHVONDI_NO_ROW ? "no row" : "a row");
