@@ -25,6 +25,15 @@
  *
  * The network is then at rest, since the moment 2900. examples/c/delays.c has more.
  *
+ * A network can keep a record of what goes on in it, if you open it so (tuhvondi_timed_recorded):
+ *
+ *   - its computations: from when until when the machine of a router for a prefix awaited replies
+ *   - its outages: from when until when a router was cut off from a prefix. That is, links that were up led from
+ *     it to a router that was attached to the prefix, and the rows that routers had published did not
+ *
+ * The record costs time with each event, and memory by the routers times the prefixes. Without it a network
+ * takes neither.
+ *
  * A moment is a number of microseconds since the opening. What is left to do is due so:
  *
  *   - a change that you gave: at the moment that you gave with it
@@ -39,7 +48,8 @@
  * of the network. The proof holds for every call that keeps to the rules of "tuhvondi.h" and
  * "tuhvondi_network.h". All that is proved of a network holds of this one at every moment, whatever the delays
  * are: for example, no packet meets a router twice. It is also proved that nothing is done before it is due, and
- * that nothing that is due is left out (docs/6-network.md).
+ * that nothing that is due is left out. A record is exact: a spell stands in it if and only if there was one
+ * (docs/6-network.md).
  */
 #ifndef TUHVONDI_TIMED_H
 #define TUHVONDI_TIMED_H
@@ -56,7 +66,9 @@ enum tuhvondi_timed_status {
     /* The moment of the change is before the present one. */
     TUHVONDI_PAST_MOMENT = 51,
     /* The next event is due at 2^64 - 1 microseconds, the last moment that the clock can show, or later. */
-    TUHVONDI_TIME_SPENT = 52
+    TUHVONDI_TIME_SPENT = 52,
+    /* The network keeps no record. */
+    TUHVONDI_NO_RECORD = 53
 };
 
 /* A status of a network in simulated time in words, for messages: never null, and not to be freed. */
@@ -71,6 +83,8 @@ static inline const char *tuhvondi_timed_status_text(uint32_t status)
         return "the moment of the change is past";
     case TUHVONDI_TIME_SPENT:
         return "the next event is due when the clock cannot go on";
+    case TUHVONDI_NO_RECORD:
+        return "the network keeps no record";
     default:
         return tuhvondi_network_status_text(status);
     }
@@ -96,6 +110,19 @@ struct tuhvondi_event {
 TUHVONDI_ASSERT(sizeof(struct tuhvondi_event) == 32, "an event takes 32 bytes");
 TUHVONDI_ASSERT(offsetof(struct tuhvondi_event, given) == 24, "whether an event is given stands at byte 24");
 
+/* From when until when something was so at a router, for a prefix. If it goes on, `to` is UINT64_MAX, when
+ * nothing is done any more. */
+struct tuhvondi_spell {
+    uint64_t from;
+    uint64_t to;
+    uint32_t addr;
+    uint16_t router;
+    uint8_t len;
+};
+
+TUHVONDI_ASSERT(sizeof(struct tuhvondi_spell) == 24, "a spell takes 24 bytes");
+TUHVONDI_ASSERT(offsetof(struct tuhvondi_spell, len) == 22, "the length of a spell's prefix stands at byte 22");
+
 /* A handle, which holds a network in simulated time or none. */
 struct tuhvondi_timed {
     void *network_;
@@ -117,6 +144,14 @@ uint32_t tuhvondi_timed_new(const struct tuhvondi_limits *limits, size_t routers
                             const struct tuhvondi_delays *delays, size_t delay_count,
                             const uint64_t *publications, size_t publication_count,
                             struct tuhvondi_fault_place *place, struct tuhvondi_timed *timed);
+
+/* As tuhvondi_timed_new, and the network keeps a record from then on. */
+uint32_t tuhvondi_timed_recorded(const struct tuhvondi_limits *limits, size_t routers,
+                                 const struct tuhvondi_link *links, size_t link_count,
+                                 const struct tuhvondi_owner *owners, size_t owner_count,
+                                 const struct tuhvondi_delays *delays, size_t delay_count,
+                                 const uint64_t *publications, size_t publication_count,
+                                 struct tuhvondi_fault_place *place, struct tuhvondi_timed *timed);
 
 /* Gives a change that is to be done at a moment, after those that you gave before for the same one. It is a step
  * of a link, a cost or an attachment. Whether it can be done shows when its moment comes.
@@ -181,6 +216,29 @@ uint32_t tuhvondi_timed_link(struct tuhvondi_timed *timed, uint16_t link,
 /* As tuhvondi_network_counts. */
 uint32_t tuhvondi_timed_counts(struct tuhvondi_timed *timed,
                                struct tuhvondi_network_counts *counts);
+
+/* Writes the computations that ended, in the order in which they did. The first that is written stands at the
+ * place `from` of that list, counted from 0. Writes as many as there is room for, how many these are, and 1 if
+ * there are more, else 0. The list only grows, so you read it on from where you were.
+ * Refused, and then nothing is written, in this order: TUHVONDI_NO_NETWORK_HELD, TUHVONDI_NO_RECORD. */
+uint32_t tuhvondi_timed_computations(struct tuhvondi_timed *timed, size_t from,
+                                     struct tuhvondi_spell *spells, size_t spell_count,
+                                     size_t *written, uint8_t *more);
+
+/* Writes the computations that go on now, by prefixes and then by routers: as many as there is room for, how
+ * many these are, and 1 if there are more, else 0.
+ * Refused as tuhvondi_timed_computations is. */
+uint32_t tuhvondi_timed_computing(struct tuhvondi_timed *timed, struct tuhvondi_spell *spells,
+                                  size_t spell_count, size_t *written, uint8_t *more);
+
+/* As tuhvondi_timed_computations, of the outages that ended. */
+uint32_t tuhvondi_timed_outages(struct tuhvondi_timed *timed, size_t from,
+                                struct tuhvondi_spell *spells, size_t spell_count,
+                                size_t *written, uint8_t *more);
+
+/* As tuhvondi_timed_computing, of the outages that go on. At rest there are none. */
+uint32_t tuhvondi_timed_cut_off(struct tuhvondi_timed *timed, struct tuhvondi_spell *spells,
+                                size_t spell_count, size_t *written, uint8_t *more);
 
 /* Frees the network, if there is one. The handle then holds none. */
 void tuhvondi_timed_free(struct tuhvondi_timed *timed);

@@ -6,7 +6,7 @@ import unittest
 from ipaddress import IPv4Network
 
 import tuhvondi
-from tuhvondi import End, Event, Step, StepKind, TimedNetwork
+from tuhvondi import End, Event, Spell, Step, StepKind, TimedNetwork
 from tests import dijkstra
 
 NET = "10.0.0.0/8"
@@ -97,6 +97,82 @@ class Moments(unittest.TestCase):
             (200, Step(StepKind.ATTACH, "b", prefix=IPv4Network(NET), cost=3)),
             (300, Step(StepKind.DETACH, "b", prefix=IPv4Network(NET)))])
         self.assertEqual(network.distances(NET), {"a": 1, "b": 10})
+
+
+class Records(unittest.TestCase):
+    def test_an_outage(self):
+        network = two_routers(record=True)
+        network.at(3, UP)
+        network.run_until(44)
+        self.assertEqual(network.cut_off(), [Spell("b", IPv4Network(NET), 3, None)])
+        self.assertEqual(network.outages(), [])
+        network.run_to_rest()
+        self.assertEqual((network.cut_off(), network.outages(1)), ([], []))
+        self.assertEqual(network.outages(), [Spell("b", IPv4Network(NET), 3, 45)])
+
+    def test_two_computations(self):
+        """A asks b at 110, b asks back at 137, and each answers as it publishes: a at 152 and b at 179."""
+        network = two_routers(record=True, up=True)
+        network.at(100, Step(StepKind.DETACH, "a", prefix=IPv4Network(NET)))
+        network.run_until(120)
+        self.assertEqual([(spell.router, spell.begin) for spell in network.computing()], [("a", 100), ("b", 117)])
+        network.run_to_rest()
+        ended = [Spell("b", IPv4Network(NET), 117, 159), Spell("a", IPv4Network(NET), 100, 184)]
+        self.assertEqual((network.computing(), network.computations()), ([], ended))
+        self.assertEqual((network.computations(start=1), network.computations(9)), (ended[1:], []))
+
+    def test_more_than_a_call_has_room_for(self):
+        names = range(200)
+        links = [(name, name + 1, 1) for name in names[:-1]]
+        network = TimedNetwork(names, links, {0: NET}, record=True)
+        network.run_until(0)
+        self.assertEqual([spell.router for spell in network.cut_off()], [*names[1:]])
+        network.run_to_rest()
+        self.assertEqual([spell.router for spell in network.outages()], [*names[1:]])
+        self.assertEqual({spell.begin for spell in network.outages()}, {0})
+
+    def test_by_looking_after_each_event(self):
+        """A router is cut off just as long as it is joined to the attached one and its row is not."""
+        draw = random.Random(8)
+        names = [f"r{number}" for number in range(6)]
+        links = [(names[number], names[(number + gap) % 6], 1) for gap in (1, 2) for number in range(6)]
+        network = TimedNetwork(names, links, {names[0]: NET}, delay=lambda near, far: draw.randrange(50), record=True)
+        network.run_to_rest()
+        seen = len(network.outages())
+        for _ in range(10):
+            link = draw.choice(network.links)
+            network.at(network.now + 9, Step(StepKind.LINK_DOWN if link.is_up else StepKind.LINK_UP, link.a, link.b))
+            out, ended = {}, []
+            while not network.is_at_rest:
+                network.run_until(network.next_event.moment, most=1)
+                for name in cut_off(network, names, out):
+                    ended.append(Spell(name, IPv4Network(NET), out.pop(name), network.now))
+            self.assertEqual(sorted(network.outages(seen)), sorted(ended))
+            seen += len(ended)
+
+    def test_no_record(self):
+        network = two_routers()
+        for call in (network.computations, network.computing, network.outages, network.cut_off):
+            with self.assertRaises(tuhvondi.NoRecord) as caught:
+                call()
+            self.assertEqual(caught.exception.number, 53)
+        with self.assertRaises(ValueError):
+            network.outages(-1)
+
+
+def cut_off(network, names, since):
+    """Adds who is cut off now, and since when, and answers who was until now."""
+    joined, ahead = {names[0]}, [names[0]]
+    pairs = [(link.a, link.b) for link in network.links if link.is_up]
+    while ahead:
+        near = ahead.pop()
+        far = {b if a == near else a for a, b in pairs if near in (a, b)} - joined
+        joined |= far
+        ahead.extend(far)
+    out = {name for name in joined if network.trace(name, "10.1.2.3").end != End.DELIVERED}
+    for name in out - since.keys():
+        since[name] = network.now
+    return sorted(since.keys() - out)
 
 
 class Graphs(unittest.TestCase):

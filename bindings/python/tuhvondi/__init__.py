@@ -6,7 +6,8 @@ What is here
 - `Network`: a whole network in one process. Links fail and come up again, routers settle, and you ask for
   tables, distances and the ways of packets. Begin here if you simulate.
 - `TimedNetwork`: a network in simulated time. Messages are on their way for a time, and routers take a time to
-  publish. Begin here if you ask how long a network takes.
+  publish. Begin here if you ask how long a network takes. With `record=True` it keeps a record of computations
+  and outages.
 - `Router`: one router. You bring it what its links bring, and forward by its rows. Begin here if you have an
   event loop of your own, or if routers are processes of their own.
 - `Image`: a forwarding table, which answers addresses by the longest match.
@@ -77,11 +78,11 @@ from .router import Message, MessageKind, PrefixState, Publication, Router, Rout
 from .rows import Address, Distance, Kind, Prefix, Row
 from .status import (AlreadyUp, AskedTwice, BadCost, BadCount, BadKind, BadLength, BadLimits,
                      BadLink, BadOwner, BadRouters, EmptyHandle, GenerationsSpent, HostBits, IsDown,
-                     NoMemory, NotAttached, NothingDue, NothingRipe, NothingToDeliver,
+                     NoMemory, NoRecord, NotAttached, NothingDue, NothingRipe, NothingToDeliver,
                      OtherSession, PastMoment, Refused, SessionsSpent, Shared, StepsSpent, StillUsed,
                      TimeSpent, TooManyLinks, TooManyPorts, TooManyPrefixes, Unasked, UnknownLink,
                      UnknownPort, UnknownPrefix, UnknownRouter)
-from .timed import Event, TimedNetwork
+from .timed import Event, Spell, TimedNetwork
 
 __version__ = "0.1.0"
 
@@ -89,13 +90,13 @@ __all__ = [
     "study",
     "Network", "Counts", "End", "Entry", "Held", "HeldMessage", "Item", "ItemKind", "LinkState",
     "MachineState", "Notice", "Step", "StepKind", "Trace", "default_attachments",
-    "TimedNetwork", "Event",
+    "TimedNetwork", "Event", "Spell",
     "Router", "Message", "MessageKind", "PrefixState", "Publication", "RouterCounts",
     "Image", "Row", "Kind",
     "Address", "Distance", "Prefix",
     "Refused", "LibraryNotFound", "AlreadyUp", "AskedTwice", "BadCost", "BadCount", "BadKind",
     "BadLength", "BadLimits", "BadLink", "BadOwner", "BadRouters", "EmptyHandle", "GenerationsSpent",
-    "HostBits", "IsDown", "NoMemory", "NotAttached", "NothingDue", "NothingRipe",
+    "HostBits", "IsDown", "NoMemory", "NoRecord", "NotAttached", "NothingDue", "NothingRipe",
     "NothingToDeliver", "OtherSession", "PastMoment", "SessionsSpent", "Shared", "StepsSpent", "StillUsed",
     "TimeSpent", "TooManyLinks", "TooManyPorts", "TooManyPrefixes", "Unasked", "UnknownLink", "UnknownPort",
     "UnknownPrefix", "UnknownRouter",

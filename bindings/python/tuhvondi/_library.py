@@ -133,6 +133,10 @@ class EventParts(Structure):
     _fields_ = [("moment", c_uint64), ("step", StepParts), ("given", c_uint8)]
 
 
+class SpellParts(Structure):
+    _fields_ = [("from", c_uint64), ("to", c_uint64), ("addr", c_uint32), ("router", c_uint16), ("len", c_uint8)]
+
+
 # The structures by their names in the headers.
 STRUCTURES = {
     "tuhvondi_row": RowParts, "tuhvondi_prefix": PrefixParts, "tuhvondi_image": Handle,
@@ -143,7 +147,7 @@ STRUCTURES = {
     "tuhvondi_neighbour": NeighbourParts, "tuhvondi_machine": MachineParts,
     "tuhvondi_link_state": LinkStateParts, "tuhvondi_item": ItemParts, "tuhvondi_gate": GateParts,
     "tuhvondi_notice": NoticeParts, "tuhvondi_delays": DelayParts, "tuhvondi_event": EventParts,
-    "tuhvondi_network": Handle, "tuhvondi_timed": Handle,
+    "tuhvondi_spell": SpellParts, "tuhvondi_network": Handle, "tuhvondi_timed": Handle,
 }
 
 _IMAGE = _ROUTER = _NETWORK = _TIMED = POINTER(Handle)
@@ -204,6 +208,9 @@ FUNCTIONS: dict[str, list[Any]] = {
     "tuhvondi_network_free": [_NETWORK],
     "tuhvondi_timed_new": [POINTER(LimitsParts), c_size_t, POINTER(LinkParts), c_size_t, POINTER(OwnerParts), c_size_t,
                            POINTER(DelayParts), c_size_t, _NUMBER, c_size_t, POINTER(FaultPlaceParts), _TIMED],
+    "tuhvondi_timed_recorded": [POINTER(LimitsParts), c_size_t, POINTER(LinkParts), c_size_t, POINTER(OwnerParts),
+                                c_size_t, POINTER(DelayParts), c_size_t, _NUMBER, c_size_t,
+                                POINTER(FaultPlaceParts), _TIMED],
     "tuhvondi_timed_at": [_TIMED, c_uint64, POINTER(StepParts)],
     "tuhvondi_timed_withdraw": [_TIMED, POINTER(EventParts)],
     "tuhvondi_timed_run_until": [_TIMED, c_uint64, c_size_t, _SIZE],
@@ -217,6 +224,10 @@ FUNCTIONS: dict[str, list[Any]] = {
     "tuhvondi_timed_machine": [_TIMED, c_uint16, c_uint32, c_uint8, POINTER(MachineParts)],
     "tuhvondi_timed_link": [_TIMED, c_uint16, POINTER(LinkStateParts)],
     "tuhvondi_timed_counts": [_TIMED, POINTER(NetworkCountsParts)],
+    "tuhvondi_timed_computations": [_TIMED, c_size_t, POINTER(SpellParts), c_size_t, _SIZE, _BYTE],
+    "tuhvondi_timed_computing": [_TIMED, POINTER(SpellParts), c_size_t, _SIZE, _BYTE],
+    "tuhvondi_timed_outages": [_TIMED, c_size_t, POINTER(SpellParts), c_size_t, _SIZE, _BYTE],
+    "tuhvondi_timed_cut_off": [_TIMED, POINTER(SpellParts), c_size_t, _SIZE, _BYTE],
     "tuhvondi_timed_free": [_TIMED],
 }
 

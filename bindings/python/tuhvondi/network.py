@@ -492,6 +492,16 @@ class Whole(Owner):
         if status:
             raise refusal(status, BY_NETWORK, detail)
 
+    def _listed(self, parts: Any, call: Any, *place: int) -> List[Any]:
+        """All that a call writes in a list, which tells if there was more than it had room for."""
+        room = 64
+        while True:
+            found, written, more = (parts * room)(), c_size_t(), c_uint8()
+            self._need(call(self._at, *place, found, room, byref(written), byref(more)))
+            if not more.value:
+                return found[:written.value]
+            room *= 4
+
     def _in_parts(self, most: Optional[int], call: Callable[[int, c_size_t], None]) -> Counts:
         """Does at most so many steps, or all, some at a time, and answers how many steps and messages these were.
         `call` does at most the number that it is given, and writes how many it has done. It raises a refusal."""
@@ -1011,16 +1021,6 @@ class Network(Whole):
         self._link(near, far)
         queue = self._listed(_library.ItemParts, self._library.network_queue, near, self._ports[near, far])
         return [self._item(parts) for parts in queue]
-
-    def _listed(self, parts: Any, call: Any, *place: int) -> List[Any]:
-        """All that a call writes of a router, which tells if there was more than it had room for."""
-        room = 64
-        while True:
-            found, written, more = (parts * room)(), c_size_t(), c_uint8()
-            self._need(call(self._at, *place, found, room, byref(written), byref(more)))
-            if not more.value:
-                return found[:written.value]
-            room *= 4
 
     @staticmethod
     def _item(parts: _library.ItemParts) -> Item:

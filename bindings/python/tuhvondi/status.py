@@ -240,12 +240,19 @@ class TimeSpent(Refused):
     number, text = 52, "the next event is due when the clock cannot go on"
 
 
+class NoRecord(Refused):
+    """The network keeps no record, because it was made without `record=True`."""
+
+    number, text = 53, "the network keeps no record"
+
+
 _OF_ALL = (BadLength, HostBits, BadCost, BadKind, EmptyHandle, BadCount, AlreadyUp, IsDown, NothingDue,
            NothingRipe, NoMemory, UnknownPrefix, NotAttached)
 _OF_ROUTERS = (*_OF_ALL, Shared, UnknownPort, TooManyPorts, TooManyPrefixes, OtherSession,
                GenerationsSpent, Unasked, AskedTwice, StillUsed)
 _OF_NETWORKS = (*_OF_ALL, UnknownRouter, UnknownLink, SessionsSpent, NothingToDeliver, StepsSpent,
-                BadRouters, BadLink, TooManyLinks, BadOwner, BadLimits, PastMoment, TimeSpent)
+                BadRouters, BadLink, TooManyLinks, BadOwner, BadLimits, PastMoment, TimeSpent,
+                NoRecord)
 
 # The exceptions by their numbers. Of three numbers an image or a router means something else than a network.
 BY_ROUTER: "dict[int, Type[Refused]]" = {each.number: each for each in _OF_ROUTERS}

@@ -4,11 +4,12 @@ from __future__ import annotations
 
 import operator
 from ctypes import byref, c_size_t, c_uint8, c_uint64
-from typing import Any, Callable, Iterable, Mapping, NamedTuple, Optional, Tuple, Union
+from ipaddress import IPv4Network
+from typing import Any, Callable, Iterable, List, Mapping, NamedTuple, Optional, Tuple, Union
 
 from . import _library, graphs
 from .network import Attachments, Counts, LinkGiven, Name, Step, StepKind, Whole
-from .rows import number_of
+from .rows import network_of, number_of
 
 # The delay from one router to another: a number for all, by the two names, or a function of them.
 DelayGiven = Union[int, Mapping[Tuple[Name, Name], int], Callable[[Name, Name], int]]
@@ -36,6 +37,29 @@ class Event(NamedTuple):
         return f"{self.moment}: {' '.join(map(str, words))}"
 
 
+class Spell(NamedTuple):
+    """From when until when something was so at a router, for a prefix, in microseconds since the opening. `end` is
+    None as long as it goes on.
+
+    >>> Spell("b", IPv4Network("10.0.0.0/8"), 3, 45).length
+    42
+    """
+
+    router: Name
+    prefix: IPv4Network
+    begin: int
+    end: Optional[int]
+
+    @property
+    def length(self) -> Optional[int]:
+        """How long it was so, in microseconds, or None as long as it goes on.
+
+        >>> Spell("b", IPv4Network("10.0.0.0/8"), 3, None).length is None
+        True
+        """
+        return None if self.end is None else self.end - self.begin
+
+
 class TimedNetwork(Whole):
     """A network of routers in simulated time. It is made of routers, links and attachments as a `Network` is.
 
@@ -45,6 +69,8 @@ class TimedNetwork(Whole):
     - publication: how long after a router has something to publish it publishes, in microseconds: a number for
       all, a dict by name, or a function of the name.
     - up: whether all links come up at moment 0; else all are down.
+    - record: whether the network keeps a record of its `computations` and `outages`. It costs time with each
+      event, and memory by the routers times the prefixes.
 
     What is due first is done first, and the clock jumps from one event to the next. Of one moment your changes
     come first, in the order in which you gave them, and then routers in the order in which you named them. So
@@ -62,7 +88,8 @@ class TimedNetwork(Whole):
     b c a: delivered - at rest since 1002300
 
     All that is proved of a network holds of this one at every moment, whatever the delays are. It is also
-    proved that nothing is done before it is due, and that nothing that is due is left out.
+    proved that nothing is done before it is due, and that nothing that is due is left out. A record is exact: a
+    spell stands in it if and only if there was one.
 
     Raises what a `Network` raises, and ValueError if a delay is none.
     """
@@ -71,8 +98,8 @@ class TimedNetwork(Whole):
 
     def __init__(self, routers: Iterable[Name], links: Iterable[LinkGiven],
                  attachments: Optional[Attachments] = None, *, delay: DelayGiven = 1000,
-                 publication: PublicationGiven = 1000, up: bool = True) -> None:
-        self._delay, self._publication = delay, publication
+                 publication: PublicationGiven = 1000, up: bool = True, record: bool = False) -> None:
+        self._delay, self._publication, self._records = delay, publication, record
         super().__init__(routers, links, attachments)
         if up:
             for a, b in self._pairs:
@@ -83,8 +110,9 @@ class TimedNetwork(Whole):
         delays = (_library.DelayParts * max(1, link_count))(
             *[(self._between(b, a), self._between(a, b)) for a, b in self._pairs])
         publications = (c_uint64 * max(1, routers))(*[self._to_publish(name) for name in self._names])
-        return self._library.timed_new(limits, routers, links, link_count, owners, owner_count, delays, link_count,
-                                       publications, routers, byref(place), self._at)
+        new = self._library.timed_recorded if self._records else self._library.timed_new
+        return new(limits, routers, links, link_count, owners, owner_count, delays, link_count, publications, routers,
+                   byref(place), self._at)
 
     def _between(self, sender: int, receiver: int) -> int:
         """How long an item is on its way."""
@@ -118,7 +146,7 @@ class TimedNetwork(Whole):
     @classmethod
     def from_networkx(cls, graph: Any, attachments: Optional[Attachments] = None,
                       cost: graphs.CostGiven = "weight", *, delay: graphs.CostGiven = "delay",
-                      publication: PublicationGiven = 1000, up: bool = True) -> TimedNetwork:
+                      publication: PublicationGiven = 1000, up: bool = True, record: bool = False) -> TimedNetwork:
         """The network of a graph of networkx, as `Network.from_networkx`.
 
         `delay` is the delay of an edge, in microseconds: the name of its attribute, and 1000 if the edge has
@@ -134,12 +162,12 @@ class TimedNetwork(Whole):
         Raises ValueError if a delay is no whole number. Others are as for `Network.from_networkx`.
         """
         return cls(list(graph.nodes), graphs.links_of(graph, cost), attachments,
-                   delay=graphs.delays_of(graph, delay), publication=publication, up=up)
+                   delay=graphs.delays_of(graph, delay), publication=publication, up=up, record=record)
 
     @classmethod
     def from_graphml(cls, path: Any, attachments: Optional[Attachments] = None,
                      cost: graphs.CostGiven = "weight", *, delay: graphs.CostGiven = "delay",
-                     publication: PublicationGiven = 1000, up: bool = True) -> TimedNetwork:
+                     publication: PublicationGiven = 1000, up: bool = True, record: bool = False) -> TimedNetwork:
         """The network of a file of GraphML, as `Network.from_graphml`. `delay` is as for `from_networkx`.
 
         >>> import io
@@ -151,7 +179,7 @@ class TimedNetwork(Whole):
         Raises ValueError if the file is no GraphML. Others are as for `from_networkx`.
         """
         return cls.from_networkx(graphs.read_graphml(path), attachments, cost, delay=delay,
-                                 publication=publication, up=up)
+                                 publication=publication, up=up, record=record)
 
     # ---- how it goes on
 
@@ -263,6 +291,71 @@ class TimedNetwork(Whole):
         rests = c_uint8()
         self._need(self._library.timed_is_at_rest(self._at, byref(rests)))
         return bool(rests.value)
+
+    # ---- what went on, and what goes on
+
+    def computations(self, start: int = 0) -> List[Spell]:
+        """The computations that ended, in the order in which they did: from when until when the machine of a router
+        for a prefix awaited replies. The list only grows. `start` leaves out so many at its beginning, so you
+        read it on from where you were.
+
+        >>> links = [("a", "b", 1), ("b", "c", 1), ("c", "a", 5)]
+        >>> net = TimedNetwork("abc", links, {"a": "10.0.0.0/8"}, delay=500, publication=100, record=True)
+        >>> net.at(1_000_000, Step(StepKind.LINK_DOWN, "a", "b"))
+        >>> _ = net.run_to_rest()
+        >>> for spell in net.computations():
+        ...     print(spell.router, spell.begin, spell.length)
+        b 1000500 1200
+
+        Raises NoRecord if the network was made without `record=True`.
+        """
+        return self._spells(self._library.timed_computations, number_of("start", start, _LAST))
+
+    def computing(self) -> List[Spell]:
+        """The computations that go on now, by prefixes and then by routers.
+
+        >>> links = [("a", "b", 1), ("b", "c", 1), ("c", "a", 5)]
+        >>> net = TimedNetwork("abc", links, {"a": "10.0.0.0/8"}, delay=500, publication=100, record=True)
+        >>> net.at(1_000_000, Step(StepKind.LINK_DOWN, "a", "b"))
+        >>> _ = net.run_until(1_001_000)
+        >>> net.computing()
+        [Spell(router='b', prefix=IPv4Network('10.0.0.0/8'), begin=1000500, end=None)]
+
+        Raises NoRecord.
+        """
+        return self._spells(self._library.timed_computing)
+
+    def outages(self, start: int = 0) -> List[Spell]:
+        """The outages that ended, in the order in which they did: from when until when a router was cut off from a
+        prefix. That is, links that were up led from it to a router that was attached to the prefix, and the rows
+        that routers had published did not. `start` is as for `computations`.
+
+        >>> net = TimedNetwork("ab", [("a", "b", 5)], {"a": "10.0.0.0/8"}, delay=500, publication=100, record=True)
+        >>> _ = net.run_to_rest()
+        >>> net.outages()
+        [Spell(router='b', prefix=IPv4Network('10.0.0.0/8'), begin=0, end=1200)]
+
+        Raises NoRecord if the network was made without `record=True`.
+        """
+        return self._spells(self._library.timed_outages, number_of("start", start, _LAST))
+
+    def cut_off(self) -> List[Spell]:
+        """The outages that go on now, by prefixes and then by routers. At rest there are none.
+
+        >>> net = TimedNetwork("ab", [("a", "b", 5)], {"a": "10.0.0.0/8"}, delay=500, publication=100, record=True)
+        >>> _ = net.run_until(700)
+        >>> net.cut_off()
+        [Spell(router='b', prefix=IPv4Network('10.0.0.0/8'), begin=0, end=None)]
+
+        Raises NoRecord.
+        """
+        return self._spells(self._library.timed_cut_off)
+
+    def _spells(self, call: Callable[..., int], *start: int) -> List[Spell]:
+        """The spells that a call writes."""
+        found = self._listed(_library.SpellParts, call, *start)
+        return [Spell(self._names[parts.router], network_of(parts.addr, parts.len), getattr(parts, "from"),
+                      None if parts.to == _LAST else parts.to) for parts in found]
 
     def _event_of(self, parts: _library.EventParts) -> Optional[Event]:
         """An event of the library, or None where it says that there is none."""

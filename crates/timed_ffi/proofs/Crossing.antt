@@ -1,9 +1,12 @@
--- A network in simulated time goes to another thread.
+-- A network in simulated time goes to another thread, with its record or without.
 use denote.Param.Send.{IsSend, sendable}
-use Rattle.std.proofs.Crossing.{frees, crosses}
-use Rattle.std_heap.proofs.Global.TheSendSync as heap
-use Rattle.timed_simulation.proofs.timed.TimedSimulation.TheSendSync as timed
+use denote.Param.SendFields.{declared_send}
+use Rattle.timed_reports.proofs.recording.Recording.TheSendSync as recording
 use Rattle.timed_ffi.specs.contracts.running.RunningTimed as Running
 
+-- its one field is an enumeration, which `search` does not look into
+inside_sends : IsSend Running.TheInside.the_row
+inside_sends = declared_send Running.TheInside.the_type (recording.the_send, tt)
+
 pub running_sends : IsSend Running.the_row
-running_sends = search (sendable, crosses, timed.the_send, heap.the_send, frees) depth 40
+running_sends = search (sendable, inside_sends)

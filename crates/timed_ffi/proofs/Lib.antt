@@ -1,3 +1,4 @@
 pub mod Words
 pub mod Crossing
 pub mod Given
+pub mod Going

@@ -1,5 +1,5 @@
 -- What the calls answer, by the network in simulated time that a handle holds, and what they leave.
-use Rattle.std.specs.Prelude.{◌≡◌, ◌≢◌, ◌⊎◌, ℕ, ◌≤◌, nat_lt, if◌then◌else◌, drop, true, Option, Some, None, option_map, slice_get}
+use Rattle.std.specs.Prelude.{◌≡◌, ◌≢◌, ◌⊎◌, ℕ, ◌≤◌, nat_lt, if◌then◌else◌, true, Option, Some, None, option_map, slice_get}
 use Rattle.std.specs.Option.{option_map_or}
 use Rattle.c_interface.specs.Faults.{fault_number}
 use Rattle.c_interface.specs.declared.fault.Fault.TheVariants.{Empty}
@@ -38,10 +38,6 @@ IsNumberBy None status = IsDoneOrFull status
 -- the first change that was given, as an event at its moment
 abbrev pub first_change : Timed → Option Event
 first_change t = option_map (λ (c : Change). record { moment = c.moment; step = c.step; given = true }) (slice_get t.changes 0)
-
--- without that
-abbrev pub without_first : Timed → Timed
-without_first t = record t { changes = drop 1 t.changes }
 
 -- ---- runs
 

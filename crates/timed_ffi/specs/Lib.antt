@@ -1,3 +1,4 @@
 pub mod Handles
 pub mod Parts
+pub mod Spells
 pub mod Calls

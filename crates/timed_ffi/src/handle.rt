@@ -1,7 +1,7 @@
 //! What C holds of a network in simulated time. No other module sees its pointer.
 
 ghost use Rattle.std.specs.Prelude.{◌≡◌, MatchOption, None, Some};
-ghost use Rattle.timed_simulation.specs.Timed.{Timed};
+ghost use Rattle.timed_reports.specs.declared.recording.Recording.{Recording};
 
 use crate::running::RunningTimed;
 use std::alloc::Global;
@@ -16,7 +16,7 @@ pub struct TimedHandle {
     network: *mut u8,
     holds: bool,
     alloc: Global,
-    ghost value: { Timed },
+    ghost value: { Recording },
 }
 
 impl Model for TimedHandle {
@@ -27,11 +27,11 @@ impl Model for TimedHandle {
 }
 
 impl TimedHandle {
-    ghost use Rattle.timed_ffi.specs.Handles.{handle_timed};
+    ghost use Rattle.timed_ffi.specs.Handles.{handle_recording};
 
     /// A handle that holds no network.
     pub fn none(alloc: Global) -> TimedHandle
-        ensures { handle_timed result ≡ None }
+        ensures { handle_recording result ≡ None }
     {
         TimedHandle {
             network: null_mut(),
@@ -42,7 +42,7 @@ impl TimedHandle {
 
     // A handle that holds this network.
     fn of(network: Box<RunningTimed>) -> TimedHandle
-        ensures { handle_timed result ≡ Some network.value }
+        ensures { handle_recording result ≡ Some network.value }
     {
         let (ptr, alloc) = Box::into_raw_with_allocator(network);
         TimedHandle {
@@ -54,8 +54,8 @@ impl TimedHandle {
 
     // The network that the handle holds, if any.
     fn into_box(self) -> Option<Box<RunningTimed>>
-        ensures { MatchOption result (handle_timed self ≡ None)
-            (λ b. handle_timed self ≡ Some b.value) }
+        ensures { MatchOption result (handle_recording self ≡ None)
+            (λ b. handle_recording self ≡ Some b.value) }
     {
         let TimedHandle {
             network,
@@ -71,16 +71,16 @@ impl TimedHandle {
 
     /// Takes the network out of the handle, which then holds none.
     pub fn take(&mut self, alloc: Global) -> Option<Box<RunningTimed>>
-        ensures taken { MatchOption result (handle_timed self.old ≡ None)
-            (λ b. handle_timed self.old ≡ Some b.value) }
-        ensures empty { handle_timed self.new ≡ None }
+        ensures taken { MatchOption result (handle_recording self.old ≡ None)
+            (λ b. handle_recording self.old ≡ Some b.value) }
+        ensures empty { handle_recording self.new ≡ None }
     {
         replace(self, TimedHandle::none(alloc)).into_box()
     }
 
     /// Puts a network into the handle. The one that it held is freed.
     pub fn put(&mut self, network: Box<RunningTimed>)
-        ensures { handle_timed self.new ≡ Some network.value }
+        ensures { handle_recording self.new ≡ Some network.value }
     {
         *self = TimedHandle::of(network);
     }

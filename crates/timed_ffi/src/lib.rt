@@ -15,20 +15,24 @@
 //! tuhvondi_timed_free(&t);
 //! ```
 //!
+//! A network keeps a record of its computations and outages if it was opened so (`src/recorded.rt`). What C is
+//! shown of it are lists of the record, from a place on and as far as there is room.
+//!
 //! The words: a *moment* is a number of microseconds since the opening. A *change* is a step that a router does
 //! not do by itself. An *event* is a step at its moment.
 //!
 //! What always holds: the tests have an order. Faults of the numbers come first, then an empty handle, then that
 //! a moment is past, and want of memory last (`given_number` in `specs/Calls.antt`). If a call is done, the
 //! network is what `timed_simulation` says, by the very definitions that its contracts cite. So all that is
-//! proved of a simulation holds of it, at every moment and whatever the delays are. If a call is refused, the
-//! network stays as it was, and nothing is written but what the contract names.
+//! proved of a simulation holds of it, at every moment and whatever the delays are. A record is exact, as
+//! `timed_reports` defines that, of all events since the opening (`IsOpened`, `GoesOn` in `specs/Forms.antt`). If
+//! a call is refused, the network stays as it was, and nothing is written but what the contract names.
 //!
 //! What is tricky is the pointer. As in `network_ffi`, only three small functions touch it (`src/handle.rt`),
 //! and these are proved by hand. What C is shown of the network without its time is that of `network_calls`.
 #![tactic(auto)]
 
-ghost use Rattle.std.specs.Prelude.{◌≡◌, ◌≢◌, None, Some, true, IfNone, IfSome, is_some, option_map};
+ghost use Rattle.std.specs.Prelude.{◌≡◌, ◌≢◌, None, Some, false, true, IfNone, IfSome, is_some, option_map};
 ghost use Rattle.c_interface.specs.Faults.{fault_number};
 ghost use Rattle.network_model.specs.Network.{widest_limits, AreWithin};
 ghost use Rattle.network_calls.specs.Parts.{limits_of, list_fault, network_failure};
@@ -36,9 +40,10 @@ ghost use Rattle.network_calls.specs.Steps.{step_of};
 ghost use Rattle.timed_simulation.specs.Events.{next_event};
 ghost use Rattle.timed_simulation.specs.Runs.{IsAtRest};
 ghost use Rattle.timed_simulation.specs.Timed.{with_change};
-ghost use Rattle.timed_ffi.specs.Handles.{handle_timed};
+ghost use Rattle.timed_reports.specs.Recordings.{with_timed, without_first, GoesOn, IsOpened};
+ghost use Rattle.timed_ffi.specs.Handles.{handle_recording, handle_timed};
 ghost use Rattle.timed_ffi.specs.Parts.{is_counted, opening_parts, parts_of_event, IsTimedNotOpened};
-ghost use Rattle.timed_ffi.specs.Calls.{first_change, given_number, without_first, IsFlagOf, IsNumberBy, IsRunToRest, IsRunUntil};
+ghost use Rattle.timed_ffi.specs.Calls.{first_change, given_number, IsFlagOf, IsNumberBy, IsRunToRest, IsRunUntil};
 
 use c_interface::Fault;
 use network_calls::{AttachmentParts, FaultPlace, LimitsParts, LinkParts, StepParts};
@@ -48,7 +53,9 @@ mod handle;
 mod looking;
 mod opening;
 mod parts;
+mod recorded;
 mod running;
+mod spells;
 
 use handle::TimedHandle;
 use opening::open;
@@ -77,12 +84,14 @@ pub extern "C" fn tuhvondi_timed_new(
         (limits_of limits.now) routers links.now attachments.now ≡ None }
     ensures done { result ≡ 0 → handle_timed timed.new ≡ Some
         (opening_parts routers links.now attachments.now delays.now publications.now) }
-    ensures refused { result ≢ 0 → handle_timed timed.new ≡ handle_timed timed.old }
+    ensures form { result ≡ 0 → IfSome (handle_recording timed.new) (IsOpened false) }
+    ensures refused { result ≢ 0 → handle_recording timed.new ≡ handle_recording timed.old }
     ensures cause { result ≢ 0 → IsTimedNotOpened (limits_of limits.now)
         routers links.now attachments.now delays.now publications.now result place.new }
 {
     match open(
         alloc,
+        false,
         limits,
         routers,
         links,
@@ -110,10 +119,10 @@ pub extern "C" fn tuhvondi_timed_at(
     change: &StepParts,
 ) -> u32
     ensures status { IsNumberBy (given_number moment change.now (handle_timed timed.old)) result }
-    ensures done { result ≡ 0 → handle_timed timed.new ≡ option_map
-        (with_change (record { moment = moment; step = step_of change.now }))
-        (handle_timed timed.old) }
-    ensures refused { result ≢ 0 → handle_timed timed.new ≡ handle_timed timed.old }
+    ensures done { result ≡ 0 → handle_recording timed.new ≡ option_map
+        (with_timed (with_change (record { moment = moment; step = step_of change.now })))
+        (handle_recording timed.old) }
+    ensures refused { result ≢ 0 → handle_recording timed.new ≡ handle_recording timed.old }
 {
     let step = match read_change(change) {
         Ok(step) => step,
@@ -139,7 +148,8 @@ pub extern "C" fn tuhvondi_timed_withdraw(
         (result ≡ 0) × (change.new ≡ parts_of_event (first_change t))) }
     ensures none { IfNone (handle_timed timed.old)
         ((result ≡ fault_number Fault.Empty) × (change.new ≡ change.old)) }
-    ensures left { handle_timed timed.new ≡ option_map without_first (handle_timed timed.old) }
+    ensures left { handle_recording timed.new
+        ≡ option_map (with_timed without_first) (handle_recording timed.old) }
 {
     let Some(mut held) = timed.take(alloc) else {
         return Fault::Empty.number();
@@ -161,6 +171,8 @@ pub extern "C" fn tuhvondi_timed_run_until(
 ) -> u32
     ensures some { IfSome (handle_timed timed.old) (λ s. IfSome (handle_timed timed.new)
         (λ t. IsRunUntil moment s t most done.new result)) }
+    ensures recorded { IfSome (handle_recording timed.old) (λ s. IfSome (handle_recording timed.new)
+        (λ t. GoesOn s t done.new)) }
     ensures kept { is_some (handle_timed timed.new) ≡ is_some (handle_timed timed.old) }
     ensures none { IfNone (handle_timed timed.old)
         ((result ≡ fault_number Fault.Empty) × (done.new ≡ done.old)) }
@@ -188,6 +200,8 @@ pub extern "C" fn tuhvondi_timed_run_to_rest(
 ) -> u32
     ensures some { IfSome (handle_timed timed.old) (λ s. IfSome (handle_timed timed.new)
         (λ t. IsRunToRest s t most done.new result)) }
+    ensures recorded { IfSome (handle_recording timed.old) (λ s. IfSome (handle_recording timed.new)
+        (λ t. GoesOn s t done.new)) }
     ensures kept { is_some (handle_timed timed.new) ≡ is_some (handle_timed timed.old) }
     ensures none { IfNone (handle_timed timed.old)
         ((result ≡ fault_number Fault.Empty) × (done.new ≡ done.old)) }
@@ -214,7 +228,7 @@ pub extern "C" fn tuhvondi_timed_now(
     ensures some { IfSome (handle_timed timed.old) (λ t. (result ≡ 0) × (moment.new ≡ t.clock)) }
     ensures none { IfNone (handle_timed timed.old)
         ((result ≡ fault_number Fault.Empty) × (moment.new ≡ moment.old)) }
-    ensures timed { handle_timed timed.new ≡ handle_timed timed.old }
+    ensures timed { handle_recording timed.new ≡ handle_recording timed.old }
 {
     let Some(held) = timed.take(alloc) else {
         return Fault::Empty.number();
@@ -235,7 +249,7 @@ pub extern "C" fn tuhvondi_timed_next(
         (result ≡ 0) × (event.new ≡ parts_of_event (next_event t))) }
     ensures none { IfNone (handle_timed timed.old)
         ((result ≡ fault_number Fault.Empty) × (event.new ≡ event.old)) }
-    ensures timed { handle_timed timed.new ≡ handle_timed timed.old }
+    ensures timed { handle_recording timed.new ≡ handle_recording timed.old }
 {
     let Some(held) = timed.take(alloc) else {
         return Fault::Empty.number();
@@ -257,7 +271,7 @@ pub extern "C" fn tuhvondi_timed_is_at_rest(
         (result ≡ 0) × IsFlagOf (IsAtRest t) rests.new) }
     ensures none { IfNone (handle_timed timed.old)
         ((result ≡ fault_number Fault.Empty) × (rests.new ≡ rests.old)) }
-    ensures timed { handle_timed timed.new ≡ handle_timed timed.old }
+    ensures timed { handle_recording timed.new ≡ handle_recording timed.old }
 {
     let Some(held) = timed.take(alloc) else {
         return Fault::Empty.number();
@@ -270,7 +284,7 @@ pub extern "C" fn tuhvondi_timed_is_at_rest(
 /// Frees the network, if there is one. The handle then holds none.
 #[unsafe(no_mangle)]
 pub extern "C" fn tuhvondi_timed_free(alloc: Global, timed: &mut TimedHandle)
-    ensures { handle_timed timed.new ≡ None }
+    ensures { handle_recording timed.new ≡ None }
 {
     *timed = TimedHandle::none(alloc);
 }

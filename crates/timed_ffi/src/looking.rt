@@ -6,7 +6,7 @@ ghost use Rattle.network_calls.specs.Calls.{at_link, at_machine, at_router, coun
 ghost use Rattle.network_calls.specs.Failures.{status_by};
 ghost use Rattle.network_calls.specs.Parts.{as_prefix};
 ghost use Rattle.network_calls.specs.Shown.{link_shown};
-ghost use Rattle.timed_ffi.specs.Handles.{handle_timed, timed_network};
+ghost use Rattle.timed_ffi.specs.Handles.{handle_recording, timed_network};
 
 use crate::handle::TimedHandle;
 use c_interface::{Fault, Row, read_prefix};
@@ -31,7 +31,7 @@ pub extern "C" fn tuhvondi_timed_lookup(
     ensures done { result ≡ 0 →
         IfSome (timed_network timed.old) (IsAnswered router addrs.now answers.new) }
     ensures refused { result ≢ 0 → answers.new ≡ answers.old }
-    ensures timed { handle_timed timed.new ≡ handle_timed timed.old }
+    ensures timed { handle_recording timed.new ≡ handle_recording timed.old }
 {
     let Some(held) = timed.take(alloc) else {
         return Fault::Empty.number();
@@ -59,7 +59,7 @@ pub extern "C" fn tuhvondi_timed_trace(
         s addr router hops.old hops.new count.new end.new) }
     ensures refused { result ≢ 0 →
         (hops.new ≡ hops.old) × (count.new ≡ count.old) × (end.new ≡ end.old) }
-    ensures timed { handle_timed timed.new ≡ handle_timed timed.old }
+    ensures timed { handle_recording timed.new ≡ handle_recording timed.old }
 {
     let Some(held) = timed.take(alloc) else {
         return Fault::Empty.number();
@@ -93,7 +93,7 @@ pub extern "C" fn tuhvondi_timed_rows(
         (λ r. IsListed r rows.old rows.new written.new more.new)) }
     ensures refused { result ≢ 0 →
         (rows.new ≡ rows.old) × (written.new ≡ written.old) × (more.new ≡ more.old) }
-    ensures timed { handle_timed timed.new ≡ handle_timed timed.old }
+    ensures timed { handle_recording timed.new ≡ handle_recording timed.old }
 {
     let Some(held) = timed.take(alloc) else {
         return Fault::Empty.number();
@@ -124,7 +124,7 @@ pub extern "C" fn tuhvondi_timed_machine(
     ensures done { result ≡ 0 → IfSome (timed_network timed.old) (λ s.
         shown_machine s.world router (as_prefix addr len) ≡ Some machine.new) }
     ensures refused { result ≢ 0 → machine.new ≡ machine.old }
-    ensures timed { handle_timed timed.new ≡ handle_timed timed.old }
+    ensures timed { handle_recording timed.new ≡ handle_recording timed.old }
 {
     let prefix = match read_prefix(addr, len) {
         Ok(prefix) => prefix,
@@ -156,7 +156,7 @@ pub extern "C" fn tuhvondi_timed_link(
     ensures done { result ≡ 0 → IfSome (timed_network timed.old) (λ s.
         option_map link_shown (slice_get s.world.links link) ≡ Some shown.new) }
     ensures refused { result ≢ 0 → shown.new ≡ shown.old }
-    ensures timed { handle_timed timed.new ≡ handle_timed timed.old }
+    ensures timed { handle_recording timed.new ≡ handle_recording timed.old }
 {
     let Some(held) = timed.take(alloc) else {
         return Fault::Empty.number();
@@ -181,7 +181,7 @@ pub extern "C" fn tuhvondi_timed_counts(
         (result ≡ 0) × (counts.new ≡ counts_of s)) }
     ensures none { IfNone (timed_network timed.old)
         ((result ≡ fault_number Fault.Empty) × (counts.new ≡ counts.old)) }
-    ensures timed { handle_timed timed.new ≡ handle_timed timed.old }
+    ensures timed { handle_recording timed.new ≡ handle_recording timed.old }
 {
     let Some(held) = timed.take(alloc) else {
         return Fault::Empty.number();

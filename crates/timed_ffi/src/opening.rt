@@ -4,6 +4,7 @@ ghost use Rattle.std.specs.Prelude.{◌≡◌, None, true, length, map, IfErr, I
 ghost use Rattle.network_model.specs.Network.{widest_limits, AreWithin};
 ghost use Rattle.network_calls.specs.Parts.{limits_of, list_fault, network_failure};
 ghost use Rattle.timed_simulation.specs.Timed.{opening_timed};
+ghost use Rattle.timed_reports.specs.Recordings.{timed_in, IsOpened};
 ghost use Rattle.timed_ffi.specs.Parts.{delays_of, is_counted, opening_parts, IsTimedFault};
 
 use crate::parts::{DelayParts, read_delays};
@@ -21,9 +22,10 @@ use std::alloc::Global;
 const MISCOUNTED: (Failure, FaultPlace) = (Failure::Given(Fault::BadCount), NOWHERE);
 
 /// Opens the network of these parts within these limits, with these delays of its links and of its routers'
-/// publications. That they are not as many as links and routers is told first.
+/// publications; one that keeps a record, if this is asked for. That they are not as many as links and routers is told first.
 pub fn open(
     alloc: Global,
+    records: bool,
     limits: &LimitsParts,
     routers: usize,
     links: &[LinkParts],
@@ -35,8 +37,9 @@ pub fn open(
     ensures within { OnOk result (AreWithin (limits_of limits.now) widest_limits) }
     ensures ok { OnOk result ((list_fault links.now attachments.now ≡ None)
         × (network_failure (limits_of limits.now) routers links.now attachments.now ≡ None)) }
-    ensures opened { IfOk result (λ b. b.value
+    ensures opened { IfOk result (λ b. timed_in b.value
         ≡ opening_parts routers links.now attachments.now delays.now publications.now) }
+    ensures form { IfOk result (λ b. IsOpened records b.value) }
     ensures err { IfErr result (IsTimedFault (limits_of limits.now)
         routers links.now attachments.now delays.now publications.now) }
 {
@@ -44,7 +47,7 @@ pub fn open(
         return Err(MISCOUNTED);
     }
     let network = read_network_within(alloc, limits, routers, links, attachments)?;
-    match boxed(alloc, network, delays, publications) {
+    match boxed(alloc, records, network, delays, publications) {
         Ok(opened) => Ok(opened),
         Err(_) => Err(FULL),
     }
@@ -64,20 +67,22 @@ fn are_counted(
     delays.len() == links.len() && publications.len() == routers
 }
 
-// Opens a network with these delays, in a box.
+// Opens a network with these delays, in a box; one that keeps a record, if this is asked for.
 fn boxed(
     alloc: Global,
+    records: bool,
     network: Network,
     delays: &[DelayParts],
     publications: &[u64],
 ) -> Result<Box<RunningTimed>, NoMemory>
     requires each_link { length delays.now ≡ length network.links }
     requires each_router { length publications.now ≡ network.routers }
-    ensures { IfOk result (λ b. b.value
+    ensures opened { IfOk result (λ b. timed_in b.value
         ≡ opening_timed network (map delays_of delays.now) publications.now) }
+    ensures form { IfOk result (λ b. IsOpened records b.value) }
 {
     let read = read_delays(alloc, delays)?;
-    let opened = RunningTimed::open(alloc, network, &read, publications)?;
+    let opened = RunningTimed::open(alloc, records, network, &read, publications)?;
     let boxed = Box::new(alloc, opened)?;
     Ok(boxed)
 }

@@ -6,6 +6,11 @@ use crate::looking::{
     tuhvondi_timed_rows, tuhvondi_timed_trace,
 };
 use crate::parts::{DelayParts, EventParts};
+use crate::recorded::{
+    tuhvondi_timed_computations, tuhvondi_timed_computing, tuhvondi_timed_cut_off,
+    tuhvondi_timed_outages, tuhvondi_timed_recorded,
+};
+use crate::spells::SpellParts;
 use crate::{
     tuhvondi_timed_at, tuhvondi_timed_free, tuhvondi_timed_is_at_rest, tuhvondi_timed_new,
     tuhvondi_timed_next, tuhvondi_timed_now, tuhvondi_timed_run_to_rest, tuhvondi_timed_run_until,
@@ -299,4 +304,171 @@ fn delays_that_are_missing_or_endless(rt: HostRuntime) {
         52
     );
     assert_eq!(rt; (done, now(alloc, &mut timed)), (2, 8));
+}
+
+// What is there before a call.
+const NO_SPELL: SpellParts = SpellParts {
+    from: 9,
+    to: 9,
+    addr: 9,
+    router: 9,
+    len: 9,
+};
+
+// A spell at a router, for 10.0.0.0/8.
+fn spell(router: u16, from: u64, to: u64) -> SpellParts {
+    SpellParts {
+        from,
+        to,
+        addr: 0x0a00_0000,
+        router,
+        len: 8,
+    }
+}
+
+// What a call wrote: its answer, the spell if there was room for one, how many, and whether there are more.
+type Told = (u32, [SpellParts; 1], usize, u8);
+
+const NONE: Told = (0, [NO_SPELL], 0, 0);
+
+fn computations(alloc: Global, timed: &mut TimedHandle, from: usize) -> Told {
+    let (mut spells, mut written, mut more) = ([NO_SPELL], 9, 9);
+    let status = tuhvondi_timed_computations(
+        alloc,
+        timed,
+        from,
+        &mut spells,
+        &mut written,
+        &mut more,
+    );
+    (status, spells, written, more)
+}
+
+fn computing(alloc: Global, timed: &mut TimedHandle) -> Told {
+    let (mut spells, mut written, mut more) = ([NO_SPELL], 9, 9);
+    let status = tuhvondi_timed_computing(alloc, timed, &mut spells, &mut written, &mut more);
+    (status, spells, written, more)
+}
+
+fn outages(alloc: Global, timed: &mut TimedHandle, from: usize) -> Told {
+    let (mut spells, mut written, mut more) = ([NO_SPELL], 9, 9);
+    let status = tuhvondi_timed_outages(alloc, timed, from, &mut spells, &mut written, &mut more);
+    (status, spells, written, more)
+}
+
+fn cut_off(alloc: Global, timed: &mut TimedHandle) -> Told {
+    let (mut spells, mut written, mut more) = ([NO_SPELL], 9, 9);
+    let status = tuhvondi_timed_cut_off(alloc, timed, &mut spells, &mut written, &mut more);
+    (status, spells, written, more)
+}
+
+fn record(alloc: Global, delays: &[DelayParts], timed: &mut TimedHandle) -> (u32, FaultPlace) {
+    let mut place = NOWHERE;
+    let status = tuhvondi_timed_recorded(
+        alloc,
+        &LIMITS,
+        2,
+        &LINK,
+        &OWNER,
+        delays,
+        &[10, 20],
+        &mut place,
+        timed,
+    );
+    (status, place)
+}
+
+// Router 1 is cut off from when the link comes up, at 3, until it has published, at 45. At 100 the attachment is
+// gone. Router 0 hears of it at once, and asks router 1 as it publishes, at 110. Router 1 has the question at 117,
+// and asks back at 137. The answer to that is there at 142, leaves at 152 and arrives at 159. Then router 1 answers:
+// its answer leaves at 179, and arrives at 184.
+#[test]
+fn a_record_is_kept(rt: HostRuntime) {
+    let alloc = rt.alloc();
+    let mut timed = TimedHandle::none(alloc);
+    let mut done = 9;
+    assert_eq!(rt;
+        record(alloc, &[DelayParts { to_a: 5, to_b: 7 }], &mut timed),
+        (0, NOWHERE)
+    );
+    assert_eq!(rt; cut_off(alloc, &mut timed), NONE);
+    assert_eq!(rt; tuhvondi_timed_at(alloc, &mut timed, 3, &plain(0, 0)), 0);
+    assert_eq!(rt;
+        tuhvondi_timed_run_until(alloc, &mut timed, 44, 1000, &mut done),
+        0
+    );
+    assert_eq!(rt;
+        cut_off(alloc, &mut timed),
+        (0, [spell(1, 3, u64::MAX)], 1, 0)
+    );
+    assert_eq!(rt; outages(alloc, &mut timed, 0), NONE);
+    assert_eq!(rt;
+        tuhvondi_timed_run_to_rest(alloc, &mut timed, 1000, &mut done),
+        0
+    );
+    assert_eq!(rt;
+        (cut_off(alloc, &mut timed), now(alloc, &mut timed)),
+        (NONE, 50)
+    );
+    assert_eq!(rt; outages(alloc, &mut timed, 0), (0, [spell(1, 3, 45)], 1, 0));
+    assert_eq!(rt; outages(alloc, &mut timed, 1), NONE);
+    let (mut written, mut more) = (9, 9);
+    assert_eq!(rt;
+        tuhvondi_timed_outages(alloc, &mut timed, 0, &mut [], &mut written, &mut more),
+        0
+    );
+    assert_eq!(rt; (written, more), (0, 1));
+    let gone = StepParts {
+        addr: 0x0a00_0000,
+        len: 8,
+        ..plain(7, 0)
+    };
+    assert_eq!(rt; tuhvondi_timed_at(alloc, &mut timed, 100, &gone), 0);
+    assert_eq!(rt;
+        tuhvondi_timed_run_until(alloc, &mut timed, 120, 1000, &mut done),
+        0
+    );
+    assert_eq!(rt;
+        computing(alloc, &mut timed),
+        (0, [spell(0, 100, u64::MAX)], 1, 1)
+    );
+    assert_eq!(rt; computations(alloc, &mut timed, 0), NONE);
+    assert_eq!(rt;
+        tuhvondi_timed_run_to_rest(alloc, &mut timed, 1000, &mut done),
+        0
+    );
+    assert_eq!(rt; computing(alloc, &mut timed), NONE);
+    assert_eq!(rt;
+        computations(alloc, &mut timed, 0),
+        (0, [spell(1, 117, 159)], 1, 1)
+    );
+    assert_eq!(rt;
+        computations(alloc, &mut timed, 1),
+        (0, [spell(0, 100, 184)], 1, 0)
+    );
+    tuhvondi_timed_free(alloc, &mut timed);
+}
+
+fn all_told(alloc: Global, timed: &mut TimedHandle) -> [Told; 4] {
+    [
+        computations(alloc, timed, 0),
+        computing(alloc, timed),
+        outages(alloc, timed, 0),
+        cut_off(alloc, timed),
+    ]
+}
+
+// A handle that holds none, one whose network keeps no record, and one that is opened with a delay too few.
+#[test]
+fn no_record_is_kept(rt: HostRuntime) {
+    let alloc = rt.alloc();
+    let mut none = TimedHandle::none(alloc);
+    let mut timed = opened(alloc);
+    assert_eq!(rt; all_told(alloc, &mut none), [(7, [NO_SPELL], 9, 9); 4]);
+    assert_eq!(rt; all_told(alloc, &mut timed), [(53, [NO_SPELL], 9, 9); 4]);
+    let place = FaultPlace {
+        position: 0,
+        list: 0,
+    };
+    assert_eq!(rt; record(alloc, &[], &mut timed), (8, place));
 }

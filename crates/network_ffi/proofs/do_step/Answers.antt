@@ -20,3 +20,12 @@ returns-clause-err c =
     let is_held : handle_network c.args.network.now ≡ Some b = search rules in
     subst (λ (o : Option Simulation). IfErr c.read_and_step-outcome.result (λ f. IsStatusBy (step_fault c.args.parts o) (failure_number f))) (sym is_held)
     (status_of (running_fault c.args.parts b) c.read_and_step-outcome.result c.read_and_step-outcome.ensures.cause)
+
+pub returns-in-Err-clause-stepped : goal.returns-in-Err-clause-stepped
+returns-in-Err-clause-stepped c = search rules
+
+pub returns-in_default-take-clause-stepped : goal.returns-in_default-take-clause-stepped
+returns-in_default-take-clause-stepped c = search rules
+
+pub returns-clause-stepped : goal.returns-clause-stepped
+returns-clause-stepped c = search rules

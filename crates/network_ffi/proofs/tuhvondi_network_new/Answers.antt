@@ -1,4 +1,4 @@
-use Rattle.std.proofs.Common.{arith, inr, subst}
+use Rattle.std.proofs.Common.{arith, inr, subst, rules}
 use Rattle.network_model.specs.Network.{program_limits, widest_limits, AreWithin}
 use Rattle.network_calls.specs.Parts.{list_fault, network_failure, IsOpeningFault}
 use Rattle.network_ffi.proofs.tuhvondi_network_new.Goals as goal
@@ -19,3 +19,12 @@ returns-in-Err-clause-cause c = λ refused. record {
   );
   number = c.number.ensures.number;
 }
+
+pub returns-in-Ok-clause-done : goal.returns-in-Ok-clause-done
+returns-in-Ok-clause-done c = search rules
+
+pub returns-in-Ok-clause-cause : goal.returns-in-Ok-clause-cause
+returns-in-Ok-clause-cause c = search rules
+
+pub returns-in-Err-clause-done : goal.returns-in-Err-clause-done
+returns-in-Err-clause-done c = search rules

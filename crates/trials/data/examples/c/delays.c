@@ -4,7 +4,8 @@
  *     cc -o delays examples/c/delays.c $(pkg-config --cflags --libs tuhvondi) && ./delays
  *
  * It prints what stands in delays.out beside it. Each second a link changes. What that leads to is done event by
- * event, and after each event a packet is followed from each router.
+ * event, and after each event a packet is followed from each router. At the end it tells from the network's record
+ * for how long routers were cut off, and for how long machines awaited replies.
  */
 #include <tuhvondi_timed.h>
 
@@ -36,6 +37,24 @@ static unsigned lost(void)
         count += end != TUHVONDI_DELIVERED;
     }
     return count;
+}
+
+/* How many spells of the record have ended, and how long the longest was. */
+static void tell(const char *what, uint32_t (*call)(struct tuhvondi_timed *, size_t, struct tuhvondi_spell *,
+                                                    size_t, size_t *, uint8_t *))
+{
+    struct tuhvondi_spell spells[16];
+    uint64_t longest = 0;
+    size_t count = 0, written;
+    uint8_t more = 1;
+    while (more) {
+        need(call(&timed, count, spells, 16, &written, &more));
+        for (size_t i = 0; i < written; i++)
+            if (spells[i].to - spells[i].from > longest)
+                longest = spells[i].to - spells[i].from;
+        count += written;
+    }
+    printf("%zu %s, the longest for %" PRIu64 " ms\n", count, what, longest / 1000);
 }
 
 /* A link comes up or goes down at this moment, and routers do what that leads to, until nothing is left. */
@@ -89,14 +108,16 @@ int main(void)
         delays[i].to_a = delays[i].to_b = (i + 1) * 1000;
         publications[i] = 2000;
     }
-    need(tuhvondi_timed_new(&limits, ROUTERS, links, ROUTERS, &owner, 1, delays, ROUTERS,
-                            publications, ROUTERS, &place, &timed));
+    need(tuhvondi_timed_recorded(&limits, ROUTERS, links, ROUTERS, &owner, 1, delays, ROUTERS,
+                                 publications, ROUTERS, &place, &timed));
     for (uint16_t link = 0; link < ROUTERS; link++)
         change(++second * SECOND, link, TUHVONDI_LINK_UP);
     for (uint16_t link = 0; link < ROUTERS; link++) {
         change(++second * SECOND, link, TUHVONDI_LINK_DOWN);
         change(++second * SECOND, link, TUHVONDI_LINK_UP);
     }
+    tell("outages", tuhvondi_timed_outages);
+    tell("computations", tuhvondi_timed_computations);
     tuhvondi_timed_free(&timed);
     return 0;
 }
