@@ -5,7 +5,7 @@ _dualnet_view() {
     local word=${COMP_WORDS[COMP_CWORD]}
     COMPREPLY=()
     if [[ $word == -* ]]; then
-        mapfile -t COMPREPLY < <(compgen -W "--output --json --help --version" -- "$word")
+        mapfile -t COMPREPLY < <(compgen -W "--times --output --json --help --version" -- "$word")
         return
     fi
     compopt -o filenames

@@ -1,5 +1,5 @@
 -- The command line of the program that shows a run, as clap's definition reads it, and what its matches ask for.
-use Rattle.std.specs.Prelude.{◌≡◌, List, [], ◌∷◌, Some, option_map, codes, true}
+use Rattle.std.specs.Prelude.{◌≡◌, List, [], ◌∷◌, Some, option_map, codes, false, true, is_some}
 use Rattle.clap.specs.Words.{App, Rule, Row, Text, Kinds, fault_of, first_of, new_app, new_rule, with_rule}
 use Rattle.clap.specs.Kinds.{or_else}
 use Rattle.clap.specs.Simple.{on_top}
@@ -16,18 +16,23 @@ word_rule id = record (new_rule id) { value_names = 1 }
 abbrev pub output_rule : Rule
 output_rule = record (path_rule (codes "output")) { short = Some 111 }
 
--- `dualnet-view FILE [JOURNAL] [--output PATH] [--json]`
+-- `dualnet-view FILE [JOURNAL] [--times PATH] [--output PATH] [--json]`
 abbrev pub view_program : App
-view_program = with_rule (with_rule (with_rule (with_rule
+view_program = with_rule (with_rule (with_rule (with_rule (with_rule
     (on_top (λ s. record s { has_version = true }) (new_app (codes "dualnet-view")))
-    (file_rule (codes "file"))) (word_rule (codes "journal"))) output_rule) (flag_rule (codes "json"))
+    (file_rule (codes "file"))) (word_rule (codes "journal"))) (path_rule (codes "times"))) output_rule) (flag_rule (codes "json"))
 
--- the matches: a file, a journal and an output where they are given, and whether JSON is asked for
+-- the matches: a file; a journal, a document of times and an output if they are given; and whether JSON is asked for
 abbrev pub IsView : List Row → ViewWords → Type 0
 IsView rows w = (first_of (codes "file") rows ≡ Some (w.file).now)
     × (first_of (codes "journal") rows ≡ option_map (λ path. path.now) w.journal)
+    × (first_of (codes "times") rows ≡ option_map (λ path. path.now) w.times)
     × (first_of (codes "output") rows ≡ option_map (λ path. path.now) w.output)
     × IsFlag rows (codes "json") w.json
+
+-- of a journal and a document of times one is named, or none
+abbrev pub NamesOneRun : ViewWords → Type 0
+NamesOneRun w = is_some w.journal ≡ true → is_some w.times ≡ false
 
 -- the kinds of error that the words may give
 abbrev pub view_kinds_of : List Text → Kinds

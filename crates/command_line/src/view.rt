@@ -1,10 +1,10 @@
 //! What the command line of the program that shows a run asks for.
 
-ghost use Rattle.std.specs.Prelude.{◌≡◌, [], IfErr, IfOk, IfSome, codes, false};
+ghost use Rattle.std.specs.Prelude.{◌≡◌, [], IfErr, IfOk, codes, false};
 ghost use Rattle.clap.specs.Words.{HasKind, app_of, fault_of, found_of, matches_of, rows_of, rule_of};
 ghost use Rattle.command_line.specs.Asked.{word_texts};
-ghost use Rattle.command_line.specs.Commands.{flag_rule};
-ghost use Rattle.command_line.specs.View.{IsView, output_rule, view_kinds_of, view_program, word_rule};
+ghost use Rattle.command_line.specs.Commands.{flag_rule, path_rule};
+ghost use Rattle.command_line.specs.View.{IsView, NamesOneRun, output_rule, view_kinds_of, view_program, word_rule};
 
 use crate::commands::{flag_arg, path_arg, scenario_arg};
 use crate::words::flag;
@@ -19,6 +19,8 @@ pub struct ViewWords<'a> {
     pub file: &'a str,
     /// The file of a journal of a run of it, or none if the script is to be run.
     pub journal: Option<&'a str>,
+    /// The document of times, if the network is to run in simulated time. Then no journal is named.
+    pub times: Option<&'a str>,
     /// The file to write to, or none if that is the standard output.
     pub output: Option<&'a str>,
     /// Whether the states are asked for as lines of JSON, and not in a page.
@@ -29,8 +31,9 @@ pub struct ViewWords<'a> {
 const AFTER_HELP: &str = "\
 `man dualnet-view` (docs/dualnet-view.1) describes the page and the lines of JSON.
 
-Example:
-  dualnet-view examples/ring.toml -o ring.html";
+Examples:
+  dualnet-view examples/ring.toml -o ring.html
+  dualnet-view examples/ring.toml --times examples/ring-times.toml -o ring.html";
 
 fn view_command<'a>(alloc: Global) -> Result<Command<'a>, AllocError>
     ensures { IfOk result (λ c. app_of c ≡ view_program) }
@@ -41,6 +44,7 @@ fn view_command<'a>(alloc: Global) -> Result<Command<'a>, AllocError>
         .after_help(AFTER_HELP)
         .arg(scenario_arg(alloc))?
         .arg(journal_arg(alloc))?
+        .arg(times_arg(alloc))?
         .arg(output_arg(alloc))?
         .arg(json_arg(alloc))
 }
@@ -52,6 +56,17 @@ fn journal_arg<'a>(alloc: Global) -> Arg<'a>
 {
     Arg::new(alloc, "journal").value_name("JOURNAL").help(
         "Journal whose steps are shown. If you name none, the script is run",
+    )
+}
+
+fn times_arg<'a>(alloc: Global) -> Arg<'a>
+    ensures rule { rule_of result ≡ path_rule (codes "times") }
+    ensures local { result.global ≡ false }
+{
+    path_arg(
+        alloc,
+        "times",
+        "Run the network in simulated time, by this document of times, and not the script",
     )
 }
 
@@ -83,27 +98,37 @@ fn json_arg<'a>(alloc: Global) -> Arg<'a>
 /// after `--`.
 pub fn read_view_words<'a>(alloc: Global, words: &'a [&'a str]) -> Result<ViewWords<'a>, Error>
     ensures asked { IfOk result (IsView (matches_of view_program (word_texts words.entry.now))) }
+    ensures one { IfOk result NamesOneRun }
     ensures taken { IfOk result (λ _. fault_of view_program (word_texts words.entry.now) ≡ []) }
     ensures kinds { IfErr result (HasKind (view_kinds_of (word_texts words.entry.now))) }
 {
     let mut command = view_command(alloc)?;
     let matches = command.try_get_matches_from_mut(words)?;
     match view_words(&matches) {
-        Some(asked) => Ok(asked),
-        None => Err(command.error(ErrorKind::InvalidValue, "no file is named")?),
+        Ok(asked) => Ok(asked),
+        Err(why) => Err(command.error(ErrorKind::InvalidValue, why)?),
     }
 }
 
-fn view_words<'a>(matches: &ArgMatches<'a>) -> Option<ViewWords<'a>>
-    ensures { IfSome result (IsView (rows_of (found_of matches.now))) }
+// What the matches ask for, or why that cannot be done.
+fn view_words<'a>(matches: &ArgMatches<'a>) -> Result<ViewWords<'a>, &'static str>
+    ensures asked { IfOk result (IsView (rows_of (found_of matches.now))) }
+    ensures one { IfOk result NamesOneRun }
 {
-    let file = matches.get_str("file")?;
+    let Some(file) = matches.get_str("file") else {
+        return Err("no file is named");
+    };
     let journal = matches.get_str("journal");
+    let times = matches.get_str("times");
+    if journal.is_some() && times.is_some() {
+        return Err("a journal and a document of times are two runs, and one is shown");
+    }
     let output = matches.get_str("output");
     let json = flag(matches, "json");
-    Some(ViewWords {
+    Ok(ViewWords {
         file,
         journal,
+        times,
         output,
         json,
     })

@@ -6,15 +6,16 @@
 //! ```text
 //! ./dualnet-view examples/ring.toml -o ring.html           # a page of the run of its script
 //! ./dualnet-view examples/ring.toml ring.journal --json    # the states of that journal's steps, as lines
+//! ./dualnet-view examples/ring.toml --times examples/ring-times.toml -o ring.html    # the network in simulated time
 //! ```
 //!
 //! The words: *states* are the network before the first step and after each. FILE is the scenario, JOURNAL a
-//! journal of a run of it. Without a journal the script is run. Without `-o` the page goes to the standard
-//! output.
+//! journal of a run of it. With `--times` the network runs in simulated time, as `dualnet time` does it. With
+//! neither the script is run. Without `-o` the page goes to the standard output.
 //!
 //! - With `-o` all is first made in memory, and written if it is not empty. So a fault in the input leaves
 //!   the file as it was.
-//! - A path that leads to the scenario or to the journal is not written over (49).
+//! - A path that leads to a file that is read is not written over (49).
 //!
 //! What always holds: the exit status is that of `view::show`, and status 0 says that the states of lawful
 //! steps were written. If the file or the standard output cannot be written, the status is 2. No function
@@ -85,19 +86,27 @@ fn write_to<H: Host, W: Write>(
     out: &mut W,
 ) -> u8 {
     let scenario = open_file(rt, words.file);
-    let journal = match words.journal {
-        Some(path) => open_file(rt, path),
-        None => Source::Missing,
+    let other = match second_path(words) {
+        Some(path) if path != "-" || words.file != "-" => open_file(rt, path),
+        _ => Source::Missing,
     };
     show(
         wait,
         rt.alloc(),
         words,
         scenario,
-        journal,
+        other,
         out,
         &mut rt.stderr(),
     )
+}
+
+// The file that is read beside the scenario. The standard input is read once, so both cannot be that (47).
+fn second_path<'a>(words: &ViewWords<'a>) -> Option<&'a str> {
+    match words.journal {
+        Some(path) => Some(path),
+        None => words.times,
+    }
 }
 
 // Says that the output could not be written, and answers the exit status.

@@ -101,14 +101,20 @@ pub fn kept_path<'a>(words: &Words<'a>) -> Option<&'a str>
     }
 }
 
-/// Whether the path leads to a file that `dualnet-view` reads, the scenario or the journal, by whatever spelling or link.
+/// Whether the path leads to a file that `dualnet-view` reads, by whatever spelling or link: the scenario, the journal
+/// or the document of times.
 pub fn is_read(rt: &HostRuntime, words: &ViewWords<'_>, path: &str) -> bool
     ensures scenario { (words.now.file).now ≡ path.now → result ≡ true }
     ensures journal { IfSome words.now.journal (λ j. j.now ≡ path.now → result ≡ true) }
+    ensures times { IfSome words.now.times (λ t. t.now ≡ path.now → result ≡ true) }
 {
     let is_journal = match words.journal {
         Some(journal) => is_one_file(rt, journal, path),
         None => false,
     };
-    is_journal || is_one_file(rt, words.file, path)
+    let is_times = match words.times {
+        Some(times) => is_one_file(rt, times, path),
+        None => false,
+    };
+    is_journal || is_times || is_one_file(rt, words.file, path)
 }

@@ -12,6 +12,7 @@ use view::show;
 const LINES: ViewWords<'static> = ViewWords {
     file: "scenario.toml",
     journal: None,
+    times: None,
     output: None,
     json: true,
 };
@@ -23,6 +24,11 @@ const PAGE: ViewWords<'static> = ViewWords {
 
 const JOURNAL: ViewWords<'static> = ViewWords {
     journal: Some("journal"),
+    ..LINES
+};
+
+const IN_TIME: ViewWords<'static> = ViewWords {
+    times: Some("times"),
     ..LINES
 };
 
@@ -58,16 +64,38 @@ const STATES: [&str; 8] = [
     \"step\":\"down a b\"}\n",
 ];
 
+// An item is on its way to `a` for 100 microseconds, and to `b` for 500. The link goes down before `b` has published.
+const TIMES: &[u8] = b"links = [\"a b 500 100\"]\nrouters = [\"a 20\", \"b 1000\"]\n\
+    changes = [\"0 up a b\", \"700 down a b\"]\n";
+
+// The moments of the first seven steps, which are those of the script.
+const MOMENTS: [&str; 7] = ["0", "100", "120", "120", "500", "620", "700"];
+
+// The states after the steps that the network does then.
+const LATER: [&str; 4] = [
+    "{\"kind\":\"state\",\"moment\":800,\"number\":8,\"queues\":[{\"end\":0,\"link\":0,\"take\":1}],\
+    \"step\":\"deliver a b\"}\n",
+    "{\"kind\":\"state\",\
+    \"machines\":[{\"chosen\":\"unreachable\",\"fd\":null,\"prefix\":0,\"published\":null,\"rd\":null,\"router\":1}],\
+    \"moment\":1200,\"number\":9,\"queues\":[{\"end\":1,\"link\":0,\"take\":1}],\"step\":\"deliver b a\"}\n",
+    "{\"kind\":\"state\",\
+    \"machines\":[{\"chosen\":\"unreachable\",\"fd\":null,\"prefix\":0,\"published\":\"unreachable\",\"rd\":null,\"router\":1}],\
+    \"moment\":1620,\"number\":10,\
+    \"routers\":[{\"generation\":1,\"held\":1,\"notices\":0,\"ripe\":1,\"router\":1}],\"step\":\"publish b\"}\n",
+    "{\"kind\":\"state\",\"moment\":1620,\"number\":11,\
+    \"routers\":[{\"generation\":1,\"held\":0,\"notices\":0,\"ripe\":0,\"router\":1}],\"step\":\"release b\"}\n",
+];
+
 // What is shown of the scenario, or of a journal of it, and what of a fault; and the status.
 fn shown<H: Host>(
     rt: &H,
     alloc: Global,
     words: &ViewWords<'_>,
     scenario: &[u8],
-    journal: &[u8],
+    other: &[u8],
 ) -> (Vec<u8>, Vec<u8>, u8) {
     let (mut out, mut err) = (Vec::new(alloc), Vec::new(alloc));
-    let status = show(rt, alloc, words, scenario, journal, &mut out, &mut err);
+    let status = show(rt, alloc, words, scenario, other, &mut out, &mut err);
     (out, err, status)
 }
 
@@ -89,6 +117,37 @@ fn states_of_two_routers(rt: HostRuntime) {
     assert!(rt; out.as_slice() == expected.as_bytes());
     assert!(rt; err.is_empty());
     assert_eq!(rt; status, 0);
+}
+
+#[test]
+fn states_in_simulated_time(rt: HostRuntime) {
+    let alloc = rt.alloc();
+    let (out, err, status) = shown(&rt, alloc, &IN_TIME, SCENARIO, TIMES);
+    let opening = OPENING
+        .replace(alloc, "\"steps\":7", "\"steps\":11")
+        .expect(&rt, "memory");
+    let mut expected = lines(alloc, &rt, opening.as_str(), 1);
+    for (state, moment) in STATES[1..].iter().zip(MOMENTS) {
+        let mut told = String::new(alloc);
+        for part in ["\"moment\":", moment, ",\"number\""] {
+            told.push_str(part).expect(&rt, "memory");
+        }
+        let line = state
+            .replace(alloc, "\"number\"", told.as_str())
+            .expect(&rt, "memory");
+        expected.push_str(line.as_str()).expect(&rt, "memory");
+    }
+    for state in LATER {
+        expected.push_str(state).expect(&rt, "memory");
+    }
+    assert!(rt; out.as_slice() == expected.as_bytes());
+    assert!(rt; err.is_empty());
+    assert_eq!(rt; status, 0);
+    // A document of times that has a fault.
+    let (out, err, status) = shown(&rt, alloc, &IN_TIME, SCENARIO, b"link = -1\n");
+    assert!(rt; out.is_empty());
+    assert!(rt; err.as_slice().starts_with(b"dualnet: "));
+    assert_eq!(rt; status, 1);
 }
 
 #[test]

@@ -27,7 +27,7 @@ use Rattle.run_states.specs.declared.recorder.Changes.{Changes}
 use Rattle.run_states.specs.declared.router_book.RouterChange.{RouterChange}
 use Rattle.run_states.specs.declared.shown.MachineShown.{MachineShown}
 use Rattle.run_states.specs.Queues.{is_nothing}
-use Rattle.run_states.specs.Values.{count, distance_data, entry_data, item_data, items_data, link_data, links_data, list, listed, machine_data, machine_members, machines_data, number_of_end, opening_data, port_data, ports_data, put_if, put_list, put_step, queue_data, queue_listed, queues_data, router_data, routers_data, state_data, word}
+use Rattle.run_states.specs.Values.{count, distance_data, entry_data, item_data, items_data, link_data, links_data, list, listed, machine_data, machine_members, machines_data, number_of_end, opening_data, port_data, ports_data, put_if, put_list, put_moment, put_step, queue_data, queue_listed, queues_data, router_data, routers_data, state_data, word}
 
 -- ---- tests
 
@@ -138,10 +138,15 @@ queue_listed_plain ps l e c = by_test (is_nothing c)
 
 -- ---- lines
 
-pub state_plain : (w : World) (ps : List Prefix) (k : ℕ) (step : Option Text) (c : Changes) → has_float (state_data w ps k step c) ≡ false
-state_plain w ps k step c =
+put_moment_plain : (moment : Option ℕ) (ms : Members) → members_have_float ms ≡ false → members_have_float (put_moment moment ms) ≡ false
+put_moment_plain None ms all = all
+put_moment_plain (Some moment) ms all = put_plain (codes "moment") (count moment) ms refl all
+
+pub state_plain : (w : World) (ps : List Prefix) (k : ℕ) (step : Option Text) (moment : Option ℕ) (c : Changes) → has_float (state_data w ps k step moment c) ≡ false
+state_plain w ps k step moment c =
     let numbered : Members = put (codes "number") (count k) (put (codes "kind") (word (codes "state")) no_members) in
-    let stepped : Members = put_step step numbered in
+    let said : Members = put_step step numbered in
+    let stepped : Members = put_moment moment said in
     let linked : Members = put_list (codes "links") (links_data (c.links).items) stepped in
     let routed : Members = put_list (codes "routers") (routers_data (c.routers).items) linked in
     let machined : Members = put_list (codes "machines") (machines_data w (c.routers).items) routed in
@@ -155,8 +160,9 @@ state_plain w ps k step c =
     (flat_map_plain (λ (x : ℕ × RouterChange). listed (router_data x.0) (x.1).shown) (c.routers).items (λ x. listed_plain (router_data x.0) (x.1).shown (λ r. refl)))
     (put_list_plain (codes "links") (links_data (c.links).items) stepped
     (flat_map_plain (λ (x : ℕ × LinkChange). listed (link_data x.0) (x.1).shown) (c.links).items (λ x. listed_plain (link_data x.0) (x.1).shown (λ k. refl)))
+    (put_moment_plain moment said
     (put_step_plain step numbered
-    (put_plain (codes "number") (count k) (put (codes "kind") (word (codes "state")) no_members) refl refl)))))
+    (put_plain (codes "number") (count k) (put (codes "kind") (word (codes "state")) no_members) refl refl))))))
 
 pub opening_plain : (n : Network) (d : Directory) (ps : List Prefix) (steps every : ℕ) → has_float (opening_data n d ps steps every) ≡ false
 opening_plain n d ps steps every =

@@ -40,27 +40,32 @@ abbrev pub step_told : Directory → List LinkSpec → List Step → ℕ → Opt
 step_told d links steps zero = None
 step_told d links steps (suc k) = option_map (step_text d links) (slice_get steps k)
 
+-- the moment of the step after which a state is, if moments are known; at the opening there is none
+abbrev pub moment_told : List ℕ → ℕ → Option ℕ
+moment_told moments zero = None
+moment_told moments (suc k) = slice_get moments k
+
 -- the line of the state after so many of the steps: what it says has changed leads from what was shown before to the world after these steps
-pub record IsStateLine (n : Network) (d : Directory) (steps : List Step) (k : ℕ) (before after : Recorder) (line : Text) : Type 0 where
+pub record IsStateLine (n : Network) (d : Directory) (steps : List Step) (moments : List ℕ) (k : ℕ) (before after : Recorder) (line : Text) : Type 0 where
   pub world : World
   pub runs : Runs (opening n) (take k steps) world
   pub changes : Changes
   pub follows : Follows changes before after
   pub shows : ShowsWorld world after
-  pub text : line ≡ compact_text (state_data world (after.prefixes).items k (step_told d n.links steps k) changes)
+  pub text : line ≡ compact_text (state_data world (after.prefixes).items k (step_told d n.links steps k) (moment_told moments k) changes)
 
 -- the lines tell of the states of these numbers, one each: the first by what has changed since this was shown, each other since the one before it
-abbrev pub Tell : Network → Directory → List Step → List ℕ → Recorder → List Text → Type 0
-Tell n d steps [] shown lines = lines ≡ []
-Tell n d steps (k ∷ ks) shown lines = (line : Text) × (rest : List Text) × (before : Recorder) × (after : Recorder) × (lines ≡ line ∷ rest)
-    × ShowSame shown before × IsStateLine n d steps k before after line × Tell n d steps ks after rest
+abbrev pub Tell : Network → Directory → List Step → List ℕ → List ℕ → Recorder → List Text → Type 0
+Tell n d steps moments [] shown lines = lines ≡ []
+Tell n d steps moments (k ∷ ks) shown lines = (line : Text) × (rest : List Text) × (before : Recorder) × (after : Recorder) × (lines ≡ line ∷ rest)
+    × ShowSame shown before × IsStateLine n d steps moments k before after line × Tell n d steps moments ks after rest
 
--- the text of the states of these steps: the opening's line, and a line for each state that is told, where nothing was shown before the first
-pub record IsStatesText (n : Network) (d : Directory) (steps : List Step) (every : ℕ) (text : Text) : Type 0 where
+-- the text of the states of these steps, with the moment of each if it is known: the opening's line, and a line for each state that is told, where nothing was shown before the first
+pub record IsStatesText (n : Network) (d : Directory) (steps : List Step) (moments : List ℕ) (every : ℕ) (text : Text) : Type 0 where
   pub blank : Recorder
   pub is_blank : IsBlank blank
   pub of : IsRecorderOf (opening n) blank
   pub prefixes : ArePrefixesOf n.attachments (blank.prefixes).items
   pub lines : List Text
-  pub told : Tell n d steps (numbers_told every (length steps)) blank lines
+  pub told : Tell n d steps moments (numbers_told every (length steps)) blank lines
   pub text_is : text ≡ lines_text (λ t. t) (compact_text (opening_data n d (blank.prefixes).items (length steps) every) ∷ lines)

@@ -163,16 +163,22 @@ abbrev pub put_step : Option Text → Members → Members
 put_step None ms = ms
 put_step (Some text) ms = put (codes "step") (word text) ms
 
--- a state: after how many steps it is, the last of them, and what has changed
-abbrev pub state_data : World → List Prefix → ℕ → Option Text → Changes → Data
-state_data w ps k step c =
+-- the members, and the moment of a step where one is known
+abbrev pub put_moment : Option ℕ → Members → Members
+put_moment None ms = ms
+put_moment (Some moment) ms = put (codes "moment") (count moment) ms
+
+-- a state: after how many steps it is, the last of them and its moment, and what has changed
+abbrev pub state_data : World → List Prefix → ℕ → Option Text → Option ℕ → Changes → Data
+state_data w ps k step moment c =
     object (put_list (codes "queues") (queues_data ps (c.links).items)
     (put_list (codes "machines") (machines_data w (c.routers).items)
     (put_list (codes "routers") (routers_data (c.routers).items)
     (put_list (codes "links") (links_data (c.links).items)
+    (put_moment moment
     (put_step step
     (put (codes "number") (count k)
-    (put (codes "kind") (word (codes "state")) no_members)))))))
+    (put (codes "kind") (word (codes "state")) no_members))))))))
 
 -- what a network opens with: how many steps follow, and after how many of them there is a state each; the names of its routers, the routers
 -- at the ends of its links, and its prefixes

@@ -20,6 +20,8 @@
 //! {"kind":"state","number":2,"queues":[{"end":0,"link":0,"take":1}],"routers":[..],"step":"deliver a b"}
 //! ```
 //!
+//! If the moments of the steps are given, each line but the opening's has its own, for example `"moment":120`.
+//!
 //! [`write_states`] does lawful steps from the opening. [`run_from_opening`] says how many steps of a list are lawful.
 //! Before each step it marks what the step may change
 //! (`Marks` in `specs/Marks.antt`). When a state is told, it compares what is marked with the world, and

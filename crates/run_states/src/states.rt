@@ -1,6 +1,6 @@
 //! The states of a run.
 
-ghost use Rattle.std.specs.Prelude.{◌≡◌, ◌<◌, ◌≤◌, IfOk, Some, [], ◌∷◌, List, MatchOption, OnOk, false, length, map, option_map, string_bytes, take};
+ghost use Rattle.std.specs.Prelude.{◌≡◌, ◌+◌, ◌<◌, ◌≤◌, IfOk, Some, [], ◌∷◌, List, MatchOption, OnOk, false, length, map, option_map, string_bytes, take};
 ghost use Rattle.std.specs.Io.KnownBytes.{Appends};
 ghost use Rattle.std.specs.List.{range_with_len};
 ghost use Rattle.ipv4_prefix.specs.Texts.{prefix_text};
@@ -17,8 +17,8 @@ ghost use Rattle.texts.specs.Lines.{lines_text};
 ghost use Rattle.texts.specs.Words.{Text};
 ghost use Rattle.run_states.specs.declared.recorder.Changes.{Changes as ChangesTold};
 ghost use Rattle.run_states.specs.Recorders.{ArePrefixesOf, Follows, IsCurrent, IsRecorderOf, ShowsWorld};
-ghost use Rattle.run_states.specs.Told.{IsStatesText, Tell, is_told as told_of, numbers_from, stride as stride_of};
-ghost use Rattle.run_states.specs.Values.{count as number_of, line_text, list, opening_data, put_step as with_step, state_data, word};
+ghost use Rattle.run_states.specs.Told.{IsStatesText, Tell, is_told as told_of, moment_told, numbers_from, stride as stride_of};
+ghost use Rattle.run_states.specs.Values.{count as number_of, line_text, list, opening_data, put_moment as with_moment, put_step as with_step, state_data, word};
 
 use crate::fault::StatesFault;
 use crate::recorder::{Changes, Recorder};
@@ -49,21 +49,30 @@ pub fn run_from_opening(alloc: Global, network: &Network, steps: &[Step]) -> Res
 
 /// Writes what a network opens with, and its state at the opening, after each step whose number is a
 /// multiple of `every` (each step where that is 0), and after the last: a line of JSON each. The steps are lawful,
-/// one after another from the opening.
+/// one after another from the opening. Of each whose moment is given the line says that.
 pub fn write_states<'n, W: Write>(
     alloc: Global,
     network: &'n Network,
     directory: &'n Directory,
     steps: &[Step],
+    moments: &[u64],
     every: usize,
     out: &mut W,
 ) -> Result<(), StatesFault>
     requires { (w : model.World) × Runs (model.opening network.now) steps.now w }
     ensures { OnOk result ((text : Text)
-        × IsStatesText network.now directory.now steps.now (stride_of every) text
+        × IsStatesText network.now directory.now steps.now moments.now (stride_of every) text
         × Appends (W.contents out.old) (W.contents out.new) text) }
 {
-    write_done(alloc, network, directory, steps, stride(every), out)
+    write_done(
+        alloc,
+        network,
+        directory,
+        steps,
+        moments,
+        stride(every),
+        out,
+    )
 }
 
 fn count(steps: &[Step]) -> usize
@@ -94,11 +103,12 @@ fn write_done<'n, W: Write>(
     network: &'n Network,
     directory: &'n Directory,
     steps: &[Step],
+    moments: &[u64],
     every: usize,
     out: &mut W,
 ) -> Result<(), StatesFault>
     requires { 0 < every }
-    ensures { OnOk result ((text : Text) × IsStatesText network.now directory.now steps.now every text
+    ensures { OnOk result ((text : Text) × IsStatesText network.now directory.now steps.now moments.now every text
         × Appends (W.contents out.old) (W.contents out.new) text) }
 {
     let world = World::open(alloc, network)?;
@@ -106,9 +116,9 @@ fn write_done<'n, W: Write>(
     let prefixes = &recorder.prefixes;
     let opening = opening_value(alloc, network, directory, prefixes, steps.len(), every)?;
     write_value(alloc, &opening, out)?;
-    write_state(alloc, &world, &mut recorder, 0, None, out)?;
+    write_state(alloc, &world, &mut recorder, 0, None, None, out)?;
     write_steps(
-        alloc, network, directory, steps, every, world, recorder, out,
+        alloc, network, directory, steps, moments, every, world, recorder, out,
     )
 }
 
@@ -118,6 +128,7 @@ fn write_steps<'n, W: Write>(
     network: &'n Network,
     directory: &'n Directory,
     steps: &[Step],
+    moments: &[u64],
     every: usize,
     mut world: World,
     mut recorder: Recorder,
@@ -128,7 +139,7 @@ fn write_steps<'n, W: Write>(
     requires of { IsRecorderOf world recorder }
     requires shows { ShowsWorld world recorder }
     ensures { OnOk result ((lines : List Text)
-        × Tell network.now directory.now steps.now (numbers_from every (length steps.now) 1) recorder lines
+        × Tell network.now directory.now steps.now moments.now (numbers_from every (length steps.now) 1) recorder lines
         × Appends (W.contents out.old) (W.contents out.new) (lines_text (λ t. t) lines)) }
 {
     // A network has no faults, so the headline holds of each world that its steps lead to.
@@ -140,10 +151,26 @@ fn write_steps<'n, W: Write>(
         let number = before + 1;
         if is_told(number, every, steps.len()) {
             let text = text_of(alloc, directory, links, step)?;
-            write_state(alloc, &world, &mut recorder, number, Some(text), out)?;
+            let moment = moment_of(moments, before);
+            write_state(
+                alloc,
+                &world,
+                &mut recorder,
+                number,
+                Some(text),
+                moment,
+                out,
+            )?;
         }
     }
     Ok(())
+}
+
+// The moment of the step at this position, if it is known.
+fn moment_of(moments: &[u64], position: usize) -> Option<u64>
+    ensures { result ≡ moment_told moments.now (position + 1) }
+{
+    moments.get(position).copied()
 }
 
 // A step as a script says it.
@@ -158,13 +185,15 @@ fn text_of<'n>(
     Ok(StepText::new(directory, links, *step).to_string(alloc)?)
 }
 
-// Writes a state: after how many steps it is, the last of them, and what has changed since the state before.
+// Writes a state: after how many steps it is, the last of them and its moment, and what has changed since the state
+// before.
 fn write_state<W: Write>(
     alloc: Global,
     world: &World,
     recorder: &mut Recorder,
     number: usize,
     step: Option<String>,
+    moment: Option<u64>,
     out: &mut W,
 ) -> Result<(), StatesFault>
     requires of { IsRecorderOf world.now recorder.old }
@@ -173,10 +202,18 @@ fn write_state<W: Write>(
     ensures shows { OnOk result (ShowsWorld world.now recorder.new) }
     ensures told { OnOk result ((c : ChangesTold) × Follows c recorder.old recorder.new
         × Appends (W.contents out.old) (W.contents out.new)
-        (line_text (state_data world.now recorder.new.prefixes.items number (option_map string_bytes step) c))) }
+        (line_text (state_data world.now recorder.new.prefixes.items number (option_map string_bytes step) moment c))) }
 {
     let changes = recorder.changes(alloc, world)?;
-    let state = state_value(alloc, world, &recorder.prefixes, number, step, &changes)?;
+    let state = state_value(
+        alloc,
+        world,
+        &recorder.prefixes,
+        number,
+        step,
+        moment,
+        &changes,
+    )?;
     write_value(alloc, &state, out)
 }
 
@@ -261,23 +298,25 @@ fn prefix_values(alloc: Global, prefixes: &[Prefix]) -> Result<Vec<Value>, Alloc
     Ok(values)
 }
 
-// A state: after how many steps it is, the last of them, and what has changed. Where nothing has, nothing is
-// named.
+// A state: after how many steps it is, the last of them and its moment, and what has changed. If nothing has,
+// nothing is named.
 fn state_value(
     alloc: Global,
     world: &World,
     prefixes: &[Prefix],
     number: usize,
     step: Option<String>,
+    moment: Option<u64>,
     changes: &Changes,
 ) -> Result<Value, NoMemory>
-    ensures { IfOk result (λ v. view v ≡ state_data world.now prefixes.now number (option_map string_bytes step) changes.now) }
+    ensures { IfOk result (λ v. view v ≡ state_data world.now prefixes.now number (option_map string_bytes step) moment changes.now) }
 {
     let mut members = Map::new(alloc);
     let kind = Value::try_from_str(alloc, "state")?;
     put(&mut members, alloc, "kind", kind)?;
     put(&mut members, alloc, "number", Value::from(number))?;
     put_step(&mut members, alloc, step)?;
+    put_moment(&mut members, alloc, moment)?;
     let links = link_values(alloc, &changes.links)?;
     put_list(&mut members, alloc, "links", links)?;
     let routers = router_values(alloc, &changes.routers)?;
@@ -299,6 +338,20 @@ fn put_step(
 {
     if let Some(text) = step {
         put(members, alloc, "step", Value::String(text))?;
+    }
+    Ok(())
+}
+
+// Puts the moment of a step, in microseconds since the opening.
+fn put_moment(
+    members: &mut Map<String, Value>,
+    alloc: Global,
+    moment: Option<u64>,
+) -> Result<(), AllocError>
+    ensures { OnOk result (members_view members.new.entries ≡ with_moment moment (members_view members.old.entries)) }
+{
+    if let Some(moment) = moment {
+        put(members, alloc, "moment", Value::from(moment))?;
     }
     Ok(())
 }

@@ -11,6 +11,14 @@ use Rattle.timing.specs.declared.times.Times.{Times}
 use Rattle.timing.specs.Times.{IsTimes}
 use Rattle.timing.specs.Ends.{IsTimedToEnd, RunsTimes, StopsTime}
 
+-- the document says the times of the scenario's network
+pub says_of : (text lines given : Text) (plan : Plan) (names : List Text) (times : Times) (planned : IsPlanned text plan) → names ≡ plan.directory.names → given ≡ lines
+    → IsTimes names plan.network given times → IsTimes planned.0.names (network_read planned.0) lines times
+says_of text lines given plan names times planned names_are same says =
+    subst (λ ls. IsTimes planned.0.names (network_read planned.0) ls times) same
+    (subst (λ (n : Network). IsTimes planned.0.names n given times) planned.2.network
+    (subst (λ ns. IsTimes ns plan.network given times) (names_are ∙ ap (λ d. d.names) planned.2.directory) says))
+
 -- the run is one of the scenario's network
 pub timed_to_end : (text lines given : Text) (plan : Plan) (names : List Text) (times : Times) → length text ≤ most_bytes → (planned : IsPlanned text plan) → names ≡ plan.directory.names → given ≡ lines
     → IsTimes names plan.network given times → RunsTimes plan.network times → IsTimedToEnd text lines
@@ -19,10 +27,7 @@ timed_to_end text lines given plan names times short planned names_are same says
   parts = planned.0;
   scenario = planned.1;
   times = times;
-  says =
-      subst (λ ls. IsTimes planned.0.names (network_read planned.0) ls times) same
-      (subst (λ (n : Network). IsTimes planned.0.names n given times) planned.2.network
-      (subst (λ ns. IsTimes ns plan.network given times) (names_are ∙ ap (λ d. d.names) planned.2.directory) says));
+  says = says_of text lines given plan names times planned names_are same says;
   runs = subst (λ (n : Network). RunsTimes n times) planned.2.network runs;
 }
 

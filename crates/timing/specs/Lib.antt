@@ -6,3 +6,4 @@ pub mod Times
 pub mod Runs
 pub mod Tallies
 pub mod Ends
+pub mod Steps

@@ -1,8 +1,10 @@
 -- Runs in which changes are done, or refused and taken off.
-use Rattle.std.specs.Prelude.{◌≡◌, ℕ, true, List, [], ◌∷◌, Some, MatchOption}
+use Rattle.std.specs.Prelude.{◌≡◌, ℕ, true, List, [], ◌∷◌, Option, Some, MatchOption}
+use Rattle.network_model.specs.declared.step.Refusal.{Refusal}
 use Rattle.network_model.specs.Turns.{is_settled}
 use Rattle.simulation.specs.Simulation.{simulation_refusal}
 use Rattle.timed_simulation.specs.declared.events.Change.{Change}
+use Rattle.timed_simulation.specs.declared.events.Event.{Event}
 use Rattle.timed_simulation.specs.Timed.{Timed, after_event, with_change, world_of}
 use Rattle.timed_simulation.specs.Events.{next_event}
 use Rattle.timed_simulation.specs.Runs.{IsNext, IsTimedRun}
@@ -19,14 +21,18 @@ abbrev pub with_changes : List Change → Timed → Timed
 with_changes [] t = t
 with_changes (c ∷ cs) t = with_changes cs (with_change c t)
 
--- a change is what is done next. It is done; or its step is refused for this reason, and it is taken off
+-- what is done next comes: it is done; or it is a change whose step is refused for this reason, and it is taken off
+abbrev pub Comes : Timed → Event → Timed → Option Refusal → Type 0
+Comes t e u refusal = MatchOption refusal
+    (IsNext t e × (u ≡ after_event t e))
+    (λ r. (e.given ≡ true) × (simulation_refusal t.simulation e.step ≡ Some r) × (u ≡ without_first t))
+
+-- a change is what is done next, and comes
 pub record IsBegun (t : Timed) (b : Begun) (u : Timed) : Type 0 where
   pub next : next_event t ≡ Some b.event
   pub given : (b.event).given ≡ true
   pub before : b.before ≡ mark_of t
-  pub ends : MatchOption b.refusal
-      (IsNext t b.event × (u ≡ after_event t b.event))
-      (λ refusal. (simulation_refusal t.simulation (b.event).step ≡ Some refusal) × (u ≡ without_first t))
+  pub ends : Comes t b.event u b.refusal
 
 -- events, each the next one, lead to the first change, and behind it to the others, and from the last on
 abbrev pub Leads : Timed → List Begun → Timed → Type 0

@@ -24,6 +24,7 @@
 //! - [`time`] reads both documents, runs the network to rest, and prints a line for each change, in the order of
 //!   the moments.
 //! - A change that is refused is told, and taken off. The run goes on.
+//! - [`run_in_steps`] keeps each step with its moment, for pictures (`view`).
 //!
 //! What always holds: what is done is what the simulation of the network has to do next, each time
 //! (`Leads` in `specs/Runs.antt`). A change that is told as refused is refused so. The delays and the changes are
@@ -39,11 +40,13 @@ mod lines;
 mod mark;
 mod moment;
 mod run;
+mod steps;
 mod tally;
 mod tell;
 mod timed;
 mod times;
 
 pub use mark::{Begun, Mark};
+pub use steps::{SteppedRun, run_in_steps};
 pub use timed::{TimeOptions, time};
 pub use times::{Times, read_times};

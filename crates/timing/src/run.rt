@@ -2,13 +2,11 @@
 
 ghost use Rattle.std.specs.Prelude.{◌≡◌, ◌≢◌, ◌<◌, ◌-◌, ◌^◌, ℕ, All, IfOk, MatchOption, None, OnOk, Some, [], false, true};
 ghost use Rattle.coming_to_rest.specs.Worlds.{is_own};
-ghost use Rattle.simulation.specs.Simulation.{simulation_refusal};
-ghost use Rattle.timed_simulation.specs.Timed.{after_event};
 ghost use Rattle.timed_simulation.specs.Due.{IsDue};
 ghost use Rattle.timed_simulation.specs.Events.{next_event};
-ghost use Rattle.timed_simulation.specs.Runs.{IsAtRest, IsNext, IsTimedRun};
-ghost use Rattle.timed_reports.specs.Recordings.{timed_in, without_first};
-ghost use Rattle.timing.specs.Runs.{IsBegun, Leads, with_changes};
+ghost use Rattle.timed_simulation.specs.Runs.{IsAtRest, IsTimedRun};
+ghost use Rattle.timed_reports.specs.Recordings.{timed_in};
+ghost use Rattle.timing.specs.Runs.{Comes, IsBegun, Leads, with_changes};
 
 use crate::mark::{Begun, Mark};
 use network_model::{NoMemory, Refusal, Step};
@@ -98,7 +96,7 @@ fn begin(recording: &mut Recording) -> Result<Option<Begun>, Cause>
         return Ok(None);
     }
     let before = Mark::of(recording.timed());
-    let refusal = do_change(recording, &event)?;
+    let refusal = do_event(recording, &event)?;
     Ok(Some(Begun {
         event,
         before,
@@ -106,23 +104,20 @@ fn begin(recording: &mut Recording) -> Result<Option<Begun>, Cause>
     }))
 }
 
-// Does the next event, which is a change, or takes it off, and answers why it is refused, if it is.
-fn do_change(recording: &mut Recording, event: &Event) -> Result<Option<Refusal>, Cause>
+/// Does the next event. If it is a change that is refused, it is taken off, and the answer says why it is refused.
+pub fn do_event(recording: &mut Recording, event: &Event) -> Result<Option<Refusal>, Cause>
     requires next { next_event (timed_in recording.old) ≡ Some event.now }
     requires due { IsDue (timed_in recording.old) event.now }
-    ensures { IfOk result (λ o. MatchOption o
-        (IsNext (timed_in recording.old) event.now
-        × (timed_in recording.new ≡ after_event (timed_in recording.old) event.now))
-        (λ refusal. (simulation_refusal (timed_in recording.old).simulation (event.now).step ≡ Some refusal)
-        × (timed_in recording.new ≡ without_first (timed_in recording.old)))) }
+    ensures { IfOk result (Comes (timed_in recording.old) event.now (timed_in recording.new)) }
 {
     let ran = recording.run_until(event.moment, 1);
     match ran.fault {
         None => Ok(None),
-        Some(TimeFault::Refused(refusal)) if ran.done == 0 && is_of_step(refusal) => {
-            let _change = recording.withdraw();
-            Ok(Some(refusal))
-        }
+        Some(TimeFault::Refused(refusal)) if event.given && ran.done == 0 && is_of_step(refusal) =>
+            {
+                let _change = recording.withdraw();
+                Ok(Some(refusal))
+            }
         Some(fault) => Err(cause_of(fault)),
     }
 }

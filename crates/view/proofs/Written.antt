@@ -1,5 +1,5 @@
 -- What was written, and of which steps.
-use Rattle.std.proofs.Common.{◌≡◌, ℕ, List, Bool, true, false, Option, None, Result, Ok, Err, OnOk, length, take, refl, sym, subst, ◌∙◌, arith}
+use Rattle.std.proofs.Common.{◌≡◌, ℕ, List, [], Bool, true, false, Option, None, Result, Ok, Err, OnOk, length, take, refl, sym, subst, ◌∙◌, arith}
 use Rattle.std.proofs.lemmas.Bool.{false≢true}
 use Rattle.std.specs.Prelude.{⊤, MatchOption, if◌then◌else◌}
 use Rattle.std.specs.Io.KnownBytes.{Appends}
@@ -20,7 +20,7 @@ use Rattle.reports.specs.Ends.{IsJournalOf}
 use Rattle.run_states.specs.declared.fault.StatesFault.{StatesFault}
 use Rattle.run_states.specs.Told.{IsStatesText}
 use Rattle.view.specs.Page.{page_text}
-use Rattle.view.specs.Shown.{IsJournalShown, IsWritten}
+use Rattle.view.specs.Shown.{IsJournalShown, IsShownInTime, IsTimesShown, IsWritten}
 
 -- how far steps came from an opening, and why the next was refused, if one was
 abbrev pub CameTo : Network → List Step → Ran → Type 0
@@ -31,10 +31,10 @@ pub whole_of : (n : Network) (steps : List Step) (ran : Ran) → CameTo n steps 
 whole_of n steps ran came none = subst (λ o. MatchOption o (ran.done ≡ length steps) (StopsAt (refusal came.0) steps ran.done)) none came.2
 
 -- states were written as lines
-pub lines_written : (n : Network) (d : Directory) (steps : List Step) (json : Bool) (old new : Option Text) (r : Result ⊤ StatesFault) → json ≡ true
-    → OnOk r ((text : Text) × IsStatesText n d steps 1 text × Appends old new text) → OnOk r (IsWritten json n d steps old new)
-lines_written n d steps json old new (Err e) is told = tt
-lines_written n d steps json old new (Ok x) is told = record {
+pub lines_written : (n : Network) (d : Directory) (steps : List Step) (moments : List ℕ) (json : Bool) (old new : Option Text) (r : Result ⊤ StatesFault) → json ≡ true
+    → OnOk r ((text : Text) × IsStatesText n d steps moments 1 text × Appends old new text) → OnOk r (IsWritten json n d steps moments old new)
+lines_written n d steps moments json old new (Err e) is told = tt
+lines_written n d steps moments json old new (Ok x) is told = record {
   every = 1;
   each = λ e. refl;
   states = told.0;
@@ -43,9 +43,9 @@ lines_written n d steps json old new (Ok x) is told = record {
 }
 
 -- a page of states was written
-pub page_written : (n : Network) (d : Directory) (steps : List Step) (json : Bool) (old new : Option Text) (states : Text) → json ≡ false
-    → (every : ℕ) × IsStatesText n d steps every states → Appends old new (page_text states) → IsWritten json n d steps old new
-page_written n d steps json old new states is told written = record {
+pub page_written : (n : Network) (d : Directory) (steps : List Step) (moments : List ℕ) (json : Bool) (old new : Option Text) (states : Text) → json ≡ false
+    → (every : ℕ) × IsStatesText n d steps moments every states → Appends old new (page_text states) → IsWritten json n d steps moments old new
+page_written n d steps moments json old new states is told written = record {
   every = told.0;
   each = λ one. absurd (false≢true (sym is ∙ one));
   states = states;
@@ -55,7 +55,7 @@ page_written n d steps json old new states is told written = record {
 
 -- all of a journal was shown, if none of its steps was refused
 pub shown_whole : (json : Bool) (text lines : Text) (plan : Plan) (planned : IsPlanned text plan) (version : Version) (steps : List Step) (old new : Option Text) (ran : Ran)
-    → IsJournalOf text lines planned.0 version steps → CameTo plan.network steps ran → IsWritten json plan.network plan.directory (take ran.done steps) old new → ran.refusal ≡ None
+    → IsJournalOf text lines planned.0 version steps → CameTo plan.network steps ran → IsWritten json plan.network plan.directory (take ran.done steps) [] old new → ran.refusal ≡ None
     → IsJournalShown json text lines old new
 shown_whole json text lines plan planned version steps old new ran journal came written none =
     let done = whole_of plan.network steps ran came none in
@@ -69,6 +69,15 @@ shown_whole json text lines plan planned version steps old new ran journal came 
         world = came.0;
         runs = subst (λ ss. Runs (opening (network_read planned.0)) ss came.0) all (subst (λ m. Runs (opening m) (take ran.done steps) came.0) planned.2.network came.1);
       };
-      written = subst (λ c. IsWritten json (network_read planned.0) c steps old new) planned.2.directory
-          (subst (λ m. IsWritten json m plan.directory steps old new) planned.2.network (subst (λ ss. IsWritten json plan.network plan.directory ss old new) all written));
+      written = subst (λ c. IsWritten json (network_read planned.0) c steps [] old new) planned.2.directory
+          (subst (λ m. IsWritten json m plan.directory steps [] old new) planned.2.network (subst (λ ss. IsWritten json plan.network plan.directory ss [] old new) all written));
     }
+
+-- a run in simulated time of a scenario's network was shown
+pub times_shown : (json : Bool) (text lines : Text) (plan : Plan) (planned : IsPlanned text plan) (old new : Option Text) → IsShownInTime json plan.network plan.directory lines old new → IsTimesShown json text lines old new
+times_shown json text lines plan planned old new shown = record {
+  parts = planned.0;
+  scenario = planned.1;
+  shown = subst (λ d. IsShownInTime json (network_read planned.0) d lines old new) planned.2.directory
+      (subst (λ m. IsShownInTime json m plan.directory lines old new) planned.2.network shown);
+}

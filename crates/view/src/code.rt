@@ -8,7 +8,7 @@ pub(crate) const SCRIPT: &str = r##"'use strict';
 // A place is the position of a state in the list of states, from 0; its number is that of the step
 // after which it is. A state's parts are the records as the lines have them, and are never changed.
 
-const run = { text: '', starts: [], opening: null, places: 0, interval: 1, copies: [], now: null, scan: null };
+const run = { text: '', starts: [], opening: null, places: 0, moments: null, interval: 1, copies: [], now: null, scan: null };
 
 // Gives where each line of a text begins that is not empty.
 function lineStarts(text) {
@@ -42,11 +42,20 @@ function readRun(text) {
     throw new Error('The states of this page are of a format that it cannot read.');
   }
   run.places = run.starts.length - 1;
+  run.moments = readMoments();
   run.interval = Math.max(32, Math.ceil(run.places / 400));
   run.now = emptyState();
   apply(run.now, readChange(0));
   run.copies = [copyOf(run.now)];
   run.scan = newScan();
+}
+
+// Gives the moment of each state, in microseconds since the opening; null where the run has none. A text within a
+// line has no plain quotation mark, so only the member itself is found.
+function readMoments() {
+  const momentAt = (place) => /"moment":(\d+)/.exec(run.text.slice(run.starts[place + 1], run.starts[place + 2]));
+  if (run.places < 2 || momentAt(1) === null) return null;
+  return Array.from({ length: run.places }, (_, place) => Number(momentAt(place)?.[1] ?? 0));
 }
 
 // Gives a state without anything in it.
@@ -137,6 +146,26 @@ function numberAt(place) {
 function placeOf(number) {
   if (number >= run.opening.steps) return run.places - 1;
   return Math.max(0, Math.min(Math.floor(number / run.opening.every), run.places - 1));
+}
+
+// Tells whether the slider goes by time, and not by states.
+function isByTime() {
+  return run.moments !== null && byId('by-time').checked;
+}
+
+// Gives where the slider stands for a place.
+function slot(place) {
+  return isByTime() ? run.moments[place] : place;
+}
+
+// Gives the last place for which the slider stands there or before.
+function placeAtSlot(value) {
+  return isByTime() ? Math.max(0, lastUpTo(run.moments, value)) : value;
+}
+
+// Gives how far along the slider a place is, from 0 to 1.
+function share(place) {
+  return slot(place) / Math.max(1, slot(run.places - 1));
 }
 
 // ---- The events of each prefix, found by one walk over all states while the page is idle.
@@ -1230,13 +1259,15 @@ function spotOf(event) {
 // Shows the number and the words of the step, and what the prefix is at.
 function showStep(state) {
   const { steps, every } = run.opening;
-  setText(byId('number'), `Step ${numberAt(state.place)} of ${steps}:`);
+  const moment = run.moments === null ? '' : `, at ${run.moments[state.place]} µs`;
+  setText(byId('number'), `Step ${numberAt(state.place)} of ${steps}${moment}:`);
   setText(byId('command'), state.place === 0 ? 'the opening' : stepWords(state.place));
   setText(byId('told'), toldWords(state));
   byId('sparse').hidden = every === 1;
   const slider = byId('slider');
-  slider.value = state.place;
-  slider.setAttribute('aria-valuetext', `step ${numberAt(state.place)} of ${steps}`);
+  slider.max = slot(run.places - 1);
+  slider.value = slot(state.place);
+  slider.setAttribute('aria-valuetext', `step ${numberAt(state.place)} of ${steps}${moment}`);
   byId('back').disabled = byId('first').disabled = state.place === 0;
   byId('on').disabled = byId('last').disabled = state.place === run.places - 1;
 }
@@ -1261,14 +1292,14 @@ function showActivity() {
   const most = Math.max(1, ...sampled(counts, 4000));
   const columns = new Float64Array(1001);
   places.forEach((place, at) => {
-    const from = Math.floor(place / last * 1000);
-    const to = Math.floor((places[at + 1] ?? seen) / last * 1000);
+    const from = Math.floor(share(place) * 1000);
+    const to = Math.floor(share(places[at + 1] ?? seen) * 1000);
     for (let x = from; x <= to; x += 1) columns[x] = Math.max(columns[x], counts[at]);
   });
   let path = 'M0 36';
   columns.forEach((count, x) => { path += `L${x} ${(36 - 28 * count / most).toFixed(1)}`; });
   setAttribute(byId('activity-active'), 'd', `${path}L1000 36Z`);
-  showAsked(last);
+  showAsked();
   const words = isScanned() ? '' : ` ${Math.floor(100 * seen / last)} per cent of the run has been looked through.`;
   const peak = counts.reduce((top, count) => Math.max(top, count), 0);
   const above = `Above the slider: how many routers are active for the prefix (at most ${peak})`;
@@ -1288,16 +1319,16 @@ function sampled(numbers, most) {
 }
 
 // Shows ticks where something of a diffusing computation happens.
-function showAsked(last) {
+function showAsked() {
   const { places, waves } = run.scan.events[shown.prefix];
   const ticks = new Set();
-  places.forEach((place, at) => { if (waves[at]) ticks.add(Math.round(place / last * 1000)); });
+  places.forEach((place, at) => { if (waves[at]) ticks.add(Math.round(share(place) * 1000)); });
   setAttribute(byId('activity-asked'), 'd', [...ticks].map((x) => `M${x} 0V6`).join(''));
 }
 
 // Shows where in the run the present state is.
 function showNow() {
-  const x = (shown.place / Math.max(1, run.places - 1) * 1000).toFixed(1);
+  const x = (share(shown.place) * 1000).toFixed(1);
   setAttribute(byId('activity-now'), 'd', `M${x} 0V36`);
 }
 
@@ -1705,7 +1736,8 @@ function hearControls() {
   };
   for (const [id, act] of Object.entries(clicks)) byId(id).addEventListener('click', act);
   const inputs = {
-    slider: (element) => goPlace(Number(element.value)),
+    slider: (element) => goPlace(placeAtSlot(Number(element.value))),
+    'by-time': () => { show(); showActivity(); },
     prefix: (element) => choosePrefix(Number(element.value)),
     router: (element) => chooseRouter(Number(element.value)),
     filter: () => { listPrefixes(); show(); },
@@ -1797,7 +1829,7 @@ function fillControls() {
   setText(byId('summary'), `${network}, ${count(prefixes.length, 'prefix')}; ${count(steps, 'step')}.`);
   setText(byId('sparse'), `Of each ${every} steps only the state after the last is shown.`);
   setText(byId('graph-title'), `The network: ${network}. The tables beside it say the same in words.`);
-  byId('slider').max = run.places - 1;
+  byId('time').hidden = run.moments === null;
   byId('goto').max = steps;
   byId('filter').hidden = prefixes.length <= 12;
   byId('router').append(option('none', -1), ...routers.map((name, router) => option(name, router)));
@@ -1837,6 +1869,8 @@ const view = {
   go: (number) => goPlace(placeOf(number)),
   // Gives the number of the present state.
   state: () => numberAt(shown.place),
+  // Gives the moment of the present state, in microseconds; null where the run has no moments.
+  moment: () => (run.moments === null ? null : run.moments[shown.place]),
   // Gives a router's rows in force.
   table: (router) => tableOf(run.now, routerOf(router)),
   // Chooses a prefix by its text.

@@ -2,22 +2,24 @@
 //! lines of JSON or in a page.
 //!
 //! The problem: a run is a list of steps, and a picture needs the network after each of them. The steps come
-//! from a journal, or from a run of the scenario's script. In both cases the picture must be of lawful steps
-//! of that scenario's network, and of nothing else.
+//! from a journal, from a run in simulated time, or from a run of the scenario's script. In each case the picture
+//! must be of lawful steps of that scenario's network, and of nothing else.
 //!
 //! ```text
 //!   scenario --> its script is done --> the fabric --> network, steps --.
 //!                                                                        +--> states --> lines, or a page
-//!   scenario --> its network, a journal ------------> network, steps --'
+//!   scenario --> its network, a journal ------------> network, steps --|
+//!   scenario, times --> its network in simulated time --> steps, moments --'
 //! ```
 //!
 //! ```text
-//! let status = show(&rt, alloc, &words, scenario, journal, &mut out, &mut err);
+//! let status = show(&rt, alloc, &words, scenario, other, &mut out, &mut err);
 //! ```
 //!
 //! [`show`] reads the scenario. Without a journal `play` does its script. At the end of the run it hands the
 //! fabric over, whose steps are lawful. What the script prints is lost. A journal's steps are first done once,
-//! to see how many of them are lawful. `run_states` writes the states.
+//! to see how many of them are lawful. With a document of times `timing` runs the network, and keeps each step
+//! with its moment. `run_states` writes the states.
 //!
 //! A page is one file that needs no other, so it opens anywhere. The states stand in it as lines of JSON, between
 //! fixed texts:

@@ -77,6 +77,7 @@ pub(crate) const BODY: &str = r##"</style>
           <option value="60">60 a second</option>
           <option value="600">600 a second</option>
         </select>
+        <label class="check" id="time" hidden><input type="checkbox" id="by-time"> Slider by time</label>
         <label for="goto">Go to step</label>
         <input id="goto" type="number" min="0" step="1" inputmode="numeric">
         <span class="gap"></span>

@@ -1,13 +1,17 @@
 //! Writes the states of a run.
 
-ghost use Rattle.std.specs.Prelude.{◌≡◌, ◌≤◌, ℕ, IfOk, None, OnOk, is_some, length};
+ghost use Rattle.std.specs.Prelude.{◌≡◌, ◌≤◌, ℕ, All, IfOk, List, None, OnOk, false, is_some, length};
+ghost use Rattle.network_model.specs.declared.step.Step.{Step};
 ghost use Rattle.network_model.specs.World as model;
 ghost use Rattle.network_model.specs.Run.{Runs};
 ghost use Rattle.texts.specs.Words.{Text};
 ghost use Rattle.plans.specs.Faults.{Gives, OfBytes, most_bytes};
 ghost use Rattle.play.specs.Runs.{IsRunToEnd};
+ghost use Rattle.coming_to_rest.specs.Worlds.{is_own};
+ghost use Rattle.timed_simulation.specs.Timed.{Timed};
+ghost use Rattle.timing.specs.Steps.{RunsInSteps};
 ghost use Rattle.run_states.specs.Told.{IsStatesText};
-ghost use Rattle.view.specs.Shown.{IsJournalShown, IsRunShown, IsShown, IsWritten};
+ghost use Rattle.view.specs.Shown.{IsJournalShown, IsRunShown, IsShown, IsShownInTime, IsTimesShown, IsWritten};
 
 use crate::limited::Limited;
 use crate::page::write_page;
@@ -22,6 +26,7 @@ use run_states::{StatesFault, run_from_opening, write_states};
 use script::Directory;
 use std::alloc::Global;
 use std::io::{Read, Write};
+use timing::{Times, read_times, run_in_steps};
 use world::{Network, Ran};
 
 /// The most bytes of states that a page has, where fewer states make them fewer.
@@ -29,13 +34,14 @@ const MOST_BYTES: usize = 20_000_000;
 
 /// Writes what the words ask for, and answers the exit status: 0, or 2 where a step of the journal is refused,
 /// of which a line on `err` tells, and the states before it are written; a fault is a line on `err`, and its
-/// status that of `dualnet`. Without a journal the scenario's script is run, and what it prints is lost.
+/// status that of `dualnet`. `other` is the journal or the document of times that the words name. If they name
+/// neither, the scenario's script is run, and what it prints is lost.
 pub fn show<H, R, J, W, E>(
     rt: &H,
     alloc: Global,
     words: &ViewWords<'_>,
     scenario: R,
-    journal: J,
+    other: J,
     out: &mut W,
     err: &mut E,
 ) -> u8
@@ -46,14 +52,17 @@ where
     W: Write,
     E: Write,
     ensures { result ≡ 0 → OfBytes (R.remaining scenario) (IsShown (is_some words.now.journal)
-        words.now.json (J.remaining journal) (W.contents out.old) (W.contents out.new)) }
+        (is_some words.now.times) words.now.json (J.remaining other) (W.contents out.old) (W.contents out.new)) }
 {
     let text = match read_text(alloc, scenario) {
         Ok(text) => text,
         Err(cause) => return refuse(Fault::from(cause), err),
     };
     if words.journal.is_some() {
-        return end_journal(alloc, words.json, text.as_str(), journal, out, err);
+        return end_journal(alloc, words.json, text.as_str(), other, out, err);
+    }
+    if words.times.is_some() {
+        return end_times(alloc, words.json, text.as_str(), other, out, err);
     }
     end_script(rt, alloc, words.json, text.as_str(), out, err)
 }
@@ -73,6 +82,25 @@ fn end_journal<J: Read + Drop, W: Write, E: Write>(
 {
     match show_journal(alloc, json, text, journal, out) {
         Ok(ran) => tell(ran, err),
+        Err(fault) => refuse(fault, err),
+    }
+}
+
+// Writes the states of a run in simulated time, and answers the exit status.
+fn end_times<J: Read + Drop, W: Write, E: Write>(
+    alloc: Global,
+    json: bool,
+    text: &str,
+    times: J,
+    out: &mut W,
+    err: &mut E,
+) -> u8
+    requires { length text.now ≤ most_bytes }
+    ensures { result ≡ 0 → (lines : Text) × Gives (J.remaining times) lines
+        × IsTimesShown json text.now lines (W.contents out.old) (W.contents out.new) }
+{
+    match show_times(alloc, json, text, times, out) {
+        Ok(()) => 0,
         Err(fault) => refuse(fault, err),
     }
 }
@@ -123,10 +151,86 @@ fn show_journal<J: Read + Drop, W: Write>(
     )?;
     let ran = run_from_opening(alloc, &network, &journal.steps)?;
     let lawful = &journal.steps[..ran.done];
-    match write_steps(alloc, json, &network, &directory, lawful, out) {
+    match write_steps(alloc, json, &network, &directory, lawful, &[], out) {
         Ok(()) => Ok(ran),
-        Err(StatesFault::NoMemory) => Err(Fault::from(NoMemory)),
-        Err(StatesFault::Unwritten) => Err(Fault::from(Cause::Unwritable)),
+        Err(fault) => Err(fault_of(fault)),
+    }
+}
+
+// Runs the network of a scenario in simulated time, as a document of times says, and writes the states of its steps.
+fn show_times<J: Read + Drop, W: Write>(
+    alloc: Global,
+    json: bool,
+    text: &str,
+    times: J,
+    out: &mut W,
+) -> Result<(), Fault>
+    requires { length text.now ≤ most_bytes }
+    ensures { OnOk result ((lines : Text) × Gives (J.remaining times) lines
+        × IsTimesShown json text.now lines (W.contents out.old) (W.contents out.new)) }
+{
+    let Plan {
+        network,
+        directory,
+        commands: _,
+    } = read_plan(alloc, text)?;
+    show_in_time(alloc, json, network, &directory, times, out)
+}
+
+// Reads a document of times, runs the network by it, and writes the states of its steps.
+fn show_in_time<J: Read + Drop, W: Write>(
+    alloc: Global,
+    json: bool,
+    network: Network,
+    directory: &Directory,
+    times: J,
+    out: &mut W,
+) -> Result<(), Fault>
+    ensures { OnOk result ((lines : Text) × Gives (J.remaining times) lines
+        × IsShownInTime json network directory.now lines (W.contents out.old) (W.contents out.new)) }
+{
+    let lines = read_text(alloc, times)?;
+    let times = read_times(alloc, directory.names(), &network, lines.as_str())?;
+    show_run(alloc, json, network, directory, &times, out)
+}
+
+// Runs a network with these delays and changes, and writes the states of its steps.
+fn show_run<W: Write>(
+    alloc: Global,
+    json: bool,
+    network: Network,
+    directory: &Directory,
+    times: &Times,
+    out: &mut W,
+) -> Result<(), Fault>
+    requires links { length times.now.links.items ≡ length network.links }
+    requires routers { length times.now.routers.items ≡ network.routers }
+    requires changes { All (λ c. is_own c.step ≡ false) times.now.changes.items }
+    ensures { OnOk result ((steps : List Step) × (moments : List ℕ) × (end : Timed)
+        × RunsInSteps network times.now steps moments end
+        × IsWritten json network directory.now steps moments (W.contents out.old) (W.contents out.new)) }
+{
+    let run = run_in_steps(alloc, network, times)?;
+    let network = run.network();
+    match write_steps(
+        alloc,
+        json,
+        network,
+        directory,
+        &run.steps,
+        &run.moments,
+        out,
+    ) {
+        Ok(()) => Ok(()),
+        Err(fault) => Err(fault_of(fault)),
+    }
+}
+
+// Why states were not written, as a fault.
+fn fault_of(fault: StatesFault) -> Fault {
+    match fault {
+        StatesFault::NoMemory => Fault::from(NoMemory),
+        StatesFault::Unwritten => Fault::from(Cause::Unwritable),
     }
 }
 
@@ -178,7 +282,7 @@ impl Keeper for States {
     ) -> Result<(), NoMemory> {
         let network = fabric.network();
         let steps = fabric.journal();
-        match write_steps(self.alloc, self.json, network, directory, steps, kept) {
+        match write_steps(self.alloc, self.json, network, directory, steps, &[], kept) {
             Ok(()) => Ok(()),
             Err(StatesFault::NoMemory) => Err(NoMemory),
             Err(StatesFault::Unwritten) => {
@@ -196,16 +300,17 @@ fn write_steps<W: Write>(
     network: &Network,
     directory: &Directory,
     steps: &[Step],
+    moments: &[u64],
     out: &mut W,
 ) -> Result<(), StatesFault>
     requires { (w : model.World) × Runs (model.opening network.now) steps.now w }
     ensures { OnOk result
-        (IsWritten json network.now directory.now steps.now (W.contents out.old) (W.contents out.new)) }
+        (IsWritten json network.now directory.now steps.now moments.now (W.contents out.old) (W.contents out.new)) }
 {
     if json {
-        return write_states(alloc, network, directory, steps, 1, out);
+        return write_states(alloc, network, directory, steps, moments, 1, out);
     }
-    let states = states_of_page(alloc, network, directory, steps)?;
+    let states = states_of_page(alloc, network, directory, steps, moments)?;
     match write_page(&states, out) {
         Ok(()) => Ok(()),
         Err(_) => Err(StatesFault::Unwritten),
@@ -219,10 +324,11 @@ fn states_of_page(
     network: &Network,
     directory: &Directory,
     steps: &[Step],
+    moments: &[u64],
 ) -> Result<Vec<u8>, StatesFault>
     requires { (w : model.World) × Runs (model.opening network.now) steps.now w }
     ensures { IfOk result (λ states. (every : ℕ)
-        × IsStatesText network.now directory.now steps.now every states.items) }
+        × IsStatesText network.now directory.now steps.now moments.now every states.items) }
 {
     let mut every: usize = 1;
     for _ in 0..20 {
@@ -230,14 +336,30 @@ fn states_of_page(
             break;
         }
         let mut states = Limited::new(alloc, MOST_BYTES);
-        match write_states(alloc, network, directory, steps, every, &mut states) {
+        match write_states(
+            alloc,
+            network,
+            directory,
+            steps,
+            moments,
+            every,
+            &mut states,
+        ) {
             Ok(()) => return Ok(states.bytes),
             Err(StatesFault::NoMemory) => return Err(StatesFault::NoMemory),
             Err(StatesFault::Unwritten) => every = every.saturating_mul(2),
         }
     }
     let mut states = Vec::new(alloc);
-    write_states(alloc, network, directory, steps, steps.len(), &mut states)?;
+    write_states(
+        alloc,
+        network,
+        directory,
+        steps,
+        moments,
+        steps.len(),
+        &mut states,
+    )?;
     Ok(states)
 }
 

@@ -1,7 +1,7 @@
-use Rattle.std.proofs.Common.{◌∙◌, [], ◌∷◌, refl, ap, sym, subst}
+use Rattle.std.proofs.Common.{◌∙◌, [], ◌∷◌, inl, inr, refl, ap, sym, subst}
 use Rattle.clap.specs.Words.{App, HasKind, fault_of, is_simple, is_simple_and_free, kind_of, matches_of}
 use Rattle.clap.specs.declared.error.kind.ErrorKind.TheVariants.{InvalidValue}
-use Rattle.clap.proofs.FaultLemmas.{first_fails}
+use Rattle.clap.proofs.FaultLemmas.{first_fails, past}
 use Rattle.clap.proofs.TakesLemmas.{passed_up}
 use Rattle.command_line.specs.Asked.{word_texts}
 use Rattle.command_line.specs.View.{IsView, view_kinds_of, view_program}
@@ -14,12 +14,19 @@ returns-in_err-matches-clause-kinds c =
     passed_up c.from_residual-in_err-matches.result c.in_err-matches.field-0.0 (HasKind (view_kinds_of (word_texts c.args.words.now))) c.from_residual-in_err-matches.ensures.1
     (first_fails (fault_of view_program (word_texts c.args.words.now)) (InvalidValue ∷ []) (kind_of c.in_err-matches.field-0.0) failed)
 
-pub returns-in-Some-clause-asked : goal.returns-in-Some-clause-asked
-returns-in-Some-clause-asked c =
+pub returns-in-Ok-clause-asked : goal.returns-in-Ok-clause-asked
+returns-in-Ok-clause-asked c =
     let rows = (c.in_ok-matches.ensures.ok.2 (ap is_simple c.in_ok-command.ensures ∙ refl)).0 ∙ ap (λ (a : App). matches_of a (word_texts c.args.words.now)) c.in_ok-command.ensures in
-    subst (λ r. IsView r c.in-Some.asked) rows c.in-Some.ensures
+    subst (λ r. IsView r c.in-Ok.asked) rows c.in-Ok.ensures.asked
 
-pub returns-in-Some-clause-taken : goal.returns-in-Some-clause-taken
-returns-in-Some-clause-taken c =
+pub returns-in-Ok-clause-taken : goal.returns-in-Ok-clause-taken
+returns-in-Ok-clause-taken c =
     ap (λ (a : App). fault_of a (word_texts c.args.words.now)) (sym c.in_ok-command.ensures)
     ∙ c.in_ok-matches.ensures.kinds (ap is_simple_and_free c.in_ok-command.ensures ∙ refl)
+
+pub returns-clause-kinds : goal.returns-clause-kinds
+returns-clause-kinds c =
+    let none = ap (λ (a : App). fault_of a (word_texts c.args.words.now)) (sym c.in_ok-command.ensures)
+    ∙ c.in_ok-matches.ensures.kinds (ap is_simple_and_free c.in_ok-command.ensures ∙ refl) in
+    subst (λ k. HasKind k c.in_ok-error-in-Err.field-0) (sym (past (fault_of view_program (word_texts c.args.words.now)) (InvalidValue ∷ []) none))
+    (inr (inl c.in_ok-error-in-Err.ensures.kind))

@@ -25,19 +25,20 @@ returns g c =
     let n = c.args.network.now in
     let d = c.args.directory.now in
     let steps = c.args.steps.now in
+    let moments = c.args.moments.now in
     let blank = c.in_ok-recorder.recorder in
     let after = c.write_state.new.recorder in
     let told = c.in_ok-write_state.ensures.told in
     let opening = opening_data n d (blank.prefixes).items (length steps) c.args.every in
     let opening_is : view c.in_ok-opening.opening ≡ opening = c.in_ok-opening.ensures ∙ ap (λ ps. opening_data n d ps (length steps) c.args.every) c.deref.ensures.value in
-    let line : Text = compact_text (state_data c.in_ok-world.world (after.prefixes).items 0 None told.0) in
-    let is_line : IsStateLine n d steps 0 blank after line
+    let line : Text = compact_text (state_data c.in_ok-world.world (after.prefixes).items 0 None None told.0) in
+    let is_line : IsStateLine n d steps moments 0 blank after line
     = record { world = c.in_ok-world.world; runs = sym c.in_ok-world.ensures; changes = told.0; follows = told.1; shows = c.in_ok-write_state.ensures.shows; text = refl } in
     let first = subst (λ x. Appends (out c.args.out.now) (out c.write_value.new.out) (line_text x)) opening_is c.in_ok-write_value.ensures in
     on_ok_weaker c.write_steps.result
     (λ rest. (
       lines_text (λ (t : Text). t) (compact_text opening ∷ line ∷ rest.0),
-      states_text n d steps c.args.every blank after line rest.0 c.requires c.in_ok-recorder.ensures.blank c.in_ok-recorder.ensures.of c.in_ok-recorder.ensures.prefixes is_line rest.1,
+      states_text n d steps moments c.args.every blank after line rest.0 c.requires c.in_ok-recorder.ensures.blank c.in_ok-recorder.ensures.of c.in_ok-recorder.ensures.prefixes is_line rest.1,
       Appends-append (out c.args.out.now) (out c.write_value.new.out) (out c.write_steps.new.out) (line_text opening) ((line ++ 10 ∷ []) ++ lines_text (λ (t : Text). t) rest.0) first
           (Appends-append (out c.write_value.new.out) (out c.write_state.new.out) (out c.write_steps.new.out) (line ++ 10 ∷ []) (lines_text (λ (t : Text). t) rest.0) told.2 rest.2),
     ))

@@ -12,5 +12,5 @@ invariant-loop-before g l = record {
   runs : Runs (opening l.network) (take l.before l.steps) l.world;
   of : IsRecorderOf l.world l.recorder;
   current : IsCurrent l.world l.recorder;
-  told : Telling l.network l.directory l.steps l.every l.before l.initial.recorder l.recorder (g.W.Write.contents l.initial.out) (g.W.Write.contents l.out);
+  told : Telling l.network l.directory l.steps l.moments l.every l.before l.initial.recorder l.recorder (g.W.Write.contents l.initial.out) (g.W.Write.contents l.out);
 }

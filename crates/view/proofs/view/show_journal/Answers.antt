@@ -1,4 +1,4 @@
-use Rattle.std.proofs.Common.{subst, take}
+use Rattle.std.proofs.Common.{[], subst, take}
 use Rattle.plans.proofs.Planned.{IsPlanned}
 use Rattle.reports.proofs.Replays.{journal_of}
 use Rattle.view.specs.Shown.{IsWritten}
@@ -22,5 +22,5 @@ returns-in-Ok g c = λ none.
       lines,
       c.in_ok-lines.ensures.whole,
       shown_whole c.args.json text lines plan planned read.version steps old new ran journal came
-          (subst (λ ss. IsWritten c.args.json plan.network plan.directory (take ran.done ss) old new) c.deref-3.ensures.value c.in-Ok.ensures) none,
+          (subst (λ ss. IsWritten c.args.json plan.network plan.directory (take ran.done ss) [] old new) c.deref-3.ensures.value c.in-Ok.ensures) none,
     )

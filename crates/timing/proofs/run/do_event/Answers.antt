@@ -1,7 +1,7 @@
 use Rattle.std.proofs.Common.{sym, subst, ◌∙◌}
 use Rattle.timed_reports.specs.Recordings.{timed_in}
 use Rattle.timing.proofs.Leading.{none_done, one_done, refused_as}
-use Rattle.timing.proofs.run.do_change.Goals as goal
+use Rattle.timing.proofs.run.do_event.Goals as goal
 
 pub returns-in-None : goal.returns-in-None
 returns-in-None c =

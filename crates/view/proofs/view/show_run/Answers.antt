@@ -1,0 +1,36 @@
+use Rattle.std.proofs.Common.{subst, sym, ◌∙◌}
+use Rattle.network_model.specs.World.{opening}
+use Rattle.network_model.specs.Run.{Runs}
+use Rattle.timed_simulation.specs.Timed.{world_of}
+use Rattle.timed_reports.specs.Recordings.{timed_in}
+use Rattle.timing.proofs.Stepping.{network_stays, steps_run}
+use Rattle.view.specs.Shown.{IsWritten}
+use Rattle.view.proofs.view.show_run.Goals as goal
+
+pub write_steps-requires : goal.write_steps-requires
+write_steps-requires g c =
+    let n = c.args.network in
+    let run = c.in_ok-run.run' in
+    let end = timed_in run.recording in
+    let same = c.network-network.ensures ∙ network_stays n c.args.times.now run.steps.items run.moments.items end c.in_ok-run.ensures in (
+      world_of end,
+      subst (λ m. Runs (opening m) c.deref.result.now (world_of end)) (sym same)
+          (subst (λ ss. Runs (opening n) ss (world_of end)) (sym c.deref.ensures.value) (steps_run n c.args.times.now run.steps.items run.moments.items end c.in_ok-run.ensures)),
+    )
+
+pub returns-in-Ok : goal.returns-in-Ok
+returns-in-Ok g c =
+    let run = c.in_ok-run.run' in
+    let end = timed_in run.recording in
+    let d = c.args.directory.now in
+    let old = g.W.Write.contents c.args.out.now in
+    let new = g.W.Write.contents c.write_steps.new.out in
+    let same = c.network-network.ensures ∙ network_stays c.args.network c.args.times.now run.steps.items run.moments.items end c.in_ok-run.ensures in (
+      run.steps.items,
+      run.moments.items,
+      end,
+      c.in_ok-run.ensures,
+      subst (λ m. IsWritten c.args.json m d run.steps.items run.moments.items old new) same
+          (subst (λ ss. IsWritten c.args.json c.network-network.result.now d ss run.moments.items old new) c.deref.ensures.value
+          (subst (λ ms. IsWritten c.args.json c.network-network.result.now d c.deref.result.now ms old new) c.deref-2.ensures.value c.in-Ok.ensures)),
+    )
