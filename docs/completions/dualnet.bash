@@ -27,12 +27,12 @@ _dualnet() {
     esac
     case $command in
     check) options="--explain --help" ;;
-    run) options="--threads --workers --journal --explain --format --progress --help" ;;
+    run) options="--threads --workers --journal --no-journal --explain --format --progress --help" ;;
     replay) options="--explain --format --progress --help" ;;
     time) options="--spells --explain --format --help" ;;
-    shell) options="--journal --explain --format --help" ;;
+    shell) options="--journal --no-journal --explain --format --help" ;;
     explain)
-        numbers=$(seq 1 52)
+        numbers=$(seq 1 55)
         mapfile -t COMPREPLY < <(compgen -W "$numbers --help" -- "$word")
         return
         ;;

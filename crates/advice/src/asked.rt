@@ -16,6 +16,7 @@ pub fn file_to_explain<'a>(words: &Words<'a>) -> Option<&'a str>
             threads: _,
             workers: _,
             journal: _,
+            no_journal: _,
             explain,
             format: _,
             progress: _,
@@ -38,6 +39,7 @@ pub fn file_to_explain<'a>(words: &Words<'a>) -> Option<&'a str>
         Words::Shell {
             file,
             journal: _,
+            no_journal: _,
             explain,
             format: _,
         } => (file, explain),

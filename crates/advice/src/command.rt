@@ -1,6 +1,6 @@
 //! Why a line is no command.
 
-use crate::number::tell_number;
+use crate::number::{tell_number, tell_seed};
 use crate::shown::{SafeLetter, odd_space, shown};
 use network_model::LinkSpec;
 use script::Names;
@@ -9,8 +9,8 @@ use std::io;
 use std::io::Write;
 use strsim::levenshtein;
 
-// The forms of all commands but `try STEP`.
-const FORMS: [&str; 17] = [
+// The forms of all commands but `try STEP`. Of two forms of one verb, the first is that of a step.
+const FORMS: [&str; 23] = [
     "up A B",
     "down A B",
     "cost A B C",
@@ -19,7 +19,11 @@ const FORMS: [&str; 17] = [
     "release A",
     "attach A PREFIX COST",
     "detach A PREFIX",
+    "up A",
+    "down A",
     "settle",
+    "settle --seed N",
+    "count",
     "state A PREFIX",
     "table A",
     "next A",
@@ -28,6 +32,8 @@ const FORMS: [&str; 17] = [
     "lookup A ADDR",
     "trace A ADDR",
     "report",
+    "save",
+    "restore",
 ];
 
 // The forms of those that workers answer.
@@ -44,12 +50,14 @@ pub fn tell_command<W: Write>(
     if tell_spaces(line, out)? {
         return Ok(());
     }
-    let line = line.strip_prefix("try ").unwrap_or(line);
+    let tried = line.strip_prefix("try ");
+    let line = tried.unwrap_or(line);
     let verb = line.split(' ').next().unwrap_or("");
-    let Some(form) = form_of(verb) else {
+    let count = line.split(' ').count();
+    let Some(form) = form_of(verb, if tried.is_some() { None } else { Some(count) }) else {
         return tell_unknown(alloc, verb, out);
     };
-    if form.split(' ').count() != line.split(' ').count() {
+    if form.split(' ').count() != count {
         return writeln!(out, "  wrong number of words: write `{form}`");
     }
     tell_words(names, links, form, line, out)
@@ -76,10 +84,15 @@ pub fn tell_spaces<W: Write>(line: &str, out: &mut W) -> io::Result<bool> {
     Ok(false)
 }
 
-fn form_of(verb: &str) -> Option<&'static str> {
+// The form of the verb with so many words, or else its first.
+fn form_of(verb: &str, count: Option<usize>) -> Option<&'static str> {
+    let mut first = None;
     for form in FORMS {
         if form.split(' ').next() == Some(verb) {
-            return Some(form);
+            if count == Some(form.split(' ').count()) {
+                return Some(form);
+            }
+            first = first.or(Some(form));
         }
     }
     for form in JOBS {
@@ -87,7 +100,7 @@ fn form_of(verb: &str) -> Option<&'static str> {
             return Some(form);
         }
     }
-    None
+    first
 }
 
 // Tells of a word that is no command, and of the nearest one that is, if it is near.
@@ -150,6 +163,11 @@ fn tell_words<W: Write>(
             }
             "C" | "COST" => {
                 if tell_number(word, out)? {
+                    return Ok(());
+                }
+            }
+            "N" => {
+                if tell_seed(word, out)? {
                     return Ok(());
                 }
             }

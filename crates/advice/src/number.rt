@@ -1,4 +1,4 @@
-//! Why a word is no cost.
+//! Why a word is no cost, or no seed.
 
 use crate::shown::shown;
 use std::io;
@@ -7,7 +7,17 @@ use texts::read_number;
 
 /// Tells why a word is no number, or none that a cost can be; answers whether it told of any.
 pub fn tell_number<W: Write>(word: &str, out: &mut W) -> io::Result<bool> {
-    if is_cost(word) {
+    tell_outside(word, 1, 65535, out)
+}
+
+/// Tells why a word is no number of 32 bits; answers whether it told of any.
+pub fn tell_seed<W: Write>(word: &str, out: &mut W) -> io::Result<bool> {
+    tell_outside(word, 0, u32::MAX, out)
+}
+
+// Tells why a word is no number of `least` to `most`.
+fn tell_outside<W: Write>(word: &str, least: u32, most: u32, out: &mut W) -> io::Result<bool> {
+    if is_within(word, least, most) {
         return Ok(false);
     }
     let digits = word.strip_prefix('+').or(word.strip_prefix('-'));
@@ -17,18 +27,18 @@ pub fn tell_number<W: Write>(word: &str, out: &mut W) -> io::Result<bool> {
     } else if !are_digits {
         writeln!(out, "  `{}` is not a whole number", shown(word))?;
     } else if word == "0" {
-        writeln!(out, "  `0` is below 1")?;
+        writeln!(out, "  `0` is below {least}")?;
     } else if word.starts_with('0') {
         writeln!(out, "  `{}` begins with a zero", shown(word))?;
     } else {
-        writeln!(out, "  `{}` is above 65535", shown(word))?;
+        writeln!(out, "  `{}` is above {most}", shown(word))?;
     }
     Ok(true)
 }
 
-fn is_cost(word: &str) -> bool {
+fn is_within(word: &str, least: u32, most: u32) -> bool {
     match read_number(word) {
-        Some(cost) => cost >= 1 && cost <= 65535,
+        Some(number) => number >= least && number <= most,
         None => false,
     }
 }

@@ -23,13 +23,14 @@ kind_as a words e is kinds = subst (λ (b : App). HasKind (fault_of b words) e) 
 no_hyphen : (x : ℕ) (xs : List ℕ) → slice_index (x ∷ xs) 0 ≢ 45 → strip_byte 45 (x ∷ xs) ≡ None
 no_hyphen x xs plain = rw (ne_eqb x 45 plain) refl
 
--- what the matches have of a subcommand: its name, the file, both numbers, the journal and the format
+-- what the matches have of a subcommand: its name, the file, both numbers, the journal, the format and the flags
 pub record Seen : Type 0 where
   pub name : Text
   pub file : Option Text
   pub threads : Option Text
   pub workers : Option Text
   pub journal : Option Text
+  pub no_journal : Option Text
   pub explain : Option Text
   pub format : Option Text
   pub progress : Option Text
@@ -41,6 +42,7 @@ seen = option_map (λ p. record {
   threads = one_of (codes "threads") p.1;
   workers = one_of (codes "workers") p.1;
   journal = first_of (codes "journal") p.1;
+  no_journal = one_of (codes "no-journal") p.1;
   explain = one_of (codes "explain") p.1;
   format = first_of (codes "format") p.1;
   progress = one_of (codes "progress") p.1;
@@ -52,13 +54,13 @@ pub seen_as : (met : Option (Text × List Row)) (a : App) (words line : List Tex
 seen_as met a words line is spelled e = ap seen (e ∙ ap (λ (b : App). subcommand_of b words) is ∙ ap (subcommand_of program) spelled)
 
 abbrev pub seen_check : Text → Seen
-seen_check file = record { name = codes "check"; file = Some file; threads = None; workers = None; journal = None; explain = Some (codes "false"); format = None; progress = None }
+seen_check file = record { name = codes "check"; file = Some file; threads = None; workers = None; journal = None; no_journal = None; explain = Some (codes "false"); format = None; progress = None }
 
 abbrev pub seen_run : Text → Seen
-seen_run file = record { name = codes "run"; file = Some file; threads = Some (codes "1"); workers = Some (codes "1"); journal = None; explain = Some (codes "false"); format = Some (codes "text"); progress = Some (codes "false") }
+seen_run file = record { name = codes "run"; file = Some file; threads = Some (codes "1"); workers = Some (codes "1"); journal = None; no_journal = Some (codes "false"); explain = Some (codes "false"); format = Some (codes "text"); progress = Some (codes "false") }
 
 abbrev pub seen_replay : Text → Text → Seen
-seen_replay file journal = record { name = codes "replay"; file = Some file; threads = None; workers = None; journal = Some journal; explain = Some (codes "false"); format = Some (codes "text"); progress = Some (codes "false") }
+seen_replay file journal = record { name = codes "replay"; file = Some file; threads = None; workers = None; journal = Some journal; no_journal = None; explain = Some (codes "false"); format = Some (codes "text"); progress = Some (codes "false") }
 
 module _ (name : Text) where
   abbrev pub file_line : Text → Text → List Text

@@ -1,8 +1,8 @@
 -- What command lines with no options ask for.
-use Rattle.std.proofs.Common.{◌≡◌, ℕ, List, [], Option, Some, None, option_map, ◌*◌, ◌+◌, length, slice_index, Bor, false, refl, sym, ap, subst, ◌∙◌, codes, arith, unwrap_or}
+use Rattle.std.proofs.Common.{◌≡◌, ℕ, List, [], Option, Some, None, option_map, ◌*◌, ◌+◌, length, slice_index, Bor, Bool, true, false, true≢false, refl, sym, ap, subst, ◌∙◌, codes, arith, unwrap_or}
 use Rattle.std.specs.Option.{option_map_or}
 use Rattle.clap.specs.Words.{Row, Text, first_of, one_of}
-use Rattle.command_line.specs.Asked.{ChecksFile, HasFormat, HasNumber, IsAsked, IsFlag, IsNumberText, ReplaysFiles, RunsFile}
+use Rattle.command_line.specs.Asked.{ChecksFile, HasFlag, HasFormat, HasNumber, IsAsked, IsFlag, IsNumberText, ReplaysFiles, RunsFile}
 use Rattle.command_line.specs.declared.format.Format.{Format}
 use Rattle.command_line.specs.declared.format.Format.TheVariants.{Text as ForPeople, Json}
 use Rattle.command_line.specs.declared.words.Words.{Words}
@@ -32,6 +32,11 @@ for_people : (rows : List Row) (o : Format) → HasFormat rows o → first_of (c
 for_people rows ForPeople h is = refl
 for_people rows Json h is = absurd (omega (arith, ap (λ t. slice_index (unwrap_or t []) 0) (sym h ∙ is)))
 
+-- the flag that is not given is not set
+not_given : (rows : List Row) (id : Text) (is : Bool) → HasFlag rows id is → one_of id rows ≡ Some (codes "false") → is ≡ false
+not_given rows id true h e = absurd (omega (arith, ap (λ o. option_map_or length o 0) (sym h ∙ e)))
+not_given rows id false h e = refl
+
 module _ (met : Option (Text × List Row)) (file : Text) where
   -- ---- what was asked for is what the line says
 
@@ -39,14 +44,14 @@ module _ (met : Option (Text × List Row)) (file : Text) where
   check_asked (Check f e) h is =
       let here = ap seen (sym h.1) ∙ is in
       (ap (λ o. unwrap_or o []) (sym h.2.0 ∙ ap (part (λ s. s.file) None) here), h.2.1.1 (ap (part (λ s. s.explain) None) here))
-  check_asked (Run f t k j e o p) h is = omega (arith, ap key_seen (ap seen (sym h.1) ∙ is))
+  check_asked (Run f t k j n e o p) h is = omega (arith, ap key_seen (ap seen (sym h.1) ∙ is))
   check_asked (Replay f j e o p) h is = omega (arith, ap key_seen (ap seen (sym h.1) ∙ is))
   check_asked (Time f t s e o) h is = omega (arith, ap key_seen (ap seen (sym h.1) ∙ is))
   check_asked (Explain k) h is = omega (arith, ap key_seen (ap seen (sym h.1) ∙ is))
-  check_asked (Shell f j e o) h is = omega (arith, ap key_seen (ap seen (sym h.1) ∙ is))
+  check_asked (Shell f j n e o) h is = omega (arith, ap key_seen (ap seen (sym h.1) ∙ is))
 
   pub run_asked : (w : Words) → IsAsked met w → seen met ≡ Some (seen_run file) → RunsFile file w
-  run_asked (Run f t k j e o p) h is =
+  run_asked (Run f t k j n e o p) h is =
       let here = ap seen (sym h.1) ∙ is in (
         ap (λ o. unwrap_or o []) (sym h.2.0 ∙ ap (part (λ s. s.file) None) here),
         the_one h.0 (codes "threads") t h.2.1 (ap (part (λ s. s.threads) None) here),
@@ -55,6 +60,7 @@ module _ (met : Option (Text × List Row)) (file : Text) where
         h.2.4.1 (ap (part (λ s. s.explain) None) here),
         for_people h.0 o h.2.5 (ap (part (λ s. s.format) None) here),
         h.2.6.1 (ap (part (λ s. s.progress) None) here),
+        not_given h.0 (codes "no-journal") n h.2.7 (ap (part (λ s. s.no_journal) None) here),
       )
     where
       no_path : (j : Option (Bor Text)) → option_map (λ path. path.now) j ≡ None → j ≡ None
@@ -64,7 +70,7 @@ module _ (met : Option (Text × List Row)) (file : Text) where
   run_asked (Replay f j e o p) h is = omega (arith, ap key_seen (ap seen (sym h.1) ∙ is))
   run_asked (Time f t s e o) h is = omega (arith, ap key_seen (ap seen (sym h.1) ∙ is))
   run_asked (Explain k) h is = omega (arith, ap key_seen (ap seen (sym h.1) ∙ is))
-  run_asked (Shell f j e o) h is = omega (arith, ap key_seen (ap seen (sym h.1) ∙ is))
+  run_asked (Shell f j n e o) h is = omega (arith, ap key_seen (ap seen (sym h.1) ∙ is))
 
   pub replay_asked : (journal : Text) (w : Words) → IsAsked met w → seen met ≡ Some (seen_replay file journal) → ReplaysFiles file journal w
   replay_asked journal (Replay f j e o p) h is =
@@ -76,10 +82,10 @@ module _ (met : Option (Text × List Row)) (file : Text) where
         h.2.4.1 (ap (part (λ s. s.progress) None) here),
       )
   replay_asked journal (Check f e) h is = omega (arith, ap key_seen (ap seen (sym h.1) ∙ is))
-  replay_asked journal (Run f t k j e o p) h is = omega (arith, ap key_seen (ap seen (sym h.1) ∙ is))
+  replay_asked journal (Run f t k j n e o p) h is = omega (arith, ap key_seen (ap seen (sym h.1) ∙ is))
   replay_asked journal (Time f t s e o) h is = omega (arith, ap key_seen (ap seen (sym h.1) ∙ is))
   replay_asked journal (Explain k) h is = omega (arith, ap key_seen (ap seen (sym h.1) ∙ is))
-  replay_asked journal (Shell f j e o) h is = omega (arith, ap key_seen (ap seen (sym h.1) ∙ is))
+  replay_asked journal (Shell f j n e o) h is = omega (arith, ap key_seen (ap seen (sym h.1) ∙ is))
 
 -- ---- something was asked for
 
@@ -92,7 +98,7 @@ check_asks None file is = cc
 check_asks (Some p) file is =
     (p.1, ap (λ n. Some (n, p.1)) (ap (part (λ s. s.name) []) is), (ap (part (λ s. s.file) None) is, not_set p.1 (codes "explain") (ap (part (λ s. s.explain) None) is)))
 
-pub run_asks : (met : Option (Text × List Row)) (file : Text) → seen met ≡ Some (seen_run file) → IsAsked met (Run (given file) 1 1 None false ForPeople false)
+pub run_asks : (met : Option (Text × List Row)) (file : Text) → seen met ≡ Some (seen_run file) → IsAsked met (Run (given file) 1 1 None false false ForPeople false)
 run_asks None file is = cc
 run_asks (Some p) file is = (
   p.1,
@@ -105,6 +111,8 @@ run_asks (Some p) file is = (
     not_set p.1 (codes "explain") (ap (part (λ s. s.explain) None) is),
     ap (part (λ s. s.format) None) is,
     not_set p.1 (codes "progress") (ap (part (λ s. s.progress) None) is),
+    ap (part (λ s. s.no_journal) None) is,
+    λ e. absurd (true≢false (sym e)),
   ),
 )
 

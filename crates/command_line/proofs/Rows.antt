@@ -19,7 +19,7 @@ unfolding clap_on_literals
 after_hyphens = refl
 
 file_after_hyphens : finds (codes "run" ∷ codes "--" ∷ codes "-a.toml" ∷ [])
-    ≡ Some (record { name = codes "run"; file = Some (codes "-a.toml"); threads = Some (codes "1"); workers = Some (codes "1"); journal = None; explain = Some (codes "false"); format = Some (codes "text"); progress = Some (codes "false") })
+    ≡ Some (record { name = codes "run"; file = Some (codes "-a.toml"); threads = Some (codes "1"); workers = Some (codes "1"); journal = None; no_journal = Some (codes "false"); explain = Some (codes "false"); format = Some (codes "text"); progress = Some (codes "false") })
 unfolding clap_on_literals
 file_after_hyphens = refl
 
@@ -28,7 +28,7 @@ unfolding clap_on_literals
 options_after = refl
 
 found_after : finds (codes "run" ∷ codes "a" ∷ codes "--threads" ∷ codes "4" ∷ codes "--workers" ∷ codes "16" ∷ codes "--journal" ∷ codes "b" ∷ [])
-    ≡ Some (record { name = codes "run"; file = Some (codes "a"); threads = Some (codes "4"); workers = Some (codes "16"); journal = Some (codes "b"); explain = Some (codes "false"); format = Some (codes "text"); progress = Some (codes "false") })
+    ≡ Some (record { name = codes "run"; file = Some (codes "a"); threads = Some (codes "4"); workers = Some (codes "16"); journal = Some (codes "b"); no_journal = Some (codes "false"); explain = Some (codes "false"); format = Some (codes "text"); progress = Some (codes "false") })
 unfolding clap_on_literals
 found_after = refl
 
@@ -37,31 +37,41 @@ unfolding clap_on_literals
 options_before = refl
 
 found_before : finds (codes "run" ∷ codes "--workers=16" ∷ codes "--threads=4" ∷ codes "a" ∷ [])
-    ≡ Some (record { name = codes "run"; file = Some (codes "a"); threads = Some (codes "4"); workers = Some (codes "16"); journal = None; explain = Some (codes "false"); format = Some (codes "text"); progress = Some (codes "false") })
+    ≡ Some (record { name = codes "run"; file = Some (codes "a"); threads = Some (codes "4"); workers = Some (codes "16"); journal = None; no_journal = Some (codes "false"); explain = Some (codes "false"); format = Some (codes "text"); progress = Some (codes "false") })
 unfolding clap_on_literals
 found_before = refl
 
 explained : finds (codes "check" ∷ codes "a" ∷ codes "--explain" ∷ [])
-    ≡ Some (record { name = codes "check"; file = Some (codes "a"); threads = None; workers = None; journal = None; explain = Some (codes "true"); format = None; progress = None })
+    ≡ Some (record { name = codes "check"; file = Some (codes "a"); threads = None; workers = None; journal = None; no_journal = None; explain = Some (codes "true"); format = None; progress = None })
 unfolding clap_on_literals
 explained = refl
 
 formatted : finds (codes "run" ∷ codes "a" ∷ codes "--format" ∷ codes "json" ∷ codes "--progress" ∷ [])
-    ≡ Some (record { name = codes "run"; file = Some (codes "a"); threads = Some (codes "1"); workers = Some (codes "1"); journal = None; explain = Some (codes "false"); format = Some (codes "json"); progress = Some (codes "true") })
+    ≡ Some (record { name = codes "run"; file = Some (codes "a"); threads = Some (codes "1"); workers = Some (codes "1"); journal = None; no_journal = Some (codes "false"); explain = Some (codes "false"); format = Some (codes "json"); progress = Some (codes "true") })
 unfolding clap_on_literals
 formatted = refl
 
 replay_formatted : finds (codes "replay" ∷ codes "a" ∷ codes "--format=json" ∷ codes "b" ∷ [])
-    ≡ Some (record { name = codes "replay"; file = Some (codes "a"); threads = None; workers = None; journal = Some (codes "b"); explain = Some (codes "false"); format = Some (codes "json"); progress = Some (codes "false") })
+    ≡ Some (record { name = codes "replay"; file = Some (codes "a"); threads = None; workers = None; journal = Some (codes "b"); no_journal = None; explain = Some (codes "false"); format = Some (codes "json"); progress = Some (codes "false") })
 unfolding clap_on_literals
 replay_formatted = refl
+
+unkept : finds (codes "run" ∷ codes "a" ∷ codes "--no-journal" ∷ [])
+    ≡ Some (record { name = codes "run"; file = Some (codes "a"); threads = Some (codes "1"); workers = Some (codes "1"); journal = None; no_journal = Some (codes "true"); explain = Some (codes "false"); format = Some (codes "text"); progress = Some (codes "false") })
+unfolding clap_on_literals
+unkept = refl
+
+unkept_shell : finds (codes "shell" ∷ codes "--no-journal" ∷ codes "a" ∷ [])
+    ≡ Some (record { name = codes "shell"; file = Some (codes "a"); threads = None; workers = None; journal = None; no_journal = Some (codes "true"); explain = Some (codes "false"); format = Some (codes "text"); progress = None })
+unfolding clap_on_literals
+unkept_shell = refl
 
 number : asks (codes "explain" ∷ codes "45" ∷ []) ≡ []
 unfolding clap_on_literals
 number = refl
 
 standard_input : finds (codes "shell" ∷ codes "-" ∷ codes "--journal" ∷ codes "b" ∷ [])
-    ≡ Some (record { name = codes "shell"; file = Some (codes "-"); threads = None; workers = None; journal = Some (codes "b"); explain = Some (codes "false"); format = Some (codes "text"); progress = None })
+    ≡ Some (record { name = codes "shell"; file = Some (codes "-"); threads = None; workers = None; journal = Some (codes "b"); no_journal = Some (codes "false"); explain = Some (codes "false"); format = Some (codes "text"); progress = None })
 unfolding clap_on_literals
 standard_input = refl
 
@@ -75,7 +85,7 @@ version : asks (codes "--version" ∷ []) ≡ DisplayVersion ∷ []
 unfolding clap_on_literals
 version = refl
 
-great_number : asks (codes "explain" ∷ codes "53" ∷ []) ≡ ValueValidation ∷ []
+great_number : asks (codes "explain" ∷ codes "56" ∷ []) ≡ ValueValidation ∷ []
 unfolding clap_on_literals
 great_number = refl
 

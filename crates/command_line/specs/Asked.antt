@@ -1,5 +1,5 @@
 -- What the matches of the command line ask for.
-use Rattle.std.specs.Prelude.{◌≡◌, ◌≢◌, ◌≤◌, ℕ, Bool, true, false, List, [], ◌∷◌, Option, Some, None, map, option_map, slice_index, codes}
+use Rattle.std.specs.Prelude.{◌≡◌, ◌≢◌, ◌≤◌, ℕ, Bool, true, false, List, [], ◌∷◌, Option, Some, None, map, option_map, slice_index, codes, if◌then◌else◌}
 use Rattle.std.specs.Borrow.{Bor}
 use Rattle.std.specs.Str.Parse.{IsNumeral, digits_value, without_leading_plus}
 use Rattle.clap.specs.Words.{Row, Text, first_of, one_of}
@@ -29,6 +29,15 @@ abbrev pub IsFlag : List Row → Text → Bool → Type 0
 IsFlag rows id is = (one_of id rows ≡ Some (codes "true") → is ≡ true)
     × (one_of id rows ≡ Some (codes "false") → is ≡ false)
 
+-- the matches have an option with no value, and say if it is given
+abbrev pub HasFlag : List Row → Text → Bool → Type 0
+HasFlag rows id is = one_of id rows ≡ Some (if is then codes "true" else codes "false")
+
+-- if steps are not kept, there is no path for a journal, and there are one thread and one worker
+abbrev pub GoTogether : Bool → Option (Bor Text) → ℕ → ℕ → Type 0
+GoTogether no_journal journal threads workers =
+    no_journal ≡ true → (journal ≡ None) × (threads ≡ 1) × (workers ≡ 1)
+
 -- the format at the name `format`
 abbrev pub HasFormat : List Row → Format → Type 0
 HasFormat rows format = first_of (codes "format") rows ≡ Some (format_text format)
@@ -39,12 +48,13 @@ IsCheck rows (Check file explain) = (first_of (codes "file") rows ≡ Some file.
     × IsFlag rows (codes "explain") explain
 IsCheck rows _ = ⊥
 
--- the matches of `run`: a file, two numbers, a path where one is given, and a format
+-- the matches of `run`: a file, two numbers, a path where one is given, and a format; if the options do not go together, they ask for nothing
 abbrev pub IsRun : List Row → Words → Type 0
-IsRun rows (Run file threads workers journal explain format progress) = (first_of (codes "file") rows ≡ Some file.now)
+IsRun rows (Run file threads workers journal no_journal explain format progress) = (first_of (codes "file") rows ≡ Some file.now)
     × HasNumber rows (codes "threads") 16 threads × HasNumber rows (codes "workers") 16 workers
     × (first_of (codes "journal") rows ≡ option_map (λ path. path.now) journal)
     × IsFlag rows (codes "explain") explain × HasFormat rows format × IsFlag rows (codes "progress") progress
+    × HasFlag rows (codes "no-journal") no_journal × GoTogether no_journal journal threads workers
 IsRun rows _ = ⊥
 
 -- the matches of `replay`: two files, and a format
@@ -63,30 +73,31 @@ IsTime rows _ = ⊥
 
 -- the matches of `explain`: the number of a fault
 abbrev pub IsExplain : List Row → Words → Type 0
-IsExplain rows (Explain kind) = HasNumber rows (codes "number") 52 (kind_number kind)
+IsExplain rows (Explain kind) = HasNumber rows (codes "number") 55 (kind_number kind)
 IsExplain rows _ = ⊥
 
--- the matches of `shell`: a file, a path where one is given, and a format
+-- the matches of `shell`: a file, a path where one is given, and a format; if the options do not go together, they ask for nothing
 abbrev pub IsShell : List Row → Words → Type 0
-IsShell rows (Shell file journal explain format) = (first_of (codes "file") rows ≡ Some file.now)
+IsShell rows (Shell file journal no_journal explain format) = (first_of (codes "file") rows ≡ Some file.now)
     × (first_of (codes "journal") rows ≡ option_map (λ path. path.now) journal)
     × IsFlag rows (codes "explain") explain × HasFormat rows format
+    × HasFlag rows (codes "no-journal") no_journal × GoTogether no_journal journal 1 1
 IsShell rows _ = ⊥
 
 -- the subcommand that was met, with its matches, asks for this
 abbrev pub IsAsked : Option (Text × List Row) → Words → Type 0
 IsAsked met (Check file explain) =
     (rows : List Row) × (met ≡ Some (codes "check", rows)) × IsCheck rows (Check file explain)
-IsAsked met (Run file threads workers journal explain format progress) = (rows : List Row)
-    × (met ≡ Some (codes "run", rows)) × IsRun rows (Run file threads workers journal explain format progress)
+IsAsked met (Run file threads workers journal no_journal explain format progress) = (rows : List Row)
+    × (met ≡ Some (codes "run", rows)) × IsRun rows (Run file threads workers journal no_journal explain format progress)
 IsAsked met (Replay file journal explain format progress) = (rows : List Row)
     × (met ≡ Some (codes "replay", rows)) × IsReplay rows (Replay file journal explain format progress)
 IsAsked met (Time file times spells explain format) = (rows : List Row)
     × (met ≡ Some (codes "time", rows)) × IsTime rows (Time file times spells explain format)
 IsAsked met (Explain kind) =
     (rows : List Row) × (met ≡ Some (codes "explain", rows)) × IsExplain rows (Explain kind)
-IsAsked met (Shell file journal explain format) = (rows : List Row)
-    × (met ≡ Some (codes "shell", rows)) × IsShell rows (Shell file journal explain format)
+IsAsked met (Shell file journal no_journal explain format) = (rows : List Row)
+    × (met ≡ Some (codes "shell", rows)) × IsShell rows (Shell file journal no_journal explain format)
 
 -- the words are the program's name, the command and a file, which does not begin with a hyphen
 pub record IsFileLine (command file : Text) (words : List Text) : Type 0 where
@@ -106,11 +117,11 @@ abbrev pub ChecksFile : Text → Words → Type 0
 ChecksFile file (Check given explain) = (given.now ≡ file) × (explain ≡ false)
 ChecksFile file _ = ⊥
 
--- what is asked for is to run this file, by one thread and one worker, and to write no journal; it prints lines for people, and tells of no progress
+-- what is asked for is to run this file, by one thread and one worker, to keep the steps, and to write no journal; it prints lines for people, and tells of no progress
 abbrev pub RunsFile : Text → Words → Type 0
-RunsFile file (Run given threads workers journal explain format progress) =
+RunsFile file (Run given threads workers journal no_journal explain format progress) =
     (given.now ≡ file) × (threads ≡ 1) × (workers ≡ 1) × (journal ≡ None) × (explain ≡ false)
-    × (format ≡ ForPeople) × (progress ≡ false)
+    × (format ≡ ForPeople) × (progress ≡ false) × (no_journal ≡ false)
 RunsFile file _ = ⊥
 
 -- what is asked for is to replay this journal over the network of this file; it prints lines for people, and tells of no progress

@@ -34,20 +34,20 @@ choice_rule id = record (new_rule id) { long = Some id; value_names = 1; default
 abbrev pub flag_rule : Text → Rule
 flag_rule id = record (new_rule id) { long = Some id; action = Some SetTrue }
 
--- a number of 1 to 52 that has to be there
+-- a number of 1 to 55 that has to be there
 abbrev pub known_rule : Text → Rule
-known_rule id = record (new_rule id) { value_names = 1; required = true; parser = Some (Signed (pos 1) (pos 52)) }
+known_rule id = record (new_rule id) { value_names = 1; required = true; parser = Some (Signed (pos 1) (pos 55)) }
 
 -- `check FILE [--explain]`
 abbrev pub check_app : App
 check_app = with_rule (with_rule (new_app (codes "check")) (file_rule (codes "file"))) (flag_rule (codes "explain"))
 
--- `run FILE [--threads N] [--workers N] [--journal PATH] [--explain] [--format FORMAT] [--progress]`
+-- `run FILE [--threads N] [--workers N] [--journal PATH] [--no-journal] [--explain] [--format FORMAT] [--progress]`
 abbrev pub run_app : App
-run_app = with_rule (with_rule (with_rule (with_rule (with_rule (with_rule (with_rule (new_app (codes "run"))
+run_app = with_rule (with_rule (with_rule (with_rule (with_rule (with_rule (with_rule (with_rule (new_app (codes "run"))
     (file_rule (codes "file"))) (number_rule (codes "threads"))) (number_rule (codes "workers")))
-    (path_rule (codes "journal"))) (flag_rule (codes "explain"))) (choice_rule (codes "format")))
-    (flag_rule (codes "progress"))
+    (path_rule (codes "journal"))) (flag_rule (codes "no-journal"))) (flag_rule (codes "explain")))
+    (choice_rule (codes "format"))) (flag_rule (codes "progress"))
 
 -- `replay FILE JOURNAL [--explain] [--format FORMAT] [--progress]`
 abbrev pub replay_app : App
@@ -64,10 +64,10 @@ time_app = with_rule (with_rule (with_rule (with_rule (with_rule (new_app (codes
 abbrev pub explain_app : App
 explain_app = with_rule (new_app (codes "explain")) (known_rule (codes "number"))
 
--- `shell FILE [--journal PATH] [--explain] [--format FORMAT]`
+-- `shell FILE [--journal PATH] [--no-journal] [--explain] [--format FORMAT]`
 abbrev pub shell_app : App
-shell_app = with_rule (with_rule (with_rule (with_rule (new_app (codes "shell")) (file_rule (codes "file")))
-    (path_rule (codes "journal"))) (flag_rule (codes "explain"))) (choice_rule (codes "format"))
+shell_app = with_rule (with_rule (with_rule (with_rule (with_rule (new_app (codes "shell")) (file_rule (codes "file")))
+    (path_rule (codes "journal"))) (flag_rule (codes "no-journal"))) (flag_rule (codes "explain"))) (choice_rule (codes "format"))
 
 -- the program, which has to be given one of its commands
 abbrev pub program : App
@@ -79,6 +79,6 @@ program = with_subcommand (with_subcommand (with_subcommand (with_subcommand (wi
 abbrev pub IsProgramCommand : App → Command → Type 0
 IsProgramCommand app c = (app_of c ≡ app) × ((out-Command c).has_globals ≡ false)
 
--- the kinds of error that the words may give: those of clap's definition, and where it gives none a number that is never printed, or a format that there is not
+-- the kinds of error that the words may give: those of clap's definition, and where it gives none a number that is never printed, a format that there is not, or options that do not go together
 abbrev pub kinds_of : List Text → Kinds
 kinds_of words = or_else (fault_of program words) (InvalidValue ∷ [])

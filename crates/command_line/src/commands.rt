@@ -27,6 +27,8 @@ macro_rules! commands {
 Commands of a script and of the shell:
   up A B                  The link of A and B comes up, in its next session.
   down A B                It goes down, and the messages on it are lost.
+  up A                    Each link of A that is down comes up, one after another.
+  down A                  Each link of A that is up goes down, one after another.
   cost A B C              The cost from A on the link to B becomes C.
   deliver A B             A takes the oldest item on the link from B.
   deliver A A             A takes the oldest notice of its own attachments.
@@ -36,6 +38,10 @@ Commands of a script and of the shell:
   release A               A sends the oldest message that it holds.
   try STEP                Does one of the steps above, and prints if it was refused.
   settle                  Routers do what they have to do, until nothing is left.
+  settle --seed N         The same in an order that is drawn from N.
+  count                   Prints the steps and messages since the last count.
+  save                    Keeps the state of the network (with --no-journal alone).
+  restore                 Goes back to the state that was saved.
   next A                  Prints what A has to do next.
   queue A B               Prints what A has yet to take from B.
   queue A A               Prints the notices of its attachments that A has yet to take.
@@ -137,6 +143,7 @@ fn run_command<'a>(alloc: Global) -> Result<Command<'a>, AllocError>
         .arg(threads)?
         .arg(workers)?
         .arg(journal_arg(alloc))?
+        .arg(no_journal_arg(alloc))?
         .arg(explain_arg(alloc))?
         .arg(format_arg(alloc))?
         .arg(progress_arg(alloc))
@@ -204,6 +211,7 @@ fn shell_command<'a>(alloc: Global) -> Result<Command<'a>, AllocError>
         .after_help("Example:\n  dualnet shell examples/ring.toml")
         .arg(scenario_arg(alloc))?
         .arg(journal_arg(alloc))?
+        .arg(no_journal_arg(alloc))?
         .arg(explain_arg(alloc))?
         .arg(format_arg(alloc))
 }
@@ -228,6 +236,17 @@ fn journal_arg<'a>(alloc: Global) -> Arg<'a>
         alloc,
         "journal",
         "Write all steps to this file, if the status is 0",
+    )
+}
+
+fn no_journal_arg<'a>(alloc: Global) -> Arg<'a>
+    ensures rule { rule_of result ≡ flag_rule (codes "no-journal") }
+    ensures local { result.global ≡ false }
+{
+    flag_arg(
+        alloc,
+        "no-journal",
+        "Count the steps and keep none, without a limit, by one thread and one worker; not with --journal",
     )
 }
 
@@ -295,11 +314,11 @@ fn small_number<'a>() -> ValueParser<'a>
     value_parser!(u8).range(1..=16)
 }
 
-// The number of a fault: 1 to 52.
+// The number of a fault: 1 to 55.
 fn known_number<'a>() -> ValueParser<'a>
-    ensures { result ≡ Signed (pos 1) (pos 52) }
+    ensures { result ≡ Signed (pos 1) (pos 55) }
 {
-    value_parser!(u8).range(1..=52)
+    value_parser!(u8).range(1..=55)
 }
 
 // The number of a fault, which has to be there.

@@ -6,10 +6,11 @@
 //!
 //! ```text
 //!   dualnet check FILE [--explain]
-//!   dualnet run FILE [--threads N] [--workers N] [--journal PATH] [--explain] [--format F] [--progress]
+//!   dualnet run FILE [--threads N] [--workers N] [--journal PATH] [--no-journal] [--explain] [--format F]
+//!               [--progress]
 //!   dualnet replay FILE JOURNAL [--explain] [--format F] [--progress]
 //!   dualnet time FILE TIMES [--spells] [--explain] [--format F]
-//!   dualnet shell FILE [--journal PATH] [--explain] [--format F]
+//!   dualnet shell FILE [--journal PATH] [--no-journal] [--explain] [--format F]
 //!   dualnet explain NUMBER
 //!   dualnet-view FILE [JOURNAL] [-o PATH] [--json]
 //! ```
@@ -31,9 +32,9 @@
 //! always. `specs/Commands.antt` has the options, their ranges and defaults: both numbers are 1 to 16, and 1
 //! if left out.
 //!
-//! What is tricky: help that is asked for comes as an error, too, because `clap` has it so. Two things are
-//! tested here and not by `clap`: the name of a format, and that a number to be explained is printed at all.
-//! Their errors are told as the other errors of the command line.
+//! What is tricky: help that is asked for comes as an error, too, because `clap` has it so. Three things are
+//! tested here and not by `clap`: the name of a format, that a number to be explained is printed at all, and
+//! what `--no-journal` goes with. Their errors are told as the other errors of the command line.
 #![tactic(auto)]
 
 mod commands;

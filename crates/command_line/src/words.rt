@@ -1,9 +1,9 @@
 //! What the command line asks for.
 
-ghost use Rattle.std.specs.Prelude.{◌≡◌, IfOk, IfErr, IfSome, IfNone, MatchResult, List, ℕ, [], ⊤, codes};
+ghost use Rattle.std.specs.Prelude.{◌≡◌, ◌↔◌, Bool, IfOk, IfErr, IfSome, IfNone, IsTrue, MatchResult, List, ℕ, [], ⊤, codes};
 ghost use Rattle.clap.specs.Words.{HasKind, Text, fault_of, first_of, kind_of, rows_of, found_of, subcommand_of, subcommand_rows_of};
 ghost use Rattle.command_line.specs.Commands.{program, kinds_of};
-ghost use Rattle.command_line.specs.Asked.{ChecksFile, HasFormat, HasNumber, IsAsked, IsCheck, IsExplain, IsFileLine, IsFlag, IsReplay, IsReplayLine, IsRun, IsShell, IsTime, ReplaysFiles, RunsFile, word_texts};
+ghost use Rattle.command_line.specs.Asked.{ChecksFile, GoTogether, HasFlag, HasFormat, HasNumber, IsAsked, IsCheck, IsExplain, IsFileLine, IsFlag, IsReplay, IsReplayLine, IsRun, IsShell, IsTime, ReplaysFiles, RunsFile, word_texts};
 
 use crate::commands::program_command;
 use crate::format::Format;
@@ -23,12 +23,15 @@ pub enum Words<'a> {
     },
     /// Run the script of the scenario in the file, by so many control threads and forwarding
     /// workers, 1 to 16 of each. Then write the journal to the path, if there is one. Here and in a
-    /// replay, lines are printed in the format, and `progress` asks how much is done.
+    /// shell, `no_journal` asks to count the steps and to keep none of them: then there is no path,
+    /// and there are one thread and one worker. Here and in a replay, lines are printed in the
+    /// format, and `progress` asks how much is done.
     Run {
         file: &'a str,
         threads: u8,
         workers: u8,
         journal: Option<&'a str>,
+        no_journal: bool,
         explain: bool,
         format: Format,
         progress: bool,
@@ -59,6 +62,7 @@ pub enum Words<'a> {
     Shell {
         file: &'a str,
         journal: Option<&'a str>,
+        no_journal: bool,
         explain: bool,
         format: Format,
     },
@@ -91,10 +95,12 @@ pub fn read_words<'a>(alloc: Global, words: &'a [&'a str]) -> Result<Words<'a>, 
 
 // The error if the matches ask for nothing, though clap takes them.
 fn refusal_of(matches: &ArgMatches<'_>) -> &'static str {
-    if matches.subcommand_matches("explain").is_some() {
-        "the program prints no such number"
-    } else {
-        "'--format' takes text or json"
+    match matches.subcommand() {
+        Some(("explain", _)) => "the program prints no such number",
+        Some((_, inner)) if named_format(inner).is_some() => {
+            "'--no-journal' goes with neither '--journal' nor more than one thread or worker"
+        }
+        _ => "'--format' takes text or json",
     }
 }
 
@@ -137,14 +143,19 @@ fn run_words<'a>(matches: &ArgMatches<'a>) -> Option<Words<'a>>
     let threads = number(matches, "threads", 16)?;
     let workers = number(matches, "workers", 16)?;
     let journal = matches.get_str("journal");
+    let no_journal = found_flag(matches, "no-journal")?;
     let explain = flag(matches, "explain");
     let format = named_format(matches)?;
     let progress = flag(matches, "progress");
+    if !go_together(no_journal, journal, threads, workers) {
+        return None;
+    }
     Some(Words::Run {
         file,
         threads,
         workers,
         journal,
+        no_journal,
         explain,
         format,
         progress,
@@ -191,7 +202,7 @@ fn explain_words<'a>(matches: &ArgMatches<'a>) -> Option<Words<'a>>
     ensures some { IfSome result (IsExplain (rows_of (found_of matches.now))) }
     ensures none { IfNone result ((w : Words) → IsExplain (rows_of (found_of matches.now)) w → ⊥) }
 {
-    let number = number(matches, "number", 52)?;
+    let number = number(matches, "number", 55)?;
     let kind = Kind::of(number)?;
     Some(Words::Explain { kind })
 }
@@ -202,11 +213,16 @@ fn shell_words<'a>(matches: &ArgMatches<'a>) -> Option<Words<'a>>
 {
     let file = matches.get_str("file")?;
     let journal = matches.get_str("journal");
+    let no_journal = found_flag(matches, "no-journal")?;
     let explain = flag(matches, "explain");
     let format = named_format(matches)?;
+    if !go_together(no_journal, journal, 1, 1) {
+        return None;
+    }
     Some(Words::Shell {
         file,
         journal,
+        no_journal,
         explain,
         format,
     })
@@ -217,6 +233,22 @@ pub(crate) fn flag(matches: &ArgMatches<'_>, id: &str) -> bool
     ensures { IsFlag (rows_of (found_of matches.now)) id.now result }
 {
     matches.get_flag(id)
+}
+
+// Whether the option at the name is given; none if the matches do not have it.
+fn found_flag(matches: &ArgMatches<'_>, id: &str) -> Option<bool>
+    ensures some { IfSome result (HasFlag (rows_of (found_of matches.now)) id.now) }
+    ensures none { IfNone result ((is : Bool) → HasFlag (rows_of (found_of matches.now)) id.now is
+        → ⊥) }
+{
+    matches.get_one::<bool>(id)
+}
+
+// Whether `--no-journal`, if it is given, stands without a journal, and with one thread and one worker.
+fn go_together(no_journal: bool, journal: Option<&str>, threads: u8, workers: u8) -> bool
+    ensures { IsTrue result ↔ GoTogether no_journal journal.entry threads workers }
+{
+    !no_journal || (journal.is_none() && threads == 1 && workers == 1)
 }
 
 // The format that is named.

@@ -23,7 +23,8 @@
 //!   back under it again.
 //! - [`Control::serve`] starts a thread for each share, which takes turns at its own routers until the
 //!   fabric is settled. [`settle`] does it with one thread, and calls others where there is as much to
-//!   publish as its caller's [`Thresholds`] say.
+//!   publish as its caller's [`Thresholds`] say. [`settle_in_order`] does it with one thread, in an order of its
+//!   caller's.
 //!
 //! What always holds: what lies under the lock is the fabric of the name with some more steps done, each
 //! one that some router had to do next, or that may be asked for (`IsServed` in `specs/Served.antt`), so
@@ -36,6 +37,7 @@ mod crowd;
 mod errand;
 mod guarded;
 mod name;
+mod ordered;
 mod pass;
 mod progress;
 mod serve;
@@ -47,6 +49,7 @@ pub use control::Control;
 pub use crew::{Crew, NO_THRESHOLDS, THRESHOLDS, Thresholds};
 pub use name::ControlName;
 pub use network_model::{Refusal, Step};
+pub use ordered::{TurnOrder, settle_in_order};
 pub use progress::Progress;
 pub use serve::{NoGate, TurnGate};
 pub use settling::settle;

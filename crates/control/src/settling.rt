@@ -197,7 +197,7 @@ where
 }
 
 // Tells how many steps were done, after every so many.
-fn tell<B: FabricName, P: Progress>(fabric: &Fabric<B>, progress: &mut P) {
+pub(crate) fn tell<B: FabricName, P: Progress>(fabric: &Fabric<B>, progress: &mut P) {
     let steps = fabric.journal().len();
     if steps % STEPS_BETWEEN == 0 {
         progress.steps(steps);

@@ -77,7 +77,7 @@ impl<B: FabricName + Send + Sync + 'static> Dispatcher<B> {
             × (self.new.jobs ≡ self.old.jobs ++ job ∷ []) × (self.new.last ≡ job.number)) }
         ensures refused { OnErr result ((self.new.jobs ≡ self.old.jobs)
             × (self.new.last ≡ self.old.last)) }
-        ensures err { IfErr result (CannotInject (unknown_router fabric.now router)) }
+        ensures err { IfErr result (CannotInject (unknown_router (fabric.now).world router)) }
     {
         let job = fabric.job(self.last.saturating_add(1), router, addr)?;
         let number = job.number;

@@ -162,6 +162,7 @@ fn second_input(rt: &HostRuntime, words: &Words<'_>) -> Source<Input> {
         Words::Shell {
             file: _,
             journal: _,
+            no_journal: _,
             explain: _,
             format: _,
         } => Source::Open(Input::Standard(rt.stdin())),

@@ -1,7 +1,7 @@
 -- The numbers of faults, and their names.
 use Rattle.std.specs.Prelude.{ℕ, List, codes}
 use Rattle.explanations.specs.declared.kind.Kind.{Kind}
-use Rattle.explanations.specs.declared.kind.Kind.TheVariants.{NoSlash, BadAddress, BadLength, HostBits, BadCost, UnknownRouter, UnknownLink, NoThread, AlreadyUp, IsDown, SessionsSpent, NothingToDeliver, NothingDue, NothingRipe, JournalFull, NoMemory, Busy, Stale, NoReaderPlace, BadRouters, BadLink, TooManyLinks, BadOwner, UnknownPrefix, NotAttached, Stranger, Doubled, Missing, Closed, NoImage, WrongTicket, BadToml, BadKey, BadName, BadLine, BadCommand, TooLarge, Unreadable, BadJournal, Unwritable, PastMoment, TimeSpent}
+use Rattle.explanations.specs.declared.kind.Kind.TheVariants.{NoSlash, BadAddress, BadLength, HostBits, BadCost, UnknownRouter, UnknownLink, NoThread, AlreadyUp, IsDown, SessionsSpent, NothingToDeliver, NothingDue, NothingRipe, JournalFull, NoMemory, Busy, Stale, NoReaderPlace, BadRouters, BadLink, TooManyLinks, BadOwner, UnknownPrefix, NotAttached, Stranger, Doubled, Missing, Closed, NoImage, WrongTicket, BadToml, BadKey, BadName, BadLine, BadCommand, TooLarge, Unreadable, BadJournal, Unwritable, PastMoment, TimeSpent, JournalKept, NothingSaved}
 
 -- the number of a kind
 abbrev pub kind_number : Kind → ℕ
@@ -47,6 +47,8 @@ kind_number BadJournal = 48
 kind_number Unwritable = 49
 kind_number PastMoment = 51
 kind_number TimeSpent = 52
+kind_number JournalKept = 54
+kind_number NothingSaved = 55
 
 -- its name
 abbrev pub name_of : Kind → List ℕ
@@ -92,3 +94,5 @@ name_of BadJournal = codes "BadJournal"
 name_of Unwritable = codes "Unwritable"
 name_of PastMoment = codes "PastMoment"
 name_of TimeSpent = codes "TimeSpent"
+name_of JournalKept = codes "JournalKept"
+name_of NothingSaved = codes "NothingSaved"

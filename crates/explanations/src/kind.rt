@@ -48,6 +48,8 @@ pub enum Kind {
     Unwritable,
     PastMoment,
     TimeSpent,
+    JournalKept,
+    NothingSaved,
 }
 
 impl Kind {
@@ -99,6 +101,8 @@ impl Kind {
             49 => Some(Kind::Unwritable),
             51 => Some(Kind::PastMoment),
             52 => Some(Kind::TimeSpent),
+            54 => Some(Kind::JournalKept),
+            55 => Some(Kind::NothingSaved),
             _ => None,
         }
     }
@@ -150,6 +154,8 @@ impl Kind {
             Kind::Unwritable => 49,
             Kind::PastMoment => 51,
             Kind::TimeSpent => 52,
+            Kind::JournalKept => 54,
+            Kind::NothingSaved => 55,
         }
     }
 
@@ -200,6 +206,8 @@ impl Kind {
             Kind::Unwritable => "Unwritable",
             Kind::PastMoment => "PastMoment",
             Kind::TimeSpent => "TimeSpent",
+            Kind::JournalKept => "JournalKept",
+            Kind::NothingSaved => "NothingSaved",
         }
     }
 }

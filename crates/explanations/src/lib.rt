@@ -13,7 +13,8 @@
 //!
 //! A [`Kind`] is a number with its name and its [`Page`]. The numbers have gaps, because some are only for
 //! the libraries for C (`c_interface`). For example, 7 says there that a handle is empty, and is no kind here.
-//! The program prints each kind but 51 and 52, which are faults of simulated time (`timed_simulation`).
+//! The program prints each kind but 51, a fault of simulated time that it does not let happen
+//! (`timed_simulation`).
 //!
 //! ```text
 //! let kind = Kind::of(45)?;                    // None for a number that is never printed

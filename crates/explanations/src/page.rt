@@ -58,6 +58,8 @@ impl Kind {
             Kind::Unwritable => UNWRITABLE,
             Kind::PastMoment => PAST_MOMENT,
             Kind::TimeSpent => TIME_SPENT,
+            Kind::JournalKept => JOURNAL_KEPT,
+            Kind::NothingSaved => NOTHING_SAVED,
         }
     }
 }
@@ -191,7 +193,7 @@ const JOURNAL_FULL: Page = Page {
     kind: Kind::JournalFull,
     cause: "a million steps were done, and the journal has room for no more",
     example: "256 routers in a grid, each with a prefix of its own: all 480 links come up, and then they `settle`",
-    remedy: "write `settle` after every few links that come up, because all at once take far more steps",
+    remedy: "write `settle` after every few links that come up, because all at once take far more steps; or say `--no-journal`, which has no such limit",
 };
 
 const NO_MEMORY: Page = Page {
@@ -337,7 +339,7 @@ const BAD_LINE: Page = Page {
 const BAD_COMMAND: Page = Page {
     kind: Kind::BadCommand,
     cause: "a line of the script is no command, a line of the changes is not `MOMENT STEP`, or one names a router, link or prefix that the scenario does not have",
-    example: "`setle`, `up a`, `up a z`, `up  a b`, `state a 11.0.0.0/8`",
+    example: "`setle`, `up`, `up a z`, `up  a b`, `state a 11.0.0.0/8`",
     remedy: "see `dualnet --help` for the commands; `dualnet check FILE --explain` says what is wrong with the line",
 };
 
@@ -381,4 +383,18 @@ const TIME_SPENT: Page = Page {
     cause: "in simulated time, the next event is due at 2^64 - 1 microseconds or later, which the clock cannot show",
     example: "a direction of a link with a delay of 18,446,744,073,709,551,615 microseconds",
     remedy: "give shorter delays, and earlier moments",
+};
+
+const JOURNAL_KEPT: Page = Page {
+    kind: Kind::JournalKept,
+    cause: "`save` or `restore`, but the steps are kept for a journal, which cannot go back",
+    example: "`save` in a script or a shell without `--no-journal`",
+    remedy: "say `--no-journal`: the steps are then counted and not kept",
+};
+
+const NOTHING_SAVED: Page = Page {
+    kind: Kind::NothingSaved,
+    cause: "`restore`, but nothing was saved",
+    example: "`restore` as the first command",
+    remedy: "write `save` before it",
 };

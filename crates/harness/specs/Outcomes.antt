@@ -5,7 +5,7 @@ use Rattle.command_line.specs.declared.words.Words.{Words}
 use Rattle.reports.specs.declared.end.End.{End}
 use Rattle.plans.specs.declared.fault.Fault.{Fault}
 use Rattle.reports.specs.Ends.{status_at}
-use Rattle.play.specs.Outcomes.{Ends, Stops}
+use Rattle.play.specs.Outcomes.{Ends, StopsWords}
 use Rattle.plans.specs.Faults.{status_of}
 
 -- a command came to an end, or it stopped for a fault; the status says which, and a journal was kept or
@@ -13,4 +13,4 @@ use Rattle.plans.specs.Faults.{status_of}
 abbrev pub Gave : Words → Option Text → Option Text → ℕ → Text → Type 0
 Gave words scenario journal status kept =
     ((end : End) × (status ≡ status_at end) × Ends true words scenario journal [] kept end)
-    ⊎ ((fault : Fault) × (status ≡ status_of fault.cause) × Stops words scenario journal fault)
+    ⊎ ((fault : Fault) × (status ≡ status_of fault.cause) × StopsWords words scenario journal fault)

@@ -28,3 +28,4 @@ pub record IsAsWanted (wanted : Wanted) (given : Given) : Type 0 where
   pub kept : IsNoOther wanted.kept given.outcome.kept.items
   pub words : IsNoOther wanted.words (string_bytes given.words)
   pub replay : given.replay ≡ 0
+  pub counted : given.counted ≡ true

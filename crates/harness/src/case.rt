@@ -56,6 +56,8 @@ pub struct Given {
     pub words: String,
     /// The status of the replay of a run or a shell that came to its end, else 0.
     pub replay: u8,
+    /// Whether a run or a shell gives the same if its steps are counted and not kept; of others it is true.
+    pub counted: bool,
 }
 
 /// What is found of a command.
@@ -68,6 +70,7 @@ pub enum Verdict {
     KeepsSomethingElse,
     IsReadAsSomethingElse,
     IsNotReplayed,
+    CountsSomethingElse,
 }
 
 impl Verdict {
@@ -80,6 +83,7 @@ impl Verdict {
             Verdict::KeepsSomethingElse => "keeps another journal",
             Verdict::IsReadAsSomethingElse => "is read as something else",
             Verdict::IsNotReplayed => "is not replayed",
+            Verdict::CountsSomethingElse => "gives something else without a journal",
         }
     }
 }
@@ -106,6 +110,9 @@ pub fn judge(wanted: &Wanted<'_>, given: &Given) -> Verdict
     }
     if given.replay != 0 {
         return Verdict::IsNotReplayed;
+    }
+    if !given.counted {
+        return Verdict::CountsSomethingElse;
     }
     Verdict::IsRight
 }

@@ -1,7 +1,7 @@
 -- A text that a limit does not cut.
 use Rattle.std.proofs.Common.{◌≡◌, ℕ, ◌<◌, List, [], ◌∷◌, ◌++◌, length, take, zero, suc, Option, Some, None, IfSome, option_map, refl, ap, ◌∙◌, arith, length-take}
 use Rattle.plans.specs.declared.fault.Cause.{Cause}
-use Rattle.plans.specs.declared.fault.Cause.TheVariants.{Memory, Unreadable, TooLarge, Document, Lines, Network, Refused, Journal, Times, TimeSpent, Unwritable, Workers}
+use Rattle.plans.specs.declared.fault.Cause.TheVariants.{Memory, Unreadable, TooLarge, Document, Lines, Network, Refused, Journal, Times, TimeSpent, Unwritable, Workers, JournalKept, NothingSaved}
 use Rattle.plans.specs.Faults.{Gives, CannotRead, IsUnread}
 
 -- what a limit does not reach is whole
@@ -45,3 +45,5 @@ cannot_read (Times fault) why bytes = absurd why
 cannot_read TimeSpent why bytes = absurd why
 cannot_read Unwritable why bytes = absurd why
 cannot_read (Workers fault) why bytes = absurd why
+cannot_read JournalKept why bytes = absurd why
+cannot_read NothingSaved why bytes = absurd why

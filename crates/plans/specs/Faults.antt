@@ -14,7 +14,7 @@ use Rattle.network_model.specs.declared.step.Refusal.{Refusal}
 use Rattle.worker_pool.specs.declared.fault.PoolFault.{PoolFault}
 use Rattle.worker_pool.specs.declared.fault.PoolFault.TheVariants.{Memory as MemoryForWorkers, Refused as RefusedAtWork}
 use Rattle.plans.specs.declared.fault.Cause.{Cause}
-use Rattle.plans.specs.declared.fault.Cause.TheVariants.{Memory, Unreadable, TooLarge, Document, Lines, Network, Refused, Journal, Times, TimeSpent, Unwritable, Workers}
+use Rattle.plans.specs.declared.fault.Cause.TheVariants.{Memory, Unreadable, TooLarge, Document, Lines, Network, Refused, Journal, Times, TimeSpent, Unwritable, Workers, JournalKept, NothingSaved}
 use Rattle.plans.specs.declared.times.TimesFault.TheVariants.{Document as NoTimes, Line as NoLineOfTimes}
 use Rattle.plans.specs.declared.fault.Fault.{Fault}
 
@@ -42,13 +42,17 @@ is_memory Unwritable = false
 is_memory (Workers (MemoryForWorkers _)) = true
 is_memory (Workers (RefusedAtWork NoMemoryForStep)) = true
 is_memory (Workers _) = false
+is_memory JournalKept = false
+is_memory NothingSaved = false
 
--- whether the cause came up after all input was read: a command was refused, workers did not answer, simulated time ran out, or the journal could not be written
+-- whether the cause came up after all input was read: a command was refused, workers did not answer, simulated time ran out, the journal could not be written, or no state could be saved or restored
 abbrev pub comes_late : Cause → Bool
 comes_late (Refused _) = true
 comes_late TimeSpent = true
 comes_late Unwritable = true
 comes_late (Workers _) = true
+comes_late JournalKept = true
+comes_late NothingSaved = true
 comes_late _ = false
 
 -- the exit status of a program that stops for a cause: 2 where it came up after all input was read, or memory ran out, else 1

@@ -54,6 +54,12 @@ pub enum Cause {
     /// Workers did not take a job, or did not answer it.
     #[error(transparent)]
     Workers(PoolFault),
+    /// A state was to be saved or restored, but the steps are kept for a journal.
+    #[error("54 JournalKept")]
+    JournalKept,
+    /// A state was to be restored, but none was saved.
+    #[error("55 NothingSaved")]
+    NothingSaved,
 }
 
 /// What is wrong, and where: it is displayed as `25 BadLink at links 0`, or without a place as
@@ -89,7 +95,9 @@ impl Fault {
             | Cause::TimeSpent
             | Cause::Refused(_)
             | Cause::Unwritable
-            | Cause::Workers(_) => 2,
+            | Cause::Workers(_)
+            | Cause::JournalKept
+            | Cause::NothingSaved => 2,
             _ => 1,
         }
     }

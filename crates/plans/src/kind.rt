@@ -25,6 +25,8 @@ impl Fault {
             Cause::TimeSpent => Kind::TimeSpent,
             Cause::Unwritable => Kind::Unwritable,
             Cause::Workers(fault) => pool_kind(fault),
+            Cause::JournalKept => Kind::JournalKept,
+            Cause::NothingSaved => Kind::NothingSaved,
         }
     }
 }

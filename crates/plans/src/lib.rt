@@ -25,8 +25,9 @@
 //!
 //! What always holds: a plan is made only of a text that is a scenario without faults (`IsScenario` in
 //! `specs/Scenarios.antt`). If none is made, the fault is the first in this order (`IsScenarioFault`), or
-//! want of memory. The exit status is 1 for a fault in the input. It is 2 if a step or a job was refused, the
-//! output could not be written, or memory ran out (`status_of` in `specs/Faults.antt`).
+//! want of memory. The exit status is 1 for a fault in the input. It is 2 if a step or a job was refused, no
+//! state could be saved or restored, the output could not be written, or memory ran out (`status_of` in
+//! `specs/Faults.antt`).
 //!
 //! What is tricky: the network's faults come before those of lines, although lines are read first. The
 //! network is made of what was read before the first faulty line. Only a name that is no router's name comes

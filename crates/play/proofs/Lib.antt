@@ -1,4 +1,4 @@
-mod Doing
-pub mod Running
 mod Trying
-mod Sessions
+mod Stepping
+pub mod Working
+pub mod Replays

@@ -1,5 +1,3 @@
-pub mod Settling
-pub mod Commands
-pub mod Runs
-pub mod Shell
+pub mod Works
+pub mod Replays
 pub mod Outcomes

@@ -84,7 +84,7 @@ pub(crate) fn begin_answer<W: Write>(number: usize, out: &mut W) -> io::Result<(
 pub(crate) fn end_answer<W: Write>(
     told: &Told<'_>,
     fault: Option<Fault>,
-    steps: usize,
+    steps: u64,
     out: &mut W,
 ) -> io::Result<()> {
     match fault {

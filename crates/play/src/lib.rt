@@ -10,7 +10,7 @@
 //!   check     reads a scenario, and says what it holds                          `reports`
 //!   run       opens its network, and does its script, command by command
 //!   shell     opens its network, and does the commands of lines as they come
-//!   replay    does the steps of a journal, and compares the reports             `reports`
+//!   replay    does the steps of a journal, and compares the reports
 //!   time      runs its network in simulated time, with delays and changes       `timing`
 //!   explain   prints the page of a number                                       `explanations`
 //! ```
@@ -24,15 +24,16 @@
 //! the program stopped, so that its caller can give advice. Who wants something else of a run gives a [`Keeper`]
 //! to [`run_quietly`]: it gets the fabric at the end.
 //!
-//! A script's commands are done on a `Fabric` (`src/session.rt`). A step is `Fabric::step`. `settle` is the
-//! call `settle` of `control`, which may start threads. A look-up or a trace asks the images in force. Jobs
-//! go to a `Dispatcher`.
+//! A network is opened as a fabric, whose steps are kept, or, with `--no-journal`, as a simulation, which counts them
+//! alone. On either the commands of the script are done, or those of the lines of a shell (`src/lines.rt`).
+//! `src/opening.rt` opens the network, and closes it whatever comes of them. The commands themselves are in `sessions`.
+//! The steps of a journal (`src/replay.rt`) are a simulation's, too.
 //!
 //! What always holds: each command of the command line comes to an end that its definition names, with the
 //! status of that end. Or it stops for a fault that holds of what was read, with the status of that fault
 //! (`IsPlayed` in `specs/Outcomes.antt`). So a run ends with 0 only if its script was done to the end, and
-//! each step that was done was lawful (`IsRunToEnd` in `specs/Runs.antt`). `AreDone` in `specs/Commands.antt`
-//! says what each command does.
+//! each step that was done was lawful (`IsRunToEnd` in `specs/Works.antt`). `AreDone` in
+//! `sessions/specs/Commands.antt` says what each command does.
 //!
 //! What is tricky: a write that fails is lost, and changes nothing else. What is printed is not in these
 //! clauses, but for the texts of single lines. [`play_by`] is the same with other thresholds for threads and
@@ -40,15 +41,12 @@
 #![tactic(auto)]
 
 mod answers;
-mod commands;
-mod options;
+mod lines;
+mod opening;
 mod program;
-mod progress;
-mod session;
-mod shell;
+mod replay;
 
-pub use control::{NO_THRESHOLDS, NoGate, THRESHOLDS, Thresholds, TurnGate};
-pub use dispatch::Host;
 pub use plans::{Cause, Fault, Plan, Source, read_bytes, read_plan, read_text, refuse};
 pub use program::{play, play_by, run_quietly};
 pub use reports::{End, Keeper};
+pub use sessions::{Host, NO_THRESHOLDS, NoGate, THRESHOLDS, Thresholds, TurnGate};

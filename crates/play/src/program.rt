@@ -1,26 +1,20 @@
 //! What the program does, over any readers and writers.
 
-ghost use Rattle.std.specs.Prelude.{◌≡◌, ◌⊎◌, true, IfOk, IfErr, OnOk, vec_len};
-ghost use Rattle.fabric.specs.Writers.{opening_tables};
-ghost use Rattle.plans.specs.Faults.{IsUnanswered, IsWantOfMemory, OfBytes};
-ghost use Rattle.play.specs.Commands.{AreDone, StopsAtCommand};
-ghost use Rattle.play.specs.Runs.{IsRunToEnd, RunsPlan, StopsFor, StopsPlan};
-ghost use Rattle.play.specs.Outcomes.{Ends, IsPlayed, Stops};
+ghost use Rattle.std.specs.Prelude.{◌≡◌, true, false, Some, IfOk, IfErr, OnOk, is_some};
+ghost use Rattle.plans.specs.Faults.{OfBytes};
+ghost use Rattle.reports.specs.Ends.{KeepsJournal};
+ghost use Rattle.play.specs.Works.{Comes, IsOfNothing, IsOfWorkers, IsWorked, Stops, StopsOn, StopsWork, Works, counted as counted_net, is_kept, kept as kept_net, none_kept};
+ghost use Rattle.play.specs.Outcomes.{Ends, IsPlayed, StopsWords};
 
-use crate::options::Options;
-use crate::session::Session;
-use crate::shell::shell;
+use crate::opening::{Hands, Telling, with_fabric, with_simulation};
+use crate::replay::replay;
 use command_line::{Format, Words};
-use control::{Crew, NoGate, THRESHOLDS, Thresholds, TurnGate};
-use dispatch::Host;
-use fabric::{Fabric, FabricName, Unnamed};
 use plans::{Fault, Plan, read_plan, read_text, refuse};
-use reports::{End, JournalText, Keeper, ReplayOptions, check, end_line, replay};
-use script::Command;
+use reports::{End, JournalText, Keeper, check};
+use sessions::{Crew, Host, NoGate, THRESHOLDS, Thresholds, TurnGate};
 use std::alloc::Global;
 use std::io;
-use std::io::{Read, Write};
-use std::marker::Brand;
+use std::io::{Empty, Read, Write};
 use timing::{TimeOptions, time};
 
 /// Does what the words ask for, and answers the exit status. Only a replay, a shell and a run in simulated time
@@ -115,8 +109,10 @@ where
     ensures ok { IfOk result
         (Ends wanted words.now (R.remaining scenario)
         (J.remaining journal) kept.old.items kept.new.items) }
-    ensures fault { IfErr result (Stops words.now (R.remaining scenario) (J.remaining journal)) }
+    ensures fault { IfErr result (StopsWords words.now (R.remaining scenario) (J.remaining journal)) }
 {
+    let (thresholds, gate) = by;
+    let by = (rt, alloc, gate);
     match *words {
         Words::Check {
             file: _,
@@ -130,29 +126,31 @@ where
             explain,
             format,
             progress,
+            no_journal,
         } => {
-            let (thresholds, gate) = by;
-            let options = Options {
-                crew: Crew {
-                    threads,
-                    thresholds,
-                },
-                workers,
+            let telling = Telling {
                 explain,
                 moves: false,
                 format,
                 progress,
             };
-            let mut keeper = JournalText { wanted };
-            run(
-                rt,
-                alloc,
+            if no_journal {
+                return count(by, scenario, telling, None::<J>, out, err);
+            }
+            let crew = Crew {
+                threads,
+                thresholds,
+            };
+            let hands = Hands { crew, workers };
+            keep(
+                by,
                 scenario,
-                options,
-                gate,
+                hands,
+                wanted,
+                telling,
+                None::<J>,
                 out,
                 err,
-                &mut keeper,
                 kept,
             )
         }
@@ -163,12 +161,13 @@ where
             format,
             progress,
         } => {
-            let options = ReplayOptions {
+            let telling = Telling {
                 explain,
+                moves: false,
                 format,
                 progress,
             };
-            replay(rt, alloc, scenario, journal, options, out, err)
+            replay(alloc, scenario, journal, telling, out, err)
         }
         Words::Time {
             file: _,
@@ -189,53 +188,99 @@ where
             journal: _,
             explain,
             format,
+            no_journal,
         } => {
-            let mut keeper = JournalText { wanted };
-            shell(
-                rt,
-                alloc,
-                scenario,
-                journal,
+            let telling = Telling {
                 explain,
+                moves: explain,
                 format,
-                out,
-                err,
-                &mut keeper,
-                kept,
-            )
+                progress: false,
+            };
+            if no_journal {
+                return count(by, scenario, telling, Some(journal), out, err);
+            }
+            let crew = Crew {
+                threads: 1,
+                thresholds,
+            };
+            let hands = Hands { crew, workers: 1 };
+            let typed = Some(journal);
+            keep(by, scenario, hands, wanted, telling, typed, out, err, kept)
         }
     }
 }
 
-// Opens the network of a scenario, does its commands, says how many steps were done, and has kept what is to be
-// kept of the run.
-fn run<H, G, R, W, E, K, V>(
-    rt: &H,
-    alloc: Global,
+// Does the script of a scenario, or the lines that are typed, on a network whose steps are kept, and adds the text of
+// its journal, if it is wanted.
+fn keep<H, G, R, J, W, E>(
+    by: (&H, Global, &G),
     scenario: R,
-    options: Options,
-    gate: &G,
+    hands: Hands,
+    wanted: bool,
+    telling: Telling,
+    typed: Option<J>,
     out: &mut W,
     err: &mut E,
-    keeper: &mut K,
-    kept: &mut V,
+    kept: &mut Vec<u8>,
 ) -> Result<End, Fault>
 where
     H: Host,
     G: TurnGate + Sync,
     R: Read + Drop,
+    J: Read + Drop,
     W: Write,
     E: Write,
-    K: Keeper,
-    V: Write,
-    ensures ok { IfOk result (λ end. (end ≡ End.Done)
-        × OfBytes (R.remaining scenario)
-        (IsRunToEnd (λ d f. K.keeps keeper.old d f (V.contents kept.old) (V.contents kept.new) keeper.new))) }
-    ensures fault { IfErr result (λ e. OfBytes (R.remaining scenario) (λ bytes. StopsFor bytes e)) }
+    ensures ok { IfOk result (λ end. (end ≡ End.Done) × OfBytes (R.remaining scenario)
+        (IsWorked kept_net (Comes (is_some typed))
+        (is_kept (λ d f. KeepsJournal wanted d f (Some kept.old.items) (Some kept.new.items))))) }
+    ensures fault { IfErr result (λ e. OfBytes (R.remaining scenario) (λ bytes.
+        StopsOn kept_net IsOfWorkers (Stops (is_some typed)) bytes e)) }
 {
+    let (rt, alloc, gate) = by;
     let text = read_text(alloc, scenario)?;
     let plan = read_plan(alloc, text.as_str())?;
-    run_plan(rt, alloc, plan, options, gate, out, err, keeper, kept)?;
+    let mut keeper = JournalText { wanted };
+    with_fabric(
+        rt,
+        alloc,
+        plan,
+        hands,
+        gate,
+        telling,
+        typed,
+        out,
+        err,
+        &mut keeper,
+        kept,
+    )?;
+    Ok(End::Done)
+}
+
+// The same on a network whose steps are counted. Nothing is kept.
+fn count<H, G, R, J, W, E>(
+    by: (&H, Global, &G),
+    scenario: R,
+    telling: Telling,
+    typed: Option<J>,
+    out: &mut W,
+    err: &mut E,
+) -> Result<End, Fault>
+where
+    H: Host,
+    G: TurnGate + Sync,
+    R: Read + Drop,
+    J: Read + Drop,
+    W: Write,
+    E: Write,
+    ensures ok { IfOk result (λ end. (end ≡ End.Done) × OfBytes (R.remaining scenario)
+        (IsWorked counted_net (Comes (is_some typed)) none_kept)) }
+    ensures fault { IfErr result (λ e. OfBytes (R.remaining scenario) (λ bytes.
+        StopsOn counted_net IsOfNothing (Stops (is_some typed)) bytes e)) }
+{
+    let (_, alloc, gate) = by;
+    let text = read_text(alloc, scenario)?;
+    let plan = read_plan(alloc, text.as_str())?;
+    with_simulation::<H, G, J, W, E>(alloc, plan, gate, telling, typed, out, err)?;
     Ok(End::Done)
 }
 
@@ -252,15 +297,16 @@ where
     H: Host,
     K: Keeper,
     V: Write,
-    ensures ok { OnOk result (RunsPlan (λ d f. K.keeps keeper.old d f (V.contents kept.old) (V.contents kept.new) keeper.new) plan) }
-    ensures fault { IfErr result (StopsPlan plan) }
+    ensures ok { OnOk result (Works kept_net (Comes false)
+        (is_kept (λ d f. K.keeps keeper.old d f (V.contents kept.old) (V.contents kept.new) keeper.new)) plan) }
+    ensures fault { IfErr result
+        (StopsWork kept_net IsOfWorkers (Stops false) plan) }
 {
-    let options = Options {
-        crew: Crew {
-            threads: 1,
-            thresholds: THRESHOLDS,
-        },
-        workers: 1,
+    let crew = Crew {
+        threads: 1,
+        thresholds: THRESHOLDS,
+    };
+    let telling = Telling {
         explain: false,
         moves: false,
         format: Format::Text,
@@ -268,108 +314,17 @@ where
     };
     let mut out = io::sink();
     let mut err = io::sink();
-    run_plan(
-        rt, alloc, plan, options, &NoGate, &mut out, &mut err, keeper, kept,
+    with_fabric(
+        rt,
+        alloc,
+        plan,
+        Hands { crew, workers: 1 },
+        &NoGate,
+        telling,
+        None::<Empty>,
+        &mut out,
+        &mut err,
+        keeper,
+        kept,
     )
-}
-
-// Does the script of a plan, and has kept what is to be kept of the run.
-fn run_plan<H, G, W, E, K, V>(
-    rt: &H,
-    alloc: Global,
-    plan: Plan,
-    options: Options,
-    gate: &G,
-    out: &mut W,
-    err: &mut E,
-    keeper: &mut K,
-    kept: &mut V,
-) -> Result<(), Fault>
-where
-    H: Host,
-    G: TurnGate + Sync,
-    W: Write,
-    E: Write,
-    K: Keeper,
-    V: Write,
-    ensures ok { OnOk result (RunsPlan (λ d f. K.keeps keeper.old d f (V.contents kept.old) (V.contents kept.new) keeper.new) plan) }
-    ensures fault { IfErr result (StopsPlan plan) }
-{
-    let unnamed = Unnamed::many(alloc, plan.network.routers())?;
-    run_named::<Brand, H, G, W, E, K, V>(
-        rt, alloc, plan, unnamed, options, gate, out, err, keeper, kept,
-    )
-}
-
-// The same, where the network is opened under a name.
-fn run_named<B, H, G, W, E, K, V>(
-    rt: &H,
-    alloc: Global,
-    plan: Plan,
-    unnamed: Vec<Unnamed>,
-    options: Options,
-    gate: &G,
-    out: &mut W,
-    err: &mut E,
-    keeper: &mut K,
-    kept: &mut V,
-) -> Result<(), Fault>
-where
-    B: FabricName + Send + Sync + 'static,
-    H: Host,
-    G: TurnGate + Sync,
-    W: Write,
-    E: Write,
-    K: Keeper,
-    V: Write,
-    requires books { unnamed.items ≡ B.books }
-    requires each { vec_len unnamed ≡ plan.network.routers }
-    requires openings { opening_tables plan.network ≡ B.openings }
-    ensures ok { OnOk result (RunsPlan (λ d f. K.keeps keeper.old d f (V.contents kept.old) (V.contents kept.new) keeper.new) plan) }
-    ensures fault { IfErr result (StopsPlan plan) }
-{
-    let Plan {
-        network,
-        directory,
-        commands,
-    } = plan;
-    let workers = options.workers.max(1).min(16);
-    let (mut fabric, readers) = Fabric::<B>::open(rt, alloc, network, unnamed, workers)?;
-    let ended = match Session::new(rt, alloc, &directory, readers, options, gate) {
-        Ok(session) => run_commands(session, &mut fabric, &commands, out, err, keeper, kept),
-        Err(memory) => Err(Fault::from(memory)),
-    };
-    fabric.close(rt);
-    ended
-}
-
-// Does the commands, and has kept what is to be kept of the run.
-fn run_commands<B, H, G, W, E, K, V>(
-    session: Session<'_, B, H, G>,
-    fabric: &mut Fabric<B>,
-    commands: &[Command],
-    out: &mut W,
-    err: &mut E,
-    keeper: &mut K,
-    kept: &mut V,
-) -> Result<(), Fault>
-where
-    B: FabricName + Send + Sync + 'static,
-    H: Host,
-    G: TurnGate + Sync,
-    W: Write,
-    E: Write,
-    K: Keeper,
-    V: Write,
-    ensures ok { OnOk result (AreDone commands.now fabric.old fabric.new) }
-    ensures keeps { OnOk result (K.keeps keeper.old (session.entry.directory).now
-        fabric.new (V.contents kept.old) (V.contents kept.new) keeper.new) }
-    ensures fault { IfErr result (λ e. StopsAtCommand commands.now fabric.old fabric.new e
-        ⊎ IsUnanswered e ⊎ IsWantOfMemory e) }
-{
-    let mut session = session;
-    let progress = session.options.progress;
-    let done = session.do_commands(fabric, commands, out, err);
-    end_line(progress, err);
-    session.finish(fabric, done, out, keeper, kept)
 }

@@ -7,11 +7,11 @@ use Rattle.command_line.specs.declared.words.Words.TheVariants.{Check, Run, Repl
 -- the scenario
 abbrev pub scenario_of : Words → Option (Bor (List ℕ))
 scenario_of (Check file explain) = Some file
-scenario_of (Run file threads workers journal explain format progress) = Some file
+scenario_of (Run file threads workers journal no_journal explain format progress) = Some file
 scenario_of (Replay file journal explain format progress) = Some file
 scenario_of (Time file times spells explain format) = Some file
 scenario_of (Explain kind) = None
-scenario_of (Shell file journal explain format) = Some file
+scenario_of (Shell file journal no_journal explain format) = Some file
 
 -- the journal that is read: a replay's
 abbrev pub read_journal : Words → Option (Bor (List ℕ))
@@ -25,6 +25,6 @@ read_times _ = None
 
 -- the journal that is written: that of a run or a shell, where it names one
 abbrev pub kept_journal : Words → Option (Bor (List ℕ))
-kept_journal (Run file threads workers journal explain format progress) = journal
-kept_journal (Shell file journal explain format) = journal
+kept_journal (Run file threads workers journal no_journal explain format progress) = journal
+kept_journal (Shell file journal no_journal explain format) = journal
 kept_journal _ = None

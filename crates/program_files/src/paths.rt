@@ -17,6 +17,7 @@ pub fn scenario_path<'a>(words: &Words<'a>) -> Option<&'a str>
             threads: _,
             workers: _,
             journal: _,
+            no_journal: _,
             explain: _,
             format: _,
             progress: _,
@@ -39,6 +40,7 @@ pub fn scenario_path<'a>(words: &Words<'a>) -> Option<&'a str>
         Words::Shell {
             file,
             journal: _,
+            no_journal: _,
             explain: _,
             format: _,
         } => Some(file),
@@ -87,6 +89,7 @@ pub fn kept_path<'a>(words: &Words<'a>) -> Option<&'a str>
             threads: _,
             workers: _,
             journal,
+            no_journal: _,
             explain: _,
             format: _,
             progress: _,
@@ -94,6 +97,7 @@ pub fn kept_path<'a>(words: &Words<'a>) -> Option<&'a str>
         Words::Shell {
             file: _,
             journal: path,
+            no_journal: _,
             explain: _,
             format: _,
         } => path,

@@ -45,6 +45,7 @@ fn is_settled_by<H: Host + Abort>(rt: &H, alloc: Global, threads: u8) {
         threads,
         workers: 1,
         journal: None,
+        no_journal: false,
         explain: false,
         format: Format::Text,
         progress: false,

@@ -17,6 +17,7 @@ pub const RUN: Words<'static> = Words::Run {
     threads: 1,
     workers: 1,
     journal: None,
+    no_journal: false,
     explain: false,
     format: Format::Text,
     progress: false,

@@ -17,6 +17,7 @@ const RUN: Words<'static> = Words::Run {
     threads: 1,
     workers: 1,
     journal: None,
+    no_journal: false,
     explain: true,
     format: Format::Json,
     progress: false,

@@ -7,6 +7,7 @@ use harness::play_in_memory;
 const SHELL: Words<'static> = Words::Shell {
     file: "scenario.toml",
     journal: None,
+    no_journal: false,
     explain: false,
     format: Format::Text,
 };
@@ -14,6 +15,7 @@ const SHELL: Words<'static> = Words::Shell {
 const JSON: Words<'static> = Words::Shell {
     file: "scenario.toml",
     journal: None,
+    no_journal: false,
     explain: true,
     format: Format::Json,
 };

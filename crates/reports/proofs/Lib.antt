@@ -1,4 +1,2 @@
 mod Fronts
 pub mod Printed
-mod Slices
-pub mod Replays

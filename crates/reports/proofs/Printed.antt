@@ -1,5 +1,5 @@
 -- Texts that are printed one after another.
-use Rattle.std.proofs.Common.{◌≡◌, ℕ, subst, [], ◌∷◌, ◌++◌, Option, Some, None, IfSome, Result, Ok, Err, OnOk, Bool, false, is_err, sym, ap, ◌∙◌, true≢false, append-nil}
+use Rattle.std.proofs.Common.{◌≡◌, ℕ, subst, [], ◌∷◌, ◌++◌, Option, Some, None, IfSome, Result, Ok, Err, OnOk, Bool, false, is_err, sym, ◌∙◌, true≢false, append-nil}
 use Rattle.texts.specs.Words.{Text}
 use Rattle.texts.proofs.Printed.{Appends-append}
 use Rattle.std.specs.Fmt.{with_newline}

@@ -5,11 +5,10 @@ use Rattle.std.specs.Io.KnownBytes.{Appends}
 use Rattle.ipv4_prefix.specs.Prefix.{Prefix, prefix_cmp}
 use Rattle.diffusing_replies.specs.Origin.{origin_number}
 use Rattle.network_model.specs.Machine.{Machine}
-use Rattle.network_model.specs.World.{Link, Router}
+use Rattle.network_model.specs.World.{Link, Router, World}
 use Rattle.network_model.specs.declared.route.Entry.{Entry}
 use Rattle.network_model.specs.declared.step.Refusal.{Refusal}
 use Rattle.network_model.specs.declared.step.Refusal.TheVariants.{UnknownRouter}
-use Rattle.fabric.specs.Fabric.{Fabric}
 use Rattle.dual_machine.specs.State.{MachineState}
 use Rattle.texts.specs.Words.{Text}
 use Rattle.texts.specs.Lines.{lines_text}
@@ -21,8 +20,8 @@ use Rattle.script.specs.declared.lines.RouterLine.{RouterLine}
 use Rattle.script.specs.declared.lines.MachineLine.{MachineLine}
 
 -- why nothing is told of a router: it is not there
-abbrev pub unknown_router : Fabric → ℕ → Option Refusal
-unknown_router f router = if nat_lt router (length f.world.routers) then None else Some UnknownRouter
+abbrev pub unknown_router : World → ℕ → Option Refusal
+unknown_router w router = if nat_lt router (length w.routers) then None else Some UnknownRouter
 
 -- what is told of a link
 abbrev pub link_line : Link → LinkLine

@@ -74,7 +74,7 @@ fn add_journal<B: FabricName, W: Write>(
         format: Format::Text,
     };
     if write_steps(directory, links, fabric.journal(), kept).is_err()
-        || print_report(fabric, &printer, kept).is_err()
+        || print_report(fabric.world(), &printer, kept).is_err()
     {
         return Err(NoMemory);
     }

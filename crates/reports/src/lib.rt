@@ -1,4 +1,4 @@
-//! What is told of a network, line by line, and the commands that need no script.
+//! What is told of a network, line by line.
 //!
 //! The problem: a run, a shell and a replay print the same lines, as text or as JSON, and a journal keeps
 //! some of them. If each wrote its own, a replay could not compare them. So the lines of a network are
@@ -12,11 +12,10 @@
 //! - [`check`] says what a scenario holds, or its first fault.
 //! - A [`Keeper`] keeps something of a run that has come to its end. [`JournalText`] keeps the text of its journal,
 //!   with the report.
-//! - [`replay`] does the steps of a journal from the opening of its network, and compares the reports.
 //!
 //! ```text
 //! let printer = Printer { directory: &directory, format: Format::Text };
-//! print_report(&fabric, &printer, &mut out)?;
+//! print_report(fabric.world(), &printer, &mut out)?;
 //!
 //!   link a b up 1 5 5 queued 0 0                  costs from both ends, items to be taken at both
 //!   a gen 1 held 0 ripe 0 attach 0                publications, messages held and ripe, notices
@@ -26,14 +25,11 @@
 //! What always holds: `print` writes the text or the JSON that it is given, by the format (`in_format` in
 //! `specs/Formats.antt`). What is told of a machine is the machine's (`IsMachineLine` in
 //! `specs/Report.antt`). So is what is told of a queue the queue's, and of a gate the gate's
-//! (`specs/Waiting.antt`). A replay that ends `Done` or `Differs` has done all steps of the journal, each
-//! lawful. One that ends `Refused` stopped at a step, for its cause or for want of memory (`Replays` in
-//! `specs/Ends.antt`).
+//! (`specs/Waiting.antt`).
 //!
 //! The statuses ([`End`]): 0 done, 2 a step of the journal was refused, 3 the reports differ.
 //!
-//! What is tricky: both files are read whole before the first step of a replay is done. And no clause says
-//! that a report tells of all links and routers, or if a replay ends with 0 or with 3. The tests do.
+//! What is tricky: no clause says that a report tells of all links and routers. The tests do.
 #![tactic(auto)]
 
 mod checking;
@@ -43,7 +39,6 @@ mod moved;
 mod printer;
 mod progress;
 mod reasons;
-mod replaying;
 mod report;
 mod table;
 mod waiting;
@@ -53,8 +48,7 @@ pub use end::End;
 pub use keeping::{JournalText, Keeper};
 pub use moved::{Moved, moved_by, tell_moved};
 pub use printer::Printer;
-pub use progress::{end_line, tell_commands};
-pub use replaying::{ReplayOptions, replay};
+pub use progress::{end_line, tell_commands, tell_steps};
 pub use report::{print_report, print_state};
 pub use table::show_table;
 pub use waiting::{show_held, show_next, show_queue};

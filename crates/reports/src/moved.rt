@@ -2,10 +2,10 @@
 
 use crate::printer::Printer;
 use command_line::Format;
-use fabric::{Fabric, FabricName, Step};
-use network_model::{Held, Item, Notice};
+use network_model::{Held, Item, Notice, Step};
 use std::io::Write;
 use std::{fmt, io};
+use world::World;
 
 /// What a delivery takes, or a release sends.
 #[derive(Clone, Copy, Debug, PartialEq, Eq)]
@@ -30,8 +30,7 @@ pub enum Moved {
 }
 
 /// What a step is about to take or to send, if it is lawful and does either.
-pub fn moved_by<B: FabricName>(fabric: &Fabric<B>, step: &Step) -> Option<Moved> {
-    let world = fabric.world();
+pub fn moved_by(world: &World, step: &Step) -> Option<Moved> {
     match *step {
         Step::Deliver { router, port } => match world.port(router, port) {
             Some(place) if usize::from(place.link) < world.links().len() => {

@@ -1,16 +1,15 @@
 //! Prints what a network is at: its links, its routers and their machines.
 
-ghost use Rattle.std.specs.Prelude.{◌≡◌, ◌<◌, Err, IsOk, IfSome, OnOk, OnErr, MatchOption, length, slice_get};
+ghost use Rattle.std.specs.Prelude.{◌≡◌, ◌<◌, Err, Some, IsOk, IfOk, IfSome, OnOk, OnErr, MatchOption, length, slice_get};
 ghost use Rattle.reports.specs.Report.{unknown_router};
 ghost use Rattle.reports.specs.Report.{link_line as line_of_link, router_line as line_of_router, IsMachineLine, IsOriginNumber, Prints, PrintsMachine};
 
 use crate::printer::Printer;
 use crate::reasons::print_reasons;
 use dual_machine::{Machine, Mode};
-use fabric::{Fabric, FabricName, Refusal};
 use ipv4_prefix::Prefix;
 use link_fifo::Links;
-use network_model::End;
+use network_model::{End, Refusal};
 use router_core::Router;
 use script::{LinkLine, MachineLine, RouterLine};
 use std::io;
@@ -19,22 +18,19 @@ use world::World;
 
 /// Prints what a router's machine for a prefix is at, on a line, and why, where more is to be told.
 /// Refused with `UnknownRouter`. A write that fails is lost.
-pub fn print_state<B: FabricName, W: Write>(
-    fabric: &Fabric<B>,
+pub fn print_state<W: Write>(
+    world: &World,
     printer: &Printer<'_>,
     router: u16,
     prefix: Prefix,
     explain: bool,
     out: &mut W,
 ) -> Result<(), Refusal>
-    ensures cause { MatchOption (unknown_router fabric.now router) (IsOk result)
+    ensures cause { MatchOption (unknown_router world.now router) (IsOk result)
         (λ e. result ≡ Err e) }
     ensures err { OnErr result (out.new ≡ out.old) }
 {
-    let routers = fabric.world().routers();
-    let found = routers
-        .get(usize::from(router))
-        .ok_or(Refusal::UnknownRouter)?;
+    let found = known_router(world, router)?;
     let _ = print_machine(printer, router, found, prefix, out);
     if explain {
         let _ = print_reasons(printer, router, found, prefix, out);
@@ -42,16 +38,23 @@ pub fn print_state<B: FabricName, W: Write>(
     Ok(())
 }
 
+// The router of this number.
+pub(crate) fn known_router(world: &World, router: u16) -> Result<&Router, Refusal>
+    ensures ok { IfOk result (λ r. slice_get (world.now).routers router ≡ Some r.now) }
+    ensures err { MatchOption (unknown_router world.now router) (IsOk result)
+        (λ e. result ≡ Err e) }
+{
+    let routers = world.routers();
+    routers
+        .get(usize::from(router))
+        .ok_or(Refusal::UnknownRouter)
+}
+
 /// Prints each link, and each router with its machines in the order of their prefixes, a line each, up
 /// to the first write that fails.
-pub fn print_report<B: FabricName, W: Write>(
-    fabric: &Fabric<B>,
-    printer: &Printer<'_>,
-    out: &mut W,
-) -> io::Result<()>
+pub fn print_report<W: Write>(world: &World, printer: &Printer<'_>, out: &mut W) -> io::Result<()>
     ensures { OnOk result (Prints (W.contents out.old) (W.contents out.new)) }
 {
-    let world = fabric.world();
     print_links(printer, world.links(), out)?;
     print_routers(printer, world, out)
 }

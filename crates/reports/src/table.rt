@@ -6,21 +6,23 @@ ghost use Rattle.world.specs.Steps.{CanBeRefused};
 ghost use Rattle.reports.specs.Report.{rows_text, unknown_router};
 
 use crate::printer::Printer;
-use fabric::{Fabric, FabricName, Refusal};
+use crate::report::known_router;
+use network_model::Refusal;
 use route_table::RouteTable;
 use std::io;
 use std::io::Write;
+use world::World;
 
 /// Prints a router's published rows. What it prints may be lost.
-pub fn show_table<B: FabricName, W: Write>(
-    fabric: &Fabric<B>,
+pub fn show_table<W: Write>(
+    world: &World,
     printer: &Printer<'_>,
     router: u16,
     out: &mut W,
 ) -> Result<(), Refusal>
-    ensures { IfErr result (λ e. CanBeRefused (unknown_router fabric.now router) e) }
+    ensures { IfErr result (λ e. CanBeRefused (unknown_router world.now router) e) }
 {
-    let table = fabric.table(router)?;
+    let table = known_router(world, router)?.table();
     let _ = print_table(printer, router, table, out);
     Ok(())
 }

@@ -4,52 +4,54 @@ ghost use Rattle.std.specs.Prelude.{◌≡◌, ◌<◌, ◌++◌, ◌∷◌, [],
 ghost use Rattle.std.specs.Io.KnownBytes.{Appends};
 ghost use Rattle.network_model.specs.World as model;
 ghost use Rattle.world.specs.Steps.{CanBeRefused};
-ghost use Rattle.fabric.specs.Fabric.{next_fabric_step};
+ghost use Rattle.network_model.specs.Turns as turns;
 ghost use Rattle.reports.specs.Report.{unknown_router};
 ghost use Rattle.reports.specs.Waiting.{held_lines, next_line, noticed_lines, queued_lines};
 
 use crate::printer::Printer;
-use fabric::{Fabric, FabricName, Refusal};
+use crate::report::known_router;
 use journal::StepText;
 use link_fifo::Links;
 use metric::Cost;
-use network_model::{End, Held, Item, NoMemory, Notice};
+use network_model::{End, Held, Item, LinkSpec, NoMemory, Notice, Refusal};
 use router_core::Router;
 use std::alloc::Global;
 use std::io;
 use std::io::Write;
 use world::World;
 
-/// Prints what a router has to do next. Refused with `UnknownRouter`. A write that fails is lost.
-pub fn show_next<B: FabricName, W: Write>(
-    fabric: &Fabric<B>,
+/// Prints what a router has to do next, in a network of these links. Refused with `UnknownRouter`. A write that fails is lost.
+pub fn show_next<W: Write>(
+    world: &World,
+    links: &[LinkSpec],
     printer: &Printer<'_>,
     router: u16,
     out: &mut W,
 ) -> Result<(), Refusal>
-    ensures { IfErr result (λ e. CanBeRefused (unknown_router fabric.now router) e) }
+    ensures { IfErr result (λ e. CanBeRefused (unknown_router world.now router) e) }
 {
-    let _known = fabric.table(router)?;
-    let _ = print_next(fabric, printer, router, out);
+    let _known = known_router(world, router)?;
+    let _ = print_next(world, links, printer, router, out);
     Ok(())
 }
 
 // Prints what a router has to do next.
-fn print_next<B: FabricName, W: Write>(
-    fabric: &Fabric<B>,
+fn print_next<W: Write>(
+    world: &World,
+    links: &[LinkSpec],
     printer: &Printer<'_>,
     router: u16,
     out: &mut W,
 ) -> io::Result<()>
     ensures { OnOk result (Appends (W.contents out.old) (W.contents out.new)
-        (next_line printer.now.format printer.now.directory.now fabric.now.network.links router
-        (next_fabric_step fabric.now router) ++ 10 ∷ [])) }
+        (next_line printer.now.format printer.now.directory.now links.now router
+        (turns.next_step world.now router) ++ 10 ∷ [])) }
 {
     let names = printer.directory;
     let name = names.name(Some(router));
-    match fabric.next_step(router) {
+    match world.next_step(router) {
         Some(step) => {
-            let step = StepText::new(names, fabric.network().links(), step);
+            let step = StepText::new(names, links, step);
             printer.print(
                 format_args!("next {name}: {step}"),
                 format_args!("{{\"kind\":\"next\",\"router\":\"{name}\",\"step\":\"{step}\"}}"),
@@ -67,18 +69,17 @@ fn print_next<B: FabricName, W: Write>(
 /// Prints what a router has yet to take from a port, oldest first, a line each: items of a link, or, at
 /// the port that its degree numbers, notices of its own attachments. Refused with `UnknownRouter` and
 /// `NoMemory`. What it prints may be lost.
-pub fn show_queue<B: FabricName, W: Write>(
+pub fn show_queue<W: Write>(
     alloc: Global,
-    fabric: &Fabric<B>,
+    world: &World,
     printer: &Printer<'_>,
     router: u16,
     port: u8,
     out: &mut W,
 ) -> Result<(), Refusal>
-    ensures { IfErr result (λ e. CanBeRefused (unknown_router fabric.now router) e) }
+    ensures { IfErr result (λ e. CanBeRefused (unknown_router world.now router) e) }
 {
-    let _known = fabric.table(router)?;
-    let world = fabric.world();
+    let _known = known_router(world, router)?;
     match world.port(router, port) {
         Some(place) if usize::from(place.link) < world.links().len() => {
             let session = world.links().session(place.link);
@@ -165,19 +166,16 @@ fn print_notices<W: Write>(
 
 /// Prints the messages that a router holds, oldest first, a line each. Refused with `UnknownRouter` and
 /// `NoMemory`. What it prints may be lost.
-pub fn show_held<B: FabricName, W: Write>(
+pub fn show_held<W: Write>(
     alloc: Global,
-    fabric: &Fabric<B>,
+    world: &World,
     printer: &Printer<'_>,
     router: u16,
     out: &mut W,
 ) -> Result<(), Refusal>
-    ensures { IfErr result (λ e. CanBeRefused (unknown_router fabric.now router) e) }
+    ensures { IfErr result (λ e. CanBeRefused (unknown_router world.now router) e) }
 {
-    let routers = fabric.world().routers();
-    let found = routers
-        .get(usize::from(router))
-        .ok_or(Refusal::UnknownRouter)?;
+    let found = known_router(world, router)?;
     let messages = held_messages(alloc, found)?;
     let (ripe, others) = messages.split_at(found.ripe().min(messages.len()));
     if print_held(printer, router, true, ripe, out).is_ok() {

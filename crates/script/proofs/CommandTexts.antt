@@ -1,18 +1,18 @@
 -- What a line asks for, by its first word.
 use Rattle.std.proofs.Common.{◌≡◌, ◌≢◌, ℕ, false, inl, inr, List, [], ◌∷◌, All, Contains, bytes_eq, codes, refl, sym, subst, ◌∙◌, arith}
-use Rattle.script.proofs.Common.{list_any, false≢true, bytes_eq-Decides, All-nil, All-cons, All-contains, list_any_at, Prefix, LinkSpec, Text, NamesRouter, NamesText, AsksDelivery, NamesNoAddress, NamesNoPrefix, NamesThrough, AsksNoStep, AsksNoTrace, AsksTrace, AsksBadQuestion, Asks, address_verbs, HasBadValue, AsksNothing}
+use Rattle.script.proofs.Common.{list_any, false≢true, bytes_eq-Decides, All-nil, All-cons, All-contains, list_any_at, Prefix, LinkSpec, Text, NamesRouter, NamesText, AsksDelivery, NamesNoAddress, NamesNoPrefix, NamesThrough, AsksNoStep, AsksNoTrace, AsksTrace, AsksBadQuestion, Asks, address_verbs, HasBadValue, AsksNothing, AsksDrawn}
 use Rattle.script.specs.declared.command.Command.{Command}
 use Rattle.script.specs.declared.fault.Fault.{Fault}
 use Rattle.script.specs.declared.fault.Fault.TheVariants.{BadName, BadLine, BadCost, BadCommand, TooLarge, NoMemory, Prefix as OfPrefix}
-use Rattle.script.proofs.StepTexts.{clash, first_same, rest_same, no_prefix, no_verb, other_router, other_prefix}
+use Rattle.script.proofs.StepTexts.{clash, first_same, rest_same, no_prefix, no_verb, other_prefix}
 
 -- the words name no router and text after a verb that takes an address
 abbrev pub NamesNone : List Text → List Text → Type 0
 NamesNone names words = (verb : Text) → Contains address_verbs verb → (router : ℕ) (text : Text) → ¬ (NamesText names verb words router text)
 
--- the verbs of the commands that name a router alone and do no step
+-- the verbs of the commands that name a router alone
 abbrev pub router_verbs : List Text
-router_verbs = codes "table" ∷ codes "next" ∷ codes "held" ∷ []
+router_verbs = codes "table" ∷ codes "next" ∷ codes "held" ∷ codes "up" ∷ codes "down" ∷ []
 
 -- the words name no router after such a verb
 abbrev pub NamesNoRouter : List Text → List Text → Type 0
@@ -25,6 +25,10 @@ NamesNoQueue names links words = (after : List Text) → words ≡ codes "queue"
 -- the words name no router and text to trace through
 abbrev pub NamesNoThrough : List Text → List Text → Type 0
 NamesNoThrough names words = (router : ℕ) (text : Text) → ¬ (NamesThrough names words router text)
+
+-- the words are not `settle` and a seed
+abbrev pub NamesNoSeed : List Text → Type 0
+NamesNoSeed words = (seed : ℕ) → ¬ (AsksDrawn words seed)
 
 -- the word is none of the list
 abbrev IsApart : Text → List Text → Type 0
@@ -60,6 +64,10 @@ own_router_verb names verb rest none word among router h =
 no_queue : (names : List Text) (links : List LinkSpec) (verb : Text) (rest : List Text) → bytes_eq verb (codes "queue") ≡ false → NamesNoQueue names links (verb ∷ rest)
 no_queue names links verb rest apart after e = absurd (clash _ _ _ _ apart e)
 
+-- a verb that is not `settle`
+no_seed : (verb : Text) (rest : List Text) → bytes_eq verb (codes "settle") ≡ false → NamesNoSeed (verb ∷ rest)
+no_seed verb rest apart seed h = clash _ _ _ _ apart h.spelled
+
 -- ---- words after `trace`
 
 -- words that are not three ask for no trace where they name no router and address
@@ -84,8 +92,9 @@ module _ (names : List Text) (links : List LinkSpec) (attachments : List (Prefix
       → NamesNoQueue names links (verb ∷ rest)
       → NamesNone names (verb ∷ rest)
       → NamesNoThrough names (verb ∷ rest)
+      → NamesNoSeed (verb ∷ rest)
       → AsksNothing names links attachments (verb ∷ rest) BadCommand
-  no_command verb rest some step tried state routers queue address through = (commands, faults)
+  no_command verb rest some step tried state routers queue address through drawn = (commands, faults)
     where
       single : (word : Text) → verb ∷ rest ≢ word ∷ []
       single word h = some (rest_same _ _ _ _ h)
@@ -93,7 +102,13 @@ module _ (names : List Text) (links : List LinkSpec) (attachments : List (Prefix
       commands : (command : Command) → ¬ (Asks names links attachments (verb ∷ rest) command)
       commands (Command.Step s) h = step.0 s h
       commands (Command.Try s) h = (tried h.0 h.1).0 s h.2
+      commands (Command.RouterUp router) h = routers _ (3, omega arith, refl) router h
+      commands (Command.RouterDown router) h = routers _ (4, omega arith, refl) router h
       commands Command.Settle h = single _ h
+      commands (Command.SettleDrawn seed) h = drawn seed h
+      commands Command.Count h = single _ h
+      commands Command.Save h = single _ h
+      commands Command.Restore h = single _ h
       commands (Command.State router prefix) h = state.0 router prefix h
       commands (Command.Table router) h = routers _ (0, omega arith, refl) router h
       commands (Command.Next router) h = routers _ (1, omega arith, refl) router h
@@ -131,57 +146,63 @@ module _ (names : List Text) (links : List LinkSpec) (attachments : List (Prefix
     state_fault (OfPrefix fault) h = inr (inr (inl h))
     state_fault BadCommand h =
         no_command _ rest some (no_verb names links attachments _ rest refl refl refl refl refl refl refl refl) (λ after e. absurd (clash _ _ _ _ refl e)) h
-        (other_router_verb names _ rest (apart_from _ router_verbs refl)) (no_queue names links _ rest refl) (other_verb names _ rest (apart_from _ address_verbs refl)) (λ router text n. clash _ _ _ _ refl n.spelled)
+        (other_router_verb names _ rest (apart_from _ router_verbs refl)) (no_queue names links _ rest refl) (other_verb names _ rest (apart_from _ address_verbs refl)) (λ router text n. clash _ _ _ _ refl n.spelled) (no_seed _ rest refl)
     state_fault TooLarge h = absurd h
     state_fault NoMemory h = absurd h
 
     pub no_table : ((router : ℕ) → ¬ (NamesRouter names (codes "table") (codes "table" ∷ rest) router)) → AsksNothing names links attachments (codes "table" ∷ rest) BadCommand
     no_table none =
         no_command _ rest some (no_verb names links attachments _ rest refl refl refl refl refl refl refl refl) (λ after e. absurd (clash _ _ _ _ refl e))
-        (other_prefix names links attachments _ _ _ refl) (own_router_verb names _ rest none) (no_queue names links _ rest refl) (other_verb names _ rest (apart_from _ address_verbs refl)) (λ router text n. clash _ _ _ _ refl n.spelled)
+        (other_prefix names links attachments _ _ _ refl) (own_router_verb names _ rest none) (no_queue names links _ rest refl) (other_verb names _ rest (apart_from _ address_verbs refl)) (λ router text n. clash _ _ _ _ refl n.spelled) (no_seed _ rest refl)
 
     pub no_next : ((router : ℕ) → ¬ (NamesRouter names (codes "next") (codes "next" ∷ rest) router)) → AsksNothing names links attachments (codes "next" ∷ rest) BadCommand
     no_next none =
         no_command _ rest some (no_verb names links attachments _ rest refl refl refl refl refl refl refl refl) (λ after e. absurd (clash _ _ _ _ refl e))
-        (other_prefix names links attachments _ _ _ refl) (own_router_verb names _ rest none) (no_queue names links _ rest refl) (other_verb names _ rest (apart_from _ address_verbs refl)) (λ router text n. clash _ _ _ _ refl n.spelled)
+        (other_prefix names links attachments _ _ _ refl) (own_router_verb names _ rest none) (no_queue names links _ rest refl) (other_verb names _ rest (apart_from _ address_verbs refl)) (λ router text n. clash _ _ _ _ refl n.spelled) (no_seed _ rest refl)
 
     pub no_held : ((router : ℕ) → ¬ (NamesRouter names (codes "held") (codes "held" ∷ rest) router)) → AsksNothing names links attachments (codes "held" ∷ rest) BadCommand
     no_held none =
         no_command _ rest some (no_verb names links attachments _ rest refl refl refl refl refl refl refl refl) (λ after e. absurd (clash _ _ _ _ refl e))
-        (other_prefix names links attachments _ _ _ refl) (own_router_verb names _ rest none) (no_queue names links _ rest refl) (other_verb names _ rest (apart_from _ address_verbs refl)) (λ router text n. clash _ _ _ _ refl n.spelled)
+        (other_prefix names links attachments _ _ _ refl) (own_router_verb names _ rest none) (no_queue names links _ rest refl) (other_verb names _ rest (apart_from _ address_verbs refl)) (λ router text n. clash _ _ _ _ refl n.spelled) (no_seed _ rest refl)
 
     pub no_queued : ((router port : ℕ) → ¬ (AsksDelivery names links (codes "deliver" ∷ rest) router port)) → AsksNothing names links attachments (codes "queue" ∷ rest) BadCommand
     no_queued none =
         no_command _ rest some (no_verb names links attachments _ rest refl refl refl refl refl refl refl refl) (λ after e. absurd (clash _ _ _ _ refl e))
         (other_prefix names links attachments _ _ _ refl) (other_router_verb names _ rest (apart_from _ router_verbs refl))
         (λ after e router port. subst (λ (ws : List Text). ¬ (AsksDelivery names links (codes "deliver" ∷ ws) router port)) (rest_same _ _ _ _ e) (none router port))
-        (other_verb names _ rest (apart_from _ address_verbs refl)) (λ router text n. clash _ _ _ _ refl n.spelled)
+        (other_verb names _ rest (apart_from _ address_verbs refl)) (λ router text n. clash _ _ _ _ refl n.spelled) (no_seed _ rest refl)
+
+    pub no_drawn : NamesNoSeed (codes "settle" ∷ rest) → AsksNothing names links attachments (codes "settle" ∷ rest) BadCommand
+    no_drawn none =
+        no_command _ rest some (no_verb names links attachments _ rest refl refl refl refl refl refl refl refl) (λ after e. absurd (clash _ _ _ _ refl e))
+        (other_prefix names links attachments _ _ _ refl) (other_router_verb names _ rest (apart_from _ router_verbs refl)) (no_queue names links _ rest refl)
+        (other_verb names _ rest (apart_from _ address_verbs refl)) (λ router text n. clash _ _ _ _ refl n.spelled) none
 
     -- a verb that takes an address, and is no other, after which neither a router and a text nor a trace through is named
     no_address : (verb : Text) → AsksNoStep names links attachments (verb ∷ rest) BadCommand
-        → bytes_eq verb (codes "try") ≡ false → bytes_eq verb (codes "state") ≡ false → list_any (bytes_eq verb) router_verbs ≡ false → bytes_eq verb (codes "queue") ≡ false
+        → bytes_eq verb (codes "try") ≡ false → bytes_eq verb (codes "state") ≡ false → list_any (bytes_eq verb) router_verbs ≡ false → bytes_eq verb (codes "queue") ≡ false → bytes_eq verb (codes "settle") ≡ false
         → ((router : ℕ) (text : Text) → ¬ (NamesText names verb (verb ∷ rest) router text)) → NamesNoThrough names (verb ∷ rest) → AsksNothing names links attachments (verb ∷ rest) BadCommand
-    no_address verb step tried state routers queue none through =
+    no_address verb step tried state routers queue settle none through =
         no_command verb rest some step (λ after e. absurd (clash _ _ _ _ tried e)) (other_prefix names links attachments _ _ _ state)
-        (other_router_verb names verb rest (apart_from verb router_verbs routers)) (no_queue names links verb rest queue) (own_verb names verb rest none) through
+        (other_router_verb names verb rest (apart_from verb router_verbs routers)) (no_queue names links verb rest queue) (own_verb names verb rest none) through (no_seed verb rest settle)
 
     -- why such a verb, which is not `trace`, asks for nothing
     address_fault : (verb : Text) → Contains address_verbs verb → AsksNoStep names links attachments (verb ∷ rest) BadCommand
-        → bytes_eq verb (codes "try") ≡ false → bytes_eq verb (codes "state") ≡ false → list_any (bytes_eq verb) router_verbs ≡ false → bytes_eq verb (codes "queue") ≡ false → bytes_eq verb (codes "trace") ≡ false
+        → bytes_eq verb (codes "try") ≡ false → bytes_eq verb (codes "state") ≡ false → list_any (bytes_eq verb) router_verbs ≡ false → bytes_eq verb (codes "queue") ≡ false → bytes_eq verb (codes "settle") ≡ false → bytes_eq verb (codes "trace") ≡ false
         → (fault : Fault) → NamesNoAddress names verb (verb ∷ rest) fault → AsksNothing names links attachments (verb ∷ rest) fault
-    address_fault verb among step tried state routers queue trace BadName h = absurd h
-    address_fault verb among step tried state routers queue trace BadLine h = absurd h
-    address_fault verb among step tried state routers queue trace BadCost h = absurd h
-    address_fault verb among step tried state routers queue trace (OfPrefix fault) h = inr (inr (inr (h.0, inl (verb, among, h.1))))
-    address_fault verb among step tried state routers queue trace BadCommand h = no_address verb step tried state routers queue h (λ router text n. clash _ _ _ _ trace n.spelled)
-    address_fault verb among step tried state routers queue trace TooLarge h = absurd h
-    address_fault verb among step tried state routers queue trace NoMemory h = absurd h
+    address_fault verb among step tried state routers queue settle trace BadName h = absurd h
+    address_fault verb among step tried state routers queue settle trace BadLine h = absurd h
+    address_fault verb among step tried state routers queue settle trace BadCost h = absurd h
+    address_fault verb among step tried state routers queue settle trace (OfPrefix fault) h = inr (inr (inr (h.0, inl (verb, among, h.1))))
+    address_fault verb among step tried state routers queue settle trace BadCommand h = no_address verb step tried state routers queue settle h (λ router text n. clash _ _ _ _ trace n.spelled)
+    address_fault verb among step tried state routers queue settle trace TooLarge h = absurd h
+    address_fault verb among step tried state routers queue settle trace NoMemory h = absurd h
 
     pub lookup_fault : (fault : Fault) → NamesNoAddress names (codes "lookup") (codes "lookup" ∷ rest) fault → AsksNothing names links attachments (codes "lookup" ∷ rest) fault
-    lookup_fault = address_fault _ (0, omega arith, refl) (no_verb names links attachments _ rest refl refl refl refl refl refl refl refl) refl refl refl refl refl
+    lookup_fault = address_fault _ (0, omega arith, refl) (no_verb names links attachments _ rest refl refl refl refl refl refl refl refl) refl refl refl refl refl refl
 
     pub inject_fault : (fault : Fault) → NamesNoAddress names (codes "inject") (codes "inject" ∷ rest) fault → AsksNothing names links attachments (codes "inject" ∷ rest) fault
-    inject_fault = address_fault _ (1, omega arith, refl) (no_verb names links attachments _ rest refl refl refl refl refl refl refl refl) refl refl refl refl refl
+    inject_fault = address_fault _ (1, omega arith, refl) (no_verb names links attachments _ rest refl refl refl refl refl refl refl refl) refl refl refl refl refl refl
 
     pub trace_fault : (fault : Fault) → AsksNoTrace names (codes "trace" ∷ rest) fault → AsksNothing names links attachments (codes "trace" ∷ rest) fault
     trace_fault BadName h = absurd h
@@ -189,7 +210,7 @@ module _ (names : List Text) (links : List LinkSpec) (attachments : List (Prefix
     trace_fault BadCost h = absurd h
     trace_fault (OfPrefix fault) (is, inl h) = inr (inr (inr (is, inl (codes "trace", (2, omega arith, refl), h))))
     trace_fault (OfPrefix fault) (is, inr h) = inr (inr (inr (is, inr h)))
-    trace_fault BadCommand h = no_address _ (no_verb names links attachments _ rest refl refl refl refl refl refl refl refl) refl refl refl refl h.0 h.1
+    trace_fault BadCommand h = no_address _ (no_verb names links attachments _ rest refl refl refl refl refl refl refl refl) refl refl refl refl refl h.0 h.1
     trace_fault TooLarge h = absurd h
     trace_fault NoMemory h = absurd h
 
@@ -197,7 +218,13 @@ module _ (names : List Text) (links : List LinkSpec) (attachments : List (Prefix
     pub trace_asks : (command : Command) → AsksTrace names (codes "trace" ∷ rest) command → Asks names links attachments (codes "trace" ∷ rest) command
     trace_asks (Command.Step s) h = absurd h
     trace_asks (Command.Try s) h = absurd h
+    trace_asks (Command.RouterUp router) h = absurd h
+    trace_asks (Command.RouterDown router) h = absurd h
     trace_asks Command.Settle h = absurd h
+    trace_asks (Command.SettleDrawn seed) h = absurd h
+    trace_asks Command.Count h = absurd h
+    trace_asks Command.Save h = absurd h
+    trace_asks Command.Restore h = absurd h
     trace_asks (Command.State router prefix) h = absurd h
     trace_asks (Command.Table router) h = absurd h
     trace_asks (Command.Next router) h = absurd h
@@ -210,15 +237,39 @@ module _ (names : List Text) (links : List LinkSpec) (attachments : List (Prefix
     trace_asks Command.Drain h = absurd h
     trace_asks Command.Report h = absurd h
 
+    -- why a verb that takes a router or two, and names no router alone, asks for nothing
+    links_fault : (verb : Text) → bytes_eq verb (codes "try") ≡ false → bytes_eq verb (codes "state") ≡ false → bytes_eq verb (codes "queue") ≡ false → bytes_eq verb (codes "trace") ≡ false
+        → bytes_eq verb (codes "settle") ≡ false → list_any (bytes_eq verb) address_verbs ≡ false → ((router : ℕ) → ¬ (NamesRouter names verb (verb ∷ rest) router))
+        → (fault : Fault) → AsksNoStep names links attachments (verb ∷ rest) fault → AsksNothing names links attachments (verb ∷ rest) fault
+    links_fault verb tried state queue trace settle address none BadName h = inl h
+    links_fault verb tried state queue trace settle address none BadLine h = inl h
+    links_fault verb tried state queue trace settle address none BadCost h = inl h
+    links_fault verb tried state queue trace settle address none (OfPrefix fault) h = inl h
+    links_fault verb tried state queue trace settle address none BadCommand h =
+        no_command verb rest some h (λ after e. absurd (clash _ _ _ _ tried e)) (other_prefix names links attachments _ _ _ state)
+        (own_router_verb names verb rest none) (no_queue names links verb rest queue) (other_verb names verb rest (apart_from verb address_verbs address)) (λ router text n. clash _ _ _ _ trace n.spelled) (no_seed verb rest settle)
+    links_fault verb tried state queue trace settle address none TooLarge h = inl h
+    links_fault verb tried state queue trace settle address none NoMemory h = inl h
+
+    pub up_fault : ((router : ℕ) → ¬ (NamesRouter names (codes "up") (codes "up" ∷ rest) router))
+        → (fault : Fault) → AsksNoStep names links attachments (codes "up" ∷ rest) fault → AsksNothing names links attachments (codes "up" ∷ rest) fault
+    up_fault = links_fault _ refl refl refl refl refl refl
+
+    pub down_fault : ((router : ℕ) → ¬ (NamesRouter names (codes "down") (codes "down" ∷ rest) router))
+        → (fault : Fault) → AsksNoStep names links attachments (codes "down" ∷ rest) fault → AsksNothing names links attachments (codes "down" ∷ rest) fault
+    down_fault = links_fault _ refl refl refl refl refl refl
+
   -- a fault of the step that a line asks for, where its first word is the verb of no other command
   module _ (verb : Text) (rest : List Text) (some : rest ≢ [])
-      (tried : verb ≢ codes "try") (state : verb ≢ codes "state") (table : verb ≢ codes "table") (next : verb ≢ codes "next") (queue : verb ≢ codes "queue") (held : verb ≢ codes "held") (lookup : verb ≢ codes "lookup") (inject : verb ≢ codes "inject") (trace : verb ≢ codes "trace") where
+      (tried : verb ≢ codes "try") (up : verb ≢ codes "up") (down : verb ≢ codes "down") (settle : verb ≢ codes "settle") (state : verb ≢ codes "state") (table : verb ≢ codes "table") (next : verb ≢ codes "next") (queue : verb ≢ codes "queue") (held : verb ≢ codes "held") (lookup : verb ≢ codes "lookup") (inject : verb ≢ codes "inject") (trace : verb ≢ codes "trace") where
     no_step_command : AsksNoStep names links attachments (verb ∷ rest) BadCommand → AsksNothing names links attachments (verb ∷ rest) BadCommand
     no_step_command none =
         no_command verb rest some none (λ after e. absurd (tried (first_same _ _ _ _ e)))
         (no_prefix names attachments _ _ (λ router text h. absurd (state (first_same _ _ _ _ h.spelled))))
-        (other_router_verb names verb rest (All-cons (λ w. verb ≢ w) _ (codes "next" ∷ codes "held" ∷ []) table (All-cons (λ w. verb ≢ w) _ (codes "held" ∷ []) next (All-cons (λ w. verb ≢ w) _ [] held (All-nil (λ w. verb ≢ w)))))) (λ after e. absurd (queue (first_same _ _ _ _ e)))
+        (other_router_verb names verb rest (All-cons (λ w. verb ≢ w) _ (codes "next" ∷ codes "held" ∷ codes "up" ∷ codes "down" ∷ []) table (All-cons (λ w. verb ≢ w) _ (codes "held" ∷ codes "up" ∷ codes "down" ∷ []) next
+        (All-cons (λ w. verb ≢ w) _ (codes "up" ∷ codes "down" ∷ []) held (All-cons (λ w. verb ≢ w) _ (codes "down" ∷ []) up (All-cons (λ w. verb ≢ w) _ [] down (All-nil (λ w. verb ≢ w)))))))) (λ after e. absurd (queue (first_same _ _ _ _ e)))
         (other_verb names verb rest (All-cons (λ w. verb ≢ w) _ (codes "inject" ∷ codes "trace" ∷ []) lookup (All-cons (λ w. verb ≢ w) _ (codes "trace" ∷ []) inject (All-cons (λ w. verb ≢ w) _ [] trace (All-nil (λ w. verb ≢ w)))))) (λ router text n. trace (first_same _ _ _ _ n.spelled))
+        (λ seed n. settle (first_same _ _ _ _ n.spelled))
 
     pub step_fault : (fault : Fault) → AsksNoStep names links attachments (verb ∷ rest) fault → AsksNothing names links attachments (verb ∷ rest) fault
     step_fault BadName h = inl h

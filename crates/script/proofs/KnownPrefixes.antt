@@ -1,6 +1,6 @@
 -- The prefixes of a network.
-use Rattle.std.proofs.Common.{◌≡◌, ◌≢◌, ℕ, ◌^◌, ◌<◌, true, false, List, [], Some, Contains, Result, Ok, Err, refl, sym, ap, subst, ◌∙◌}
-use Rattle.script.proofs.Common.{list_any, false≢true, Any-from_list_any, list_any_at, Prefix, prefix_eq, SpellsPrefix, IsFirstFault, PrefixFault, prefix_eq-Decides, Text, router_number, AreWords, AttachmentLine, IsKnownPrefix}
+use Rattle.std.proofs.Common.{◌≡◌, ℕ, true, false, List, Contains, Result, Ok, Err, refl, sym, ap, subst, ◌∙◌}
+use Rattle.script.proofs.Common.{list_any, false≢true, Any-from_list_any, list_any_at, Prefix, prefix_eq, SpellsPrefix, IsFirstFault, PrefixFault, prefix_eq-Decides, Text, IsKnownPrefix}
 use Rattle.script.proofs.StepTexts.{IsStrange}
 
 module _ (attachments : List (Prefix × ℕ × ℕ)) (prefix : Prefix) where

@@ -221,11 +221,22 @@ AsksNoStep names links attachments words fault = AsksBadStep names links words f
 abbrev pub AsksQueue : List Text → List LinkSpec → List Text → ℕ → ℕ → Type 0
 AsksQueue names links words router port = (after : List Text) × (words ≡ codes "queue" ∷ after) × AsksDelivery names links (codes "deliver" ∷ after) router port
 
+-- the words are `settle`, `--seed`, and the decimal text of a number of 32 bits
+pub record AsksDrawn (words : List Text) (seed : ℕ) : Type 0 where
+  pub spelled : words ≡ codes "settle" ∷ codes "--seed" ∷ decimal seed ∷ []
+  pub small : seed < 2 ^ 32
+
 -- the words ask for the command
 abbrev pub Asks : List Text → List LinkSpec → List (Prefix × ℕ × ℕ) → List Text → Command → Type 0
 Asks names links attachments words (Command.Step step) = AsksStep names links attachments words step
 Asks names links attachments words (Command.Try step) = Tries (λ after. AsksStep names links attachments after step) words
+Asks names links attachments words (Command.RouterUp router) = NamesRouter names (codes "up") words router
+Asks names links attachments words (Command.RouterDown router) = NamesRouter names (codes "down") words router
 Asks names links attachments words Command.Settle = words ≡ codes "settle" ∷ []
+Asks names links attachments words (Command.SettleDrawn seed) = AsksDrawn words seed
+Asks names links attachments words Command.Count = words ≡ codes "count" ∷ []
+Asks names links attachments words Command.Save = words ≡ codes "save" ∷ []
+Asks names links attachments words Command.Restore = words ≡ codes "restore" ∷ []
 Asks names links attachments words (Command.State router prefix) = NamesPrefix names attachments (codes "state") words router prefix
 Asks names links attachments words (Command.Table router) = NamesRouter names (codes "table") words router
 Asks names links attachments words (Command.Next router) = NamesRouter names (codes "next") words router

@@ -1,8 +1,8 @@
 //! The lines of the script.
 
-ghost use Rattle.std.specs.Prelude.{◌≡◌, ◌≢◌, [], ◌∷◌, ◌⊎◌, IfOk, IfErr, OnOk, codes};
+ghost use Rattle.std.specs.Prelude.{◌≡◌, ◌≢◌, ℕ, [], ◌∷◌, ◌⊎◌, IfOk, IfErr, OnOk, codes};
 ghost use Rattle.texts.specs.Words.{Text, words_of, texts};
-ghost use Rattle.script.specs.Commands.{Asks, AsksNoTrace, AsksNothing, AsksTrace, IsCommand, IsCommandFault, NamesAddress, NamesNoAddress};
+ghost use Rattle.script.specs.Commands.{Asks, AsksDrawn, AsksNoStep, AsksNoTrace, AsksNothing, AsksTrace, IsCommand, IsCommandFault, NamesAddress, NamesNoAddress};
 ghost use Rattle.script.specs.Reading.{StopsHere, ReadsFirst, IsWhole};
 
 use crate::fault::Fault;
@@ -13,7 +13,7 @@ use crate::step::{read_port, read_step};
 use ipv4_prefix::{Prefix, parse_addr};
 use metric::Cost;
 use network_model::{LinkSpec, Step};
-use texts::{first_word, three_words};
+use texts::{first_word, read_number, three_words, two_words};
 
 /// One command of a script. Routers go by their numbers, from 0.
 #[derive(Clone, Copy, Debug, PartialEq, Eq)]
@@ -22,8 +22,20 @@ pub enum Command {
     Step(Step),
     /// Do the step, and print whether it was refused.
     Try(Step),
+    /// Put up each link of the router that is down, in ascending order of the links.
+    RouterUp { router: u16 },
+    /// Take down each link of the router that is up, in ascending order of the links.
+    RouterDown { router: u16 },
     /// Do what the routers have to do until nothing is left.
     Settle,
+    /// Settle in an order that the seed draws.
+    SettleDrawn { seed: u32 },
+    /// Print how many steps were done, and how many messages of each kind sent, since the last count.
+    Count,
+    /// Keep the state of the network, in place of the one that was kept before.
+    Save,
+    /// Go back to the state that was kept.
+    Restore,
     /// Print what the router's machine for the prefix is at.
     State { router: u16, prefix: Prefix },
     /// Print the router's published rows.
@@ -76,10 +88,11 @@ pub(crate) fn read_commands(
     Ok(())
 }
 
-/// The command that a line says: a step, `try STEP`, `settle`, `state A PREFIX`, `table A`, `next A`,
-/// `queue A B`, `held A`, `lookup A ADDR`, `inject A ADDR`, `trace A ADDR`, `trace A ADDR --through`,
-/// `drain` or `report`. A `BadCommand` comes before the fault of a cost, a prefix or an address, but a
-/// prefix that the scenario does not have is a `BadCommand` after all others.
+/// The command that a line says: a step, `try STEP`, `up A`, `down A`, `settle`, `settle --seed N`,
+/// `count`, `save`, `restore`, `state A PREFIX`, `table A`, `next A`, `queue A B`, `held A`,
+/// `lookup A ADDR`, `inject A ADDR`, `trace A ADDR`, `trace A ADDR --through`, `drain` or `report`. A
+/// `BadCommand` comes before the fault of a cost, a prefix or an address, but a prefix that the
+/// scenario does not have is a `BadCommand` after all others.
 pub fn read_command(
     names: &Names,
     links: &[LinkSpec],
@@ -98,13 +111,20 @@ pub fn read_command(
 // The command that a line of one word says.
 fn read_word(word: &str) -> Result<Command, Fault>
     ensures ok { IfOk result (λ c. ((c ≡ Command.Settle) × (word.now ≡ codes "settle"))
+        ⊎ ((c ≡ Command.Count) × (word.now ≡ codes "count"))
+        ⊎ ((c ≡ Command.Save) × (word.now ≡ codes "save"))
+        ⊎ ((c ≡ Command.Restore) × (word.now ≡ codes "restore"))
         ⊎ ((c ≡ Command.Drain) × (word.now ≡ codes "drain"))
         ⊎ ((c ≡ Command.Report) × (word.now ≡ codes "report"))) }
     ensures err { IfErr result (λ e. (e ≡ Fault.BadCommand) × (word.now ≢ codes "settle")
+        × (word.now ≢ codes "count") × (word.now ≢ codes "save") × (word.now ≢ codes "restore")
         × (word.now ≢ codes "drain") × (word.now ≢ codes "report")) }
 {
     match word {
         "settle" => Ok(Command::Settle),
+        "count" => Ok(Command::Count),
+        "save" => Ok(Command::Save),
+        "restore" => Ok(Command::Restore),
         "drain" => Ok(Command::Drain),
         "report" => Ok(Command::Report),
         _ => Err(Fault::BadCommand),
@@ -129,6 +149,18 @@ fn read_words(
             let (verb, operands) = first_word(operands).ok_or(Fault::BadCommand)?;
             let step = read_step(names, links, attachments, verb, operands)?;
             Ok(Command::Try(step))
+        }
+        "up" => match names.number(operands) {
+            Some(router) => Ok(Command::RouterUp { router }),
+            None => read_step_command(names, links, attachments, verb, operands),
+        },
+        "down" => match names.number(operands) {
+            Some(router) => Ok(Command::RouterDown { router }),
+            None => read_step_command(names, links, attachments, verb, operands),
+        },
+        "settle" => {
+            let seed = read_seed(operands)?;
+            Ok(Command::SettleDrawn { seed })
         }
         "state" => {
             let (router, prefix) = read_prefix(names, attachments, operands)?;
@@ -159,11 +191,38 @@ fn read_words(
             Ok(Command::Inject { router, addr })
         }
         "trace" => read_trace(names, operands),
-        _ => {
-            let step = read_step(names, links, attachments, verb, operands)?;
-            Ok(Command::Step(step))
-        }
+        _ => read_step_command(names, links, attachments, verb, operands),
     }
+}
+
+// The step that a verb and its operands ask for, as a command.
+fn read_step_command(
+    names: &Names,
+    links: &[LinkSpec],
+    attachments: &[(Prefix, u16, Cost)],
+    verb: &str,
+    operands: &str,
+) -> Result<Command, Fault>
+    ensures ok { IfOk result (Asks names.now links.now attachments.now
+        (verb.now ∷ words_of operands.now)) }
+    ensures err { IfErr result
+        (AsksNoStep names.now links.now attachments.now (verb.now ∷ words_of operands.now)) }
+{
+    let step = read_step(names, links, attachments, verb, operands)?;
+    Ok(Command::Step(step))
+}
+
+// The seed that the operands of `settle` name.
+fn read_seed(operands: &str) -> Result<u32, Fault>
+    ensures ok { IfOk result (AsksDrawn (codes "settle" ∷ words_of operands.now)) }
+    ensures err { IfErr result (λ e. (e ≡ Fault.BadCommand) × ((seed : ℕ)
+        → ¬ (AsksDrawn (codes "settle" ∷ words_of operands.now) seed))) }
+{
+    let (option, number) = two_words(operands).ok_or(Fault::BadCommand)?;
+    if option != "--seed" {
+        return Err(Fault::BadCommand);
+    }
+    read_number(number).ok_or(Fault::BadCommand)
 }
 
 // The trace that the operands of `trace` ask for.

@@ -34,6 +34,7 @@
 //! - In a command, an unknown name or link is `45 BadCommand`. It comes before the fault of a cost or an
 //!   address, but a prefix that the scenario does not have comes last.
 //! - `deliver a a` asks for the port of a's own attachments, which has the number after its last link's.
+//! - `up a` and `down a` ask for all links of a, and are no steps. So `try up a` is a `45 BadCommand`.
 #![tactic(auto)]
 
 mod attachment;

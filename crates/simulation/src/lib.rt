@@ -30,7 +30,7 @@ mod watch;
 
 pub use network_model::{Answer, Ending, Entry, NoMemory, Prefix, Refusal, Step};
 pub use sent::Sent;
-pub use settling::Order;
+pub use settling::{Order, Turns};
 pub use simulation::Simulation;
 pub use tracing::Traced;
 pub use tree_bitmap::Image;

@@ -93,6 +93,9 @@ fn do_words<H: Host>(
         scenario,
         journal,
     );
+    // Where two outputs are right, it may be the other.
+    let counted = case.wanted.other.is_some()
+        || is_alike_counted(wait, alloc, asked, scenario, journal, &outcome);
     if let (Some(file), Some(fault)) = (file_to_explain(asked), outcome.fault) {
         let faulty = Faulty {
             file,
@@ -108,10 +111,11 @@ fn do_words<H: Host>(
         outcome,
         words,
         replay,
+        counted,
     })
 }
 
-// The status of the replay of a run or a shell that came to its end, else 0.
+// The status of the replay of a run or a shell that kept its steps and came to its end, else 0.
 fn replay_status<H: Host>(
     wait: &H,
     alloc: Global,
@@ -125,6 +129,7 @@ fn replay_status<H: Host>(
             threads: _,
             workers: _,
             journal: _,
+            no_journal: false,
             explain: _,
             format: _,
             progress: _,
@@ -132,6 +137,7 @@ fn replay_status<H: Host>(
         Words::Shell {
             file,
             journal: _,
+            no_journal: false,
             explain: _,
             format: _,
         } => Some(file),
@@ -150,6 +156,61 @@ fn replay_status<H: Host>(
         }
         _ => 0,
     }
+}
+
+// Whether a run by one thread, or a shell, gives the same if its steps are counted and not kept. One that saves is
+// another then.
+fn is_alike_counted<H: Host>(
+    wait: &H,
+    alloc: Global,
+    asked: &Words<'_>,
+    scenario: &[u8],
+    journal: &[u8],
+    ran: &Outcome,
+) -> bool {
+    let counted = match *asked {
+        Words::Run {
+            file,
+            threads: 1,
+            workers: _,
+            journal: _,
+            explain,
+            format,
+            progress,
+            no_journal: false,
+        } => Words::Run {
+            file,
+            threads: 1,
+            workers: 1,
+            journal: None,
+            explain,
+            format,
+            progress,
+            no_journal: true,
+        },
+        Words::Shell {
+            file,
+            journal: _,
+            explain,
+            format,
+            no_journal: false,
+        } => Words::Shell {
+            file,
+            journal: None,
+            explain,
+            format,
+            no_journal: true,
+        },
+        _ => return true,
+    };
+    let again = play_in_memory(wait, alloc, &counted, scenario, journal);
+    let is_same = again.status == ran.status && again.out == ran.out && again.err == ran.err;
+    is_same || tells_of_saving(&ran.out) || tells_of_saving(&ran.err)
+}
+
+// Whether a text tells that a run with a journal saves nothing.
+fn tells_of_saving(text: &[u8]) -> bool {
+    str::from_utf8(text).is_ok_and(|text| text.contains("54 JournalKept"))
 }
 
 // What the program gives where its command line asks for nothing that can be done.
@@ -172,6 +233,7 @@ fn tell_refusal(alloc: Global, error: &Error) -> Result<Given, AllocError> {
         outcome,
         words: String::new(alloc),
         replay: 0,
+        counted: true,
     })
 }
 

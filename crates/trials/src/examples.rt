@@ -37,6 +37,7 @@ fn try_example<H: Host>(rt: &HostRuntime, wait: &H, scenario: &str) -> io::Resul
         threads: 1,
         workers: 1,
         journal: None,
+        no_journal: false,
         explain: false,
         format: Format::Text,
         progress: false,
@@ -57,6 +58,7 @@ fn try_example<H: Host>(rt: &HostRuntime, wait: &H, scenario: &str) -> io::Resul
     let shell = Words::Shell {
         file: scenario,
         journal: None,
+        no_journal: false,
         explain: false,
         format: Format::Text,
     };

@@ -16,7 +16,7 @@ use Rattle.journal.specs.declared.read.Version.{Version}
 use Rattle.plans.specs.declared.plan.Plan.{Plan}
 use Rattle.plans.specs.Scenarios.{network_read}
 use Rattle.plans.proofs.Planned.{IsPlanned}
-use Rattle.reports.specs.Ends.{IsJournalOf}
+use Rattle.play.specs.Replays.{IsJournalOf}
 use Rattle.run_states.specs.declared.fault.StatesFault.{StatesFault}
 use Rattle.run_states.specs.Told.{IsStatesText}
 use Rattle.view.specs.Page.{page_text}

@@ -11,8 +11,8 @@ use Rattle.script.specs.Reading.{Parts}
 use Rattle.journal.specs.declared.read.Version.{Version}
 use Rattle.plans.specs.Faults.{Gives}
 use Rattle.plans.specs.Scenarios.{IsScenario, network_read}
-use Rattle.reports.specs.Ends.{RunsWhole}
-use Rattle.play.specs.Runs.{IsRunToEnd}
+use Rattle.play.specs.Replays.{RunsWhole}
+use Rattle.play.specs.Works.{IsRunToEnd}
 use Rattle.timed_simulation.specs.Timed.{Timed}
 use Rattle.timing.specs.declared.times.Times.{Times}
 use Rattle.timing.specs.Times.{IsTimes}

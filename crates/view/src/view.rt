@@ -6,7 +6,7 @@ ghost use Rattle.network_model.specs.World as model;
 ghost use Rattle.network_model.specs.Run.{Runs};
 ghost use Rattle.texts.specs.Words.{Text};
 ghost use Rattle.plans.specs.Faults.{Gives, OfBytes, most_bytes};
-ghost use Rattle.play.specs.Runs.{IsRunToEnd};
+ghost use Rattle.play.specs.Works.{IsRunToEnd};
 ghost use Rattle.coming_to_rest.specs.Worlds.{is_own};
 ghost use Rattle.timed_simulation.specs.Timed.{Timed};
 ghost use Rattle.timing.specs.Steps.{RunsInSteps};

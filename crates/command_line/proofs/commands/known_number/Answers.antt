@@ -4,5 +4,5 @@ use Rattle.command_line.proofs.commands.known_number.Goals as goal
 
 pub returns : goal.returns
 returns c =
-    narrowed c.value_parser.result c.range.result _ _ (pos 1) (pos 52) c.value_parser.ensures
+    narrowed c.value_parser.result c.range.result _ _ (pos 1) (pos 55) c.value_parser.ensures
     (ap Some c.new.ensures.start) (ap Some c.new.ensures.end) c.range.ensures

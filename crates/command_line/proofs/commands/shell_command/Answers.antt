@@ -14,6 +14,7 @@ returns c =
     ) in
     let one = one_more c.after_help.result c.in_ok-arg.field-0 c.scenario_arg.result _ _ none c.in_ok-arg.ensures c.scenario_arg.ensures.rule c.scenario_arg.ensures.local in
     let two = one_more c.in_ok-arg.field-0 c.in_ok-arg-2.field-0 c.journal_arg.result _ _ one c.in_ok-arg-2.ensures c.journal_arg.ensures.rule c.journal_arg.ensures.local in
-    let three = one_more c.in_ok-arg-2.field-0 c.in_ok-arg-3.field-0 c.explain_arg.result _ _ two c.in_ok-arg-3.ensures c.explain_arg.ensures.rule c.explain_arg.ensures.local in
-    IfOk-weaker c.arg-4.result _ _
-    (λ m added. one_more c.in_ok-arg-3.field-0 m c.format_arg.result _ _ three added c.format_arg.ensures.rule c.format_arg.ensures.local) c.arg-4.ensures
+    let three = one_more c.in_ok-arg-2.field-0 c.in_ok-arg-3.field-0 c.no_journal_arg.result _ _ two c.in_ok-arg-3.ensures c.no_journal_arg.ensures.rule c.no_journal_arg.ensures.local in
+    let four = one_more c.in_ok-arg-3.field-0 c.in_ok-arg-4.field-0 c.explain_arg.result _ _ three c.in_ok-arg-4.ensures c.explain_arg.ensures.rule c.explain_arg.ensures.local in
+    IfOk-weaker c.arg-5.result _ _
+    (λ m added. one_more c.in_ok-arg-4.field-0 m c.format_arg.result _ _ four added c.format_arg.ensures.rule c.format_arg.ensures.local) c.arg-5.ensures

@@ -99,7 +99,7 @@ pub returns-clause-run : goal.returns-clause-run
 returns-clause-run c file is =
     let met = seen_as (subcommand_rows_of c.in_ok-matches.matches) (app_of c.in_ok-command.command) (word_texts c.args.words.now) _ c.in_ok-command.ensures is.spelled
     (c.in_ok-matches.ensures.ok.2 (ap is_simple c.in_ok-command.ensures ∙ is_plain)).1 in
-    absurd (c.in-None.ensures.none (Run (given file) 1 1 None false ForPeople false) (run_asks (subcommand_rows_of c.in_ok-matches.matches) file (met ∙ run_met is.name file is.no_option)))
+    absurd (c.in-None.ensures.none (Run (given file) 1 1 None false false ForPeople false) (run_asks (subcommand_rows_of c.in_ok-matches.matches) file (met ∙ run_met is.name file is.no_option)))
 
 pub returns-clause-replay : goal.returns-clause-replay
 returns-clause-replay c file journal is =

@@ -12,7 +12,7 @@ returns-in-None g c =
     let old = g.W.Write.contents c.args.out.now in
     let new = g.W.Write.contents c.print-in-None.new.out in
     subst (λ step. OnOk c.print-in-None.result (Appends old new
-    (next_line format c.args.printer.now.directory.now c.args.fabric.now.network.links c.args.router step ++ 10 ∷ [])))
+    (next_line format c.args.printer.now.directory.now c.args.links.now c.args.router step ++ 10 ∷ [])))
     (sym c.in-None.is ∙ c.next_step.ensures)
     (on_ok_weaker c.print-in-None.result (λ printed.
     subst (λ name. Appends old new (in_format format

@@ -1,9 +1,9 @@
-use Rattle.std.proofs.Common.{◌∷◌, codes, refl}
+use Rattle.std.proofs.Common.{◌∷◌, codes, refl, sym}
 use Rattle.std.proofs.lemmas.Result.{IfErr-weaker, IfOk-weaker}
-use Rattle.script.proofs.Common.{words_of, Asks, AsksNoTrace, AsksNothing, AsksTrace, words-some}
+use Rattle.script.proofs.Common.{words_of, Asks, AsksNoStep, AsksNoTrace, AsksNothing, AsksTrace, words-some}
 use Rattle.script.proofs.Exits.{at_err}
 use Rattle.script.proofs.StepTexts.{names_router, names_no_router}
-use Rattle.script.proofs.CommandTexts.{state_fault, no_table, no_next, no_queued, no_held, lookup_fault, inject_fault, trace_asks, trace_fault, step_fault}
+use Rattle.script.proofs.CommandTexts.{state_fault, no_table, no_next, no_queued, no_held, lookup_fault, inject_fault, trace_asks, trace_fault, step_fault, no_drawn, up_fault, down_fault}
 use Rattle.script.proofs.command.read_words.Goals as goal
 
 pub returns-in_err-router-in-state-clause-err : goal.returns-in_err-router-in-state-clause-err
@@ -60,11 +60,40 @@ returns-in_err-router-in-queue-clause-err c =
     at_err c.from_residual-in_err-router-in-queue.result (AsksNothing c.args.names.now c.args.links.now c.args.attachments.now (c.args.verb.now ∷ words_of c.args.operands.now)) c.in_err-router-in-queue.field-0.0 c.from_residual-in_err-router-in-queue.ensures.1
     (rw (none.0, c.in-queue.is) (no_queued c.args.names.now c.args.links.now c.args.attachments.now (words_of c.args.operands.now) (words-some c.args.operands.now) none.1))
 
-pub returns-in_err-step-in_default-clause-err : goal.returns-in_err-step-in_default-clause-err
-returns-in_err-step-in_default-clause-err c =
-    at_err c.from_residual-in_err-step-in_default.result (AsksNothing c.args.names.now c.args.links.now c.args.attachments.now (c.args.verb.now ∷ words_of c.args.operands.now)) c.in_err-step-in_default.field-0.0 c.from_residual-in_err-step-in_default.ensures.1
-    (step_fault c.args.names.now c.args.links.now c.args.attachments.now c.args.verb.now (words_of c.args.operands.now) (words-some c.args.operands.now)
-    c.in_default.not-try c.in_default.not-state c.in_default.not-table c.in_default.not-next c.in_default.not-queue c.in_default.not-held c.in_default.not-lookup c.in_default.not-inject c.in_default.not-trace c.in_err-step-in_default.field-0.0 c.in_err-step-in_default.ensures.err)
+pub returns-in-Some-clause-ok : goal.returns-in-Some-clause-ok
+returns-in-Some-clause-ok c =
+    rw c.in-up.is (names_router c.args.names.now (codes "up") c.args.operands.now c.in-Some.router (sym c.in-Some.ensures.value) c.in-Some.ensures.name)
+
+pub returns-in-Some-number-clause-ok : goal.returns-in-Some-number-clause-ok
+returns-in-Some-number-clause-ok c =
+    rw c.in-down.is (names_router c.args.names.now (codes "down") c.args.operands.now c.in-Some-number.router (sym c.in-Some-number.ensures.value) c.in-Some-number.ensures.name)
+
+pub returns-in-None-clause-err : goal.returns-in-None-clause-err
+returns-in-None-clause-err c =
+    let rest = words_of c.args.operands.now in
+    rw c.in-up.is (IfErr-weaker c.read_step_command.result (AsksNoStep c.args.names.now c.args.links.now c.args.attachments.now (codes "up" ∷ rest)) (AsksNothing c.args.names.now c.args.links.now c.args.attachments.now (codes "up" ∷ rest))
+    (up_fault c.args.names.now c.args.links.now c.args.attachments.now rest (words-some c.args.operands.now) (λ router h. names_no_router c.args.names.now (codes "up") c.args.operands.now router (sym c.in-None.ensures.value) h))
+    (rw c.in-up.is at c.read_step_command.ensures.err))
+
+pub returns-in-None-number-clause-err : goal.returns-in-None-number-clause-err
+returns-in-None-number-clause-err c =
+    let rest = words_of c.args.operands.now in
+    rw c.in-down.is (IfErr-weaker c.read_step_command-in-None-number.result (AsksNoStep c.args.names.now c.args.links.now c.args.attachments.now (codes "down" ∷ rest)) (AsksNothing c.args.names.now c.args.links.now c.args.attachments.now (codes "down" ∷ rest))
+    (down_fault c.args.names.now c.args.links.now c.args.attachments.now rest (words-some c.args.operands.now) (λ router h. names_no_router c.args.names.now (codes "down") c.args.operands.now router (sym c.in-None-number.ensures.value) h))
+    (rw c.in-down.is at c.read_step_command-in-None-number.ensures.err))
+
+pub returns-in_err-seed-in-settle-clause-err : goal.returns-in_err-seed-in-settle-clause-err
+returns-in_err-seed-in-settle-clause-err c =
+    let none = c.in_err-seed-in-settle.ensures.err in
+    at_err c.from_residual-in_err-seed-in-settle.result (AsksNothing c.args.names.now c.args.links.now c.args.attachments.now (c.args.verb.now ∷ words_of c.args.operands.now)) c.in_err-seed-in-settle.field-0.0 c.from_residual-in_err-seed-in-settle.ensures.1
+    (rw (none.0, c.in-settle.is) (no_drawn c.args.names.now c.args.links.now c.args.attachments.now (words_of c.args.operands.now) (words-some c.args.operands.now) none.1))
+
+pub returns-in_default-clause-err : goal.returns-in_default-clause-err
+returns-in_default-clause-err c =
+    let rest = words_of c.args.operands.now in
+    IfErr-weaker c.read_step_command-in_default.result (AsksNoStep c.args.names.now c.args.links.now c.args.attachments.now (c.args.verb.now ∷ rest)) (AsksNothing c.args.names.now c.args.links.now c.args.attachments.now (c.args.verb.now ∷ rest))
+    (step_fault c.args.names.now c.args.links.now c.args.attachments.now c.args.verb.now rest (words-some c.args.operands.now)
+    c.in_default.not-try c.in_default.not-up c.in_default.not-down c.in_default.not-settle c.in_default.not-state c.in_default.not-table c.in_default.not-next c.in_default.not-queue c.in_default.not-held c.in_default.not-lookup c.in_default.not-inject c.in_default.not-trace) c.read_step_command-in_default.ensures.err
 
 pub returns-in_ok-router-in-state-clause-ok : goal.returns-in_ok-router-in-state-clause-ok
 returns-in_ok-router-in-state-clause-ok c = rw c.in-state.is (c.in_ok-router-in-state.ensures.ok (codes "state"))

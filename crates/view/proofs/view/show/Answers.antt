@@ -1,5 +1,5 @@
 use Rattle.std.proofs.Common.{◌∙◌, false, is_some, string_bytes, subst, sym}
-use Rattle.play.specs.Runs.{IsRunToEnd}
+use Rattle.play.specs.Works.{IsRunToEnd}
 use Rattle.view.specs.Shown.{IsRunShown, IsShown}
 use Rattle.view.proofs.view.show.Goals as goal
 

@@ -1,6 +1,6 @@
 use Rattle.std.proofs.Common.{[], subst, take}
 use Rattle.plans.proofs.Planned.{IsPlanned}
-use Rattle.reports.proofs.Replays.{journal_of}
+use Rattle.play.proofs.Replays.{journal_of}
 use Rattle.view.specs.Shown.{IsWritten}
 use Rattle.view.proofs.Written.{CameTo, shown_whole}
 use Rattle.view.proofs.view.show_journal.Goals as goal

@@ -1,0 +1,84 @@
+-- How replays end.
+use Rattle.std.proofs.Common.{◌≡◌, ℕ, ◌≤◌, ◌⊎◌, inl, inr, Option, List, length, take, refl, ap, subst, ◌∙◌}
+use Rattle.packet_loops.proofs.Common.{Prefix, LinkSpec, opening, Runs}
+use Rattle.network_model.specs.declared.step.Step.{Step}
+use Rattle.network_model.specs.World.{World}
+use Rattle.texts.specs.Words.{Text}
+use Rattle.journal.specs.declared.fault.JournalFault.{JournalFault}
+use Rattle.journal.specs.declared.fault.JournalFault.TheVariants.{NoMemory as NoMemoryForJournal}
+use Rattle.journal.specs.declared.read.Version.{Version}
+use Rattle.journal.specs.declared.read.Version.TheVariants.{Two}
+use Rattle.journal.specs.Journal.{IsJournal, IsJournalFault as IsJournalFault}
+use Rattle.plans.specs.declared.fault.Cause.{Cause}
+use Rattle.plans.specs.declared.fault.Fault.{Fault}
+use Rattle.plans.specs.declared.fault.Cause.TheVariants.{Journal as OfJournal}
+use Rattle.plans.specs.declared.plan.Plan.{Plan}
+use Rattle.plans.specs.Faults.{unplaced, IsWantOfMemory, CannotRead, Gives, most_bytes}
+use Rattle.plans.specs.Scenarios.{network_read}
+use Rattle.plans.proofs.Planned.{IsPlanned}
+use Rattle.reports.specs.declared.end.End.{End}
+use Rattle.reports.specs.declared.end.End.TheVariants.{Done, Refused, Differs}
+use Rattle.play.specs.Replays.{IsJournalOf, Replays, RunsWhole, StepsReplay, StopsReplay}
+
+-- the journal is one of the scenario's network
+pub journal_of : (text lines given : Text) (plan : Plan) (names : List Text) (links : List LinkSpec) (attachments : List (Prefix × ℕ × ℕ)) (version : Version) (steps : List Step) (report : Text) → length text ≤ most_bytes → (planned : IsPlanned text plan)
+    → names ≡ plan.directory.names → links ≡ plan.network.links → attachments ≡ plan.network.attachments → given ≡ lines → IsJournal names links attachments given version steps report → IsJournalOf text lines planned.0 version steps
+journal_of text lines given plan names links attachments version steps report short planned names_are links_are attachments_are same journal = record {
+  short = short;
+  scenario = planned.1;
+  report = report;
+  journal =
+      subst (λ ls. IsJournal planned.0.names planned.0.links planned.0.attachments ls version steps report) same
+      (subst (λ xs. IsJournal planned.0.names planned.0.links xs given version steps report) (attachments_are ∙ ap (λ n. n.attachments) planned.2.network)
+      (subst (λ ks. IsJournal planned.0.names ks attachments given version steps report) (links_are ∙ ap (λ n. n.links) planned.2.network)
+      (subst (λ ns. IsJournal ns links attachments given version steps report) (names_are ∙ ap (λ d. d.names) planned.2.directory) journal)));
+}
+
+-- a replay of its steps is one of the journal
+pub replay_ends : (text lines : Text) (plan : Plan) (planned : IsPlanned text plan) (version : Version) (steps : List Step) (f g : World) (end : End) → IsJournalOf text lines planned.0 version steps
+    → f ≡ opening plan.network → StepsReplay version steps f g end → Replays text lines end
+replay_ends text lines plan planned version steps f g end journal opened replays = by_end end replays
+  where
+    from : (ss : List Step) → Runs f ss g → Runs (opening (network_read planned.0)) ss g
+    from ss runs = subst (λ w. Runs w ss g) (opened ∙ ap opening planned.2.network) runs
+
+    whole : (v : Version) → IsJournalOf text lines planned.0 v steps → Runs f steps g → RunsWhole text lines v
+    whole v is_journal runs = record { parts = planned.0; steps = steps; is_journal = is_journal; world = g; runs = from steps runs }
+
+    by_end : (end : End) → StepsReplay version steps f g end → Replays text lines end
+    by_end Done runs = (version, whole version journal runs)
+    by_end Refused stops = record { parts = planned.0; version = version; steps = steps; is_journal = journal; done = stops.0; world = g; runs = from (take stops.0 steps) stops.2; refused = stops.1; stops = stops.3 }
+    by_end Differs differs = whole Two (subst (λ v. IsJournalOf text lines planned.0 v steps) differs.0 journal) differs.1
+
+-- a replay that has not enough memory
+pub stops_memory : (text : Text) (known : Option Text) (fault : Fault) → IsWantOfMemory fault → StopsReplay text known fault
+stops_memory text known fault memory = inl (inr (inl memory))
+
+-- a journal whose reader fails
+pub stops_unread : (text : Text) (known : Option Text) (plan : Plan) (cause : Cause) → length text ≤ most_bytes → IsPlanned text plan → CannotRead cause → StopsReplay text known (unplaced cause)
+stops_unread text known plan cause short planned cannot = inr (short, (planned.0, planned.1, inl (refl, cannot)))
+
+-- what is not a journal of the scenario's network
+pub stops_journal : (text lines given : Text) (known : Option Text) (plan : Plan) (names : List Text) (links : List LinkSpec) (attachments : List (Prefix × ℕ × ℕ)) (e : JournalFault) (fault : Fault) → length text ≤ most_bytes
+    → IsPlanned text plan → Gives known lines → names ≡ plan.directory.names → links ≡ plan.network.links → attachments ≡ plan.network.attachments → given ≡ lines → fault ≡ unplaced (OfJournal e)
+    → (e ≡ NoMemoryForJournal) ⊎ IsJournalFault names links attachments given e → StopsReplay text known fault
+stops_journal text lines given known plan names links attachments e fault short planned gives names_are links_are attachments_are same is (inl memory) =
+    inl (inr (inl (rw (is, memory) (record { memory = refl; unplaced = refl }))))
+stops_journal text lines given known plan names links attachments e fault short planned gives names_are links_are attachments_are same is (inr why) =
+    inr (
+      short,
+      (
+        planned.0,
+        planned.1,
+        inr (
+          lines,
+          gives,
+          e,
+          subst (λ ls. IsJournalFault planned.0.names planned.0.links planned.0.attachments ls e) same
+              (subst (λ xs. IsJournalFault planned.0.names planned.0.links xs given e) (attachments_are ∙ ap (λ n. n.attachments) planned.2.network)
+              (subst (λ ks. IsJournalFault planned.0.names ks attachments given e) (links_are ∙ ap (λ n. n.links) planned.2.network)
+              (subst (λ ns. IsJournalFault ns links attachments given e) (names_are ∙ ap (λ d. d.names) planned.2.directory) why))),
+          is,
+        ),
+      ),
+    )

@@ -1,0 +1,49 @@
+-- What is done on the network of the plan of a text is done on the network of the text.
+use Rattle.std.specs.Prelude.{⊤}
+use Rattle.std.proofs.Common.{Result, Ok, Err, OnOk, ◌≡◌, ◌≤◌, inl, inr, List, length, ap, subst, ◌∙◌}
+use Rattle.network_model.specs.World.{Network}
+use Rattle.either.specs.declared.Either.TheVariants.{Left}
+use Rattle.fabric.specs.Fabric.{Fabric, opening_fabric}
+use Rattle.texts.specs.Words.{Text}
+use Rattle.script.specs.Directories.{Directory}
+use Rattle.script.specs.declared.command.Command.{Command}
+use Rattle.plans.specs.declared.fault.Fault.{Fault}
+use Rattle.plans.specs.declared.plan.Plan.{Plan}
+use Rattle.plans.specs.Faults.{most_bytes}
+use Rattle.plans.specs.Scenarios.{network_read}
+use Rattle.plans.proofs.Planned.{IsPlanned}
+use Rattle.sessions.specs.Nets.{Net}
+use Rattle.play.specs.Works.{IsWorked, StopsOn, StopsThere, StopsWork, Works, is_kept, kept}
+
+module _ (opened : Network → Net) (text : Text) (plan : Plan) (short : length text ≤ most_bytes) (planned : IsPlanned text plan) where
+  pub worked : (Comes : List Command → Net → Net → Type 0) (Keeps : Directory → Net → Type 0) → Works opened Comes Keeps plan → IsWorked opened Comes Keeps text
+  worked Comes Keeps works = record {
+    short = short;
+    parts = planned.0;
+    scenario = planned.1;
+    after = works.0;
+    done = subst (λ cs. Comes cs (opened (network_read planned.0)) works.0) planned.2.commands (subst (λ n. Comes plan.commands.items (opened n) works.0) planned.2.network works.1);
+    keeps = subst (λ d. Keeps d works.0) planned.2.directory works.2;
+  }
+
+  pub stopped : (Early : Fault → Type 0) (Stops : List Command → Net → Net → Fault → Type 0) (fault : Fault) → StopsWork opened Early Stops plan fault → StopsOn opened Early Stops text fault
+  stopped Early Stops fault (inl memory) = inl (inr (inl memory))
+  stopped Early Stops fault (inr (inl early)) = inr (inl early)
+  stopped Early Stops fault (inr (inr there)) = inr (inr (record {
+    short = short;
+    parts = planned.0;
+    scenario = planned.1;
+    after = there.0;
+    stops = subst (λ cs. Stops cs (opened (network_read planned.0)) there.0 fault) planned.2.commands (subst (λ n. Stops plan.commands.items (opened n) there.0 fault) planned.2.network there.1);
+  }))
+
+-- what came of the commands on a fabric, and of what was to be kept of it
+pub works_kept : (Done : List Command → Net → Net → Type 0) (Keeps : Directory → Fabric → Type 0) (plan : Plan) (d : Directory) (f g : Fabric) (done r : Result ⊤ Fault) (cs : List Command) → d ≡ plan.directory
+    → f ≡ opening_fabric plan.network → cs ≡ plan.commands.items → OnOk done (Done cs (Left f) (Left g)) → OnOk r ((done ≡ Ok tt) × Keeps d g) → OnOk r (Works kept Done (is_kept Keeps) plan)
+works_kept Done Keeps plan d f g done (Err e) cs names opens commands comes keeps = tt
+works_kept Done Keeps plan d f g done (Ok x) cs names opens commands comes keeps = (
+  Left g,
+  subst (λ (h : Fabric). Done plan.commands.items (Left h) (Left g)) opens
+      (subst (λ (xs : List Command). Done xs (Left f) (Left g)) commands (subst (λ q. OnOk q (Done cs (Left f) (Left g))) keeps.0 comes)),
+  subst (λ (e : Directory). Keeps e g) names keeps.1,
+)

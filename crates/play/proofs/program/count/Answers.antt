@@ -1,0 +1,23 @@
+use Rattle.std.proofs.Common.{string_bytes, refl, is_some, Some}
+use Rattle.script.proofs.Exits.{at_err}
+use Rattle.plans.specs.Faults.{OfBytes}
+use Rattle.plans.proofs.Planned.{IsPlanned}
+use Rattle.play.specs.Works.{Comes, IsOfNothing, Stops, StopsOn, counted, none_kept}
+use Rattle.play.proofs.Working.{stopped, worked}
+use Rattle.play.proofs.program.count.Goals as goal
+
+pub returns-clause-ok : goal.returns-clause-ok
+returns-clause-ok g c =
+    let text = string_bytes c.in_ok-text.text in
+    let plan = c.in_ok-plan.plan in
+    let planned : IsPlanned text plan = rw (← c.as_str.ensures.value) c.in_ok-plan.ensures.ok in
+    (refl, (text, c.in_ok-text.ensures.whole, worked counted text plan c.in_ok-text.ensures.short planned (Comes (is_some c.args.typed)) none_kept c.in_ok-with_simulation.ensures.ok))
+
+pub returns-in_err-with_simulation-clause-fault : goal.returns-in_err-with_simulation-clause-fault
+returns-in_err-with_simulation-clause-fault g c =
+    let text = string_bytes c.in_ok-text.text in
+    let plan = c.in_ok-plan.plan in
+    let planned : IsPlanned text plan = rw (← c.as_str.ensures.value) c.in_ok-plan.ensures.ok in
+    at_err c.from_residual-in_err-with_simulation.result (λ e. OfBytes (g.R.Read.remaining c.args.scenario) (λ bytes. StopsOn counted IsOfNothing (Stops (is_some c.args.typed)) bytes e)) c.in_err-with_simulation.field-0.0
+    c.from_residual-in_err-with_simulation.ensures.1
+    (text, c.in_ok-text.ensures.whole, stopped counted text plan c.in_ok-text.ensures.short planned IsOfNothing (Stops (is_some c.args.typed)) c.in_err-with_simulation.field-0.0 c.in_err-with_simulation.ensures.fault)

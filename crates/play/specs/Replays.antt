@@ -1,0 +1,75 @@
+-- How a replay ends.
+use Rattle.std.specs.Prelude.{◌≡◌, ℕ, ◌≤◌, ◌⊎◌, nat_lt, if◌then◌else◌, List, Option, Some, None, length, take}
+use Rattle.network_model.specs.declared.step.Step.{Step}
+use Rattle.network_model.specs.declared.step.Refusal.{Refusal}
+use Rattle.network_model.specs.declared.step.Refusal.TheVariants.{JournalFull}
+use Rattle.network_model.specs.Journal.{most_steps}
+use Rattle.network_model.specs.Step.{refusal}
+use Rattle.network_model.specs.World.{World, opening}
+use Rattle.network_model.specs.Run.{Runs}
+use Rattle.world.specs.Steps.{StopsAt}
+use Rattle.texts.specs.Words.{Text}
+use Rattle.script.specs.Reading.{Parts}
+use Rattle.journal.specs.declared.fault.JournalFault.{JournalFault}
+use Rattle.journal.specs.declared.read.Version.{Version}
+use Rattle.journal.specs.declared.read.Version.TheVariants.{Two}
+use Rattle.journal.specs.Journal.{IsJournal, IsJournalFault as IsJournalFault}
+use Rattle.plans.specs.declared.fault.Fault.{Fault}
+use Rattle.plans.specs.declared.fault.Cause.TheVariants.{Journal as OfJournal}
+use Rattle.reports.specs.declared.end.End.{End}
+use Rattle.reports.specs.declared.end.End.TheVariants.{Done, Refused, Differs}
+use Rattle.plans.specs.Faults.{unplaced, most_bytes, Gives, CannotRead}
+use Rattle.plans.specs.Scenarios.{IsScenario, StopsReading, network_read}
+
+-- why a step of a journal is refused, of which so many were done: a journal has no place for more, or as the world refuses it
+abbrev pub replay_refusal : World → ℕ → Step → Option Refusal
+replay_refusal w done s = if nat_lt done most_steps then refusal w s else Some JournalFull
+
+-- the lines are the journal of these steps, of a version and of the network of a scenario
+pub record IsJournalOf (bytes lines : Text) (parts : Parts) (version : Version) (steps : List Step) : Type 0 where
+  pub short : length bytes ≤ most_bytes
+  pub scenario : IsScenario bytes parts
+  pub report : Text
+  pub journal : IsJournal parts.names parts.links parts.attachments lines version steps report
+
+-- all steps of the journal of this version were done, each of them lawful
+pub record RunsWhole (bytes lines : Text) (version : Version) : Type 0 where
+  pub parts : Parts
+  pub steps : List Step
+  pub is_journal : IsJournalOf bytes lines parts version steps
+  pub world : World
+  pub runs : Runs (opening (network_read parts)) steps world
+
+-- the steps of the journal before one that is refused were done
+pub record RunsToRefusal (bytes lines : Text) : Type 0 where
+  pub parts : Parts
+  pub version : Version
+  pub steps : List Step
+  pub is_journal : IsJournalOf bytes lines parts version steps
+  pub done : ℕ
+  pub world : World
+  pub runs : Runs (opening (network_read parts)) (take done steps) world
+  pub refused : Refusal
+  pub stops : StopsAt (replay_refusal world done) steps done refused
+
+-- how a replay of these steps of a journal of this version ends, from one world to the other: a report of the first version never differs
+abbrev pub StepsReplay : Version → List Step → World → World → End → Type 0
+StepsReplay version steps w v Done = Runs w steps v
+StepsReplay version steps w v Refused = (done : ℕ) × (e : Refusal) × Runs w (take done steps) v × StopsAt (replay_refusal v done) steps done e
+StepsReplay version steps w v Differs = (version ≡ Two) × Runs w steps v
+
+-- how a replay ends: a report of the first version never differs
+abbrev pub Replays : Text → Text → End → Type 0
+Replays bytes lines Done = (version : Version) × RunsWhole bytes lines version
+Replays bytes lines Refused = RunsToRefusal bytes lines
+Replays bytes lines Differs = RunsWhole bytes lines Two
+
+-- why a journal of the network of a scenario, which is read first, is not read: its reader fails, memory runs out, or it is no such journal
+abbrev pub StopsJournal : Text → Option Text → Fault → Type 0
+StopsJournal bytes journal fault = (parts : Parts) × IsScenario bytes parts × (
+    ((fault.place ≡ None) × CannotRead fault.cause)
+    ⊎ ((lines : Text) × Gives journal lines × (e : JournalFault) × IsJournalFault parts.names parts.links parts.attachments lines e × (fault ≡ unplaced (OfJournal e))))
+
+-- why a replay is not begun: for its scenario, or else for its journal
+abbrev pub StopsReplay : Text → Option Text → Fault → Type 0
+StopsReplay bytes journal fault = StopsReading bytes fault ⊎ ((length bytes ≤ most_bytes) × StopsJournal bytes journal fault)

@@ -1,0 +1,313 @@
+//! Opens a network, has a script or a shell done on it, and closes it.
+
+ghost use Rattle.std.specs.Prelude.{◌≡◌, ◌⊎◌, true, Ok, Err, IfOk, IfErr, OnOk, is_some, vec_len};
+ghost use Rattle.fabric.specs.Writers.{opening_tables};
+ghost use Rattle.either.specs.Either.{is_left};
+ghost use Rattle.either.specs.declared.Either.TheVariants.{Left as KeptNet, Right as CountedNet};
+ghost use Rattle.plans.specs.Faults.{IsUnanswered, IsWantOfMemory};
+ghost use Rattle.play.specs.Works.{Comes, IsOfNothing, IsOfWorkers, Stops, StopsWork, Works, counted as counted_net, is_kept, kept as kept_net, none_kept};
+
+use crate::lines::do_lines;
+use command_line::Format;
+use either::Either;
+use fabric::{Fabric, FabricName, Unnamed};
+use json_lines::EndLine;
+use plans::{Cause, Fault, Plan};
+use reports::{Keeper, end_line};
+use script::{Command, Directory};
+use sessions::{Counted, Crew, Host, Kept, Live, Session, TurnGate, do_commands, steps};
+use std::alloc::Global;
+use std::io::{Read, Write};
+use std::marker::Brand;
+use worker_pool::PoolFault;
+
+/// What is told of a script or a shell, and how.
+#[derive(Clone, Copy, Debug, PartialEq, Eq)]
+pub struct Telling {
+    /// Whether more is told of a machine's state, and of what cannot be done.
+    pub explain: bool,
+    /// Whether it is told what each step takes or sends.
+    pub moves: bool,
+    /// How what is printed is written.
+    pub format: Format,
+    /// Whether it is told how far a script is.
+    pub progress: bool,
+}
+
+impl Telling {
+    /// The session of a network whose routers have these names.
+    pub fn session<'a, G>(
+        &self,
+        alloc: Global,
+        gate: &'a G,
+        directory: &'a Directory,
+    ) -> Session<'a, G>
+        ensures { (result.directory).now ≡ directory.now }
+    {
+        Session {
+            alloc,
+            gate,
+            directory,
+            format: self.format,
+            explain: self.explain,
+            moves: self.moves,
+            progress: self.progress,
+        }
+    }
+}
+
+/// By what a network runs whose steps are kept.
+#[derive(Clone, Copy, Debug, PartialEq, Eq)]
+pub struct Hands {
+    /// The threads that let the routers take their turns, where they settle.
+    pub crew: Crew,
+    /// How many workers answer the packets that a script injects: 1 to 16.
+    pub workers: u8,
+}
+
+/// Opens a plan's network as a fabric, does its script, or the lines that are typed, and has kept what is to be kept
+/// of its steps.
+pub fn with_fabric<H, G, J, W, E, K, V>(
+    rt: &H,
+    alloc: Global,
+    plan: Plan,
+    hands: Hands,
+    gate: &G,
+    telling: Telling,
+    typed: Option<J>,
+    out: &mut W,
+    err: &mut E,
+    keeper: &mut K,
+    kept: &mut V,
+) -> Result<(), Fault>
+where
+    H: Host,
+    G: TurnGate + Sync,
+    J: Read + Drop,
+    W: Write,
+    E: Write,
+    K: Keeper,
+    V: Write,
+    ensures ok { OnOk result (Works kept_net (Comes (is_some typed))
+        (is_kept (λ d f. K.keeps keeper.old d f (V.contents kept.old) (V.contents kept.new) keeper.new)) plan) }
+    ensures fault { IfErr result (StopsWork kept_net IsOfWorkers
+        (Stops (is_some typed)) plan) }
+{
+    let unnamed = Unnamed::many(alloc, plan.network.routers())?;
+    with_named::<Brand, H, G, J, W, E, K, V>(
+        rt, alloc, plan, unnamed, hands, gate, telling, typed, out, err, keeper, kept,
+    )
+}
+
+// The same, where the network is opened under a name.
+fn with_named<B, H, G, J, W, E, K, V>(
+    rt: &H,
+    alloc: Global,
+    plan: Plan,
+    unnamed: Vec<Unnamed>,
+    hands: Hands,
+    gate: &G,
+    telling: Telling,
+    typed: Option<J>,
+    out: &mut W,
+    err: &mut E,
+    keeper: &mut K,
+    kept: &mut V,
+) -> Result<(), Fault>
+where
+    B: FabricName + Send + Sync + 'static,
+    H: Host,
+    G: TurnGate + Sync,
+    J: Read + Drop,
+    W: Write,
+    E: Write,
+    K: Keeper,
+    V: Write,
+    requires books { unnamed.items ≡ B.books }
+    requires each { vec_len unnamed ≡ plan.network.routers }
+    requires openings { opening_tables plan.network ≡ B.openings }
+    ensures ok { OnOk result (Works kept_net (Comes (is_some typed))
+        (is_kept (λ d f. K.keeps keeper.old d f (V.contents kept.old) (V.contents kept.new) keeper.new)) plan) }
+    ensures fault { IfErr result (StopsWork kept_net IsOfWorkers
+        (Stops (is_some typed)) plan) }
+{
+    let Plan {
+        network,
+        directory,
+        commands,
+    } = plan;
+    let workers = hands.workers.max(1).min(16);
+    let (fabric, readers) = Fabric::<B>::open(rt, alloc, network, unnamed, workers)?;
+    let session = telling.session(alloc, gate, &directory);
+    match Kept::new(*rt, alloc, hands.crew, fabric, readers) {
+        Ok(live) => {
+            let (fabric, done) = finish_kept(&session, live, typed, &commands, out, err);
+            let ended = keep(done, &fabric, &directory, keeper, kept);
+            fabric.close(rt);
+            ended
+        }
+        Err((fabric, memory)) => {
+            fabric.close(rt);
+            Err(Fault::from(memory))
+        }
+    }
+}
+
+// Does the script or the lines on a network whose steps are kept, and waits for the workers. No worker is left
+// running, whatever came of it.
+fn finish_kept<B, H, G, J, W, E>(
+    session: &Session<'_, G>,
+    kept: Kept<B, H>,
+    typed: Option<J>,
+    commands: &[Command],
+    out: &mut W,
+    err: &mut E,
+) -> (Fabric<B>, Result<(), Fault>)
+where
+    B: FabricName + Send + Sync + 'static,
+    H: Host,
+    G: TurnGate + Sync,
+    J: Read + Drop,
+    W: Write,
+    E: Write,
+    ensures ok { OnOk result.1 (Comes (is_some typed) commands.now (KeptNet kept) (KeptNet result.0)) }
+    ensures fault { IfErr result.1 (λ e. Stops (is_some typed) commands.now (KeptNet kept)
+        (KeptNet result.0) e ⊎ IsUnanswered e) }
+{
+    let mut live: Live<B, H> = Either::Left(kept);
+    let done = do_all(session, &mut live, typed, commands, out, err);
+    let (fabric, answered) = close_kept(live);
+    match (done, answered) {
+        (Ok(()), Err(fault)) => (fabric, Err(Fault::from(Cause::Workers(fault)))),
+        (done, _) => (fabric, done),
+    }
+}
+
+// Waits for the workers of a network whose steps are kept, and hands its fabric back, and why they did not answer the
+// last jobs, if they did not.
+fn close_kept<B, H>(live: Live<B, H>) -> (Fabric<B>, Result<(), PoolFault>)
+where
+    B: FabricName + Send + Sync + 'static,
+    H: Host,
+    requires { is_left live ≡ true }
+    ensures { KeptNet result.0 ≡ live }
+{
+    match live {
+        Either::Left(kept) => kept.close(),
+        Either::Right(_) => unreachable!(),
+    }
+}
+
+// Has kept what is to be kept of the steps, if all was done.
+fn keep<B: FabricName, K: Keeper, V: Write>(
+    done: Result<(), Fault>,
+    fabric: &Fabric<B>,
+    directory: &Directory,
+    keeper: &mut K,
+    kept: &mut V,
+) -> Result<(), Fault>
+    ensures ok { OnOk result ((done ≡ Ok tt) × K.keeps keeper.old directory.now fabric.now
+        (V.contents kept.old) (V.contents kept.new) keeper.new) }
+    ensures fault { IfErr result (λ e. (done ≡ Err e) ⊎ IsWantOfMemory e) }
+{
+    done?;
+    match keeper.keep(fabric, directory, kept) {
+        Ok(()) => Ok(()),
+        Err(memory) => Err(Fault::from(memory)),
+    }
+}
+
+/// Opens a plan's network as a simulation, and does its script, or the lines that are typed. Nothing is kept of its
+/// steps. The gate is not called.
+pub fn with_simulation<H, G, J, W, E>(
+    alloc: Global,
+    plan: Plan,
+    gate: &G,
+    telling: Telling,
+    typed: Option<J>,
+    out: &mut W,
+    err: &mut E,
+) -> Result<(), Fault>
+where
+    H: Host,
+    G: TurnGate + Sync,
+    J: Read + Drop,
+    W: Write,
+    E: Write,
+    ensures ok { OnOk result (Works counted_net (Comes (is_some typed)) none_kept plan) }
+    ensures fault { IfErr result (StopsWork counted_net IsOfNothing
+        (Stops (is_some typed)) plan) }
+{
+    let Plan {
+        network,
+        directory,
+        commands,
+    } = plan;
+    let counted = Counted::open(alloc, network)?;
+    let session = telling.session(alloc, gate, &directory);
+    count_named::<Brand, H, G, J, W, E>(&session, counted, typed, &commands, out, err)
+}
+
+// The same, where the fabric that there is not has a name.
+fn count_named<B, H, G, J, W, E>(
+    session: &Session<'_, G>,
+    counted: Counted,
+    typed: Option<J>,
+    commands: &[Command],
+    out: &mut W,
+    err: &mut E,
+) -> Result<(), Fault>
+where
+    B: FabricName + Send + Sync + 'static,
+    H: Host,
+    G: TurnGate + Sync,
+    J: Read + Drop,
+    W: Write,
+    E: Write,
+    ensures ok { OnOk result ((n : _) × Comes (is_some typed) commands.now (CountedNet counted) n) }
+    ensures fault { IfErr result (λ e. (n : _) × Stops (is_some typed) commands.now (CountedNet counted) n e) }
+{
+    let mut live: Live<B, H> = Either::Right(counted);
+    let done = do_all(session, &mut live, typed, commands, out, err);
+    match live {
+        Either::Right(_) => done,
+        // Nothing makes of a network that counts its steps one that keeps them.
+        Either::Left(_) => unreachable!(),
+    }
+}
+
+// Does the script, or the lines that are typed, and says how many steps were done.
+fn do_all<B, H, G, J, W, E>(
+    session: &Session<'_, G>,
+    live: &mut Live<B, H>,
+    typed: Option<J>,
+    commands: &[Command],
+    out: &mut W,
+    err: &mut E,
+) -> Result<(), Fault>
+where
+    B: FabricName + Send + Sync + 'static,
+    H: Host,
+    G: TurnGate + Sync,
+    J: Read + Drop,
+    W: Write,
+    E: Write,
+    ensures ok { OnOk result (Comes (is_some typed) commands.now live.old live.new) }
+    ensures fault { IfErr result (Stops (is_some typed) commands.now live.old live.new) }
+    ensures side { is_left live.new ≡ is_left live.old }
+{
+    match typed {
+        Some(input) => do_lines(session, live, input, out, err)?,
+        None => {
+            let done = do_commands(session, live, commands, out, err);
+            end_line(session.progress, err);
+            done?;
+        }
+    }
+    let steps = steps(live) as usize;
+    let json = EndLine::Done { steps };
+    let _ = session
+        .printer()
+        .print(format_args!("done: {steps} steps"), json, out);
+    Ok(())
+}

@@ -1,0 +1,248 @@
+//! Replays a journal over the network of its scenario.
+
+ghost use Rattle.std.specs.Prelude.{◌≡◌, ◌⊎◌, ◌≤◌, IfOk, IfErr, OnOk, OnErr, MatchOption, length, take};
+ghost use Rattle.network_model.specs.Run.{Runs};
+ghost use Rattle.world.specs.Steps.{CanBeRefused, StopsAt};
+ghost use Rattle.plans.specs.Faults.{IsWantOfMemory, OfBytes};
+ghost use Rattle.network_model.specs.Step.{Lawful};
+ghost use Rattle.sessions.specs.Nets.{counted_after};
+ghost use Rattle.play.specs.Replays.{Replays, StepsReplay, StopsReplay, replay_refusal};
+
+use crate::opening::Telling;
+use command_line::Format;
+use fabric::MOST_STEPS;
+use journal::{Journal, StepText, Version, first_difference, read_journal};
+use json_lines::EndLine;
+use network_model::{LinkSpec, NoMemory, Refusal, Step};
+use plans::{Cause, Fault, read_bytes, read_plan, read_text};
+use reports::{End, Printer, end_line, print_report, tell_steps};
+use script::Directory;
+use sessions::{Counted, NoGate, Session};
+use std::alloc::Global;
+use std::io;
+use std::io::{Read, Write};
+use world::{Ran, World};
+
+/// Where it is told how far a replay is, after how many steps each time.
+const SLICE: usize = 4096;
+
+/// Does the steps of a journal from the opening of its scenario's network, and compares the report of
+/// what they made with the journal's, but for a journal of the first version. Both files are read whole
+/// before the first step is done. What is told besides goes to `err`.
+pub fn replay<R, J, W, E>(
+    alloc: Global,
+    scenario: R,
+    journal: J,
+    telling: Telling,
+    out: &mut W,
+    err: &mut E,
+) -> Result<End, Fault>
+where
+    R: Read + Drop,
+    J: Read + Drop,
+    W: Write,
+    E: Write,
+    ensures ok { IfOk result (λ end. OfBytes (R.remaining scenario) (λ bytes.
+        OfBytes (J.remaining journal) (λ lines. Replays bytes lines end))) }
+    ensures fault { IfErr result (λ e. OfBytes (R.remaining scenario) (λ bytes.
+        StopsReplay bytes (J.remaining journal) e)) }
+{
+    let text = read_text(alloc, scenario)?;
+    let plan = read_plan(alloc, text.as_str())?;
+    let lines = read_bytes(alloc, journal)?;
+    let journal = read_journal(
+        alloc,
+        plan.directory.names(),
+        plan.network.links(),
+        plan.network.attachments(),
+        &lines,
+    )?;
+    let mut live = Counted::open(alloc, plan.network)?;
+    let session = telling.session(alloc, &NoGate, &plan.directory);
+    let end = do_journal(&session, &mut live, &journal, out, err)?;
+    Ok(end)
+}
+
+// Does the steps of a journal, and compares the reports.
+fn do_journal<W: Write, E: Write>(
+    session: &Session<'_, NoGate>,
+    live: &mut Counted,
+    journal: &Journal<'_>,
+    out: &mut W,
+    err: &mut E,
+) -> Result<End, Fault>
+    requires { (live.old).simulation.steps ≡ 0 }
+    ensures ok { IfOk result (StepsReplay journal.now.version journal.now.steps.items
+        (live.old).simulation.world (live.new).simulation.world) }
+    ensures fault { IfErr result IsWantOfMemory }
+{
+    let ran = do_steps(live, &journal.steps, session.progress, err);
+    end_line(session.progress, err);
+    let printer = session.printer();
+    if let Some(refusal) = ran.refusal {
+        let step = ran.done + 1;
+        let _ = printer.print(
+            format_args!("step {step} refused: {refusal}"),
+            format_args!(
+                "{{\"kind\":\"replay\",\"result\":\"refused\",\"step\":{step},\"refused\":\"{refusal}\"}}"
+            ),
+            out,
+        );
+        if session.explain {
+            let _ = out.flush();
+            let links = live.simulation().network().links();
+            let _ = tell_refused(session.directory, links, journal, ran.done, refusal, err);
+        }
+        return Ok(End::Refused);
+    }
+    match journal.version {
+        Version::One => {
+            let steps = ran.done;
+            let json = EndLine::StepsDone { steps };
+            let _ = printer.print(format_args!("replay done: {steps} steps"), json, out);
+            Ok(End::Done)
+        }
+        Version::Two => compare(session, live.simulation().world(), journal, out, err),
+    }
+}
+
+// Tells of the step that is refused after so many: its line of the journal, when its refusal comes, and what to
+// do.
+fn tell_refused<E: Write>(
+    directory: &Directory,
+    links: &[LinkSpec],
+    journal: &Journal<'_>,
+    done: usize,
+    refusal: Refusal,
+    err: &mut E,
+) -> io::Result<()> {
+    // The steps begin in line 2.
+    let line = done.saturating_add(2);
+    if let Some(&step) = journal.steps.get(done) {
+        let step = StepText::new(directory, links, step);
+        writeln!(err, "  line {line} of the journal: {step}")?;
+    }
+    let kind = Fault::from(Cause::Refused(refusal)).kind();
+    write!(err, "{}", kind.page().brief())
+}
+
+// Does the steps in order, up to the first that is refused, or for which a journal has no place, and tells how far it
+// is, where that is asked for.
+fn do_steps<E: Write>(live: &mut Counted, steps: &[Step], progress: bool, err: &mut E) -> Ran
+    requires { (live.old).simulation.steps ≡ 0 }
+    ensures runs { Runs (live.old).simulation.world (take result.done steps.now) (live.new).simulation.world }
+    ensures stop { MatchOption result.refusal (result.done ≡ length steps.now)
+        (StopsAt (replay_refusal (live.new).simulation.world result.done) steps.now result.done) }
+    ensures done { result.done ≤ length steps.now }
+{
+    let all = steps.len();
+    for (done, &step) in steps.iter().enumerate() {
+        if done % SLICE == 0 {
+            tell_steps(progress, done, all, err);
+        }
+        match do_next(live, step, done) {
+            Ok(()) => {}
+            Err(refusal) => {
+                return Ran {
+                    done,
+                    refusal: Some(refusal),
+                };
+            }
+        }
+    }
+    tell_steps(progress, all, all, err);
+    Ran {
+        done: all,
+        refusal: None,
+    }
+}
+
+// Does the step after so many, if a journal has a place for it.
+fn do_next(live: &mut Counted, step: Step, done: usize) -> Result<(), Refusal>
+    requires { (live.old).simulation.steps ≡ done }
+    ensures ok { OnOk result (Lawful (live.old).simulation.world step
+        × (live.new ≡ counted_after live.old step)) }
+    ensures err { OnErr result (live.new ≡ live.old) }
+    ensures cause { IfErr result (CanBeRefused (replay_refusal (live.old).simulation.world done step)) }
+{
+    if done >= MOST_STEPS {
+        return Err(Refusal::JournalFull);
+    }
+    live.step(step)
+}
+
+// Compares the report of what the steps of a journal made with the journal's.
+fn compare<W: Write, E: Write>(
+    session: &Session<'_, NoGate>,
+    world: &World,
+    journal: &Journal<'_>,
+    out: &mut W,
+    err: &mut E,
+) -> Result<End, Fault>
+    ensures end { IfOk result (λ end. (end ≡ End.Done) ⊎ (end ≡ End.Differs)) }
+    ensures fault { IfErr result IsWantOfMemory }
+{
+    let printer = session.printer();
+    let mut printed = Vec::new(session.alloc);
+    let kept = Printer {
+        directory: session.directory,
+        format: Format::Text,
+    };
+    if print_report(world, &kept, &mut printed).is_err() {
+        return Err(Fault::from(NoMemory));
+    }
+    match first_difference(&printed, journal.report) {
+        Some(line) => {
+            let json = EndLine::Differs { line };
+            let _ = printer.print(
+                format_args!("replay differs: report line {line}"),
+                json,
+                out,
+            );
+            if session.explain {
+                let _ = out.flush();
+                let _ = tell_difference(line, journal.report, &printed, err);
+            }
+            Ok(End::Differs)
+        }
+        None => {
+            let steps = journal.steps.len();
+            let json = EndLine::Agrees { steps };
+            let _ = printer.print(format_args!("replay agrees: {steps} steps"), json, out);
+            Ok(End::Done)
+        }
+    }
+}
+
+// Tells of the line of a report that differs: as the journal has it, and as the replay has it.
+fn tell_difference<E: Write>(
+    number: usize,
+    journal: &[u8],
+    replay: &[u8],
+    err: &mut E,
+) -> io::Result<()> {
+    writeln!(err, "  the journal has: {}", shown_line(journal, number))?;
+    writeln!(err, "  the replay has:  {}", shown_line(replay, number))
+}
+
+// The line of this number, from 1. What is not safe to print on a terminal is not shown.
+fn shown_line(report: &[u8], number: usize) -> &str {
+    let Ok(text) = str::from_utf8(report) else {
+        return "a line that is not UTF-8";
+    };
+    for (before, line) in text.lines().enumerate() {
+        if before + 1 == number {
+            return if is_plain(line) {
+                line
+            } else {
+                "a line that is long, or has other characters than ASCII"
+            };
+        }
+    }
+    "no line"
+}
+
+// Whether a line is short, and has only what can be seen.
+fn is_plain(line: &str) -> bool {
+    line.len() <= 200 && line.bytes().all(|byte| matches!(byte, b' '..=b'~'))
+}

@@ -1,0 +1,4 @@
+mod Doing
+mod Links
+mod Answering
+mod Settling

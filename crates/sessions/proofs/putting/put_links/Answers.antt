@@ -1,0 +1,20 @@
+use Rattle.std.proofs.Common.{◌∙◌, ◌<◌, inr, ap, length, sym, subst}
+use Rattle.network_model.specs.World.{Network}
+use Rattle.world.specs.Steps.{CanBeRefused}
+use Rattle.fabric.proofs.Causes.{refused_as}
+use Rattle.sessions.specs.Commands.{is_amiss_at}
+use Rattle.sessions.specs.Nets.{refusal_of}
+use Rattle.sessions.proofs.putting.put_links.Goals as goal
+
+-- the first that is refused
+pub returns-in-Err-clause-err : goal.returns-in-Err-clause-err
+returns-in-Err-clause-err g c =
+    let before = c.loop-place.live in
+    let e = c.in-Err.refusal in
+    rw c.in-Err.ensures.err (inr (record {
+      link = c.loop-place.place;
+      is_link = subst (λ n. c.loop-place.place < n) (ap length (c.links-place-end.ensures.links ∙ ap (λ (n : Network). n.links) c.network.ensures)) c.loop-place-test.true;
+      before = c.loop-place.invariant.put;
+      amiss = ap (λ w. is_amiss_at w c.args.up c.args.router c.loop-place.place) (sym c.world-in-loop-place.ensures) ∙ sym c.if-is_amiss.ensures;
+      refused = subst (λ s. CanBeRefused (refusal_of before s) e) c.put.ensures (refused_as _ (refusal_of before c.put.result) e c.in-Err.ensures.cause);
+    }))

@@ -1,0 +1,257 @@
+//! A network whose steps are counted: a simulation, and what was saved of it.
+
+ghost use Rattle.std.specs.Prelude.{◌≡◌, Some, IfOk, IfErr, OnOk, OnErr};
+ghost use Rattle.network_model.specs.Step.{Lawful};
+ghost use Rattle.world.specs.Steps.{CanBeRefused, IsDoneOr};
+ghost use Rattle.simulation.specs.Simulation.{simulation_refusal};
+ghost use Rattle.reports.specs.Report.{unknown_router};
+ghost use Rattle.either.specs.declared.Either.TheVariants as Nets;
+ghost use Rattle.sessions.specs.Nets.{CannotInject, CannotRestore, CannotSave, CannotTrace, IsAnswer, IsRestored, IsSaved, counted_after, opening_counted};
+ghost use Rattle.sessions.specs.Settling.{SettlesThere, StopsThere};
+
+use crate::totals::Totals;
+use network_model::{Ending, Entry, NoMemory, Prefix, Refusal, Step, Trace};
+use plans::Cause;
+use reports::Printer;
+use simulation::{Order, Simulation};
+use std::alloc::Global;
+use std::io::Write;
+use std::marker::Model;
+use world::Network;
+
+/// A simulation, and what was saved of it. Contracts see both.
+#[derive(Drop)]
+pub struct Counted {
+    alloc: Global,
+    simulation: Simulation,
+    saved: Option<Simulation>,
+    // The number of the last job, and the jobs that were answered since the last `drain`.
+    last: u64,
+    answers: Vec<JobAnswer>,
+    // What was done until it was counted last.
+    counted: Totals,
+}
+
+// A job, and the row that its router's image answered.
+#[derive(Clone, Copy)]
+struct JobAnswer {
+    number: u64,
+    router: u16,
+    addr: u32,
+    found: Option<(Prefix, Entry)>,
+}
+
+impl Model for Counted {
+    ghost use Rattle.sessions.specs.Nets.{Counted as CountedState, counted_of};
+
+    ghost Value = { CountedState };
+
+    ghost view = { λ c. counted_of c.simulation c.saved };
+}
+
+impl Counted {
+    /// Opens a network, of which nothing is saved.
+    pub fn open(alloc: Global, network: Network) -> Result<Counted, NoMemory>
+        ensures { IfOk result (λ c. c ≡ opening_counted network) }
+    {
+        let simulation = Simulation::open(alloc, network)?;
+        Ok(Counted {
+            alloc,
+            simulation,
+            saved: None,
+            last: 0,
+            answers: Vec::new(alloc),
+            counted: Totals::none(),
+        })
+    }
+
+    // Looks the address up for the next job.
+    fn answer(&mut self, router: u16, addr: u32) -> Result<(), Refusal>
+        ensures same { self.new ≡ self.old }
+        ensures err { IfErr result (CanBeRefused (unknown_router (self.old).simulation.world router)) }
+    {
+        let found = self.lookup(router, addr)?;
+        let number = self.last.saturating_add(1);
+        self.answers.push(JobAnswer {
+            number,
+            router,
+            addr,
+            found,
+        })?;
+        self.last = number;
+        Ok(())
+    }
+
+    /// The row by which the image in force at a router answers an address, if one covers it.
+    pub fn lookup(&self, router: u16, addr: u32) -> Result<Option<(Prefix, Entry)>, Refusal>
+        ensures answer { IfOk result (IsAnswer (self.now).simulation.world router addr) }
+        ensures err { IfErr result (λ e. unknown_router (self.now).simulation.world router ≡ Some e) }
+    {
+        self.simulation.holds();
+        match self.simulation.lookup(router, addr) {
+            Some(answer) => Ok(answer.matched),
+            None => Err(Refusal::UnknownRouter),
+        }
+    }
+
+    // The way of a packet, whichever prefixes match it.
+    fn follow(&self, router: u16, addr: u32) -> Result<Trace, Refusal>
+        ensures { IfErr result (CanBeRefused (unknown_router (self.now).simulation.world router)) }
+    {
+        let routers = self.simulation.world().routers().len();
+        if usize::from(router) >= routers {
+            return Err(Refusal::UnknownRouter);
+        }
+        let Ok(mut path) = self.path_of(routers) else {
+            return Err(Refusal::NoMemory);
+        };
+        let Some(traced) = self.simulation.trace(router, addr, &mut path) else {
+            return Err(Refusal::UnknownRouter);
+        };
+        path.truncate(traced.count);
+        // There is room for all routers, so the packet comes to an end.
+        let end = traced.end.unwrap_or(Ending::NoRoute);
+        Ok(Trace { path, end })
+    }
+
+    // Room for so many routers.
+    fn path_of(&self, routers: usize) -> Result<Vec<u16>, NoMemory> {
+        let mut path = Vec::with_capacity(self.alloc, routers)?;
+        for _ in 0..routers {
+            path.push(0_u16)?;
+        }
+        Ok(path)
+    }
+
+    // The place of the first router of a way whose row has another prefix than that of the first router.
+    fn crossing(&self, path: &[u16], addr: u32) -> Option<usize> {
+        let first = self.matched(*path.first()?, addr)?;
+        path.iter().position(|&router| match self.matched(router, addr) {
+            Some(prefix) => prefix != first,
+            None => false,
+        })
+    }
+
+    // The prefix of the row by which the image in force at a router answers an address.
+    fn matched(&self, router: u16, addr: u32) -> Option<Prefix> {
+        let (prefix, _) = self.simulation.lookup(router, addr)?.matched?;
+        Some(prefix)
+    }
+
+    /// The simulation.
+    pub fn simulation(&self) -> &Simulation
+        ensures { result.now ≡ (self.now).simulation }
+    {
+        &self.simulation
+    }
+
+    /// Does a step. Refused, it leaves all as it was.
+    pub fn step(&mut self, step: Step) -> Result<(), Refusal>
+        ensures ok { OnOk result (Lawful (self.old).simulation.world step
+            × (self.new ≡ counted_after self.old step)) }
+        ensures err { OnErr result (self.new ≡ self.old) }
+        ensures cause { IsDoneOr (simulation_refusal (self.old).simulation step) result }
+    {
+        self.simulation.step(step)
+    }
+
+    /// Lets routers take turns until nothing is left to do: in ascending cyclic order, or in an order that a seed
+    /// draws.
+    pub fn settle(&mut self, seed: Option<u32>) -> Result<(), Refusal>
+        ensures ok { OnOk result (SettlesThere (self.old).simulation (self.new).simulation) }
+        ensures err { IfErr result (StopsThere (self.old).simulation (self.new).simulation) }
+        ensures saved { (self.new).saved ≡ (self.old).saved }
+    {
+        let order = match seed {
+            Some(seed) => Order::Seeded(u64::from(seed)),
+            None => Order::Cyclic,
+        };
+        let ran = self.simulation.settle(order, usize::MAX);
+        if let Some(refusal) = ran.refusal {
+            return Err(refusal);
+        }
+        // So many steps are more than can be counted.
+        if !self.simulation.is_settled() {
+            return Err(Refusal::JournalFull);
+        }
+        Ok(())
+    }
+
+    /// The way of a packet along the images in force, while one prefix matches it, or through.
+    pub fn trace(&self, router: u16, addr: u32, through: bool) -> Result<Trace, Refusal>
+        ensures { IfErr result (CannotTrace (Nets.Right self.now) router) }
+    {
+        let mut traced = self.follow(router, addr)?;
+        if !through && let Some(place) = self.crossing(&traced.path, addr) {
+            traced.path.truncate(place.saturating_add(1));
+            traced.end = Ending::Crossed;
+        }
+        Ok(traced)
+    }
+
+    /// Answers the next job: looks the address up at the router. Jobs are numbered from 1. Refused, it takes no
+    /// number.
+    pub fn inject(&mut self, router: u16, addr: u32) -> Result<(), Cause>
+        ensures err { IfErr result (CannotInject (Nets.Right self.old) router) }
+        ensures same { self.new ≡ self.old }
+    {
+        match self.answer(router, addr) {
+            Ok(()) => Ok(()),
+            Err(refusal) => Err(Cause::Refused(refusal)),
+        }
+    }
+
+    /// Prints the answers of all jobs since the last time, by number. What it prints may be lost.
+    pub fn drain<W: Write>(&mut self, printer: &Printer<'_>, out: &mut W)
+        ensures { self.new ≡ self.old }
+    {
+        for job in &self.answers {
+            let _ = printer.packet(job.number, job.router, job.addr, job.found, out);
+        }
+        self.answers.clear();
+    }
+
+    /// What was done since the last time, or since the opening.
+    pub fn count(&mut self) -> Totals
+        ensures { self.new ≡ self.old }
+    {
+        let totals = Totals::of(&self.simulation);
+        let since = totals.since(self.counted);
+        self.counted = totals;
+        since
+    }
+
+    /// Saves the simulation as it is, in place of what was saved before. Refused with `NoMemory`.
+    pub fn save(&mut self) -> Result<(), Cause>
+        ensures ok { OnOk result (IsSaved (Nets.Right self.old) (Nets.Right self.new)) }
+        ensures same { OnErr result (self.new ≡ self.old) }
+        ensures err { IfErr result (CannotSave (Nets.Right self.old)) }
+    {
+        match self.simulation.copy(self.alloc) {
+            Ok(copy) => {
+                self.saved = Some(copy);
+                Ok(())
+            }
+            Err(_) => Err(Cause::Refused(Refusal::NoMemory)),
+        }
+    }
+
+    /// Makes the simulation what it was when it was saved. Refused with `NothingSaved` and `NoMemory`.
+    pub fn restore(&mut self) -> Result<(), Cause>
+        ensures ok { OnOk result (IsRestored (Nets.Right self.old) (Nets.Right self.new)) }
+        ensures same { OnErr result (self.new ≡ self.old) }
+        ensures err { IfErr result (CannotRestore (Nets.Right self.old)) }
+    {
+        let Some(saved) = &self.saved else {
+            return Err(Cause::NothingSaved);
+        };
+        let Ok(copy) = saved.copy(self.alloc) else {
+            return Err(Cause::Refused(Refusal::NoMemory));
+        };
+        // What was done and not yet counted is counted later, too.
+        let since = Totals::of(&self.simulation).since(self.counted);
+        self.counted = Totals::of(&copy).since(since);
+        self.simulation = copy;
+        Ok(())
+    }
+}

@@ -1,0 +1,245 @@
+//! A network whose steps are kept: a fabric, with the workers that look up in its images.
+
+ghost use Rattle.std.specs.Prelude.{◌≡◌, ◌≤◌, All, IfOk, IfErr, MatchResult, OnOk, OnErr, length, vec_len};
+ghost use Rattle.network_model.specs.Network.{most_workers};
+ghost use Rattle.network_model.specs.Step.{Lawful};
+ghost use Rattle.world.specs.Steps.{IsDoneOr};
+ghost use Rattle.fabric.specs.Fabric.{after_step, fabric_refusal};
+ghost use Rattle.fabric.specs.Writers.{IsReaderPort};
+ghost use Rattle.either.specs.declared.Either.TheVariants as Nets;
+ghost use Rattle.sessions.specs.Nets.{CannotDrain, CannotInject, CannotLookUp, CannotTrace, IsAnswer};
+ghost use Rattle.sessions.specs.Settling.{Settles, StopsSettling};
+
+use crate::totals::Totals;
+use control::{Crew, Progress, TurnGate, TurnOrder, settle, settle_in_order};
+use dispatch::{Dispatcher, Host, ports_of, print_replies};
+use fabric::{Fabric, FabricName};
+use network_model::{Entry, NoMemory, Prefix, Refusal, Step, Trace};
+use plans::Cause;
+use publication::ImageReader;
+use reports::Printer;
+use simulation::{Order, Simulation, Turns};
+use std::alloc::Global;
+use std::io::Write;
+use std::marker::Model;
+use tracer::{trace, trace_through};
+use worker_pool::PoolFault;
+
+/// A fabric with its workers. Contracts see the fabric. It is not `Drop`: end it by `close`, so that no worker is
+/// left running.
+pub struct Kept<B: FabricName, H> {
+    rt: H,
+    alloc: Global,
+    crew: Crew,
+    dispatcher: Dispatcher<B>,
+    fabric: Fabric<B>,
+    // A simulation that does the same steps, as far as they were counted.
+    again: Option<Simulation>,
+    // What was done until they were counted last.
+    counted: Totals,
+}
+
+impl<B: FabricName, H> Model for Kept<B, H> {
+    ghost use Rattle.fabric.specs.Fabric.{Fabric as FabricState};
+
+    ghost Value = { FabricState };
+
+    ghost view = { λ k. k.fabric };
+}
+
+impl<B, H> Kept<B, H>
+where
+    B: FabricName + Send + Sync + 'static,
+    H: Host,
+{
+    /// A fabric whose workers look up by these readers. Its routers settle by such a crew.
+    pub fn new(
+        rt: H,
+        alloc: Global,
+        crew: Crew,
+        fabric: Fabric<B>,
+        readers: Vec<Vec<ImageReader<B>>>,
+    ) -> Result<Kept<B, H>, (Fabric<B>, NoMemory)>
+        requires ports { All (λ port. IsReaderPort (length B.books) port.items) readers.items }
+        requires few { vec_len readers ≤ most_workers }
+        ensures { MatchResult result (λ k. k ≡ fabric) (λ e. e.0 ≡ fabric) }
+    {
+        match ports_of(alloc, readers) {
+            Ok(ports) => Ok(Kept {
+                rt,
+                alloc,
+                crew,
+                dispatcher: Dispatcher::new(ports),
+                fabric,
+                again: None,
+                counted: Totals::none(),
+            }),
+            Err(memory) => Err((fabric, memory)),
+        }
+    }
+
+    /// Waits for the workers, and lets them go. It hands the fabric back, and why workers did not answer the last
+    /// jobs, if they did not.
+    pub fn close(self) -> (Fabric<B>, Result<(), PoolFault>)
+        ensures { result.0 ≡ self }
+    {
+        let Kept {
+            rt,
+            alloc,
+            crew: _,
+            dispatcher,
+            fabric,
+            again: _,
+            counted: _,
+        } = self;
+        match dispatcher.close(&rt, alloc) {
+            Ok(_) => (fabric, Ok(())),
+            Err(fault) => (fabric, Err(fault)),
+        }
+    }
+
+    // Does the steps again that were done since the last time, and answers what was done since the opening.
+    fn do_again(&mut self) -> Result<Totals, Refusal>
+        ensures same { self.new ≡ self.old }
+        ensures err { IfErr result (λ e. e ≡ Refusal.NoMemory) }
+    {
+        let mut again = match self.again.take() {
+            Some(again) => again,
+            None => {
+                let network = self.fabric.network().copy()?;
+                Simulation::open(self.alloc, network)?
+            }
+        };
+        let journal = self.fabric.journal();
+        let done = (again.steps() as usize).min(journal.len());
+        let ran = again.run(&journal[done..]);
+        let totals = Totals::of(&again);
+        self.again = Some(again);
+        match ran.refusal {
+            // Each step was lawful the first time.
+            Some(_) => Err(Refusal::NoMemory),
+            None => Ok(totals),
+        }
+    }
+
+    /// The fabric.
+    pub fn fabric(&self) -> &Fabric<B>
+        ensures { result.now ≡ self.now }
+    {
+        &self.fabric
+    }
+
+    /// Does a step. Refused, it leaves all as it was.
+    pub fn step(&mut self, step: Step) -> Result<(), Refusal>
+        ensures ok { OnOk result (Lawful (self.old).world step
+            × (self.new ≡ after_step self.old step)) }
+        ensures err { OnErr result (self.new ≡ self.old) }
+        ensures cause { IsDoneOr (fabric_refusal self.old step) result }
+    {
+        self.fabric.step(&self.rt, step)
+    }
+
+    /// Lets routers take turns until nothing is left to do: by the crew, in ascending cyclic order while one thread
+    /// does it, or by one thread in the order that a seed draws. A crew calls the gate.
+    pub fn settle<G: TurnGate + Sync, P: Progress>(
+        &mut self,
+        gate: &G,
+        seed: Option<u32>,
+        progress: &mut P,
+    ) -> Result<(), Refusal>
+        ensures ok { OnOk result (Settles self.old self.new) }
+        ensures err { IfErr result (StopsSettling self.old self.new) }
+    {
+        match seed {
+            Some(seed) => {
+                let routers = self.fabric.network().routers();
+                let turns = Turns::new(Order::Seeded(u64::from(seed)), routers);
+                let mut order = Drawn { turns };
+                settle_in_order(&self.rt, &mut self.fabric, &mut order, progress)
+            }
+            None => settle(
+                &self.rt,
+                self.alloc,
+                &mut self.fabric,
+                self.crew,
+                gate,
+                progress,
+            ),
+        }
+    }
+
+    /// The row by which the image in force at a router answers an address, if one covers it.
+    pub fn lookup(&mut self, router: u16, addr: u32) -> Result<Option<(Prefix, Entry)>, Refusal>
+        ensures answer { IfOk result (IsAnswer (self.old).world router addr) }
+        ensures err { IfErr result (CannotLookUp (Nets.Left self.old) router addr) }
+        ensures same { self.new ≡ self.old }
+    {
+        match self.fabric.lookup(router, addr) {
+            Ok(answer) => Ok(answer.matched),
+            Err(refusal) => Err(refusal),
+        }
+    }
+
+    /// The way of a packet along the images in force, while one prefix matches it, or through.
+    pub fn trace(&mut self, router: u16, addr: u32, through: bool) -> Result<Trace, Refusal>
+        ensures err { IfErr result (CannotTrace (Nets.Left self.old) router) }
+        ensures same { self.new ≡ self.old }
+    {
+        let traced = if through {
+            trace_through(&mut self.fabric, self.alloc, router, addr)
+        } else {
+            trace(&mut self.fabric, self.alloc, router, addr)
+        };
+        match traced {
+            Ok(traced) => Ok(traced),
+            Err(fault) => Err(Refusal::from(fault)),
+        }
+    }
+
+    /// Gives the workers the next job: to look the address up at the router. Jobs are numbered from 1. Refused, it
+    /// takes no number.
+    pub fn inject(&mut self, router: u16, addr: u32) -> Result<(), Cause>
+        ensures err { IfErr result (CannotInject (Nets.Left self.old) router) }
+        ensures same { self.new ≡ self.old }
+    {
+        self.dispatcher
+            .inject(self.rt, self.alloc, &self.fabric, router, addr)
+    }
+
+    /// Waits until the workers have answered all jobs, and prints the answers by number. What it prints may be lost.
+    pub fn drain<W: Write>(&mut self, printer: &Printer<'_>, out: &mut W) -> Result<(), Cause>
+        ensures err { IfErr result (CannotDrain (Nets.Left self.old)) }
+        ensures same { self.new ≡ self.old }
+    {
+        let replies = self.dispatcher.drain(&self.rt, self.alloc)?;
+        let _ = print_replies(printer, &replies, out);
+        Ok(())
+    }
+
+    /// What was done since the last time, or since the opening. Refused with `NoMemory`.
+    pub fn count(&mut self) -> Result<Totals, Refusal>
+        ensures err { IfErr result (λ e. e ≡ Refusal.NoMemory) }
+        ensures same { self.new ≡ self.old }
+    {
+        let totals = self.do_again()?;
+        let since = totals.since(self.counted);
+        self.counted = totals;
+        Ok(since)
+    }
+}
+
+// The order that a seed draws.
+#[derive(Clone, Copy)]
+struct Drawn {
+    turns: Turns,
+}
+
+impl TurnOrder for Drawn {
+    fn from(&self) -> u16 {
+        self.turns.from()
+    }
+
+    fn after(&mut self, router: u16) {
+        self.turns.after(router);
+    }
+}

@@ -1,0 +1,44 @@
+//! Commands of a script or a shell, done one by one on a network that runs.
+//!
+//! The problem: a run keeps its journal, so that it can be replayed, and so it takes memory by its steps and ends
+//! after a million. Who lets a network run for days wants neither. But the same commands should do the same in
+//! both. So the commands are done here alone, on a network that is [`Live`], which is one of two:
+//!
+//! ```text
+//!   Kept      a fabric: the steps are kept; routers settle on threads, workers look up
+//!   Counted   a simulation: the steps are counted, up to 2^64 - 1; one thread does all
+//! ```
+//!
+//! ```text
+//! let session = Session { alloc, gate: &NoGate, directory: &directory, format: Format::Text, .. };
+//! do_command(&session, &mut live, Command::Settle, &mut out, &mut ())?;
+//! ```
+//!
+//! A step is `Fabric::step` or `Simulation::step`. `settle` is `settle` of `control`, which may start threads, or
+//! `Simulation::settle`. A look-up or a trace asks the images in force.
+//!
+//! What always holds: a command is done as its definition says, or refused for a cause that holds, and then the
+//! network is as before, or as it was brought to before the step that is refused (`IsDone` and `IsRefused` in
+//! `specs/Commands.antt`). `specs/Nets.antt` says what a step, a settling or a copy is of either. A look-up answers
+//! with the longest match of the rows that the router published (`answer` of [`lookup`]).
+//!
+//! What is tricky: with a seed both settle in the same order, so a script ends with the same lines. A job of
+//! [`Counted`] is answered as soon as it is given, and told by the next `drain`. That is lawful, because the answer
+//! of a worker may be that of any table from then on.
+#![tactic(auto)]
+
+mod commands;
+mod counted;
+mod kept;
+mod live;
+mod putting;
+mod session;
+mod totals;
+
+pub use control::{Crew, NO_THRESHOLDS, NoGate, Progress, THRESHOLDS, Thresholds, TurnGate};
+pub use counted::Counted;
+pub use dispatch::Host;
+pub use kept::Kept;
+pub use live::{Live, lookup, network, step, steps, world};
+pub use session::{Session, do_command, do_commands};
+pub use totals::Totals;

@@ -1,0 +1,197 @@
+//! Commands, done one after another.
+
+ghost use Rattle.std.specs.Prelude.{◌≡◌, IfErr, IsOk, MatchResult, OnOk, Err};
+ghost use Rattle.plans.specs.declared.fault.Cause.TheVariants as Causes;
+ghost use Rattle.either.specs.Either.{is_left};
+ghost use Rattle.sessions.specs.Commands.{AreDone, IsDone, IsRefused, StopsAtCommand};
+
+use crate::commands::{do_step, look_up, show_count, show_trace, try_step};
+use crate::live::{Live, drain, inject, network, restore, save, settle, steps, world};
+use crate::putting::put_links;
+use command_line::Format;
+use control::{Progress, TurnGate};
+use dispatch::Host;
+use fabric::FabricName;
+use network_model::Refusal;
+use plans::{Cause, Fault};
+use reports::{
+    Printer, print_report, print_state, show_held, show_next, show_queue, show_table, tell_commands,
+};
+use script::{Command, Directory, Key, Place};
+use std::alloc::Global;
+use std::io::Write;
+
+/// How commands are done, and told of.
+#[derive(Drop)]
+pub struct Session<'a, G> {
+    pub alloc: Global,
+    /// What threads call that settle.
+    pub gate: &'a G,
+    /// The routers' names.
+    pub directory: &'a Directory,
+    /// How what is printed is written.
+    pub format: Format,
+    /// Whether more is told of a machine's state, and of a command that a shell cannot do.
+    pub explain: bool,
+    /// Whether it is told what each step takes or sends.
+    pub moves: bool,
+    /// Whether it is told how far the commands are.
+    pub progress: bool,
+}
+
+impl<'a, G> Session<'a, G> {
+    /// What prints lines by these names in this format.
+    pub fn printer(&self) -> Printer<'a> {
+        Printer {
+            directory: self.directory,
+            format: self.format,
+        }
+    }
+}
+
+/// Does the commands in order, up to the first that is refused. Their steps make a run of lawful steps. After each,
+/// and while one goes on, it is told on `err` how far the run is, where that is asked for.
+pub fn do_commands<B, H, G, W, E>(
+    session: &Session<'_, G>,
+    live: &mut Live<B, H>,
+    commands: &[Command],
+    out: &mut W,
+    err: &mut E,
+) -> Result<(), Fault>
+where
+    B: FabricName + Send + Sync + 'static,
+    H: Host,
+    G: TurnGate + Sync,
+    W: Write,
+    E: Write,
+    ensures all { OnOk result (AreDone commands.now live.old live.new) }
+    ensures stop { IfErr result (StopsAtCommand commands.now live.old live.new) }
+    ensures side { is_left live.new ≡ is_left live.old }
+{
+    let mut progress = ScriptProgress {
+        asked: session.progress,
+        done: 0,
+        all: commands.len(),
+        err,
+    };
+    progress.steps(0);
+    for (position, &command) in commands.iter().enumerate() {
+        match do_command(session, live, command, out, &mut progress) {
+            Ok(()) => {
+                progress.done = position.saturating_add(1);
+                progress.steps(steps(live) as usize);
+            }
+            Err(cause) => {
+                let key = Key::Script;
+                return Err(Fault {
+                    cause,
+                    place: Some(Place { key, position }),
+                });
+            }
+        }
+    }
+    Ok(())
+}
+
+// How far a script is: so many of all its commands were done. It tells nothing where nobody asked.
+#[derive(Drop)]
+struct ScriptProgress<'a, E: Write> {
+    asked: bool,
+    done: usize,
+    all: usize,
+    err: &'a mut E,
+}
+
+impl<'a, E: Write> Progress for ScriptProgress<'a, E> {
+    fn steps(&mut self, steps: usize) {
+        tell_commands(self.asked, self.done, self.all, steps, self.err);
+    }
+}
+
+/// Does one command, and tells `progress` how far it is. What it prints may be lost.
+pub fn do_command<B, H, G, W, P>(
+    session: &Session<'_, G>,
+    live: &mut Live<B, H>,
+    command: Command,
+    out: &mut W,
+    progress: &mut P,
+) -> Result<(), Cause>
+where
+    B: FabricName + Send + Sync + 'static,
+    H: Host,
+    G: TurnGate + Sync,
+    W: Write,
+    P: Progress,
+    ensures ok { OnOk result (IsDone command live.old live.new) }
+    ensures err { IfErr result (IsRefused command live.old live.new) }
+    ensures side { is_left live.new ≡ is_left live.old }
+{
+    let printer = session.printer();
+    let alloc = session.alloc;
+    match command {
+        Command::Step(step) => {
+            let done = do_step(live, &printer, session.moves, step, out);
+            into_cause(done)
+        }
+        Command::Try(step) => {
+            try_step(live, &printer, step, out);
+            Ok(())
+        }
+        Command::Settle => into_cause(settle(live, session.gate, None, progress)),
+        Command::SettleDrawn { seed } => into_cause(settle(
+            live,
+            session.gate,
+            Some(seed),
+            progress,
+        )),
+        Command::RouterUp { router } => into_cause(put_links(live, true, router)),
+        Command::RouterDown { router } => into_cause(put_links(live, false, router)),
+        Command::State { router, prefix } => {
+            let explain = session.explain;
+            let done = print_state(world(live), &printer, router, prefix, explain, out);
+            into_cause(done)
+        }
+        Command::Table { router } => into_cause(show_table(world(live), &printer, router, out)),
+        Command::Next { router } => {
+            let links = network(live).links();
+            let done = show_next(world(live), links, &printer, router, out);
+            into_cause(done)
+        }
+        Command::Queue { router, port } => {
+            let done = show_queue(alloc, world(live), &printer, router, port, out);
+            into_cause(done)
+        }
+        Command::Held { router } => {
+            let done = show_held(alloc, world(live), &printer, router, out);
+            into_cause(done)
+        }
+        Command::Lookup { router, addr } => {
+            into_cause(look_up(live, &printer, router, addr, out))
+        }
+        Command::Trace { router, addr } => {
+            into_cause(show_trace(live, &printer, router, addr, false, out))
+        }
+        Command::TraceThrough { router, addr } => {
+            into_cause(show_trace(live, &printer, router, addr, true, out))
+        }
+        Command::Inject { router, addr } => inject(live, router, addr),
+        Command::Drain => drain(live, &printer, out),
+        Command::Count => into_cause(show_count(live, &printer, out)),
+        Command::Save => save(live),
+        Command::Restore => restore(live),
+        Command::Report => {
+            let _ = print_report(world(live), &printer, out);
+            Ok(())
+        }
+    }
+}
+
+// A refusal is a cause to stop.
+fn into_cause(done: Result<(), Refusal>) -> Result<(), Cause>
+    ensures { MatchResult done (λ _. IsOk result) (λ e. result ≡ Err (Causes.Refused e)) }
+{
+    match done {
+        Ok(()) => Ok(()),
+        Err(refusal) => Err(Cause::Refused(refusal)),
+    }
+}
