@@ -11,38 +11,11 @@ pub fn file_to_explain<'a>(words: &Words<'a>) -> Option<&'a str>
 {
     let (file, explain) = match *words {
         Words::Check { file, explain } => (file, explain),
-        Words::Run {
-            file,
-            threads: _,
-            workers: _,
-            journal: _,
-            no_journal: _,
-            explain,
-            format: _,
-            progress: _,
-        } => (file, explain),
-        Words::Replay {
-            file,
-            journal: _,
-            explain,
-            format: _,
-            progress: _,
-        } => (file, explain),
-        Words::Time {
-            file,
-            times: _,
-            spells: _,
-            explain,
-            format: _,
-        } => (file, explain),
-        Words::Explain { kind: _ } => return None,
-        Words::Shell {
-            file,
-            journal: _,
-            no_journal: _,
-            explain,
-            format: _,
-        } => (file, explain),
+        Words::Run { file, explain, .. } => (file, explain),
+        Words::Replay { file, explain, .. } => (file, explain),
+        Words::Time { file, explain, .. } => (file, explain),
+        Words::Explain { .. } => return None,
+        Words::Shell { file, explain, .. } => (file, explain),
     };
     if explain { Some(file) } else { None }
 }
@@ -50,10 +23,7 @@ pub fn file_to_explain<'a>(words: &Words<'a>) -> Option<&'a str>
 /// Whether a scenario is to be checked alone.
 pub fn is_check(words: &Words<'_>) -> bool {
     match words {
-        Words::Check {
-            file: _,
-            explain: _,
-        } => true,
+        Words::Check { .. } => true,
         _ => false,
     }
 }

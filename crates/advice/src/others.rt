@@ -1,10 +1,10 @@
 //! The other faults of a scenario's lines, as far as each can be told by itself.
 
 use crate::told::{Faulty, tell_line};
-use explanations::Kind;
+use faults::FaultKind;
 use network_model::Step;
 use scenario::Lines;
-use script::{Fault, Key, Located, Place, Script, read_command, read_script};
+use script::{Key, LineFault, Located, Place, Script, read_command, read_script};
 use std::alloc::Global;
 use std::io;
 use std::io::Write;
@@ -64,7 +64,7 @@ fn tell_list<W: Write>(
 }
 
 // The fault of a list of one line.
-fn fault_alone(alloc: Global, lines: &Lines, key: Key, one: &[String]) -> Option<Fault> {
+fn fault_alone(alloc: Global, lines: &Lines, key: Key, one: &[String]) -> Option<LineFault> {
     let none: &[String] = &[];
     let read = match key {
         Key::Routers => read_script(alloc, one, none, none, none),
@@ -107,7 +107,7 @@ fn tell_commands<W: Write>(
     Ok(())
 }
 
-fn command_fault(script: &Script, line: &str) -> Option<Fault> {
+fn command_fault(script: &Script, line: &str) -> Option<LineFault> {
     // Names the type of a command's step, without which the checker has no plan for it.
     let _step: Option<Step> = None;
     match read_command(&script.names, &script.links, &script.attachments, line) {
@@ -120,7 +120,7 @@ fn tell_other<W: Write>(
     alloc: Global,
     faulty: Faulty<'_>,
     lines: &Lines,
-    fault: Fault,
+    fault: LineFault,
     place: Place,
     out: &mut W,
 ) -> io::Result<()> {
@@ -129,11 +129,5 @@ fn tell_other<W: Write>(
         place: Some(place),
     };
     writeln!(out, "dualnet: {located}")?;
-    let kind = match fault {
-        Fault::BadLine => Kind::BadLine,
-        Fault::BadCost => Kind::BadCost,
-        Fault::BadCommand => Kind::BadCommand,
-        _ => Kind::BadName,
-    };
-    tell_line(alloc, faulty, lines, kind, place, out)
+    tell_line(alloc, faulty, lines, FaultKind::from(fault), place, out)
 }

@@ -7,7 +7,8 @@ use crate::name::tell_name;
 use crate::others::tell_others;
 use crate::position::string_at;
 use crate::shown::shown;
-use explanations::Kind;
+use explanations::Brief;
+use faults::FaultKind;
 use scenario::{Lines, read_scenario};
 use script::{Key, Place, read_script};
 use std::alloc::Global;
@@ -21,7 +22,7 @@ pub struct Faulty<'a> {
     pub file: &'a str,
     /// What it holds.
     pub text: &'a str,
-    pub kind: Kind,
+    pub kind: FaultKind,
     pub place: Option<Place>,
     /// Whether the scenario was to be checked alone: then its other faults are told too.
     pub is_check: bool,
@@ -32,11 +33,11 @@ pub struct Faulty<'a> {
 /// written is lost.
 pub fn advise<W: Write>(alloc: Global, faulty: Faulty<'_>, out: &mut W) -> io::Result<()> {
     match faulty.kind {
-        Kind::BadToml => tell_document(alloc, faulty.file, faulty.text, out)?,
-        Kind::BadKey => tell_keys(alloc, faulty.file, faulty.text, out)?,
+        FaultKind::BadToml => tell_document(alloc, faulty.file, faulty.text, out)?,
+        FaultKind::BadKey => tell_keys(alloc, faulty.file, faulty.text, out)?,
         _ => tell_place(alloc, faulty, out)?,
     }
-    write!(out, "{}", faulty.kind.page().brief())?;
+    write!(out, "{}", Brief(faulty.kind))?;
     match (faulty.place, read_scenario(alloc, faulty.text)) {
         (Some(place), Ok(lines)) if faulty.is_check => {
             tell_others(alloc, faulty, &lines, place, out)
@@ -58,7 +59,7 @@ pub fn tell_line<W: Write>(
     alloc: Global,
     faulty: Faulty<'_>,
     lines: &Lines,
-    kind: Kind,
+    kind: FaultKind,
     place: Place,
     out: &mut W,
 ) -> io::Result<()> {
@@ -95,7 +96,7 @@ fn key_text(key: Key) -> &'static str {
 // Tells what a line lacks, where its fault leaves that open.
 fn tell_reason<W: Write>(
     alloc: Global,
-    kind: Kind,
+    kind: FaultKind,
     lines: &Lines,
     place: Place,
     line: &str,
@@ -111,13 +112,13 @@ fn tell_reason<W: Write>(
     };
     let script = reading.script;
     match (kind, place.key) {
-        (Kind::BadCommand | Kind::BadCost, Key::Script) => {
+        (FaultKind::BadCommand | FaultKind::BadCost, Key::Script) => {
             tell_command(alloc, &script.names, &script.links, line, out)
         }
-        (Kind::BadLine | Kind::BadLink | Kind::BadCost, Key::Links) => {
+        (FaultKind::BadLine | FaultKind::BadLink | FaultKind::BadCost, Key::Links) => {
             tell_link(&script.names, &lines.links, position, out)
         }
-        (Kind::BadLine | Kind::BadOwner | Kind::BadCost, Key::Prefixes) => {
+        (FaultKind::BadLine | FaultKind::BadOwner | FaultKind::BadCost, Key::Prefixes) => {
             tell_prefix(&script.names, &lines.prefixes, position, out)
         }
         _ => Ok(()),

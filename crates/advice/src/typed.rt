@@ -2,7 +2,8 @@
 
 use crate::command::tell_command;
 use crate::shown::shown;
-use explanations::Kind;
+use explanations::Brief;
+use faults::FaultKind;
 use network_model::LinkSpec;
 use script::Names;
 use std::alloc::Global;
@@ -18,7 +19,7 @@ pub struct Typed<'a> {
     pub number: usize,
     /// Its bytes, which need not be UTF-8.
     pub line: &'a [u8],
-    pub kind: Kind,
+    pub kind: FaultKind,
 }
 
 /// Tells of a line that was typed what is wrong with it, when the fault comes, and what to do.
@@ -27,11 +28,11 @@ pub fn advise_typed<W: Write>(alloc: Global, typed: &Typed<'_>, out: &mut W) -> 
     match str::from_utf8(typed.line) {
         Ok(line) => {
             writeln!(out, "  line {number}: {}", shown(line))?;
-            if matches!(typed.kind, Kind::BadCommand | Kind::BadCost) {
+            if matches!(typed.kind, FaultKind::BadCommand | FaultKind::BadCost) {
                 tell_command(alloc, typed.names, typed.links, line, out)?;
             }
         }
         Err(_) => writeln!(out, "  line {number} is not UTF-8")?,
     }
-    write!(out, "{}", typed.kind.page().brief())
+    write!(out, "{}", Brief(typed.kind))
 }

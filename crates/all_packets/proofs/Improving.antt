@@ -5,8 +5,8 @@ use Rattle.std.specs.FinMap.{find as row_of}
 use Rattle.std.specs.FinMap.Entries.{is_sorted}
 use Rattle.std.proofs.lemmas.Bool.{ltb-true, ltb-false}
 use Rattle.ipv4_prefix.proofs.LongestMatches.{longest_match-found}
-use Rattle.packet_loops.proofs.Common.{Prefix, prefix_cmp, covers, longest_match, Entry, is_met, meets_twice, None_not_Some, Some_injective}
-use Rattle.packet_loops.proofs.Walks.{match_is_row}
+use Rattle.no_packet_loops.proofs.Common.{Prefix, prefix_cmp, covers, longest_match, Entry, is_met, meets_twice, None_not_Some, Some_injective}
+use Rattle.no_packet_loops.proofs.Walks.{match_is_row}
 use Rattle.all_packets.specs.Packets.{IsWayBy}
 use Rattle.all_packets.proofs.Matches.{Found, GoesBefore, found}
 

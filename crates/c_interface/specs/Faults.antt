@@ -1,10 +1,10 @@
 -- The numbers of the faults.
 use Rattle.std.specs.Prelude.{◌≡◌, ℕ, ◌⊎◌, Option, None, Some}
-use Rattle.c_interface.specs.declared.fault.Fault.{Fault}
-use Rattle.c_interface.specs.declared.fault.Fault.TheVariants.{BadLength, HostBits, BadCost, BadKind, Empty, BadCount, Shared, UnknownPort, AlreadyUp, IsDown, NothingDue, NothingRipe, NoMemory, TooManyPorts, TooManyPrefixes, UnknownPrefix, NotAttached, OtherSession, GenerationsSpent, Unasked, AskedTwice, StillUsed}
+use Rattle.c_interface.specs.declared.fault.CallFault.{CallFault}
+use Rattle.c_interface.specs.declared.fault.CallFault.TheVariants.{BadLength, HostBits, BadCost, BadKind, Empty, BadCount, Shared, UnknownPort, AlreadyUp, IsDown, NothingDue, NothingRipe, NoMemory, TooManyPorts, TooManyPrefixes, UnknownPrefix, NotAttached, OtherSession, GenerationsSpent, Unasked, AskedTwice, StillUsed}
 
 -- the number by which C knows a fault
-abbrev pub fault_number : Fault → ℕ
+abbrev pub fault_number : CallFault → ℕ
 fault_number BadLength = 3
 fault_number HostBits = 4
 fault_number BadCost = 5
@@ -33,16 +33,16 @@ abbrev pub IsDoneOrFull : ℕ → Type 0
 IsDoneOrFull status = (status ≡ 0) ⊎ (status ≡ fault_number NoMemory)
 
 -- what a call answers, by what its tests find: that, or, where they find nothing, done or want of memory
-abbrev pub IsStatusBy : Option Fault → ℕ → Type 0
+abbrev pub IsStatusBy : Option CallFault → ℕ → Type 0
 IsStatusBy (Some f) status = status ≡ fault_number f
 IsStatusBy None status = IsDoneOrFull status
 
 -- what a call answers that takes no memory, by what its tests find
-abbrev pub status_by : Option Fault → ℕ
+abbrev pub status_by : Option CallFault → ℕ
 status_by (Some f) = fault_number f
 status_by None = 0
 
 -- of two tests, what the first finds, and else what the second finds
-abbrev pub first_of : Option Fault → Option Fault → Option Fault
+abbrev pub first_of : Option CallFault → Option CallFault → Option CallFault
 first_of None other = other
 first_of (Some f) other = Some f

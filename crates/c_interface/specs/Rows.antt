@@ -4,16 +4,16 @@ use Rattle.ipv4_prefix.specs.Prefix.{Prefix}
 use Rattle.network_model.specs.declared.route.Entry.{Entry}
 use Rattle.network_model.specs.declared.route.Entry.TheVariants.{Local, Via, Unreachable}
 use Rattle.c_interface.specs.Faults.{first_of}
-use Rattle.c_interface.specs.declared.fault.Fault.{Fault}
-use Rattle.c_interface.specs.declared.fault.Fault.TheVariants.{BadLength, HostBits, BadKind}
+use Rattle.c_interface.specs.declared.fault.CallFault.{CallFault}
+use Rattle.c_interface.specs.declared.fault.CallFault.TheVariants.{BadLength, HostBits, BadKind}
 use Rattle.c_interface.specs.declared.row.Row.{Row}
 
 -- the first of the tests that a prefix fails, if any
-abbrev pub prefix_fault : ℕ → ℕ → Option Fault
+abbrev pub prefix_fault : ℕ → ℕ → Option CallFault
 prefix_fault addr len = if nat_lt 32 len then Some BadLength else if addr % 2 ^ (32 - len) == 0 then None else Some HostBits
 
 -- the first of the tests that a row fails, if any
-abbrev pub row_fault : Row → Option Fault
+abbrev pub row_fault : Row → Option CallFault
 row_fault r = first_of (prefix_fault r.addr r.len) (if nat_lt 2 r.kind then Some BadKind else None)
 
 -- where packets go by a row: 0 is local, 1 via a port in a session, 2 unreachable

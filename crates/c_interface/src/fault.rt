@@ -2,14 +2,14 @@
 
 ghost use Rattle.std.specs.Prelude.{◌≡◌, ◌<◌, OnOk, IfErr};
 ghost use Rattle.c_interface.specs.Faults.{fault_number};
-ghost use Rattle.c_interface.specs.declared.fault.Fault.TheVariants.{NoMemory as OutOfMemory, BadCost as CostFault};
+ghost use Rattle.c_interface.specs.declared.fault.CallFault.TheVariants.{NoMemory as OutOfMemory, BadCost as CostFault};
 
 use network_model::{BadCost, NoMemory};
 use std::alloc::{AllocError, AllocFailed};
 
 /// Why a call is refused, by the numbers by which C knows the faults.
 #[derive(Clone, Copy, Debug, PartialEq, Eq)]
-pub enum Fault {
+pub enum CallFault {
     /// A prefix's length is above 32.
     BadLength,
     /// A prefix's address has bits set after the first `len`.
@@ -57,72 +57,72 @@ pub enum Fault {
     StillUsed,
 }
 
-impl Fault {
+impl CallFault {
     /// The number by which C knows the fault.
     pub fn number(self) -> u32
         ensures { result ≡ fault_number self }
     {
         match self {
-            Fault::BadLength => 3,
-            Fault::HostBits => 4,
-            Fault::BadCost => 5,
-            Fault::BadKind => 6,
-            Fault::Empty => 7,
-            Fault::BadCount => 8,
-            Fault::Shared => 9,
-            Fault::UnknownPort => 11,
-            Fault::AlreadyUp => 13,
-            Fault::IsDown => 14,
-            Fault::NothingDue => 17,
-            Fault::NothingRipe => 18,
-            Fault::NoMemory => 20,
-            Fault::TooManyPorts => 26,
-            Fault::TooManyPrefixes => 27,
-            Fault::UnknownPrefix => 28,
-            Fault::NotAttached => 29,
-            Fault::OtherSession => 36,
-            Fault::GenerationsSpent => 37,
-            Fault::Unasked => 38,
-            Fault::AskedTwice => 39,
-            Fault::StillUsed => 44,
+            CallFault::BadLength => 3,
+            CallFault::HostBits => 4,
+            CallFault::BadCost => 5,
+            CallFault::BadKind => 6,
+            CallFault::Empty => 7,
+            CallFault::BadCount => 8,
+            CallFault::Shared => 9,
+            CallFault::UnknownPort => 11,
+            CallFault::AlreadyUp => 13,
+            CallFault::IsDown => 14,
+            CallFault::NothingDue => 17,
+            CallFault::NothingRipe => 18,
+            CallFault::NoMemory => 20,
+            CallFault::TooManyPorts => 26,
+            CallFault::TooManyPrefixes => 27,
+            CallFault::UnknownPrefix => 28,
+            CallFault::NotAttached => 29,
+            CallFault::OtherSession => 36,
+            CallFault::GenerationsSpent => 37,
+            CallFault::Unasked => 38,
+            CallFault::AskedTwice => 39,
+            CallFault::StillUsed => 44,
         }
     }
 }
 
-impl From<BadCost> for Fault {
+impl From<BadCost> for CallFault {
     ghost from_gives = { λ _ f. f ≡ CostFault };
 
-    fn from(_fault: BadCost) -> Fault {
-        Fault::BadCost
+    fn from(_fault: BadCost) -> CallFault {
+        CallFault::BadCost
     }
 }
 
-impl From<NoMemory> for Fault {
+impl From<NoMemory> for CallFault {
     ghost from_gives = { λ _ f. f ≡ OutOfMemory };
 
-    fn from(_error: NoMemory) -> Fault {
-        Fault::NoMemory
+    fn from(_error: NoMemory) -> CallFault {
+        CallFault::NoMemory
     }
 }
 
-impl From<AllocError> for Fault {
+impl From<AllocError> for CallFault {
     ghost from_gives = { λ _ f. f ≡ OutOfMemory };
 
-    fn from(_error: AllocError) -> Fault {
-        Fault::NoMemory
+    fn from(_error: AllocError) -> CallFault {
+        CallFault::NoMemory
     }
 }
 
-impl<T: Drop> From<AllocFailed<T>> for Fault {
+impl<T: Drop> From<AllocFailed<T>> for CallFault {
     ghost from_gives = { λ _ f. f ≡ OutOfMemory };
 
-    fn from(_error: AllocFailed<T>) -> Fault {
-        Fault::NoMemory
+    fn from(_error: AllocFailed<T>) -> CallFault {
+        CallFault::NoMemory
     }
 }
 
 /// What C is told of an outcome: 0, or the number of its fault.
-pub fn status(outcome: Result<(), Fault>) -> u32
+pub fn status(outcome: Result<(), CallFault>) -> u32
     ensures ok { OnOk outcome (result ≡ 0) }
     ensures err { IfErr outcome (λ f. (result ≡ fault_number f) × (0 < result)) }
 {

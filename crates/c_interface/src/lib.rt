@@ -5,7 +5,7 @@
 //! (`lookup_ffi`, `router_ffi`) answers a number, reads and writes plain structs, and is handed a pointer.
 //! This crate says once what these mean.
 //!
-//! - A *status* is 0, or the number of the [`Fault`] for which the call was refused. Numbers that the program
+//! - A *status* is 0, or the number of the [`CallFault`] for which the call was refused. Numbers that the program
 //!   has too (`docs/dualnet.1`) mean the same here. 6 to 9, 36 to 39 and 44 are of the libraries alone.
 //! - A [`Row`] is a prefix, and where packets go that it matches. Its `kind` is 0 for local, 1 for via, 2 for
 //!   unreachable, and in answers 3 for no row.
@@ -15,8 +15,8 @@
 //! ```text
 //!   C:      struct tuhvondi_row row = { 0x0a000000, 8, 1, 0, 4 };      10.0.0.0/8 via port 0, session 4
 //!   here:   row.read()                       Ok((10.0.0.0/8, Entry::Via { port: 0, session: 4 }))
-//!           Row { len: 33, ..row }.read()    Err(Fault::BadLength)
-//!           status(Err(Fault::BadLength))    3
+//!           Row { len: 33, ..row }.read()    Err(CallFault::BadLength)
+//!           status(Err(CallFault::BadLength))    3
 //! ```
 //!
 //! What always holds: a number is the fault's and no other's (`fault_number` in `specs/Faults.antt`). A row
@@ -34,5 +34,5 @@
 mod fault;
 mod row;
 
-pub use fault::{Fault, status};
+pub use fault::{CallFault, status};
 pub use row::{Row, read_prefix};

@@ -3,7 +3,7 @@
 ghost use Rattle.std.specs.Prelude.{◌≡◌, None, Some, IfOk, IfErr};
 ghost use Rattle.c_interface.specs.Rows.{prefix_fault, row_fault, row_entry, answer_row};
 
-use crate::fault::Fault;
+use crate::fault::CallFault;
 use network_model::{Entry, Prefix};
 
 /// A row: a prefix, and where packets go that it matches. `kind` is 0 for local, 1 for via, 2 for
@@ -20,23 +20,23 @@ pub struct Row {
 }
 
 /// The prefix of an address's first `len` bits, which has no bit set after them.
-pub fn read_prefix(addr: u32, len: u8) -> Result<Prefix, Fault>
+pub fn read_prefix(addr: u32, len: u8) -> Result<Prefix, CallFault>
     ensures ok { IfOk result (λ p. (prefix_fault addr len ≡ None)
         × (p ≡ record { addr = addr; len = len })) }
     ensures err { IfErr result (λ f. prefix_fault addr len ≡ Some f) }
 {
     if len > 32 {
-        return Err(Fault::BadLength);
+        return Err(CallFault::BadLength);
     }
     match Prefix::new(addr, len) {
         Ok(prefix) => Ok(prefix),
-        Err(_) => Err(Fault::HostBits),
+        Err(_) => Err(CallFault::HostBits),
     }
 }
 
 impl Row {
     /// The prefix and the entry of a row.
-    pub fn read(self) -> Result<(Prefix, Entry), Fault>
+    pub fn read(self) -> Result<(Prefix, Entry), CallFault>
         ensures ok { IfOk result (λ r. (row_fault self ≡ None) × (r ≡ row_entry self)) }
         ensures err { IfErr result (λ f. row_fault self ≡ Some f) }
     {
@@ -48,7 +48,7 @@ impl Row {
                 session: self.session,
             },
             2 => Entry::Unreachable,
-            _ => return Err(Fault::BadKind),
+            _ => return Err(CallFault::BadKind),
         };
         Ok((prefix, entry))
     }

@@ -1,7 +1,7 @@
 -- The measure of all prefixes together: a first number, then what counts for all, place by place, and then the loads of all.
 use Rattle.std.proofs.Common.{refl, sym, ap, subst, arith, ◌≡◌, ℕ, zero, suc, ◌<◌, ◌≤◌, Bool, true, false, ◌||◌, List, [], ◌∷◌}
-use Rattle.packet_loops.proofs.Common.{list_any, Prefix, prefix_eq, State, Topology}
-use Rattle.packet_loops.proofs.Machines.{prefix_same, prefix_itself}
+use Rattle.no_packet_loops.proofs.Common.{list_any, Prefix, prefix_eq, State, Topology}
+use Rattle.no_packet_loops.proofs.Machines.{prefix_same, prefix_itself}
 use Rattle.coming_to_rest.proofs.Order.{Falls, NoRise, at_place, at_first, at_second}
 use Rattle.coming_to_rest.proofs.Measure.{weight, loads, top}
 use Rattle.coming_to_rest.proofs.Takes.{MessageEffect, falls_at, load_falls}

@@ -8,8 +8,8 @@ use Rattle.clap.specs.declared.parser.matches.Found.{Found}
 use Rattle.clap.proofs.WalkLemmas.{first_value-rows, one_text-rows}
 use Rattle.command_line.specs.Formats.{format_text}
 use Rattle.command_line.specs.Asked.{GoTogether, HasFlag, HasFormat, HasNumber, IsNumberText, IsCheck, IsExplain, IsFlag, IsReplay, IsRun, IsShell, IsTime}
-use Rattle.explanations.specs.Numbers.{kind_number}
-use Rattle.explanations.specs.declared.kind.Kind.{Kind}
+use Rattle.faults.specs.Numbers.{kind_number}
+use Rattle.faults.specs.declared.kind.FaultKind.{FaultKind}
 use Rattle.command_line.specs.declared.format.Format.{Format}
 use Rattle.command_line.specs.declared.words.Words.{Words}
 use Rattle.command_line.specs.declared.words.Words.TheVariants.{Check, Run, Replay, Time, Explain, Shell}
@@ -259,7 +259,7 @@ no_explain rows none (Time f t s e o) h = h
 no_explain rows none (Explain k) h = none (kind_number k) h
 no_explain rows none (Shell f j n e o) h = h
 
-pub no_kind : (rows : List Row) (n : ℕ) → ((m : ℕ) → HasNumber rows (codes "number") 55 m → n ≡ m) → ((k : Kind) → kind_number k ≢ n) → (w : Words) → IsExplain rows w → ⊥
+pub no_kind : (rows : List Row) (n : ℕ) → ((m : ℕ) → HasNumber rows (codes "number") 55 m → n ≡ m) → ((k : FaultKind) → kind_number k ≢ n) → (w : Words) → IsExplain rows w → ⊥
 no_kind rows n same other (Check f e) h = h
 no_kind rows n same other (Run f t k j q e o p) h = h
 no_kind rows n same other (Replay f j e o p) h = h

@@ -4,7 +4,7 @@ use Rattle.std.specs.Borrow.{Bor}
 use Rattle.std.specs.Str.Parse.{IsNumeral, digits_value, without_leading_plus}
 use Rattle.clap.specs.Words.{Row, Text, first_of, one_of}
 use Rattle.command_line.specs.declared.words.Words.{Words}
-use Rattle.explanations.specs.Numbers.{kind_number}
+use Rattle.faults.specs.Numbers.{kind_number}
 use Rattle.command_line.specs.Formats.{format_text}
 use Rattle.command_line.specs.declared.format.Format.{Format}
 use Rattle.command_line.specs.declared.format.Format.TheVariants.{Text as ForPeople}

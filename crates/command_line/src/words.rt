@@ -9,7 +9,7 @@ use crate::commands::program_command;
 use crate::format::Format;
 use clap::error::ErrorKind;
 use clap::{ArgMatches, Error};
-use explanations::Kind;
+use faults::FaultKind;
 use std::alloc::Global;
 
 /// What the command line asks for.
@@ -55,7 +55,7 @@ pub enum Words<'a> {
     },
     /// Explain a number.
     Explain {
-        kind: Kind,
+        kind: FaultKind,
     },
     /// Do commands from the standard input on the network of the scenario in the file. Then write the
     /// journal to the path, if there is one.
@@ -203,7 +203,7 @@ fn explain_words<'a>(matches: &ArgMatches<'a>) -> Option<Words<'a>>
     ensures none { IfNone result ((w : Words) → IsExplain (rows_of (found_of matches.now)) w → ⊥) }
 {
     let number = number(matches, "number", 55)?;
-    let kind = Kind::of(number)?;
+    let kind = FaultKind::of(number)?;
     Some(Words::Explain { kind })
 }
 

@@ -1,3 +1,3 @@
-pub mod Lending
-pub mod Serving
-pub mod Sharing
+pub mod WritersOut
+pub mod Served
+pub mod Shares

@@ -1,8 +1,9 @@
 //! Which routers may have something to do.
 
 use fabric::Fabric;
-use network_model::{End, Step};
+use network_model::Step;
 use publication::FabricName;
+use world::Touched;
 
 /// How many routers it tells apart.
 const TOLD_APART: usize = 256;
@@ -68,31 +69,18 @@ impl Watch {
 
     /// What a step brings to do that a fabric is about to do.
     pub fn note<B: FabricName>(&mut self, fabric: &Fabric<B>, step: &Step) {
-        match *step {
-            Step::Deliver { router, port: _ } | Step::Publish { router } => self.add(router),
-            Step::Release { router } => {
-                self.add(router);
-                if let Some(neighbour) = next_receiver(fabric, router) {
-                    self.add(neighbour);
-                }
-            }
-            Step::LinkUp { .. }
-            | Step::LinkDown { .. }
-            | Step::SetCost { .. }
-            | Step::Attach { .. }
-            | Step::Detach { .. } => *self = Watch::all(),
+        let touched = Touched::by(step, fabric.world());
+        let Some(router) = touched.router else {
+            *self = Watch::all();
+            return;
+        };
+        self.add(router);
+        if matches!(step, Step::Release { .. })
+            && let Some(link) = touched.link
+            && let Some(link) = fabric.network().links().get(usize::from(link))
+        {
+            self.add(link.a);
+            self.add(link.b);
         }
     }
-}
-
-// The router at the far end of the link on which a router releases next.
-fn next_receiver<B: FabricName>(fabric: &Fabric<B>, router: u16) -> Option<u16> {
-    let world = fabric.world();
-    let held = world.routers().get(usize::from(router))?.front()?;
-    let place = world.port(router, held.port)?;
-    let link = fabric.network().links().get(usize::from(place.link))?;
-    Some(match place.end {
-        End::A => link.b,
-        End::B => link.a,
-    })
 }

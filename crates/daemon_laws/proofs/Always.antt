@@ -1,6 +1,6 @@
 -- What holds at every moment, whatever has happened.
 use Rattle.std.proofs.Common.{List, inl, ℕ}
-use Rattle.packet_loops.proofs.Common.{Prefix, Topology}
+use Rattle.no_packet_loops.proofs.Common.{Prefix, Topology}
 use Rattle.loop_freedom.proofs.FourFacts.{link_facts}
 use Rattle.daemon_laws.specs.Processes.{Processes}
 use Rattle.daemon_laws.specs.Packets.{NoPacketCircles, NoPacketLoops, NoMixtureLoops, NoUnmarkedCircles, NoUnmarkedLoops, NoUnmarkedMixtureLoops, NoUnmarkedWrittenCircles, NoWrittenCircles}

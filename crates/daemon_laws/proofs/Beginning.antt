@@ -1,7 +1,7 @@
 -- The invariant holds where routers begin.
 use Rattle.std.proofs.Common.{refl, sym, ap, subst, ◌∙◌, arith, ◌≡◌, ℕ, zero, suc, ◌<◌, ◌≤◌, Bool, true, false, ◌&&◌, ◌==◌, nat_le, nat_lt, cond, if◌then◌else◌, List, [], ◌∷◌, ◌++◌, map, length, Option, Some, None, slice_get, option_map, option_and_then, unwrap_or, take, drop, eq-eqb}
 use Rattle.std.proofs.lemmas.Bool.{leb-true}
-use Rattle.packet_loops.proofs.Common.{option_map_or, take-nil, drop-nil, and_parts, None_not_Some, Some_injective, find-put, Prefix, prefix_cmp, prefix_eq, IsCost, Machine, opening_machine, infinity, Neighbour, Port, Entry, Router, neighbours, machine_of, rows_of, session_at, entry_of, chosen_rows, next_hop, next_hop_at, is_next_hop, is_up_at, is_port, test_at, kept, ripe_of, unripe_of, IsSound, prefix_cmp_total, find-map, sorted-map, sorted-rows_of, slice_get-map, Topology, LinkEnd}
+use Rattle.no_packet_loops.proofs.Common.{option_map_or, take-nil, drop-nil, and_parts, None_not_Some, Some_injective, find-put, Prefix, prefix_cmp, prefix_eq, IsCost, Machine, opening_machine, infinity, Neighbour, Port, Entry, Router, neighbours, machine_of, rows_of, session_at, entry_of, chosen_rows, next_hop, next_hop_at, is_next_hop, is_up_at, is_port, test_at, kept, ripe_of, unripe_of, IsSound, prefix_cmp_total, find-map, sorted-map, sorted-rows_of, slice_get-map, Topology, LinkEnd}
 use Rattle.network_model.proofs.Common.{both_ways, and_left, Query, Reply, one_if}
 use Rattle.metric.specs.Distance.{greatest_cost}
 use Rattle.network_model.specs.Network.{most_ports}
@@ -12,8 +12,8 @@ use Rattle.loop_freedom.specs.Facts.{pipe, count, messages, live}
 use Rattle.loop_freedom.proofs.Lists.{one_if_at_most_one}
 use Rattle.loop_freedom.proofs.Invariant.{end_invariant_new}
 use Rattle.single_router.specs.declared.opening.Attachment.{Attachment}
-use Rattle.c_interface.specs.declared.fault.Fault.{Fault}
-use Rattle.c_interface.specs.declared.fault.Fault.TheVariants.{BadCost, TooManyPorts}
+use Rattle.c_interface.specs.declared.fault.CallFault.{CallFault}
+use Rattle.c_interface.specs.declared.fault.CallFault.TheVariants.{BadCost, TooManyPorts}
 use Rattle.c_interface.specs.Rows.{prefix_fault}
 use Rattle.single_router.specs.Inputs.{cost_fault}
 use Rattle.single_router.specs.Openings.{first_fault_in, attachment_fault, attachment_row, attachments_fault, costs_fault, make_fault, made_router, unused_port}
@@ -29,7 +29,7 @@ use Rattle.daemon_laws.proofs.Invariant.{router_at, session_of, end_from, Invari
 -- ---- what the tests say
 
 -- where no fault is found in a list, none is found in an element
-none_in : {X : Type 0} (fault : X → Option Fault) (xs : List X) → first_fault_in fault xs ≡ None → (k : ℕ) (x : X) → slice_get xs k ≡ Some x → fault x ≡ None
+none_in : {X : Type 0} (fault : X → Option CallFault) (xs : List X) → first_fault_in fault xs ≡ None → (k : ℕ) (x : X) → slice_get xs k ≡ Some x → fault x ≡ None
 none_in fault [] h k x at = absurd (None_not_Some at)
 none_in fault (y ∷ ys) h zero x at = ap fault (sym (Some_injective at)) ∙ (neither (fault y) (first_fault_in fault ys) h).0
 none_in fault (y ∷ ys) h (suc k) x at = none_in fault ys (neither (fault y) (first_fault_in fault ys) h).1 k x at

@@ -1,6 +1,6 @@
 -- What holds once one router is changed, once an end has taken what comes there, and once a router has released a message.
 use Rattle.std.proofs.Common.{refl, sym, subst, inl, inr, ◌≡◌, ◌≢◌, ℕ, ◌≤◌, Bool, true, false, nat_lt, if◌then◌else◌, Some, slice_get, drop, ltb-false}
-use Rattle.packet_loops.proofs.Common.{option_map_or-ind, cases_eq, Held, Router, ripe_front, Topology, LinkEnd}
+use Rattle.no_packet_loops.proofs.Common.{option_map_or-ind, cases_eq, Held, Router, ripe_front, Topology, LinkEnd}
 use Rattle.single_router.specs.declared.input.Input.TheVariants as input
 use Rattle.single_router.specs.Inputs.{told_fault}
 use Rattle.daemon_laws.specs.Processes.{Carried, Processes}

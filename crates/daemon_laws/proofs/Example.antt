@@ -1,6 +1,6 @@
 -- Two routers and a link of cost 7 between them: the one that is attached to all addresses tells the other, which sends its packets there.
 use Rattle.std.proofs.Common.{refl, arith, Bool, true, false, ◌==◌, List, [], ◌∷◌}
-use Rattle.packet_loops.proofs.Common.{IsCost, Via, at_port}
+use Rattle.no_packet_loops.proofs.Common.{IsCost, Via, at_port}
 use Rattle.loop_freedom.proofs.Example.{pair}
 use Rattle.single_router.specs.declared.opening.Attachment.{Attachment}
 use Rattle.single_router.specs.Openings.{made_router}

@@ -1,6 +1,6 @@
 -- A router that puts rows in force, or forgets a prefix, keeps the invariant.
 use Rattle.std.proofs.Common.{sym, ap, subst, ◌∙◌, arith, inl, inr, ◌≡◌, ◌≢◌, ℕ, ◌≤◌, true, false, ◌&&◌, ◌==◌, List, option_and_then, take, drop}
-use Rattle.packet_loops.proofs.Common.{and_parts, Prefix, prefix_cmp, Router, machine_of, session_at, next_hop, kept, ripe_of, unripe_of, IsSound, is_up_at, is_port, is_current, Topology, LinkEnd}
+use Rattle.no_packet_loops.proofs.Common.{and_parts, Prefix, prefix_cmp, Router, machine_of, session_at, next_hop, kept, ripe_of, unripe_of, IsSound, is_up_at, is_port, is_current, Topology, LinkEnd}
 use Rattle.network_model.proofs.Common.{cases_eq, and_left, infinity}
 use Rattle.network_model.specs.World.{Gate}
 use Rattle.std.specs.FinMap.{find as row_of}

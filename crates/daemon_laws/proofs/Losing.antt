@@ -1,6 +1,6 @@
 -- A message that is lost keeps the invariant, but for what was told.
 use Rattle.std.proofs.Common.{refl, sym, ap, subst, ◌∙◌, arith, inl, inr, ◌≡◌, ◌⊎◌, ℕ, ◌≤◌, Bool, true, false, ◌==◌, if◌then◌else◌, List, [], ◌∷◌, ◌++◌, drop}
-use Rattle.packet_loops.proofs.Common.{false≢true, Prefix, prefix_eq, msg_of, kept, ripe_of, Reported, Topology, LinkEnd}
+use Rattle.no_packet_loops.proofs.Common.{false≢true, Prefix, prefix_eq, msg_of, kept, ripe_of, Reported, Topology, LinkEnd}
 use Rattle.network_model.proofs.Common.{Kind, Query, Reply, Report}
 use Rattle.loop_freedom.specs.Facts.{End, pipe, count, messages, live, AtLeast, AtLeastFromLastQuery}
 use Rattle.loop_freedom.proofs.Link.{EndInvariant}

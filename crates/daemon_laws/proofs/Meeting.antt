@@ -1,6 +1,6 @@
 -- A step of one router, at one of whose ports something may be taken, keeps the invariant.
 use Rattle.std.proofs.Common.{refl, sym, ap, subst, ◌∙◌, arith, append_assoc, inl, inr, ◌≡◌, ◌≢◌, ℕ, ◌<◌, ◌≤◌, true, false, [], ◌++◌, Option, None}
-use Rattle.packet_loops.proofs.Common.{Prefix, Router, machine_of, session_at, kept, ripe_of, unripe_of, IsSound, Topology, LinkEnd, at_port, place_cases, is_next_hop, next_hop_at}
+use Rattle.no_packet_loops.proofs.Common.{Prefix, Router, machine_of, session_at, kept, ripe_of, unripe_of, IsSound, Topology, LinkEnd, at_port, place_cases, is_next_hop, next_hop_at}
 use Rattle.network_model.proofs.Common.{cases_eq, Report}
 use Rattle.loop_freedom.specs.Facts.{live}
 use Rattle.loop_freedom.proofs.Lists.{front}

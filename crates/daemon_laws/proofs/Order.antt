@@ -1,6 +1,6 @@
 -- Whatever happens keeps the order of sessions.
 use Rattle.std.proofs.Common.{refl, sym, ap, subst, ◌∙◌, arith, inl, inr, ◌≡◌, ◌⊎◌, ℕ, ◌≤◌, max, Bool, true, false, ◌&&◌, ◌==◌, is_none, if◌then◌else◌, List, [], ◌∷◌, take, drop, Some, None, slice_get, eq-eqb}
-use Rattle.packet_loops.proofs.Common.{and_parts, and_from, false≢true, take-append-le, Prefix, Held, Router, machine_of, session_at, router_publishing, router_releasing, ripe_front, next_hop_at, ripe_of, is_up_at, is_port, is_next_hop, Topology, LinkEnd, at_port, place_cases}
+use Rattle.no_packet_loops.proofs.Common.{and_parts, and_from, false≢true, take-append-le, Prefix, Held, Router, machine_of, session_at, router_publishing, router_releasing, ripe_front, next_hop_at, ripe_of, is_up_at, is_port, is_next_hop, Topology, LinkEnd, at_port, place_cases}
 use Rattle.network_model.proofs.Common.{cases_eq, both_ways}
 use Rattle.loop_freedom.specs.Facts.{End}
 use Rattle.router_core.specs.Alone.{router_publishing_some}
@@ -19,7 +19,7 @@ use Rattle.daemon_laws.proofs.Invariant.{router_at, session_of, Invariant}
 use Rattle.daemon_laws.proofs.Meeting.{GoesAt, may_before}
 use Rattle.daemon_laws.proofs.InForce.{Ends, AsChosen, AsBefore, PutsInForce}
 use Rattle.daemon_laws.proofs.Releasing.{as_carried, Sent, OnItsWay, Lost}
-use Rattle.packet_loops.proofs.Releasing.{front_of, ripe_front_is}
+use Rattle.no_packet_loops.proofs.Releasing.{front_of, ripe_front_is}
 use Rattle.daemon_laws.proofs.Beginning.{Made, made}
 use Rattle.daemon_laws.proofs.Orderly.{CarriedPast, HeldPast, carried_later, carried_append, carried_drop, carried_first, held_later, held_append, held_drop, held_take, stamped_past, HoldsMore, told_more, Shows, Orderly, hop_from}
 use Rattle.daemon_laws.proofs.Steps.{router_here, router_away, end_same, tells_at, taken_at, publishes_puts, publishes_some_puts, forgets_puts, sent_is, next_keeps}

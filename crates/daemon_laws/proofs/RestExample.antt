@@ -1,6 +1,6 @@
 -- The two routers once more: router 1 takes the route, begins anew, and takes it again in a second session; then both are at rest.
 use Rattle.std.proofs.Common.{refl, sym, ap, subst, ◌∙◌, inl, inr, arith, ◌≡◌, ℕ, zero, suc, ◌<◌, Bool, true, false, ◌&&◌, ◌==◌, if◌then◌else◌, List, [], ◌∷◌, ◌++◌, slice_get, ne_eqb}
-use Rattle.packet_loops.proofs.Common.{option_map_or, list_any, Port, Router, is_quiet_router, LinkEnd, at_port}
+use Rattle.no_packet_loops.proofs.Common.{option_map_or, list_any, Port, Router, is_quiet_router, LinkEnd, at_port}
 use Rattle.network_model.proofs.Common.{cases_eq, both_ways, false_from_ne_true, or_left, or_right}
 use Rattle.loop_freedom.proofs.Example.{pair}
 use Rattle.least_cost.proofs.Reached.{each_place, each_router}

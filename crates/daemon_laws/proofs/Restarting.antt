@@ -1,6 +1,6 @@
 -- A process that ends, and one that begins in its place, keep the invariant.
 use Rattle.std.proofs.Common.{refl, sym, ap, subst, ◌∙◌, arith, inl, inr, ◌≡◌, ◌≢◌, ℕ, ◌<◌, ◌+◌, ◌≤◌, true, false, List, [], ◌∷◌, ◌++◌, take, drop, append-nil, ◌==◌}
-use Rattle.packet_loops.proofs.Common.{Prefix, Router, machine_of, session_at, is_port, is_next_hop, kept, ripe_of, unripe_of, IsSound, is_up_at, Topology, LinkEnd, at_port, take-nil, drop-nil}
+use Rattle.no_packet_loops.proofs.Common.{Prefix, Router, machine_of, session_at, is_port, is_next_hop, kept, ripe_of, unripe_of, IsSound, is_up_at, Topology, LinkEnd, at_port, take-nil, drop-nil}
 use Rattle.network_model.proofs.Common.{cases_eq, both_ways, and_left, Kind, Query, Reply, Report, infinity, one_if}
 use Rattle.machine_laws.specs.Laws.{awaits, owes}
 use Rattle.loop_freedom.specs.Facts.{End, pipe, count, messages, live, AtLeast}

@@ -1,6 +1,6 @@
 -- Where routers in processes of their own are at rest, each has its best row.
 use Rattle.std.proofs.Common.{refl, sym, ap, subst, ◌∙◌, inl, arith, ◌≡◌, ℕ, ◌+◌, ◌<◌, ◌≤◌, Bool, true, ◌==◌, if◌then◌else◌, List, [], ◌∷◌, ◌++◌, Option, Some, None, slice_get, eq-eqb}
-use Rattle.packet_loops.proofs.Common.{option_map_or, and_parts, and_from, false≢true, Prefix, test_at, Machine, Neighbour, Local, Via, Port, machine_of, is_up_at, Topology, IsEdgeWalk, walk_map, LinkEnd, State, next_hop_at}
+use Rattle.no_packet_loops.proofs.Common.{option_map_or, and_parts, and_from, false≢true, Prefix, test_at, Machine, Neighbour, Local, Via, Port, machine_of, is_up_at, Topology, IsEdgeWalk, walk_map, LinkEnd, State, next_hop_at}
 use Rattle.network_model.proofs.Common.{infinity}
 use Rattle.network_model.specs.Network.{most_routers}
 use Rattle.machine_laws.specs.Laws.{reported_at}

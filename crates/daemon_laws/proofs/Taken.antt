@@ -1,8 +1,8 @@
 -- A message of the session that its end is in is not refused.
 use Rattle.std.proofs.Common.{refl, ◌∙◌, ◌≡◌, ℕ, true, false, ◌&&◌, ◌==◌, Option, Some, None, slice_get, eq-eqb, eqb-true}
-use Rattle.packet_loops.proofs.Common.{option_map_or, and_parts, and_from, false≢true, is_up_at, Prefix, Port, machine_of, session_at, Topology, LinkEnd}
-use Rattle.packet_loops.proofs.Machines.{prefix_itself}
-use Rattle.c_interface.specs.declared.fault.Fault.{Fault}
+use Rattle.no_packet_loops.proofs.Common.{option_map_or, and_parts, and_from, false≢true, is_up_at, Prefix, Port, machine_of, session_at, Topology, LinkEnd}
+use Rattle.no_packet_loops.proofs.Machines.{prefix_itself}
+use Rattle.c_interface.specs.declared.fault.CallFault.{CallFault}
 use Rattle.c_interface.specs.Faults.{first_of}
 use Rattle.single_router.specs.Inputs.{told_fault, port_fault, message_fault, kind_fault}
 use Rattle.single_router.specs.declared.input.Input.TheVariants as input
@@ -19,7 +19,7 @@ module _ (t : Topology) (w : Processes) (e : LinkEnd) (v : t.valid e ≡ true) (
   p = (c.message).prefix
 
   -- what the tests of the message find at a port
-  abbrev found : Option Port → Option Fault
+  abbrev found : Option Port → Option CallFault
   found o = port_fault o (λ x. first_of (message_fault c.session x) (kind_fault (machine_of (router_at w e) p).computation e.port (c.message).kind))
 
   -- nothing, at a port that is in its session

@@ -1,14 +1,14 @@
 -- What a router is told, it takes or refuses: either is a step of the router.
 use Rattle.std.proofs.Common.{refl, sym, ap, subst, ◌∙◌, arith, inl, inr, ◌≡◌, ◌≢◌, ℕ, zero, suc, List, [], ◌∷◌, ◌<◌, ◌≤◌, Bool, true, false, ◌&&◌, ◌==◌, nat_lt, is_none, if◌then◌else◌, Option, Some, None, slice_get, length, eqb-true, eq-eqb, ltb-true}
-use Rattle.packet_loops.proofs.Common.{option_map_or, LinkEnd, None_not_Some, Some_injective, and_parts, and_from, false≢true, is_up_at, Event, Prefix, prefix_eq, Message, Port, Router, machine_of, session_at, router_accepting, IsSound, UpNotice, DownNotice, CostNotice, Reported, msg_of, Item}
+use Rattle.no_packet_loops.proofs.Common.{option_map_or, LinkEnd, None_not_Some, Some_injective, and_parts, and_from, false≢true, is_up_at, Event, Prefix, prefix_eq, Message, Port, Router, machine_of, session_at, router_accepting, IsSound, UpNotice, DownNotice, CostNotice, Reported, msg_of, Item}
 use Rattle.network_model.proofs.Common.{both_ways, cases_eq, and_left, false_from_ne_true, Report, infinity}
 use Rattle.single_router.specs.declared.input.Input.{Input}
 use Rattle.c_interface.specs.Faults.{first_of}
-use Rattle.c_interface.specs.declared.fault.Fault.{Fault}
-use Rattle.c_interface.specs.declared.fault.Fault.TheVariants as fault
+use Rattle.c_interface.specs.declared.fault.CallFault.{CallFault}
+use Rattle.c_interface.specs.declared.fault.CallFault.TheVariants as fault
 use Rattle.single_router.specs.Inputs.{told_fault, router_after, port_fault, up_fault, down_fault, message_fault, kind_fault}
 use Rattle.single_router.specs.declared.input.Input.TheVariants as input
-use Rattle.packet_loops.proofs.Machines.{prefix_same}
+use Rattle.no_packet_loops.proofs.Machines.{prefix_same}
 use Rattle.daemon_laws.specs.Processes.{Processes}
 use Rattle.daemon_laws.specs.Packets.{is_in_session}
 use Rattle.daemon_laws.specs.Happenings.{IsOwn, told}
@@ -21,18 +21,18 @@ use Rattle.daemon_laws.proofs.Goes.{Goes, nothing, goes_unmoved, goes_took, goes
 -- ---- what the tests say
 
 -- the port is there, and has passed the test
-pub record Passed (o : Option Port) (test : Port → Option Fault) : Type 0 where
+pub record Passed (o : Option Port) (test : Port → Option CallFault) : Type 0 where
   pub port : Port
   pub there : o ≡ Some port
   pub passes : test port ≡ None
 
 -- a port at which no fault is found
-pub passed : (o : Option Port) (test : Port → Option Fault) → port_fault o test ≡ None → Passed o test
+pub passed : (o : Option Port) (test : Port → Option CallFault) → port_fault o test ≡ None → Passed o test
 passed None test h = absurd (None_not_Some (sym h))
 passed (Some x) test h = record { port = x; there = refl; passes = h }
 
 -- of two tests that find nothing, neither does
-pub neither : (a b : Option Fault) → first_of a b ≡ None → (a ≡ None) × (b ≡ None)
+pub neither : (a b : Option CallFault) → first_of a b ≡ None → (a ≡ None) × (b ≡ None)
 neither None b h = (refl, h)
 neither (Some f) b h = absurd (None_not_Some (sym h))
 
@@ -183,7 +183,7 @@ module _ (p : Prefix) (r : Router) (R : RouterKept p r) (sound : IsSound (machin
   pub goes_told : (w : Processes) (k : ℕ) (i : Input) → IsOwn w k i → GoesAlone p i r (told i r)
   goes_told w k i own = by_fault (told_fault i r) refl
     where
-      by_fault : (o : Option Fault) → told_fault i r ≡ o → GoesAlone p i r (if is_none o then router_after i r else r)
+      by_fault : (o : Option CallFault) → told_fault i r ≡ o → GoesAlone p i r (if is_none o then router_after i r else r)
       by_fault None is = goes_own w k i own is
       by_fault (Some f) is = goes_not i
 
@@ -233,7 +233,7 @@ module _ (p : Prefix) (r : Router) (R : RouterKept p r) (sound : IsSound (machin
   }
 
   -- a message is refused, since the router is not in its session, or since its kind is a fault
-  goes_message_not : (q session : ℕ) (m : Message) (f : Fault) → told_fault (input.Message q session m) r ≡ Some f → GoesWith q session m r
+  goes_message_not : (q session : ℕ) (m : Message) (f : CallFault) → told_fault (input.Message q session m) r ≡ Some f → GoesWith q session m r
   goes_message_not q session m f h = record {
     took = nothing;
     goes = goes_unmoved p r r q sound (still p r R);
@@ -263,6 +263,6 @@ module _ (p : Prefix) (r : Router) (R : RouterKept p r) (sound : IsSound (machin
       by_prefix is true same = goes_message q session m (bounded same) is same
       by_prefix is false apart = goes_message_other q session m apart
 
-      by_fault : (o : Option Fault) → told_fault (input.Message q session m) r ≡ o → GoesWith q session m (if is_none o then router_after (input.Message q session m) r else r)
+      by_fault : (o : Option CallFault) → told_fault (input.Message q session m) r ≡ o → GoesWith q session m (if is_none o then router_after (input.Message q session m) r else r)
       by_fault None is = by_prefix is (prefix_eq p m.prefix) refl
       by_fault (Some f) is = goes_message_not q session m f is

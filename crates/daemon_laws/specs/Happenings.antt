@@ -12,7 +12,7 @@ use Rattle.router_core.specs.Alone.{router_publishing_some, may_forget, router_f
 use Rattle.single_router.specs.declared.input.Input.{Input}
 use Rattle.single_router.specs.declared.input.Input.TheVariants.{Up, Down, Cost, Message, Attached, Detached}
 use Rattle.single_router.specs.declared.opening.Attachment.{Attachment}
-use Rattle.c_interface.specs.declared.fault.Fault.{Fault}
+use Rattle.c_interface.specs.declared.fault.CallFault.{CallFault}
 use Rattle.single_router.specs.Inputs.{told_fault, router_after}
 use Rattle.single_router.specs.Openings.{make_fault, made_router}
 use Rattle.daemon_laws.specs.Processes.{Carried, Processes}
@@ -87,7 +87,7 @@ abbrev pub with_last : (ℕ → Router) → (LinkEnd → ℕ) → LinkEnd → �
 with_last routers last e = max (last e) (session_at (routers e.router).ports e.port)
 
 -- the session of the message that each end took last, once one of this session came to this end; for a fault it is refused
-abbrev pub with_heard : LinkEnd → Option Fault → ℕ → (LinkEnd → ℕ) → LinkEnd → ℕ
+abbrev pub with_heard : LinkEnd → Option CallFault → ℕ → (LinkEnd → ℕ) → LinkEnd → ℕ
 with_heard e fault session heard d = if is_same_end d e && is_none fault then session else heard d
 
 -- the process at this end took the message. One of a session that the end has not been in yet waits

@@ -2,7 +2,7 @@
 //! rest rows lead at least cost.
 //!
 //! The problem: the laws of networks speak of one world, in which a link is up or down at both ends at once
-//! (`packet_loops`). Between daemons each end of a link begins and ends its sessions by itself. A process can
+//! (`no_packet_loops`). Between daemons each end of a link begins and ends its sessions by itself. A process can
 //! end and begin anew, a message can be lost, and rows are written into a table one by one.
 //!
 //! So these laws are of *processes* (`Processes` in `specs/Processes.antt`). These are routers, and for each

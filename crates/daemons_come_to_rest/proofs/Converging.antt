@@ -1,6 +1,6 @@
 -- Once nothing happens any more but what happens alone, processes that lose nothing end where each router has its best row.
 use Rattle.std.proofs.Common.{refl, sym, ap, ◌∙◌, inl, inr, ◌≡◌, ◌⊎◌, ℕ, Bool, true, false, ◌&&◌, ◌||◌, ◌==◌, List, [], ◌∷◌, slice_get}
-use Rattle.packet_loops.proofs.Common.{option_map_or, false≢true, Port, Topology, LinkEnd}
+use Rattle.no_packet_loops.proofs.Common.{option_map_or, false≢true, Port, Topology, LinkEnd}
 use Rattle.network_model.proofs.Common.{both_ways, cases_Bool, true_from_ne_false}
 use Rattle.single_router.specs.declared.input.Input.TheVariants as input
 use Rattle.coming_to_rest.specs.Rest.{IsFinite}

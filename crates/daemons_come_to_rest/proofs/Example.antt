@@ -1,6 +1,6 @@
 -- The two routers whose second session has begun: what still happens leads to where nothing is left.
 use Rattle.std.proofs.Common.{refl, sym, ap, ◌∙◌, arith, ◌≡◌, ◌<◌, Bool, true, false, List, [], length, None, slice_get}
-use Rattle.packet_loops.proofs.Common.{None_not_Some, false≢true, changed_rows, is_due, ripe_front, LinkEnd}
+use Rattle.no_packet_loops.proofs.Common.{None_not_Some, false≢true, changed_rows, is_due, ripe_front, LinkEnd}
 use Rattle.loop_freedom.proofs.Example.{pair}
 use Rattle.single_router.specs.declared.input.Input.TheVariants as input
 use Rattle.coming_to_rest.specs.Rest.{IsFinite}

@@ -2,13 +2,13 @@
 -- its prefix, then what counts for all prefixes together, place by place, then the loads of all prefixes, then what is to be done.
 use Rattle.std.proofs.Common.{refl, sym, ap, subst, ◌∙◌, arith, inl, inr, ◌≡◌, ◌≢◌, ◌⊎◌, ℕ, ◌<◌, ◌≤◌, Bool, true, false, if◌then◌else◌, List, [], ◌∷◌, length, drop, Option, Some, None, is_none, slice_get}
 use Rattle.std.proofs.lemmas.Bool.{le-ltb}
-use Rattle.packet_loops.proofs.Common.{option_map_or, list_any, None_not_Some, Some_injective, Prefix, prefix_eq, Held, Item, Router, machine_of, kept, ripe_of, unripe_of, changed_rows, is_due, router_accepting, router_publishing, router_releasing, ripe_front, Topology, LinkEnd}
+use Rattle.no_packet_loops.proofs.Common.{option_map_or, list_any, None_not_Some, Some_injective, Prefix, prefix_eq, Held, Item, Router, machine_of, kept, ripe_of, unripe_of, changed_rows, is_due, router_accepting, router_publishing, router_releasing, ripe_front, Topology, LinkEnd}
 use Rattle.network_model.proofs.Common.{cases_eq, both_ways, false_from_ne_true, infinity}
 use Rattle.router_core.specs.Alone.{router_publishing_some, may_forget, router_forgetting}
-use Rattle.c_interface.specs.declared.fault.Fault.{Fault}
+use Rattle.c_interface.specs.declared.fault.CallFault.{CallFault}
 use Rattle.single_router.specs.Inputs.{told_fault, attachment_of}
 use Rattle.single_router.specs.declared.input.Input.TheVariants as input
-use Rattle.packet_loops.proofs.Machines.{prefix_same, prefix_itself}
+use Rattle.no_packet_loops.proofs.Machines.{prefix_same, prefix_itself}
 use Rattle.coming_to_rest.specs.Rest.{IsFinite}
 use Rattle.coming_to_rest.proofs.Order.{Falls, at_place}
 use Rattle.coming_to_rest.proofs.Sums.{sum_list, list_less, sum_below, sum_but_one}
@@ -183,7 +183,7 @@ module _ (t : Topology) (F : IsFinite t) (ps : List Prefix) where
       taken = after_message e w c
 
       -- the router after
-      router_then : (o : Option Fault) → told_fault (input.Message e.port c.session c.message) (w.routers e.router) ≡ o
+      router_then : (o : Option CallFault) → told_fault (input.Message e.port c.session c.message) (w.routers e.router) ≡ o
           → taken.routers e.router ≡ (if is_none o then router_accepting e.port (Item.Message c.message) (w.routers e.router) else w.routers e.router)
       router_then o is = router_here e.router (told (input.Message e.port c.session c.message)) w.routers
           ∙ ap (λ f. if is_none f then router_accepting e.port (Item.Message c.message) (w.routers e.router) else w.routers e.router) is
@@ -205,7 +205,7 @@ module _ (t : Topology) (F : IsFinite t) (ps : List Prefix) where
           record { falls = take_falls w taken K G T (bounded t k (K.pfd k) w (K.invariant k) e c at le (prefix_itself k)); known = known_take t F.routers ps w taken G T; ground = λ j. (stays_of w taken e.router (router_accepting e.port (Item.Message c.message) (w.routers e.router)) T.router_is T.routers_elsewhere (λ (y : Router). y.ports) refl j, λ p. taken_attachment t F p w taken T ((K.invariant p).keeps e.router) (bounded t k (K.pfd k) w (K.invariant k) e c at le (prefix_itself k)) j) }
 
       -- the message is refused
-      goes_refused : (f : Fault) → told_fault (input.Message e.port c.session c.message) (w.routers e.router) ≡ Some f → Goes taken
+      goes_refused : (f : CallFault) → told_fault (input.Message e.port c.session c.message) (w.routers e.router) ≡ Some f → Goes taken
       goes_refused f is =
           let D : Drops t w taken = record {
             e = e;
@@ -224,7 +224,7 @@ module _ (t : Topology) (F : IsFinite t) (ps : List Prefix) where
           ]
 
       -- either way
-      goes_either : (o : Option Fault) → told_fault (input.Message e.port c.session c.message) (w.routers e.router) ≡ o → Goes taken
+      goes_either : (o : Option CallFault) → told_fault (input.Message e.port c.session c.message) (w.routers e.router) ≡ o → Goes taken
       goes_either None is = goes_taken is
       goes_either (Some f) is = goes_refused f is
 

@@ -1,6 +1,6 @@
 -- The prefixes of which messages are on their way or held: what still happens makes no new one.
 use Rattle.std.proofs.Common.{refl, sym, ap, subst, ◌∙◌, arith, inl, inr, ◌≡◌, ◌≢◌, ℕ, zero, suc, ◌<◌, Bool, true, false, ◌||◌, ◌&&◌, if◌then◌else◌, List, [], ◌∷◌, ◌++◌, map}
-use Rattle.packet_loops.proofs.Common.{list_any, false≢true, Prefix, prefix_eq, Item, Held, Router, router_accepting, router_releasing, Topology, LinkEnd, at_port, place_cases}
+use Rattle.no_packet_loops.proofs.Common.{list_any, false≢true, Prefix, prefix_eq, Item, Held, Router, router_accepting, router_releasing, Topology, LinkEnd, at_port, place_cases}
 use Rattle.network_model.proofs.Common.{cases_eq}
 use Rattle.coming_to_rest.specs.Rest.{IsFinite}
 use Rattle.coming_to_rest.proofs.Known.{Each, each_append, each_front_off, IsOf, HeldKnown, known_sends}
@@ -10,7 +10,7 @@ use Rattle.daemon_laws.specs.Processes.{Carried, Processes}
 use Rattle.daemon_laws.specs.Packets.{is_in_session}
 use Rattle.daemon_laws.specs.Happenings.{with_coming}
 use Rattle.daemon_laws.proofs.Releasing.{as_carried}
-use Rattle.packet_loops.proofs.Releasing.{front_of}
+use Rattle.no_packet_loops.proofs.Releasing.{front_of}
 use Rattle.daemon_laws.proofs.Steps.{coming_here, coming_away}
 use Rattle.daemons_come_to_rest.proofs.Moves.{Drops, TakesOne, PublishesOne, ReleasesOne}
 

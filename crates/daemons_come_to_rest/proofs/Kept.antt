@@ -1,9 +1,9 @@
 -- What is kept at every moment, whatever happens: the invariant of each prefix, that passive machines without a route have no
 -- feasible distance, and that nothing is on its way where no link is.
 use Rattle.std.proofs.Common.{refl, sym, ap, subst, ◌∙◌, arith, inl, inr, ◌≡◌, ◌≢◌, ℕ, ◌≤◌, Bool, true, false, ◌&&◌, ◌==◌, if◌then◌else◌, List, [], ◌∷◌, ◌++◌, drop, Option, Some, None, unwrap_or, slice_get}
-use Rattle.packet_loops.proofs.Common.{and_parts, None_not_Some, Prefix, prefix_eq, opening_machine, neighbours, Held, Router, machine_of, session_at, is_up_at, router_publishing, router_releasing, IsSound, Topology, LinkEnd, at_port}
+use Rattle.no_packet_loops.proofs.Common.{and_parts, None_not_Some, Prefix, prefix_eq, opening_machine, neighbours, Held, Router, machine_of, session_at, is_up_at, router_publishing, router_releasing, IsSound, Topology, LinkEnd, at_port}
 use Rattle.network_model.proofs.Common.{cases_eq, both_ways, Report}
-use Rattle.packet_loops.proofs.Machines.{prefix_same}
+use Rattle.no_packet_loops.proofs.Machines.{prefix_same}
 use Rattle.router_core.specs.Alone.{router_publishing_some, may_forget, router_forgetting}
 use Rattle.single_router.specs.declared.input.Input.TheVariants as input
 use Rattle.single_router.specs.Openings.{made_router}

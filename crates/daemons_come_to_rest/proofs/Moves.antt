@@ -1,10 +1,10 @@
 -- What each thing that still happens does to what one prefix sees: nothing counts more, or a message makes it fall.
 use Rattle.std.proofs.Common.{refl, sym, ap, subst, ◌∙◌, arith, inl, inr, ◌≡◌, ◌≢◌, ℕ, ◌<◌, ◌≤◌, Bool, true, false, ◌&&◌, ◌==◌, if◌then◌else◌, List, [], ◌∷◌, ◌++◌, Option, Some, None, option_map, slice_get, append-nil, eq-eqb, ne_eqb}
-use Rattle.packet_loops.proofs.Common.{option_map_or, and_from, and_right, and_left, Prefix, prefix_eq, Item, Held, Port, Router, Machine, Neighbour, Event, changed_at, test_at, slice_get-changed_at, slice_get-changed_at_other, machine_of, reaction, session_at, router_accepting, router_publishing, router_releasing, ripe_front, next_hop_at, is_kept, held_as, kept, ripe_of, unripe_of, msg_of, sent_to, held_for, IsSound, Reported, Topology, LinkEnd, at_port, place_cases}
+use Rattle.no_packet_loops.proofs.Common.{option_map_or, and_from, and_right, and_left, Prefix, prefix_eq, Item, Held, Port, Router, Machine, Neighbour, Event, changed_at, test_at, slice_get-changed_at, slice_get-changed_at_other, machine_of, reaction, session_at, router_accepting, router_publishing, router_releasing, ripe_front, next_hop_at, is_kept, held_as, kept, ripe_of, unripe_of, msg_of, sent_to, held_for, IsSound, Reported, Topology, LinkEnd, at_port, place_cases}
 use Rattle.network_model.proofs.Common.{cases_eq, both_ways, SeenHeld, Report, infinity}
 use Rattle.loop_freedom.specs.Facts.{messages}
 use Rattle.loop_freedom.specs.Network.{Publish as NetPublish, Release as NetRelease}
-use Rattle.packet_loops.proofs.Publishing.{control_hop}
+use Rattle.no_packet_loops.proofs.Publishing.{control_hop}
 use Rattle.c_interface.specs.Faults.{first_of}
 use Rattle.single_router.specs.Inputs.{told_fault, message_fault, kind_fault, attachment_of}
 use Rattle.daemon_laws.proofs.Quiet.{attachment_is}
@@ -28,7 +28,7 @@ use Rattle.daemon_laws.proofs.Telling.{passed, neither, message_passes}
 use Rattle.daemon_laws.proofs.Moving.{Took}
 use Rattle.daemon_laws.proofs.Publishing.{ripe_all, unripe_none}
 use Rattle.daemon_laws.proofs.Releasing.{as_carried}
-use Rattle.packet_loops.proofs.Releasing.{Front, front_of, ripe_front_is, unripe_left}
+use Rattle.no_packet_loops.proofs.Releasing.{Front, front_of, ripe_front_is, unripe_left}
 use Rattle.daemon_laws.proofs.Steps.{coming_here, coming_away}
 use Rattle.daemons_come_to_rest.proofs.Shown.{reported, reported-append, shown, stale_of, stale, stales, stales_same, NoMore, no_more_weight, no_more_load, Alike, alike_weight, alike_loads}
 

@@ -1,6 +1,6 @@
 -- Every moment comes to rest.
 use Rattle.std.proofs.Common.{refl, subst, ◌≡◌, List}
-use Rattle.packet_loops.proofs.Common.{Prefix, Topology}
+use Rattle.no_packet_loops.proofs.Common.{Prefix, Topology}
 use Rattle.coming_to_rest.specs.Rest.{IsFinite}
 use Rattle.coming_to_rest.proofs.Order.{every}
 use Rattle.coming_to_rest.proofs.Measure.{top}

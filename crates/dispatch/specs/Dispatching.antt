@@ -11,7 +11,9 @@ use Rattle.forwarder.specs.Replies.{Replied}
 use Rattle.texts.specs.Words.{Text}
 use Rattle.command_line.specs.declared.format.Format.{Format}
 use Rattle.script.specs.Directories.{Directory}
-use Rattle.reports.specs.Formats.{packet_line}
+use Rattle.lines.specs.declared.answers.Asked.TheVariants.{Packet}
+use Rattle.lines.specs.declared.line.Line.TheVariants.{Asked}
+use Rattle.reports.specs.Formats.{line_in}
 use Rattle.worker_pool.specs.Faults.{IsBeginFault, IsInjectFault}
 use Rattle.plans.specs.declared.fault.Cause.{Cause}
 use Rattle.plans.specs.Faults.{OfRefusal, OfWorkers}
@@ -39,7 +41,7 @@ CannotInject refusal cause = OfRefusal (CanBeRefused refusal) cause ⊎ OfWorker
 
 -- what a worker answered
 abbrev pub reply_text : {X : Type 0} → Format → Directory → Replied X → Text
-reply_text format d r = packet_line format d (r.job).number ((r.job).told).router (r.job).addr (r.answer).matched
+reply_text format d r = line_in format d (Asked (Packet (r.job).number (record { router = ((r.job).told).router; addr = (r.job).addr; found = (r.answer).matched })))
 
 -- what workers answered, a line for each reply
 abbrev pub packets_text : {X : Type 0} → Format → Directory → List (Replied X) → Text

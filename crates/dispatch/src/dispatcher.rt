@@ -14,6 +14,7 @@ ghost use Rattle.dispatch.specs.Dispatching.{CannotInject, IsNextJob, packets_te
 
 use crate::host::Host;
 use fabric::{Fabric, FabricName};
+use lines::{Answer, Asked, Line};
 use network_model::NoMemory;
 use plans::Cause;
 use publication::ImageReader;
@@ -181,8 +182,12 @@ pub fn print_replies<B: FabricName, W: Write>(
     for reply in replies {
         let job = reply.job();
         let found = reply.answer().matched;
-        let (number, router, addr) = (job.number, job.router(), job.addr);
-        printer.packet(number, router, addr, found, out)?;
+        let answer = Answer {
+            router: job.router(),
+            addr: job.addr,
+            found,
+        };
+        printer.print(&Line::Asked(Asked::Packet(job.number, answer)), out)?;
     }
     Ok(())
 }

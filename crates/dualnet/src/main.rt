@@ -159,13 +159,7 @@ fn first_input(rt: &HostRuntime, words: &Words<'_>) -> Source<Input> {
 // The journal that is replayed, the document of times, or the commands of a shell.
 fn second_input(rt: &HostRuntime, words: &Words<'_>) -> Source<Input> {
     match *words {
-        Words::Shell {
-            file: _,
-            journal: _,
-            no_journal: _,
-            explain: _,
-            format: _,
-        } => Source::Open(Input::Standard(rt.stdin())),
+        Words::Shell { .. } => Source::Open(Input::Standard(rt.stdin())),
         _ => match second_path(words) {
             Some(path) if path != "-" || !is_scenario_from_input(words) => open_file(rt, path),
             _ => Source::Missing,

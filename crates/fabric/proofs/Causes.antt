@@ -1,6 +1,6 @@
 -- What is due, and what a call answers that gave up, or did not.
 use Rattle.std.proofs.Common.{refl, sym, ap, subst, ◌∙◌, ◌≡◌, ℕ, ◌<◌, List, length, Bool, true, false, cond, Option, Some, None, IsSome, Result, Err, option_and_then, get_or, slice_get}
-use Rattle.packet_loops.proofs.Common.{false≢true, slice_get_read, slice_get_within, Prefix, Refusal, Router, World, Lawful, is_due, refusal, router_publishing, Lawful_to_refusal, Image}
+use Rattle.no_packet_loops.proofs.Common.{false≢true, slice_get_read, slice_get_within, Prefix, Refusal, Router, World, Lawful, is_due, refusal, router_publishing, Lawful_to_refusal, Image}
 use Rattle.network_model.specs.declared.step.Step.{Step}
 use Rattle.network_model.specs.declared.step.Step.TheVariants.{Publish}
 use Rattle.world.specs.Steps.{CanBeRefused, IsDoneOr}

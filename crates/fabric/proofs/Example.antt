@@ -1,11 +1,11 @@
 -- Two routers and the link between them: the one has heard of the other's prefix, and its writer is out with the row.
 use Rattle.std.proofs.Common.{refl, subst, arith, ◌≡◌, ℕ, zero, suc, ◌<◌, List, [], ◌∷◌, Option, Some, None, slice_get, unwrap_or}
-use Rattle.packet_loops.proofs.Common.{Prefix, Router, World, opening, opening_router, Via, Patch, Runs, Some_injective, None_not_Some}
+use Rattle.no_packet_loops.proofs.Common.{Prefix, Router, World, opening, opening_router, Via, Patch, Runs, Some_injective, None_not_Some}
 use Rattle.network_model.specs.declared.step.Step.{Step}
 use Rattle.network_model.specs.declared.step.Step.TheVariants.{LinkUp, Deliver, Publish, Release}
 use Rattle.network_model.specs.Run.{run}
 use Rattle.network_model.proofs.Lawful.{run-Runs}
-use Rattle.packet_loops.proofs.Example.{pair, pair_good}
+use Rattle.no_packet_loops.proofs.Example.{pair, pair_good}
 use Rattle.fabric.specs.Ahead.{GoesAhead, SomePacketGoesAhead}
 use Rattle.fabric.specs.Fabric.{Fabric, fabric_of, lent_at}
 use Rattle.fabric.specs.Images.{images_in_force}

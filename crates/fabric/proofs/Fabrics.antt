@@ -1,6 +1,6 @@
 -- What a step leaves of what every fabric keeps.
 use Rattle.std.proofs.Common.{refl, sym, ap, subst, ◌∙◌, arith, length-append, ◌≡◌, ℕ, zero, suc, ◌+◌, ◌*◌, ◌^◌, ◌<◌, ◌≤◌, cond, List, [], ◌∷◌, ◌++◌, map, length, set, Option, Some, None, slice_get, option_map, option_and_then}
-use Rattle.packet_loops.proofs.Common.{AllByRecursion, range_with_len, length-map, sum_by_push, slice_get_within, slice_get-map, Item, End, changed_at, Link, Router, World, Network, opening, opening_router_of, Lawful, next, is_due, changed_router, changed_link, with_cost, with_front_taken, with_message, with_delivered, with_noticed, with_notice_taken, with_released, front_at, notice_at, release_at, changed_attachments, router_accepting, router_at_home, router_publishing, router_releasing, Runs, Image, Patch, image_answer, map-changed_at, option_map_or-ind, None_not_Some, Some_injective, routers-changed_link}
+use Rattle.no_packet_loops.proofs.Common.{AllByRecursion, range_with_len, length-map, sum_by_push, slice_get_within, slice_get-map, Item, End, changed_at, Link, Router, World, Network, opening, opening_router_of, Lawful, next, is_due, changed_router, changed_link, with_cost, with_front_taken, with_message, with_delivered, with_noticed, with_notice_taken, with_released, front_at, notice_at, release_at, changed_attachments, router_accepting, router_at_home, router_publishing, router_releasing, Runs, Image, Patch, image_answer, map-changed_at, option_map_or-ind, None_not_Some, Some_injective, routers-changed_link}
 use Rattle.network_model.specs.declared.step.Step.{Step}
 use Rattle.network_model.specs.declared.step.Step.TheVariants.{LinkUp, LinkDown, SetCost, Deliver, Publish, Release, Attach, Detach}
 use Rattle.network_model.specs.Journal.{Fits, most_steps, step_number, journal_sum}

@@ -1,7 +1,7 @@
 -- What the laws of all runs say of every fabric.
 use Rattle.std.proofs.Common.{refl, sym, ap, ◌∙◌, ◌≡◌, ℕ, Bool, true, false, cond, ◌&&◌, List, [], Option, Some, None, option_map, option_and_then, slice_get}
-use Rattle.packet_loops.proofs.Common.{option_map_or, slice_get-map, Prefix, longest_match, Entry, entry_leads, Router, router_publishing, IsNetwork, image_answer, None_not_Some}
-use Rattle.packet_loops.specs.Packets.{mixture_rows}
+use Rattle.no_packet_loops.proofs.Common.{option_map_or, slice_get-map, Prefix, longest_match, Entry, entry_leads, Router, router_publishing, IsNetwork, image_answer, None_not_Some}
+use Rattle.no_packet_loops.specs.Packets.{mixture_rows}
 use Rattle.all_packets.specs.Packets.{mixture_hop, IsMovingWay, MayGoOn}
 use Rattle.all_packets.proofs.Improving.{way_by}
 use Rattle.all_packets.proofs.Ways.{always_no_moving_circles}

@@ -1,6 +1,6 @@
 -- Writers at their desks: one that is in publishes, goes out with the patch that is due, or comes back.
 use Rattle.std.proofs.Common.{inr, refl, sym, ap, subst, ◌∙◌, arith, ◌≡◌, ◌<◌, ◌≤◌, ◌+◌, ◌||◌, ℕ, zero, suc, Bool, true, false, cond, List, [], ◌∷◌, ◌++◌, map, length, set, Option, Some, None, IfSome, is_some, get_or, slice_get, option_map, option_and_then, true≢false}
-use Rattle.packet_loops.proofs.Common.{option_map_or, false≢true, length-map, map-set, get_or_from_slice_get, slice_get-get_or, slice_get-map, slice_get_within, or-true, map-set_same, Prefix, Entry, Network, Router, World, IsNetwork, most_steps, Lawful, is_due, next, router_publishing, Patch, None_not_Some, Some_injective}
+use Rattle.no_packet_loops.proofs.Common.{option_map_or, false≢true, length-map, map-set, get_or_from_slice_get, slice_get-get_or, slice_get-map, slice_get_within, or-true, map-set_same, Prefix, Entry, Network, Router, World, IsNetwork, most_steps, Lawful, is_due, next, router_publishing, Patch, None_not_Some, Some_injective}
 use Rattle.network_model.specs.declared.step.Step.{Step}
 use Rattle.network_model.specs.declared.step.Step.TheVariants.{Publish}
 use Rattle.image_patch.specs.declared.Patch.{Patch as PatchFields}
@@ -17,9 +17,9 @@ use Rattle.fabric.specs.Images.{due_at, image_in_force, images_in_force}
 use Rattle.fabric.specs.Patches.{IsPatchDue}
 use Rattle.fabric.specs.Writers.{AreHeard, ArePending, AreWriters, IsPending, shown_images, waiting_at, fabric_seen}
 use Rattle.fabric.proofs.Fabrics.{due_of, images_due, kept_lent}
-use Rattle.fabric.proofs.Showing.{router_of}
-use Rattle.fabric.proofs.Lending.{all_pending_next, count-set, lent_none, lent_there, one}
-use Rattle.fabric.proofs.Publishing.{IsDue, is_due_by, makes, number_is, still_heard, unseen_shown, writer_within, writers_set}
+use Rattle.fabric.proofs.ImagesInForce.{router_of}
+use Rattle.fabric.proofs.WritersOut.{all_pending_next, count-set, lent_none, lent_there, one}
+use Rattle.fabric.proofs.Publications.{IsDue, is_due_by, makes, number_is, still_heard, unseen_shown, writer_within, writers_set}
 
 -- ---- desks
 

@@ -6,22 +6,31 @@ ghost use Rattle.std.specs.List.Sorted.{IsNonDecreasingBy, IsStrictlyIncreasing}
 ghost use Rattle.forwarder.specs.Gathering.{is_reply_to, job_number, fault_at, fault_in, fault_of};
 
 use crate::reply::Reply;
+use faults::FaultKind;
 use publication::{FabricName, Job};
 use std::alloc::Allocator;
 use thiserror::Error;
 
 /// Why replies are not those to the jobs.
 #[derive(Clone, Copy, Debug, PartialEq, Eq, Drop, Error)]
+#[error("{}", FaultKind::from(*self))]
 pub enum GatherFault {
     /// A reply to a job that is not in the list.
-    #[error("30 Stranger")]
     Stranger,
     /// Two replies to one job.
-    #[error("31 Doubled")]
     Doubled,
     /// No reply to a job.
-    #[error("32 Missing")]
     Missing,
+}
+
+impl From<GatherFault> for FaultKind {
+    fn from(fault: GatherFault) -> FaultKind {
+        match fault {
+            GatherFault::Stranger => FaultKind::Stranger,
+            GatherFault::Doubled => FaultKind::Doubled,
+            GatherFault::Missing => FaultKind::Missing,
+        }
+    }
 }
 
 // Whether a reply keeps the number, the router and the address of a job.

@@ -1,8 +1,8 @@
 -- The lines of a journal, read one after another.
 use Rattle.std.proofs.Common.{◌≡◌, ◌≢◌, ℕ, ◌+◌, List, [], ◌∷◌, ◌++◌, length, codes, decimal, arith, refl, sym, ap, subst, ◌∙◌, inl, inr, false, bytes_eq, append_assoc}
 use Rattle.script.proofs.Common.{decimal_injective, all_zipped_more, Prefix, SpellsPrefix, IsFirstFault, PrefixFault, IsFirstFault-spelled, LinkSpec, Step, LinkUp, LinkDown, SetCost, Deliver, Publish, Release, Attach, Detach, Text, IsCost, NamesTextAndNumber, NamesBadPrefix, AsksStep, AsksBadStep, AsksNoStep, AsksBadCost, lines_of}
-use Rattle.script.specs.declared.fault.Fault.{Fault}
-use Rattle.script.specs.declared.fault.Fault.TheVariants.{BadName, BadLine, BadCost, Prefix as OfPrefix, BadCommand, TooLarge, NoMemory}
+use Rattle.script.specs.declared.fault.LineFault.{LineFault}
+use Rattle.script.specs.declared.fault.LineFault.TheVariants.{BadName, BadLine, BadCost, Prefix as OfPrefix, BadCommand, TooLarge, NoMemory}
 use Rattle.script.proofs.StepTexts.{clash, parts_unique, text_unique}
 use Rattle.journal.specs.declared.read.Version.{Version}
 use Rattle.journal.specs.Steps.{SaysStep}
@@ -101,7 +101,7 @@ module _ (names : List Text) (links : List LinkSpec) (attachments : List (Prefix
       let same = text_unique names (codes "detach") words bad.0 i bad.1 asks.0 bad.2 asks.1 in
       IsFirstFault-spelled asks.0 fault prefix (subst (λ t. IsFirstFault t fault) same bad.3) asks.2
 
-  bad_no_step : (e : Fault) → AsksBadStep names links words e → (s : Step) → ¬ (AsksStep names links attachments words s)
+  bad_no_step : (e : LineFault) → AsksBadStep names links words e → (s : Step) → ¬ (AsksStep names links attachments words s)
   bad_no_step BadName never = absurd never
   bad_no_step BadLine never = absurd never
   bad_no_step BadCost (inl bad) = no_cost_no_step bad
@@ -113,7 +113,7 @@ module _ (names : List Text) (links : List LinkSpec) (attachments : List (Prefix
   bad_no_step NoMemory never = absurd never
 
   -- a line that is refused says no step
-  pub says_no_step : (e : Fault) → AsksNoStep names links attachments words e → (s : Step) → ¬ (AsksStep names links attachments words s)
+  pub says_no_step : (e : LineFault) → AsksNoStep names links attachments words e → (s : Step) → ¬ (AsksStep names links attachments words s)
   says_no_step BadName never = absurd never
   says_no_step BadLine never = absurd never
   says_no_step BadCost bad = bad_no_step BadCost bad

@@ -3,31 +3,33 @@
 ghost use Rattle.std.specs.Prelude.{◌≡◌};
 ghost use Rattle.link_fifo.specs.declared.refusal.LinkRefusal.TheVariants.{NoMemory as OutOfMemory};
 
+use faults::FaultKind;
 use network_model::{NoMemory, Refusal};
 use std::alloc::{AllocError, AllocFailed};
 use thiserror::Error;
 
 /// Why a call on links is refused. Its text is its number and name.
 #[derive(Clone, Copy, Debug, PartialEq, Eq, Drop, Error)]
+#[error("{}", FaultKind::from(*self))]
 pub enum LinkRefusal {
     /// The link's number is too large.
-    #[error("11 UnknownLink")]
     UnknownLink,
     /// The link is up.
-    #[error("13 AlreadyUp")]
     AlreadyUp,
     /// The link is down.
-    #[error("14 IsDown")]
     IsDown,
     /// The link has come up 65535 times.
-    #[error("15 SessionsSpent")]
     SessionsSpent,
     /// The end has no item to take.
-    #[error("16 NothingToDeliver")]
     NothingToDeliver,
     /// A growth was refused.
-    #[error("20 NoMemory")]
     NoMemory,
+}
+
+impl From<LinkRefusal> for FaultKind {
+    fn from(fault: LinkRefusal) -> FaultKind {
+        FaultKind::from(Refusal::from(fault))
+    }
 }
 
 impl From<NoMemory> for LinkRefusal {

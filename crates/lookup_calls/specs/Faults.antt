@@ -2,15 +2,15 @@
 use Rattle.std.specs.Prelude.{◌≡◌, ℕ, ◌⊎◌, ◌==◌, if◌then◌else◌, Option, None, Some}
 use Rattle.row_words.specs.Rows.{WordTable}
 use Rattle.c_interface.specs.Faults.{fault_number, IsDoneOrFull}
-use Rattle.c_interface.specs.declared.fault.Fault.{Fault}
-use Rattle.c_interface.specs.declared.fault.Fault.TheVariants.{Empty, BadCount, Shared, NoMemory}
+use Rattle.c_interface.specs.declared.fault.CallFault.{CallFault}
+use Rattle.c_interface.specs.declared.fault.CallFault.TheVariants.{Empty, BadCount, Shared, NoMemory}
 
 -- why a patch of an image is refused
-abbrev pub IsPatchFault : Fault → Type 0
+abbrev pub IsPatchFault : CallFault → Type 0
 IsPatchFault f = (f ≡ Shared) ⊎ (f ≡ NoMemory)
 
 -- what a call answers that changes an image, by that fault and by the image, if there is one
-abbrev pub IsApplyStatus : Option Fault → Option WordTable → ℕ → Type 0
+abbrev pub IsApplyStatus : Option CallFault → Option WordTable → ℕ → Type 0
 IsApplyStatus (Some f) image status = status ≡ fault_number f
 IsApplyStatus None None status = status ≡ fault_number Empty
 IsApplyStatus None (Some image) status = (status ≡ fault_number Shared) ⊎ IsDoneOrFull status

@@ -6,8 +6,8 @@ use Rattle.row_words.specs.declared.cells.Marked.{Marked}
 use Rattle.array_bitmap.specs.Cursor.{rows_onward}
 use Rattle.c_interface.specs.Faults.{fault_number, first_of}
 use Rattle.c_interface.specs.Rows.{prefix_fault, entry_row}
-use Rattle.c_interface.specs.declared.fault.Fault.{Fault}
-use Rattle.c_interface.specs.declared.fault.Fault.TheVariants.{Empty, Shared}
+use Rattle.c_interface.specs.declared.fault.CallFault.{CallFault}
+use Rattle.c_interface.specs.declared.fault.CallFault.TheVariants.{Empty, Shared}
 use Rattle.c_interface.specs.declared.row.Row.{Row}
 use Rattle.lookup_calls.specs.declared.prefixes.Block.{Block}
 
@@ -16,11 +16,11 @@ abbrev pub block_of : Block → Prefix
 block_of b = record { addr = b.addr; len = b.len }
 
 -- the first of the tests that it fails, if any
-abbrev pub block_fault : Block → Option Fault
+abbrev pub block_fault : Block → Option CallFault
 block_fault b = prefix_fault b.addr b.len
 
 -- the fault of the first prefix that has one
-abbrev pub first_block_fault : List Block → Option Fault
+abbrev pub first_block_fault : List Block → Option CallFault
 first_block_fault [] = None
 first_block_fault (b ∷ bs) = first_of (block_fault b) (first_block_fault bs)
 
@@ -36,7 +36,7 @@ abbrev pub withdrawn : ℕ → List Block → WordTable → WordTable
 withdrawn generation blocks image = record { generation = generation; rows = without_rows blocks image.rows }
 
 -- what the call answers that takes rows out, by the fault of the prefixes and by the image, if there is one: it takes no memory
-abbrev pub IsRemoveStatus : Option Fault → Option WordTable → ℕ → Type 0
+abbrev pub IsRemoveStatus : Option CallFault → Option WordTable → ℕ → Type 0
 IsRemoveStatus (Some f) image status = status ≡ fault_number f
 IsRemoveStatus None None status = status ≡ fault_number Empty
 IsRemoveStatus None (Some image) status = (status ≡ fault_number Shared) ⊎ (status ≡ 0)
@@ -48,7 +48,7 @@ abbrev pub cursor_prefix : Block → Option Prefix
 cursor_prefix b = if b.len == 33 then None else Some (block_of b)
 
 -- why it stands nowhere
-abbrev pub cursor_fault : Block → Option Fault
+abbrev pub cursor_fault : Block → Option CallFault
 cursor_fault b = if b.len == 33 then None else block_fault b
 
 -- what is written of a row: itself, as C has it, or its word
@@ -66,7 +66,7 @@ pub record IsFilledIn {X : Type 0} (listed : Prefix × Marked → X) (rows : Lis
   pub others : rows_onward onward rows ≡ drop (length old) (rows_onward from rows)
 
 -- what the call answers that lists rows, by the fault of the cursor and by the image, if there is one
-abbrev pub rows_status : Option Fault → Option WordTable → ℕ
+abbrev pub rows_status : Option CallFault → Option WordTable → ℕ
 rows_status (Some f) image = fault_number f
 rows_status None None = fault_number Empty
 rows_status None (Some image) = 0

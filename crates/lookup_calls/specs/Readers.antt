@@ -2,8 +2,8 @@
 use Rattle.std.specs.Prelude.{◌≡◌, ℕ, ◌⊎◌, ◌==◌, ◌≤◌, ◌<◌, Bool, true, false, Option, None, Some, length}
 use Rattle.row_words.specs.Rows.{WordTable}
 use Rattle.c_interface.specs.Faults.{fault_number, IsDoneOrFull}
-use Rattle.c_interface.specs.declared.fault.Fault.{Fault}
-use Rattle.c_interface.specs.declared.fault.Fault.TheVariants.{Empty, BadCount, Shared}
+use Rattle.c_interface.specs.declared.fault.CallFault.{CallFault}
+use Rattle.c_interface.specs.declared.fault.CallFault.TheVariants.{Empty, BadCount, Shared}
 use Rattle.lookup_calls.specs.Histories.{History}
 
 -- what the call answers that makes a writer, by the image, if there is one
@@ -17,7 +17,7 @@ IsSeatStatus None status = status ≡ fault_number Empty
 IsSeatStatus (Some h) status = (status ≡ fault_number BadCount) ⊎ IsDoneOrFull status
 
 -- what the call answers that publishes, by the fault of its lists and by the writer, if there is one
-abbrev pub IsPublishStatus : Option Fault → Option History → ℕ → Type 0
+abbrev pub IsPublishStatus : Option CallFault → Option History → ℕ → Type 0
 IsPublishStatus (Some f) writer status = status ≡ fault_number f
 IsPublishStatus None None status = status ≡ fault_number Empty
 IsPublishStatus None (Some h) status = (status ≡ fault_number Shared) ⊎ IsDoneOrFull status
@@ -33,7 +33,7 @@ IsReadStatus None addrs answers status = status ≡ fault_number Empty
 IsReadStatus (Some h) addrs answers status = IsReadOf (addrs == answers) status
 
 -- why a reader does not learn that so many images were published: those that it knows of now are fewer, or it found no page
-abbrev pub IsUnlearned : ℕ → History → Fault → Type 0
+abbrev pub IsUnlearned : ℕ → History → CallFault → Type 0
 IsUnlearned published h f = ((f ≡ BadCount) × (length h.images < published)) ⊎ (f ≡ Shared)
 
 -- what the call by which a reader learns answers, by the reader as it is then, if there is one

@@ -8,21 +8,21 @@ use Rattle.network_model.specs.declared.route.Entry.{Entry}
 use Rattle.row_words.specs.Rows.{WordTable, marked_answer, word_answer}
 use Rattle.c_interface.specs.Faults.{first_of}
 use Rattle.c_interface.specs.Rows.{row_fault, answer_row}
-use Rattle.c_interface.specs.declared.fault.Fault.{Fault}
-use Rattle.c_interface.specs.declared.fault.Fault.TheVariants.{BadCount}
+use Rattle.c_interface.specs.declared.fault.CallFault.{CallFault}
+use Rattle.c_interface.specs.declared.fault.CallFault.TheVariants.{BadCount}
 use Rattle.c_interface.specs.declared.row.Row.{Row}
 
 -- the fault of the first row that has one
-abbrev pub first_row_fault : List Row → Option Fault
+abbrev pub first_row_fault : List Row → Option CallFault
 first_row_fault [] = None
 first_row_fault (r ∷ rs) = first_of (row_fault r) (first_row_fault rs)
 
 -- why a list of words does not fit another list of so many
-abbrev pub count_fault : ℕ → ℕ → Option Fault
+abbrev pub count_fault : ℕ → ℕ → Option CallFault
 count_fault many words = if many == words then None else Some BadCount
 
 -- the fault of rows with a word each: that of the first row that has one, or else that there are not as many words
-abbrev pub words_fault : List Row → List ℕ → Option Fault
+abbrev pub words_fault : List Row → List ℕ → Option CallFault
 words_fault rows words = first_of (first_row_fault rows) (count_fault (length rows) (length words))
 
 -- the row that answers an address, without its word

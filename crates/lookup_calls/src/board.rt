@@ -5,7 +5,7 @@ ghost use Rattle.lookup_calls.specs.Histories.{last_image};
 
 use crate::past::Past;
 use crate::shared::Shared;
-use c_interface::Fault;
+use c_interface::CallFault;
 use counted_slot::{Counted, FREE, Fits, PRESENT, TAKEN};
 use std::alloc::Global;
 use std::sync::atomic::{AtomicU64, Ordering};
@@ -114,10 +114,10 @@ pub struct Board {
 }
 
 /// The places of so many readers, without pages.
-pub fn make_places(alloc: Global, readers: usize, past: &Past) -> Result<Vec<Place>, Fault>
+pub fn make_places(alloc: Global, readers: usize, past: &Past) -> Result<Vec<Place>, CallFault>
     requires { readers ≤ 1024 }
     ensures places { IfOk result (λ v. All (λ p. p.page.book ≡ past.now.book) v.items) }
-    ensures err { IsOkUnless result Fault.NoMemory }
+    ensures err { IsOkUnless result CallFault.NoMemory }
 {
     let mut places = Vec::with_capacity(alloc, 2 * readers)?;
     for _ in 0..2 * readers {
@@ -142,17 +142,22 @@ pub fn clear_side(places: &[Place], side: usize) -> bool
 }
 
 /// Puts a page of one copy in for each reader.
-pub fn fill_side(places: &[Place], side: usize, image: &Shared, past: &Past) -> Result<(), Fault>
+pub fn fill_side(
+    places: &[Place],
+    side: usize,
+    image: &Shared,
+    past: &Past,
+) -> Result<(), CallFault>
     requires places { All (λ p. p.page.book ≡ past.now.book) places.now }
     requires last { last_image past.now.images ≡ Some image.now }
-    ensures { IsOkUnless result Fault.NoMemory }
+    ensures { IsOkUnless result CallFault.NoMemory }
 {
     let mut ours = side == 0;
     for place in places {
         if ours {
             let page = Page::new(image.again()?, past.again());
             if !place.fill(page) {
-                return Err(Fault::NoMemory);
+                return Err(CallFault::NoMemory);
             }
         }
         ours = !ours;

@@ -6,7 +6,7 @@ ghost use Rattle.lookup_calls.specs.Prefixes.{first_block_fault};
 use crate::patch::{NewRows, Patch};
 use crate::prefixes::{Block, copy_blocks};
 use crate::shared::Shared;
-use c_interface::Fault;
+use c_interface::CallFault;
 use std::alloc::Global;
 
 /// Rows to set, and prefixes whose rows are then taken out.
@@ -28,12 +28,12 @@ impl Change {
         generation: u64,
         rows: NewRows,
         blocks: &[Block],
-    ) -> Result<Change, Fault>
+    ) -> Result<Change, CallFault>
         requires { first_block_fault blocks.now ≡ None }
         ensures generation { IfOk result (λ c. c.patch.generation ≡ generation) }
         ensures rows { IfOk result (λ c. new_rows c.patch.rows ≡ new_rows rows) }
         ensures blocks { IfOk result (λ c. c.blocks.items ≡ blocks.now) }
-        ensures err { IsOkUnless result Fault.NoMemory }
+        ensures err { IsOkUnless result CallFault.NoMemory }
     {
         let blocks = copy_blocks(alloc, blocks)?;
         Ok(Change {
@@ -43,7 +43,7 @@ impl Change {
     }
 
     /// Makes the change in an image that nobody else holds.
-    pub fn make(&self, image: &mut Shared) -> Result<(), Fault>
+    pub fn make(&self, image: &mut Shared) -> Result<(), CallFault>
         ensures ok { OnOk result (image.new ≡ followed (Some self.now) image.old) }
         ensures unchanged { OnErr result (image.new ≡ image.old) }
         ensures err { IfErr result IsPatchFault }

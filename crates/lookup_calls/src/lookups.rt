@@ -10,11 +10,11 @@ ghost use Rattle.lookup_calls.specs.Rows.{answer_rows, answer_words};
 use crate::kept::Kept;
 use crate::reader::ImageReader;
 use crate::rows::answer_all;
-use c_interface::{Fault, Row};
+use c_interface::{CallFault, Row};
 
 /// Writes the row that an image answers for each of the addresses. It takes no memory. It is refused with
 /// `BadCount` if there are not as many answers as addresses.
-pub fn look_up(image: &Kept, addrs: &[u32], answers: &mut [Row]) -> Result<(), Fault>
+pub fn look_up(image: &Kept, addrs: &[u32], answers: &mut [Row]) -> Result<(), CallFault>
     ensures ok { OnOk result
         (IsLookupStatus (Some image.now) (length addrs.now) (length answers.old) 0) }
     ensures answers { OnOk result (answers.new ≡ answer_rows image.now addrs.now) }
@@ -23,14 +23,14 @@ pub fn look_up(image: &Kept, addrs: &[u32], answers: &mut [Row]) -> Result<(), F
         (Some image.now) (length addrs.now) (length answers.old) (fault_number f)) }
 {
     if addrs.len() != answers.len() {
-        return Err(Fault::BadCount);
+        return Err(CallFault::BadCount);
     }
     answer_all(image, addrs, answers);
     Ok(())
 }
 
 /// As `look_up`, but writes the words of the rows that answer, and nothing else of them.
-pub fn look_up_words(image: &Kept, addrs: &[u32], words: &mut [u32]) -> Result<(), Fault>
+pub fn look_up_words(image: &Kept, addrs: &[u32], words: &mut [u32]) -> Result<(), CallFault>
     ensures ok { OnOk result
         (IsLookupStatus (Some image.now) (length addrs.now) (length words.old) 0) }
     ensures words { OnOk result (words.new ≡ answer_words image.now addrs.now) }
@@ -39,7 +39,7 @@ pub fn look_up_words(image: &Kept, addrs: &[u32], words: &mut [u32]) -> Result<(
         (Some image.now) (length addrs.now) (length words.old) (fault_number f)) }
 {
     if addrs.len() != words.len() {
-        return Err(Fault::BadCount);
+        return Err(CallFault::BadCount);
     }
     image.lookup_words(addrs, words);
     Ok(())
@@ -53,7 +53,7 @@ pub fn read(
     addrs: &[u32],
     answers: &mut [Row],
     generation: &mut u64,
-) -> Result<(), Fault>
+) -> Result<(), CallFault>
     ensures later { GoesOn reader.old reader.new }
     ensures ok { OnOk result
         (IsReadStatus (Some reader.old) (length addrs.now) (length answers.old) 0) }
@@ -65,12 +65,12 @@ pub fn read(
         (Some reader.old) (length addrs.now) (length answers.old) (fault_number f)) }
 {
     if addrs.len() != answers.len() {
-        return Err(Fault::BadCount);
+        return Err(CallFault::BadCount);
     }
     if reader.lookup(addrs, answers, generation) {
         Ok(())
     } else {
-        Err(Fault::Shared)
+        Err(CallFault::Shared)
     }
 }
 
@@ -80,7 +80,7 @@ pub fn read_words(
     addrs: &[u32],
     words: &mut [u32],
     generation: &mut u64,
-) -> Result<(), Fault>
+) -> Result<(), CallFault>
     ensures later { GoesOn reader.old reader.new }
     ensures ok { OnOk result
         (IsReadStatus (Some reader.old) (length addrs.now) (length words.old) 0) }
@@ -92,11 +92,11 @@ pub fn read_words(
         (Some reader.old) (length addrs.now) (length words.old) (fault_number f)) }
 {
     if addrs.len() != words.len() {
-        return Err(Fault::BadCount);
+        return Err(CallFault::BadCount);
     }
     if reader.lookup_words(addrs, words, generation) {
         Ok(())
     } else {
-        Err(Fault::Shared)
+        Err(CallFault::Shared)
     }
 }

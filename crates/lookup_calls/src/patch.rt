@@ -6,7 +6,7 @@ ghost use Rattle.lookup_calls.specs.Images.{new_rows, patched};
 ghost use Rattle.lookup_calls.specs.Tables.{plain_rows};
 
 use crate::kept::Kept;
-use c_interface::{Fault, Row};
+use c_interface::{CallFault, Row};
 use network_model::{Entry, NoMemory, Prefix};
 use row_words::Marked;
 use std::alloc::Global;
@@ -43,11 +43,16 @@ impl Patch {
 
 /// Sets one row without a word in an image, and its generation, with no list of rows. Refused, it changes
 /// nothing.
-pub fn apply_row(image: &mut Kept, alloc: Global, generation: u64, row: Row) -> Result<(), Fault>
+pub fn apply_row(
+    image: &mut Kept,
+    alloc: Global,
+    generation: u64,
+    row: Row,
+) -> Result<(), CallFault>
     requires { row_fault row ≡ None }
     ensures ok { OnOk result (image.new ≡ patched generation (plain_rows (row ∷ [])) image.old) }
     ensures unchanged { OnErr result (image.new ≡ image.old) }
-    ensures err { IsOkUnless result Fault.NoMemory }
+    ensures err { IsOkUnless result CallFault.NoMemory }
 {
     let (prefix, entry) = row.read()?;
     image.set_entry(alloc, prefix, entry)?;

@@ -8,7 +8,7 @@ ghost use Rattle.lookup_calls.specs.Rows.{count_fault};
 
 use crate::kept::Kept;
 use array_bitmap::next_prefix;
-use c_interface::{Fault, Row, read_prefix};
+use c_interface::{CallFault, Row, read_prefix};
 use network_model::Prefix;
 use std::alloc::Global;
 
@@ -24,7 +24,7 @@ pub struct Block {
 }
 
 impl Block {
-    fn read(self) -> Result<Prefix, Fault>
+    fn read(self) -> Result<Prefix, CallFault>
         ensures ok { IfOk result (λ p. (block_fault self ≡ None) × (p ≡ block_of self)) }
         ensures err { IfErr result (λ f. block_fault self ≡ Some f) }
     {
@@ -32,7 +32,7 @@ impl Block {
     }
 
     /// The prefix at which a cursor stands, or none at the end.
-    pub fn read_cursor(self) -> Result<Option<Prefix>, Fault>
+    pub fn read_cursor(self) -> Result<Option<Prefix>, CallFault>
         ensures ok { IfOk result (λ at. (cursor_fault self ≡ None) × (at ≡ cursor_prefix self)) }
         ensures err { IfErr result (λ f. cursor_fault self ≡ Some f) }
     {
@@ -60,7 +60,7 @@ impl Block {
 }
 
 /// Finds the first prefix that has a fault.
-pub fn check_blocks(blocks: &[Block]) -> Result<(), Fault>
+pub fn check_blocks(blocks: &[Block]) -> Result<(), CallFault>
     ensures ok { OnOk result (first_block_fault blocks.now ≡ None) }
     ensures err { IfErr result (λ f. first_block_fault blocks.now ≡ Some f) }
 {
@@ -71,7 +71,7 @@ pub fn check_blocks(blocks: &[Block]) -> Result<(), Fault>
 }
 
 /// Finds out whether a cursor is one, and there are as many places for words as for rows.
-pub fn check_list(from: Block, rows: &[Row], words: &[u32]) -> Result<(), Fault>
+pub fn check_list(from: Block, rows: &[Row], words: &[u32]) -> Result<(), CallFault>
     ensures count { OnOk result (length words.now ≡ length rows.now) }
     ensures ok { OnOk result (first_of (cursor_fault from)
         (count_fault (length rows.now) (length words.now)) ≡ None) }
@@ -80,15 +80,15 @@ pub fn check_list(from: Block, rows: &[Row], words: &[u32]) -> Result<(), Fault>
 {
     let _ = from.read_cursor()?;
     if rows.len() != words.len() {
-        return Err(Fault::BadCount);
+        return Err(CallFault::BadCount);
     }
     Ok(())
 }
 
 /// A copy of a list of prefixes.
-pub fn copy_blocks(alloc: Global, blocks: &[Block]) -> Result<Vec<Block>, Fault>
+pub fn copy_blocks(alloc: Global, blocks: &[Block]) -> Result<Vec<Block>, CallFault>
     ensures ok { IfOk result (λ v. v.items ≡ blocks.now) }
-    ensures err { IsOkUnless result Fault.NoMemory }
+    ensures err { IsOkUnless result CallFault.NoMemory }
 {
     let mut copied = Vec::with_capacity(alloc, blocks.len())?;
     for &block in blocks {

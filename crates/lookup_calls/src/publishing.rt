@@ -15,7 +15,7 @@ use crate::prefixes::Block;
 use crate::reader::ImageReader;
 use crate::rows::{plain_rows, worded_rows};
 use crate::writer::ImageWriter;
-use c_interface::{Fault, Row};
+use c_interface::{CallFault, Row};
 use std::alloc::Global;
 
 /// The most readers that a writer may have.
@@ -23,21 +23,21 @@ const MOST_READERS: usize = 1024;
 
 /// The writer of an image like this one, with room for so many readers. It is refused with `BadCount` if these
 /// are more than 1,024.
-pub fn writer_of(alloc: Global, image: &Kept, readers: usize) -> Result<Box<ImageWriter>, Fault>
+pub fn writer_of(alloc: Global, image: &Kept, readers: usize) -> Result<Box<ImageWriter>, CallFault>
     ensures ok { OnOk result (IsOpenStatus (Some image.now) readers 0) }
     ensures made { IfOk result (λ w. w.value.images ≡ image.now ∷ []) }
     ensures err { IfErr result (λ f. IsOpenStatus (Some image.now) readers (fault_number f)) }
 {
     if readers > MOST_READERS {
-        return Err(Fault::BadCount);
+        return Err(CallFault::BadCount);
     }
     Ok(Box::new(alloc, ImageWriter::new(alloc, image, readers)?)?)
 }
 
 /// A reader of a writer. It is refused with `BadCount` if handles have all.
-pub fn reader_of(alloc: Global, writer: &ImageWriter) -> Result<Box<ImageReader>, Fault>
+pub fn reader_of(alloc: Global, writer: &ImageWriter) -> Result<Box<ImageReader>, CallFault>
     ensures ok { IfOk result (λ r. r.value ≡ writer.now) }
-    ensures err { IfErr result (λ f. (f ≡ Fault.BadCount) ⊎ (f ≡ Fault.NoMemory)) }
+    ensures err { IfErr result (λ f. (f ≡ CallFault.BadCount) ⊎ (f ≡ CallFault.NoMemory)) }
 {
     Ok(Box::new(alloc, writer.reader()?)?)
 }
@@ -49,7 +49,7 @@ pub fn publish_rows(
     generation: u64,
     rows: &[Row],
     prefixes: &[Block],
-) -> Result<(), Fault>
+) -> Result<(), CallFault>
     requires rows { first_row_fault rows.now ≡ None }
     requires prefixes { first_block_fault prefixes.now ≡ None }
     ensures ok { OnOk result (IfSome (last_image writer.old.images) (λ i. writer.new
@@ -69,7 +69,7 @@ pub fn publish_words(
     rows: &[Row],
     words: &[u32],
     prefixes: &[Block],
-) -> Result<(), Fault>
+) -> Result<(), CallFault>
     requires rows { first_row_fault rows.now ≡ None }
     requires count { length words.now ≡ length rows.now }
     requires prefixes { first_block_fault prefixes.now ≡ None }

@@ -9,7 +9,7 @@ ghost use Rattle.lookup_calls.specs.Rows.{answer_rows, answer_words};
 use crate::board::{Board, Page};
 use crate::past::Past;
 use crate::rows::answer_all;
-use c_interface::{Fault, Row};
+use c_interface::{CallFault, Row};
 use counted_slot::{Claim, ONE_READER, PRESENT};
 use std::marker::Model;
 use std::sync::Arc;
@@ -149,7 +149,7 @@ impl ImageReader {
     /// Learns that so many images were published, the first that the writer was made of: from now on the reader
     /// answers by none that is older than the last of these. It is refused with `BadCount` if fewer were
     /// published, and with `Shared` if the writer published `TRIES` times meanwhile. It takes no memory.
-    pub fn learn(&mut self, published: u64) -> Result<(), Fault>
+    pub fn learn(&mut self, published: u64) -> Result<(), CallFault>
         ensures later { GoesOn self.old self.new }
         ensures ok { OnOk result (published ≤ length self.new.images) }
         ensures err { IfErr result (IsUnlearned published self.new) }
@@ -158,17 +158,17 @@ impl ImageReader {
             return Ok(());
         }
         let Some(claim) = enter(&self.seat.board, self.seat.first, &self.past) else {
-            return Err(Fault::Shared);
+            return Err(CallFault::Shared);
         };
         let found = past_by(claim.get(), &self.past);
         claim.leave();
         let Some(past) = found else {
-            return Err(Fault::Shared);
+            return Err(CallFault::Shared);
         };
         let count = past.count();
         self.past = past;
         if count < published {
-            return Err(Fault::BadCount);
+            return Err(CallFault::BadCount);
         }
         Ok(())
     }

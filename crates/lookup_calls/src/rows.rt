@@ -12,7 +12,7 @@ ghost use Rattle.network_model.specs.Publication.{image_answer};
 use crate::kept::Kept;
 use crate::patch::NewRows;
 use array_bitmap::Image;
-use c_interface::{Fault, Row};
+use c_interface::{CallFault, Row};
 use network_model::{Entry, Prefix};
 use row_words::{Marked, WordImage};
 use std::alloc::Global;
@@ -22,7 +22,7 @@ use std::cmp::min;
 const FOUND: usize = 32;
 
 /// Finds the first row that has a fault.
-pub fn check_rows(rows: &[Row]) -> Result<(), Fault>
+pub fn check_rows(rows: &[Row]) -> Result<(), CallFault>
     ensures ok { OnOk result (first_row_fault rows.now ≡ None) }
     ensures err { IfErr result (λ f. first_row_fault rows.now ≡ Some f) }
 {
@@ -33,7 +33,7 @@ pub fn check_rows(rows: &[Row]) -> Result<(), Fault>
 }
 
 /// Finds the first row that has a fault, or else whether there is not a word for each.
-pub fn check_words(rows: &[Row], words: &[u32]) -> Result<(), Fault>
+pub fn check_words(rows: &[Row], words: &[u32]) -> Result<(), CallFault>
     ensures rows { OnOk result (first_row_fault rows.now ≡ None) }
     ensures count { OnOk result (length words.now ≡ length rows.now) }
     ensures ok { OnOk result (words_fault rows.now words.now ≡ None) }
@@ -41,16 +41,16 @@ pub fn check_words(rows: &[Row], words: &[u32]) -> Result<(), Fault>
 {
     check_rows(rows)?;
     if rows.len() != words.len() {
-        return Err(Fault::BadCount);
+        return Err(CallFault::BadCount);
     }
     Ok(())
 }
 
 /// The prefixes and entries of rows.
-fn read_rows(alloc: Global, rows: &[Row]) -> Result<Vec<(Prefix, Entry)>, Fault>
+fn read_rows(alloc: Global, rows: &[Row]) -> Result<Vec<(Prefix, Entry)>, CallFault>
     requires { first_row_fault rows.now ≡ None }
     ensures ok { IfOk result (λ v. v.items ≡ map row_entry rows.now) }
-    ensures err { IsOkUnless result Fault.NoMemory }
+    ensures err { IsOkUnless result CallFault.NoMemory }
 {
     let mut read = Vec::with_capacity(alloc, rows.len())?;
     for &row in rows {
@@ -60,11 +60,15 @@ fn read_rows(alloc: Global, rows: &[Row]) -> Result<Vec<(Prefix, Entry)>, Fault>
 }
 
 /// The prefixes and entries of rows, with their words.
-fn read_words(alloc: Global, rows: &[Row], words: &[u32]) -> Result<Vec<(Prefix, Marked)>, Fault>
+fn read_words(
+    alloc: Global,
+    rows: &[Row],
+    words: &[u32],
+) -> Result<Vec<(Prefix, Marked)>, CallFault>
     requires rows { first_row_fault rows.now ≡ None }
     requires count { length words.now ≡ length rows.now }
     ensures ok { IfOk result (λ v. v.items ≡ worded_rows rows.now words.now) }
-    ensures err { IsOkUnless result Fault.NoMemory }
+    ensures err { IsOkUnless result CallFault.NoMemory }
 {
     let mut read = Vec::with_capacity(alloc, rows.len())?;
     for k in 0..rows.len() {
@@ -76,20 +80,20 @@ fn read_words(alloc: Global, rows: &[Row], words: &[u32]) -> Result<Vec<(Prefix,
 }
 
 /// Rows to set, which have no words.
-pub fn plain_rows(alloc: Global, rows: &[Row]) -> Result<NewRows, Fault>
+pub fn plain_rows(alloc: Global, rows: &[Row]) -> Result<NewRows, CallFault>
     requires { first_row_fault rows.now ≡ None }
     ensures ok { IfOk result (λ r. new_rows r ≡ plain_rows rows.now) }
-    ensures err { IsOkUnless result Fault.NoMemory }
+    ensures err { IsOkUnless result CallFault.NoMemory }
 {
     Ok(NewRows::Plain(read_rows(alloc, rows)?))
 }
 
 /// Rows to set, each with a word.
-pub fn worded_rows(alloc: Global, rows: &[Row], words: &[u32]) -> Result<NewRows, Fault>
+pub fn worded_rows(alloc: Global, rows: &[Row], words: &[u32]) -> Result<NewRows, CallFault>
     requires rows { first_row_fault rows.now ≡ None }
     requires count { length words.now ≡ length rows.now }
     ensures ok { IfOk result (λ r. new_rows r ≡ worded_rows rows.now words.now) }
-    ensures err { IsOkUnless result Fault.NoMemory }
+    ensures err { IsOkUnless result CallFault.NoMemory }
 {
     Ok(NewRows::Words(read_words(alloc, rows, words)?))
 }

@@ -6,7 +6,7 @@ use crate::kept::Kept;
 use crate::patch::{Patch, apply_row};
 use crate::prefixes::{Block, remove_rows};
 use crate::rows::{plain_rows, worded_rows};
-use c_interface::{Fault, Row};
+use c_interface::{CallFault, Row};
 use std::alloc::{AllocError, Global};
 use std::marker::Model;
 use std::sync::Arc;
@@ -59,14 +59,14 @@ impl Shared {
     }
 
     /// Takes the rows of prefixes out of the image, and sets its generation, where nobody else holds it.
-    pub fn remove(&mut self, generation: u64, blocks: &[Block]) -> Result<(), Fault>
+    pub fn remove(&mut self, generation: u64, blocks: &[Block]) -> Result<(), CallFault>
         requires { first_block_fault blocks.now ≡ None }
         ensures ok { OnOk result (self.new ≡ withdrawn generation blocks.now self.old) }
         ensures unchanged { OnErr result (self.new ≡ self.old) }
-        ensures err { IfErr result (λ f. f ≡ Fault.Shared) }
+        ensures err { IfErr result (λ f. f ≡ CallFault.Shared) }
     {
         let Some(image) = Arc::get_mut(&mut self.image) else {
-            return Err(Fault::Shared);
+            return Err(CallFault::Shared);
         };
         remove_rows(image, blocks);
         image.set_generation(generation);
@@ -74,14 +74,14 @@ impl Shared {
     }
 
     /// Sets rows over those of the image, in order, and its generation, where nobody else holds it.
-    pub fn apply(&mut self, alloc: Global, generation: u64, rows: &[Row]) -> Result<(), Fault>
+    pub fn apply(&mut self, alloc: Global, generation: u64, rows: &[Row]) -> Result<(), CallFault>
         requires { first_row_fault rows.now ≡ None }
         ensures ok { OnOk result (self.new ≡ patched generation (plain_rows rows.now) self.old) }
         ensures unchanged { OnErr result (self.new ≡ self.old) }
         ensures err { IfErr result IsPatchFault }
     {
         let Some(image) = Arc::get_mut(&mut self.image) else {
-            return Err(Fault::Shared);
+            return Err(CallFault::Shared);
         };
         if rows.len() == 1 {
             apply_row(image, alloc, generation, rows[0])?;
@@ -100,7 +100,7 @@ impl Shared {
         generation: u64,
         rows: &[Row],
         words: &[u32],
-    ) -> Result<(), Fault>
+    ) -> Result<(), CallFault>
         requires rows { first_row_fault rows.now ≡ None }
         requires count { length words.now ≡ length rows.now }
         ensures ok { OnOk result (self.new
@@ -109,7 +109,7 @@ impl Shared {
         ensures err { IfErr result IsPatchFault }
     {
         let Some(image) = Arc::get_mut(&mut self.image) else {
-            return Err(Fault::Shared);
+            return Err(CallFault::Shared);
         };
         let rows = worded_rows(alloc, rows, words)?;
         Patch { generation, rows }.apply_to(image, alloc)?;
@@ -123,7 +123,7 @@ impl Shared {
         alloc: Global,
         patch: &Patch,
         blocks: &[Block],
-    ) -> Result<(), Fault>
+    ) -> Result<(), CallFault>
         requires { first_block_fault blocks.now ≡ None }
         ensures ok { OnOk result (self.new ≡ withdrawn patch.now.generation blocks.now
             (patched patch.now.generation (new_rows patch.now.rows) self.old)) }
@@ -131,7 +131,7 @@ impl Shared {
         ensures err { IfErr result IsPatchFault }
     {
         let Some(image) = Arc::get_mut(&mut self.image) else {
-            return Err(Fault::Shared);
+            return Err(CallFault::Shared);
         };
         patch.apply_to(image, alloc)?;
         remove_rows(image, blocks);

@@ -10,7 +10,7 @@ use crate::kept::Kept;
 use crate::past::{Head, Past};
 use crate::reader::ImageReader;
 use crate::shared::Shared;
-use c_interface::Fault;
+use c_interface::CallFault;
 use core::mem::replace_with;
 use std::alloc::Global;
 use std::marker::Model;
@@ -53,7 +53,7 @@ fn follow(
     image: &mut Shared,
     missed: Option<Change>,
     change: &Change,
-) -> Result<(), (Fault, Option<Change>)>
+) -> Result<(), (CallFault, Option<Change>)>
     ensures { MatchResult result
         (λ _. image.new ≡ followed (Some change.now) (followed missed image.old))
         (λ e. IsPatchFault e.0 × (followed e.1 image.new ≡ followed missed image.old)) }
@@ -87,7 +87,7 @@ fn show(board: &Board, side: usize, head: &Head, past: &Past, image: &Shared) ->
 
 // Has the hidden copy follow and change, and then shows it.
 #[tactic(auto, using(crate::proofs::Beginnings::last_more))]
-fn turn(writer: ImageWriter, change: Change) -> (ImageWriter, Result<(), Fault>)
+fn turn(writer: ImageWriter, change: Change) -> (ImageWriter, Result<(), CallFault>)
     ensures { MatchResult result.1
         (λ _. IfSome (last_image writer.images)
         (λ i. result.0 ≡ with_image writer (followed (Some change) i)))
@@ -112,7 +112,7 @@ fn turn(writer: ImageWriter, change: Change) -> (ImageWriter, Result<(), Fault>)
             head,
             past,
         };
-        return (writer, Err(Fault::Shared));
+        return (writer, Err(CallFault::Shared));
     };
     if !clear_side(&board.places, 1 - side) {
         let writer = ImageWriter {
@@ -124,7 +124,7 @@ fn turn(writer: ImageWriter, change: Change) -> (ImageWriter, Result<(), Fault>)
             head,
             past,
         };
-        return (writer, Err(Fault::Shared));
+        return (writer, Err(CallFault::Shared));
     }
     if let Err((fault, missed)) = follow(&mut image, missed, &change) {
         let writer = ImageWriter {
@@ -148,7 +148,7 @@ fn turn(writer: ImageWriter, change: Change) -> (ImageWriter, Result<(), Fault>)
             head,
             past,
         };
-        return (writer, Err(Fault::Shared));
+        return (writer, Err(CallFault::Shared));
     };
     let writer = ImageWriter {
         board,
@@ -165,10 +165,10 @@ fn turn(writer: ImageWriter, change: Change) -> (ImageWriter, Result<(), Fault>)
 impl ImageWriter {
     /// The writer of an image like this one, with room for so many readers.
     #[tactic(auto, using(crate::proofs::Beginnings::last_more))]
-    pub fn new(alloc: Global, image: &Kept, readers: usize) -> Result<ImageWriter, Fault>
+    pub fn new(alloc: Global, image: &Kept, readers: usize) -> Result<ImageWriter, CallFault>
         requires { readers ≤ 1024 }
         ensures ok { IfOk result (λ w. w.images ≡ image.now ∷ []) }
-        ensures err { IsOkUnless result Fault.NoMemory }
+        ensures err { IsOkUnless result CallFault.NoMemory }
     {
         let (head, none) = Past::open();
         let shown = Shared::new(alloc, image.copy(alloc)?)?;
@@ -182,7 +182,7 @@ impl ImageWriter {
             },
         )?;
         let Some(past) = show(&board, 0, &head, &none, &shown) else {
-            return Err(Fault::NoMemory);
+            return Err(CallFault::NoMemory);
         };
         Ok(ImageWriter {
             board,
@@ -197,7 +197,7 @@ impl ImageWriter {
 
     /// Makes the change, and has readers take the image from now on. Refused, it publishes nothing: while
     /// a reader is still in a look-up that began before the publication before, or for want of memory.
-    pub(crate) fn publish(&mut self, change: Change) -> Result<(), Fault>
+    pub(crate) fn publish(&mut self, change: Change) -> Result<(), CallFault>
         ensures ok { OnOk result (IfSome (last_image self.old.images)
             (λ i. self.new ≡ with_image self.old (followed (Some change) i))) }
         ensures unchanged { OnErr result (self.new ≡ self.old) }
@@ -214,9 +214,9 @@ impl ImageWriter {
     }
 
     /// A reader. Refused if handles have all.
-    pub fn reader(&self) -> Result<ImageReader, Fault>
+    pub fn reader(&self) -> Result<ImageReader, CallFault>
         ensures ok { IfOk result (λ r. r ≡ self.now) }
-        ensures err { IfErr result (λ f. (f ≡ Fault.BadCount) ⊎ (f ≡ Fault.NoMemory)) }
+        ensures err { IfErr result (λ f. (f ≡ CallFault.BadCount) ⊎ (f ≡ CallFault.NoMemory)) }
     {
         let board = Arc::try_clone(&self.board)?;
         for index in 0..board.places.len() / 2 {
@@ -225,6 +225,6 @@ impl ImageWriter {
                 return Ok(ImageReader::new(board, first, self.past.again()));
             }
         }
-        Err(Fault::BadCount)
+        Err(CallFault::BadCount)
     }
 }

@@ -46,7 +46,7 @@ ghost use Rattle.lookup_calls.specs.Rows.{answer_rows, first_row_fault};
 ghost use Rattle.lookup_calls.specs.Prefixes.{cursor_fault, cursor_prefix, first_block_fault, listed_row, rows_status, withdrawn, IsFilledIn, IsRemoveStatus};
 ghost use Rattle.lookup_calls.specs.Tables.{plain_rows};
 
-use c_interface::{Fault, Row, status};
+use c_interface::{CallFault, Row, status};
 use lookup_calls::{
     Block, check_blocks, check_rows, copy_image, image_of_rows, list_rows, look_up, share_image,
 };
@@ -61,7 +61,7 @@ mod writer_handle;
 use handle::ImageHandle;
 
 // Makes an image of rows and puts it into a handle.
-fn make(alloc: Global, rows: &[Row], image: &mut ImageHandle) -> Result<(), Fault>
+fn make(alloc: Global, rows: &[Row], image: &mut ImageHandle) -> Result<(), CallFault>
     ensures ok { OnOk result (first_row_fault rows.now ≡ None) }
     ensures made { OnOk result (handle_image image.new
         ≡ Some (new_image (plain_rows rows.now))) }
@@ -86,7 +86,12 @@ pub extern "C" fn tuhvondi_image_new(alloc: Global, rows: &[Row], image: &mut Im
 }
 
 // Sets rows over those of a handle's image, and its generation.
-fn apply(alloc: Global, image: &mut ImageHandle, generation: u64, rows: &[Row]) -> Result<(), Fault>
+fn apply(
+    alloc: Global,
+    image: &mut ImageHandle,
+    generation: u64,
+    rows: &[Row],
+) -> Result<(), CallFault>
     ensures ok { OnOk result (IsApplyStatus (first_row_fault rows.now) (handle_image image.old) 0) }
     ensures patched { OnOk result (handle_image image.new
         ≡ option_map (patched generation (plain_rows rows.now)) (handle_image image.old)) }
@@ -96,7 +101,7 @@ fn apply(alloc: Global, image: &mut ImageHandle, generation: u64, rows: &[Row]) 
 {
     check_rows(rows)?;
     let Some(mut held) = image.take(alloc) else {
-        return Err(Fault::Empty);
+        return Err(CallFault::Empty);
     };
     let outcome = held.apply(alloc, generation, rows);
     image.put(held);
@@ -127,7 +132,7 @@ fn remove(
     image: &mut ImageHandle,
     generation: u64,
     prefixes: &[Block],
-) -> Result<(), Fault>
+) -> Result<(), CallFault>
     ensures ok { OnOk result
         (IsRemoveStatus (first_block_fault prefixes.now) (handle_image image.old) 0) }
     ensures removed { OnOk result (handle_image image.new
@@ -138,7 +143,7 @@ fn remove(
 {
     check_blocks(prefixes)?;
     let Some(mut held) = image.take(alloc) else {
-        return Err(Fault::Empty);
+        return Err(CallFault::Empty);
     };
     let outcome = held.remove(generation, prefixes);
     image.put(held);
@@ -170,7 +175,7 @@ fn give(
     image: &mut ImageHandle,
     other: &mut ImageHandle,
     copies: bool,
-) -> Result<(), Fault>
+) -> Result<(), CallFault>
     ensures image { handle_image image.new ≡ handle_image image.old }
     ensures ok { OnOk result (IsGiveStatus (handle_image image.old) 0) }
     ensures given { OnOk result (handle_image other.new ≡ handle_image image.old) }
@@ -178,7 +183,7 @@ fn give(
     ensures err { IfErr result (λ f. IsGiveStatus (handle_image image.old) (fault_number f)) }
 {
     let Some(held) = image.take(alloc) else {
-        return Err(Fault::Empty);
+        return Err(CallFault::Empty);
     };
     let one_more = if copies {
         copy_image(alloc, &held)
@@ -240,7 +245,7 @@ pub extern "C" fn tuhvondi_image_lookup(
     ensures image { handle_image image.new ≡ handle_image image.old }
 {
     let Some(held) = image.take(alloc) else {
-        return Fault::Empty.number();
+        return CallFault::Empty.number();
     };
     let outcome = look_up(held.get(), addrs, answers);
     image.put(held);
@@ -258,11 +263,11 @@ pub extern "C" fn tuhvondi_image_generation(
     ensures some { IfSome (handle_image image.old) (λ i.
         (result ≡ 0) × (generation.new ≡ i.generation)) }
     ensures none { IfNone (handle_image image.old)
-        ((result ≡ fault_number Fault.Empty) × (generation.new ≡ generation.old)) }
+        ((result ≡ fault_number CallFault.Empty) × (generation.new ≡ generation.old)) }
     ensures image { handle_image image.new ≡ handle_image image.old }
 {
     let Some(held) = image.take(alloc) else {
-        return Fault::Empty.number();
+        return CallFault::Empty.number();
     };
     *generation = held.get().generation();
     image.put(held);
@@ -275,7 +280,7 @@ fn list(
     image: &mut ImageHandle,
     from: Block,
     rows: &mut [Row],
-) -> Result<(usize, Block), Fault>
+) -> Result<(usize, Block), CallFault>
     ensures image { handle_image image.new ≡ handle_image image.old }
     ensures ok { OnOk result (rows_status (cursor_fault from) (handle_image image.old) ≡ 0) }
     ensures rows { IfOk result (λ r. IfSome (handle_image image.old) (λ i. IsFilledIn listed_row
@@ -286,7 +291,7 @@ fn list(
 {
     let at = from.read_cursor()?;
     let Some(held) = image.take(alloc) else {
-        return Err(Fault::Empty);
+        return Err(CallFault::Empty);
     };
     let (count, onward) = list_rows(held.get(), at, rows);
     image.put(held);
@@ -333,11 +338,11 @@ pub extern "C" fn tuhvondi_image_row_count(
     ensures some { IfSome (handle_image image.old) (λ i.
         (result ≡ 0) × (count.new ≡ length i.rows)) }
     ensures none { IfNone (handle_image image.old)
-        ((result ≡ fault_number Fault.Empty) × (count.new ≡ count.old)) }
+        ((result ≡ fault_number CallFault.Empty) × (count.new ≡ count.old)) }
     ensures image { handle_image image.new ≡ handle_image image.old }
 {
     let Some(held) = image.take(alloc) else {
-        return Fault::Empty.number();
+        return CallFault::Empty.number();
     };
     *count = held.get().row_count();
     image.put(held);
@@ -354,11 +359,11 @@ pub extern "C" fn tuhvondi_image_bytes(
 ) -> u32
     ensures some { IfSome (handle_image image.old) (λ i. result ≡ 0) }
     ensures none { IfNone (handle_image image.old)
-        ((result ≡ fault_number Fault.Empty) × (bytes.new ≡ bytes.old)) }
+        ((result ≡ fault_number CallFault.Empty) × (bytes.new ≡ bytes.old)) }
     ensures image { handle_image image.new ≡ handle_image image.old }
 {
     let Some(held) = image.take(alloc) else {
-        return Fault::Empty.number();
+        return CallFault::Empty.number();
     };
     *bytes = held.get().bytes();
     image.put(held);

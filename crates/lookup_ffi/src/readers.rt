@@ -12,7 +12,7 @@ ghost use Rattle.lookup_ffi.specs.Handles.{handle_image, handle_reader, handle_w
 use crate::handle::ImageHandle;
 use crate::reader_handle::ReaderHandle;
 use crate::writer_handle::WriterHandle;
-use c_interface::{Fault, Row, status};
+use c_interface::{CallFault, Row, status};
 use lookup_calls::{Block, check_blocks, check_rows, publish_rows, read, reader_of, writer_of};
 use std::alloc::Global;
 
@@ -22,7 +22,7 @@ fn open(
     image: &mut ImageHandle,
     readers: usize,
     writer: &mut WriterHandle,
-) -> Result<(), Fault>
+) -> Result<(), CallFault>
     ensures image { handle_image image.new ≡ handle_image image.old }
     ensures ok { OnOk result (IsOpenStatus (handle_image image.old) readers 0) }
     ensures held { OnOk result (IsSome (handle_writer writer.new)) }
@@ -33,7 +33,7 @@ fn open(
         (λ f. IsOpenStatus (handle_image image.old) readers (fault_number f)) }
 {
     let Some(held) = image.take(alloc) else {
-        return Err(Fault::Empty);
+        return Err(CallFault::Empty);
     };
     let made = writer_of(alloc, held.get(), readers);
     image.put(held);
@@ -67,7 +67,7 @@ fn publish(
     generation: u64,
     rows: &[Row],
     prefixes: &[Block],
-) -> Result<(), Fault>
+) -> Result<(), CallFault>
     ensures ok { OnOk result (IsPublishStatus (first_of (first_row_fault rows.now)
         (first_block_fault prefixes.now)) (handle_writer writer.old) 0) }
     ensures published { OnOk result (IfSome (handle_writer writer.old)
@@ -80,7 +80,7 @@ fn publish(
     check_rows(rows)?;
     check_blocks(prefixes)?;
     let Some(mut held) = writer.take(alloc) else {
-        return Err(Fault::Empty);
+        return Err(CallFault::Empty);
     };
     let outcome = publish_rows(alloc, &mut held, generation, rows, prefixes);
     writer.put(held);
@@ -123,7 +123,7 @@ pub extern "C" fn tuhvondi_writer_published(
     ensures writer { handle_writer writer.new ≡ handle_writer writer.old }
 {
     let Some(held) = writer.take(alloc) else {
-        return Fault::Empty.number();
+        return CallFault::Empty.number();
     };
     *published = held.published();
     writer.put(held);
@@ -131,7 +131,11 @@ pub extern "C" fn tuhvondi_writer_published(
 }
 
 // Makes a reader of a handle's writer.
-fn seat(alloc: Global, writer: &mut WriterHandle, reader: &mut ReaderHandle) -> Result<(), Fault>
+fn seat(
+    alloc: Global,
+    writer: &mut WriterHandle,
+    reader: &mut ReaderHandle,
+) -> Result<(), CallFault>
     ensures writer { handle_writer writer.new ≡ handle_writer writer.old }
     ensures ok { OnOk result (IsSeatStatus (handle_writer writer.old) 0) }
     ensures made { OnOk result (handle_reader reader.new ≡ handle_writer writer.old) }
@@ -139,7 +143,7 @@ fn seat(alloc: Global, writer: &mut WriterHandle, reader: &mut ReaderHandle) -> 
     ensures err { IfErr result (λ f. IsSeatStatus (handle_writer writer.old) (fault_number f)) }
 {
     let Some(held) = writer.take(alloc) else {
-        return Err(Fault::Empty);
+        return Err(CallFault::Empty);
     };
     let made = reader_of(alloc, &held);
     writer.put(held);
@@ -187,7 +191,7 @@ pub extern "C" fn tuhvondi_reader_lookup(
         → (answers.new ≡ answers.old) × (generation.new ≡ generation.old) }
 {
     let Some(mut held) = reader.take(alloc) else {
-        return Fault::Empty.number();
+        return CallFault::Empty.number();
     };
     let outcome = read(&mut held, addrs, answers, generation);
     reader.put(held);
@@ -209,7 +213,7 @@ pub extern "C" fn tuhvondi_reader_learn(
         (λ h. IfSome (handle_reader reader.new) (λ k. GoesOn h k)) }
 {
     let Some(mut held) = reader.take(alloc) else {
-        return Fault::Empty.number();
+        return CallFault::Empty.number();
     };
     let outcome = held.learn(published);
     reader.put(held);

@@ -15,7 +15,7 @@ use crate::{
     tuhvondi_image_generation, tuhvondi_image_lookup, tuhvondi_image_new, tuhvondi_image_remove,
     tuhvondi_image_row_count, tuhvondi_image_rows, tuhvondi_image_share,
 };
-use c_interface::{Fault, Row};
+use c_interface::{CallFault, Row};
 use lookup_calls::Block;
 use std::alloc::Global;
 use std::test::Fail;
@@ -306,7 +306,7 @@ fn each_fault_has_its_number(rt: HostRuntime) {
     );
     assert_eq!(rt; answers[0], NOTHING);
     assert_eq!(rt; tuhvondi_image_lookup(alloc, &mut image, &[], &mut []), 0);
-    assert_eq!(rt; Fault::NoMemory.number(), 20);
+    assert_eq!(rt; CallFault::NoMemory.number(), 20);
 }
 
 // What the reader answers for one address, and by which generation, or the number of a fault.

@@ -18,7 +18,7 @@ ghost use Rattle.lookup_ffi.specs.Handles.{handle_image, handle_reader, handle_w
 use crate::handle::ImageHandle;
 use crate::reader_handle::ReaderHandle;
 use crate::writer_handle::WriterHandle;
-use c_interface::{Fault, Row, status};
+use c_interface::{CallFault, Row, status};
 use lookup_calls::{
     Block, check_blocks, check_list, check_words, image_of_words, list_words, look_up_words,
     publish_words, read_words,
@@ -26,7 +26,12 @@ use lookup_calls::{
 use std::alloc::Global;
 
 // Makes an image of rows with words and puts it into a handle.
-fn make(alloc: Global, rows: &[Row], words: &[u32], image: &mut ImageHandle) -> Result<(), Fault>
+fn make(
+    alloc: Global,
+    rows: &[Row],
+    words: &[u32],
+    image: &mut ImageHandle,
+) -> Result<(), CallFault>
     ensures ok { OnOk result (words_fault rows.now words.now ≡ None) }
     ensures made { OnOk result (handle_image image.new
         ≡ Some (new_image (worded_rows rows.now words.now))) }
@@ -62,7 +67,7 @@ fn apply(
     generation: u64,
     rows: &[Row],
     words: &[u32],
-) -> Result<(), Fault>
+) -> Result<(), CallFault>
     ensures ok { OnOk result
         (IsApplyStatus (words_fault rows.now words.now) (handle_image image.old) 0) }
     ensures patched { OnOk result (handle_image image.new
@@ -73,7 +78,7 @@ fn apply(
 {
     check_words(rows, words)?;
     let Some(mut held) = image.take(alloc) else {
-        return Err(Fault::Empty);
+        return Err(CallFault::Empty);
     };
     let outcome = held.apply_words(alloc, generation, rows, words);
     image.put(held);
@@ -114,7 +119,7 @@ pub extern "C" fn tuhvondi_image_lookup_words(
     ensures image { handle_image image.new ≡ handle_image image.old }
 {
     let Some(held) = image.take(alloc) else {
-        return Fault::Empty.number();
+        return CallFault::Empty.number();
     };
     let outcome = look_up_words(held.get(), addrs, words);
     image.put(held);
@@ -128,7 +133,7 @@ fn list(
     from: Block,
     rows: &mut [Row],
     words: &mut [u32],
-) -> Result<(usize, Block), Fault>
+) -> Result<(usize, Block), CallFault>
     ensures image { handle_image image.new ≡ handle_image image.old }
     ensures ok { OnOk result (rows_status (first_of (cursor_fault from)
         (count_fault (length rows.old) (length words.old))) (handle_image image.old) ≡ 0) }
@@ -144,7 +149,7 @@ fn list(
     check_list(from, rows, words)?;
     let at = from.read_cursor()?;
     let Some(held) = image.take(alloc) else {
-        return Err(Fault::Empty);
+        return Err(CallFault::Empty);
     };
     let (count, onward) = list_words(held.get(), at, rows, words);
     image.put(held);
@@ -190,7 +195,7 @@ fn publish(
     rows: &[Row],
     words: &[u32],
     prefixes: &[Block],
-) -> Result<(), Fault>
+) -> Result<(), CallFault>
     ensures ok { OnOk result (IsPublishStatus (first_of (words_fault rows.now words.now)
         (first_block_fault prefixes.now)) (handle_writer writer.old) 0) }
     ensures published { OnOk result (IfSome (handle_writer writer.old)
@@ -203,7 +208,7 @@ fn publish(
     check_words(rows, words)?;
     check_blocks(prefixes)?;
     let Some(mut held) = writer.take(alloc) else {
-        return Err(Fault::Empty);
+        return Err(CallFault::Empty);
     };
     let outcome = publish_words(alloc, &mut held, generation, rows, words, prefixes);
     writer.put(held);
@@ -252,7 +257,7 @@ pub extern "C" fn tuhvondi_reader_lookup_words(
         → (words.new ≡ words.old) × (generation.new ≡ generation.old) }
 {
     let Some(mut held) = reader.take(alloc) else {
-        return Fault::Empty.number();
+        return CallFault::Empty.number();
     };
     let outcome = read_words(&mut held, addrs, words, generation);
     reader.put(held);

@@ -3,6 +3,7 @@
 ghost use Rattle.std.specs.Prelude.{◌≡◌, IfOk, IsOk, ◌↔◌};
 ghost use Rattle.metric.specs.Distance.{IsCost};
 
+use faults::FaultKind;
 use std::fmt;
 use std::marker::Model;
 use thiserror::Error;
@@ -28,7 +29,7 @@ impl Model for Cost {
 
 /// A number that is no cost: 0, or above 65535.
 #[derive(Clone, Copy, Debug, PartialEq, Eq, Drop, Error)]
-#[error("5 BadCost")]
+#[error("{}", FaultKind::BadCost)]
 pub struct BadCost;
 
 impl Cost {

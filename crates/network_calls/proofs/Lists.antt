@@ -4,17 +4,17 @@ use Rattle.std.specs.Option.{option_map_or}
 use Rattle.std.proofs.lemmas.List.{drop_all, drop_more}
 use Rattle.std.proofs.lemmas.Option.{none-some}
 use Rattle.c_interface.specs.Faults.{first_of}
-use Rattle.c_interface.specs.declared.fault.Fault.{Fault}
+use Rattle.c_interface.specs.declared.fault.CallFault.{CallFault}
 use Rattle.single_router.specs.Openings.{first_fault_in}
 use Rattle.network_calls.specs.Parts.{attachment_fault, first_place, link_fault, list_fault, listed, IsOpeningFault}
 use Rattle.network_calls.specs.declared.failure.Failure.{Failure}
 use Rattle.network_calls.specs.declared.failure.Failure.TheVariants.{Given}
-use Rattle.c_interface.specs.declared.fault.Fault.TheVariants.{NoMemory}
+use Rattle.c_interface.specs.declared.fault.CallFault.TheVariants.{NoMemory}
 use Rattle.network_calls.specs.declared.parts.LinkParts.{LinkParts}
 use Rattle.network_calls.specs.declared.parts.AttachmentParts.{AttachmentParts}
 use Rattle.network_calls.specs.declared.parts.FaultPlace.{FaultPlace}
 
-module _ {X : Type 0} (fault : X → Option Fault) (xs : List X) (i : ℕ) (x : X) (within : i < length xs) (read : x ≡ get_or xs i x) where
+module _ {X : Type 0} (fault : X → Option CallFault) (xs : List X) (i : ℕ) (x : X) (within : i < length xs) (read : x ≡ get_or xs i x) where
   here : first_place fault i (drop i xs) ≡ option_map_or (λ f. Some (f, i)) (fault x) (first_place fault (i + 1) (drop (i + 1) xs))
   here = ap (first_place fault i) (drop_more xs i x within) ∙ ap (λ y. option_map_or (λ f. Some (f, i)) (fault y) (first_place fault (i + 1) (drop (i + 1) xs))) (sym read)
 
@@ -23,19 +23,19 @@ module _ {X : Type 0} (fault : X → Option Fault) (xs : List X) (i : ℕ) (x : 
   passed none = here ∙ ap (λ o. option_map_or (λ f. Some (f, i)) o (first_place fault (i + 1) (drop (i + 1) xs))) none
 
   -- the first with one is found
-  pub found : (f : Fault) → fault x ≡ Some f → first_place fault i (drop i xs) ≡ Some (f, i)
+  pub found : (f : CallFault) → fault x ≡ Some f → first_place fault i (drop i xs) ≡ Some (f, i)
   found f is = here ∙ ap (λ o. option_map_or (λ f. Some (f, i)) o (first_place fault (i + 1) (drop (i + 1) xs))) is
 
 -- where none is left, none has one
-pub none_left : {X : Type 0} (fault : X → Option Fault) (xs : List X) (i : ℕ) → length xs ≤ i → first_place fault i (drop i xs) ≡ None
+pub none_left : {X : Type 0} (fault : X → Option CallFault) (xs : List X) (i : ℕ) → length xs ≤ i → first_place fault i (drop i xs) ≡ None
 none_left fault xs i over = ap (first_place fault i) (drop_all i xs over)
 
 -- without a place
-pub no_fault : {X : Type 0} (fault : X → Option Fault) (k : ℕ) (xs : List X) → first_place fault k xs ≡ None → first_fault_in fault xs ≡ None
+pub no_fault : {X : Type 0} (fault : X → Option CallFault) (k : ℕ) (xs : List X) → first_place fault k xs ≡ None → first_fault_in fault xs ≡ None
 no_fault fault k [] none = refl
 no_fault {X} fault k (x ∷ xs) none = by_first (fault x) refl none (no_fault fault (k + 1) xs)
   where
-    by_first : (o : Option Fault) → fault x ≡ o → option_map_or (λ f. Some (f, k)) o (first_place fault (k + 1) xs) ≡ None → (first_place fault (k + 1) xs ≡ None → first_fault_in fault xs ≡ None) → first_fault_in fault (x ∷ xs) ≡ None
+    by_first : (o : Option CallFault) → fault x ≡ o → option_map_or (λ f. Some (f, k)) o (first_place fault (k + 1) xs) ≡ None → (first_place fault (k + 1) xs ≡ None → first_fault_in fault xs ≡ None) → first_fault_in fault (x ∷ xs) ≡ None
     by_first None is rest others = ap (λ o. first_of o (first_fault_in fault xs)) is ∙ others rest
     by_first (Some f) is rest others = absurd (none-some (f, k) (sym rest))
 

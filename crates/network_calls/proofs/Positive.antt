@@ -4,34 +4,34 @@ use Rattle.network_model.specs.declared.network.NetworkFault.{NetworkFault}
 use Rattle.network_model.specs.declared.network.NetworkFault.TheVariants.{BadRouters, BadLink, TooManyLinks, BadOwner}
 use Rattle.network_model.specs.declared.step.Refusal.{Refusal}
 use Rattle.c_interface.specs.Faults.{fault_number}
-use Rattle.c_interface.specs.declared.fault.Fault.{Fault}
+use Rattle.c_interface.specs.declared.fault.CallFault.{CallFault}
 use Rattle.network_calls.specs.Failures.{failure_number, network_number, refusal_number}
 use Rattle.network_calls.specs.declared.failure.Failure.{Failure}
 use Rattle.network_calls.specs.declared.failure.Failure.TheVariants.{Given, BadLimits, Network, Refused}
 
-pub fault_positive : (f : Fault) → 0 < fault_number f
-fault_positive Fault.BadLength = omega arith
-fault_positive Fault.HostBits = omega arith
-fault_positive Fault.BadCost = omega arith
-fault_positive Fault.BadKind = omega arith
-fault_positive Fault.Empty = omega arith
-fault_positive Fault.BadCount = omega arith
-fault_positive Fault.Shared = omega arith
-fault_positive Fault.UnknownPort = omega arith
-fault_positive Fault.AlreadyUp = omega arith
-fault_positive Fault.IsDown = omega arith
-fault_positive Fault.NothingDue = omega arith
-fault_positive Fault.NothingRipe = omega arith
-fault_positive Fault.NoMemory = omega arith
-fault_positive Fault.TooManyPorts = omega arith
-fault_positive Fault.TooManyPrefixes = omega arith
-fault_positive Fault.UnknownPrefix = omega arith
-fault_positive Fault.NotAttached = omega arith
-fault_positive Fault.OtherSession = omega arith
-fault_positive Fault.GenerationsSpent = omega arith
-fault_positive Fault.Unasked = omega arith
-fault_positive Fault.AskedTwice = omega arith
-fault_positive Fault.StillUsed = omega arith
+pub fault_positive : (f : CallFault) → 0 < fault_number f
+fault_positive CallFault.BadLength = omega arith
+fault_positive CallFault.HostBits = omega arith
+fault_positive CallFault.BadCost = omega arith
+fault_positive CallFault.BadKind = omega arith
+fault_positive CallFault.Empty = omega arith
+fault_positive CallFault.BadCount = omega arith
+fault_positive CallFault.Shared = omega arith
+fault_positive CallFault.UnknownPort = omega arith
+fault_positive CallFault.AlreadyUp = omega arith
+fault_positive CallFault.IsDown = omega arith
+fault_positive CallFault.NothingDue = omega arith
+fault_positive CallFault.NothingRipe = omega arith
+fault_positive CallFault.NoMemory = omega arith
+fault_positive CallFault.TooManyPorts = omega arith
+fault_positive CallFault.TooManyPrefixes = omega arith
+fault_positive CallFault.UnknownPrefix = omega arith
+fault_positive CallFault.NotAttached = omega arith
+fault_positive CallFault.OtherSession = omega arith
+fault_positive CallFault.GenerationsSpent = omega arith
+fault_positive CallFault.Unasked = omega arith
+fault_positive CallFault.AskedTwice = omega arith
+fault_positive CallFault.StillUsed = omega arith
 
 pub refusal_positive : (e : Refusal) → 0 < refusal_number e
 refusal_positive Refusal.UnknownRouter = omega arith

@@ -12,7 +12,7 @@ use Rattle.network_model.specs.World.{Router, World}
 use Rattle.ipv4_prefix.specs.Prefix.{Prefix}
 use Rattle.world.specs.Steps.{port_refusal}
 use Rattle.c_interface.specs.Rows.{answer_row, prefix_fault}
-use Rattle.c_interface.specs.declared.fault.Fault.TheVariants.{Empty, BadCount}
+use Rattle.c_interface.specs.declared.fault.CallFault.TheVariants.{Empty, BadCount}
 use Rattle.c_interface.specs.declared.row.Row.{Row}
 use Rattle.single_router.specs.Publishing.{IsWrittenOver}
 use Rattle.simulation.specs.Settling.{HasTurned, IsStopped}

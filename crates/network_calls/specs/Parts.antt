@@ -11,8 +11,8 @@ use Rattle.network_model.specs.World.{Network}
 use Rattle.network_model.specs.Network.{network_fault, widest_limits, AreWithin}
 use Rattle.c_interface.specs.Faults.{first_of}
 use Rattle.c_interface.specs.Rows.{prefix_fault}
-use Rattle.c_interface.specs.declared.fault.Fault.{Fault}
-use Rattle.c_interface.specs.declared.fault.Fault.TheVariants.{BadCost, NoMemory}
+use Rattle.c_interface.specs.declared.fault.CallFault.{CallFault}
+use Rattle.c_interface.specs.declared.fault.CallFault.TheVariants.{BadCost, NoMemory}
 use Rattle.network_calls.specs.Failures.{failure_number}
 use Rattle.network_calls.specs.declared.failure.Failure.{Failure}
 use Rattle.network_calls.specs.declared.failure.Failure.TheVariants.{Given, BadLimits, Network as InNetwork}
@@ -22,7 +22,7 @@ use Rattle.network_calls.specs.declared.parts.AttachmentParts.{AttachmentParts}
 use Rattle.network_calls.specs.declared.parts.FaultPlace.{FaultPlace}
 
 -- why a number is no cost
-abbrev pub cost_fault : ℕ → Option Fault
+abbrev pub cost_fault : ℕ → Option CallFault
 cost_fault n = if nat_le 1 n && nat_le n greatest_cost then None else Some BadCost
 
 -- the prefix of these numbers, where they are one
@@ -36,7 +36,7 @@ limits_of l = record { routers = l.routers; links = l.links; ports = l.ports; pr
 
 -- ---- links
 
-abbrev pub link_fault : LinkParts → Option Fault
+abbrev pub link_fault : LinkParts → Option CallFault
 link_fault l = first_of (cost_fault l.from_a) (cost_fault l.from_b)
 
 abbrev pub link_spec : LinkParts → LinkSpec
@@ -44,7 +44,7 @@ link_spec l = record { a = l.a; b = l.b; from_a = l.from_a; from_b = l.from_b }
 
 -- ---- attachments
 
-abbrev pub attachment_fault : AttachmentParts → Option Fault
+abbrev pub attachment_fault : AttachmentParts → Option CallFault
 attachment_fault a = first_of (prefix_fault a.addr a.len) (cost_fault a.cost)
 
 abbrev pub attachment_row : AttachmentParts → Prefix × ℕ × ℕ
@@ -57,7 +57,7 @@ abbrev pub parts_network : ℕ → List LinkParts → List AttachmentParts → N
 parts_network routers links attachments = record { routers = routers; links = map link_spec links; attachments = map attachment_row attachments }
 
 -- the first of these that has a fault, by its place, which begins here
-abbrev pub first_place : {X : Type 0} → (X → Option Fault) → ℕ → List X → Option (Fault × ℕ)
+abbrev pub first_place : {X : Type 0} → (X → Option CallFault) → ℕ → List X → Option (CallFault × ℕ)
 first_place fault k [] = None
 first_place fault k (x ∷ xs) = option_map_or (λ f. Some (f, k)) (fault x) (first_place fault (k + 1) xs)
 
@@ -69,7 +69,7 @@ place_of (TooManyLinks l) = record { position = l; list = 1 }
 place_of (BadOwner p) = record { position = p; list = 2 }
 
 -- a fault of a list, with its place
-abbrev pub listed : ℕ → Fault × ℕ → Failure × FaultPlace
+abbrev pub listed : ℕ → CallFault × ℕ → Failure × FaultPlace
 listed list f = (Given f.0, record { position = f.1; list = list })
 
 -- the first fault of the lists of which a network is made, with its place: a link's costs, or else an attachment's prefix or cost

@@ -5,8 +5,8 @@ use Rattle.network_model.specs.declared.step.Step.{Step}
 use Rattle.network_model.specs.declared.step.Step.TheVariants.{LinkUp, LinkDown, SetCost, Deliver, Publish, Release, Attach, Detach}
 use Rattle.c_interface.specs.Faults.{first_of}
 use Rattle.c_interface.specs.Rows.{prefix_fault}
-use Rattle.c_interface.specs.declared.fault.Fault.{Fault}
-use Rattle.c_interface.specs.declared.fault.Fault.TheVariants.{BadKind}
+use Rattle.c_interface.specs.declared.fault.CallFault.{CallFault}
+use Rattle.c_interface.specs.declared.fault.CallFault.TheVariants.{BadKind}
 use Rattle.network_calls.specs.Parts.{as_prefix, cost_fault}
 use Rattle.network_calls.specs.declared.step.StepParts.{StepParts}
 
@@ -15,7 +15,7 @@ abbrev pub step_prefix : StepParts → Prefix
 step_prefix s = as_prefix s.addr s.len
 
 -- why these parts are no step: only what the kind needs is tested
-abbrev pub parts_of_step_fault : StepParts → Option Fault
+abbrev pub parts_of_step_fault : StepParts → Option CallFault
 parts_of_step_fault s =
     if s.kind == 2 then cost_fault s.cost
     else if s.kind == 6 then first_of (prefix_fault s.addr s.len) (cost_fault s.cost)

@@ -3,14 +3,14 @@
 ghost use Rattle.std.specs.Prelude.{◌≡◌, ◌<◌, OnOk, IfErr};
 ghost use Rattle.network_calls.specs.Failures.{failure_number, network_number, refusal_number};
 
-use c_interface::Fault;
+use c_interface::CallFault;
 use network_model::{NetworkFault, Refusal};
 
 /// Why a call on a network is refused.
 #[derive(Clone, Copy, Debug, PartialEq, Eq)]
 pub enum Failure {
     /// What was given has a fault, or the handle holds nothing.
-    Given(Fault),
+    Given(CallFault),
     /// A limit of a network is above the widest.
     BadLimits,
     /// The network cannot be opened.

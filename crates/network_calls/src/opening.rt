@@ -3,7 +3,7 @@
 ghost use Rattle.std.specs.Prelude.{◌≡◌, None, IfOk, IfErr, OnOk};
 ghost use Rattle.simulation.specs.Simulation.{opening_simulation};
 ghost use Rattle.network_model.specs.Network.{widest_limits, AreWithin};
-ghost use Rattle.c_interface.specs.declared.fault.Fault.TheVariants.{NoMemory as LacksMemory};
+ghost use Rattle.c_interface.specs.declared.fault.CallFault.TheVariants.{NoMemory as LacksMemory};
 ghost use Rattle.network_calls.specs.declared.failure.Failure.TheVariants.{Given};
 ghost use Rattle.network_calls.specs.Parts.{limits_of, list_fault, network_failure, parts_network, IsFaultWithin, IsOpeningFault};
 
@@ -13,7 +13,7 @@ use crate::parts::{
     read_attachments, read_links,
 };
 use crate::running::Running;
-use c_interface::Fault;
+use c_interface::CallFault;
 use network_model::{Limits, NoMemory};
 use simulation::Network;
 use std::alloc::Global;
@@ -25,7 +25,7 @@ pub const NOWHERE: FaultPlace = FaultPlace {
 };
 
 /// What is refused for want of memory.
-pub const FULL: (Failure, FaultPlace) = (Failure::Given(Fault::NoMemory), NOWHERE);
+pub const FULL: (Failure, FaultPlace) = (Failure::Given(CallFault::NoMemory), NOWHERE);
 
 /// The network of these parts within limits of the caller's, of which a fault is told first.
 pub fn read_network_within(

@@ -4,7 +4,7 @@ ghost use Rattle.std.specs.Prelude.{◌≡◌, None, Some, IfOk, IfErr, OnOk, Is
 ghost use Rattle.single_router.specs.Openings.{first_fault_in};
 ghost use Rattle.network_calls.specs.Parts.{attachment_fault, attachment_row, cost_fault, first_place, limits_of, link_fault, link_spec, place_of};
 
-use c_interface::{Fault, read_prefix};
+use c_interface::{CallFault, read_prefix};
 use network_model::{Cost, Limits, LinkSpec, NetworkFault, Prefix};
 use std::alloc::Global;
 
@@ -71,7 +71,7 @@ impl FaultPlace {
 }
 
 /// The cost of a number.
-pub fn read_cost(cost: u32) -> Result<Cost, Fault>
+pub fn read_cost(cost: u32) -> Result<Cost, CallFault>
     ensures ok { IfOk result (λ c. (cost_fault cost ≡ None) × (c ≡ cost)) }
     ensures err { IfErr result (λ f. cost_fault cost ≡ Some f) }
 {
@@ -95,7 +95,7 @@ impl LimitsParts {
 }
 
 impl LinkParts {
-    fn read(&self) -> Result<LinkSpec, Fault>
+    fn read(&self) -> Result<LinkSpec, CallFault>
         ensures ok { IfOk result (λ l. (link_fault self.now ≡ None) × (l ≡ link_spec self.now)) }
         ensures err { IfErr result (λ f. link_fault self.now ≡ Some f) }
     {
@@ -111,7 +111,7 @@ impl LinkParts {
 }
 
 impl AttachmentParts {
-    fn read(&self) -> Result<(Prefix, u16, Cost), Fault>
+    fn read(&self) -> Result<(Prefix, u16, Cost), CallFault>
         ensures ok { IfOk result (λ a. (attachment_fault self.now ≡ None)
             × (a ≡ attachment_row self.now)) }
         ensures err { IfErr result (λ f. attachment_fault self.now ≡ Some f) }
@@ -123,7 +123,7 @@ impl AttachmentParts {
 }
 
 /// Tests links: the first that has a fault, with its position.
-pub fn check_links(links: &[LinkParts]) -> Result<(), (Fault, usize)>
+pub fn check_links(links: &[LinkParts]) -> Result<(), (CallFault, usize)>
     ensures ok { OnOk result (first_place link_fault 0 links.now ≡ None) }
     ensures err { IfErr result (λ f. first_place link_fault 0 links.now ≡ Some f) }
 {
@@ -137,7 +137,7 @@ pub fn check_links(links: &[LinkParts]) -> Result<(), (Fault, usize)>
 }
 
 /// Tests attachments: the first that has a fault, with its position.
-pub fn check_attachments(attachments: &[AttachmentParts]) -> Result<(), (Fault, usize)>
+pub fn check_attachments(attachments: &[AttachmentParts]) -> Result<(), (CallFault, usize)>
     ensures ok { OnOk result (first_place attachment_fault 0 attachments.now ≡ None) }
     ensures err { IfErr result (λ f. first_place attachment_fault 0 attachments.now ≡ Some f) }
 {
@@ -151,10 +151,10 @@ pub fn check_attachments(attachments: &[AttachmentParts]) -> Result<(), (Fault, 
 }
 
 /// The links of these parts.
-pub fn read_links(alloc: Global, links: &[LinkParts]) -> Result<Vec<LinkSpec>, Fault>
+pub fn read_links(alloc: Global, links: &[LinkParts]) -> Result<Vec<LinkSpec>, CallFault>
     requires { first_fault_in link_fault links.now ≡ None }
     ensures ok { IfOk result (λ read. read.items ≡ map link_spec links.now) }
-    ensures err { IsOkUnless result Fault.NoMemory }
+    ensures err { IsOkUnless result CallFault.NoMemory }
 {
     let mut read = Vec::with_capacity(alloc, links.len())?;
     for link in links {
@@ -167,10 +167,10 @@ pub fn read_links(alloc: Global, links: &[LinkParts]) -> Result<Vec<LinkSpec>, F
 pub fn read_attachments(
     alloc: Global,
     attachments: &[AttachmentParts],
-) -> Result<Vec<(Prefix, u16, Cost)>, Fault>
+) -> Result<Vec<(Prefix, u16, Cost)>, CallFault>
     requires { first_fault_in attachment_fault attachments.now ≡ None }
     ensures ok { IfOk result (λ read. read.items ≡ map attachment_row attachments.now) }
-    ensures err { IsOkUnless result Fault.NoMemory }
+    ensures err { IsOkUnless result CallFault.NoMemory }
 {
     let mut read = Vec::with_capacity(alloc, attachments.len())?;
     for attachment in attachments {

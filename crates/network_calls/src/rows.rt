@@ -8,7 +8,7 @@ ghost use Rattle.single_router.specs.Publishing.{IsWrittenOver};
 ghost use Rattle.single_router.specs.States.{flag};
 
 use crate::failure::Failure;
-use c_interface::{Fault, Row};
+use c_interface::{CallFault, Row};
 use network_model::Refusal;
 use route_table::PublishedRows;
 use simulation::{Image, Simulation, World};
@@ -44,7 +44,7 @@ pub fn look_up(
             answer_all(image, addrs, answers);
             Ok(())
         }
-        Some(_) => Err(Failure::Given(Fault::BadCount)),
+        Some(_) => Err(Failure::Given(CallFault::BadCount)),
     }
 }
 

@@ -4,7 +4,7 @@ ghost use Rattle.std.specs.Prelude.{◌≡◌, None, Some, IfOk, IfErr};
 ghost use Rattle.network_calls.specs.Steps.{parts_of_step, parts_of_step_fault, plain_parts, step_of};
 
 use crate::parts::read_cost;
-use c_interface::{Fault, read_prefix};
+use c_interface::{CallFault, read_prefix};
 use network_model::Step;
 
 /// A step: its kind, 0 to 7 in the order of [`Step`]'s variants, its router or link, and what the kind needs:
@@ -36,7 +36,7 @@ fn plain(kind: u8, subject: u16, port: u8) -> StepParts
 
 impl StepParts {
     /// The step of these parts.
-    pub fn read(self) -> Result<Step, Fault>
+    pub fn read(self) -> Result<Step, CallFault>
         ensures ok { IfOk result (λ s. (parts_of_step_fault self ≡ None) × (s ≡ step_of self)) }
         ensures err { IfErr result (λ f. parts_of_step_fault self ≡ Some f) }
     {
@@ -64,7 +64,7 @@ impl StepParts {
                 let prefix = read_prefix(self.addr, self.len)?;
                 Step::Detach { router, prefix }
             }
-            _ => return Err(Fault::BadKind),
+            _ => return Err(CallFault::BadKind),
         })
     }
 

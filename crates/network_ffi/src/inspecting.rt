@@ -8,7 +8,7 @@ ghost use Rattle.network_calls.specs.Parts.{as_prefix};
 ghost use Rattle.network_calls.specs.Shown.{gate_at, link_shown, AreHeldShown, AreNoticesShown, IsQueueShown};
 
 use crate::handle::NetworkHandle;
-use c_interface::{Fault, read_prefix};
+use c_interface::{CallFault, read_prefix};
 use network_calls::{
     Failure, GateShown, ItemShown, LinkShown, MachineShown, NoticeShown, machine_of, queue_of,
     write_held, write_notices,
@@ -38,7 +38,7 @@ pub extern "C" fn tuhvondi_network_machine(
         Err(fault) => return fault.number(),
     };
     let Some(held) = network.take(alloc) else {
-        return Fault::Empty.number();
+        return CallFault::Empty.number();
     };
     let found = machine_of(held.get().world(), router, prefix);
     network.put(held);
@@ -66,7 +66,7 @@ pub extern "C" fn tuhvondi_network_link(
     ensures network { handle_network network.new ≡ handle_network network.old }
 {
     let Some(held) = network.take(alloc) else {
-        return Fault::Empty.number();
+        return CallFault::Empty.number();
     };
     let found = LinkShown::at(held.get().world(), link);
     network.put(held);
@@ -97,7 +97,7 @@ pub extern "C" fn tuhvondi_network_queue(
     ensures network { handle_network network.new ≡ handle_network network.old }
 {
     let Some(held) = network.take(alloc) else {
-        return Fault::Empty.number();
+        return CallFault::Empty.number();
     };
     let told = queue_of(held.get().world(), router, port, items);
     network.put(held);
@@ -126,7 +126,7 @@ pub extern "C" fn tuhvondi_network_gate(
     ensures network { handle_network network.new ≡ handle_network network.old }
 {
     let Some(held) = network.take(alloc) else {
-        return Fault::Empty.number();
+        return CallFault::Empty.number();
     };
     let found = GateShown::at(held.get().world(), router);
     network.put(held);
@@ -156,7 +156,7 @@ pub extern "C" fn tuhvondi_network_held(
     ensures network { handle_network network.new ≡ handle_network network.old }
 {
     let Some(held) = network.take(alloc) else {
-        return Fault::Empty.number();
+        return CallFault::Empty.number();
     };
     let told = match held.get().world().routers().get(usize::from(router)) {
         Some(found) => Some(write_held(found, messages)),
@@ -190,7 +190,7 @@ pub extern "C" fn tuhvondi_network_notices(
     ensures network { handle_network network.new ≡ handle_network network.old }
 {
     let Some(held) = network.take(alloc) else {
-        return Fault::Empty.number();
+        return CallFault::Empty.number();
     };
     let told = match held.get().world().routers().get(usize::from(router)) {
         Some(_) => Some(write_notices(held.get().world(), router, notices)),

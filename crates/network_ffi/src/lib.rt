@@ -44,7 +44,7 @@ ghost use Rattle.network_calls.specs.Parts.{limits_of, list_fault, network_failu
 ghost use Rattle.network_calls.specs.Steps.{parts_of_step, step_of};
 ghost use Rattle.network_calls.specs.Calls.{at_all, at_router, counts_of, lookup_fault, step_fault, IsAnswered, IsFollowed, IsListed, IsRun, IsSettling};
 
-use c_interface::{Fault, Row};
+use c_interface::{CallFault, Row};
 use network_calls::{
     AttachmentParts, Counts, Failure, FaultPlace, LimitsParts, LinkParts, StepParts, copy_of,
     look_up, open, open_within, rows_of, status, trace_of,
@@ -142,7 +142,7 @@ pub extern "C" fn tuhvondi_network_copy(
     ensures network { handle_network network.new ≡ handle_network network.old }
 {
     let Some(held) = network.take(alloc) else {
-        return Fault::Empty.number();
+        return CallFault::Empty.number();
     };
     let made = copy_of(alloc, &held);
     network.put(held);
@@ -151,7 +151,7 @@ pub extern "C" fn tuhvondi_network_copy(
             other.put(copy);
             0
         }
-        Err(_) => Fault::NoMemory.number(),
+        Err(_) => CallFault::NoMemory.number(),
     }
 }
 
@@ -168,7 +168,7 @@ fn do_step(alloc: Global, network: &mut NetworkHandle, parts: StepParts) -> Resu
         return Err(Failure::Given(fault));
     }
     let Some(mut held) = network.take(alloc) else {
-        return Err(Failure::Given(Fault::Empty));
+        return Err(Failure::Given(CallFault::Empty));
     };
     let outcome = held.read_and_step(parts);
     network.put(held);
@@ -202,10 +202,10 @@ pub extern "C" fn tuhvondi_network_run(
         (λ t. IsRun steps.now s t done.new result)) }
     ensures kept { is_some (handle_network network.new) ≡ is_some (handle_network network.old) }
     ensures none { IfNone (handle_network network.old)
-        ((result ≡ fault_number Fault.Empty) × (done.new ≡ done.old)) }
+        ((result ≡ fault_number CallFault.Empty) × (done.new ≡ done.old)) }
 {
     let Some(mut held) = network.take(alloc) else {
-        return Fault::Empty.number();
+        return CallFault::Empty.number();
     };
     let (count, outcome) = held.run(steps);
     network.put(held);
@@ -228,7 +228,7 @@ pub extern "C" fn tuhvondi_network_next_step(
     ensures network { handle_network network.new ≡ handle_network network.old }
 {
     let Some(held) = network.take(alloc) else {
-        return Fault::Empty.number();
+        return CallFault::Empty.number();
     };
     let known = usize::from(router) < held.get().world().routers().len();
     let next = held.get().next_step(router);
@@ -254,10 +254,10 @@ pub extern "C" fn tuhvondi_network_settle(
         (λ t. IsSettling s t most done.new result)) }
     ensures kept { is_some (handle_network network.new) ≡ is_some (handle_network network.old) }
     ensures none { IfNone (handle_network network.old)
-        ((result ≡ fault_number Fault.Empty) × (done.new ≡ done.old)) }
+        ((result ≡ fault_number CallFault.Empty) × (done.new ≡ done.old)) }
 {
     let Some(mut held) = network.take(alloc) else {
-        return Fault::Empty.number();
+        return CallFault::Empty.number();
     };
     let order = if seed == 0 {
         Order::Cyclic
@@ -283,11 +283,11 @@ pub extern "C" fn tuhvondi_network_is_settled(
     ensures some { IfSome (handle_network network.old) (λ s.
         (result ≡ 0) × (settled.new ≡ flag (turns.is_settled s.world))) }
     ensures none { IfNone (handle_network network.old)
-        ((result ≡ fault_number Fault.Empty) × (settled.new ≡ settled.old)) }
+        ((result ≡ fault_number CallFault.Empty) × (settled.new ≡ settled.old)) }
     ensures network { handle_network network.new ≡ handle_network network.old }
 {
     let Some(held) = network.take(alloc) else {
-        return Fault::Empty.number();
+        return CallFault::Empty.number();
     };
     *settled = u8::from(held.get().is_settled());
     network.put(held);
@@ -312,7 +312,7 @@ pub extern "C" fn tuhvondi_network_lookup(
     ensures network { handle_network network.new ≡ handle_network network.old }
 {
     let Some(held) = network.take(alloc) else {
-        return Fault::Empty.number();
+        return CallFault::Empty.number();
     };
     let outcome = look_up(held.get(), router, addrs, answers);
     network.put(held);
@@ -340,7 +340,7 @@ pub extern "C" fn tuhvondi_network_trace(
     ensures network { handle_network network.new ≡ handle_network network.old }
 {
     let Some(held) = network.take(alloc) else {
-        return Fault::Empty.number();
+        return CallFault::Empty.number();
     };
     let followed = trace_of(held.get(), router, addr, hops);
     network.put(held);
@@ -374,7 +374,7 @@ pub extern "C" fn tuhvondi_network_rows(
     ensures network { handle_network network.new ≡ handle_network network.old }
 {
     let Some(held) = network.take(alloc) else {
-        return Fault::Empty.number();
+        return CallFault::Empty.number();
     };
     let told = rows_of(held.get().world(), router, rows);
     network.put(held);
@@ -398,11 +398,11 @@ pub extern "C" fn tuhvondi_network_counts(
     ensures some { IfSome (handle_network network.old) (λ s.
         (result ≡ 0) × (counts.new ≡ counts_of s)) }
     ensures none { IfNone (handle_network network.old)
-        ((result ≡ fault_number Fault.Empty) × (counts.new ≡ counts.old)) }
+        ((result ≡ fault_number CallFault.Empty) × (counts.new ≡ counts.old)) }
     ensures network { handle_network network.new ≡ handle_network network.old }
 {
     let Some(held) = network.take(alloc) else {
-        return Fault::Empty.number();
+        return CallFault::Empty.number();
     };
     *counts = Counts::of(held.get());
     network.put(held);

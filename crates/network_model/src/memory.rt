@@ -4,13 +4,20 @@ ghost use Rattle.std.specs.Prelude.{◌≡◌};
 ghost use Rattle.std.proofs.Common.{rules};
 ghost use Rattle.network_model.specs.Memory.{IsSmall};
 
+use faults::FaultKind;
 use std::alloc::{AllocError, AllocFailed, Allocator, Global};
 use thiserror::Error;
 
 /// A growth was refused. The call that answers it has changed nothing.
 #[derive(Clone, Copy, Debug, PartialEq, Eq, Drop, Error)]
-#[error("20 NoMemory")]
+#[error("{}", FaultKind::from(*self))]
 pub struct NoMemory;
+
+impl From<NoMemory> for FaultKind {
+    fn from(_fault: NoMemory) -> FaultKind {
+        FaultKind::NoMemory
+    }
+}
 
 impl From<AllocError> for NoMemory {
     fn from(_error: AllocError) -> NoMemory {

@@ -4,6 +4,7 @@ ghost use Rattle.std.specs.Prelude.{◌≡◌, ◌↔◌, IsTrue};
 ghost use Rattle.network_model.specs.Network as valid;
 ghost use Rattle.network_model.specs.World as model;
 
+use faults::FaultKind;
 use metric::Cost;
 use thiserror::Error;
 
@@ -130,21 +131,29 @@ pub struct Port {
 /// Why a network cannot be opened. A fault of a link or an attachment has its position in the list
 /// that was given, from 0. Its text is its number and name.
 #[derive(Clone, Copy, Debug, PartialEq, Eq, Drop, Error)]
+#[error("{}", FaultKind::from(*self))]
 pub enum NetworkFault {
     /// There is no router, or there are more than the limit, which is 256 in the program.
-    #[error("24 BadRouters")]
     BadRouters,
     /// An end of the link is no router of the network, both ends are one router, or an earlier link
     /// joins the same two.
-    #[error("25 BadLink")]
     BadLink { link: usize },
     /// It is past the limit of links, or of the links of one of its routers: in the program the
     /// 1025th link, or the 33rd of a router.
-    #[error("26 TooManyLinks")]
     TooManyLinks { link: usize },
     /// The attached router is no router of the network, the prefix was given before at that router, it
     /// is past the limit of prefixes, or this is past the limit of attachments: in the program the
     /// 4097th prefix, or the 16,385th attachment.
-    #[error("27 BadOwner")]
     BadOwner { prefix: usize },
+}
+
+impl From<NetworkFault> for FaultKind {
+    fn from(fault: NetworkFault) -> FaultKind {
+        match fault {
+            NetworkFault::BadRouters => FaultKind::BadRouters,
+            NetworkFault::BadLink { .. } => FaultKind::BadLink,
+            NetworkFault::TooManyLinks { .. } => FaultKind::TooManyLinks,
+            NetworkFault::BadOwner { .. } => FaultKind::BadOwner,
+        }
+    }
 }

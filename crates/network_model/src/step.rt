@@ -5,6 +5,7 @@ ghost use Rattle.network_model.specs.Journal.{Fits, IsCode, code_of, code_with_p
 ghost use Rattle.network_model.specs.declared.step.Refusal.TheVariants.{NoMemory as OutOfMemory};
 
 use crate::memory::NoMemory;
+use faults::FaultKind;
 use ipv4_prefix::Prefix;
 use metric::Cost;
 use std::alloc::{AllocError, AllocFailed};
@@ -121,58 +122,66 @@ fn number_of(kind: u8, subject: u16, port: u8, cost: u32) -> u128
 
 /// Why a step, or a call on the network that does steps, is refused. Its text is its number and name.
 #[derive(Clone, Copy, Debug, PartialEq, Eq, Drop, Error)]
+#[error("{}", FaultKind::from(*self))]
 pub enum Refusal {
     /// The router's number is too large.
-    #[error("10 UnknownRouter")]
     UnknownRouter,
     /// The number of the link or of the port is too large.
-    #[error("11 UnknownLink")]
     UnknownLink,
     /// The link is up.
-    #[error("13 AlreadyUp")]
     AlreadyUp,
     /// The link is down.
-    #[error("14 IsDown")]
     IsDown,
     /// The link has come up 65535 times.
-    #[error("15 SessionsSpent")]
     SessionsSpent,
     /// Nothing is on its way to the port.
-    #[error("16 NothingToDeliver")]
     NothingToDeliver,
     /// The router's chosen rows are those in force, and all that it holds may leave.
-    #[error("17 NothingDue")]
     NothingDue,
     /// The router holds nothing, or its front message may not leave yet.
-    #[error("18 NothingRipe")]
     NothingRipe,
     /// The journal has 1,000,000 steps.
-    #[error("19 JournalFull")]
     JournalFull,
     /// A growth was refused.
-    #[error("20 NoMemory")]
     NoMemory,
     /// The router's image is being published: its writer is out.
-    #[error("21 Busy")]
     Busy,
     /// A reader showed a later image than the one in force.
-    #[error("22 Stale")]
     Stale,
     /// There is no place for a reader of an image.
-    #[error("23 NoReaderPlace")]
     NoReaderPlace,
     /// The prefix is none of the network's.
-    #[error("28 UnknownPrefix")]
     UnknownPrefix,
     /// The router is not attached to the prefix.
-    #[error("29 NotAttached")]
     NotAttached,
     /// A reader was given no image.
-    #[error("34 NoImage")]
     NoImage,
     /// The ticket is not the one that is out for its router.
-    #[error("35 WrongTicket")]
     WrongTicket,
+}
+
+impl From<Refusal> for FaultKind {
+    fn from(fault: Refusal) -> FaultKind {
+        match fault {
+            Refusal::UnknownRouter => FaultKind::UnknownRouter,
+            Refusal::UnknownLink => FaultKind::UnknownLink,
+            Refusal::AlreadyUp => FaultKind::AlreadyUp,
+            Refusal::IsDown => FaultKind::IsDown,
+            Refusal::SessionsSpent => FaultKind::SessionsSpent,
+            Refusal::NothingToDeliver => FaultKind::NothingToDeliver,
+            Refusal::NothingDue => FaultKind::NothingDue,
+            Refusal::NothingRipe => FaultKind::NothingRipe,
+            Refusal::JournalFull => FaultKind::JournalFull,
+            Refusal::NoMemory => FaultKind::NoMemory,
+            Refusal::Busy => FaultKind::Busy,
+            Refusal::Stale => FaultKind::Stale,
+            Refusal::NoReaderPlace => FaultKind::NoReaderPlace,
+            Refusal::UnknownPrefix => FaultKind::UnknownPrefix,
+            Refusal::NotAttached => FaultKind::NotAttached,
+            Refusal::NoImage => FaultKind::NoImage,
+            Refusal::WrongTicket => FaultKind::WrongTicket,
+        }
+    }
 }
 
 impl From<NoMemory> for Refusal {

@@ -1,7 +1,7 @@
 -- The program's faults.
 use Rattle.std.specs.Prelude.{◌≡◌, ℕ, ◌<◌, ◌≤◌, ⊤, Bool, true, false, ◌||◌, if◌then◌else◌, IsTrue, IsUtf8, Option, None, Some, IfSome, length}
 use Rattle.scenario.specs.declared.fault.Fault.TheVariants.{BadToml as IsNoToml, NoMemory as NoMemoryForLists}
-use Rattle.script.specs.declared.fault.Fault.TheVariants.{NoMemory as NoMemoryForLines}
+use Rattle.script.specs.declared.fault.LineFault.TheVariants.{NoMemory as NoMemoryForLines}
 use Rattle.texts.specs.Words.{Text}
 use Rattle.script.specs.declared.place.Key.{Key}
 use Rattle.script.specs.declared.place.Key.TheVariants.{Links, Prefixes}

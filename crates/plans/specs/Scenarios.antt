@@ -9,8 +9,8 @@ use Rattle.texts.specs.Lists.{Lists}
 use Rattle.script.specs.Routers.{no_router}
 use Rattle.script.specs.Reading.{Parts, AreParts, ReadingStops}
 use Rattle.script.specs.Directories.{directory_of}
-use Rattle.script.specs.declared.fault.Fault.{Fault as TextFault}
-use Rattle.script.specs.declared.fault.Fault.TheVariants.{BadName}
+use Rattle.script.specs.declared.fault.LineFault.{LineFault as TextFault}
+use Rattle.script.specs.declared.fault.LineFault.TheVariants.{BadName}
 use Rattle.script.specs.declared.place.Located.{Located}
 use Rattle.network_model.specs.declared.network.NetworkFault.{NetworkFault}
 use Rattle.network_model.specs.World.{Network}

@@ -6,6 +6,7 @@ ghost use Rattle.plans.specs.declared.fault.Cause.TheVariants.{Memory as OfMemor
 ghost use Rattle.plans.specs.Faults.{status_of, unplaced, line_fault, opening_fault};
 
 use crate::times::TimesFault;
+use faults::FaultKind;
 use journal::JournalFault;
 use network_model::{NetworkFault, NoMemory, Refusal};
 use script::{Key, Located, Place};
@@ -17,27 +18,21 @@ use worker_pool::PoolFault;
 
 /// What is wrong. Its text is its number and name.
 #[derive(Clone, Copy, Debug, PartialEq, Eq, Drop, Error)]
+#[error("{}", FaultKind::from(*self))]
 pub enum Cause {
     /// A growth was refused.
-    #[error(transparent)]
     Memory(NoMemory),
     /// The file could not be opened or read.
-    #[error("47 Unreadable")]
     Unreadable,
     /// The file is larger than 4,194,304 bytes.
-    #[error("46 TooLarge")]
     TooLarge,
     /// The text is no scenario.
-    #[error(transparent)]
     Document(scenario::Fault),
     /// The lines of the scenario cannot be read.
-    #[error(transparent)]
-    Lines(script::Fault),
+    Lines(script::LineFault),
     /// The network cannot be opened.
-    #[error(transparent)]
     Network(NetworkFault),
     /// The network refused a command.
-    #[error(transparent)]
     Refused(Refusal),
     /// The text is no journal.
     #[error(transparent)]
@@ -46,20 +41,36 @@ pub enum Cause {
     #[error(transparent)]
     Times(TimesFault),
     /// An event is due at the last moment that the clock of simulated time can show, or later.
-    #[error("52 TimeSpent")]
     TimeSpent,
     /// The file of the journal could not be written.
-    #[error("49 Unwritable")]
     Unwritable,
     /// Workers did not take a job, or did not answer it.
-    #[error(transparent)]
     Workers(PoolFault),
     /// A state was to be saved or restored, but the steps are kept for a journal.
-    #[error("54 JournalKept")]
     JournalKept,
     /// A state was to be restored, but none was saved.
-    #[error("55 NothingSaved")]
     NothingSaved,
+}
+
+impl From<Cause> for FaultKind {
+    fn from(fault: Cause) -> FaultKind {
+        match fault {
+            Cause::Memory(fault) => FaultKind::from(fault),
+            Cause::Unreadable => FaultKind::Unreadable,
+            Cause::TooLarge => FaultKind::TooLarge,
+            Cause::Document(fault) => FaultKind::from(fault),
+            Cause::Lines(fault) => FaultKind::from(fault),
+            Cause::Network(fault) => FaultKind::from(fault),
+            Cause::Refused(fault) => FaultKind::from(fault),
+            Cause::Journal(fault) => FaultKind::from(fault),
+            Cause::Times(fault) => FaultKind::from(fault),
+            Cause::TimeSpent => FaultKind::TimeSpent,
+            Cause::Unwritable => FaultKind::Unwritable,
+            Cause::Workers(fault) => FaultKind::from(fault),
+            Cause::JournalKept => FaultKind::JournalKept,
+            Cause::NothingSaved => FaultKind::NothingSaved,
+        }
+    }
 }
 
 /// What is wrong, and where: it is displayed as `25 BadLink at links 0`, or without a place as
@@ -71,6 +82,11 @@ pub struct Fault {
 }
 
 impl Fault {
+    /// What number it is told by.
+    pub fn kind(&self) -> FaultKind {
+        FaultKind::from(self.cause)
+    }
+
     /// The exit status of the program.
     pub fn status(&self) -> u8
         ensures { result ≡ status_of (self.now).cause }
@@ -78,7 +94,7 @@ impl Fault {
         match self.cause {
             Cause::Memory(_)
             | Cause::Document(scenario::Fault::NoMemory)
-            | Cause::Lines(script::Fault::NoMemory)
+            | Cause::Lines(script::LineFault::NoMemory)
             | Cause::Journal(JournalFault::NoMemory)
             | Cause::Times(
                 TimesFault::Document {
@@ -87,9 +103,8 @@ impl Fault {
             )
             | Cause::Times(
                 TimesFault::Line {
-                    fault: script::Fault::NoMemory,
-                    key: _,
-                    position: _,
+                    fault: script::LineFault::NoMemory,
+                    ..
                 },
             )
             | Cause::TimeSpent

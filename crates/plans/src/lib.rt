@@ -36,13 +36,11 @@
 //! A document of times is read by `timing`. What can be wrong with it stands here ([`TimesFault`]), because a
 //! `Cause` can be that.
 //!
-//! `Cause` has a variant for each crate's faults, and `kind` says by which number of `explanations` it is
-//! told. No clause says that this number is the one which is displayed; the tests do.
+//! `Cause` has a variant for each crate's faults, and each of these says which kind of `faults` it is.
 #![tactic(auto)]
 
 mod fault;
 mod files;
-mod kind;
 mod plan;
 mod read;
 mod times;

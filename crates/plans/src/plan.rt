@@ -72,5 +72,5 @@ fn plan_of(alloc: Global, reading: Reading) -> Result<Plan, Fault>
 fn is_name_fault(at: &Located) -> bool
     ensures { result ≡ is_of_name (at.now).fault }
 {
-    matches!(at.fault, script::Fault::BadName)
+    matches!(at.fault, script::LineFault::BadName)
 }

@@ -1,5 +1,6 @@
 //! What is wrong with a document of times.
 
+use faults::FaultKind;
 use std::fmt;
 use thiserror::Error;
 
@@ -23,20 +24,29 @@ impl fmt::Display for TimesKey {
 
 /// Why a document of times is none. Its text is its number and name, and the place if it has one.
 #[derive(Clone, Copy, Debug, PartialEq, Eq, Drop, Error)]
+#[error("{} in the times", FaultKind::from(*self))]
 pub enum TimesFault {
     /// The document is no TOML, or has other keys or values.
-    #[error("{fault} in the times")]
     Document {
         fault: scenario::Fault,
     },
     /// The string at this position of the list, from 0, says no delay or no change.
-    #[error("{fault} at {key} {position} in the times")]
+    #[error("{} at {key} {position} in the times", FaultKind::from(*self))]
     Line {
-        fault: script::Fault,
+        fault: script::LineFault,
         key: TimesKey,
         position: usize,
     },
     /// There are more than 10,000 changes.
-    #[error("46 TooLarge in the times")]
     TooLarge,
+}
+
+impl From<TimesFault> for FaultKind {
+    fn from(fault: TimesFault) -> FaultKind {
+        match fault {
+            TimesFault::Document { fault } => FaultKind::from(fault),
+            TimesFault::Line { fault, .. } => FaultKind::from(fault),
+            TimesFault::TooLarge => FaultKind::TooLarge,
+        }
+    }
 }

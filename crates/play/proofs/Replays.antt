@@ -1,6 +1,6 @@
 -- How replays end.
 use Rattle.std.proofs.Common.{◌≡◌, ℕ, ◌≤◌, ◌⊎◌, inl, inr, Option, List, length, take, refl, ap, subst, ◌∙◌}
-use Rattle.packet_loops.proofs.Common.{Prefix, LinkSpec, opening, Runs}
+use Rattle.no_packet_loops.proofs.Common.{Prefix, LinkSpec, opening, Runs}
 use Rattle.network_model.specs.declared.step.Step.{Step}
 use Rattle.network_model.specs.World.{World}
 use Rattle.texts.specs.Words.{Text}

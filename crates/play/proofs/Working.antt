@@ -1,6 +1,6 @@
 -- What is done on the network of the plan of a text is done on the network of the text.
 use Rattle.std.specs.Prelude.{⊤}
-use Rattle.std.proofs.Common.{Result, Ok, Err, OnOk, ◌≡◌, ◌≤◌, inl, inr, List, length, ap, subst, ◌∙◌}
+use Rattle.std.proofs.Common.{Result, Ok, Err, OnOk, ◌≡◌, ◌≤◌, inl, inr, List, length, subst}
 use Rattle.network_model.specs.World.{Network}
 use Rattle.either.specs.declared.Either.TheVariants.{Left}
 use Rattle.fabric.specs.Fabric.{Fabric, opening_fabric}
@@ -13,7 +13,7 @@ use Rattle.plans.specs.Faults.{most_bytes}
 use Rattle.plans.specs.Scenarios.{network_read}
 use Rattle.plans.proofs.Planned.{IsPlanned}
 use Rattle.sessions.specs.Nets.{Net}
-use Rattle.play.specs.Works.{IsWorked, StopsOn, StopsThere, StopsWork, Works, is_kept, kept}
+use Rattle.play.specs.Works.{IsWorked, StopsOn, StopsWork, Works, is_kept, kept}
 
 module _ (opened : Network → Net) (text : Text) (plan : Plan) (short : length text ≤ most_bytes) (planned : IsPlanned text plan) where
   pub worked : (Comes : List Command → Net → Net → Type 0) (Keeps : Directory → Net → Type 0) → Works opened Comes Keeps plan → IsWorked opened Comes Keeps text

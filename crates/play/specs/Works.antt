@@ -83,7 +83,7 @@ pub record IsWorked (opened : Network → Net) (Done : List Command → Net → 
   pub done : Done parts.commands (opened (network_read parts)) after
   pub keeps : Keeps (directory_of parts.names parts.links) after
 
-pub record StopsThere (opened : Network → Net) (Stops : List Command → Net → Net → Fault → Type 0) (bytes : Text) (fault : Fault) : Type 0 where
+pub record StopsAtWork (opened : Network → Net) (Stops : List Command → Net → Net → Fault → Type 0) (bytes : Text) (fault : Fault) : Type 0 where
   pub short : length bytes ≤ most_bytes
   pub parts : Parts
   pub scenario : IsScenario bytes parts
@@ -91,7 +91,7 @@ pub record StopsThere (opened : Network → Net) (Stops : List Command → Net �
   pub stops : Stops parts.commands (opened (network_read parts)) after fault
 
 abbrev pub StopsOn : (Network → Net) → (Fault → Type 0) → (List Command → Net → Net → Fault → Type 0) → Text → Fault → Type 0
-StopsOn opened Early Stops bytes fault = StopsReading bytes fault ⊎ Early fault ⊎ StopsThere opened Stops bytes fault
+StopsOn opened Early Stops bytes fault = StopsReading bytes fault ⊎ Early fault ⊎ StopsAtWork opened Stops bytes fault
 
 -- the commands of a scenario were done to the end, each of their steps was lawful, and of their fabric this was kept
 abbrev pub IsRunToEnd : (Directory → Fabric → Type 0) → Text → Type 0

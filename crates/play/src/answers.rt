@@ -1,33 +1,25 @@
 //! What a shell prints beside the lines of its commands.
 
 use advice::{Typed, advise_typed};
-use command_line::SHELL_COMMANDS;
+use command_line::Format;
 use network_model::LinkSpec;
 use plans::{Fault, refuse};
-use reports::Printer;
+use reports::print_either;
 use script::Names;
 use std::alloc::Global;
 use std::io::Write;
 use std::{fmt, io};
 
-/// Prints the commands of a shell.
-pub(crate) fn print_help<W: Write>(printer: &Printer<'_>, out: &mut W) -> io::Result<()> {
-    let text = Escaped {
-        text: SHELL_COMMANDS,
-    };
-    let json = format_args!("{{\"kind\":\"help\",\"text\":\"{text}\"}}");
-    printer.print(SHELL_COMMANDS, json, out)
-}
-
-/// Prints a text.
-pub(crate) fn print_said<W: Write>(
-    printer: &Printer<'_>,
-    said: &str,
+/// Prints a text, as JSON in an object of this kind.
+pub(crate) fn print_text<W: Write>(
+    format: Format,
+    kind: &str,
+    text: &str,
     out: &mut W,
 ) -> io::Result<()> {
-    let text = Escaped { text: said };
-    let json = format_args!("{{\"kind\":\"said\",\"text\":\"{text}\"}}");
-    printer.print(said, json, out)
+    let escaped = Escaped { text };
+    let json = format_args!("{{\"kind\":\"{kind}\",\"text\":\"{escaped}\"}}");
+    print_either(format, text, json, out)
 }
 
 /// A line that was typed, and how it is told of where it is not done.

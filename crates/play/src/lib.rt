@@ -25,7 +25,7 @@
 //! to [`run_quietly`]: it gets the fabric at the end.
 //!
 //! A network is opened as a fabric, whose steps are kept, or, with `--no-journal`, as a simulation, which counts them
-//! alone. On either the commands of the script are done, or those of the lines of a shell (`src/lines.rt`).
+//! alone. On either the commands of the script are done, or those of the lines of a shell (`src/shell.rt`).
 //! `src/opening.rt` opens the network, and closes it whatever comes of them. The commands themselves are in `sessions`.
 //! The steps of a journal (`src/replay.rt`) are a simulation's, too.
 //!
@@ -41,10 +41,10 @@
 #![tactic(auto)]
 
 mod answers;
-mod lines;
 mod opening;
 mod program;
 mod replay;
+mod shell;
 
 pub use plans::{Cause, Fault, Plan, Source, read_bytes, read_plan, read_text, refuse};
 pub use program::{play, play_by, run_quietly};

@@ -7,54 +7,18 @@ ghost use Rattle.either.specs.declared.Either.TheVariants.{Left as KeptNet, Righ
 ghost use Rattle.plans.specs.Faults.{IsUnanswered, IsWantOfMemory};
 ghost use Rattle.play.specs.Works.{Comes, IsOfNothing, IsOfWorkers, Stops, StopsWork, Works, counted as counted_net, is_kept, kept as kept_net, none_kept};
 
-use crate::lines::do_lines;
-use command_line::Format;
+use crate::shell::do_lines;
 use either::Either;
 use fabric::{Fabric, FabricName, Unnamed};
-use json_lines::EndLine;
+use lines::{Ended, Line};
 use plans::{Cause, Fault, Plan};
 use reports::{Keeper, end_line};
 use script::{Command, Directory};
-use sessions::{Counted, Crew, Host, Kept, Live, Session, TurnGate, do_commands, steps};
+use sessions::{Counted, Crew, Host, Kept, Live, Session, Telling, TurnGate, do_commands, steps};
 use std::alloc::Global;
 use std::io::{Read, Write};
 use std::marker::Brand;
 use worker_pool::PoolFault;
-
-/// What is told of a script or a shell, and how.
-#[derive(Clone, Copy, Debug, PartialEq, Eq)]
-pub struct Telling {
-    /// Whether more is told of a machine's state, and of what cannot be done.
-    pub explain: bool,
-    /// Whether it is told what each step takes or sends.
-    pub moves: bool,
-    /// How what is printed is written.
-    pub format: Format,
-    /// Whether it is told how far a script is.
-    pub progress: bool,
-}
-
-impl Telling {
-    /// The session of a network whose routers have these names.
-    pub fn session<'a, G>(
-        &self,
-        alloc: Global,
-        gate: &'a G,
-        directory: &'a Directory,
-    ) -> Session<'a, G>
-        ensures { (result.directory).now ≡ directory.now }
-    {
-        Session {
-            alloc,
-            gate,
-            directory,
-            format: self.format,
-            explain: self.explain,
-            moves: self.moves,
-            progress: self.progress,
-        }
-    }
-}
 
 /// By what a network runs whose steps are kept.
 #[derive(Clone, Copy, Debug, PartialEq, Eq)]
@@ -138,7 +102,12 @@ where
     } = plan;
     let workers = hands.workers.max(1).min(16);
     let (fabric, readers) = Fabric::<B>::open(rt, alloc, network, unnamed, workers)?;
-    let session = telling.session(alloc, gate, &directory);
+    let session = Session {
+        alloc,
+        gate,
+        directory: &directory,
+        telling,
+    };
     match Kept::new(*rt, alloc, hands.crew, fabric, readers) {
         Ok(live) => {
             let (fabric, done) = finish_kept(&session, live, typed, &commands, out, err);
@@ -244,7 +213,12 @@ where
         commands,
     } = plan;
     let counted = Counted::open(alloc, network)?;
-    let session = telling.session(alloc, gate, &directory);
+    let session = Session {
+        alloc,
+        gate,
+        directory: &directory,
+        telling,
+    };
     count_named::<Brand, H, G, J, W, E>(&session, counted, typed, &commands, out, err)
 }
 
@@ -300,14 +274,11 @@ where
         Some(input) => do_lines(session, live, input, out, err)?,
         None => {
             let done = do_commands(session, live, commands, out, err);
-            end_line(session.progress, err);
+            end_line(session.telling.progress, err);
             done?;
         }
     }
-    let steps = steps(live) as usize;
-    let json = EndLine::Done { steps };
-    let _ = session
-        .printer()
-        .print(format_args!("done: {steps} steps"), json, out);
+    let done = Ended::Done { steps: steps(live) };
+    let _ = session.printer().print(&Line::Ended(done), out);
     Ok(())
 }

@@ -6,12 +6,13 @@ ghost use Rattle.reports.specs.Ends.{KeepsJournal};
 ghost use Rattle.play.specs.Works.{Comes, IsOfNothing, IsOfWorkers, IsWorked, Stops, StopsOn, StopsWork, Works, counted as counted_net, is_kept, kept as kept_net, none_kept};
 ghost use Rattle.play.specs.Outcomes.{Ends, IsPlayed, StopsWords};
 
-use crate::opening::{Hands, Telling, with_fabric, with_simulation};
+use crate::opening::{Hands, with_fabric, with_simulation};
 use crate::replay::replay;
 use command_line::{Format, Words};
+use explanations::Page;
 use plans::{Fault, Plan, read_plan, read_text, refuse};
 use reports::{End, JournalText, Keeper, check};
-use sessions::{Crew, Host, NoGate, THRESHOLDS, Thresholds, TurnGate};
+use sessions::{Crew, Host, NoGate, THRESHOLDS, Telling, Thresholds, TurnGate};
 use std::alloc::Global;
 use std::io;
 use std::io::{Empty, Read, Write};
@@ -114,19 +115,15 @@ where
     let (thresholds, gate) = by;
     let by = (rt, alloc, gate);
     match *words {
-        Words::Check {
-            file: _,
-            explain: _,
-        } => check(alloc, scenario, out),
+        Words::Check { .. } => check(alloc, scenario, out),
         Words::Run {
-            file: _,
             threads,
             workers,
-            journal: _,
             explain,
             format,
             progress,
             no_journal,
+            ..
         } => {
             let telling = Telling {
                 explain,
@@ -155,11 +152,10 @@ where
             )
         }
         Words::Replay {
-            file: _,
-            journal: _,
             explain,
             format,
             progress,
+            ..
         } => {
             let telling = Telling {
                 explain,
@@ -169,26 +165,19 @@ where
             };
             replay(alloc, scenario, journal, telling, out, err)
         }
-        Words::Time {
-            file: _,
-            times: _,
-            spells,
-            explain: _,
-            format,
-        } => {
+        Words::Time { spells, format, .. } => {
             let options = TimeOptions { format, spells };
             time(alloc, scenario, journal, options, out)
         }
         Words::Explain { kind } => {
-            let _ = write!(out, "{}", kind.page());
+            let _ = write!(out, "{}", Page(kind));
             Ok(End::Done)
         }
         Words::Shell {
-            file: _,
-            journal: _,
             explain,
             format,
             no_journal,
+            ..
         } => {
             let telling = Telling {
                 explain,

@@ -8,16 +8,17 @@ ghost use Rattle.network_model.specs.Step.{Lawful};
 ghost use Rattle.sessions.specs.Nets.{counted_after};
 ghost use Rattle.play.specs.Replays.{Replays, StepsReplay, StopsReplay, replay_refusal};
 
-use crate::opening::Telling;
 use command_line::Format;
+use explanations::Brief;
 use fabric::MOST_STEPS;
+use faults::FaultKind;
 use journal::{Journal, StepText, Version, first_difference, read_journal};
-use json_lines::EndLine;
+use lines::{Ended, Line};
 use network_model::{LinkSpec, NoMemory, Refusal, Step};
 use plans::{Cause, Fault, read_bytes, read_plan, read_text};
 use reports::{End, Printer, end_line, print_report, tell_steps};
 use script::Directory;
-use sessions::{Counted, NoGate, Session};
+use sessions::{Counted, NoGate, Session, Telling};
 use std::alloc::Global;
 use std::io;
 use std::io::{Read, Write};
@@ -58,7 +59,12 @@ where
         &lines,
     )?;
     let mut live = Counted::open(alloc, plan.network)?;
-    let session = telling.session(alloc, &NoGate, &plan.directory);
+    let session = Session {
+        alloc,
+        gate: &NoGate,
+        directory: &plan.directory,
+        telling,
+    };
     let end = do_journal(&session, &mut live, &journal, out, err)?;
     Ok(end)
 }
@@ -76,19 +82,15 @@ fn do_journal<W: Write, E: Write>(
         (live.old).simulation.world (live.new).simulation.world) }
     ensures fault { IfErr result IsWantOfMemory }
 {
-    let ran = do_steps(live, &journal.steps, session.progress, err);
-    end_line(session.progress, err);
+    let ran = do_steps(live, &journal.steps, session.telling.progress, err);
+    end_line(session.telling.progress, err);
     let printer = session.printer();
     if let Some(refusal) = ran.refusal {
         let step = ran.done + 1;
-        let _ = printer.print(
-            format_args!("step {step} refused: {refusal}"),
-            format_args!(
-                "{{\"kind\":\"replay\",\"result\":\"refused\",\"step\":{step},\"refused\":\"{refusal}\"}}"
-            ),
-            out,
-        );
-        if session.explain {
+        let fault = FaultKind::from(refusal);
+        let refused = Ended::Refused { step, fault };
+        let _ = printer.print(&Line::Ended(refused), out);
+        if session.telling.explain {
             let _ = out.flush();
             let links = live.simulation().network().links();
             let _ = tell_refused(session.directory, links, journal, ran.done, refusal, err);
@@ -97,9 +99,8 @@ fn do_journal<W: Write, E: Write>(
     }
     match journal.version {
         Version::One => {
-            let steps = ran.done;
-            let json = EndLine::StepsDone { steps };
-            let _ = printer.print(format_args!("replay done: {steps} steps"), json, out);
+            let done = Ended::StepsDone { steps: ran.done };
+            let _ = printer.print(&Line::Ended(done), out);
             Ok(End::Done)
         }
         Version::Two => compare(session, live.simulation().world(), journal, out, err),
@@ -122,8 +123,7 @@ fn tell_refused<E: Write>(
         let step = StepText::new(directory, links, step);
         writeln!(err, "  line {line} of the journal: {step}")?;
     }
-    let kind = Fault::from(Cause::Refused(refusal)).kind();
-    write!(err, "{}", kind.page().brief())
+    write!(err, "{}", Brief(FaultKind::from(refusal)))
 }
 
 // Does the steps in order, up to the first that is refused, or for which a journal has no place, and tells how far it
@@ -193,13 +193,9 @@ fn compare<W: Write, E: Write>(
     }
     match first_difference(&printed, journal.report) {
         Some(line) => {
-            let json = EndLine::Differs { line };
-            let _ = printer.print(
-                format_args!("replay differs: report line {line}"),
-                json,
-                out,
-            );
-            if session.explain {
+            let differs = Ended::Differs { line };
+            let _ = printer.print(&Line::Ended(differs), out);
+            if session.telling.explain {
                 let _ = out.flush();
                 let _ = tell_difference(line, journal.report, &printed, err);
             }
@@ -207,8 +203,8 @@ fn compare<W: Write, E: Write>(
         }
         None => {
             let steps = journal.steps.len();
-            let json = EndLine::Agrees { steps };
-            let _ = printer.print(format_args!("replay agrees: {steps} steps"), json, out);
+            let agrees = Ended::Agrees { steps };
+            let _ = printer.print(&Line::Ended(agrees), out);
             Ok(End::Done)
         }
     }

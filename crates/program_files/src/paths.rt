@@ -11,39 +11,12 @@ pub fn scenario_path<'a>(words: &Words<'a>) -> Option<&'a str>
     ensures { result ≡ scenario_of words.now }
 {
     match *words {
-        Words::Check { file, explain: _ } => Some(file),
-        Words::Run {
-            file,
-            threads: _,
-            workers: _,
-            journal: _,
-            no_journal: _,
-            explain: _,
-            format: _,
-            progress: _,
-        } => Some(file),
-        Words::Replay {
-            file,
-            journal: _,
-            explain: _,
-            format: _,
-            progress: _,
-        } => Some(file),
-        Words::Time {
-            file,
-            times: _,
-            spells: _,
-            explain: _,
-            format: _,
-        } => Some(file),
-        Words::Explain { kind: _ } => None,
-        Words::Shell {
-            file,
-            journal: _,
-            no_journal: _,
-            explain: _,
-            format: _,
-        } => Some(file),
+        Words::Check { file, .. } => Some(file),
+        Words::Run { file, .. } => Some(file),
+        Words::Replay { file, .. } => Some(file),
+        Words::Time { file, .. } => Some(file),
+        Words::Explain { .. } => None,
+        Words::Shell { file, .. } => Some(file),
     }
 }
 
@@ -52,13 +25,7 @@ pub fn replayed_path<'a>(words: &Words<'a>) -> Option<&'a str>
     ensures { result ≡ read_journal words.now }
 {
     match *words {
-        Words::Replay {
-            file: _,
-            journal,
-            explain: _,
-            format: _,
-            progress: _,
-        } => Some(journal),
+        Words::Replay { journal, .. } => Some(journal),
         _ => None,
     }
 }
@@ -68,13 +35,7 @@ pub fn times_path<'a>(words: &Words<'a>) -> Option<&'a str>
     ensures { result ≡ read_times words.now }
 {
     match *words {
-        Words::Time {
-            file: _,
-            times,
-            spells: _,
-            explain: _,
-            format: _,
-        } => Some(times),
+        Words::Time { times, .. } => Some(times),
         _ => None,
     }
 }
@@ -84,23 +45,8 @@ pub fn kept_path<'a>(words: &Words<'a>) -> Option<&'a str>
     ensures { result ≡ kept_journal words.now }
 {
     match *words {
-        Words::Run {
-            file: _,
-            threads: _,
-            workers: _,
-            journal,
-            no_journal: _,
-            explain: _,
-            format: _,
-            progress: _,
-        } => journal,
-        Words::Shell {
-            file: _,
-            journal: path,
-            no_journal: _,
-            explain: _,
-            format: _,
-        } => path,
+        Words::Run { journal, .. } => journal,
+        Words::Shell { journal, .. } => journal,
         _ => None,
     }
 }

@@ -1,13 +1,12 @@
 //! Lines of JSON: with numbers that few runs reach, and read by another reader.
 
-use crate::lines::directory;
+use crate::texts_of_lines::{Linked, pair};
 use crate::written::is_written;
 use command_line::{Format, Words};
 use harness::{play_in_memory, run_in_memory};
-use json_lines::EndLine;
+use lines::{Answer, Asked, Ended, Json, Known, Line, LinkLine, MachineLine, RouterLine, Told};
 use metric::{Cost, Distance};
-use network_model::{Ending, Entry, Neighbour, Prefix, Trace};
-use script::{LinkLine, MachineLine, RouterLine};
+use network_model::{Ending, Entry, Neighbour, Prefix};
 use serde_json::Value;
 use std::alloc::Global;
 use std::process::Abort;
@@ -36,6 +35,12 @@ const SCENARIO: &[u8] = b"routers = [\"a\", \"b\"]\nlinks = [\"a b 1 1\"]\n\
     \"lookup b 10.1.2.3\", \"lookup b 11.0.0.0\", \"trace b 10.1.2.3\", \"inject a 10.1.2.3\", \"drain\",\
     \"state a 10.0.0.0/8\", \"down a b\", \"deliver b a\", \"state b 10.0.0.0/8\", \"report\"]\n";
 
+// A line is written so as an object of JSON.
+fn is_json(rt: &impl Abort, alloc: Global, pair: &Linked, line: &Line<'_>, want: &str) {
+    let directory = &pair.directory;
+    is_written(rt, alloc, &Json { directory, line }, want);
+}
+
 fn prefix(rt: &impl Abort) -> Prefix {
     Prefix::new(0x0a00_0000, 8).expect(rt, "a prefix")
 }
@@ -52,10 +57,11 @@ fn the_line_of_a_link(rt: HostRuntime) {
         queued_a: 0,
         queued_b: 70_000,
     };
-    let directory = directory(&rt, rt.alloc());
+    let pair = pair(&rt, rt.alloc());
     let want = "{\"kind\":\"link\",\"a\":\"b\",\"b\":\"a\",\"up\":false,\"session\":65535,\
         \"costs\":[1,65535],\"queued\":[0,70000]}";
-    is_written(&rt, rt.alloc(), &json_lines::link(&directory, line), want);
+    let line = Line::Told(Told::Link(line));
+    is_json(&rt, rt.alloc(), &pair, &line, want);
 }
 
 #[test]
@@ -67,10 +73,11 @@ fn the_line_of_a_router(rt: HostRuntime) {
         ripe: 2,
         notices: 70_000,
     };
-    let directory = directory(&rt, rt.alloc());
+    let pair = pair(&rt, rt.alloc());
     let want = "{\"kind\":\"router\",\"router\":\"b\",\"generation\":18446744073709551615,\
         \"held\":3,\"ripe\":2,\"notices\":70000}";
-    is_written(&rt, rt.alloc(), &json_lines::router(&directory, line), want);
+    let line = Line::Told(Told::Router(line));
+    is_json(&rt, rt.alloc(), &pair, &line, want);
 }
 
 #[test]
@@ -83,50 +90,58 @@ fn the_lines_of_a_machine(rt: HostRuntime) {
         fd: Distance::new(u32::MAX),
         entry: Entry::Unreachable,
     };
-    let directory = directory(&rt, rt.alloc());
+    let pair = pair(&rt, rt.alloc());
     let want = "{\"kind\":\"machine\",\"router\":\"b\",\"prefix\":\"10.0.0.0/8\",\"active\":3,\
         \"rd\":4294967294,\"fd\":null,\"entry\":\"unreachable\"}";
-    is_written(
-        &rt,
-        rt.alloc(),
-        &json_lines::machine(&directory, line),
-        want,
-    );
+    let line = Line::Told(Told::Machine(line));
+    is_json(&rt, rt.alloc(), &pair, &line, want);
     let want = "{\"kind\":\"unheard\",\"router\":\"b\",\"prefix\":\"10.0.0.0/8\"}";
-    let line = json_lines::unheard(&directory, 1, prefix(&rt));
-    is_written(&rt, rt.alloc(), &line, want);
+    let unheard = Told::Unheard {
+        router: 1,
+        prefix: prefix(&rt),
+    };
+    is_json(&rt, rt.alloc(), &pair, &Line::Told(unheard), want);
 }
 
 #[test]
 fn the_lines_of_rows_and_jobs(rt: HostRuntime) {
-    let directory = directory(&rt, rt.alloc());
+    let pair = pair(&rt, rt.alloc());
     let via = Entry::Via {
         port: 0,
         session: 65535,
     };
     let want = "{\"kind\":\"row\",\"router\":\"b\",\"prefix\":\"10.0.0.0/8\",\"entry\":\"via\",\
         \"neighbour\":\"a\",\"session\":65535}";
-    let line = json_lines::row(&directory, 1, prefix(&rt), via);
-    is_written(&rt, rt.alloc(), &line, want);
+    let row = Asked::Row {
+        router: 1,
+        prefix: prefix(&rt),
+        entry: via,
+    };
+    is_json(&rt, rt.alloc(), &pair, &Line::Asked(row), want);
     let want = "{\"kind\":\"packet\",\"job\":18446744073709551615,\"router\":\"a\",\
         \"address\":\"255.255.255.255\",\"prefix\":null,\"entry\":null}";
-    let line = json_lines::packet(&directory, u64::MAX, 0, u32::MAX, None);
-    is_written(&rt, rt.alloc(), &line, want);
+    let answer = Answer {
+        router: 0,
+        addr: u32::MAX,
+        found: None,
+    };
+    let packet = Asked::Packet(u64::MAX, answer);
+    is_json(&rt, rt.alloc(), &pair, &Line::Asked(packet), want);
     let want = "{\"kind\":\"lookup\",\"router\":\"a\",\"address\":\"10.0.0.1\",\
         \"prefix\":\"10.0.0.0/8\",\"entry\":\"local\"}";
-    let line = json_lines::lookup(
-        &directory,
-        0,
-        0x0a00_0001,
-        Some((prefix(&rt), Entry::Local)),
-    );
-    is_written(&rt, rt.alloc(), &line, want);
+    let lookup = Asked::Lookup(Answer {
+        router: 0,
+        addr: 0x0a00_0001,
+        found: Some((prefix(&rt), Entry::Local)),
+    });
+    is_json(&rt, rt.alloc(), &pair, &Line::Asked(lookup), want);
 }
 
 #[test]
 fn the_line_of_a_trace(rt: HostRuntime) {
     let alloc = rt.alloc();
-    let directory = directory(&rt, alloc);
+    let pair = pair(&rt, alloc);
+    let path: [u16; 2] = [0, 1];
     for (end, words) in [
         (Ending::Delivered, "delivered"),
         (Ending::NoRoute, "no route"),
@@ -134,27 +149,33 @@ fn the_line_of_a_trace(rt: HostRuntime) {
         (Ending::DeadLink, "dead link"),
         (Ending::Crossed, "crossed"),
     ] {
-        let path = vec![in alloc; 0_u16, 1].expect(&rt, "memory");
-        let traced = Trace { path, end };
         let want = format!(in alloc;
             "{{\"kind\":\"trace\",\"router\":\"a\",\"address\":\"10.1.2.3\",\"path\":[\"a\",\"b\"],\"end\":\"{words}\"}}"
         ).expect(&rt, "memory");
-        let line = json_lines::trace(&directory, 0, 0x0a01_0203, false, &traced);
-        is_written(&rt, alloc, &line, want.as_str());
+        let line = traced(false, path.as_slice(), end);
+        is_json(&rt, alloc, &pair, &line, want.as_str());
     }
-    let path = vec![in alloc; 0_u16, 1].expect(&rt, "memory");
-    let end = Ending::Delivered;
-    let traced = Trace { path, end };
-    let line = json_lines::trace(&directory, 0, 0x0a01_0203, true, &traced);
     let want =
         "{\"kind\":\"trace\",\"router\":\"a\",\"address\":\"10.1.2.3\",\"through\":true,\"path\":[\"a\",\"b\"],\"end\":\"delivered\"}";
-    is_written(&rt, alloc, &line, want);
+    let line = traced(true, path.as_slice(), Ending::Delivered);
+    is_json(&rt, alloc, &pair, &line, want);
+}
+
+// A trace from a for 10.1.2.3.
+fn traced(through: bool, path: &[u16], end: Ending) -> Line<'_> {
+    Line::Traced {
+        router: 0,
+        addr: 0x0a01_0203,
+        through,
+        path,
+        end,
+    }
 }
 
 #[test]
 fn the_lines_of_reasons(rt: HostRuntime) {
     let alloc = rt.alloc();
-    let directory = directory(&rt, alloc);
+    let pair = pair(&rt, alloc);
     let (prefix, cost) = (prefix(&rt), Cost::new(3).expect(&rt, "a cost"));
     let known = Neighbour {
         up: true,
@@ -165,46 +186,59 @@ fn the_lines_of_reasons(rt: HostRuntime) {
     let want =
         "{\"kind\":\"awaits\",\"router\":\"a\",\"prefix\":\"10.0.0.0/8\",\"neighbours\":[\"b\",\"a\"]}";
     let awaited: [u16; 2] = [1, 0];
-    let line = json_lines::awaits(&directory, 0, prefix, awaited.as_slice());
-    is_written(&rt, alloc, &line, want);
+    let line = Line::Awaits {
+        router: 0,
+        prefix,
+        neighbours: awaited.as_slice(),
+    };
+    is_json(&rt, alloc, &pair, &line, want);
     let want = "{\"kind\":\"owes\",\"router\":\"a\",\"prefix\":\"10.0.0.0/8\",\"neighbour\":\"b\"}";
-    let line = json_lines::owes(&directory, 0, prefix, Some(1));
-    is_written(&rt, alloc, &line, want);
+    let line = known_of_a(prefix, Known::Owes(Some(1)));
+    is_json(&rt, alloc, &pair, &line, want);
     let want = "{\"kind\":\"attached\",\"router\":\"a\",\"prefix\":\"10.0.0.0/8\",\"cost\":3}";
-    let line = json_lines::attached(&directory, 0, prefix, cost);
-    is_written(&rt, alloc, &line, want);
+    let line = known_of_a(prefix, Known::Attached(cost));
+    is_json(&rt, alloc, &pair, &line, want);
     let want =
         "{\"kind\":\"neighbour\",\"router\":\"a\",\"prefix\":\"10.0.0.0/8\",\"neighbour\":\"b\",\"up\":true,\
         \"cost\":3,\"reported\":null}";
-    let line = json_lines::neighbour(&directory, 0, prefix, Some(1), known);
-    is_written(&rt, alloc, &line, want);
+    let line = known_of_a(prefix, Known::AtNeighbour(Some(1), known));
+    is_json(&rt, alloc, &pair, &line, want);
     let want =
         "{\"kind\":\"neighbour\",\"router\":\"a\",\"prefix\":\"10.0.0.0/8\",\"neighbour\":\"b\",\"up\":false}";
-    let line = json_lines::neighbour(&directory, 0, prefix, Some(1), down);
-    is_written(&rt, alloc, &line, want);
+    let line = known_of_a(prefix, Known::AtNeighbour(Some(1), down));
+    is_json(&rt, alloc, &pair, &line, want);
+}
+
+fn known_of_a(prefix: Prefix, known: Known) -> Line<'static> {
+    Line::Known {
+        router: 0,
+        prefix,
+        known,
+    }
 }
 
 #[test]
 fn the_last_lines(rt: HostRuntime) {
+    let pair = pair(&rt, rt.alloc());
     for (line, want) in [
         (
-            EndLine::Done { steps: 12 },
+            Ended::Done { steps: 12 },
             "{\"kind\":\"done\",\"steps\":12}",
         ),
         (
-            EndLine::Agrees { steps: 12 },
+            Ended::Agrees { steps: 12 },
             "{\"kind\":\"replay\",\"result\":\"agrees\",\"steps\":12}",
         ),
         (
-            EndLine::StepsDone { steps: 12 },
+            Ended::StepsDone { steps: 12 },
             "{\"kind\":\"replay\",\"result\":\"done\",\"steps\":12}",
         ),
         (
-            EndLine::Differs { line: 3 },
+            Ended::Differs { line: 3 },
             "{\"kind\":\"replay\",\"result\":\"differs\",\"report_line\":3}",
         ),
     ] {
-        is_written(&rt, rt.alloc(), &line, want);
+        is_json(&rt, rt.alloc(), &pair, &Line::Ended(line), want);
     }
 }
 

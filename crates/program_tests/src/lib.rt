@@ -41,9 +41,9 @@ mod json;
 #[cfg(test)]
 mod limits;
 #[cfg(test)]
-mod lines;
-#[cfg(test)]
 mod shells;
+#[cfg(test)]
+mod texts_of_lines;
 #[cfg(test)]
 mod views;
 #[cfg(test)]

@@ -10,6 +10,7 @@ use crate::known::Known;
 use crate::name::FabricName;
 use crate::rule::{Sees, Shown};
 use crate::told::Told;
+use faults::FaultKind;
 use left_right::reader::Reader;
 use network_model::{Answer, Refusal};
 use std::alloc::{Allocator, Global};
@@ -19,7 +20,7 @@ use thiserror::Error;
 /// The writer is closed. By its contract `left_right` may give a reader no copy in other cases too,
 /// or an older one than it was told of; it does not.
 #[derive(Clone, Copy, Debug, PartialEq, Eq, Drop, Error)]
-#[error("34 NoImage")]
+#[error("{}", FaultKind::NoImage)]
 pub struct NoImage;
 
 impl From<NoImage> for Refusal {

@@ -14,6 +14,7 @@ use crate::press::{Press, two};
 use crate::reader::ImageReader;
 use crate::rule::Shown;
 use crate::told::Told;
+use faults::FaultKind;
 use image_patch::Patch;
 use left_right::Absorb;
 use left_right::reader::Factory;
@@ -26,13 +27,18 @@ use tree_bitmap::Image;
 
 /// Why no writer was made. Its text is its number and name.
 #[derive(Clone, Copy, Debug, PartialEq, Eq, Drop, Error)]
+#[error("{}", FaultKind::from(*self))]
 pub enum OpenFault {
     /// A growth was refused.
-    #[error("20 NoMemory")]
     NoMemory,
     /// `left_right` gave no place for a reader.
-    #[error("23 NoReaderPlace")]
     NoReaderPlace,
+}
+
+impl From<OpenFault> for FaultKind {
+    fn from(fault: OpenFault) -> FaultKind {
+        FaultKind::from(Refusal::from(fault))
+    }
 }
 
 impl From<NoMemory> for OpenFault {

@@ -1,7 +1,7 @@
 -- What a prefix sees of a world with nothing on its links and nothing held: nothing is on the way.
 use Rattle.std.proofs.Common.{refl, sym, ap, ◌∙◌, ◌≡◌, ℕ, zero, suc, Bool, true, List, [], ◌∷◌, Option, Some, None, slice_get}
-use Rattle.packet_loops.proofs.Common.{list_all, option_map_or, and_from, and_parts, Prefix, Held, End, A, B, Link, Router, World, side, Place, is_empty, is_quiet_link, Some_injective, None_not_Some, on_link, inbox_of, heard, kept, ripe_of, unripe_of}
-use Rattle.packet_loops.proofs.Quiet.{empty_is, nothing_ripe, nothing_unripe}
+use Rattle.no_packet_loops.proofs.Common.{list_all, option_map_or, and_from, and_parts, Prefix, Held, End, A, B, Link, Router, World, side, Place, is_empty, is_quiet_link, Some_injective, None_not_Some, on_link, inbox_of, heard, kept, ripe_of, unripe_of}
+use Rattle.no_packet_loops.proofs.Quiet.{empty_is, nothing_ripe, nothing_unripe}
 
 -- ---- lists
 

@@ -11,7 +11,7 @@ use Rattle.network_model.specs.declared.step.Step.{Step}
 use Rattle.network_model.specs.Network.{IsNetwork}
 use Rattle.network_model.specs.Run.{Runs}
 use Rattle.network_model.specs.Forwarding.{IsWalkHome, IsLeastWalk, is_quiet}
-use Rattle.packet_loops.specs.Packets.{published_entry, control_entry}
+use Rattle.no_packet_loops.specs.Packets.{published_entry, control_entry}
 
 -- ---- rows and chains of rows
 

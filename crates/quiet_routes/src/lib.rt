@@ -34,7 +34,7 @@
 //! turns.
 #![tactic(auto)]
 
-ghost use Rattle.packet_loops.specs.Packets.{HoldsInEveryWorld};
+ghost use Rattle.no_packet_loops.specs.Packets.{HoldsInEveryWorld};
 ghost use Rattle.quiet_routes.specs.Routes.{QuietRoutes, SomeQuietRuns};
 ghost use Rattle.quiet_routes.specs.Settled.{SettledIsQuiet};
 

@@ -12,7 +12,7 @@ use Rattle.network_model.specs.Step.{is_up_in}
 use Rattle.network_model.specs.World.{Link, Router, World, other, side, place_at, attachment_at}
 use Rattle.network_model.specs.Forwarding.{entry_leads}
 use Rattle.network_model.proofs.ListLaws.{None_not_Some, Some_injective}
-use Rattle.packet_loops.specs.Packets.{published_entry}
+use Rattle.no_packet_loops.specs.Packets.{published_entry}
 use Rattle.quiet_routes.specs.Routes.{IsChain, SendsBy}
 use Rattle.reachability.specs.Ways.{HasWay}
 use Rattle.reachability.specs.Marks.{is_in}

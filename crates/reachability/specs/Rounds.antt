@@ -7,7 +7,7 @@ use Rattle.network_model.specs.declared.route.Entry.{Entry}
 use Rattle.network_model.specs.declared.route.Entry.TheVariants.{Local, Via, Unreachable}
 use Rattle.network_model.specs.World.{Link, World, other, side, attachment_at}
 use Rattle.network_model.specs.Forwarding.{entry_leads}
-use Rattle.packet_loops.specs.Packets.{published_entry}
+use Rattle.no_packet_loops.specs.Packets.{published_entry}
 use Rattle.reachability.specs.Ways.{HasWay, Reaches}
 use Rattle.reachability.specs.Marks.{is_in}
 

@@ -14,10 +14,14 @@ use Rattle.texts.specs.Words.{Text}
 use Rattle.texts.specs.Lines.{lines_text}
 use Rattle.script.specs.Directories.{Directory}
 use Rattle.command_line.specs.declared.format.Format.{Format}
-use Rattle.reports.specs.Formats.{machine_line, row_line, unheard_line}
-use Rattle.script.specs.declared.lines.LinkLine.{LinkLine}
-use Rattle.script.specs.declared.lines.RouterLine.{RouterLine}
-use Rattle.script.specs.declared.lines.MachineLine.{MachineLine}
+use Rattle.lines.specs.declared.answers.Asked.TheVariants.{Row}
+use Rattle.lines.specs.declared.line.Line.{Line}
+use Rattle.lines.specs.declared.line.Line.TheVariants.{Asked, Told}
+use Rattle.lines.specs.declared.states.LinkLine.{LinkLine}
+use Rattle.lines.specs.declared.states.RouterLine.{RouterLine}
+use Rattle.lines.specs.declared.states.MachineLine.{MachineLine}
+use Rattle.lines.specs.declared.states.Told.TheVariants.{Machine as OfMachine, Unheard}
+use Rattle.reports.specs.Formats.{line_in}
 
 -- why nothing is told of a router: it is not there
 abbrev pub unknown_router : World → ℕ → Option Refusal
@@ -69,18 +73,18 @@ IsMachineLine number r p (Some line) = TellsOfMachine number r p line
 
 -- ---- texts
 
--- what is told of a router's machine for a prefix, or that the router has not heard of the prefix, in a format
-abbrev pub state_text : Format → Directory → ℕ → Prefix → Option MachineLine → Text
-state_text format d number p None = unheard_line format d number p
-state_text format d number p (Some line) = machine_line format d line
+-- what is told of a router's machine for a prefix, or that the router has not heard of the prefix
+abbrev pub state_line : ℕ → Prefix → Option MachineLine → Line
+state_line number p None = Told (Unheard number p)
+state_line number p (Some line) = Told (OfMachine line)
 
 -- rows of a router, a line each
 abbrev pub rows_text : Format → Directory → ℕ → List (Prefix × Entry) → Text
-rows_text format d router = lines_text (row_line format d router)
+rows_text format d router = lines_text (λ row. line_in format d (Asked (Row router row.0 row.1)))
 
 -- a line on a router's machine for a prefix was printed
 abbrev pub PrintsMachine : Format → Directory → ℕ → Router → Prefix → Option Text → Option Text → Type 0
-PrintsMachine format d number r p old new = (line : Option MachineLine) × IsMachineLine number r p line × Appends old new (state_text format d number p line ++ 10 ∷ [])
+PrintsMachine format d number r p old new = (line : Option MachineLine) × IsMachineLine number r p line × Appends old new (line_in format d (state_line number p line) ++ 10 ∷ [])
 
 -- something was printed, and what was there before stays
 abbrev pub Prints : Option Text → Option Text → Type 0

@@ -1,14 +1,14 @@
 //! What is told of a network, line by line.
 //!
 //! The problem: a run, a shell and a replay print the same lines, as text or as JSON, and a journal keeps
-//! some of them. If each wrote its own, a replay could not compare them. So the lines of a network are
-//! printed here alone, by a [`Printer`] that knows the names and the format.
+//! some of them. If each wrote its own, a replay could not compare them. So what a line tells of a network
+//! is read from it here, and a [`Printer`] that knows the names and the format prints it.
 //!
 //! - [`print_report`] prints each link, then each router with its machines, in the order of the prefixes.
 //! - [`print_state`] prints one machine, and why it is at that, if more is to be told. [`show_table`] prints
 //!   a router's published rows.
 //! - [`show_next`] prints what a router has to do next, [`show_queue`] what it has yet to take from a port, and
-//!   [`show_held`] what it holds. [`tell_moved`] prints what a step takes from a queue, or sends.
+//!   [`show_held`] what it holds. [`moved_by`] tells what a step takes from a queue, or sends.
 //! - [`check`] says what a scenario holds, or its first fault.
 //! - A [`Keeper`] keeps something of a run that has come to its end. [`JournalText`] keeps the text of its journal,
 //!   with the report.
@@ -22,7 +22,7 @@
 //!   a 10.0.0.0/8 passive RD 1 FD 1 local          its machine for the prefix
 //! ```
 //!
-//! What always holds: `print` writes the text or the JSON that it is given, by the format (`in_format` in
+//! What always holds: `print` writes the line as text or as JSON, by the format (`line_in` in
 //! `specs/Formats.antt`). What is told of a machine is the machine's (`IsMachineLine` in
 //! `specs/Report.antt`). So is what is told of a queue the queue's, and of a gate the gate's
 //! (`specs/Waiting.antt`).
@@ -46,8 +46,8 @@ mod waiting;
 pub use checking::check;
 pub use end::End;
 pub use keeping::{JournalText, Keeper};
-pub use moved::{Moved, moved_by, tell_moved};
-pub use printer::Printer;
+pub use moved::moved_by;
+pub use printer::{Printer, print_either};
 pub use progress::{end_line, tell_commands, tell_steps};
 pub use report::{print_report, print_state};
 pub use table::show_table;

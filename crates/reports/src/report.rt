@@ -8,10 +8,10 @@ use crate::printer::Printer;
 use crate::reasons::print_reasons;
 use dual_machine::{Machine, Mode};
 use ipv4_prefix::Prefix;
+use lines::{Line, LinkLine, MachineLine, RouterLine, Told};
 use link_fifo::Links;
 use network_model::{End, Refusal};
 use router_core::Router;
-use script::{LinkLine, MachineLine, RouterLine};
 use std::io;
 use std::io::Write;
 use world::World;
@@ -65,7 +65,8 @@ fn print_links<W: Write>(printer: &Printer<'_>, links: &Links, out: &mut W) -> i
 {
     let count = u16::try_from(links.len()).unwrap_or(u16::MAX);
     for link in 0..count {
-        printer.link(link_line(links, link), out)?;
+        let told = Told::Link(link_line(links, link));
+        printer.print(&Line::Told(told), out)?;
     }
     Ok(())
 }
@@ -93,9 +94,8 @@ fn print_router<W: Write>(
 ) -> io::Result<()>
     ensures { OnOk result (Prints (W.contents out.old) (W.contents out.new)) }
 {
-    let line = router_line(number, router, notices);
-    let names = printer.directory;
-    printer.print(names.router(line), json_lines::router(names, line), out)?;
+    let told = Told::Router(router_line(number, router, notices));
+    printer.print(&Line::Told(told), out)?;
     for (prefix, _) in router.table().rows() {
         print_machine(printer, number, router, prefix, out)?;
     }
@@ -114,11 +114,10 @@ fn print_machine<W: Write>(
         (W.contents out.old) (W.contents out.new)) }
 {
     match machine_line(number, router, prefix) {
-        Some(line) => printer.machine(line, out),
+        Some(line) => printer.print(&Line::Told(Told::Machine(line)), out),
         None => {
-            let names = printer.directory;
-            let json = json_lines::unheard(names, number, prefix);
-            printer.print(names.unheard(number, prefix), json, out)
+            let router = number;
+            printer.print(&Line::Told(Told::Unheard { router, prefix }), out)
         }
     }
 }

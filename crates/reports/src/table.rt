@@ -7,6 +7,7 @@ ghost use Rattle.reports.specs.Report.{rows_text, unknown_router};
 
 use crate::printer::Printer;
 use crate::report::known_router;
+use lines::{Asked, Line};
 use network_model::Refusal;
 use route_table::RouteTable;
 use std::io;
@@ -38,9 +39,12 @@ fn print_table<W: Write>(
         (rows_text printer.now.format printer.now.directory.now router (table.now).table.published)) }
 {
     for (prefix, entry) in table.published_rows() {
-        let names = printer.directory;
-        let json = json_lines::row(names, router, prefix, entry);
-        printer.print(names.row(router, prefix, entry), json, out)?;
+        let row = Asked::Row {
+            router,
+            prefix,
+            entry,
+        };
+        printer.print(&Line::Asked(row), out)?;
     }
     Ok(())
 }

@@ -6,11 +6,13 @@ ghost use Rattle.network_model.specs.World as model;
 ghost use Rattle.world.specs.Steps.{CanBeRefused};
 ghost use Rattle.network_model.specs.Turns as turns;
 ghost use Rattle.reports.specs.Report.{unknown_router};
-ghost use Rattle.reports.specs.Waiting.{held_lines, next_line, noticed_lines, queued_lines};
+ghost use Rattle.lines.specs.declared.line.Line.TheVariants.{Next};
+ghost use Rattle.reports.specs.Formats.{line_in};
+ghost use Rattle.reports.specs.Waiting.{held_lines, noticed_lines, queued_lines};
 
 use crate::printer::Printer;
 use crate::report::known_router;
-use journal::StepText;
+use lines::{Line, Waiting};
 use link_fifo::Links;
 use metric::Cost;
 use network_model::{End, Held, Item, LinkSpec, NoMemory, Notice, Refusal};
@@ -44,26 +46,16 @@ fn print_next<W: Write>(
     out: &mut W,
 ) -> io::Result<()>
     ensures { OnOk result (Appends (W.contents out.old) (W.contents out.new)
-        (next_line printer.now.format printer.now.directory.now links.now router
-        (turns.next_step world.now router) ++ 10 ∷ [])) }
+        (line_in printer.now.format printer.now.directory.now
+        (Next router links.entry (turns.next_step world.now router)) ++ 10 ∷ [])) }
 {
-    let names = printer.directory;
-    let name = names.name(Some(router));
-    match world.next_step(router) {
-        Some(step) => {
-            let step = StepText::new(names, links, step);
-            printer.print(
-                format_args!("next {name}: {step}"),
-                format_args!("{{\"kind\":\"next\",\"router\":\"{name}\",\"step\":\"{step}\"}}"),
-                out,
-            )
-        }
-        None => printer.print(
-            format_args!("next {name}: nothing"),
-            format_args!("{{\"kind\":\"next\",\"router\":\"{name}\",\"step\":null}}"),
-            out,
-        ),
-    }
+    let step = world.next_step(router);
+    let next = Line::Next {
+        router,
+        links,
+        step,
+    };
+    printer.print(&next, out)
 }
 
 /// Prints what a router has yet to take from a port, oldest first, a line each: items of a link, or, at
@@ -121,10 +113,14 @@ fn print_items<W: Write>(
     ensures { OnOk result (Appends (W.contents out.old) (W.contents out.new)
         (queued_lines printer.now.format printer.now.directory.now router port session items.now)) }
 {
-    let names = printer.directory;
-    for item in items {
-        let json = json_lines::queued(names, router, port, session, *item);
-        printer.print(names.queued(router, port, session, *item), json, out)?;
+    for &item in items {
+        let queued = Waiting::Queued {
+            router,
+            port,
+            session,
+            item,
+        };
+        printer.print(&Line::Waiting(queued), out)?;
     }
     Ok(())
 }
@@ -156,10 +152,9 @@ fn print_notices<W: Write>(
     ensures { OnOk result (Appends (W.contents out.old) (W.contents out.new)
         (noticed_lines printer.now.format printer.now.directory.now router notices.now)) }
 {
-    let names = printer.directory;
-    for notice in notices {
-        let json = json_lines::noticed(names, router, *notice);
-        printer.print(names.noticed(router, *notice), json, out)?;
+    for &notice in notices {
+        let noticed = Waiting::Noticed { router, notice };
+        printer.print(&Line::Waiting(noticed), out)?;
     }
     Ok(())
 }
@@ -208,10 +203,9 @@ fn print_held<W: Write>(
     ensures { OnOk result (Appends (W.contents out.old) (W.contents out.new)
         (held_lines printer.now.format printer.now.directory.now router ripe messages.now)) }
 {
-    let names = printer.directory;
-    for message in messages {
-        let json = json_lines::held(names, router, ripe, *message);
-        printer.print(names.held(router, ripe, *message), json, out)?;
+    for &held in messages {
+        let kept = Waiting::Kept { router, ripe, held };
+        printer.print(&Line::Waiting(kept), out)?;
     }
     Ok(())
 }

@@ -5,8 +5,8 @@ use Rattle.network_model.specs.Step.{ripe_front}
 use Rattle.network_model.specs.World.{Router}
 use Rattle.c_interface.specs.Faults.{fault_number, first_of}
 use Rattle.c_interface.specs.Rows.{prefix_fault}
-use Rattle.c_interface.specs.declared.fault.Fault.{Fault}
-use Rattle.c_interface.specs.declared.fault.Fault.TheVariants.{Empty, NoMemory, NothingRipe, UnknownPrefix}
+use Rattle.c_interface.specs.declared.fault.CallFault.{CallFault}
+use Rattle.c_interface.specs.declared.fault.CallFault.TheVariants.{Empty, NoMemory, NothingRipe, UnknownPrefix}
 use Rattle.c_interface.specs.declared.row.Row.{Row}
 use Rattle.single_router.specs.Bounded.{BoundedRouter, bounded_fault, with_router}
 use Rattle.single_router.specs.Inputs.{router_after, InputNeedsMemory}
@@ -15,37 +15,37 @@ use Rattle.single_router.specs.States.{flag, shown_state}
 use Rattle.single_router.specs.declared.input.Input.{Input}
 
 -- what a test of the router finds; that the handle holds none comes first
-abbrev pub held_fault : (BoundedRouter → Option Fault) → Option BoundedRouter → Option Fault
+abbrev pub held_fault : (BoundedRouter → Option CallFault) → Option BoundedRouter → Option CallFault
 held_fault test None = Some Empty
 held_fault test (Some b) = test b
 
 -- why a router is not told what was read; the faults of reading come first
-abbrev pub tell_fault : Result Input Fault → Option BoundedRouter → Option Fault
+abbrev pub tell_fault : Result Input CallFault → Option BoundedRouter → Option CallFault
 tell_fault (Err f) held = Some f
 tell_fault (Ok input) held = held_fault (bounded_fault input) held
 
 -- what a handle holds once its router was told
-abbrev pub told : Result Input Fault → Option BoundedRouter → Option BoundedRouter
+abbrev pub told : Result Input CallFault → Option BoundedRouter → Option BoundedRouter
 told (Err f) held = held
 told (Ok input) held = option_map (with_router (router_after input)) held
 
 -- the router of a handle may need memory for what was read
-abbrev pub ReadNeedsMemory : Result Input Fault → Option BoundedRouter → Type 0
+abbrev pub ReadNeedsMemory : Result Input CallFault → Option BoundedRouter → Type 0
 ReadNeedsMemory read held = IfOk read (λ input. IfSome held (λ b. InputNeedsMemory input b.router))
 
 -- what a call answers, by what its tests find: that, or else done, or want of memory where it may need some
-abbrev pub IsStatusOnlyBy : Option Fault → Type 0 → ℕ → Type 0
+abbrev pub IsStatusOnlyBy : Option CallFault → Type 0 → ℕ → Type 0
 IsStatusOnlyBy (Some f) needs status = status ≡ fault_number f
 IsStatusOnlyBy None needs status = (status ≡ 0) ⊎ ((status ≡ fault_number NoMemory) × needs)
 
 -- a router is told what was read: the status, and what its handle holds before and after
-pub record IsTold (read : Result Input Fault) (old new : Option BoundedRouter) (status : ℕ) : Type 0 where
+pub record IsTold (read : Result Input CallFault) (old new : Option BoundedRouter) (status : ℕ) : Type 0 where
   pub answers : IsStatusOnlyBy (tell_fault read old) (ReadNeedsMemory read old) status
   pub done : status ≡ 0 → new ≡ told read old
   pub refused : status ≢ 0 → new ≡ old
 
 -- why a router releases nothing
-abbrev pub release_fault : BoundedRouter → Option Fault
+abbrev pub release_fault : BoundedRouter → Option CallFault
 release_fault b = if is_some (ripe_front b.router) then None else Some NothingRipe
 
 -- the prefix of these numbers, where they are one
@@ -53,11 +53,11 @@ abbrev pub as_prefix : ℕ → ℕ → Prefix
 as_prefix addr len = record { addr = addr; len = len }
 
 -- why a router shows nothing of a prefix; the faults of its numbers come first
-abbrev pub state_fault : ℕ → ℕ → Option BoundedRouter → Option Fault
+abbrev pub state_fault : ℕ → ℕ → Option BoundedRouter → Option CallFault
 state_fault addr len held = first_of (prefix_fault addr len) (held_fault (λ b. if is_some (shown_state (as_prefix addr len) b.router) then None else Some UnknownPrefix) held)
 
 -- why a router does not forget a prefix; the faults of its numbers come first
-abbrev pub forget_call_fault : ℕ → ℕ → Option BoundedRouter → Option Fault
+abbrev pub forget_call_fault : ℕ → ℕ → Option BoundedRouter → Option CallFault
 forget_call_fault addr len held = first_of (prefix_fault addr len) (held_fault (λ b. forget_fault (as_prefix addr len) b.router) held)
 
 -- a publication of a router as a program is given it: the rows that it puts in force, over those that were there, how many

@@ -43,7 +43,7 @@ ghost use Rattle.single_router.specs.States.{counts_of, flag, shown_state};
 ghost use Rattle.router_ffi.specs.Handles.{handle_router};
 ghost use Rattle.router_ffi.specs.Calls.{IsStatusOnlyBy, ReadNeedsMemory, held_fault, tell_fault, told, release_fault, state_fault, forget_call_fault, as_prefix, IsTold, IsPublished, IsListed};
 
-use c_interface::{Fault, Row, read_prefix, status};
+use c_interface::{CallFault, Row, read_prefix, status};
 use single_router::{Attachment, Counts, Frame, Input, Published, SingleRouter, State};
 use std::alloc::Global;
 
@@ -58,7 +58,7 @@ fn make(
     attachments: &[Attachment],
     most_prefixes: usize,
     router: &mut RouterHandle,
-) -> Result<(), Fault>
+) -> Result<(), CallFault>
     ensures ok { OnOk result (IsStatusBy (bounded_make_fault most_prefixes costs.now attachments.now) 0) }
     ensures made { OnOk result (handle_router router.new
         ≡ Some (bounded_router most_prefixes costs.now attachments.now)) }
@@ -90,7 +90,11 @@ pub extern "C" fn tuhvondi_router_new(
 }
 
 // Tells the router of a handle what was read.
-fn tell(alloc: Global, router: &mut RouterHandle, read: Result<Input, Fault>) -> Result<(), Fault>
+fn tell(
+    alloc: Global,
+    router: &mut RouterHandle,
+    read: Result<Input, CallFault>,
+) -> Result<(), CallFault>
     ensures ok { OnOk result (IsStatusOnlyBy (tell_fault read (handle_router router.old))
         (ReadNeedsMemory read (handle_router router.old)) 0) }
     ensures told { OnOk result (handle_router router.new
@@ -101,7 +105,7 @@ fn tell(alloc: Global, router: &mut RouterHandle, read: Result<Input, Fault>) ->
 {
     let input = read?;
     let Some(mut held) = router.take(alloc) else {
-        return Err(Fault::Empty);
+        return Err(CallFault::Empty);
     };
     let outcome = held.tell(&input);
     router.put(held);
@@ -109,7 +113,7 @@ fn tell(alloc: Global, router: &mut RouterHandle, read: Result<Input, Fault>) ->
 }
 
 // The status of telling the router of a handle what was read.
-fn answer(alloc: Global, router: &mut RouterHandle, read: Result<Input, Fault>) -> u32
+fn answer(alloc: Global, router: &mut RouterHandle, read: Result<Input, CallFault>) -> u32
     ensures { IsTold read (handle_router router.old) (handle_router router.new) result }
 {
     status(tell(alloc, router, read))
@@ -213,7 +217,7 @@ pub extern "C" fn tuhvondi_router_counts(
     ensures router { handle_router router.new ≡ handle_router router.old }
 {
     let Some(held) = router.take(alloc) else {
-        return Fault::Empty.number();
+        return CallFault::Empty.number();
     };
     *counts = held.counts();
     router.put(held);
@@ -225,7 +229,7 @@ fn publish(
     alloc: Global,
     router: &mut RouterHandle,
     rows: &mut [Row],
-) -> Result<(Published, u64), Fault>
+) -> Result<(Published, u64), CallFault>
     ensures ok { IfOk result (λ _. status_by (held_fault
         (λ b. publish_fault (length rows.old) b.router) (handle_router router.old)) ≡ 0) }
     ensures rows { IfOk result (λ p. IfSome (handle_router router.old) (λ b. IsPublished
@@ -239,7 +243,7 @@ fn publish(
         ≡ fault_number f) }
 {
     let Some(mut held) = router.take(alloc) else {
-        return Err(Fault::Empty);
+        return Err(CallFault::Empty);
     };
     let outcome = held.publish(rows);
     let generation = held.generation();
@@ -296,7 +300,7 @@ pub extern "C" fn tuhvondi_router_release(
         × (message.new ≡ message.old) }
 {
     let Some(mut held) = router.take(alloc) else {
-        return Fault::Empty.number();
+        return CallFault::Empty.number();
     };
     let outcome = held.release();
     router.put(held);
@@ -329,7 +333,7 @@ pub extern "C" fn tuhvondi_router_state(
         Err(fault) => return fault.number(),
     };
     let Some(held) = router.take(alloc) else {
-        return Fault::Empty.number();
+        return CallFault::Empty.number();
     };
     let outcome = held.state(prefix);
     router.put(held);
@@ -359,7 +363,7 @@ pub extern "C" fn tuhvondi_router_rows(
     ensures router { handle_router router.new ≡ handle_router router.old }
 {
     let Some(held) = router.take(alloc) else {
-        return Fault::Empty.number();
+        return CallFault::Empty.number();
     };
     let outcome = held.rows(rows);
     router.put(held);
@@ -390,7 +394,7 @@ pub extern "C" fn tuhvondi_router_forget(
         Err(fault) => return fault.number(),
     };
     let Some(mut held) = router.take(alloc) else {
-        return Fault::Empty.number();
+        return CallFault::Empty.number();
     };
     let outcome = held.forget(prefix);
     router.put(held);

@@ -8,7 +8,7 @@ use crate::{
     tuhvondi_router_new, tuhvondi_router_publish, tuhvondi_router_release, tuhvondi_router_rows,
     tuhvondi_router_state,
 };
-use c_interface::{Fault, Row};
+use c_interface::{CallFault, Row};
 use single_router::{Attachment, Counts, Frame, State};
 use std::alloc::Global;
 use std::test::Fail;
@@ -355,5 +355,5 @@ fn each_fault_has_its_number(rt: HostRuntime) {
         tuhvondi_router_new(alloc, &[1], &[attachment(0, 0, 1)], 0, &mut router),
         27
     );
-    assert_eq!(rt; Fault::GenerationsSpent.number(), 37);
+    assert_eq!(rt; CallFault::GenerationsSpent.number(), 37);
 }

@@ -11,9 +11,9 @@ use Rattle.network_model.specs.Machine.{Machine}
 use Rattle.network_model.specs.World.{Attachments, Network, Router, World}
 use Rattle.network_model.specs.Step.{next}
 use Rattle.network_model.proofs.ListLaws.{element_there}
-use Rattle.packet_loops.proofs.Runs.{reached}
-use Rattle.packet_loops.proofs.Wiring.{wired}
-use Rattle.packet_loops.proofs.WorldLaws.{next-shape}
+use Rattle.no_packet_loops.proofs.Runs.{reached}
+use Rattle.no_packet_loops.proofs.Wiring.{wired}
+use Rattle.no_packet_loops.proofs.WorldLaws.{next-shape}
 use Rattle.world.specs.Headline.{IsReached}
 use Rattle.run_states.specs.declared.link_book.LinkBook.{LinkBook}
 use Rattle.run_states.specs.declared.router_book.RouterBook.{RouterBook}
@@ -21,7 +21,7 @@ use Rattle.run_states.specs.declared.shown.MachineShown.{MachineShown}
 use Rattle.run_states.specs.declared.recorder.Recorder.{Recorder}
 use Rattle.run_states.specs.Books.{HasPlaces, MachinesMarked, ShowsPlace, link_shows, router_shows}
 use Rattle.run_states.specs.Recorders.{IsCurrent, IsRecorderOf, IsRouterCurrent}
-use Rattle.run_states.specs.Marks.{LinkMarked, Marks, RouterMarked, touched_link, touched_router, touches}
+use Rattle.run_states.specs.Marks.{LinkMarked, Marks, RouterMarked, StepMarked, touched_link, touched_router, touches}
 use Rattle.run_states.proofs.Lists.{all_at, all_from, slice_get-set_other, slice_get-set_same, written_alike}
 use Rattle.run_states.proofs.Unmet.{SameMachine, machine_untouched, stays}
 use Rattle.run_states.proofs.Untouched.{link_untouched, router_untouched}
@@ -171,7 +171,7 @@ pub no_link : (r : Recorder) → LinkMarked None r r
 no_link r = record { prefixes = refl; routers = refl; shows = refl; many = refl; books = λ l b at unmarked. (at, λ e. none-some l e) }
 
 -- a step that touches no router
-pub link_marks : (w : World) (s : Step) (before after : Recorder) → touched_router s ≡ None → LinkMarked (touched_link w s) before after → Marks w s before after
+link_marks : (w : World) (s : Step) (before after : Recorder) → touched_router w s ≡ None → LinkMarked (touched_link w s) before after → Marks w s before after
 link_marks w s before after none marked = record {
   prefixes = marked.prefixes;
   shows = record { prefixes = marked.prefixes; links = marked.shows; routers = ap (λ rs. map router_shows rs.items) marked.routers };
@@ -182,7 +182,7 @@ link_marks w s before after none marked = record {
 }
 
 -- a step that touches a router, and a link or none
-pub router_marks : (w : World) (s : Step) (router : ℕ) (Spared : Prefix → Type 0) (before mid after : Recorder) → touched_router s ≡ Some router → ((p : Prefix) → Spared p → touches w s p ≡ false)
+router_marks : (w : World) (s : Step) (router : ℕ) (Spared : Prefix → Type 0) (before mid after : Recorder) → touched_router w s ≡ Some router → ((p : Prefix) → Spared p → touches w s p ≡ false)
     → RouterMarked router Spared before mid → LinkMarked (touched_link w s) mid after → Marks w s before after
 router_marks w s router Spared before mid after is spares routers links = record {
   prefixes = links.prefixes ∙ routers.prefixes;
@@ -200,6 +200,25 @@ router_marks w s router Spared before mid after is spares routers links = record
       (old.0, old.1, record { shown = old.2.shown; machines = old.2.machines; places = old.2.places; is_marked = old.2.is_marked; spared = λ j p there unmarked. let was = old.2.spared j p there unmarked in (was.0, spares p was.1) }));
   of = λ v of. link_of (touched_link w s) mid after v links (router_of router Spared before mid v routers of);
 }
+
+-- of a step that touches a router
+pub one_marked : (w : World) (s : Step) (router : ℕ) (before after : Recorder) → touched_router w s ≡ Some router → RouterMarked router (λ p. touches w s p ≡ false) before after → StepMarked w s before after
+one_marked w s router before after is marked = record {
+  none = λ none. absurd (none-some router (sym none ∙ is));
+  one = λ i touched. subst (λ k. RouterMarked k (λ p. touches w s p ≡ false) before after) (same_Some router i (sym is ∙ touched)) marked;
+}
+
+-- of a step that touches none
+pub none_marked : (w : World) (s : Step) (r : Recorder) → touched_router w s ≡ None → StepMarked w s r r
+none_marked w s r none = record { none = λ _. refl; one = λ i touched. absurd (none-some i (sym none ∙ touched)) }
+
+-- the router of a step is marked, and then its link
+pub step_marks : (w : World) (s : Step) (before mid after : Recorder) → StepMarked w s before mid → LinkMarked (touched_link w s) mid after → Marks w s before after
+step_marks w s before mid after routers links = by_router (touched_router w s) refl
+  where
+    by_router : (o : Option ℕ) → touched_router w s ≡ o → Marks w s before after
+    by_router None is = subst (λ r. Marks w s r after) (routers.none is) (link_marks w s mid after is links)
+    by_router (Some i) is = router_marks w s i (λ p. touches w s p ≡ false) before mid after is (λ p so. so) (routers.one i is) links
 
 -- ---- what is current
 
@@ -236,8 +255,8 @@ pub record IsLedTo (w : World) (s : Step) (v : World) : Type 0 where
   pub routers_len : length v.routers ≡ length w.routers
   pub attachments_len : length v.attachments ≡ length w.attachments
   pub links : (l : ℕ) → touched_link w s ≢ Some l → slice_get v.links l ≡ slice_get w.links l
-  pub routers : (i : ℕ) → touched_router s ≢ Some i → (slice_get v.routers i ≡ slice_get w.routers i) × (slice_get v.attachments i ≡ slice_get w.attachments i)
-  pub machines : (i : ℕ) (x y : Router) (p : Prefix) → touched_router s ≡ Some i → slice_get w.routers i ≡ Some x → slice_get v.routers i ≡ Some y → touches w s p ≡ false → SameMachine p x y
+  pub routers : (i : ℕ) → touched_router w s ≢ Some i → (slice_get v.routers i ≡ slice_get w.routers i) × (slice_get v.attachments i ≡ slice_get w.attachments i)
+  pub machines : (i : ℕ) (x y : Router) (p : Prefix) → touched_router w s ≡ Some i → slice_get w.routers i ≡ Some x → slice_get v.routers i ≡ Some y → touches w s p ≡ false → SameMachine p x y
 
 pub led_to_next : (n : Network) (w : World) (s : Step) → IsReached n w → IsLedTo w s (next w s)
 led_to_next n w s r =
@@ -266,11 +285,11 @@ current_after w s v before after led of marks current = record {
       let kept = marks.links l b book unmarked in
       current.links l k b (sym (led.links l kept.1) ∙ at) kept.0 unmarked;
   routers = λ i y a b at has book.
-      subst (λ (ps : List Prefix). IsRouterCurrent ps y (length a.notices) b) (sym (ap (λ ps. ps.items) marks.prefixes)) (by_touch i y a b at has book (touched_or_not (touched_router s) i));
+      subst (λ (ps : List Prefix). IsRouterCurrent ps y (length a.notices) b) (sym (ap (λ ps. ps.items) marks.prefixes)) (by_touch i y a b at has book (touched_or_not (touched_router w s) i));
 }
   where
     by_touch : (i : ℕ) (y : Router) (a : Attachments) (b : RouterBook) → slice_get v.routers i ≡ Some y → slice_get v.attachments i ≡ Some a → slice_get (after.routers).items i ≡ Some b
-        → (touched_router s ≡ Some i) ⊎ (touched_router s ≢ Some i) → IsRouterCurrent (before.prefixes).items y (length a.notices) b
+        → (touched_router w s ≡ Some i) ⊎ (touched_router w s ≢ Some i) → IsRouterCurrent (before.prefixes).items y (length a.notices) b
     by_touch i y a b at has book (inr d) =
         let same = led.routers i d in
         current.routers i y a b (sym same.0 ∙ at) (sym same.1 ∙ has) (sym (marks.others i d) ∙ book)

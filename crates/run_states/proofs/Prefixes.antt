@@ -6,7 +6,7 @@ use Rattle.std.specs.List.{list_any}
 use Rattle.std.proofs.lemmas.List.{map-append}
 use Rattle.std.proofs.lemmas.Option.{slice_get_read}
 use Rattle.ipv4_prefix.specs.Prefix.{Prefix, prefix_cmp, prefix_eq}
-use Rattle.packet_loops.proofs.Common.{find-put, list_any-append, prefix_cmp_total}
+use Rattle.no_packet_loops.proofs.Common.{find-put, list_any-append, prefix_cmp_total}
 use Rattle.run_states.proofs.Lists.{take_next}
 
 -- one more attachment's prefix is put

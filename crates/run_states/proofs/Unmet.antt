@@ -19,7 +19,7 @@ use Rattle.network_model.specs.Step.{changed_link, changed_router, changed_rows,
 use Rattle.network_model.proofs.EntryLaws.{entry_from_eq}
 use Rattle.network_model.proofs.ListLaws.{slice_get-changed_at}
 use Rattle.network_model.proofs.WorldLaws.{routers-changed_link}
-use Rattle.packet_loops.proofs.Common.{find-map, find-put, prefix_cmp_total}
+use Rattle.no_packet_loops.proofs.Common.{find-map, find-put, prefix_cmp_total}
 use Rattle.run_states.specs.Books.{covers}
 use Rattle.run_states.specs.Marks.{message_prefix, touched_router, touches}
 
@@ -104,7 +104,7 @@ module _ (w : World) (i : ℕ) (x y : Router) (p : Prefix) (at : slice_get w.rou
   released (Some h) there = subst (SameMachine p x) (changed_is router_releasing (changed_link i h.port (with_message h) w) (routers-changed_link i h.port (with_message h) w) there) (λ m at. (at, refl, refl))
 
   -- the router that a step touches has for each prefix that it does not touch what it had
-  pub machine_untouched : (s : Step) → touched_router s ≡ Some i → slice_get (next w s).routers i ≡ Some y → touches w s p ≡ false → SameMachine p x y
+  pub machine_untouched : (s : Step) → touched_router w s ≡ Some i → slice_get (next w s).routers i ≡ Some y → touches w s p ≡ false → SameMachine p x y
   machine_untouched (LinkUp l) is there apart = stays p x y (same_is w refl there)
   machine_untouched (LinkDown l) is there apart = stays p x y (same_is w refl there)
   machine_untouched (SetCost j q cost) is there apart = stays p x y (same_is (changed_link j q (with_cost cost) w) (routers-changed_link j q (with_cost cost) w) there)

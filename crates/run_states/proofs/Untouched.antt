@@ -65,7 +65,7 @@ changed_link-routers : (w : World) (i q : ℕ) (f : End → Link → Link) (j : 
 changed_link-routers w i q f j = option_map_or-ind (SameRouter w j) (λ p. record w { links = changed_at p.link (f p.end) w.links }) (place_at w i q) w (refl, refl) (λ p at. (refl, refl))
 
 -- a step leaves each router that it does not touch
-pub router_untouched : (w : World) (s : Step) (j : ℕ) → touched_router s ≢ Some j → SameRouter w j (next w s)
+pub router_untouched : (w : World) (s : Step) (j : ℕ) → touched_router w s ≢ Some j → SameRouter w j (next w s)
 router_untouched w (LinkUp k) j apart = (refl, refl)
 router_untouched w (LinkDown k) j apart = (refl, refl)
 router_untouched w (SetCost i q cost) j apart = changed_link-routers w i q (with_cost cost) j

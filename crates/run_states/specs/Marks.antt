@@ -1,13 +1,14 @@
 -- What a step may change, and the marks of it.
-use Rattle.std.specs.Prelude.{◌≡◌, ◌≢◌, ℕ, Bool, false, is_some, Option, Some, None, map, slice_get, vec_len, option_map, option_and_then}
+use Rattle.std.specs.Prelude.{◌≡◌, ◌≢◌, ℕ, Bool, false, is_some, Option, Some, None, map, slice_get, vec_len}
 use Rattle.std.specs.FinMap.{find as row_of}
 use Rattle.std.specs.Option.{option_map_or}
 use Rattle.ipv4_prefix.specs.Prefix.{Prefix, prefix_cmp}
 use Rattle.network_model.specs.declared.item.Item.{Item}
 use Rattle.network_model.specs.declared.step.Step.{Step}
 use Rattle.network_model.specs.declared.step.Step.TheVariants.{LinkUp, LinkDown, SetCost, Deliver, Publish, Release, Attach, Detach}
-use Rattle.network_model.specs.World.{World, place_at}
-use Rattle.network_model.specs.Step.{changed_rows, front_at, release_at}
+use Rattle.network_model.specs.World.{World}
+use Rattle.network_model.specs.Step.{changed_rows, front_at}
+use Rattle.world.specs.Touched.{touched_by}
 use Rattle.run_states.specs.declared.link_book.LinkBook.{LinkBook}
 use Rattle.run_states.specs.declared.router_book.RouterBook.{RouterBook}
 use Rattle.run_states.specs.declared.recorder.Recorder.{Recorder}
@@ -16,25 +17,16 @@ use Rattle.run_states.specs.Recorders.{IsRecorderOf, ShowSame}
 
 -- the link that a step may change
 abbrev pub touched_link : World → Step → Option ℕ
-touched_link w (LinkUp l) = Some l
-touched_link w (LinkDown l) = Some l
-touched_link w (SetCost i q cost) = option_map (λ p. p.link) (place_at w i q)
-touched_link w (Deliver i q) = option_map (λ p. p.link) (place_at w i q)
-touched_link w (Publish i) = None
-touched_link w (Release i) = option_and_then (λ h. option_map (λ p. p.link) (place_at w i h.port)) (release_at w i)
-touched_link w (Attach i p cost) = None
-touched_link w (Detach i p) = None
+touched_link w s = (touched_by s w).link
 
--- the router that a step may change, with its attachments
-abbrev pub touched_router : Step → Option ℕ
-touched_router (LinkUp l) = None
-touched_router (LinkDown l) = None
-touched_router (SetCost i q cost) = None
-touched_router (Deliver i q) = Some i
-touched_router (Publish i) = Some i
-touched_router (Release i) = Some i
-touched_router (Attach i p cost) = Some i
-touched_router (Detach i p) = Some i
+-- the first, if there is one, or else the second
+abbrev either_of : Option ℕ → Option ℕ → Option ℕ
+either_of (Some i) o = Some i
+either_of None o = o
+
+-- the router that a step may change, or of which it may change the attachments
+abbrev pub touched_router : World → Step → Option ℕ
+touched_router w s = either_of (touched_by s w).router (touched_by s w).attachments
 
 -- the prefix of an item that is a message
 abbrev pub message_prefix : Option Item → Option Prefix
@@ -77,13 +69,18 @@ pub record RouterMarked (router : ℕ) (Spared : Prefix → Type 0) (before afte
   pub book : (b : RouterBook) → slice_get (after.routers).items router ≡ Some b
       → (old : RouterBook) × (slice_get (before.routers).items router ≡ Some old) × MachinesMarked Spared (before.prefixes).items old b
 
+-- of the routers that is marked which a step may change, with the machines that it may change
+pub record StepMarked (w : World) (s : Step) (before after : Recorder) : Type 0 where
+  pub none : touched_router w s ≡ None → after ≡ before
+  pub one : (i : ℕ) → touched_router w s ≡ Some i → RouterMarked i (λ p. touches w s p ≡ false) before after
+
 -- all that a step may change is marked, and all else of the recorder stays: what was shown is shown
 pub record Marks (w : World) (s : Step) (before after : Recorder) : Type 0 where
   pub prefixes : after.prefixes ≡ before.prefixes
   pub shows : ShowSame before after
   pub links : (l : ℕ) (b : LinkBook) → slice_get (after.links).items l ≡ Some b → b.is_marked ≡ false
       → (slice_get (before.links).items l ≡ Some b) × (touched_link w s ≢ Some l)
-  pub others : (i : ℕ) → touched_router s ≢ Some i → slice_get (after.routers).items i ≡ slice_get (before.routers).items i
-  pub book : (i : ℕ) (b : RouterBook) → touched_router s ≡ Some i → slice_get (after.routers).items i ≡ Some b
+  pub others : (i : ℕ) → touched_router w s ≢ Some i → slice_get (after.routers).items i ≡ slice_get (before.routers).items i
+  pub book : (i : ℕ) (b : RouterBook) → touched_router w s ≡ Some i → slice_get (after.routers).items i ≡ Some b
       → (old : RouterBook) × (slice_get (before.routers).items i ≡ Some old) × MachinesMarked (λ p. touches w s p ≡ false) (before.prefixes).items old b
   pub of : (v : World) → IsRecorderOf v before → IsRecorderOf v after

@@ -1,5 +1,5 @@
 -- When a recorder shows a world as it is, and what becomes of it.
-use Rattle.std.specs.Prelude.{◌≡◌, ◌<◌, ◌≤◌, ℕ, List, [], ◌∷◌, Bool, false, true, is_some, None, Some, All, length, map, slice_get, slice_set, vec_len}
+use Rattle.std.specs.Prelude.{◌≡◌, ◌≤◌, ℕ, List, [], ◌∷◌, Bool, false, true, is_some, None, Some, All, length, map, slice_get, slice_set, vec_len}
 use Rattle.std.specs.FinMap.{find as row_of, is_sorted}
 use Rattle.std.specs.List.{list_any}
 use Rattle.ipv4_prefix.specs.Prefix.{Prefix, prefix_cmp, prefix_eq}

@@ -6,7 +6,7 @@ ghost use Rattle.network_model.specs.World as model;
 ghost use Rattle.world.specs.Headline.{IsReached};
 ghost use Rattle.world.specs.Steps.{HasRoomForSteps};
 ghost use Rattle.run_states.specs.Books.{covers};
-ghost use Rattle.run_states.specs.Marks.{LinkMarked, Marks, RouterMarked, message_prefix, touched_link, touches};
+ghost use Rattle.run_states.specs.Marks.{LinkMarked, Marks, RouterMarked, StepMarked, message_prefix, touches};
 ghost use Rattle.run_states.specs.Recorders.{AreLinksCurrent, ArePrefixesOf, AreRoutersCurrent, Follows, IsBlank, IsCurrent, IsRecorderOf, LinksFollow, RoutersFollow, ShowSame, ShowsLinks, ShowsRouters, ShowsWorld};
 
 use crate::link_book::{LinkBook, LinkChange};
@@ -15,7 +15,7 @@ use ipv4_prefix::Prefix;
 use network_model::{Item, NoMemory, Refusal, Step};
 use route_table::PrefixMap;
 use std::alloc::Global;
-use world::{Network, World};
+use world::{Network, Touched, World};
 
 /// What has become of a network since the state before: of the links and the routers of these numbers.
 #[derive(Drop)]
@@ -79,67 +79,35 @@ impl Recorder {
     fn mark(&mut self, world: &World, step: &Step)
         ensures { Marks world.now step.now self.old self.new }
     {
+        self.mark_touched_router(world, step);
+        if let Some(link) = Touched::by(step, world).link {
+            self.mark_link(link, cuts(step));
+        }
+    }
+
+    // Marks a link; one that goes down has lost what stood on it.
+    fn mark_link(&mut self, link: u16, goes_down: bool)
+        ensures { LinkMarked (Some link) self.old self.new }
+    {
+        if let Some(book) = self.links.get_mut(usize::from(link)) {
+            book.is_marked = true;
+            book.is_cut |= goes_down;
+        }
+    }
+
+    // Marks the router that a step may change, and which of its machines.
+    fn mark_touched_router(&mut self, world: &World, step: &Step)
+        ensures { StepMarked world.now step.now self.old self.new }
+    {
         match *step {
-            Step::LinkUp { link } => self.mark_link(link),
-            Step::LinkDown { link } => self.mark_cut(link),
-            Step::SetCost {
-                router,
-                port,
-                cost: _,
-            } => self.mark_port(world, router, port),
             Step::Deliver { router, port } => {
                 self.mark_machines(router, next_message(world, router, port));
-                self.mark_port(world, router, port);
             }
             Step::Publish { router } => self.mark_publication(world, router),
-            Step::Release { router } => {
-                self.mark_router(router);
-                self.mark_release(world, router);
-            }
-            Step::Attach {
-                router,
-                prefix: _,
-                cost: _,
-            } => self.mark_router(router),
-            Step::Detach { router, prefix: _ } => self.mark_router(router),
-        }
-    }
-
-    fn mark_link(&mut self, link: u16)
-        ensures { LinkMarked (Some link) self.old self.new }
-    {
-        if let Some(book) = self.links.get_mut(usize::from(link)) {
-            book.is_marked = true;
-        }
-    }
-
-    // Marks a link that goes down.
-    fn mark_cut(&mut self, link: u16)
-        ensures { LinkMarked (Some link) self.old self.new }
-    {
-        if let Some(book) = self.links.get_mut(usize::from(link)) {
-            book.is_marked = true;
-            book.is_cut = true;
-        }
-    }
-
-    // Marks the link at a router's port.
-    fn mark_port(&mut self, world: &World, router: u16, port: u8)
-        ensures { LinkMarked (option_map (λ p. p.link) (model.place_at world.now router port)) self.old self.new }
-    {
-        if let Some(place) = world.port(router, port) {
-            self.mark_link(place.link);
-        }
-    }
-
-    // Marks the link by which the message leaves that a router releases next.
-    fn mark_release(&mut self, world: &World, router: u16)
-        ensures { LinkMarked (touched_link world.now (Step.Release router)) self.old self.new }
-    {
-        if let Some(found) = world.routers().get(usize::from(router))
-            && let Some(held) = found.front()
-        {
-            self.mark_port(world, router, held.port);
+            Step::Release { router } => self.mark_router(router),
+            Step::Attach { router, .. } => self.mark_router(router),
+            Step::Detach { router, .. } => self.mark_router(router),
+            Step::LinkUp { .. } | Step::LinkDown { .. } | Step::SetCost { .. } => {}
         }
     }
 
@@ -262,4 +230,9 @@ fn prefixes_of(alloc: Global, network: &Network) -> Result<Vec<Prefix>, NoMemory
         prefixes.push(row.0)?;
     }
     Ok(prefixes)
+}
+
+// Whether a step takes from a link what stood on it.
+fn cuts(step: &Step) -> bool {
+    matches!(step, Step::LinkDown { .. })
 }

@@ -151,7 +151,7 @@ fn mode_shown(machine: &Machine) -> (Option<u8>, PortSet)
         Mode::Active {
             origin,
             awaited,
-            debt: _,
+            ..
         } => (Some(origin.number()), awaited),
     }
 }

@@ -201,9 +201,9 @@ fn item_value(alloc: Global, prefixes: &[Prefix], item: Item) -> Result<Value, A
     ensures { IfOk result (λ v. view v ≡ item_data prefixes.now item) }
 {
     match item {
-        Item::Up { session: _, cost } => json!(in alloc; ["up", cost.value()]),
-        Item::Down { session: _ } => json!(in alloc; ["down"]),
-        Item::Cost { session: _, cost } => json!(in alloc; ["cost", cost.value()]),
+        Item::Up { cost, .. } => json!(in alloc; ["up", cost.value()]),
+        Item::Down { .. } => json!(in alloc; ["down"]),
+        Item::Cost { cost, .. } => json!(in alloc; ["cost", cost.value()]),
         Item::Message(message) => {
             let kind = kind_word(message.kind);
             let prefix = prefix_number(prefixes, message.prefix);

@@ -3,22 +3,31 @@
 ghost use Rattle.std.specs.Prelude.{◌≡◌};
 ghost use Rattle.scenario.specs.declared.fault.Fault.TheVariants.{NoMemory as OutOfMemory};
 
+use faults::FaultKind;
 use std::alloc::{AllocError, AllocFailed};
 use thiserror::Error;
 
 /// Why a text is no scenario. Its text is its number and name.
 #[derive(Clone, Copy, Debug, PartialEq, Eq, Drop, Error)]
+#[error("{}", FaultKind::from(*self))]
 pub enum Fault {
     /// It is no TOML document.
-    #[error("40 BadToml")]
     BadToml,
     /// It has not exactly the keys `routers`, `links`, `prefixes` and `script`, each with an array
     /// of strings.
-    #[error("41 BadKey")]
     BadKey,
     /// A growth was refused.
-    #[error("20 NoMemory")]
     NoMemory,
+}
+
+impl From<Fault> for FaultKind {
+    fn from(fault: Fault) -> FaultKind {
+        match fault {
+            Fault::BadToml => FaultKind::BadToml,
+            Fault::BadKey => FaultKind::BadKey,
+            Fault::NoMemory => FaultKind::NoMemory,
+        }
+    }
 }
 
 impl From<AllocError> for Fault {

@@ -2,8 +2,8 @@
 use Rattle.std.proofs.Common.{◌≡◌, ◌≢◌, ℕ, false, inl, inr, List, [], ◌∷◌, All, Contains, bytes_eq, codes, refl, sym, subst, ◌∙◌, arith}
 use Rattle.script.proofs.Common.{list_any, false≢true, bytes_eq-Decides, All-nil, All-cons, All-contains, list_any_at, Prefix, LinkSpec, Text, NamesRouter, NamesText, AsksDelivery, NamesNoAddress, NamesNoPrefix, NamesThrough, AsksNoStep, AsksNoTrace, AsksTrace, AsksBadQuestion, Asks, address_verbs, HasBadValue, AsksNothing, AsksDrawn}
 use Rattle.script.specs.declared.command.Command.{Command}
-use Rattle.script.specs.declared.fault.Fault.{Fault}
-use Rattle.script.specs.declared.fault.Fault.TheVariants.{BadName, BadLine, BadCost, BadCommand, TooLarge, NoMemory, Prefix as OfPrefix}
+use Rattle.script.specs.declared.fault.LineFault.{LineFault}
+use Rattle.script.specs.declared.fault.LineFault.TheVariants.{BadName, BadLine, BadCost, BadCommand, TooLarge, NoMemory, Prefix as OfPrefix}
 use Rattle.script.proofs.StepTexts.{clash, first_same, rest_same, no_prefix, no_verb, other_prefix}
 
 -- the words name no router and text after a verb that takes an address
@@ -71,7 +71,7 @@ no_seed verb rest apart seed h = clash _ _ _ _ apart h.spelled
 -- ---- words after `trace`
 
 -- words that are not three ask for no trace where they name no router and address
-pub two_word_fault : (names rest : List Text) → ((a b c : Text) → rest ≢ a ∷ b ∷ c ∷ []) → (fault : Fault) → NamesNoAddress names (codes "trace") (codes "trace" ∷ rest) fault → AsksNoTrace names (codes "trace" ∷ rest) fault
+pub two_word_fault : (names rest : List Text) → ((a b c : Text) → rest ≢ a ∷ b ∷ c ∷ []) → (fault : LineFault) → NamesNoAddress names (codes "trace") (codes "trace" ∷ rest) fault → AsksNoTrace names (codes "trace" ∷ rest) fault
 two_word_fault names rest apart BadName h = h
 two_word_fault names rest apart BadLine h = h
 two_word_fault names rest apart BadCost h = h
@@ -121,7 +121,7 @@ module _ (names : List Text) (links : List LinkSpec) (attachments : List (Prefix
       commands Command.Drain h = single _ h
       commands Command.Report h = single _ h
 
-      questions : (fault : Fault) → ¬ (AsksBadQuestion names (verb ∷ rest) fault)
+      questions : (fault : LineFault) → ¬ (AsksBadQuestion names (verb ∷ rest) fault)
       questions BadName h = h
       questions BadLine h = h
       questions BadCost h = h
@@ -132,14 +132,14 @@ module _ (names : List Text) (links : List LinkSpec) (attachments : List (Prefix
       questions TooLarge h = h
       questions NoMemory h = h
 
-      faults : (fault : Fault) → ¬ (HasBadValue names links (verb ∷ rest) fault)
+      faults : (fault : LineFault) → ¬ (HasBadValue names links (verb ∷ rest) fault)
       faults fault (inl h) = step.1 fault h
       faults fault (inr (inl h)) = (tried h.0 h.1).1 fault h.2
       faults fault (inr (inr h)) = questions fault h
 
   module _ (rest : List Text) (some : rest ≢ []) where
     -- why words after `state` ask for nothing
-    pub state_fault : (fault : Fault) → NamesNoPrefix names attachments (codes "state") (codes "state" ∷ rest) fault → AsksNothing names links attachments (codes "state" ∷ rest) fault
+    pub state_fault : (fault : LineFault) → NamesNoPrefix names attachments (codes "state") (codes "state" ∷ rest) fault → AsksNothing names links attachments (codes "state" ∷ rest) fault
     state_fault BadName h = absurd h
     state_fault BadLine h = absurd h
     state_fault BadCost h = absurd h
@@ -189,7 +189,7 @@ module _ (names : List Text) (links : List LinkSpec) (attachments : List (Prefix
     -- why such a verb, which is not `trace`, asks for nothing
     address_fault : (verb : Text) → Contains address_verbs verb → AsksNoStep names links attachments (verb ∷ rest) BadCommand
         → bytes_eq verb (codes "try") ≡ false → bytes_eq verb (codes "state") ≡ false → list_any (bytes_eq verb) router_verbs ≡ false → bytes_eq verb (codes "queue") ≡ false → bytes_eq verb (codes "settle") ≡ false → bytes_eq verb (codes "trace") ≡ false
-        → (fault : Fault) → NamesNoAddress names verb (verb ∷ rest) fault → AsksNothing names links attachments (verb ∷ rest) fault
+        → (fault : LineFault) → NamesNoAddress names verb (verb ∷ rest) fault → AsksNothing names links attachments (verb ∷ rest) fault
     address_fault verb among step tried state routers queue settle trace BadName h = absurd h
     address_fault verb among step tried state routers queue settle trace BadLine h = absurd h
     address_fault verb among step tried state routers queue settle trace BadCost h = absurd h
@@ -198,13 +198,13 @@ module _ (names : List Text) (links : List LinkSpec) (attachments : List (Prefix
     address_fault verb among step tried state routers queue settle trace TooLarge h = absurd h
     address_fault verb among step tried state routers queue settle trace NoMemory h = absurd h
 
-    pub lookup_fault : (fault : Fault) → NamesNoAddress names (codes "lookup") (codes "lookup" ∷ rest) fault → AsksNothing names links attachments (codes "lookup" ∷ rest) fault
+    pub lookup_fault : (fault : LineFault) → NamesNoAddress names (codes "lookup") (codes "lookup" ∷ rest) fault → AsksNothing names links attachments (codes "lookup" ∷ rest) fault
     lookup_fault = address_fault _ (0, omega arith, refl) (no_verb names links attachments _ rest refl refl refl refl refl refl refl refl) refl refl refl refl refl refl
 
-    pub inject_fault : (fault : Fault) → NamesNoAddress names (codes "inject") (codes "inject" ∷ rest) fault → AsksNothing names links attachments (codes "inject" ∷ rest) fault
+    pub inject_fault : (fault : LineFault) → NamesNoAddress names (codes "inject") (codes "inject" ∷ rest) fault → AsksNothing names links attachments (codes "inject" ∷ rest) fault
     inject_fault = address_fault _ (1, omega arith, refl) (no_verb names links attachments _ rest refl refl refl refl refl refl refl refl) refl refl refl refl refl refl
 
-    pub trace_fault : (fault : Fault) → AsksNoTrace names (codes "trace" ∷ rest) fault → AsksNothing names links attachments (codes "trace" ∷ rest) fault
+    pub trace_fault : (fault : LineFault) → AsksNoTrace names (codes "trace" ∷ rest) fault → AsksNothing names links attachments (codes "trace" ∷ rest) fault
     trace_fault BadName h = absurd h
     trace_fault BadLine h = absurd h
     trace_fault BadCost h = absurd h
@@ -240,7 +240,7 @@ module _ (names : List Text) (links : List LinkSpec) (attachments : List (Prefix
     -- why a verb that takes a router or two, and names no router alone, asks for nothing
     links_fault : (verb : Text) → bytes_eq verb (codes "try") ≡ false → bytes_eq verb (codes "state") ≡ false → bytes_eq verb (codes "queue") ≡ false → bytes_eq verb (codes "trace") ≡ false
         → bytes_eq verb (codes "settle") ≡ false → list_any (bytes_eq verb) address_verbs ≡ false → ((router : ℕ) → ¬ (NamesRouter names verb (verb ∷ rest) router))
-        → (fault : Fault) → AsksNoStep names links attachments (verb ∷ rest) fault → AsksNothing names links attachments (verb ∷ rest) fault
+        → (fault : LineFault) → AsksNoStep names links attachments (verb ∷ rest) fault → AsksNothing names links attachments (verb ∷ rest) fault
     links_fault verb tried state queue trace settle address none BadName h = inl h
     links_fault verb tried state queue trace settle address none BadLine h = inl h
     links_fault verb tried state queue trace settle address none BadCost h = inl h
@@ -252,11 +252,11 @@ module _ (names : List Text) (links : List LinkSpec) (attachments : List (Prefix
     links_fault verb tried state queue trace settle address none NoMemory h = inl h
 
     pub up_fault : ((router : ℕ) → ¬ (NamesRouter names (codes "up") (codes "up" ∷ rest) router))
-        → (fault : Fault) → AsksNoStep names links attachments (codes "up" ∷ rest) fault → AsksNothing names links attachments (codes "up" ∷ rest) fault
+        → (fault : LineFault) → AsksNoStep names links attachments (codes "up" ∷ rest) fault → AsksNothing names links attachments (codes "up" ∷ rest) fault
     up_fault = links_fault _ refl refl refl refl refl refl
 
     pub down_fault : ((router : ℕ) → ¬ (NamesRouter names (codes "down") (codes "down" ∷ rest) router))
-        → (fault : Fault) → AsksNoStep names links attachments (codes "down" ∷ rest) fault → AsksNothing names links attachments (codes "down" ∷ rest) fault
+        → (fault : LineFault) → AsksNoStep names links attachments (codes "down" ∷ rest) fault → AsksNothing names links attachments (codes "down" ∷ rest) fault
     down_fault = links_fault _ refl refl refl refl refl refl
 
   -- a fault of the step that a line asks for, where its first word is the verb of no other command
@@ -271,7 +271,7 @@ module _ (names : List Text) (links : List LinkSpec) (attachments : List (Prefix
         (other_verb names verb rest (All-cons (λ w. verb ≢ w) _ (codes "inject" ∷ codes "trace" ∷ []) lookup (All-cons (λ w. verb ≢ w) _ (codes "trace" ∷ []) inject (All-cons (λ w. verb ≢ w) _ [] trace (All-nil (λ w. verb ≢ w)))))) (λ router text n. trace (first_same _ _ _ _ n.spelled))
         (λ seed n. settle (first_same _ _ _ _ n.spelled))
 
-    pub step_fault : (fault : Fault) → AsksNoStep names links attachments (verb ∷ rest) fault → AsksNothing names links attachments (verb ∷ rest) fault
+    pub step_fault : (fault : LineFault) → AsksNoStep names links attachments (verb ∷ rest) fault → AsksNothing names links attachments (verb ∷ rest) fault
     step_fault BadName h = inl h
     step_fault BadLine h = inl h
     step_fault BadCost h = inl h

@@ -1,7 +1,7 @@
 -- One more line read.
 use Rattle.std.proofs.Common.{◌≡◌, ℕ, ◌+◌, ◌<◌, ◌≤◌, min, inl, inr, List, [], ◌∷◌, ◌++◌, length, get_or, take, Some, String, string_bytes, refl, sym, ap, ◌∙◌, arith, slice_get, None, take_all}
 use Rattle.script.proofs.Common.{cases_lt, take_more, length_push, length-map, slice_get-map, slice_get_read, slice_get_within, get_or_from_slice_get, all_zipped_more, Text, texts, ReadsFirst, StopsHere, IsWhole}
-use Rattle.script.specs.declared.fault.Fault.{Fault}
+use Rattle.script.specs.declared.fault.LineFault.{LineFault}
 use Rattle.script.specs.declared.place.Key.{Key}
 use Rattle.script.specs.declared.place.Located.{Located}
 
@@ -29,7 +29,7 @@ reads_line Says lines items more i line text item reads count within is spelled 
     rw new (reads_more Says (texts lines) items text item reads (rw (count, spelled) (text_at lines i line within is)) says)
 
 -- the line that a loop is at, with a fault
-pub stops_line : {X Z : Type 0} (IsFault : Text → Fault → Type 0) (key : Key) (lines : List (String Z)) (items : List X) (i : ℕ) (line : String Z) (text : Text) (fault : Fault) (at : Located)
+pub stops_line : {X Z : Type 0} (IsFault : Text → LineFault → Type 0) (key : Key) (lines : List (String Z)) (items : List X) (i : ℕ) (line : String Z) (text : Text) (fault : LineFault) (at : Located)
     → length items ≡ i → i < length lines → line ≡ get_or lines i line → text ≡ string_bytes line
     → IsFault text fault → at.fault ≡ fault → at.place ≡ Some (record { key = key; position = i }) → StopsHere IsFault key (texts lines) items at
 stops_line IsFault key lines items i line text fault at count within is spelled has_fault fault_is place_is = record {

@@ -1,9 +1,9 @@
 -- Worked examples: each definition computes what it is to say.
-use Rattle.std.proofs.Common.{◌≡◌, ℕ, inl, inr, true, false, List, [], ◌∷◌, Some, None, codes, refl, ap, arith}
-use Rattle.script.proofs.Common.{Prefix, LinkSpec, Local, Via, LinkUp, SetCost, Deliver, Publish, Attach, Detach, Ending, Text, words_of, router_number, router_named, IsLink, IsAttachment, link_between, IsPortOn, IsCommand, IsCommandFault, Directory, neighbours_of, directory_of, source_at, lookup_text, packet_text, trace_text}
+use Rattle.std.proofs.Common.{◌≡◌, ℕ, inl, inr, List, [], ◌∷◌, Some, None, codes, refl, ap, arith}
+use Rattle.script.proofs.Common.{Prefix, LinkSpec, LinkUp, SetCost, Deliver, Publish, Attach, Detach, Text, words_of, router_number, router_named, IsLink, IsAttachment, link_between, IsPortOn, IsCommand, IsCommandFault, Directory, neighbours_of, directory_of, source_at}
 use Rattle.std.specs.Fmt.{digits}
 use Rattle.script.specs.declared.command.Command.{Command}
-use Rattle.script.specs.declared.fault.Fault.TheVariants.{BadCost}
+use Rattle.script.specs.declared.fault.LineFault.TheVariants.{BadCost}
 use Rattle.script.proofs.StepTexts.{clash}
 
 four_words : words_of (codes "a b 1 20") ≡ codes "a" ∷ codes "b" ∷ codes "1" ∷ codes "20" ∷ []
@@ -182,35 +182,10 @@ is_least_attachment = (
   record { positive = omega arith; small = omega arith },
 )
 
--- ---- texts
+-- ---- ports
 
 abbrev directory : Directory
 directory = directory_of names links
-
-lookup_found : lookup_text directory 2 167772161 (Some (record { addr = 167772160; len = 8 }, Local)) ≡ codes "lookup c 10.0.0.1: 10.0.0.0/8 local"
-unfolding digits
-lookup_found = refl
-
--- b has a across its port 0
-packet_found : packet_text directory 7 1 167772161 (Some (record { addr = 167772160; len = 8 }, Via 0 1)) ≡ codes "packet 7 b 10.0.0.1: 10.0.0.0/8 via a 1"
-unfolding digits
-packet_found = refl
-
-packet_missed : packet_text directory 12 0 0 None ≡ codes "packet 12 a 0.0.0.0: none"
-unfolding digits
-packet_missed = refl
-
-trace_lost : trace_text directory 2 167772161 false (2 ∷ 1 ∷ []) Ending.DeadLink ≡ codes "trace c 10.0.0.1: c b dead link"
-unfolding digits
-trace_lost = refl
-
-trace_missed : trace_text directory 0 0 false (0 ∷ []) Ending.NoRoute ≡ codes "trace a 0.0.0.0: a no route"
-unfolding digits
-trace_missed = refl
-
-trace_through : trace_text directory 2 167772161 true (2 ∷ 1 ∷ []) Ending.Delivered ≡ codes "trace c 10.0.0.1 --through: c b delivered"
-unfolding digits
-trace_through = refl
 
 -- from b's port to a, and past both its ports from its own attachments
 across_named : source_at directory 1 0 ≡ Some 0

@@ -1,8 +1,8 @@
 -- What the words of a line ask for, by the first of them.
 use Rattle.std.proofs.Common.{◌≡◌, ◌≢◌, ℕ, inl, inr, subst, ◌<◌, ◌≤◌, false, List, [], ◌∷◌, Some, None, bytes_eq, codes, decimal, refl, sym, ap, ◌∙◌, arith, true≢false}
 use Rattle.script.proofs.Common.{Spells, LinkSpec, Step, LinkUp, LinkDown, SetCost, Deliver, Publish, Release, Attach, Detach, Prefix, SpellsPrefix, IsFirstFault, PrefixFault, IsCost, degree, join_with_byte, decimal_injective, bytes_eq-Decides, join_with_byte-slice_split, Text, words_of, IsName, router_number, NamesRouter, NamesText, NamesTextAndNumber, NamesTwice, IsWay, NamesLink, NamesNumber, IsKnownPrefix, NamesNoPrefix, AsksCost, AsksNoCost, AsksDelivery, AsksBadAttachment, AsksNoAttachment, AsksStep, AsksBadStep, AsksNoStep, IsPortOn, port_on, link_between}
-use Rattle.script.specs.declared.fault.Fault.{Fault}
-use Rattle.script.specs.declared.fault.Fault.TheVariants.{BadName, BadLine, BadCost, BadCommand, TooLarge, NoMemory, Prefix as OfPrefix}
+use Rattle.script.specs.declared.fault.LineFault.{LineFault}
+use Rattle.script.specs.declared.fault.LineFault.TheVariants.{BadName, BadLine, BadCost, BadCommand, TooLarge, NoMemory, Prefix as OfPrefix}
 use Rattle.script.proofs.NameTexts.{words-name}
 use Rattle.script.proofs.Ports.{is_port, port_is}
 
@@ -146,7 +146,7 @@ module _ (names : List Text) (attachments : List (Prefix × ℕ × ℕ)) where
       → AsksNoAttachment names attachments words BadCommand
   no_attachment words none = (λ router prefix cost h. (none router cost h.0 h.1).0.0 prefix h.2 h.4, faults)
     where
-      faults : (fault : Fault) → ¬ (AsksBadAttachment names words fault)
+      faults : (fault : LineFault) → ¬ (AsksBadAttachment names words fault)
       faults BadName h = h
       faults BadLine h = h
       faults BadCost h = h.6 (none h.0 h.1 h.2 h.4).1
@@ -200,7 +200,7 @@ module _ (names : List Text) (links : List LinkSpec) (attachments : List (Prefix
       steps (Attach router prefix cost_is) h = attach.0 router prefix cost_is h
       steps (Detach router prefix) h = detach.0 router prefix h
 
-      faults : (fault : Fault) → ¬ (AsksBadStep names links words fault)
+      faults : (fault : LineFault) → ¬ (AsksBadStep names links words fault)
       faults BadName h = h
       faults BadLine h = h
       faults BadCost (inl h) = cost h.0 h.1 h.2 h.3
@@ -261,7 +261,7 @@ module _ (names : List Text) (links : List LinkSpec) (attachments : List (Prefix
     no_release none = no_step _ (other_link _ _ _ refl) (other_link _ _ _ refl) (other_cost _ _ refl) (other_deliver _ _ refl) (other_router _ _ _ refl) none (other_attach _ _ refl) (other_prefix _ _ _ refl)
 
     -- why words after `cost`, `attach` or `detach` ask for no step
-    pub cost_fault : (fault : Fault) → AsksNoCost names links (codes "cost" ∷ rest) fault → AsksNoStep names links attachments (codes "cost" ∷ rest) fault
+    pub cost_fault : (fault : LineFault) → AsksNoCost names links (codes "cost" ∷ rest) fault → AsksNoStep names links attachments (codes "cost" ∷ rest) fault
     cost_fault BadName h = h
     cost_fault BadLine h = h
     cost_fault BadCost h = inl h
@@ -270,7 +270,7 @@ module _ (names : List Text) (links : List LinkSpec) (attachments : List (Prefix
     cost_fault TooLarge h = h
     cost_fault NoMemory h = h
 
-    pub attach_fault : (fault : Fault) → AsksNoAttachment names attachments (codes "attach" ∷ rest) fault → AsksNoStep names links attachments (codes "attach" ∷ rest) fault
+    pub attach_fault : (fault : LineFault) → AsksNoAttachment names attachments (codes "attach" ∷ rest) fault → AsksNoStep names links attachments (codes "attach" ∷ rest) fault
     attach_fault BadName h = h
     attach_fault BadLine h = h
     attach_fault BadCost h = inr h
@@ -279,7 +279,7 @@ module _ (names : List Text) (links : List LinkSpec) (attachments : List (Prefix
     attach_fault TooLarge h = h
     attach_fault NoMemory h = h
 
-    pub detach_fault : (fault : Fault) → NamesNoPrefix names attachments (codes "detach") (codes "detach" ∷ rest) fault → AsksNoStep names links attachments (codes "detach" ∷ rest) fault
+    pub detach_fault : (fault : LineFault) → NamesNoPrefix names attachments (codes "detach") (codes "detach" ∷ rest) fault → AsksNoStep names links attachments (codes "detach" ∷ rest) fault
     detach_fault BadName h = h
     detach_fault BadLine h = h
     detach_fault BadCost h = absurd h

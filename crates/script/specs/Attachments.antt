@@ -3,8 +3,8 @@ use Rattle.std.specs.Prelude.{◌≡◌, ◌≢◌, ℕ, ◌^◌, ◌<◌, ◌�
 use Rattle.ipv4_prefix.specs.Prefix.{Prefix}
 use Rattle.ipv4_prefix.specs.Faults.{SpellsPrefix, IsFirstFault}
 use Rattle.metric.specs.Distance.{IsCost}
-use Rattle.script.specs.declared.fault.Fault.{Fault}
-use Rattle.script.specs.declared.fault.Fault.TheVariants.{BadLine, BadCost, Prefix as OfPrefix}
+use Rattle.script.specs.declared.fault.LineFault.{LineFault}
+use Rattle.script.specs.declared.fault.LineFault.TheVariants.{BadLine, BadCost, Prefix as OfPrefix}
 use Rattle.texts.specs.Words.{Text, words_of}
 use Rattle.script.specs.Routers.{router_number}
 
@@ -29,7 +29,7 @@ abbrev pub IsAttachment : List Text → Text → Prefix × ℕ × ℕ → Type 0
 IsAttachment names line a = (l : AttachmentLine names line) × SpellsPrefix l.prefix a.0 × (a.1 ≡ l.router) × (a.2 ≡ l.cost) × IsCost l.cost
 
 -- why a line says no attachment: its words, or else its prefix, or else its cost
-abbrev pub IsAttachmentFault : List Text → Text → Fault → Type 0
+abbrev pub IsAttachmentFault : List Text → Text → LineFault → Type 0
 IsAttachmentFault names line BadLine = ¬ (AttachmentLine names line)
 IsAttachmentFault names line (OfPrefix fault) = (l : AttachmentLine names line) × IsFirstFault l.prefix fault
 IsAttachmentFault names line BadCost = (l : AttachmentLine names line) × (prefix : Prefix) × SpellsPrefix l.prefix prefix × ¬ (IsCost l.cost)

@@ -11,8 +11,8 @@ use Rattle.network_model.specs.declared.step.Step.TheVariants.{LinkUp, LinkDown,
 use Rattle.network_model.specs.Network.{program_limits, degree, joins}
 use Rattle.network_model.specs.World.{places_from}
 use Rattle.script.specs.declared.command.Command.{Command}
-use Rattle.script.specs.declared.fault.Fault.{Fault}
-use Rattle.script.specs.declared.fault.Fault.TheVariants.{BadCommand, BadCost, Prefix as OfPrefix}
+use Rattle.script.specs.declared.fault.LineFault.{LineFault}
+use Rattle.script.specs.declared.fault.LineFault.TheVariants.{BadCommand, BadCost, Prefix as OfPrefix}
 use Rattle.texts.specs.Words.{Text, words_of}
 use Rattle.script.specs.Routers.{router_number}
 
@@ -95,7 +95,7 @@ abbrev pub NamesBadPrefix : List Text → Text → List Text → PrefixFault →
 NamesBadPrefix names verb words fault = (router : ℕ) × (text : Text) × NamesText names verb words router text × IsFirstFault text fault
 
 -- why the words name no router and prefix after the verb: the fault of the prefix's text, or else that there is neither
-abbrev pub NamesNoPrefix : List Text → List (Prefix × ℕ × ℕ) → Text → List Text → Fault → Type 0
+abbrev pub NamesNoPrefix : List Text → List (Prefix × ℕ × ℕ) → Text → List Text → LineFault → Type 0
 NamesNoPrefix names attachments verb words BadCommand =
     ((router : ℕ) (prefix : Prefix) → ¬ (NamesPrefix names attachments verb words router prefix))
     × ((fault : PrefixFault) → ¬ (NamesBadPrefix names verb words fault))
@@ -126,13 +126,13 @@ abbrev pub AsksBadThrough : List Text → List Text → Type 0
 AsksBadThrough names words = (router : ℕ) × (text : Text) × NamesThrough names words router text × ¬ (IsAddressText text)
 
 -- why the words name no router and address after the verb
-abbrev pub NamesNoAddress : List Text → Text → List Text → Fault → Type 0
+abbrev pub NamesNoAddress : List Text → Text → List Text → LineFault → Type 0
 NamesNoAddress names verb words BadCommand = (router : ℕ) (text : Text) → ¬ (NamesText names verb words router text)
 NamesNoAddress names verb words (OfPrefix fault) = (fault ≡ BadAddress) × NamesBadAddress names verb words
 NamesNoAddress names verb words _ = ⊥
 
 -- why words ask for no trace
-abbrev pub AsksNoTrace : List Text → List Text → Fault → Type 0
+abbrev pub AsksNoTrace : List Text → List Text → LineFault → Type 0
 AsksNoTrace names words BadCommand =
     ((router : ℕ) (text : Text) → ¬ (NamesText names (codes "trace") words router text)) × ((router : ℕ) (text : Text) → ¬ (NamesThrough names words router text))
 AsksNoTrace names words (OfPrefix fault) = (fault ≡ BadAddress) × (NamesBadAddress names (codes "trace") words ⊎ AsksBadThrough names words)
@@ -154,7 +154,7 @@ abbrev pub AsksBadCost : List Text → List LinkSpec → List Text → Type 0
 AsksBadCost names links words = (router port number : ℕ) × AsksCost names links words router port number × ¬ (IsCost number)
 
 -- why words ask to set no cost
-abbrev pub AsksNoCost : List Text → List LinkSpec → List Text → Fault → Type 0
+abbrev pub AsksNoCost : List Text → List LinkSpec → List Text → LineFault → Type 0
 AsksNoCost names links words BadCommand = (router port number : ℕ) → ¬ (AsksCost names links words router port number)
 AsksNoCost names links words BadCost = AsksBadCost names links words
 AsksNoCost names links words _ = ⊥
@@ -178,7 +178,7 @@ AsksAttachment names attachments words router prefix cost =
     (text : Text) × NamesTextAndNumber names (codes "attach") words router text cost × SpellsPrefix text prefix × IsCost cost × IsKnownPrefix attachments prefix
 
 -- the words ask to attach a router, but the text of the prefix has a fault, or, where it has none, the number is no cost
-abbrev pub AsksBadAttachment : List Text → List Text → Fault → Type 0
+abbrev pub AsksBadAttachment : List Text → List Text → LineFault → Type 0
 AsksBadAttachment names words (OfPrefix fault) =
     (router number : ℕ) × (text : Text) × NamesTextAndNumber names (codes "attach") words router text number × IsFirstFault text fault
 AsksBadAttachment names words BadCost =
@@ -186,10 +186,10 @@ AsksBadAttachment names words BadCost =
 AsksBadAttachment names words _ = ⊥
 
 -- why words ask to attach no router: the fault of a value, or else that there is neither
-abbrev pub AsksNoAttachment : List Text → List (Prefix × ℕ × ℕ) → List Text → Fault → Type 0
+abbrev pub AsksNoAttachment : List Text → List (Prefix × ℕ × ℕ) → List Text → LineFault → Type 0
 AsksNoAttachment names attachments words BadCommand =
     ((router : ℕ) (prefix : Prefix) (cost : ℕ) → ¬ (AsksAttachment names attachments words router prefix cost))
-    × ((fault : Fault) → ¬ (AsksBadAttachment names words fault))
+    × ((fault : LineFault) → ¬ (AsksBadAttachment names words fault))
 AsksNoAttachment names attachments words fault = AsksBadAttachment names words fault
 
 -- the words ask for the step
@@ -204,15 +204,15 @@ AsksStep names links attachments words (Attach router prefix cost) = AsksAttachm
 AsksStep names links attachments words (Detach router prefix) = NamesPrefix names attachments (codes "detach") words router prefix
 
 -- the words ask for a step, but the cost or the prefix in it is none
-abbrev pub AsksBadStep : List Text → List LinkSpec → List Text → Fault → Type 0
+abbrev pub AsksBadStep : List Text → List LinkSpec → List Text → LineFault → Type 0
 AsksBadStep names links words BadCost = AsksBadCost names links words ⊎ AsksBadAttachment names words BadCost
 AsksBadStep names links words (OfPrefix fault) = NamesBadPrefix names (codes "detach") words fault ⊎ AsksBadAttachment names words (OfPrefix fault)
 AsksBadStep names links words _ = ⊥
 
 -- why words ask for no step: the fault of a value, or else that there is neither a step nor such a fault
-abbrev pub AsksNoStep : List Text → List LinkSpec → List (Prefix × ℕ × ℕ) → List Text → Fault → Type 0
+abbrev pub AsksNoStep : List Text → List LinkSpec → List (Prefix × ℕ × ℕ) → List Text → LineFault → Type 0
 AsksNoStep names links attachments words BadCommand =
-    ((step : Step) → ¬ (AsksStep names links attachments words step)) × ((fault : Fault) → ¬ (AsksBadStep names links words fault))
+    ((step : Step) → ¬ (AsksStep names links attachments words step)) × ((fault : LineFault) → ¬ (AsksBadStep names links words fault))
 AsksNoStep names links attachments words fault = AsksBadStep names links words fault
 
 -- ---- commands
@@ -268,22 +268,22 @@ abbrev pub AsksBadAddress : List Text → List Text → Type 0
 AsksBadAddress names words = ((verb : Text) × Contains address_verbs verb × NamesBadAddress names verb words) ⊎ AsksBadThrough names words
 
 -- the words ask for a machine's state, or for a command that names an address, but the prefix or the address in it is none
-abbrev pub AsksBadQuestion : List Text → List Text → Fault → Type 0
+abbrev pub AsksBadQuestion : List Text → List Text → LineFault → Type 0
 AsksBadQuestion names words (OfPrefix fault) =
     NamesBadPrefix names (codes "state") words fault ⊎ ((fault ≡ BadAddress) × AsksBadAddress names words)
 AsksBadQuestion names words _ = ⊥
 
 -- the words ask for a command, but the cost, the prefix or the address in it is none
-abbrev pub HasBadValue : List Text → List LinkSpec → List Text → Fault → Type 0
+abbrev pub HasBadValue : List Text → List LinkSpec → List Text → LineFault → Type 0
 HasBadValue names links words fault =
     AsksBadStep names links words fault ⊎ Tries (λ after. AsksBadStep names links after fault) words ⊎ AsksBadQuestion names words fault
 
 -- why words ask for no command: the fault of a value, or else that there is neither a command nor such a fault
-abbrev pub AsksNothing : List Text → List LinkSpec → List (Prefix × ℕ × ℕ) → List Text → Fault → Type 0
+abbrev pub AsksNothing : List Text → List LinkSpec → List (Prefix × ℕ × ℕ) → List Text → LineFault → Type 0
 AsksNothing names links attachments words BadCommand =
-    ((command : Command) → ¬ (Asks names links attachments words command)) × ((fault : Fault) → ¬ (HasBadValue names links words fault))
+    ((command : Command) → ¬ (Asks names links attachments words command)) × ((fault : LineFault) → ¬ (HasBadValue names links words fault))
 AsksNothing names links attachments words fault = HasBadValue names links words fault
 
 -- why a line says no command
-abbrev pub IsCommandFault : List Text → List LinkSpec → List (Prefix × ℕ × ℕ) → Text → Fault → Type 0
+abbrev pub IsCommandFault : List Text → List LinkSpec → List (Prefix × ℕ × ℕ) → Text → LineFault → Type 0
 IsCommandFault names links attachments line fault = AsksNothing names links attachments (words_of line) fault

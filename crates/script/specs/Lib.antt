@@ -6,5 +6,3 @@ pub mod Places
 pub mod Reading
 pub mod Seen
 pub mod Directories
-pub mod Lines
-pub mod Waiting

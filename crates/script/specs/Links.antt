@@ -2,8 +2,8 @@
 use Rattle.std.specs.Prelude.{◌≡◌, ◌≢◌, ℕ, ◌^◌, ◌<◌, List, [], ◌∷◌, unwrap_or, decimal}
 use Rattle.metric.specs.Distance.{IsCost}
 use Rattle.network_model.specs.declared.network.LinkSpec.{LinkSpec}
-use Rattle.script.specs.declared.fault.Fault.{Fault}
-use Rattle.script.specs.declared.fault.Fault.TheVariants.{BadLine, BadCost}
+use Rattle.script.specs.declared.fault.LineFault.{LineFault}
+use Rattle.script.specs.declared.fault.LineFault.TheVariants.{BadLine, BadCost}
 use Rattle.texts.specs.Words.{Text, words_of}
 use Rattle.script.specs.Routers.{router_number, no_router}
 
@@ -33,7 +33,7 @@ IsLink names line link = (l : LinkWords line) × SpellsCosts l
     × (link ≡ record { a = router_named names l.a; b = router_named names l.b; from_a = l.from_a; from_b = l.from_b })
 
 -- why a line says no link
-abbrev pub IsLinkFault : Text → Fault → Type 0
+abbrev pub IsLinkFault : Text → LineFault → Type 0
 IsLinkFault line BadLine = ¬ (LinkWords line)
 IsLinkFault line BadCost = (l : LinkWords line) × ¬ (SpellsCosts l)
 IsLinkFault line _ = ⊥

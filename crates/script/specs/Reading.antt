@@ -4,8 +4,8 @@ use Rattle.std.specs.List.{AllZip}
 use Rattle.ipv4_prefix.specs.Prefix.{Prefix}
 use Rattle.network_model.specs.declared.network.LinkSpec.{LinkSpec}
 use Rattle.script.specs.declared.command.Command.{Command}
-use Rattle.script.specs.declared.fault.Fault.{Fault}
-use Rattle.script.specs.declared.fault.Fault.TheVariants.{BadName, TooLarge}
+use Rattle.script.specs.declared.fault.LineFault.{LineFault}
+use Rattle.script.specs.declared.fault.LineFault.TheVariants.{BadName, TooLarge}
 use Rattle.script.specs.declared.place.Key.{Key}
 use Rattle.script.specs.declared.place.Key.TheVariants.{Routers, Links, Prefixes, Script}
 use Rattle.script.specs.declared.place.Place.{Place}
@@ -49,24 +49,24 @@ abbrev pub IsWhole : {X : Type 0} → List Text → List X → Type 0
 IsWhole lines items = length items ≡ length lines
 
 -- the first line past the items has the fault, and its position
-pub record IsStopped {X : Type 0} (IsFault : Text → Fault → Type 0) (lines : List Text) (items : List X) (position : ℕ) (fault : Fault) : Type 0 where
+pub record IsStopped {X : Type 0} (IsFault : Text → LineFault → Type 0) (lines : List Text) (items : List X) (position : ℕ) (fault : LineFault) : Type 0 where
   pub line : Text
   pub is_line : slice_get lines position ≡ Some line
   pub has_fault : IsFault line fault
   pub first : length items ≡ position
 
 -- reading stopped at a place in the list of the key
-pub record StopsHere {X : Type 0} (IsFault : Text → Fault → Type 0) (key : Key) (lines : List Text) (items : List X) (at : Located) : Type 0 where
+pub record StopsHere {X : Type 0} (IsFault : Text → LineFault → Type 0) (key : Key) (lines : List Text) (items : List X) (at : Located) : Type 0 where
   pub position : ℕ
   pub place : at.place ≡ Some (record { key = key; position = position })
   pub stopped : IsStopped IsFault lines items position at.fault
 
 -- why a line says no further name
-abbrev pub IsNameFault : List Text → Text → Fault → Type 0
+abbrev pub IsNameFault : List Text → Text → LineFault → Type 0
 IsNameFault names line fault = (fault ≡ BadName) × IsBadName names line
 
 -- reading stopped in the list of the key: what stands before was read whole, and nothing after
-abbrev pub ReadingStopsIn : Lists → Parts → Key → ℕ → Fault → Type 0
+abbrev pub ReadingStopsIn : Lists → Parts → Key → ℕ → LineFault → Type 0
 ReadingStopsIn lists parts Routers position fault =
     IsStopped (IsNameFault parts.names) lists.routers parts.names position fault
     × (parts.links ≡ []) × (parts.attachments ≡ []) × (parts.commands ≡ [])
@@ -84,7 +84,7 @@ ReadingStopsIn lists parts Script position fault =
     × IsStopped (IsCommandFault parts.names parts.links parts.attachments) lists.script parts.commands position fault
 
 -- reading stopped at the place, or, without one, before the script, which is too long
-abbrev pub ReadingStopsAt : Lists → Parts → Fault → Option Place → Type 0
+abbrev pub ReadingStopsAt : Lists → Parts → LineFault → Option Place → Type 0
 ReadingStopsAt lists parts fault (Some place) = ReadingStopsIn lists parts place.key place.position fault
 ReadingStopsAt lists parts fault None =
     (fault ≡ TooLarge) × (most_commands < length lists.script)

@@ -5,7 +5,7 @@ ghost use Rattle.texts.specs.Words.{Text, words_of, texts};
 ghost use Rattle.script.specs.Commands.{Asks, AsksDrawn, AsksNoStep, AsksNoTrace, AsksNothing, AsksTrace, IsCommand, IsCommandFault, NamesAddress, NamesNoAddress};
 ghost use Rattle.script.specs.Reading.{StopsHere, ReadsFirst, IsWhole};
 
-use crate::fault::Fault;
+use crate::fault::LineFault;
 use crate::names::Names;
 use crate::operand::{read_prefix, read_router, read_text};
 use crate::place::{Key, Located};
@@ -72,7 +72,7 @@ pub(crate) fn read_commands(
     ensures read { ReadsFirst (IsCommand names.now links.now attachments.now) (texts lines.now)
         commands.new.items }
     ensures whole { OnOk result (IsWhole (texts lines.now) commands.new.items) }
-    ensures stop { IfErr result (λ at. (at.fault ≡ Fault.NoMemory)
+    ensures stop { IfErr result (λ at. (at.fault ≡ LineFault.NoMemory)
         ⊎ StopsHere (IsCommandFault names.now links.now attachments.now) Key.Script
         (texts lines.now)
         commands.new.items at) }
@@ -98,7 +98,7 @@ pub fn read_command(
     links: &[LinkSpec],
     attachments: &[(Prefix, u16, Cost)],
     line: &str,
-) -> Result<Command, Fault>
+) -> Result<Command, LineFault>
     ensures ok { IfOk result (IsCommand names.now links.now attachments.now line.now) }
     ensures err { IfErr result (IsCommandFault names.now links.now attachments.now line.now) }
 {
@@ -109,14 +109,14 @@ pub fn read_command(
 }
 
 // The command that a line of one word says.
-fn read_word(word: &str) -> Result<Command, Fault>
+fn read_word(word: &str) -> Result<Command, LineFault>
     ensures ok { IfOk result (λ c. ((c ≡ Command.Settle) × (word.now ≡ codes "settle"))
         ⊎ ((c ≡ Command.Count) × (word.now ≡ codes "count"))
         ⊎ ((c ≡ Command.Save) × (word.now ≡ codes "save"))
         ⊎ ((c ≡ Command.Restore) × (word.now ≡ codes "restore"))
         ⊎ ((c ≡ Command.Drain) × (word.now ≡ codes "drain"))
         ⊎ ((c ≡ Command.Report) × (word.now ≡ codes "report"))) }
-    ensures err { IfErr result (λ e. (e ≡ Fault.BadCommand) × (word.now ≢ codes "settle")
+    ensures err { IfErr result (λ e. (e ≡ LineFault.BadCommand) × (word.now ≢ codes "settle")
         × (word.now ≢ codes "count") × (word.now ≢ codes "save") × (word.now ≢ codes "restore")
         × (word.now ≢ codes "drain") × (word.now ≢ codes "report")) }
 {
@@ -127,7 +127,7 @@ fn read_word(word: &str) -> Result<Command, Fault>
         "restore" => Ok(Command::Restore),
         "drain" => Ok(Command::Drain),
         "report" => Ok(Command::Report),
-        _ => Err(Fault::BadCommand),
+        _ => Err(LineFault::BadCommand),
     }
 }
 
@@ -138,7 +138,7 @@ fn read_words(
     attachments: &[(Prefix, u16, Cost)],
     verb: &str,
     operands: &str,
-) -> Result<Command, Fault>
+) -> Result<Command, LineFault>
     ensures ok { IfOk result (Asks names.now links.now attachments.now
         (verb.now ∷ words_of operands.now)) }
     ensures err { IfErr result
@@ -146,7 +146,7 @@ fn read_words(
 {
     match verb {
         "try" => {
-            let (verb, operands) = first_word(operands).ok_or(Fault::BadCommand)?;
+            let (verb, operands) = first_word(operands).ok_or(LineFault::BadCommand)?;
             let step = read_step(names, links, attachments, verb, operands)?;
             Ok(Command::Try(step))
         }
@@ -202,7 +202,7 @@ fn read_step_command(
     attachments: &[(Prefix, u16, Cost)],
     verb: &str,
     operands: &str,
-) -> Result<Command, Fault>
+) -> Result<Command, LineFault>
     ensures ok { IfOk result (Asks names.now links.now attachments.now
         (verb.now ∷ words_of operands.now)) }
     ensures err { IfErr result
@@ -213,27 +213,27 @@ fn read_step_command(
 }
 
 // The seed that the operands of `settle` name.
-fn read_seed(operands: &str) -> Result<u32, Fault>
+fn read_seed(operands: &str) -> Result<u32, LineFault>
     ensures ok { IfOk result (AsksDrawn (codes "settle" ∷ words_of operands.now)) }
-    ensures err { IfErr result (λ e. (e ≡ Fault.BadCommand) × ((seed : ℕ)
+    ensures err { IfErr result (λ e. (e ≡ LineFault.BadCommand) × ((seed : ℕ)
         → ¬ (AsksDrawn (codes "settle" ∷ words_of operands.now) seed))) }
 {
-    let (option, number) = two_words(operands).ok_or(Fault::BadCommand)?;
+    let (option, number) = two_words(operands).ok_or(LineFault::BadCommand)?;
     if option != "--seed" {
-        return Err(Fault::BadCommand);
+        return Err(LineFault::BadCommand);
     }
-    read_number(number).ok_or(Fault::BadCommand)
+    read_number(number).ok_or(LineFault::BadCommand)
 }
 
 // The trace that the operands of `trace` ask for.
-fn read_trace(names: &Names, operands: &str) -> Result<Command, Fault>
+fn read_trace(names: &Names, operands: &str) -> Result<Command, LineFault>
     ensures ok { IfOk result (AsksTrace names.now (codes "trace" ∷ words_of operands.now)) }
     ensures err { IfErr result (AsksNoTrace names.now (codes "trace" ∷ words_of operands.now)) }
 {
     match three_words(operands) {
         Some((name, text, option)) => {
             if option != "--through" || text.is_empty() {
-                return Err(Fault::BadCommand);
+                return Err(LineFault::BadCommand);
             }
             let router = read_router(names, name)?;
             let addr = parse_addr(text)?;
@@ -247,7 +247,7 @@ fn read_trace(names: &Names, operands: &str) -> Result<Command, Fault>
 }
 
 // The router that the operands name, and the address after its name.
-fn read_addr(names: &Names, operands: &str) -> Result<(u16, u32), Fault>
+fn read_addr(names: &Names, operands: &str) -> Result<(u16, u32), LineFault>
     ensures ok { IfOk result (λ a. (verb : Text)
         → NamesAddress names.now verb (verb ∷ words_of operands.now) a.0 a.1) }
     ensures err { IfErr result (λ e. (verb : Text)

@@ -1,8 +1,9 @@
 //! What is wrong with the lines of a scenario.
 
 ghost use Rattle.std.specs.Prelude.{◌≡◌};
-ghost use Rattle.script.specs.declared.fault.Fault.TheVariants.{Prefix as OfPrefix, BadCost as CostFault, NoMemory as OutOfMemory};
+ghost use Rattle.script.specs.declared.fault.LineFault.TheVariants.{Prefix as OfPrefix, BadCost as CostFault, NoMemory as OutOfMemory};
 
+use faults::FaultKind;
 use ipv4_prefix::PrefixFault;
 use metric::BadCost;
 use std::alloc::{AllocError, AllocFailed};
@@ -10,59 +11,67 @@ use thiserror::Error;
 
 /// Why the lines of a scenario cannot be read. Its text is its number and name.
 #[derive(Clone, Copy, Debug, PartialEq, Eq, Drop, Error)]
-pub enum Fault {
+#[error("{}", FaultKind::from(*self))]
+pub enum LineFault {
     /// A router's name is no name, or was given before.
-    #[error("42 BadName")]
     BadName,
     /// The line of a link or of a prefix has a wrong number of words, an unreadable number, or, of a
     /// prefix, a router that is not known.
-    #[error("43 BadLine")]
     BadLine,
     /// A cost is outside 1..=65535.
-    #[error("5 BadCost")]
     BadCost,
     /// The text of a prefix or of an address is not one.
-    #[error(transparent)]
     Prefix(PrefixFault),
     /// A line of the script is no command, or names a router, a link or a prefix that is not there.
-    #[error("45 BadCommand")]
     BadCommand,
     /// The script has more than 10,000 commands.
-    #[error("46 TooLarge")]
     TooLarge,
     /// A growth was refused.
-    #[error("20 NoMemory")]
     NoMemory,
 }
 
-impl From<PrefixFault> for Fault {
+impl From<LineFault> for FaultKind {
+    fn from(fault: LineFault) -> FaultKind {
+        match fault {
+            LineFault::BadName => FaultKind::BadName,
+            LineFault::BadLine => FaultKind::BadLine,
+            LineFault::BadCost => FaultKind::BadCost,
+            LineFault::Prefix(fault) => FaultKind::from(fault),
+            LineFault::BadCommand => FaultKind::BadCommand,
+            LineFault::TooLarge => FaultKind::TooLarge,
+            LineFault::NoMemory => FaultKind::NoMemory,
+        }
+    }
+}
+
+impl From<PrefixFault> for LineFault {
     ghost from_gives = { λ p e. e ≡ OfPrefix p };
 
-    fn from(fault: PrefixFault) -> Fault {
-        Fault::Prefix(fault)
+    fn from(fault: PrefixFault) -> LineFault {
+        LineFault::Prefix(fault)
     }
 }
 
-impl From<BadCost> for Fault {
+impl From<BadCost> for LineFault {
     ghost from_gives = { λ _ e. e ≡ CostFault };
 
-    fn from(_fault: BadCost) -> Fault {
-        Fault::BadCost
+    fn from(_fault: BadCost) -> LineFault {
+        LineFault::BadCost
     }
 }
 
-impl From<AllocError> for Fault {
+impl From<AllocError> for LineFault {
     ghost from_gives = { λ _ e. e ≡ OutOfMemory };
 
-    fn from(_error: AllocError) -> Fault {
-        Fault::NoMemory
+    fn from(_error: AllocError) -> LineFault {
+        LineFault::NoMemory
     }
 }
 
-impl<T: Drop> From<AllocFailed<T>> for Fault {
+impl<T: Drop> From<AllocFailed<T>> for LineFault {
     ghost from_gives = { λ _ e. e ≡ OutOfMemory };
 
-    fn from(_error: AllocFailed<T>) -> Fault {
-        Fault::NoMemory
+    fn from(_error: AllocFailed<T>) -> LineFault {
+        LineFault::NoMemory
     }
 }

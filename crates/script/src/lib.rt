@@ -1,8 +1,9 @@
-//! What the lines of a scenario say: names, links, prefixes and commands; and the texts that name routers.
+//! What the lines of a scenario say: names, links, prefixes and commands; and the names of routers.
 //!
 //! The problem: people call routers by names, and the network by numbers. Each command, fault and printed row
 //! has to be translated, and a wrong number would be a wrong router. So a name becomes a number once, when a
-//! line is read ([`Names`]), and a number a name once, when a line is written ([`Directory`]).
+//! line is read ([`Names`]), and a number a name once, when a line is written ([`Directory`]). What is written
+//! is in `lines`.
 //!
 //! ```text
 //!   "a b 5 5"           ->  LinkSpec { a: 0, b: 1, from_a: 5, from_b: 5 }
@@ -10,7 +11,7 @@
 //!   "deliver b a"       ->  Command::Step(Step::Deliver { router: 1, port: 0 })
 //!   "lookup b 10.1.2.3" ->  Command::Lookup { router: 1, addr: .. }
 //!
-//!   Directory::row      ->  "b 10.0.0.0/8 via a 1"                         port 0 is the one to a; session 1
+//!   Directory::neighbour(1, 0)  ->  Some(0)                                port 0 of b is the one to a
 //! ```
 //!
 //! ```text
@@ -24,8 +25,8 @@
 //! What always holds: what was read is what the first lines say, in order, and nothing else (`AreParts` in
 //! `specs/Reading.antt`). The fault is that of the line behind them, at its position in its list
 //! (`ReadingStops`). The names are 1 to 16 small letters and digits, a letter first, and no two are the same
-//! (`AreNames` in `specs/Routers.antt`). A line that is written is the text of its definition (`row_text` and
-//! others in `specs/Directories.antt`, `specs/Lines.antt`, `specs/Waiting.antt`).
+//! (`AreNames` in `specs/Routers.antt`). The name of a router and the one across its port are those of the
+//! network's links (`specs/Directories.antt`).
 //!
 //! What is tricky:
 //!
@@ -41,23 +42,17 @@ mod attachment;
 mod command;
 mod directory;
 mod fault;
-mod lines;
 mod link;
 mod names;
 mod operand;
 mod place;
 mod reading;
 mod step;
-mod tracing;
-mod waiting;
 
 pub use command::{Command, read_command};
-pub use directory::{Directory, LookupText, PacketText, RowText};
-pub use fault::Fault;
-pub use lines::{Line, LinkLine, MachineLine, RouterLine};
+pub use directory::Directory;
+pub use fault::LineFault;
 pub use names::Names;
 pub use place::{Key, Located, Place};
 pub use reading::{Reading, Script, read_script};
 pub use step::parse_step;
-pub use tracing::TraceText;
-pub use waiting::{KindText, WaitingText};

@@ -5,7 +5,7 @@ ghost use Rattle.script.specs.Links.{IsLink, IsLinkFault};
 ghost use Rattle.script.specs.Reading.{StopsHere, ReadsFirst, IsWhole};
 ghost use Rattle.texts.specs.Words.{texts};
 
-use crate::fault::Fault;
+use crate::fault::LineFault;
 use crate::names::{NO_ROUTER, Names};
 use crate::place::{Key, Located};
 use metric::Cost;
@@ -21,7 +21,7 @@ pub(crate) fn read_links(
     requires { links.old.items ≡ [] }
     ensures read { ReadsFirst (IsLink names.now) (texts lines.now) links.new.items }
     ensures whole { OnOk result (IsWhole (texts lines.now) links.new.items) }
-    ensures stop { IfErr result (λ at. (at.fault ≡ Fault.NoMemory)
+    ensures stop { IfErr result (λ at. (at.fault ≡ LineFault.NoMemory)
         ⊎ StopsHere IsLinkFault Key.Links (texts lines.now) links.new.items at) }
 {
     for (position, line) in lines.iter().enumerate() {
@@ -36,16 +36,16 @@ pub(crate) fn read_links(
 /// The link that a line says: `A B C1 C2`, with C1 the cost from A and C2 the cost from B. A name that
 /// is not known stands for no router, which is a fault where the network is opened, after those of all
 /// lines. The words are tested first, and then the costs.
-pub(crate) fn read_link(names: &Names, line: &str) -> Result<LinkSpec, Fault>
+pub(crate) fn read_link(names: &Names, line: &str) -> Result<LinkSpec, LineFault>
     ensures ok { IfOk result (IsLink names.now line.now) }
     ensures err { IfErr result (IsLinkFault line.now) }
 {
-    let (a, b, from_a, from_b) = four_words(line).ok_or(Fault::BadLine)?;
+    let (a, b, from_a, from_b) = four_words(line).ok_or(LineFault::BadLine)?;
     if a.is_empty() || b.is_empty() {
-        return Err(Fault::BadLine);
+        return Err(LineFault::BadLine);
     }
-    let from_a = read_number(from_a).ok_or(Fault::BadLine)?;
-    let from_b = read_number(from_b).ok_or(Fault::BadLine)?;
+    let from_a = read_number(from_a).ok_or(LineFault::BadLine)?;
+    let from_b = read_number(from_b).ok_or(LineFault::BadLine)?;
     let from_a = Cost::new(from_a)?;
     let from_b = Cost::new(from_b)?;
     let a = names.number(a).unwrap_or(NO_ROUTER);

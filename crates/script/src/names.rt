@@ -6,7 +6,7 @@ ghost use Rattle.script.specs.Routers.{IsName, AreNames, IsBadName, router_numbe
 ghost use Rattle.script.specs.Reading.{StopsHere, IsWhole, IsNameFault};
 ghost use Rattle.texts.specs.Words.{texts};
 
-use crate::fault::Fault;
+use crate::fault::LineFault;
 use crate::place::{Key, Located};
 use std::alloc::Global;
 use std::collections::BTreeMap;
@@ -87,15 +87,15 @@ impl Names {
     }
 
     /// Adds a router. The text is a `BadName` where it is no name or is among the names.
-    pub(crate) fn add(&mut self, alloc: Global, name: &str) -> Result<(), Fault>
+    pub(crate) fn add(&mut self, alloc: Global, name: &str) -> Result<(), LineFault>
         ensures ok { OnOk result ((self.new ≡ self.old ++ name.now ∷ []) × IsName name.now
             × ¬ (Contains self.old name.now)) }
         ensures err { OnErr result (self.new ≡ self.old) }
-        ensures bad_name { result ≡ Err Fault.BadName → IsBadName self.old name.now }
-        ensures faults { IfErr result (λ e. (e ≡ Fault.BadName) ⊎ (e ≡ Fault.NoMemory)) }
+        ensures bad_name { result ≡ Err LineFault.BadName → IsBadName self.old name.now }
+        ensures faults { IfErr result (λ e. (e ≡ LineFault.BadName) ⊎ (e ≡ LineFault.NoMemory)) }
     {
         if !is_name(name) || self.number(name).is_some() {
-            return Err(Fault::BadName);
+            return Err(LineFault::BadName);
         }
         let count = self.count();
         let key = String::from_str(alloc, name)?;
@@ -113,7 +113,7 @@ pub(crate) fn read_names(alloc: Global, names: &mut Names, lines: &[String]) -> 
     ensures read { names.new ≡ take (length names.new) (texts lines.now) }
     ensures valid { AreNames names.new }
     ensures whole { OnOk result (IsWhole (texts lines.now) names.new) }
-    ensures stop { IfErr result (λ at. (at.fault ≡ Fault.NoMemory)
+    ensures stop { IfErr result (λ at. (at.fault ≡ LineFault.NoMemory)
         ⊎ StopsHere (IsNameFault names.new) Key.Routers (texts lines.now) names.new at) }
 {
     for (position, line) in lines.iter().enumerate() {

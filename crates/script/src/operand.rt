@@ -7,33 +7,33 @@ ghost use Rattle.texts.specs.Words.{Text, words_of};
 ghost use Rattle.script.specs.Routers.{IsName, router_number};
 ghost use Rattle.script.specs.Commands.{NamesText, NamesPrefix, NamesNoPrefix};
 
-use crate::fault::Fault;
+use crate::fault::LineFault;
 use crate::names::Names;
 use ipv4_prefix::Prefix;
 use metric::Cost;
 use texts::two_words;
 
 /// The number of the router of this name.
-pub(crate) fn read_router(names: &Names, name: &str) -> Result<u16, Fault>
+pub(crate) fn read_router(names: &Names, name: &str) -> Result<u16, LineFault>
     ensures ok { IfOk result (λ router. (router_number names.now name.now ≡ Some router)
         × IsName name.now) }
-    ensures err { IfErr result (λ e. (e ≡ Fault.BadCommand)
+    ensures err { IfErr result (λ e. (e ≡ LineFault.BadCommand)
         × (router_number names.now name.now ≡ None)) }
 {
-    names.number(name).ok_or(Fault::BadCommand)
+    names.number(name).ok_or(LineFault::BadCommand)
 }
 
 /// The router that the operands name, and the text after its name, which is not empty.
-pub(crate) fn read_text<'a>(names: &Names, operands: &'a str) -> Result<(u16, &'a str), Fault>
+pub(crate) fn read_text<'a>(names: &Names, operands: &'a str) -> Result<(u16, &'a str), LineFault>
     ensures ok { IfOk result (λ w. (verb : Text)
         → NamesText names.now verb (verb ∷ words_of operands.now) w.0 w.1.now) }
-    ensures err { IfErr result (λ e. (e ≡ Fault.BadCommand)
+    ensures err { IfErr result (λ e. (e ≡ LineFault.BadCommand)
         × ((verb : Text) (router : ℕ) (text : Text)
         → ¬ (NamesText names.now verb (verb ∷ words_of operands.now) router text))) }
 {
-    let (name, text) = two_words(operands).ok_or(Fault::BadCommand)?;
+    let (name, text) = two_words(operands).ok_or(LineFault::BadCommand)?;
     if text.is_empty() {
-        return Err(Fault::BadCommand);
+        return Err(LineFault::BadCommand);
     }
     let router = read_router(names, name)?;
     Ok((router, text))
@@ -44,7 +44,7 @@ pub(crate) fn read_prefix(
     names: &Names,
     attachments: &[(Prefix, u16, Cost)],
     operands: &str,
-) -> Result<(u16, Prefix), Fault>
+) -> Result<(u16, Prefix), LineFault>
     ensures ok { IfOk result (λ w. (verb : Text)
         → NamesPrefix names.now attachments.now verb (verb ∷ words_of operands.now) w.0 w.1) }
     ensures err { IfErr result (λ e. (verb : Text)
@@ -53,7 +53,7 @@ pub(crate) fn read_prefix(
     let (router, text) = read_text(names, operands)?;
     let prefix = Prefix::parse(text)?;
     if !is_known(attachments, &prefix) {
-        return Err(Fault::BadCommand);
+        return Err(LineFault::BadCommand);
     }
     Ok((router, prefix))
 }

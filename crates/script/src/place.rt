@@ -1,9 +1,9 @@
 //! Where a fault stands in a scenario.
 
 ghost use Rattle.std.specs.Prelude.{◌≡◌, None, Some};
-ghost use Rattle.script.specs.declared.fault.Fault.TheVariants.{NoMemory as OutOfMemory};
+ghost use Rattle.script.specs.declared.fault.LineFault.TheVariants.{NoMemory as OutOfMemory};
 
-use crate::fault::Fault;
+use crate::fault::LineFault;
 use std::alloc::AllocFailed;
 use std::fmt;
 
@@ -54,13 +54,13 @@ impl fmt::Display for Place {
 /// place as `46 TooLarge`.
 #[derive(Clone, Copy, Debug, PartialEq, Eq)]
 pub struct Located {
-    pub fault: Fault,
+    pub fault: LineFault,
     pub place: Option<Place>,
 }
 
 impl Located {
     /// The fault of a line.
-    pub(crate) fn at(fault: Fault, key: Key, position: usize) -> Located
+    pub(crate) fn at(fault: LineFault, key: Key, position: usize) -> Located
         ensures fault { result.fault ≡ fault }
         ensures place { result.place ≡ Some (record { key = key; position = position }) }
     {
@@ -74,7 +74,7 @@ impl<T: Drop> From<AllocFailed<T>> for Located {
 
     fn from(_error: AllocFailed<T>) -> Located {
         Located {
-            fault: Fault::NoMemory,
+            fault: LineFault::NoMemory,
             place: None,
         }
     }

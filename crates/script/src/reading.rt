@@ -7,7 +7,7 @@ ghost use Rattle.script.specs.Seen.{script_parts};
 
 use crate::attachment::read_attachments;
 use crate::command::{Command, read_commands};
-use crate::fault::Fault;
+use crate::fault::LineFault;
 use crate::link::read_links;
 use crate::names::{Names, read_names};
 use crate::place::Located;
@@ -64,7 +64,7 @@ pub fn read_script(
             fault: None,
         }),
         Err(located) => match located.fault {
-            Fault::NoMemory => Err(NoMemory),
+            LineFault::NoMemory => Err(NoMemory),
             _ => Ok(Reading {
                 script: read,
                 fault: Some(located),
@@ -100,7 +100,7 @@ impl Script {
         ensures whole { OnOk result
             (ReadingStops (lists_of routers.now links.now prefixes.now script.now)
             (script_parts self.new) None) }
-        ensures stop { IfErr result (λ at. (at.fault ≡ Fault.NoMemory)
+        ensures stop { IfErr result (λ at. (at.fault ≡ LineFault.NoMemory)
             ⊎ ReadingStops (lists_of routers.now links.now prefixes.now script.now)
             (script_parts self.new) (Some at)) }
     {
@@ -109,7 +109,7 @@ impl Script {
         read_attachments(&self.names, &mut self.attachments, prefixes)?;
         if script.len() > MOST_COMMANDS {
             return Err(Located {
-                fault: Fault::TooLarge,
+                fault: LineFault::TooLarge,
                 place: None,
             });
         }

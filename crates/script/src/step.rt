@@ -6,7 +6,7 @@ ghost use Rattle.texts.specs.Words.{Text, words_of};
 ghost use Rattle.network_model.specs.Network.{joins};
 ghost use Rattle.script.specs.Commands.{link_between as first_between, port_on as number_on, AsksStep, AsksNoStep, AsksCost, AsksNoCost, AsksDelivery, AsksAttachment, AsksNoAttachment, IsWay, NamesLink};
 
-use crate::fault::Fault;
+use crate::fault::LineFault;
 use crate::names::Names;
 use crate::operand::{is_known, read_prefix, read_router};
 use ipv4_prefix::Prefix;
@@ -30,12 +30,12 @@ pub fn parse_step(
     links: &[LinkSpec],
     attachments: &[(Prefix, u16, Cost)],
     line: &str,
-) -> Result<Step, Fault>
+) -> Result<Step, LineFault>
     ensures ok { IfOk result (AsksStep names.now links.now attachments.now (words_of line.now)) }
     ensures err { IfErr result (AsksNoStep names.now links.now attachments.now
         (words_of line.now)) }
 {
-    let (verb, operands) = first_word(line).ok_or(Fault::BadCommand)?;
+    let (verb, operands) = first_word(line).ok_or(LineFault::BadCommand)?;
     read_step(names, links, attachments, verb, operands)
 }
 
@@ -46,7 +46,7 @@ pub(crate) fn read_step(
     attachments: &[(Prefix, u16, Cost)],
     verb: &str,
     operands: &str,
-) -> Result<Step, Fault>
+) -> Result<Step, LineFault>
     ensures ok { IfOk result
         (AsksStep names.now links.now attachments.now (verb.now ∷ words_of operands.now)) }
     ensures err { IfErr result
@@ -89,23 +89,27 @@ pub(crate) fn read_step(
             let (router, prefix) = read_prefix(names, attachments, operands)?;
             Ok(Step::Detach { router, prefix })
         }
-        _ => Err(Fault::BadCommand),
+        _ => Err(LineFault::BadCommand),
     }
 }
 
 // The router, its port and the cost that the operands of `cost` name: the cost from the first router on
 // the link to the second.
-fn read_cost(names: &Names, links: &[LinkSpec], operands: &str) -> Result<(u16, u8, Cost), Fault>
+fn read_cost(
+    names: &Names,
+    links: &[LinkSpec],
+    operands: &str,
+) -> Result<(u16, u8, Cost), LineFault>
     ensures ok { IfOk result (λ w.
         AsksCost names.now links.now (codes "cost" ∷ words_of operands.now) w.0 w.1 w.2
         × IsCost w.2) }
     ensures err { IfErr result (AsksNoCost names.now links.now
         (codes "cost" ∷ words_of operands.now)) }
 {
-    let (name, neighbour, number) = three_words(operands).ok_or(Fault::BadCommand)?;
+    let (name, neighbour, number) = three_words(operands).ok_or(LineFault::BadCommand)?;
     let way = way_between(names, links, name, neighbour)?;
     let port = port_on(links, way.router, usize::from(way.link))?;
-    let number = read_number(number).ok_or(Fault::BadCommand)?;
+    let number = read_number(number).ok_or(LineFault::BadCommand)?;
     let cost = Cost::new(number)?;
     Ok((way.router, port, cost))
 }
@@ -116,14 +120,14 @@ pub(crate) fn read_port(
     names: &Names,
     links: &[LinkSpec],
     operands: &str,
-) -> Result<(u16, u8), Fault>
+) -> Result<(u16, u8), LineFault>
     ensures ok { IfOk result (λ w.
         AsksDelivery names.now links.now (codes "deliver" ∷ words_of operands.now) w.0 w.1) }
-    ensures err { IfErr result (λ e. (e ≡ Fault.BadCommand) × ((router port : ℕ)
+    ensures err { IfErr result (λ e. (e ≡ LineFault.BadCommand) × ((router port : ℕ)
         → ¬ (AsksDelivery names.now links.now
         (codes "deliver" ∷ words_of operands.now) router port))) }
 {
-    let (name, neighbour) = two_words(operands).ok_or(Fault::BadCommand)?;
+    let (name, neighbour) = two_words(operands).ok_or(LineFault::BadCommand)?;
     if name == neighbour {
         let router = read_router(names, name)?;
         let port = port_on(links, router, links.len())?;
@@ -139,47 +143,52 @@ fn read_attach(
     names: &Names,
     attachments: &[(Prefix, u16, Cost)],
     operands: &str,
-) -> Result<(u16, Prefix, Cost), Fault>
+) -> Result<(u16, Prefix, Cost), LineFault>
     ensures ok { IfOk result (λ w.
         AsksAttachment names.now attachments.now
         (codes "attach" ∷ words_of operands.now) w.0 w.1 w.2) }
     ensures err { IfErr result
         (AsksNoAttachment names.now attachments.now (codes "attach" ∷ words_of operands.now)) }
 {
-    let (name, text, number) = three_words(operands).ok_or(Fault::BadCommand)?;
+    let (name, text, number) = three_words(operands).ok_or(LineFault::BadCommand)?;
     if text.is_empty() {
-        return Err(Fault::BadCommand);
+        return Err(LineFault::BadCommand);
     }
     let router = read_router(names, name)?;
-    let number = read_number(number).ok_or(Fault::BadCommand)?;
+    let number = read_number(number).ok_or(LineFault::BadCommand)?;
     let prefix = Prefix::parse(text)?;
     let cost = Cost::new(number)?;
     if !is_known(attachments, &prefix) {
-        return Err(Fault::BadCommand);
+        return Err(LineFault::BadCommand);
     }
     Ok((router, prefix, cost))
 }
 
 // The first of the two routers that the operands name, and their link.
-fn read_way(names: &Names, links: &[LinkSpec], operands: &str) -> Result<Way, Fault>
+fn read_way(names: &Names, links: &[LinkSpec], operands: &str) -> Result<Way, LineFault>
     ensures ok { IfOk result (λ w. (verb : Text)
         → NamesLink names.now links.now verb (verb ∷ words_of operands.now) w.router w.link) }
-    ensures err { IfErr result (λ e. (e ≡ Fault.BadCommand) × ((verb : Text) (router link : ℕ)
+    ensures err { IfErr result (λ e. (e ≡ LineFault.BadCommand) × ((verb : Text) (router link : ℕ)
         → ¬ (NamesLink names.now links.now verb (verb ∷ words_of operands.now) router link))) }
 {
-    let (name, neighbour) = two_words(operands).ok_or(Fault::BadCommand)?;
+    let (name, neighbour) = two_words(operands).ok_or(LineFault::BadCommand)?;
     way_between(names, links, name, neighbour)
 }
 
 // The router of the first name, and its link to the router of the second.
-fn way_between(names: &Names, links: &[LinkSpec], name: &str, neighbour: &str) -> Result<Way, Fault>
+fn way_between(
+    names: &Names,
+    links: &[LinkSpec],
+    name: &str,
+    neighbour: &str,
+) -> Result<Way, LineFault>
     ensures ok { IfOk result (λ w. IsWay names.now links.now name.now neighbour.now w.router w.link) }
-    ensures err { IfErr result (λ e. (e ≡ Fault.BadCommand)
+    ensures err { IfErr result (λ e. (e ≡ LineFault.BadCommand)
         × ((router link : ℕ) → ¬ (IsWay names.now links.now name.now neighbour.now router link))) }
 {
     let router = read_router(names, name)?;
     let neighbour = read_router(names, neighbour)?;
-    let link = link_between(links, router, neighbour).ok_or(Fault::BadCommand)?;
+    let link = link_between(links, router, neighbour).ok_or(LineFault::BadCommand)?;
     Ok(Way { router, link })
 }
 
@@ -202,14 +211,14 @@ fn place_between(links: &[LinkSpec], a: u16, b: u16) -> Option<usize>
 
 // The router's port past those on so many first links: as many of them touch it. So it is the port on
 // the link of that number, and past all links that of the router's own attachments.
-fn port_on(links: &[LinkSpec], router: u16, link: usize) -> Result<u8, Fault>
+fn port_on(links: &[LinkSpec], router: u16, link: usize) -> Result<u8, LineFault>
     ensures ok { IfOk result (λ port. (port ≡ number_on router link links.now) × (port < 256)) }
-    ensures err { IfErr result (λ e. (e ≡ Fault.BadCommand)
+    ensures err { IfErr result (λ e. (e ≡ LineFault.BadCommand)
         × (256 ≤ number_on router link links.now)) }
 {
     match u8::try_from(earlier_links(links, router, link)) {
         Ok(port) => Ok(port),
-        Err(_) => Err(Fault::BadCommand),
+        Err(_) => Err(LineFault::BadCommand),
     }
 }
 

@@ -2,3 +2,4 @@ mod Doing
 mod Links
 mod Answering
 mod Settling
+mod Crossings

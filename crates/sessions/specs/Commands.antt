@@ -45,6 +45,10 @@ ArePut up router (suc l) f g = (h : Net) × ArePut up router l f h × IsPutWhere
 abbrev pub IsPut : Bool → ℕ → Net → Net → Type 0
 IsPut up router f g = ArePut up router (length (network_of f).links) f g
 
+-- no link of the router is other than it was to be
+abbrev pub NoneAmiss : Bool → ℕ → Net → Net → Type 0
+NoneAmiss up router f g = (l : ℕ) → l < length (network_of f).links → is_amiss_at (world_of g) up router l ≡ false
+
 -- why they were not: there is no such router; or those before a link were put so, and its step is refused
 pub record StopsPutting (up : Bool) (router : ℕ) (f g : Net) (e : Refusal) : Type 0 where
   pub link : ℕ

@@ -1,3 +1,4 @@
 pub mod Settling
 pub mod Nets
 pub mod Commands
+pub mod Traces

@@ -6,12 +6,12 @@ ghost use Rattle.either.specs.Either.{is_left};
 ghost use Rattle.sessions.specs.Nets.{CannotLookUp, CannotTrace, IsStepDone, IsStepRefused, refusal_of};
 
 use crate::live::{Live, count, lookup, step as do_one, trace, world};
-use crate::totals::Totals;
 use dispatch::Host;
 use fabric::FabricName;
+use faults::FaultKind;
+use lines::{Answer, Asked, Line};
 use network_model::{Refusal, Step};
-use reports::{Printer, moved_by, tell_moved};
-use std::io;
+use reports::{Printer, moved_by};
 use std::io::Write;
 
 /// Does a step, and prints what it moved, if more is to be told. What it prints may be lost.
@@ -37,8 +37,8 @@ where
         None
     };
     do_one(live, step)?;
-    if let Some(moved) = &moved {
-        let _ = tell_moved(printer, moved, out);
+    if let Some(moved) = moved {
+        let _ = printer.print(&Line::Moved(moved), out);
     }
     Ok(())
 }
@@ -53,12 +53,8 @@ where
     ensures side { is_left live.new ≡ is_left live.old }
 {
     let _ = match do_one(live, step) {
-        Ok(()) => printer.print("done", "{\"kind\":\"try\",\"refused\":null}", out),
-        Err(refusal) => printer.print(
-            format_args!("refused {refusal}"),
-            format_args!("{{\"kind\":\"try\",\"refused\":\"{refusal}\"}}"),
-            out,
-        ),
+        Ok(()) => printer.print(&Line::Tried(None), out),
+        Err(refusal) => printer.print(&Line::Tried(Some(FaultKind::from(refusal))), out),
     };
 }
 
@@ -78,7 +74,12 @@ where
     ensures err { IfErr result (CannotLookUp live.old router addr) }
 {
     let found = lookup(live, router, addr)?;
-    let _ = printer.lookup(router, addr, found, out);
+    let answer = Answer {
+        router,
+        addr,
+        found,
+    };
+    let _ = printer.print(&Line::Asked(Asked::Lookup(answer)), out);
     Ok(())
 }
 
@@ -100,12 +101,14 @@ where
     ensures err { IfErr result (CannotTrace live.old router) }
 {
     let traced = trace(live, router, addr, through)?;
-    let names = printer.directory;
-    let _ = printer.print(
-        names.trace(router, addr, through, &traced),
-        json_lines::trace(names, router, addr, through, &traced),
-        out,
-    );
+    let line = Line::Traced {
+        router,
+        addr,
+        through,
+        path: &traced.path,
+        end: traced.end,
+    };
+    let _ = printer.print(&line, out);
     Ok(())
 }
 
@@ -122,24 +125,7 @@ where
     ensures same { live.new ≡ live.old }
     ensures err { IfErr result (λ e. e ≡ Refusal.NoMemory) }
 {
-    let totals = count(live)?;
-    let _ = print_totals(printer, totals, out);
+    let counts = count(live)?;
+    let _ = printer.print(&Line::Counted(counts), out);
     Ok(())
-}
-
-// Prints how many steps were done, and how many messages of each kind they put on links.
-fn print_totals<W: Write>(printer: &Printer<'_>, totals: Totals, out: &mut W) -> io::Result<()> {
-    let Totals {
-        steps,
-        updates,
-        queries,
-        replies,
-    } = totals;
-    printer.print(
-        format_args!("count: {steps} steps, {updates} updates {queries} queries {replies} replies"),
-        format_args!(
-            "{{\"kind\":\"count\",\"steps\":{steps},\"updates\":{updates},\"queries\":{queries},\"replies\":{replies}}}"
-        ),
-        out,
-    )
 }

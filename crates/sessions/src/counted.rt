@@ -1,6 +1,8 @@
 //! A network whose steps are counted: a simulation, and what was saved of it.
 
-ghost use Rattle.std.specs.Prelude.{◌≡◌, Some, IfOk, IfErr, OnOk, OnErr};
+ghost use Rattle.std.specs.Prelude.{◌≡◌, ◌<◌, not, true, length, Some, IfOk, IfErr, IfSome, OnOk, OnErr};
+ghost use Rattle.std.specs.List.{position_from};
+ghost use Rattle.ipv4_prefix.specs.Prefix.{prefix_eq};
 ghost use Rattle.network_model.specs.Step.{Lawful};
 ghost use Rattle.world.specs.Steps.{CanBeRefused, IsDoneOr};
 ghost use Rattle.simulation.specs.Simulation.{simulation_refusal};
@@ -8,8 +10,10 @@ ghost use Rattle.reports.specs.Report.{unknown_router};
 ghost use Rattle.either.specs.declared.Either.TheVariants as Nets;
 ghost use Rattle.sessions.specs.Nets.{CannotInject, CannotRestore, CannotSave, CannotTrace, IsAnswer, IsRestored, IsSaved, counted_after, opening_counted};
 ghost use Rattle.sessions.specs.Settling.{SettlesThere, StopsThere};
+ghost use Rattle.sessions.specs.Traces.{IsTrace, crossing_on, matched_at, matches_other};
 
-use crate::totals::Totals;
+use crate::totals::{counts_of, counts_since, no_counts};
+use lines::{Answer, Asked, Counts, Line};
 use network_model::{Ending, Entry, NoMemory, Prefix, Refusal, Step, Trace};
 use plans::Cause;
 use reports::Printer;
@@ -29,7 +33,7 @@ pub struct Counted {
     last: u64,
     answers: Vec<JobAnswer>,
     // What was done until it was counted last.
-    counted: Totals,
+    counted: Counts,
 }
 
 // A job, and the row that its router's image answered.
@@ -61,7 +65,7 @@ impl Counted {
             saved: None,
             last: 0,
             answers: Vec::new(alloc),
-            counted: Totals::none(),
+            counted: no_counts(),
         })
     }
 
@@ -96,15 +100,18 @@ impl Counted {
 
     // The way of a packet, whichever prefixes match it.
     fn follow(&self, router: u16, addr: u32) -> Result<Trace, Refusal>
-        ensures { IfErr result (CanBeRefused (unknown_router (self.now).simulation.world router)) }
+        ensures ok { IfOk result (IsTrace (self.now).simulation.world router addr true) }
+        ensures known { OnOk result (router < length (self.now).simulation.world.routers) }
+        ensures err { IfErr result (CanBeRefused (unknown_router (self.now).simulation.world router)) }
     {
         let routers = self.simulation.world().routers().len();
         if usize::from(router) >= routers {
             return Err(Refusal::UnknownRouter);
         }
-        let Ok(mut path) = self.path_of(routers) else {
+        let mut path = Vec::new(self.alloc);
+        if path.resize(routers, 0_u16).is_err() {
             return Err(Refusal::NoMemory);
-        };
+        }
         let Some(traced) = self.simulation.trace(router, addr, &mut path) else {
             return Err(Refusal::UnknownRouter);
         };
@@ -114,28 +121,43 @@ impl Counted {
         Ok(Trace { path, end })
     }
 
-    // Room for so many routers.
-    fn path_of(&self, routers: usize) -> Result<Vec<u16>, NoMemory> {
-        let mut path = Vec::with_capacity(self.alloc, routers)?;
-        for _ in 0..routers {
-            path.push(0_u16)?;
-        }
-        Ok(path)
-    }
-
-    // The place of the first router of a way whose row has another prefix than that of the first router.
-    fn crossing(&self, path: &[u16], addr: u32) -> Option<usize> {
+    // The place of the first router of a way that matches the packet by another prefix than the first router.
+    fn crossing(&self, path: &[u16], addr: u32) -> Option<usize>
+        ensures place { result ≡ crossing_on (self.now).simulation.world addr path.now }
+        ensures within { IfSome result (λ n. n < length path.now) }
+    {
         let first = self.matched(*path.first()?, addr)?;
-        path.iter().position(|&router| match self.matched(router, addr) {
-            Some(prefix) => prefix != first,
-            None => false,
-        })
+        self.first_other(first, path, addr)
     }
 
-    // The prefix of the row by which the image in force at a router answers an address.
-    fn matched(&self, router: u16, addr: u32) -> Option<Prefix> {
-        let (prefix, _) = self.simulation.lookup(router, addr)?.matched?;
-        Some(prefix)
+    // The place of the first router of a way that matches the packet by another prefix than this.
+    fn first_other(&self, first: Prefix, path: &[u16], addr: u32) -> Option<usize>
+        ensures place { result ≡ position_from (matches_other (self.now).simulation.world addr first) 0 path.now }
+        ensures within { IfSome result (λ n. n < length path.now) }
+    {
+        path.iter()
+            .position(|&router| self.matches_other(first, router, addr))
+    }
+
+    // Whether a router matches the packet by another prefix than this.
+    fn matches_other(&self, first: Prefix, router: u16, addr: u32) -> bool
+        ensures { result ≡ matches_other (self.now).simulation.world addr first router }
+    {
+        match self.matched(router, addr) {
+            Some(prefix) => differ(first, prefix),
+            None => false,
+        }
+    }
+
+    // The prefix by which a router matches the packet.
+    fn matched(&self, router: u16, addr: u32) -> Option<Prefix>
+        ensures { result ≡ matched_at (self.now).simulation.world addr router }
+    {
+        match self.lookup(router, addr) {
+            Ok(Some((prefix, _))) => Some(prefix),
+            Ok(None) => None,
+            Err(_) => None,
+        }
     }
 
     /// The simulation.
@@ -179,13 +201,19 @@ impl Counted {
 
     /// The way of a packet along the images in force, while one prefix matches it, or through.
     pub fn trace(&self, router: u16, addr: u32, through: bool) -> Result<Trace, Refusal>
-        ensures { IfErr result (CannotTrace (Nets.Right self.now) router) }
+        ensures ok { IfOk result (IsTrace (self.now).simulation.world router addr through) }
+        ensures known { OnOk result (router < length (self.now).simulation.world.routers) }
+        ensures err { IfErr result (CannotTrace (Nets.Right self.now) router) }
     {
         let mut traced = self.follow(router, addr)?;
-        if !through && let Some(place) = self.crossing(&traced.path, addr) {
-            traced.path.truncate(place.saturating_add(1));
-            traced.end = Ending::Crossed;
+        if through {
+            return Ok(traced);
         }
+        let Some(place) = self.crossing(&traced.path, addr) else {
+            return Ok(traced);
+        };
+        traced.path.truncate(place + 1);
+        traced.end = Ending::Crossed;
         Ok(traced)
     }
 
@@ -206,17 +234,23 @@ impl Counted {
         ensures { self.new ≡ self.old }
     {
         for job in &self.answers {
-            let _ = printer.packet(job.number, job.router, job.addr, job.found, out);
+            let answer = Answer {
+                router: job.router,
+                addr: job.addr,
+                found: job.found,
+            };
+            let packet = Asked::Packet(job.number, answer);
+            let _ = printer.print(&Line::Asked(packet), out);
         }
         self.answers.clear();
     }
 
     /// What was done since the last time, or since the opening.
-    pub fn count(&mut self) -> Totals
+    pub fn count(&mut self) -> Counts
         ensures { self.new ≡ self.old }
     {
-        let totals = Totals::of(&self.simulation);
-        let since = totals.since(self.counted);
+        let totals = counts_of(&self.simulation);
+        let since = counts_since(totals, self.counted);
         self.counted = totals;
         since
     }
@@ -249,9 +283,17 @@ impl Counted {
             return Err(Cause::Refused(Refusal::NoMemory));
         };
         // What was done and not yet counted is counted later, too.
-        let since = Totals::of(&self.simulation).since(self.counted);
-        self.counted = Totals::of(&copy).since(since);
+        let since = counts_since(counts_of(&self.simulation), self.counted);
+        self.counted = counts_since(counts_of(&copy), since);
         self.simulation = copy;
         Ok(())
     }
+}
+
+// Whether these are two prefixes.
+#[tactic(auto, using(ipv4_prefix::proofs::PrefixOrder::prefix_partial_eq))]
+fn differ(one: Prefix, other: Prefix) -> bool
+    ensures { result ≡ not (prefix_eq one other) }
+{
+    one != other
 }

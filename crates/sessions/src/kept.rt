@@ -1,6 +1,6 @@
 //! A network whose steps are kept: a fabric, with the workers that look up in its images.
 
-ghost use Rattle.std.specs.Prelude.{◌≡◌, ◌≤◌, All, IfOk, IfErr, MatchResult, OnOk, OnErr, length, vec_len};
+ghost use Rattle.std.specs.Prelude.{◌≡◌, ◌<◌, ◌≤◌, All, IfOk, IfErr, MatchResult, OnOk, OnErr, length, vec_len};
 ghost use Rattle.network_model.specs.Network.{most_workers};
 ghost use Rattle.network_model.specs.Step.{Lawful};
 ghost use Rattle.world.specs.Steps.{IsDoneOr};
@@ -9,11 +9,13 @@ ghost use Rattle.fabric.specs.Writers.{IsReaderPort};
 ghost use Rattle.either.specs.declared.Either.TheVariants as Nets;
 ghost use Rattle.sessions.specs.Nets.{CannotDrain, CannotInject, CannotLookUp, CannotTrace, IsAnswer};
 ghost use Rattle.sessions.specs.Settling.{Settles, StopsSettling};
+ghost use Rattle.sessions.specs.Traces.{IsTrace};
 
-use crate::totals::Totals;
+use crate::totals::{counts_of, counts_since, no_counts};
 use control::{Crew, Progress, TurnGate, TurnOrder, settle, settle_in_order};
 use dispatch::{Dispatcher, Host, ports_of, print_replies};
 use fabric::{Fabric, FabricName};
+use lines::Counts;
 use network_model::{Entry, NoMemory, Prefix, Refusal, Step, Trace};
 use plans::Cause;
 use publication::ImageReader;
@@ -36,7 +38,7 @@ pub struct Kept<B: FabricName, H> {
     // A simulation that does the same steps, as far as they were counted.
     again: Option<Simulation>,
     // What was done until they were counted last.
-    counted: Totals,
+    counted: Counts,
 }
 
 impl<B: FabricName, H> Model for Kept<B, H> {
@@ -72,7 +74,7 @@ where
                 dispatcher: Dispatcher::new(ports),
                 fabric,
                 again: None,
-                counted: Totals::none(),
+                counted: no_counts(),
             }),
             Err(memory) => Err((fabric, memory)),
         }
@@ -99,7 +101,7 @@ where
     }
 
     // Does the steps again that were done since the last time, and answers what was done since the opening.
-    fn do_again(&mut self) -> Result<Totals, Refusal>
+    fn do_again(&mut self) -> Result<Counts, Refusal>
         ensures same { self.new ≡ self.old }
         ensures err { IfErr result (λ e. e ≡ Refusal.NoMemory) }
     {
@@ -113,7 +115,7 @@ where
         let journal = self.fabric.journal();
         let done = (again.steps() as usize).min(journal.len());
         let ran = again.run(&journal[done..]);
-        let totals = Totals::of(&again);
+        let totals = counts_of(&again);
         self.again = Some(again);
         match ran.refusal {
             // Each step was lawful the first time.
@@ -182,9 +184,14 @@ where
 
     /// The way of a packet along the images in force, while one prefix matches it, or through.
     pub fn trace(&mut self, router: u16, addr: u32, through: bool) -> Result<Trace, Refusal>
+        ensures ok { IfOk result (IsTrace (self.old).world router addr through) }
+        ensures known { OnOk result (router < length (self.old).world.routers) }
         ensures err { IfErr result (CannotTrace (Nets.Left self.old) router) }
         ensures same { self.new ≡ self.old }
     {
+        if usize::from(router) >= self.fabric.world().routers().len() {
+            return Err(Refusal::UnknownRouter);
+        }
         let traced = if through {
             trace_through(&mut self.fabric, self.alloc, router, addr)
         } else {
@@ -217,12 +224,12 @@ where
     }
 
     /// What was done since the last time, or since the opening. Refused with `NoMemory`.
-    pub fn count(&mut self) -> Result<Totals, Refusal>
+    pub fn count(&mut self) -> Result<Counts, Refusal>
         ensures err { IfErr result (λ e. e ≡ Refusal.NoMemory) }
         ensures same { self.new ≡ self.old }
     {
         let totals = self.do_again()?;
-        let since = totals.since(self.counted);
+        let since = counts_since(totals, self.counted);
         self.counted = totals;
         Ok(since)
     }

@@ -1,17 +1,18 @@
 //! A network that runs, as a session needs it: its steps are kept, or they are counted alone.
 
-ghost use Rattle.std.specs.Prelude.{◌≡◌, IfOk, IfErr, OnOk, OnErr};
+ghost use Rattle.std.specs.Prelude.{◌≡◌, ◌<◌, length, IfOk, IfErr, OnOk, OnErr};
 ghost use Rattle.world.specs.Steps.{IsDoneOr};
 ghost use Rattle.either.specs.Either.{is_left};
 ghost use Rattle.sessions.specs.Nets.{CannotDrain, CannotInject, CannotLookUp, CannotRestore, CannotSave, CannotTrace, IsAnswer, IsRestored, IsSaved, IsSettled, IsStepDone, IsUnsettled, network_of, refusal_of, world_of};
+ghost use Rattle.sessions.specs.Traces.{IsTrace};
 
 use crate::counted::Counted;
 use crate::kept::Kept;
-use crate::totals::Totals;
 use control::{Progress, TurnGate};
 use dispatch::Host;
 use either::Either;
 use fabric::FabricName;
+use lines::Counts;
 use network_model::{Entry, Prefix, Refusal, Step, Trace};
 use plans::Cause;
 use reports::Printer;
@@ -127,6 +128,8 @@ pub fn trace<B, H>(
 where
     B: FabricName + Send + Sync + 'static,
     H: Host,
+    ensures ok { IfOk result (IsTrace (world_of live.old) router addr through) }
+    ensures known { OnOk result (router < length (world_of live.old).routers) }
     ensures err { IfErr result (CannotTrace live.old router) }
     ensures same { live.new ≡ live.old }
 {
@@ -170,12 +173,12 @@ where
         Either::Right(counted) => {
             counted.drain(printer, out);
             Ok(())
-        },
+        }
     }
 }
 
 /// What was done since the last time, or since the opening. Refused with `NoMemory`.
-pub fn count<B, H>(live: &mut Live<B, H>) -> Result<Totals, Refusal>
+pub fn count<B, H>(live: &mut Live<B, H>) -> Result<Counts, Refusal>
 where
     B: FabricName + Send + Sync + 'static,
     H: Host,

@@ -1,8 +1,9 @@
 //! Puts all links of a router up, or takes them down.
 
-ghost use Rattle.std.specs.Prelude.{◌≡◌, IfErr, OnOk};
+ghost use Rattle.std.specs.Prelude.{◌≡◌, ◌<◌, length, IfErr, OnOk};
 ghost use Rattle.either.specs.Either.{is_left};
-ghost use Rattle.sessions.specs.Commands.{CannotPut, IsPut, is_amiss_at, put as put_model};
+ghost use Rattle.sessions.specs.Commands.{CannotPut, IsPut, NoneAmiss, is_amiss_at, put as put_model};
+ghost use Rattle.sessions.specs.Nets.{world_of};
 
 use crate::live::{Live, network, step, world};
 use dispatch::Host;
@@ -17,6 +18,8 @@ where
     B: FabricName + Send + Sync + 'static,
     H: Host,
     ensures ok { OnOk result (IsPut up router live.old live.new) }
+    ensures known { OnOk result (router < length (world_of live.old).routers) }
+    ensures all { OnOk result (NoneAmiss up router live.old live.new) }
     ensures err { IfErr result (CannotPut up router live.old live.new) }
     ensures side { is_left live.new ≡ is_left live.old }
 {

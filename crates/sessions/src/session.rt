@@ -21,6 +21,19 @@ use script::{Command, Directory, Key, Place};
 use std::alloc::Global;
 use std::io::Write;
 
+/// What is told of a script or a shell, and how.
+#[derive(Clone, Copy, Debug, PartialEq, Eq)]
+pub struct Telling {
+    /// Whether more is told of a machine's state, and of what cannot be done.
+    pub explain: bool,
+    /// Whether it is told what each step takes or sends.
+    pub moves: bool,
+    /// How what is printed is written.
+    pub format: Format,
+    /// Whether it is told how far a script is.
+    pub progress: bool,
+}
+
 /// How commands are done, and told of.
 #[derive(Drop)]
 pub struct Session<'a, G> {
@@ -29,14 +42,7 @@ pub struct Session<'a, G> {
     pub gate: &'a G,
     /// The routers' names.
     pub directory: &'a Directory,
-    /// How what is printed is written.
-    pub format: Format,
-    /// Whether more is told of a machine's state, and of a command that a shell cannot do.
-    pub explain: bool,
-    /// Whether it is told what each step takes or sends.
-    pub moves: bool,
-    /// Whether it is told how far the commands are.
-    pub progress: bool,
+    pub telling: Telling,
 }
 
 impl<'a, G> Session<'a, G> {
@@ -44,7 +50,7 @@ impl<'a, G> Session<'a, G> {
     pub fn printer(&self) -> Printer<'a> {
         Printer {
             directory: self.directory,
-            format: self.format,
+            format: self.telling.format,
         }
     }
 }
@@ -69,7 +75,7 @@ where
     ensures side { is_left live.new ≡ is_left live.old }
 {
     let mut progress = ScriptProgress {
-        asked: session.progress,
+        asked: session.telling.progress,
         done: 0,
         all: commands.len(),
         err,
@@ -130,7 +136,7 @@ where
     let alloc = session.alloc;
     match command {
         Command::Step(step) => {
-            let done = do_step(live, &printer, session.moves, step, out);
+            let done = do_step(live, &printer, session.telling.moves, step, out);
             into_cause(done)
         }
         Command::Try(step) => {
@@ -147,7 +153,7 @@ where
         Command::RouterUp { router } => into_cause(put_links(live, true, router)),
         Command::RouterDown { router } => into_cause(put_links(live, false, router)),
         Command::State { router, prefix } => {
-            let explain = session.explain;
+            let explain = session.telling.explain;
             let done = print_state(world(live), &printer, router, prefix, explain, out);
             into_cause(done)
         }

@@ -1,6 +1,6 @@
 -- What the laws of all runs say of every simulation.
 use Rattle.std.proofs.Common.{refl, sym, ap, ◌∙◌, ◌≡◌, ℕ, List, Option, Some, None, option_map, option_and_then, slice_get}
-use Rattle.packet_loops.proofs.Common.{slice_get-map, longest_match, entry_leads, Router, IsNetwork, image_answer}
+use Rattle.no_packet_loops.proofs.Common.{slice_get-map, longest_match, entry_leads, Router, IsNetwork, image_answer}
 use Rattle.network_model.specs.Forwarding.{hop}
 use Rattle.all_packets.specs.Packets.{IsWay}
 use Rattle.all_packets.proofs.Improving.{way_by}

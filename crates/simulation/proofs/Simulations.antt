@@ -1,7 +1,7 @@
 -- What a step leaves of what every simulation keeps.
 use Rattle.std.proofs.Common.{refl, sym, ap, subst, ◌∙◌, arith, length-append, ◌≡◌, ℕ, ◌+◌, ◌^◌, ◌<◌, ◌≤◌, List, [], ◌∷◌, ◌++◌, map, length, if◌then◌else◌, Option, Some, None, Result, Err, slice_get}
 use Rattle.std.proofs.lemmas.Bool.{lt-ltb}
-use Rattle.packet_loops.proofs.Common.{length-map, range_with_len, Router, World, Network, opening, Lawful, next, refusal, Refusal, Image, image_answer, Some_injective}
+use Rattle.no_packet_loops.proofs.Common.{length-map, range_with_len, Router, World, Network, opening, Lawful, next, refusal, Refusal, Image, image_answer, Some_injective}
 use Rattle.metric.specs.declared.kind.Kind.{Kind}
 use Rattle.metric.specs.declared.kind.Kind.TheVariants.{Update, Query, Reply}
 use Rattle.network_model.specs.declared.step.Step.{Step}

@@ -1,7 +1,7 @@
 -- Steps that routers do in turn.
 use Rattle.std.proofs.Common.{refl, sym, ap, subst, ◌∙◌, arith, inl, inr, length-append, ◌≡◌, ◌⊎◌, ℕ, ◌+◌, ◌^◌, ◌<◌, ◌≤◌, Bool, true, false, if◌then◌else◌, nat_lt, List, [], ◌∷◌, ◌++◌, length, Some, None}
 use Rattle.std.proofs.lemmas.Bool.{cases_lt, ltb-false}
-use Rattle.packet_loops.proofs.Common.{World, Lawful, Lawful_to_refusal, next, refusal, Refusal, Runs}
+use Rattle.no_packet_loops.proofs.Common.{World, Lawful, Lawful_to_refusal, next, refusal, Refusal, Runs}
 use Rattle.network_model.specs.declared.step.Step.{Step}
 use Rattle.network_model.specs.Turns.{next_step}
 use Rattle.world.specs.Steps.{CanBeRefused}

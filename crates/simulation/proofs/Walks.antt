@@ -1,7 +1,7 @@
 -- Packets that are followed along the images in force.
 use Rattle.std.proofs.Common.{refl, sym, ap, subst, ◌∙◌, arith, ◌≡◌, ◌≢◌, ℕ, zero, suc, ◌<◌, ◌≤◌, List, [], ◌∷◌, ◌++◌, append_assoc, length, take, drop, Option, Some, None, option_map, option_and_then, slice_get}
-use Rattle.packet_loops.proofs.Common.{slice_get-map, IsNetwork, Prefix, Entry, Local, Via, Unreachable, Ending, Router, World, Image, image_answer, longest_match, row_for, entry_leads, Onward, Ends, Goes, over_link, by_entry, by_row, onward, Trace, traced_by, None_not_Some, Some_injective}
-use Rattle.packet_loops.proofs.Traces.{by_entry-goes}
+use Rattle.no_packet_loops.proofs.Common.{slice_get-map, IsNetwork, Prefix, Entry, Local, Via, Unreachable, Ending, Router, World, Image, image_answer, longest_match, row_for, entry_leads, Onward, Ends, Goes, over_link, by_entry, by_row, onward, Trace, traced_by, None_not_Some, Some_injective}
+use Rattle.no_packet_loops.proofs.Traces.{by_entry-goes}
 use Rattle.network_model.specs.Forwarding.{hop}
 use Rattle.all_packets.specs.Packets.{IsWay}
 use Rattle.all_packets.specs.Through.{through_from}

@@ -4,8 +4,8 @@ use Rattle.std.specs.FinMap.{find as row_of}
 use Rattle.ipv4_prefix.specs.Prefix.{Prefix, prefix_cmp}
 use Rattle.network_model.specs.World.{Router}
 use Rattle.c_interface.specs.Faults.{first_of}
-use Rattle.c_interface.specs.declared.fault.Fault.{Fault}
-use Rattle.c_interface.specs.declared.fault.Fault.TheVariants.{TooManyPrefixes}
+use Rattle.c_interface.specs.declared.fault.CallFault.{CallFault}
+use Rattle.c_interface.specs.declared.fault.CallFault.TheVariants.{TooManyPrefixes}
 use Rattle.single_router.specs.declared.input.Input.{Input}
 use Rattle.single_router.specs.declared.input.Input.TheVariants as input
 use Rattle.single_router.specs.declared.opening.Attachment.{Attachment}
@@ -26,11 +26,11 @@ abbrev pub is_one_too_many : Prefix → BoundedRouter → Bool
 is_one_too_many p b = is_none (row_of prefix_cmp p ((b.router).table).control) && nat_le b.most (length ((b.router).table).control)
 
 -- that a prefix would be one too many
-abbrev pub crowd_fault : Prefix → BoundedRouter → Option Fault
+abbrev pub crowd_fault : Prefix → BoundedRouter → Option CallFault
 crowd_fault p b = if is_one_too_many p b then Some TooManyPrefixes else None
 
 -- that an input would have the router know one prefix too many
-abbrev pub input_crowd_fault : Input → BoundedRouter → Option Fault
+abbrev pub input_crowd_fault : Input → BoundedRouter → Option CallFault
 input_crowd_fault (input.Up port session cost) b = None
 input_crowd_fault (input.Down port) b = None
 input_crowd_fault (input.Cost port cost) b = None
@@ -39,12 +39,12 @@ input_crowd_fault (input.Attached p cost) b = crowd_fault p b
 input_crowd_fault (input.Detached p) b = None
 
 -- why a router is not told an input: what the input's tests find, or else that a prefix would be one too many
-abbrev pub bounded_fault : Input → BoundedRouter → Option Fault
+abbrev pub bounded_fault : Input → BoundedRouter → Option CallFault
 bounded_fault i b = first_of (told_fault i b.router) (input_crowd_fault i b)
 
 -- why a router cannot be made: what the tests of ports and attachments find, or else that there are more attachments than prefixes
 -- that it may know
-abbrev pub bounded_make_fault : ℕ → List ℕ → List Attachment → Option Fault
+abbrev pub bounded_make_fault : ℕ → List ℕ → List Attachment → Option CallFault
 bounded_make_fault most costs attachments = first_of (make_fault costs attachments) (if nat_lt most (length attachments) then Some TooManyPrefixes else None)
 
 -- the router that is made

@@ -14,8 +14,8 @@ use Rattle.dual_machine.specs.State.{awaits_at}
 use Rattle.router_core.specs.Room.{MeetingNeedsMemory, NoticeNeedsMemory}
 use Rattle.c_interface.specs.Faults.{first_of}
 use Rattle.c_interface.specs.Rows.{prefix_fault}
-use Rattle.c_interface.specs.declared.fault.Fault.{Fault}
-use Rattle.c_interface.specs.declared.fault.Fault.TheVariants.{BadCost, BadKind, UnknownPort, AlreadyUp, IsDown, NotAttached, OtherSession, NoMemory, Unasked, AskedTwice}
+use Rattle.c_interface.specs.declared.fault.CallFault.{CallFault}
+use Rattle.c_interface.specs.declared.fault.CallFault.TheVariants.{BadCost, BadKind, UnknownPort, AlreadyUp, IsDown, NotAttached, OtherSession, NoMemory, Unasked, AskedTwice}
 use Rattle.single_router.specs.declared.frame.Frame.{Frame}
 use Rattle.single_router.specs.declared.input.Input.{Input}
 use Rattle.single_router.specs.declared.input.Input.TheVariants as input
@@ -23,64 +23,64 @@ use Rattle.single_router.specs.declared.input.Input.TheVariants as input
 -- ---- as it is read
 
 -- what comes of a reading that has no fault
-abbrev pub and_then : {X Y : Type 0} → Result X Fault → (X → Result Y Fault) → Result Y Fault
+abbrev pub and_then : {X Y : Type 0} → Result X CallFault → (X → Result Y CallFault) → Result Y CallFault
 and_then (Ok x) next = next x
 and_then (Err f) next = Err f
 
 -- a value, unless a test found something
-abbrev pub unless : {X : Type 0} → Option Fault → X → Result X Fault
+abbrev pub unless : {X : Type 0} → Option CallFault → X → Result X CallFault
 unless None x = Ok x
 unless (Some f) x = Err f
 
 -- the fault of a number for a cost
-abbrev pub cost_fault : ℕ → Option Fault
+abbrev pub cost_fault : ℕ → Option CallFault
 cost_fault n = if nat_le 1 n && nat_le n greatest_cost then None else Some BadCost
 
 -- the cost of a number
-abbrev pub cost_of : ℕ → Result ℕ Fault
+abbrev pub cost_of : ℕ → Result ℕ CallFault
 cost_of n = unless (cost_fault n) n
 
 -- the prefix of an address's first bits
-abbrev pub prefix_of : ℕ → ℕ → Result Prefix Fault
+abbrev pub prefix_of : ℕ → ℕ → Result Prefix CallFault
 prefix_of addr len = unless (prefix_fault addr len) (record { addr = addr; len = len })
 
 -- the kind of a number
-abbrev pub kind_of : ℕ → Result Kind Fault
+abbrev pub kind_of : ℕ → Result Kind CallFault
 kind_of n = if n == 0 then Ok Update else if n == 1 then Ok Query else if n == 2 then Ok Reply else Err BadKind
 
-abbrev pub up_input : ℕ → ℕ → ℕ → Result Input Fault
+abbrev pub up_input : ℕ → ℕ → ℕ → Result Input CallFault
 up_input port session cost = and_then (cost_of cost) (λ c. Ok (input.Up port session c))
 
-abbrev pub cost_input : ℕ → ℕ → Result Input Fault
+abbrev pub cost_input : ℕ → ℕ → Result Input CallFault
 cost_input port cost = and_then (cost_of cost) (λ c. Ok (input.Cost port c))
 
-abbrev pub frame_input : Frame → Result Input Fault
+abbrev pub frame_input : Frame → Result Input CallFault
 frame_input f = and_then (prefix_of f.addr f.len) (λ p. and_then (kind_of f.kind) (λ k.
     Ok (input.Message f.port f.session (record { kind = k; prefix = p; value = f.value }))))
 
-abbrev pub attached_input : ℕ → ℕ → ℕ → Result Input Fault
+abbrev pub attached_input : ℕ → ℕ → ℕ → Result Input CallFault
 attached_input addr len cost = and_then (prefix_of addr len) (λ p. and_then (cost_of cost) (λ c. Ok (input.Attached p c)))
 
-abbrev pub detached_input : ℕ → ℕ → Result Input Fault
+abbrev pub detached_input : ℕ → ℕ → Result Input CallFault
 detached_input addr len = and_then (prefix_of addr len) (λ p. Ok (input.Detached p))
 
 -- ---- as it is refused
 
 -- the fault that a test finds at a port; that there is no such port comes first
-abbrev pub port_fault : Option Port → (Port → Option Fault) → Option Fault
+abbrev pub port_fault : Option Port → (Port → Option CallFault) → Option CallFault
 port_fault None test = Some UnknownPort
 port_fault (Some p) test = test p
 
 -- a port whose link is down
-abbrev pub down_fault : Port → Option Fault
+abbrev pub down_fault : Port → Option CallFault
 down_fault p = if p.up then None else Some IsDown
 
 -- a port whose link cannot come up in this session: it is up, or was up in this session or a later one
-abbrev pub up_fault : ℕ → Port → Option Fault
+abbrev pub up_fault : ℕ → Port → Option CallFault
 up_fault session p = if p.up then Some AlreadyUp else if nat_lt p.session session then None else Some OtherSession
 
 -- a port that takes no message of this session: its link is down, or up in another
-abbrev pub message_fault : ℕ → Port → Option Fault
+abbrev pub message_fault : ℕ → Port → Option CallFault
 message_fault session p = if p.up then (if p.session == session then None else Some OtherSession) else Some IsDown
 
 -- whether a computation under way owes a reply to this port
@@ -89,7 +89,7 @@ owes_at c q = is_port q (option_and_then (λ k. k.debt) c)
 
 -- a message that nobody who keeps to the protocol sends from port q, of a prefix with this computation: a query while the reply to the
 -- one before is owed, or a reply that is not awaited
-abbrev pub kind_fault : Option Computation → ℕ → Kind → Option Fault
+abbrev pub kind_fault : Option Computation → ℕ → Kind → Option CallFault
 kind_fault c q Update = None
 kind_fault c q Query = if owes_at c q then Some AskedTwice else None
 kind_fault c q Reply = if awaits_at c q then None else Some Unasked
@@ -99,7 +99,7 @@ abbrev pub attachment_of : Router → Prefix → Option ℕ
 attachment_of r p = option_and_then (λ m. m.attachment) (row_of prefix_cmp p r.machines)
 
 -- why a router is not told: the first of the tests that finds something
-abbrev pub told_fault : Input → Router → Option Fault
+abbrev pub told_fault : Input → Router → Option CallFault
 told_fault (input.Up port session cost) r = port_fault (slice_get r.ports port) (up_fault session)
 told_fault (input.Down port) r = port_fault (slice_get r.ports port) down_fault
 told_fault (input.Cost port cost) r = port_fault (slice_get r.ports port) down_fault
@@ -121,12 +121,12 @@ router_after (input.Detached p) r = router_at_home (record { prefix = p; cost = 
 
 -- the fault with which a call is refused, where this test is all that speaks against it: what the test finds, or else want
 -- of memory
-abbrev pub IsRefusedBy : Option Fault → Fault → Type 0
+abbrev pub IsRefusedBy : Option CallFault → CallFault → Type 0
 IsRefusedBy (Some f) fault = fault ≡ f
 IsRefusedBy None fault = fault ≡ NoMemory
 
 -- the same of a call that may need memory only if this is so
-abbrev pub IsRefusedOnlyBy : Option Fault → Type 0 → Fault → Type 0
+abbrev pub IsRefusedOnlyBy : Option CallFault → Type 0 → CallFault → Type 0
 IsRefusedOnlyBy (Some f) needs fault = fault ≡ f
 IsRefusedOnlyBy None needs fault = (fault ≡ NoMemory) × needs
 

@@ -6,13 +6,13 @@ use Rattle.network_model.specs.Network.{most_ports}
 use Rattle.network_model.specs.World.{Router, opening_router, rows_of}
 use Rattle.c_interface.specs.Faults.{first_of}
 use Rattle.c_interface.specs.Rows.{prefix_fault}
-use Rattle.c_interface.specs.declared.fault.Fault.{Fault}
-use Rattle.c_interface.specs.declared.fault.Fault.TheVariants.{TooManyPorts}
+use Rattle.c_interface.specs.declared.fault.CallFault.{CallFault}
+use Rattle.c_interface.specs.declared.fault.CallFault.TheVariants.{TooManyPorts}
 use Rattle.single_router.specs.Inputs.{cost_fault}
 use Rattle.single_router.specs.declared.opening.Attachment.{Attachment}
 
 -- the first of the faults of all
-abbrev pub first_fault_in : {X : Type 0} → (X → Option Fault) → List X → Option Fault
+abbrev pub first_fault_in : {X : Type 0} → (X → Option CallFault) → List X → Option CallFault
 first_fault_in fault [] = None
 first_fault_in fault (x ∷ xs) = first_of (fault x) (first_fault_in fault xs)
 
@@ -21,7 +21,7 @@ abbrev pub unused_port : ℕ → Port
 unused_port cost = record { up = false; session = 0; cost = cost }
 
 -- why these are no costs of a router's ports: there are too many, or the first of them that is none
-abbrev pub costs_fault : List ℕ → Option Fault
+abbrev pub costs_fault : List ℕ → Option CallFault
 costs_fault costs = if nat_lt most_ports (length costs) then Some TooManyPorts else first_fault_in cost_fault costs
 
 -- the prefix and the cost of an attachment
@@ -29,15 +29,15 @@ abbrev pub attachment_row : Attachment → Prefix × ℕ
 attachment_row a = (record { addr = a.addr; len = a.len }, a.cost)
 
 -- the fault of an attachment: of its prefix, or else of its cost
-abbrev pub attachment_fault : Attachment → Option Fault
+abbrev pub attachment_fault : Attachment → Option CallFault
 attachment_fault a = first_of (prefix_fault a.addr a.len) (cost_fault a.cost)
 
 -- the fault of the first attachment that has one
-abbrev pub attachments_fault : List Attachment → Option Fault
+abbrev pub attachments_fault : List Attachment → Option CallFault
 attachments_fault attachments = first_fault_in attachment_fault attachments
 
 -- why a router cannot be made: its ports are tested first
-abbrev pub make_fault : List ℕ → List Attachment → Option Fault
+abbrev pub make_fault : List ℕ → List Attachment → Option CallFault
 make_fault costs attachments = first_of (costs_fault costs) (attachments_fault attachments)
 
 -- the router with these ports, that is attached to these prefixes; of a prefix that stands twice the first cost counts

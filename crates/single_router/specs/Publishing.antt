@@ -7,8 +7,8 @@ use Rattle.network_model.specs.World.{Router}
 use Rattle.network_model.specs.declared.route.Entry.{Entry}
 use Rattle.router_core.specs.Alone.{router_publishing_some, may_forget}
 use Rattle.c_interface.specs.Rows.{entry_row}
-use Rattle.c_interface.specs.declared.fault.Fault.{Fault}
-use Rattle.c_interface.specs.declared.fault.Fault.TheVariants.{BadCount, NothingDue, GenerationsSpent, UnknownPrefix, StillUsed}
+use Rattle.c_interface.specs.declared.fault.CallFault.{CallFault}
+use Rattle.c_interface.specs.declared.fault.CallFault.TheVariants.{BadCount, NothingDue, GenerationsSpent, UnknownPrefix, StillUsed}
 use Rattle.c_interface.specs.declared.row.Row.{Row}
 
 -- a list of rows was written over the first of those that were there
@@ -17,7 +17,7 @@ pub record IsWrittenOver (list : List (Prefix × Entry)) (old new : List Row) : 
   pub rest : drop (length list) new ≡ drop (length list) old
 
 -- so many rows do not fit into a list of this length
-abbrev pub room_fault : ℕ → ℕ → Option Fault
+abbrev pub room_fault : ℕ → ℕ → Option CallFault
 room_fault rows room = if nat_lt room rows then Some BadCount else None
 
 -- ---- a publication
@@ -27,7 +27,7 @@ abbrev pub has_more : ℕ → Router → Bool
 has_more room r = nat_lt room (length (changed_rows r.table))
 
 -- why a router puts nothing in force. Of rows that do not all fit it puts those in force that do, if there is room for any
-abbrev pub publish_fault : ℕ → Router → Option Fault
+abbrev pub publish_fault : ℕ → Router → Option CallFault
 publish_fault room r =
     if has_more room r then (if room == 0 then Some BadCount else None)
     else if is_due r then (if nat_lt (r.generation + 1) (2 ^ 64) then None else Some GenerationsSpent)
@@ -44,5 +44,5 @@ router_given room r = if has_more room r then router_publishing_some room r else
 -- ---- a prefix that is forgotten
 
 -- why a router does not forget a prefix: it has not heard of it, or may not
-abbrev pub forget_fault : Prefix → Router → Option Fault
+abbrev pub forget_fault : Prefix → Router → Option CallFault
 forget_fault p r = if is_some (row_of prefix_cmp p r.machines) then (if may_forget p r then None else Some StillUsed) else Some UnknownPrefix

@@ -4,7 +4,7 @@ ghost use Rattle.std.specs.Prelude.{◌≡◌, Ok, Err};
 ghost use Rattle.single_router.specs.Inputs as inputs;
 
 use crate::frame::Frame;
-use c_interface::{Fault, read_prefix};
+use c_interface::{CallFault, read_prefix};
 use network_model::{Cost, Distance, Kind, Message, Prefix};
 
 /// What a router is told: of a link, by its port, or of its own attachment to a prefix.
@@ -44,7 +44,7 @@ pub enum Input {
 
 impl Input {
     /// The link of the port came up. A `BadCost` where the number is no cost.
-    pub fn up(port: u8, session: u16, cost: u32) -> Result<Input, Fault>
+    pub fn up(port: u8, session: u16, cost: u32) -> Result<Input, CallFault>
         ensures { result ≡ inputs.up_input port session cost }
     {
         let cost = read_cost(cost)?;
@@ -56,7 +56,7 @@ impl Input {
     }
 
     /// The cost of the port's link changed. A `BadCost` where the number is no cost.
-    pub fn cost(port: u8, cost: u32) -> Result<Input, Fault>
+    pub fn cost(port: u8, cost: u32) -> Result<Input, CallFault>
         ensures { result ≡ inputs.cost_input port cost }
     {
         let cost = read_cost(cost)?;
@@ -64,7 +64,7 @@ impl Input {
     }
 
     /// The message of a frame came. A `BadLength` or `HostBits` of its prefix, then a `BadKind`.
-    pub fn message(frame: Frame) -> Result<Input, Fault>
+    pub fn message(frame: Frame) -> Result<Input, CallFault>
         ensures { result ≡ inputs.frame_input frame }
     {
         let prefix = read_prefix(frame.addr, frame.len)?;
@@ -72,7 +72,7 @@ impl Input {
             0 => Kind::Update,
             1 => Kind::Query,
             2 => Kind::Reply,
-            _ => return Err(Fault::BadKind),
+            _ => return Err(CallFault::BadKind),
         };
         Ok(Input::Message {
             port: frame.port,
@@ -86,7 +86,7 @@ impl Input {
     }
 
     /// The router is attached to a prefix. A `BadLength` or `HostBits` of the prefix, then a `BadCost`.
-    pub fn attached(addr: u32, len: u8, cost: u32) -> Result<Input, Fault>
+    pub fn attached(addr: u32, len: u8, cost: u32) -> Result<Input, CallFault>
         ensures { result ≡ inputs.attached_input addr len cost }
     {
         let prefix = read_prefix(addr, len)?;
@@ -95,7 +95,7 @@ impl Input {
     }
 
     /// The router is attached to a prefix no more. A `BadLength` or `HostBits` of the prefix.
-    pub fn detached(addr: u32, len: u8) -> Result<Input, Fault>
+    pub fn detached(addr: u32, len: u8) -> Result<Input, CallFault>
         ensures { result ≡ inputs.detached_input addr len }
     {
         let prefix = read_prefix(addr, len)?;
@@ -104,7 +104,7 @@ impl Input {
 }
 
 // The cost of a number.
-pub(crate) fn read_cost(cost: u32) -> Result<Cost, Fault>
+pub(crate) fn read_cost(cost: u32) -> Result<Cost, CallFault>
     ensures { result ≡ inputs.cost_of cost }
 {
     let cost = Cost::new(cost)?;

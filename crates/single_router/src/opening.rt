@@ -4,7 +4,7 @@ ghost use Rattle.std.specs.Prelude.{◌≡◌, None, Some, IfOk, IfErr, OnOk, Is
 ghost use Rattle.single_router.specs.Openings.{unused_port, costs_fault, attachment_row, attachments_fault};
 
 use crate::input::read_cost;
-use c_interface::{Fault, read_prefix};
+use c_interface::{CallFault, read_prefix};
 use network_model::{Cost, MOST_PORTS, Port, Prefix};
 use std::alloc::Global;
 
@@ -18,12 +18,12 @@ pub struct Attachment {
 }
 
 /// Tests the costs of a router's ports.
-pub(crate) fn check_costs(costs: &[u32]) -> Result<(), Fault>
+pub(crate) fn check_costs(costs: &[u32]) -> Result<(), CallFault>
     ensures ok { OnOk result (costs_fault costs.now ≡ None) }
     ensures err { IfErr result (λ f. costs_fault costs.now ≡ Some f) }
 {
     if costs.len() > MOST_PORTS {
-        return Err(Fault::TooManyPorts);
+        return Err(CallFault::TooManyPorts);
     }
     for &cost in costs {
         let _ = read_cost(cost)?;
@@ -32,7 +32,7 @@ pub(crate) fn check_costs(costs: &[u32]) -> Result<(), Fault>
 }
 
 /// Tests attachments.
-pub(crate) fn check_attachments(attachments: &[Attachment]) -> Result<(), Fault>
+pub(crate) fn check_attachments(attachments: &[Attachment]) -> Result<(), CallFault>
     ensures ok { OnOk result (attachments_fault attachments.now ≡ None) }
     ensures err { IfErr result (λ f. attachments_fault attachments.now ≡ Some f) }
 {
@@ -43,10 +43,10 @@ pub(crate) fn check_attachments(attachments: &[Attachment]) -> Result<(), Fault>
 }
 
 /// Ports whose links are down and never were up, with the costs from here.
-pub(crate) fn read_ports(alloc: Global, costs: &[u32]) -> Result<Vec<Port>, Fault>
+pub(crate) fn read_ports(alloc: Global, costs: &[u32]) -> Result<Vec<Port>, CallFault>
     requires { costs_fault costs.now ≡ None }
     ensures ok { IfOk result (λ ports. ports.items ≡ map unused_port costs.now) }
-    ensures err { IsOkUnless result Fault.NoMemory }
+    ensures err { IsOkUnless result CallFault.NoMemory }
 {
     let mut ports = Vec::with_capacity(alloc, costs.len())?;
     for &cost in costs {
@@ -63,10 +63,10 @@ pub(crate) fn read_ports(alloc: Global, costs: &[u32]) -> Result<Vec<Port>, Faul
 pub(crate) fn read_attachments(
     alloc: Global,
     attachments: &[Attachment],
-) -> Result<Vec<(Prefix, Cost)>, Fault>
+) -> Result<Vec<(Prefix, Cost)>, CallFault>
     requires { attachments_fault attachments.now ≡ None }
     ensures ok { IfOk result (λ rows. rows.items ≡ map attachment_row attachments.now) }
-    ensures err { IsOkUnless result Fault.NoMemory }
+    ensures err { IsOkUnless result CallFault.NoMemory }
 {
     let mut rows = Vec::with_capacity(alloc, attachments.len())?;
     for attachment in attachments {
@@ -79,7 +79,7 @@ impl Attachment {
     ghost use Rattle.single_router.specs.Openings.{attachment_fault};
 
     // The prefix and the cost.
-    fn read(&self) -> Result<(Prefix, Cost), Fault>
+    fn read(&self) -> Result<(Prefix, Cost), CallFault>
         ensures ok { IfOk result (λ r. (attachment_fault self.now ≡ None)
             × (r ≡ attachment_row self.now)) }
         ensures err { IfErr result (λ f. attachment_fault self.now ≡ Some f) }

@@ -16,7 +16,7 @@ use crate::frame::Frame;
 use crate::input::Input;
 use crate::opening::{Attachment, check_attachments, check_costs, read_attachments, read_ports};
 use crate::state::{Counts, State, debt_of};
-use c_interface::{Fault, Row};
+use c_interface::{CallFault, Row};
 use network_model::{Cost, Item, Kind, Message, Port, Prefix};
 use route_table::{ChangedRows, ControlRows};
 use router_core::Router;
@@ -55,7 +55,7 @@ impl SingleRouter {
         costs: &[u32],
         attachments: &[Attachment],
         most_prefixes: usize,
-    ) -> Result<SingleRouter, Fault>
+    ) -> Result<SingleRouter, CallFault>
         ensures ok { IfOk result (λ r.
             (bounded_make_fault most_prefixes costs.now attachments.now ≡ None)
             × (r ≡ bounded_router most_prefixes costs.now attachments.now)) }
@@ -65,7 +65,7 @@ impl SingleRouter {
         check_costs(costs)?;
         check_attachments(attachments)?;
         if attachments.len() > most_prefixes {
-            return Err(Fault::TooManyPrefixes);
+            return Err(CallFault::TooManyPrefixes);
         }
         let ports = read_ports(alloc, costs)?;
         let rows = read_attachments(alloc, attachments)?;
@@ -81,7 +81,7 @@ impl SingleRouter {
     /// another session. 38: a reply that the router does not await. 39: a query while it owes the reply to
     /// the one before. 27: a prefix more than it may know. 20: memory was refused; no message of a prefix that
     /// it has heard of is refused for that while nothing is held.
-    pub fn tell(&mut self, input: &Input) -> Result<(), Fault>
+    pub fn tell(&mut self, input: &Input) -> Result<(), CallFault>
         ensures ok { OnOk result ((bounded_fault input.now self.old ≡ None)
             × (self.new ≡ with_router (router_after input.now) self.old)) }
         ensures err { OnErr result (self.new ≡ self.old) }
@@ -110,7 +110,7 @@ impl SingleRouter {
         }
     }
 
-    fn come_up(&mut self, port: u8, session: u16, cost: Cost) -> Result<(), Fault>
+    fn come_up(&mut self, port: u8, session: u16, cost: Cost) -> Result<(), CallFault>
         ensures ok { OnOk result ((told_fault (Input.Up port session cost) (self.old).router ≡ None)
             × (self.new ≡ with_router (router_after (Input.Up port session cost)) self.old)) }
         ensures err { OnErr result (self.new ≡ self.old) }
@@ -118,18 +118,18 @@ impl SingleRouter {
             (told_fault (Input.Up port session cost) (self.old).router)
             (NoticeNeedsMemory (self.old).router)) }
     {
-        let was = self.router.port(port).ok_or(Fault::UnknownPort)?;
+        let was = self.router.port(port).ok_or(CallFault::UnknownPort)?;
         if was.up {
-            return Err(Fault::AlreadyUp);
+            return Err(CallFault::AlreadyUp);
         }
         if session <= was.session {
-            return Err(Fault::OtherSession);
+            return Err(CallFault::OtherSession);
         }
         self.router.accept(port, &Item::Up { session, cost })?;
         Ok(())
     }
 
-    fn go_down(&mut self, port: u8) -> Result<(), Fault>
+    fn go_down(&mut self, port: u8) -> Result<(), CallFault>
         ensures ok { OnOk result ((told_fault (Input.Down port) (self.old).router ≡ None)
             × (self.new ≡ with_router (router_after (Input.Down port)) self.old)) }
         ensures err { OnErr result (self.new ≡ self.old) }
@@ -143,7 +143,7 @@ impl SingleRouter {
         Ok(())
     }
 
-    fn change_cost(&mut self, port: u8, cost: Cost) -> Result<(), Fault>
+    fn change_cost(&mut self, port: u8, cost: Cost) -> Result<(), CallFault>
         ensures ok { OnOk result ((told_fault (Input.Cost port cost) (self.old).router ≡ None)
             × (self.new ≡ with_router (router_after (Input.Cost port cost)) self.old)) }
         ensures err { OnErr result (self.new ≡ self.old) }
@@ -157,7 +157,7 @@ impl SingleRouter {
         Ok(())
     }
 
-    fn take_message(&mut self, port: u8, session: u16, message: Message) -> Result<(), Fault>
+    fn take_message(&mut self, port: u8, session: u16, message: Message) -> Result<(), CallFault>
         ensures ok { OnOk result ((bounded_fault (Input.Message port session message) self.old ≡ None)
             × (self.new ≡ with_router
             (router_after (Input.Message port session message)) self.old)) }
@@ -168,7 +168,7 @@ impl SingleRouter {
     {
         let was = self.port_that_is_up(port)?;
         if was.session != session {
-            return Err(Fault::OtherSession);
+            return Err(CallFault::OtherSession);
         }
         self.check_kind(port, message.prefix, message.kind)?;
         self.check_room(message.prefix)?;
@@ -177,15 +177,15 @@ impl SingleRouter {
     }
 
     // Whether a neighbour at the port that keeps to the protocol sends such a message of the prefix.
-    fn check_kind(&self, port: u8, prefix: Prefix, kind: Kind) -> Result<(), Fault>
+    fn check_kind(&self, port: u8, prefix: Prefix, kind: Kind) -> Result<(), CallFault>
         ensures ok { OnOk result (kind_fault (machine_of (self.now).router prefix).computation port kind
             ≡ None) }
         ensures err { IfErr result (λ f. kind_fault (machine_of (self.now).router prefix).computation port kind
             ≡ Some f) }
     {
         match kind {
-            Kind::Query if self.owes(prefix, port) => Err(Fault::AskedTwice),
-            Kind::Reply if !self.awaits(prefix, port) => Err(Fault::Unasked),
+            Kind::Query if self.owes(prefix, port) => Err(CallFault::AskedTwice),
+            Kind::Reply if !self.awaits(prefix, port) => Err(CallFault::Unasked),
             _ => Ok(()),
         }
     }
@@ -211,18 +211,18 @@ impl SingleRouter {
     }
 
     // Whether the router may know the prefix.
-    fn check_room(&self, prefix: Prefix) -> Result<(), Fault>
+    fn check_room(&self, prefix: Prefix) -> Result<(), CallFault>
         ensures ok { OnOk result (crowd_fault prefix self.now ≡ None) }
         ensures err { IfErr result (λ f. crowd_fault prefix self.now ≡ Some f) }
     {
         let table = self.router.table();
         if table.get(prefix).is_none() && self.most_prefixes <= table.len() {
-            return Err(Fault::TooManyPrefixes);
+            return Err(CallFault::TooManyPrefixes);
         }
         Ok(())
     }
 
-    fn detach(&mut self, prefix: Prefix) -> Result<(), Fault>
+    fn detach(&mut self, prefix: Prefix) -> Result<(), CallFault>
         ensures ok { OnOk result ((told_fault (Input.Detached prefix) (self.old).router ≡ None)
             × (self.new ≡ with_router (router_after (Input.Detached prefix)) self.old)) }
         ensures err { OnErr result (self.new ≡ self.old) }
@@ -231,22 +231,22 @@ impl SingleRouter {
             (MeetingNeedsMemory prefix (self.old).router)) }
     {
         if !self.is_attached(prefix) {
-            return Err(Fault::NotAttached);
+            return Err(CallFault::NotAttached);
         }
         self.router.notice(prefix, None)?;
         Ok(())
     }
 
     // A port whose link is up.
-    fn port_that_is_up(&self, port: u8) -> Result<Port, Fault>
+    fn port_that_is_up(&self, port: u8) -> Result<Port, CallFault>
         ensures ok { IfOk result (λ p. (slice_get ((self.now).router).ports port ≡ Some p)
             × (p.up ≡ true)) }
         ensures err { IfErr result (λ f. port_fault (slice_get ((self.now).router).ports port) down_fault
             ≡ Some f) }
     {
-        let found = self.router.port(port).ok_or(Fault::UnknownPort)?;
+        let found = self.router.port(port).ok_or(CallFault::UnknownPort)?;
         if !found.up {
-            return Err(Fault::IsDown);
+            return Err(CallFault::IsDown);
         }
         Ok(found)
     }
@@ -289,7 +289,7 @@ impl SingleRouter {
     /// force from now on, says that there are more, and nothing may leave yet: publish again. 8: there is no
     /// room for any. 17: nothing is due. 37: it has published 2^64 - 1 times. Refused, it writes nothing. It
     /// takes no memory.
-    pub fn publish(&mut self, rows: &mut [Row]) -> Result<Published, Fault>
+    pub fn publish(&mut self, rows: &mut [Row]) -> Result<Published, CallFault>
         ensures ok { IfOk result (λ p. (publish_fault (length rows.old) (self.old).router ≡ None)
             × (p.count ≡ length (rows_given (length rows.old) (self.old).router))
             × (p.more ≡ has_more (length rows.old) (self.old).router)
@@ -304,10 +304,10 @@ impl SingleRouter {
             return self.publish_some(rows);
         }
         if !self.router.due() {
-            return Err(Fault::NothingDue);
+            return Err(CallFault::NothingDue);
         }
         if self.router.generation() == u64::MAX {
-            return Err(Fault::GenerationsSpent);
+            return Err(CallFault::GenerationsSpent);
         }
         write_changed(self.router.table().changed(), rows);
         self.router.mark_published();
@@ -315,7 +315,7 @@ impl SingleRouter {
     }
 
     // Puts the rows in force for which there is room.
-    fn publish_some(&mut self, rows: &mut [Row]) -> Result<Published, Fault>
+    fn publish_some(&mut self, rows: &mut [Row]) -> Result<Published, CallFault>
         requires { IsTrue (has_more (length rows.old) (self.old).router) }
         ensures ok { IfOk result (λ p. (publish_fault (length rows.old) (self.old).router ≡ None)
             × (p.count ≡ length (rows_given (length rows.old) (self.old).router))
@@ -327,7 +327,7 @@ impl SingleRouter {
         ensures cause { IfErr result (λ f. publish_fault (length rows.old) (self.old).router ≡ Some f) }
     {
         if rows.is_empty() {
-            return Err(Fault::BadCount);
+            return Err(CallFault::BadCount);
         }
         let count = rows.len();
         write_changed(self.router.table().changed(), rows);
@@ -339,17 +339,17 @@ impl SingleRouter {
     /// computation goes on, no neighbour reports a distance, and its row, which is unreachable, is in
     /// force. That row is to be taken out of the program's table: packets then meet the row of a shorter
     /// prefix. 28: the router has not heard of it. 44: it knows something of it.
-    pub fn forget(&mut self, prefix: Prefix) -> Result<(), Fault>
+    pub fn forget(&mut self, prefix: Prefix) -> Result<(), CallFault>
         ensures ok { OnOk result ((forget_fault prefix (self.old).router ≡ None)
             × (self.new ≡ with_router (router_forgetting prefix) self.old)) }
         ensures err { OnErr result (self.new ≡ self.old) }
         ensures cause { IfErr result (λ f. forget_fault prefix (self.old).router ≡ Some f) }
     {
         if self.router.machine(prefix).is_none() {
-            return Err(Fault::UnknownPrefix);
+            return Err(CallFault::UnknownPrefix);
         }
         if !self.router.may_forget(prefix) {
-            return Err(Fault::StillUsed);
+            return Err(CallFault::StillUsed);
         }
         self.router.forget(prefix);
         Ok(())
@@ -357,33 +357,33 @@ impl SingleRouter {
 
     /// Takes the oldest message that the router holds, where it may leave. It is for the link of its
     /// port in its session, and is dropped where that session has ended. 18: there is none that may leave.
-    pub fn release(&mut self) -> Result<Frame, Fault>
+    pub fn release(&mut self) -> Result<Frame, CallFault>
         ensures ok { IfOk result (λ frame.
             option_map frame_of (step.ripe_front (self.old).router) ≡ Some frame) }
         ensures released { OnOk result (self.new ≡ with_router step.router_releasing self.old) }
         ensures err { OnErr result (self.new ≡ self.old) }
-        ensures cause { IfErr result (λ f. (f ≡ Fault.NothingRipe)
+        ensures cause { IfErr result (λ f. (f ≡ CallFault.NothingRipe)
             × (step.ripe_front (self.old).router ≡ None)) }
     {
         match self.router.release() {
             Some(held) => Ok(Frame::of(held)),
-            None => Err(Fault::NothingRipe),
+            None => Err(CallFault::NothingRipe),
         }
     }
 
     /// What the router knows of a prefix. 28: it has not heard of it.
-    pub fn state(&self, prefix: Prefix) -> Result<State, Fault>
+    pub fn state(&self, prefix: Prefix) -> Result<State, CallFault>
         ensures ok { IfOk result (λ s. shown_state prefix (self.now).router ≡ Some s) }
-        ensures err { IfErr result (λ f. (f ≡ Fault.UnknownPrefix)
+        ensures err { IfErr result (λ f. (f ≡ CallFault.UnknownPrefix)
             × (shown_state prefix (self.now).router ≡ None)) }
     {
-        let machine = self.router.machine(prefix).ok_or(Fault::UnknownPrefix)?;
+        let machine = self.router.machine(prefix).ok_or(CallFault::UnknownPrefix)?;
         Ok(State::of(prefix, machine, self.router.table()))
     }
 
     /// Writes the rows that the router has chosen, in the order of their prefixes, and gives how many. 8:
     /// there is no room for them. Refused, it writes nothing. It takes no memory.
-    pub fn rows(&self, rows: &mut [Row]) -> Result<usize, Fault>
+    pub fn rows(&self, rows: &mut [Row]) -> Result<usize, CallFault>
         ensures ok { IfOk result (λ count. (count ≡ length ((self.now).router).table.control)
             × (count ≤ length rows.old)
             × IsWrittenOver ((self.now).router).table.control rows.old rows.new) }
@@ -393,7 +393,7 @@ impl SingleRouter {
     {
         let table = self.router.table();
         if table.len() > rows.len() {
-            return Err(Fault::BadCount);
+            return Err(CallFault::BadCount);
         }
         write_chosen(table.rows(), rows);
         Ok(table.len())

@@ -2,7 +2,7 @@
 use Rattle.std.specs.Prelude.{◌≡◌, ◌≢◌, ◌⊎◌, ℕ, ◌≤◌, nat_lt, if◌then◌else◌, true, Option, Some, None, option_map, slice_get}
 use Rattle.std.specs.Option.{option_map_or}
 use Rattle.c_interface.specs.Faults.{fault_number}
-use Rattle.c_interface.specs.declared.fault.Fault.TheVariants.{Empty}
+use Rattle.c_interface.specs.declared.fault.CallFault.TheVariants.{Empty}
 use Rattle.timed_simulation.specs.declared.events.Event.{Event}
 use Rattle.timed_simulation.specs.declared.events.Change.{Change}
 use Rattle.timed_simulation.specs.declared.fault.TimeFault.{TimeFault}

@@ -3,8 +3,8 @@ use Rattle.std.specs.Prelude.{◌≡◌, ℕ, ◌==◌, ◌&&◌, Bool, if◌the
 use Rattle.coming_to_rest.specs.Worlds.{is_own}
 use Rattle.network_model.specs.declared.network.Limits.{Limits}
 use Rattle.c_interface.specs.Faults.{first_of}
-use Rattle.c_interface.specs.declared.fault.Fault.{Fault}
-use Rattle.c_interface.specs.declared.fault.Fault.TheVariants.{BadCount, BadKind}
+use Rattle.c_interface.specs.declared.fault.CallFault.{CallFault}
+use Rattle.c_interface.specs.declared.fault.CallFault.TheVariants.{BadCount, BadKind}
 use Rattle.single_router.specs.States.{flag}
 use Rattle.timed_simulation.specs.declared.links.LinkDelays.{LinkDelays}
 use Rattle.timed_simulation.specs.declared.events.Event.{Event}
@@ -48,7 +48,7 @@ pub record IsTimedNotOpened (limits : Limits) (routers : ℕ) (links : List Link
 -- ---- changes and events
 
 -- why these parts are no change that can be given: they are no step, or one that a router does
-abbrev pub change_fault : StepParts → Option Fault
+abbrev pub change_fault : StepParts → Option CallFault
 change_fault s = first_of (parts_of_step_fault s) (if is_own (step_of s) then Some BadKind else None)
 
 -- the parts of an event; of none the step's kind is 255

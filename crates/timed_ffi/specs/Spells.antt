@@ -2,7 +2,7 @@
 use Rattle.std.specs.Prelude.{ℕ, ◌-◌, ◌^◌, List, Option, Some, None, is_some, unwrap_or}
 use Rattle.std.specs.List.{filter}
 use Rattle.c_interface.specs.Faults.{fault_number}
-use Rattle.c_interface.specs.declared.fault.Fault.TheVariants.{Empty}
+use Rattle.c_interface.specs.declared.fault.CallFault.TheVariants.{Empty}
 use Rattle.timed_reports.specs.declared.spells.Spell.{Spell}
 use Rattle.timed_reports.specs.declared.spells.Watched.{Watched}
 use Rattle.timed_reports.specs.declared.recording.Recording.{Recording}

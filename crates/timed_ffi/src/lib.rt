@@ -45,7 +45,7 @@ ghost use Rattle.timed_ffi.specs.Handles.{handle_recording, handle_timed};
 ghost use Rattle.timed_ffi.specs.Parts.{is_counted, opening_parts, parts_of_event, IsTimedNotOpened};
 ghost use Rattle.timed_ffi.specs.Calls.{first_change, given_number, IsFlagOf, IsNumberBy, IsRunToRest, IsRunUntil};
 
-use c_interface::Fault;
+use c_interface::CallFault;
 use network_calls::{AttachmentParts, FaultPlace, LimitsParts, LinkParts, StepParts};
 use std::alloc::Global;
 
@@ -129,7 +129,7 @@ pub extern "C" fn tuhvondi_timed_at(
         Err(fault) => return fault.number(),
     };
     let Some(mut held) = timed.take(alloc) else {
-        return Fault::Empty.number();
+        return CallFault::Empty.number();
     };
     let given = held.give(moment, step);
     timed.put(held);
@@ -147,12 +147,12 @@ pub extern "C" fn tuhvondi_timed_withdraw(
     ensures some { IfSome (handle_timed timed.old) (λ t.
         (result ≡ 0) × (change.new ≡ parts_of_event (first_change t))) }
     ensures none { IfNone (handle_timed timed.old)
-        ((result ≡ fault_number Fault.Empty) × (change.new ≡ change.old)) }
+        ((result ≡ fault_number CallFault.Empty) × (change.new ≡ change.old)) }
     ensures left { handle_recording timed.new
         ≡ option_map (with_timed without_first) (handle_recording timed.old) }
 {
     let Some(mut held) = timed.take(alloc) else {
-        return Fault::Empty.number();
+        return CallFault::Empty.number();
     };
     *change = held.withdraw();
     timed.put(held);
@@ -175,10 +175,10 @@ pub extern "C" fn tuhvondi_timed_run_until(
         (λ t. GoesOn s t done.new)) }
     ensures kept { is_some (handle_timed timed.new) ≡ is_some (handle_timed timed.old) }
     ensures none { IfNone (handle_timed timed.old)
-        ((result ≡ fault_number Fault.Empty) × (done.new ≡ done.old)) }
+        ((result ≡ fault_number CallFault.Empty) × (done.new ≡ done.old)) }
 {
     let Some(mut held) = timed.take(alloc) else {
-        return Fault::Empty.number();
+        return CallFault::Empty.number();
     };
     let ran = held.run_until(moment, most);
     timed.put(held);
@@ -204,10 +204,10 @@ pub extern "C" fn tuhvondi_timed_run_to_rest(
         (λ t. GoesOn s t done.new)) }
     ensures kept { is_some (handle_timed timed.new) ≡ is_some (handle_timed timed.old) }
     ensures none { IfNone (handle_timed timed.old)
-        ((result ≡ fault_number Fault.Empty) × (done.new ≡ done.old)) }
+        ((result ≡ fault_number CallFault.Empty) × (done.new ≡ done.old)) }
 {
     let Some(mut held) = timed.take(alloc) else {
-        return Fault::Empty.number();
+        return CallFault::Empty.number();
     };
     let ran = held.run_to_rest(most);
     timed.put(held);
@@ -227,11 +227,11 @@ pub extern "C" fn tuhvondi_timed_now(
 ) -> u32
     ensures some { IfSome (handle_timed timed.old) (λ t. (result ≡ 0) × (moment.new ≡ t.clock)) }
     ensures none { IfNone (handle_timed timed.old)
-        ((result ≡ fault_number Fault.Empty) × (moment.new ≡ moment.old)) }
+        ((result ≡ fault_number CallFault.Empty) × (moment.new ≡ moment.old)) }
     ensures timed { handle_recording timed.new ≡ handle_recording timed.old }
 {
     let Some(held) = timed.take(alloc) else {
-        return Fault::Empty.number();
+        return CallFault::Empty.number();
     };
     *moment = held.now();
     timed.put(held);
@@ -248,11 +248,11 @@ pub extern "C" fn tuhvondi_timed_next(
     ensures some { IfSome (handle_timed timed.old) (λ t.
         (result ≡ 0) × (event.new ≡ parts_of_event (next_event t))) }
     ensures none { IfNone (handle_timed timed.old)
-        ((result ≡ fault_number Fault.Empty) × (event.new ≡ event.old)) }
+        ((result ≡ fault_number CallFault.Empty) × (event.new ≡ event.old)) }
     ensures timed { handle_recording timed.new ≡ handle_recording timed.old }
 {
     let Some(held) = timed.take(alloc) else {
-        return Fault::Empty.number();
+        return CallFault::Empty.number();
     };
     *event = held.next();
     timed.put(held);
@@ -270,11 +270,11 @@ pub extern "C" fn tuhvondi_timed_is_at_rest(
     ensures some { IfSome (handle_timed timed.old) (λ t.
         (result ≡ 0) × IsFlagOf (IsAtRest t) rests.new) }
     ensures none { IfNone (handle_timed timed.old)
-        ((result ≡ fault_number Fault.Empty) × (rests.new ≡ rests.old)) }
+        ((result ≡ fault_number CallFault.Empty) × (rests.new ≡ rests.old)) }
     ensures timed { handle_recording timed.new ≡ handle_recording timed.old }
 {
     let Some(held) = timed.take(alloc) else {
-        return Fault::Empty.number();
+        return CallFault::Empty.number();
     };
     *rests = held.rests();
     timed.put(held);

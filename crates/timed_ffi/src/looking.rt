@@ -9,7 +9,7 @@ ghost use Rattle.network_calls.specs.Shown.{link_shown};
 ghost use Rattle.timed_ffi.specs.Handles.{handle_recording, timed_network};
 
 use crate::handle::TimedHandle;
-use c_interface::{Fault, Row, read_prefix};
+use c_interface::{CallFault, Row, read_prefix};
 use network_calls::{
     Counts, Failure, LinkShown, MachineShown, look_up, machine_of, rows_of, status, trace_of,
 };
@@ -34,7 +34,7 @@ pub extern "C" fn tuhvondi_timed_lookup(
     ensures timed { handle_recording timed.new ≡ handle_recording timed.old }
 {
     let Some(held) = timed.take(alloc) else {
-        return Fault::Empty.number();
+        return CallFault::Empty.number();
     };
     let outcome = look_up(held.network(), router, addrs, answers);
     timed.put(held);
@@ -62,7 +62,7 @@ pub extern "C" fn tuhvondi_timed_trace(
     ensures timed { handle_recording timed.new ≡ handle_recording timed.old }
 {
     let Some(held) = timed.take(alloc) else {
-        return Fault::Empty.number();
+        return CallFault::Empty.number();
     };
     let followed = trace_of(held.network(), router, addr, hops);
     timed.put(held);
@@ -96,7 +96,7 @@ pub extern "C" fn tuhvondi_timed_rows(
     ensures timed { handle_recording timed.new ≡ handle_recording timed.old }
 {
     let Some(held) = timed.take(alloc) else {
-        return Fault::Empty.number();
+        return CallFault::Empty.number();
     };
     let told = rows_of(held.network().world(), router, rows);
     timed.put(held);
@@ -131,7 +131,7 @@ pub extern "C" fn tuhvondi_timed_machine(
         Err(fault) => return fault.number(),
     };
     let Some(held) = timed.take(alloc) else {
-        return Fault::Empty.number();
+        return CallFault::Empty.number();
     };
     let found = machine_of(held.network().world(), router, prefix);
     timed.put(held);
@@ -159,7 +159,7 @@ pub extern "C" fn tuhvondi_timed_link(
     ensures timed { handle_recording timed.new ≡ handle_recording timed.old }
 {
     let Some(held) = timed.take(alloc) else {
-        return Fault::Empty.number();
+        return CallFault::Empty.number();
     };
     let found = LinkShown::at(held.network().world(), link);
     timed.put(held);
@@ -180,11 +180,11 @@ pub extern "C" fn tuhvondi_timed_counts(
     ensures some { IfSome (timed_network timed.old) (λ s.
         (result ≡ 0) × (counts.new ≡ counts_of s)) }
     ensures none { IfNone (timed_network timed.old)
-        ((result ≡ fault_number Fault.Empty) × (counts.new ≡ counts.old)) }
+        ((result ≡ fault_number CallFault.Empty) × (counts.new ≡ counts.old)) }
     ensures timed { handle_recording timed.new ≡ handle_recording timed.old }
 {
     let Some(held) = timed.take(alloc) else {
-        return Fault::Empty.number();
+        return CallFault::Empty.number();
     };
     *counts = Counts::of(held.network());
     timed.put(held);

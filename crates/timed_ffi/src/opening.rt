@@ -9,7 +9,7 @@ ghost use Rattle.timed_ffi.specs.Parts.{delays_of, is_counted, opening_parts, Is
 
 use crate::parts::{DelayParts, read_delays};
 use crate::running::RunningTimed;
-use c_interface::Fault;
+use c_interface::CallFault;
 use network_calls::{
     AttachmentParts, FULL, Failure, FaultPlace, LimitsParts, LinkParts, NOWHERE,
     read_network_within,
@@ -19,7 +19,7 @@ use simulation::Network;
 use std::alloc::Global;
 
 // What is refused because a delay is missing, or one too many.
-const MISCOUNTED: (Failure, FaultPlace) = (Failure::Given(Fault::BadCount), NOWHERE);
+const MISCOUNTED: (Failure, FaultPlace) = (Failure::Given(CallFault::BadCount), NOWHERE);
 
 /// Opens the network of these parts within these limits, with these delays of its links and of its routers'
 /// publications; one that keeps a record, if this is asked for. That they are not as many as links and routers is told first.

@@ -6,7 +6,7 @@ ghost use Rattle.network_calls.specs.Steps.{step_of};
 ghost use Rattle.timed_ffi.specs.Calls.{time_number};
 ghost use Rattle.timed_ffi.specs.Parts.{change_fault, delays_of, parts_of_event};
 
-use c_interface::Fault;
+use c_interface::CallFault;
 use network_calls::{Failure, StepParts};
 use network_model::{NoMemory, Step};
 use std::alloc::Global;
@@ -66,14 +66,14 @@ pub fn read_delays(alloc: Global, delays: &[DelayParts]) -> Result<Vec<LinkDelay
 }
 
 /// The change of these parts. A step that a router does is none.
-pub fn read_change(parts: &StepParts) -> Result<Step, Fault>
+pub fn read_change(parts: &StepParts) -> Result<Step, CallFault>
     ensures ok { IfOk result (λ s. (change_fault parts.now ≡ None)
         × (s ≡ step_of parts.now) × (is_own s ≡ false)) }
     ensures err { IfErr result (λ f. change_fault parts.now ≡ Some f) }
 {
     let step = parts.read()?;
     if !is_change(&step) {
-        return Err(Fault::BadKind);
+        return Err(CallFault::BadKind);
     }
     Ok(step)
 }

@@ -14,7 +14,7 @@ use crate::handle::TimedHandle;
 use crate::opening::open;
 use crate::parts::DelayParts;
 use crate::spells::{SpellParts, write_ended, write_going_on};
-use c_interface::Fault;
+use c_interface::CallFault;
 use network_calls::{AttachmentParts, FaultPlace, LimitsParts, LinkParts};
 use std::alloc::Global;
 
@@ -99,7 +99,7 @@ pub extern "C" fn tuhvondi_timed_computations(
     ensures timed { handle_recording timed.new ≡ handle_recording timed.old }
 {
     let Some(held) = timed.take(alloc) else {
-        return Fault::Empty.number();
+        return CallFault::Empty.number();
     };
     let told = match held.report() {
         Some(report) => Some(write_ended(report.computations(), from, spells)),
@@ -127,7 +127,7 @@ pub extern "C" fn tuhvondi_timed_computing(
     ensures timed { handle_recording timed.new ≡ handle_recording timed.old }
 {
     let Some(held) = timed.take(alloc) else {
-        return Fault::Empty.number();
+        return CallFault::Empty.number();
     };
     let told = match held.report() {
         Some(report) => Some(write_going_on(report.computing(), spells)),
@@ -155,7 +155,7 @@ pub extern "C" fn tuhvondi_timed_outages(
     ensures timed { handle_recording timed.new ≡ handle_recording timed.old }
 {
     let Some(held) = timed.take(alloc) else {
-        return Fault::Empty.number();
+        return CallFault::Empty.number();
     };
     let told = match held.report() {
         Some(report) => Some(write_ended(report.outages(), from, spells)),
@@ -182,7 +182,7 @@ pub extern "C" fn tuhvondi_timed_cut_off(
     ensures timed { handle_recording timed.new ≡ handle_recording timed.old }
 {
     let Some(held) = timed.take(alloc) else {
-        return Fault::Empty.number();
+        return CallFault::Empty.number();
     };
     let told = match held.report() {
         Some(report) => Some(write_going_on(report.cut_off(), spells)),

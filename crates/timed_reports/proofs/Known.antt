@@ -5,9 +5,9 @@ use Rattle.std.specs.declared.cmp.Ordering.{Ordering}
 use Rattle.std.specs.declared.cmp.Ordering.TheVariants.{Less, Equal, Greater}
 use Rattle.std.specs.FinMap.{find as row_of, put}
 use Rattle.std.specs.FinMap.Entries.{by_order, where_key}
-use Rattle.packet_loops.proofs.Common.{false≢true, None_not_Some, slice_get_within, slice_get-map, length-map-range_with_len, prefix_cmp, prefix_eq, Prefix, Machine, Router, Attachments, World, Network, opening, opening_router_of, costs_of, prefixes_of, changed_at, with_attachment, without_attachment, Lawful, next, Runs}
-use Rattle.packet_loops.proofs.Machines.{prefix_same}
-use Rattle.packet_loops.proofs.WorldLaws.{Runs-shape}
+use Rattle.no_packet_loops.proofs.Common.{false≢true, None_not_Some, slice_get_within, slice_get-map, length-map-range_with_len, prefix_cmp, prefix_eq, Prefix, Machine, Router, Attachments, World, Network, opening, opening_router_of, costs_of, prefixes_of, changed_at, with_attachment, without_attachment, Lawful, next, Runs}
+use Rattle.no_packet_loops.proofs.Machines.{prefix_same}
+use Rattle.no_packet_loops.proofs.WorldLaws.{Runs-shape}
 use Rattle.network_model.specs.declared.step.Step.{Step}
 use Rattle.network_model.specs.declared.step.Step.TheVariants.{LinkUp, LinkDown, SetCost, Deliver, Publish, Release, Attach, Detach}
 use Rattle.network_model.specs.Machine.{opening_machine}

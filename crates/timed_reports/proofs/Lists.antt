@@ -1,6 +1,6 @@
 -- Elements of lists, by their places: after a push and after a write.
 use Rattle.std.proofs.Common.{refl, ap, subst, arith, inl, inr, ◌≡◌, ◌≢◌, ◌⊎◌, ℕ, zero, suc, ◌<◌, List, [], ◌∷◌, ◌++◌, length, set, Some, slice_get}
-use Rattle.packet_loops.proofs.Common.{None_not_Some, Some_injective}
+use Rattle.no_packet_loops.proofs.Common.{None_not_Some, Some_injective}
 use Rattle.timed_reports.specs.Records.{IsListed}
 
 module _ {A : Type 0} where

@@ -1,6 +1,6 @@
 -- Steps that move no machine of a router.
 use Rattle.std.proofs.Common.{refl, sym, ap, ◌∙◌, ◌≡◌, ◌≢◌, ℕ, List, map, Option, Some, None, option_map, slice_get, unwrap_or}
-use Rattle.packet_loops.proofs.Common.{option_map_or, option_map_or-ind, map-changed_at, routers-changed_link, slice_get-map, slice_get-changed_at_other, None_not_Some, Some_injective, prefix_cmp, Prefix, Machine, Port, Router, World, changed_at, changed_link, changed_router, with_cost, with_front_taken, with_message, with_delivered, with_noticed, with_released, router_accepting, router_at_home, router_publishing, router_releasing, front_at, notice_at, release_at, next}
+use Rattle.no_packet_loops.proofs.Common.{option_map_or, option_map_or-ind, map-changed_at, routers-changed_link, slice_get-map, slice_get-changed_at_other, None_not_Some, Some_injective, prefix_cmp, Prefix, Machine, Port, Router, World, changed_at, changed_link, changed_router, with_cost, with_front_taken, with_message, with_delivered, with_noticed, with_released, router_accepting, router_at_home, router_publishing, router_releasing, front_at, notice_at, release_at, next}
 use Rattle.network_model.specs.declared.step.Step.{Step}
 use Rattle.network_model.specs.declared.step.Step.TheVariants.{LinkUp, LinkDown, SetCost, Deliver, Publish, Release, Attach, Detach}
 use Rattle.std.specs.FinMap.{find as row_of}

@@ -2,7 +2,7 @@
 use Rattle.std.proofs.Common.{refl, sym, ap, subst, ◌∙◌, arith, inl, inr, length-set, append-nil, ◌≡◌, ◌≢◌, ◌⊎◌, ◌↔◌, ℕ, ◌+◌, ◌<◌, ◌≤◌, IsTrue, Bool, true, false, List, [], ◌++◌, length, get_or, set, Option, Some, None, option_map, option_to_list, slice_get}
 use Rattle.std.proofs.lemmas.Bool.{cases_lt}
 use Rattle.network_model.specs.World.{World}
-use Rattle.packet_loops.proofs.Common.{Some_injective, false≢true}
+use Rattle.no_packet_loops.proofs.Common.{Some_injective, false≢true}
 use Rattle.timed_reports.specs.declared.spells.Spell.{Spell}
 use Rattle.timed_reports.specs.declared.spells.Watched.{Watched}
 use Rattle.timed_reports.specs.Records.{AreLooked, HoldsOf, IsEnding, IsListed, IsLooked, IsSeen, Kind, ended_by, seen, spell}

@@ -3,7 +3,7 @@ use Rattle.std.proofs.Common.{refl, sym, ap, subst, ◌∙◌, arith, ◌≤◌,
 use Rattle.network_model.specs.World.{World}
 use Rattle.network_model.specs.Step.{Lawful, next}
 use Rattle.network_model.specs.Run.{Runs}
-use Rattle.packet_loops.proofs.Common.{None_not_Some, Some_injective}
+use Rattle.no_packet_loops.proofs.Common.{None_not_Some, Some_injective}
 use Rattle.timed_simulation.specs.declared.events.Event.{Event}
 use Rattle.timed_simulation.specs.Timed.{Timed, after_event}
 use Rattle.timed_simulation.specs.Runs.{Ascends, IsNext, LeadsTo, steps_of}

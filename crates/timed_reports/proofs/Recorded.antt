@@ -5,7 +5,7 @@ use Rattle.ipv4_prefix.specs.Prefix.{Prefix, prefix_eq}
 use Rattle.network_model.specs.World.{World}
 use Rattle.network_model.specs.Step.{Lawful, next}
 use Rattle.network_model.specs.Run.{Runs}
-use Rattle.packet_loops.proofs.Common.{None_not_Some, false≢true, slice_get_within}
+use Rattle.no_packet_loops.proofs.Common.{None_not_Some, false≢true, slice_get_within}
 use Rattle.timed_simulation.specs.declared.events.Event.{Event}
 use Rattle.timed_simulation.specs.Runs.{steps_of}
 use Rattle.timed_reports.specs.declared.spells.Spell.{Spell}

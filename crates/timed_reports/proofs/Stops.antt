@@ -1,6 +1,6 @@
 -- One event, and why it is not done.
 use Rattle.std.proofs.Common.{refl, sym, ap, subst, ◌∙◌, arith, inl, inr, ◌≡◌, ◌⊎◌, ℕ, ◌<◌, ◌≤◌, List, [], ◌∷◌, length, MatchOption, Option, Some, None}
-use Rattle.packet_loops.proofs.Common.{Some_injective}
+use Rattle.no_packet_loops.proofs.Common.{Some_injective}
 use Rattle.network_model.specs.declared.step.Refusal.{Refusal}
 use Rattle.timed_simulation.specs.declared.events.Event.{Event}
 use Rattle.timed_simulation.specs.declared.fault.TimeFault.{TimeFault}

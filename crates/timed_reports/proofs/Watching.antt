@@ -3,8 +3,8 @@ use Rattle.std.proofs.Common.{refl, sym, ap, subst, ◌∙◌, arith, inl, inr, 
 use Rattle.std.proofs.lemmas.Bool.{cases_lt}
 use Rattle.std.proofs.lemmas.Option.{get_or_from_slice_get, slice_get_within}
 use Rattle.std.specs.List.{list_any}
-use Rattle.packet_loops.proofs.Common.{false≢true, prefix_eq, Prefix}
-use Rattle.packet_loops.proofs.Machines.{prefix_same}
+use Rattle.no_packet_loops.proofs.Common.{false≢true, prefix_eq, Prefix}
+use Rattle.no_packet_loops.proofs.Machines.{prefix_same}
 use Rattle.timed_reports.specs.declared.spells.Spell.{Spell}
 use Rattle.timed_reports.specs.declared.spells.Watched.{Watched}
 use Rattle.timed_reports.specs.Records.{IsListed, ended_by, watched}

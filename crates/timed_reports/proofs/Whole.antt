@@ -1,6 +1,6 @@
 -- What an event leaves of a report, if what it may have moved is looked at.
 use Rattle.std.proofs.Common.{refl, sym, ap, subst, ◌∙◌, arith, append-nil, append_assoc, length-append, ◌≡◌, ℕ, ◌+◌, List, [], ◌∷◌, ◌++◌, length, None, Some, Result, Ok, Err, OnOk, OnErr, slice_get, ◌≤◌}
-use Rattle.packet_loops.proofs.Common.{length-map-range_with_len, opening_router_of, Prefix, World, Network, opening, prefixes_of, IsNetwork, Lawful, next, Runs}
+use Rattle.no_packet_loops.proofs.Common.{length-map-range_with_len, opening_router_of, Prefix, World, Network, opening, prefixes_of, IsNetwork, Lawful, next, Runs}
 use Rattle.timed_simulation.specs.declared.events.Event.{Event}
 use Rattle.timed_simulation.specs.declared.links.LinkDelays.{LinkDelays}
 use Rattle.timed_simulation.specs.Timed.{Timed, after_event, opening_timed, world_of}
@@ -10,7 +10,7 @@ use Rattle.timed_simulation.proofs.Moments.{next-after}
 use Rattle.timed_simulation.proofs.Runs.{run_more, run_none}
 use Rattle.reachability.specs.Ways.{IsCutOff, IsJoined}
 use Rattle.reachability.proofs.Joined.{joined}
-use Rattle.packet_loops.proofs.WorldLaws.{next-shape}
+use Rattle.no_packet_loops.proofs.WorldLaws.{next-shape}
 use Rattle.timed_reports.specs.declared.spells.Spell.{Spell}
 use Rattle.timed_reports.specs.declared.spells.Watched.{Watched}
 use Rattle.timed_reports.specs.Going.{IsComputing}

@@ -264,7 +264,9 @@ impl<A: SmallAllocator> Report<A> {
         next_until(&self.timed, moment)
     }
 
-    fn do_events(&mut self, moment: u64, most: usize) -> TimedRan
+    /// Does what is due up to a moment, that included, as `TimedSimulation::run_until` does, and records what
+    /// each event begins and ends.
+    pub fn run_until(&mut self, moment: u64, most: usize) -> TimedRan
         ensures run { IsReportRun self.old self.new result.done }
         ensures most { result.done ≤ most }
         ensures until { (result.done ≡ 0) ⊎ (((self.new).timed).clock ≤ moment) }
@@ -289,19 +291,6 @@ impl<A: SmallAllocator> Report<A> {
         }
     }
 
-    /// Does what is due up to a moment, that included, as `TimedSimulation::run_until` does, and records what
-    /// each event begins and ends.
-    pub fn run_until(&mut self, moment: u64, most: usize) -> TimedRan
-        ensures run { IsReportRun self.old self.new result.done }
-        ensures most { result.done ≤ most }
-        ensures until { (result.done ≡ 0) ⊎ (((self.new).timed).clock ≤ moment) }
-        ensures stop { MatchOption result.fault
-            (IsDoneUntil moment (self.new).timed ⊎ (result.done ≡ most))
-            (IsStoppedAt (self.new).timed) }
-    {
-        self.do_events(moment, most)
-    }
-
     /// Does all that is left to do, as `TimedSimulation::run_to_rest` does, and records what each event begins
     /// and ends.
     pub fn run_to_rest(&mut self, most: usize) -> TimedRan
@@ -311,7 +300,7 @@ impl<A: SmallAllocator> Report<A> {
             (IsAtRest (self.new).timed ⊎ (result.done ≡ most))
             (IsStoppedAt (self.new).timed) }
     {
-        let ran = self.do_events(u64::MAX, most);
+        let ran = self.run_until(u64::MAX, most);
         rests(self.timed());
         ran
     }

@@ -1,6 +1,6 @@
 -- Lists with one element written.
 use Rattle.std.proofs.Common.{refl, ap, subst, arith, ◌≡◌, ℕ, zero, suc, ◌≤◌, List, [], ◌∷◌, length, set, Some, slice_get}
-use Rattle.packet_loops.proofs.Common.{changed_at, None_not_Some, Some_injective}
+use Rattle.no_packet_loops.proofs.Common.{changed_at, None_not_Some, Some_injective}
 
 -- past the end nothing changes
 pub changed_past : {A : Type 0} (f : A → A) (k : ℕ) (xs : List A) → length xs ≤ k → changed_at k f xs ≡ xs

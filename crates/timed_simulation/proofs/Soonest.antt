@@ -1,6 +1,6 @@
 -- The soonest of several events.
 use Rattle.std.proofs.Common.{sym, ap, ◌∙◌, add-one, ◌≡◌, ℕ, ◌+◌, Option, Some}
-use Rattle.packet_loops.proofs.Common.{option_map_or, degree_of}
+use Rattle.no_packet_loops.proofs.Common.{option_map_or, degree_of}
 use Rattle.timed_simulation.specs.declared.events.Event.{Event}
 use Rattle.timed_simulation.specs.Timed.{Timed, world_of}
 use Rattle.timed_simulation.specs.Events.{arrival_event, home_event, publication_event, sooner, soonest, waiting_event}

@@ -36,7 +36,7 @@
 
 mod document;
 mod given;
-mod lines;
+mod line_reading;
 mod mark;
 mod moment;
 mod run;

@@ -4,7 +4,7 @@ use crate::mark::{Begun, Mark};
 use crate::tally::{Span, Tally, began_in, count_spells};
 use journal::StepText;
 use network_model::{LinkSpec, Refusal};
-use reports::Printer;
+use reports::{Printer, print_either};
 use std::fmt;
 use std::io::Write;
 use timed_reports::{Report, Spell};
@@ -59,7 +59,8 @@ fn tell_refusal<W: Write>(
     refusal: Refusal,
     out: &mut W,
 ) {
-    let _ = printer.print(
+    let _ = print_either(
+        printer.format,
         format_args!("{moment} {step}: refused {refusal}"),
         format_args!(
             "{{\"kind\":\"change\",\"moment\":{moment},\"step\":\"{step}\",\"refused\":\"{refusal}\"}}"
@@ -81,7 +82,8 @@ fn tell_effect<W: Write>(
     let text = EffectText { effect };
     let json = EffectJson { effect };
     let Some(report) = report else {
-        let _ = printer.print(
+        let _ = print_either(
+            printer.format,
             format_args!("{moment} {step}: {text}"),
             format_args!("{{\"kind\":\"change\",\"moment\":{moment},\"step\":\"{step}\",{json}}}"),
             out,
@@ -93,7 +95,8 @@ fn tell_effect<W: Write>(
         count: cuts,
         longest: longest_cut,
     } = count_spells(span, report.outages());
-    let _ = printer.print(
+    let _ = print_either(
+        printer.format,
         format_args!(
             "{moment} {step}: {text}, {count} computations of at most {longest}, {cuts} outages of at most {longest_cut}"
         ),
@@ -129,7 +132,8 @@ fn tell_spell<W: Write>(printer: &Printer<'_>, kind: &str, spell: &Spell, out: &
         to,
     } = *spell;
     let name = printer.directory.name(Some(router));
-    let _ = printer.print(
+    let _ = print_either(
+        printer.format,
         format_args!("  {kind} at {name} for {prefix} from {from} to {to}"),
         format_args!(
             "{{\"kind\":\"{kind}\",\"router\":\"{name}\",\"prefix\":\"{prefix}\",\"from\":{from},\"to\":{to}}}"
@@ -229,7 +233,8 @@ impl fmt::Display for EffectJson {
 /// Prints the last line of a run that came to rest.
 pub fn tell_end<W: Write>(printer: &Printer<'_>, end: Mark, out: &mut W) {
     let (steps, now) = (end.steps, end.now);
-    let _ = printer.print(
+    let _ = print_either(
+        printer.format,
         format_args!("done: {steps} steps, at rest at {now}"),
         format_args!("{{\"kind\":\"rest\",\"steps\":{steps},\"moment\":{now}}}"),
         out,

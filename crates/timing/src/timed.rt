@@ -50,7 +50,7 @@ where
     let Plan {
         network,
         directory,
-        commands: _,
+        ..
     } = read_plan(alloc, text.as_str())?;
     let lines = read_text(alloc, times)?;
     let times = read_times(alloc, directory.names(), &network, lines.as_str())?;

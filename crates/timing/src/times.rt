@@ -7,7 +7,7 @@ ghost use Rattle.texts.specs.Words.{texts};
 
 use crate::document::{Document, read_document};
 use crate::given::values;
-use crate::lines::{read_changes, read_links, read_routers};
+use crate::line_reading::{read_changes, read_links, read_routers};
 use network_model::NoMemory;
 use plans::{Cause, TimesFault};
 use scenario::Fault;

@@ -1,11 +1,11 @@
 -- What traces rest on, in the world of every run.
 use Rattle.std.proofs.Common.{◌∙◌, arith, ◌≡◌, ◌<◌, List, length}
-use Rattle.packet_loops.proofs.Common.{length-map-range_with_len, Network, World, opening, IsNetwork, Runs, history}
+use Rattle.no_packet_loops.proofs.Common.{length-map-range_with_len, Network, World, opening, IsNetwork, Runs, history}
 use Rattle.network_model.specs.declared.step.Step.{Step}
-use Rattle.packet_loops.proofs.Runs.{reached}
-use Rattle.packet_loops.proofs.Walks.{leads_known}
-use Rattle.packet_loops.proofs.Wiring.{wired}
-use Rattle.packet_loops.proofs.WorldLaws.{Runs-shape}
+use Rattle.no_packet_loops.proofs.Runs.{reached}
+use Rattle.no_packet_loops.proofs.Walks.{leads_known}
+use Rattle.no_packet_loops.proofs.Wiring.{wired}
+use Rattle.no_packet_loops.proofs.WorldLaws.{Runs-shape}
 use Rattle.tracer.specs.Tracing.{LeadsToRouters}
 
 module _ (n : Network) (ss : List Step) (w : World) (runs : Runs (opening n) ss w) where

@@ -4,25 +4,29 @@ ghost use Rattle.std.specs.Prelude.{◌≡◌, ◌⊎◌};
 ghost use Rattle.tracer.specs.Faults.{refusal_of};
 ghost use Rattle.tracer.specs.declared.fault.TraceFault.TheVariants.{NoMemory as OutOfMemory};
 
+use faults::FaultKind;
 use network_model::Refusal;
 use std::alloc::AllocFailed;
 use thiserror::Error;
 
 /// Why a packet is not traced. Its text is its number and name.
 #[derive(Clone, Copy, Debug, PartialEq, Eq, Drop, Error)]
+#[error("{}", FaultKind::from(*self))]
 pub enum TraceFault {
     /// The router's number is too large.
-    #[error("10 UnknownRouter")]
     UnknownRouter,
     /// A growth was refused.
-    #[error("20 NoMemory")]
     NoMemory,
     /// A reader showed a later image than the one in force.
-    #[error("22 Stale")]
     Stale,
     /// A reader was given no image.
-    #[error("34 NoImage")]
     NoImage,
+}
+
+impl From<TraceFault> for FaultKind {
+    fn from(fault: TraceFault) -> FaultKind {
+        FaultKind::from(Refusal::from(fault))
+    }
 }
 
 impl<T: Drop> From<AllocFailed<T>> for TraceFault {

@@ -26,7 +26,7 @@
 //! `all_packets/specs/Through.antt`).
 //!
 //! What is tricky: the loop makes as many rounds as there are routers. That the packet has come to an end by
-//! then is a law, and no test (`packet_loops`, `all_packets`).
+//! then is a law, and no test (`no_packet_loops`, `all_packets`).
 //!
 //! A trace waits for nobody. While a router's writer is out with a ticket, its image may be ahead of the
 //! fabric: then the trace is refused with `Stale`. It is refused with `NoMemory` if its path cannot grow.

@@ -8,7 +8,7 @@ ghost use Rattle.fabric.specs.Headline.{IsImageWalk, IsImageWay, none_published}
 ghost use Rattle.all_packets.specs.Packets.{IsWay};
 ghost use Rattle.all_packets.specs.Through.{ThroughEnds, through as trace_through};
 ghost use Rattle.loop_freedom.specs.Network.{meets_twice};
-ghost use Rattle.packet_loops.specs.Packets.{TracesEnd};
+ghost use Rattle.no_packet_loops.specs.Packets.{TracesEnd};
 ghost use Rattle.tracer.specs.Following.{FollowsEnd, followed, kept_prefix};
 ghost use Rattle.tracer.specs.Tracing.{LeadsToRouters};
 

@@ -126,20 +126,13 @@ fn replay_status<H: Host>(
     let file = match *asked {
         Words::Run {
             file,
-            threads: _,
-            workers: _,
-            journal: _,
             no_journal: false,
-            explain: _,
-            format: _,
-            progress: _,
+            ..
         } => Some(file),
         Words::Shell {
             file,
-            journal: _,
             no_journal: false,
-            explain: _,
-            format: _,
+            ..
         } => Some(file),
         _ => None,
     };
@@ -172,12 +165,11 @@ fn is_alike_counted<H: Host>(
         Words::Run {
             file,
             threads: 1,
-            workers: _,
-            journal: _,
             explain,
             format,
             progress,
             no_journal: false,
+            ..
         } => Words::Run {
             file,
             threads: 1,
@@ -190,10 +182,10 @@ fn is_alike_counted<H: Host>(
         },
         Words::Shell {
             file,
-            journal: _,
             explain,
             format,
             no_journal: false,
+            ..
         } => Words::Shell {
             file,
             journal: None,

@@ -17,7 +17,7 @@
 //! like it. The journal of a run or a shell that ends with status 0 has to be replayed with status 0.
 
 use crate::asking::{Case, is_right};
-use crate::faults::do_faults;
+use crate::fault_files::do_faults;
 use harness::case::{Tally, Text, Wanted};
 use play::Host;
 use std::alloc::{AllocError, Global};

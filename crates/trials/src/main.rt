@@ -38,7 +38,7 @@
 mod asking;
 mod cases;
 mod examples;
-mod faults;
+mod fault_files;
 mod load;
 mod random;
 mod soak;

@@ -140,7 +140,7 @@ fn show_journal<J: Read + Drop, W: Write>(
     let Plan {
         network,
         directory,
-        commands: _,
+        ..
     } = read_plan(alloc, text)?;
     let journal = read_journal(
         alloc,
@@ -172,7 +172,7 @@ fn show_times<J: Read + Drop, W: Write>(
     let Plan {
         network,
         directory,
-        commands: _,
+        ..
     } = read_plan(alloc, text)?;
     show_in_time(alloc, json, network, &directory, times, out)
 }

@@ -2,28 +2,37 @@
 
 ghost use Rattle.std.specs.Prelude.{◌≡◌};
 
+use faults::FaultKind;
 use forwarder::GatherFault;
 use network_model::{NoMemory, Refusal};
 use thiserror::Error;
 
 /// Why jobs are not answered. Its text is its number and name.
 #[derive(Clone, Copy, Debug, PartialEq, Eq, Drop, Error)]
+#[error("{}", FaultKind::from(*self))]
 pub enum PoolFault {
     /// No thread could be made for a worker.
-    #[error("12 NoThread")]
     NoThread,
     /// A growth was refused.
-    #[error(transparent)]
     Memory(NoMemory),
     /// The packet queue handed a job back.
-    #[error("33 Closed")]
     Closed,
     /// A worker was refused.
-    #[error(transparent)]
     Refused(Refusal),
     /// The replies are not those to the jobs.
-    #[error(transparent)]
     Gather(GatherFault),
+}
+
+impl From<PoolFault> for FaultKind {
+    fn from(fault: PoolFault) -> FaultKind {
+        match fault {
+            PoolFault::NoThread => FaultKind::NoThread,
+            PoolFault::Memory(fault) => FaultKind::from(fault),
+            PoolFault::Closed => FaultKind::Closed,
+            PoolFault::Refused(fault) => FaultKind::from(fault),
+            PoolFault::Gather(fault) => FaultKind::from(fault),
+        }
+    }
 }
 
 impl From<NoMemory> for PoolFault {

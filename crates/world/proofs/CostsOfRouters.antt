@@ -10,7 +10,7 @@ use Rattle.ipv4_prefix.proofs.LongestMatches.{Contains-cases}
 use Rattle.ipv4_prefix.proofs.PrefixOrder.{prefix_cmp-tied}
 use Rattle.ipv4_prefix.proofs.SortedRows.{to_T}
 use Rattle.network_model.proofs.RowLaws.{sorted-rows_of}
-use Rattle.packet_loops.proofs.Common.{find-put, list_any, range_with_len, changed_at, map-append, filter-append, Contains-first, Contains-later, Prefix, prefix_cmp, prefix_eq, prefix_cmp_total, prefix_eq-Decides, Limits, BadOwner, first_cause, first_none, has_same_prefix, is_bad_attachment, attachment_causes, prefixes_of, rows_of, Some_injective, None_not_Some}
+use Rattle.no_packet_loops.proofs.Common.{find-put, list_any, range_with_len, changed_at, map-append, filter-append, Contains-first, Contains-later, Prefix, prefix_cmp, prefix_eq, prefix_cmp_total, prefix_eq-Decides, Limits, BadOwner, first_cause, first_none, has_same_prefix, is_bad_attachment, attachment_causes, prefixes_of, rows_of, Some_injective, None_not_Some}
 use Rattle.world.proofs.ByRouter.{changed_one, same_range}
 
 -- what is put at a router: the prefixes of its attachments with the costs

@@ -1,6 +1,6 @@
 -- What holds of each element of a list that was read.
 use Rattle.std.proofs.Common.{refl, subst, sym, ap, ◌∙◌, arith, ◌≡◌, ℕ, ◌+◌, ◌<◌, Bool, true, false, ◌==◌, List, length, get_or, eqb-true, eq-eqb, true≢false}
-use Rattle.packet_loops.proofs.Common.{get_or_default}
+use Rattle.no_packet_loops.proofs.Common.{get_or_default}
 
 -- what holds of each element before one, and of that one, holds of each before the next
 pub all_more : {A : Type 0} (P : A → Type 0) (xs : List A) (i : ℕ) (x : A) → i < length xs → x ≡ get_or xs i x → P x

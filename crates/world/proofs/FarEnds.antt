@@ -1,6 +1,6 @@
 -- Which router an entry leads to over a link that is there.
 use Rattle.std.proofs.Common.{◌≡◌, ◌∙◌, ℕ, false, Some, None, slice_get, option_map, option_and_then, if◌then◌else◌, ap}
-use Rattle.packet_loops.proofs.Common.{option_map_or, Place, Link, Side, World, place_at, side, other, is_up_in}
+use Rattle.no_packet_loops.proofs.Common.{option_map_or, Place, Link, Side, World, place_at, side, other, is_up_in}
 use Rattle.network_model.specs.declared.route.Entry.{Entry}
 use Rattle.network_model.specs.Forwarding.{entry_leads}
 

@@ -6,7 +6,7 @@ use Rattle.std.specs.Ordering.{is_eq, nat_cmp, ordering_then}
 use Rattle.std.specs.BTreeMap.{is_at}
 use Rattle.std.specs.BTreeSet.{contains}
 use Rattle.std.proofs.lemmas.Bool.Decides.{nat_tests}
-use Rattle.packet_loops.proofs.Common.{list_any, list_any-append, Prefix, prefix_cmp, prefix_eq}
+use Rattle.no_packet_loops.proofs.Common.{list_any, list_any-append, Prefix, prefix_cmp, prefix_eq}
 use Rattle.world.specs.Given.{pair_cmp, IsGiven}
 use Rattle.world.specs.declared.attachment_faults.Given.{Given}
 use Rattle.world.proofs.Prefixes.{one_unless, one_more_prefix}

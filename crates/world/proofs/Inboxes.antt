@@ -1,6 +1,6 @@
 -- What stands on a link towards a port leads to the link, whatever is done to the link.
 use Rattle.std.proofs.Common.{refl, sym, subst, ◌≡◌, ℕ, ◌+◌, Bool, true, false, cond, ◌==◌, List, [], ◌∷◌, ◌++◌, filter}
-use Rattle.packet_loops.proofs.Common.{and_parts, Item, Held, Message, End, Link, side, other, is_notice, link_come_up, link_gone_down, with_cost, with_message, is_up_in, changed_side, with_item}
+use Rattle.no_packet_loops.proofs.Common.{and_parts, Item, Held, Message, End, Link, side, other, is_notice, link_come_up, link_gone_down, with_cost, with_message, is_up_in, changed_side, with_item}
 use Rattle.world.specs.Kept.{LeadsTo}
 
 -- ---- one list

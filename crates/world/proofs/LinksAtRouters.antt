@@ -3,10 +3,10 @@ use Rattle.std.proofs.Common.{refl, sym, ap, ◌∙◌, arith, ◌≡◌, ℕ, s
 use Rattle.std.specs.List.{cons_option}
 use Rattle.std.proofs.Math.Bool.{or-true}
 use Rattle.std.proofs.lemmas.Bool.{and_parts, false≢true, false_from_ne_true}
-use Rattle.packet_loops.proofs.Common.{list_any, range_with_len, changed_at, filter-append, length-filter, A, B, End, LinkSpec, touches, degree, has_same_ends, is_bad_link, is_link_too_many, places_from, Limits, Network, IsNetwork}
+use Rattle.no_packet_loops.proofs.Common.{list_any, range_with_len, changed_at, filter-append, length-filter, A, B, End, LinkSpec, touches, degree, has_same_ends, is_bad_link, is_link_too_many, places_from, Limits, Network, IsNetwork}
 use Rattle.network_model.specs.World.{own_end}
 use Rattle.std.proofs.lemmas.Option.{slice_get_read}
-use Rattle.packet_loops.proofs.Wiring.{wired}
+use Rattle.no_packet_loops.proofs.Wiring.{wired}
 use Rattle.network_model.proofs.PortPlaces.{place_of}
 use Rattle.world.proofs.ByRouter.{changed_two}
 

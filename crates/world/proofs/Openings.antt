@@ -1,6 +1,6 @@
 -- A network that opens has ports and links that fit together.
 use Rattle.std.proofs.Common.{refl, sym, ap, subst, ◌∙◌, arith, ◌≡◌, ℕ, ◌<◌, false, List, [], map, length, Option, Some, None, slice_get, option_and_then, option_map, get_or}
-use Rattle.packet_loops.proofs.Common.{length-map, length-map-range_with_len, slice_get-map, slice_get-get_or, slice_get_within, End, A, B, LinkSpec, Place, Port, Link, Router, Network, side, place_at, places_from, opening, opening_link, opening_port, opening_router_of, costs_of, Some_injective, None_not_Some, listed_within, router_end, ports_before, IsPort, place_to_IsPort}
+use Rattle.no_packet_loops.proofs.Common.{length-map, length-map-range_with_len, slice_get-map, slice_get-get_or, slice_get_within, End, A, B, LinkSpec, Place, Port, Link, Router, Network, side, place_at, places_from, opening, opening_link, opening_port, opening_router_of, costs_of, Some_injective, None_not_Some, listed_within, router_end, ports_before, IsPort, place_to_IsPort}
 use Rattle.world.specs.Kept.{LeadsTo, IsWorld}
 
 -- a part of an option that is there

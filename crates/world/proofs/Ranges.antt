@@ -1,6 +1,6 @@
 -- A list that grows by what a function makes of one number after another.
 use Rattle.std.proofs.Common.{sym, ap, ◌∙◌, arith, append_assoc, ◌≡◌, ℕ, suc, ◌+◌, ◌-◌, ◌<◌, ◌≤◌, List, [], ◌∷◌, ◌++◌, map, append-nil}
-use Rattle.packet_loops.proofs.Common.{range_with_len}
+use Rattle.no_packet_loops.proofs.Common.{range_with_len}
 
 -- the numbers from k to e, the first of them apart
 range_from : (k e : ℕ) → k < e → range_with_len k (e - k) ≡ k ∷ range_with_len (k + 1) (e - (k + 1))

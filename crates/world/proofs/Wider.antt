@@ -1,6 +1,6 @@
 -- A network without faults within some limits has none within wider ones.
 use Rattle.std.proofs.Common.{refl, ap, ◌∙◌, arith, ◌≡◌, ℕ, ◌<◌, ◌≤◌, Bool, true, false, not, ◌&&◌, ◌||◌, ◌==◌, nat_lt, List, [], ◌∷◌, ◌++◌, length, None, true≢false, ltb-true, lt-ltb}
-use Rattle.packet_loops.proofs.Common.{list_any, AreWithin, Limits, Prefix, LinkSpec, NetworkFault, BadLink, TooManyLinks, BadOwner, Network, prefixes_of, first_cause, first_none, has_same_prefix, is_bad_link, is_link_too_many, is_bad_attachment, link_causes, attachment_causes, degree, network_fault}
+use Rattle.no_packet_loops.proofs.Common.{list_any, AreWithin, Limits, Prefix, LinkSpec, NetworkFault, BadLink, TooManyLinks, BadOwner, Network, prefixes_of, first_cause, first_none, has_same_prefix, is_bad_link, is_link_too_many, is_bad_attachment, link_causes, attachment_causes, degree, network_fault}
 use Rattle.world.proofs.Faults.{no_test, fault_of_attachments}
 
 -- a number below a limit is below a greater one

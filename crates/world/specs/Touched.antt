@@ -5,7 +5,7 @@ use Rattle.network_model.specs.declared.step.Step.TheVariants.{LinkUp, LinkDown,
 use Rattle.network_model.specs.World.{World}
 use Rattle.network_model.specs.Step.{release_at}
 use Rattle.network_model.specs.Numbers.{one_if}
-use Rattle.world.specs.declared.watched.Touched.{Touched}
+use Rattle.world.specs.declared.touched.Touched.{Touched}
 use Rattle.world.specs.Rest.{has_notice, is_busy, is_restless, link_number, passes_at}
 
 -- what a step can change: at most one link, one router's attachments, and one router

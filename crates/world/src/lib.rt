@@ -47,6 +47,7 @@ mod copying;
 mod link_faults;
 mod network;
 mod opening;
+mod touched;
 mod watched;
 mod world;
 
@@ -54,5 +55,6 @@ pub use network::Network;
 pub use network_model::{
     Cost, Limits, LinkSpec, MOST_PORTS, NetworkFault, Place, Prefix, Refusal, Step,
 };
+pub use touched::Touched;
 pub use watched::WatchedWorld;
 pub use world::{Ran, World};

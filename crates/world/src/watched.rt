@@ -1,14 +1,16 @@
 //! A world that knows whether it has come to rest.
 
-ghost use Rattle.std.specs.Prelude.{ℕ, ◌≡◌, ◌≤◌, ◌+◌, false, slice_get, option_and_then, IfOk, IsOk, OnOk, OnErr, MatchOption, Err};
+ghost use Rattle.std.specs.Prelude.{ℕ, ◌≡◌, ◌≤◌, ◌+◌, false, slice_get, IfOk, IsOk, OnOk, OnErr, MatchOption, Err};
 ghost use Rattle.std.specs.Option.{option_map_or};
 ghost use Rattle.network_model.specs.World as model;
 ghost use Rattle.network_model.specs.Step as steps;
 ghost use Rattle.network_model.specs.Turns as turns;
 ghost use Rattle.world.specs.Steps.{DeliversWithRoom, DiscardsStale, IsDoneOr, HasRoomForSteps};
-ghost use Rattle.world.specs.Rest.{has_notice, is_busy, is_restless, link_number};
+ghost use Rattle.world.specs.Rest.{has_notice, is_busy, is_restless};
+ghost use Rattle.world.specs.Touched.{unrest_at};
 
 use crate::network::Network;
+use crate::touched::Touched;
 use crate::world::World;
 use link_fifo::Links;
 use network_model::{End, NoMemory, Refusal, SmallAllocator, Step};
@@ -88,106 +90,32 @@ impl<A: SmallAllocator> WatchedWorld<A> {
         ensures room { DeliversWithRoom self.old step result }
     {
         let touched = Touched::by(&step, &self.world);
-        let before = touched.unrest(&self.world);
+        let before = unrest_of(touched, &self.world);
         self.world.step(step)?;
-        let after = touched.unrest(&self.world);
+        let after = unrest_of(touched, &self.world);
         self.unrest = self.unrest - before + after;
         Ok(())
     }
 }
 
-// What a step can change: at most one link, one router's attachments, and one router.
-#[derive(Clone, Copy)]
-struct Touched {
-    link: Option<u16>,
-    attachments: Option<u16>,
-    router: Option<u16>,
-}
-
-impl Touched {
-    ghost use Rattle.world.specs.Touched.{touched_by, unrest_at};
-
-    fn by<A: SmallAllocator>(step: &Step, world: &World<A>) -> Touched
-        ensures { result ≡ touched_by step.now world.now }
-    {
-        match *step {
-            Step::LinkUp { link } | Step::LinkDown { link } => Touched {
-                link: Some(link),
-                attachments: None,
-                router: None,
-            },
-            Step::SetCost {
-                router,
-                port,
-                cost: _,
-            } => Touched {
-                link: link_at(world, router, port),
-                attachments: None,
-                router: None,
-            },
-            Step::Deliver { router, port } => Touched {
-                link: link_at(world, router, port),
-                attachments: Some(router),
-                router: Some(router),
-            },
-            Step::Publish { router } => Touched {
-                link: None,
-                attachments: None,
-                router: Some(router),
-            },
-            Step::Release { router } => Touched {
-                link: released_to(world, router),
-                attachments: None,
-                router: Some(router),
-            },
-            Step::Attach {
-                router,
-                prefix: _,
-                cost: _,
-            }
-            | Step::Detach { router, prefix: _ } => Touched {
-                link: None,
-                attachments: Some(router),
-                router: None,
-            },
-        }
-    }
-
-    // How much of these is not at rest.
-    fn unrest<A: SmallAllocator>(self, world: &World<A>) -> usize
-        ensures unrest { result ≡ unrest_at self world.now }
-        ensures few { result ≤ 3 }
-    {
-        let busy = match self.link {
-            Some(link) => is_busy(world.links(), link),
-            None => false,
-        };
-        let told = match self.attachments {
-            Some(router) => has_notice_at(world, router),
-            None => false,
-        };
-        let restless = match self.router {
-            Some(router) => is_restless_at(world.routers(), router),
-            None => false,
-        };
-        usize::from(busy) + usize::from(told) + usize::from(restless)
-    }
-}
-
-// The number of the link at a router's port.
-fn link_at<A: SmallAllocator>(world: &World<A>, router: u16, port: u8) -> Option<u16>
-    ensures { result ≡ link_number world.now router port }
+// How much of what a step can change is not at rest.
+fn unrest_of<A: SmallAllocator>(touched: Touched, world: &World<A>) -> usize
+    ensures unrest { result ≡ unrest_at touched world.now }
+    ensures few { result ≤ 3 }
 {
-    Some(world.port(router, port)?.link)
-}
-
-// The number of the link for which a router releases its next message.
-fn released_to<A: SmallAllocator>(world: &World<A>, router: u16) -> Option<u16>
-    ensures { result ≡ option_and_then (λ h. link_number world.now router h.port)
-        (steps.release_at world.now router) }
-{
-    let held = world.routers().get(usize::from(router))?.front()?;
-    link_at(world, router, held.port)
+    let busy = match touched.link {
+        Some(link) => is_busy(world.links(), link),
+        None => false,
+    };
+    let told = match touched.attachments {
+        Some(router) => has_notice_at(world, router),
+        None => false,
+    };
+    let restless = match touched.router {
+        Some(router) => is_restless_at(world.routers(), router),
+        None => false,
+    };
+    usize::from(busy) + usize::from(told) + usize::from(restless)
 }
 
 // Whether something stands on the link, in either direction.

@@ -1,6 +1,6 @@
 use Rattle.std.proofs.Common.{rules, ◌≡◌, Result, Ok, Err, Option, None, Some, IfErr, inr, sym, ap, subst}
 use Rattle.c_interface.specs.Faults.{fault_number}
-use Rattle.c_interface.specs.declared.fault.Fault.{Fault}
+use Rattle.c_interface.specs.declared.fault.CallFault.{CallFault}
 use Rattle.single_router.specs.Bounded.{BoundedRouter, bounded_fault}
 use Rattle.single_router.specs.Inputs.{IsRefusedOnlyBy, InputNeedsMemory}
 use Rattle.single_router.specs.declared.input.Input.{Input}
@@ -9,11 +9,11 @@ use Rattle.router_ffi.specs.Calls.{IsStatusOnlyBy, ReadNeedsMemory, tell_fault}
 use Rattle.router_ffi.proofs.tell.Goals as goal
 
 -- what a router refuses is told by the number of its fault
-status_of : (o : Option Fault) (needs : Type 0) (f : Fault) → IsRefusedOnlyBy o needs f → IsStatusOnlyBy o needs (fault_number f)
+status_of : (o : Option CallFault) (needs : Type 0) (f : CallFault) → IsRefusedOnlyBy o needs f → IsStatusOnlyBy o needs (fault_number f)
 status_of None needs f is = inr (ap fault_number is.0, is.1)
 status_of (Some g) needs f is = ap fault_number is
 
-refused : {X : Type 0} (o : Option Fault) (needs : Type 0) (r : Result X Fault) → IfErr r (IsRefusedOnlyBy o needs) → IfErr r (λ f. IsStatusOnlyBy o needs (fault_number f))
+refused : {X : Type 0} (o : Option CallFault) (needs : Type 0) (r : Result X CallFault) → IfErr r (IsRefusedOnlyBy o needs) → IfErr r (λ f. IsStatusOnlyBy o needs (fault_number f))
 refused o needs (Ok x) h = h
 refused o needs (Err f) h = status_of o needs f h
 
@@ -23,7 +23,7 @@ returns-clause-err c =
     let b = c.deref_mut.result.now in
     let is_read : c.args.read ≡ Ok c.in_ok-input.input = search rules in
     let is_held : handle_router c.args.router.now ≡ Some b = search rules in
-    subst (λ (x : Result Input Fault). IfErr c.tell-outcome.result (λ f. IsStatusOnlyBy (tell_fault x (handle_router c.args.router.now)) (ReadNeedsMemory x (handle_router c.args.router.now)) (fault_number f))) (sym is_read)
+    subst (λ (x : Result Input CallFault). IfErr c.tell-outcome.result (λ f. IsStatusOnlyBy (tell_fault x (handle_router c.args.router.now)) (ReadNeedsMemory x (handle_router c.args.router.now)) (fault_number f))) (sym is_read)
     (subst (λ (o : Option BoundedRouter). IfErr c.tell-outcome.result (λ f. IsStatusOnlyBy (tell_fault (Ok c.in_ok-input.input) o) (ReadNeedsMemory (Ok c.in_ok-input.input) o) (fault_number f))) (sym is_held)
     (refused (bounded_fault c.in_ok-input.input b) (InputNeedsMemory c.in_ok-input.input b.router) c.tell-outcome.result c.tell-outcome.ensures.cause))
 

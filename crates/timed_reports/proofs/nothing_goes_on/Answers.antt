@@ -1,5 +1,5 @@
 use Rattle.std.proofs.Common.{◌∙◌, sym, ap, subst}
-use Rattle.packet_loops.proofs.Common.{is_quiet, is_settled}
+use Rattle.no_packet_loops.proofs.Common.{is_quiet, is_settled}
 use Rattle.simulation.specs.Headline.{HasBestRows}
 use Rattle.simulation.specs.Simulation.{Simulation}
 use Rattle.timed_simulation.specs.Timed.{world_of}

@@ -1,7 +1,9 @@
 use Rattle.std.proofs.Common.{◌≡◌, [], ◌∷◌, ◌++◌, ap, subst, ◌∙◌, arith}
 use Rattle.std.specs.Io.KnownBytes.{Appends}
 use Rattle.texts.proofs.Printed.{line_next}
-use Rattle.reports.specs.Formats.{packet_line}
+use Rattle.lines.specs.declared.answers.Asked.TheVariants.{Packet}
+use Rattle.lines.specs.declared.line.Line.TheVariants.{Asked}
+use Rattle.reports.specs.Formats.{line_in}
 use Rattle.dispatch.specs.Dispatching.{reply_text}
 use Rattle.dispatch.proofs.dispatcher.print_replies.Goals as goal
 
@@ -11,9 +13,9 @@ loop-reply-preserved g c =
     let format = c.args.printer.now.format in
     let d = c.args.printer.now.directory.now in
     let mid = g.W.Write.contents c.loop-reply.out in
-    let new = g.W.Write.contents c.packet.new.out in
-    let router : c.router-router.result ≡ ((reply.job).told).router = c.router-router.ensures.router ∙ ap (λ j. (j.told).router) c.job-job.ensures in
-    let text : packet_line format d c.job-job.result.now.number c.router-router.result c.job-job.result.now.addr c.answer-found.result.matched ≡ reply_text format d reply
-    = λ i. packet_line format d (c.job-job.ensures i).number (router i) (c.job-job.ensures i).addr (c.answer-found.ensures.answer i).matched in
+    let new = g.W.Write.contents c.print.new.out in
+    let router : c.router.result ≡ ((reply.job).told).router = c.router.ensures.router ∙ ap (λ j. (j.told).router) c.job-job.ensures in
+    let text : line_in format d (Asked (Packet c.job-job.result.now.number (record { router = c.router.result; addr = c.job-job.result.now.addr; found = c.answer-found.result.matched }))) ≡ reply_text format d reply
+    = λ i. line_in format d (Asked (Packet (c.job-job.ensures i).number (record { router = router i; addr = (c.job-job.ensures i).addr; found = (c.answer-found.ensures.answer i).matched }))) in
     line_next (reply_text format d) c.args.replies.now c.loop-reply.reply-index reply (g.W.Write.contents c.args.out.now) mid new (omega arith) c.reply-item.is c.loop-reply.invariant
-    (subst (λ t. Appends mid new (t ++ 10 ∷ [])) text c.in_ok-packet.ensures)
+    (subst (λ t. Appends mid new (t ++ 10 ∷ [])) text c.in_ok-print.ensures)

@@ -1,5 +1,5 @@
 use Rattle.std.proofs.Common.{sym, ap, ◌∙◌, append_assoc, arith, ◌≡◌, ◌++◌, ◌∷◌, [], map, length, append-nil}
-use Rattle.packet_loops.proofs.Common.{into_iter_items, nil_from_length}
+use Rattle.no_packet_loops.proofs.Common.{into_iter_items, nil_from_length}
 use Rattle.fabric.specs.Desks.{desk_in}
 use Rattle.fabric.proofs.desk.seat_all.Goals as goal
 

@@ -1,5 +1,5 @@
 use Rattle.std.proofs.Common.{refl, sym, ap, ◌∙◌, arith, ◌≡◌, ◌≤◌, Some, length, slice_get}
-use Rattle.packet_loops.proofs.Common.{slice_get_past, slice_get_read}
+use Rattle.no_packet_loops.proofs.Common.{slice_get_past, slice_get_read}
 use Rattle.fabric.proofs.Seats.{none_waits, waits_there}
 use Rattle.fabric.proofs.fabric.waiting_at.Goals as goal
 

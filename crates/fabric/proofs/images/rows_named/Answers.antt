@@ -1,8 +1,8 @@
 use Rattle.std.proofs.Common.{rules, ◌≡◌, ◌∙◌, ap, sym, true}
 use Rattle.std.specs.FinMap.{is_sorted}
-use Rattle.packet_loops.proofs.Common.{prefix_cmp, with_rows}
+use Rattle.no_packet_loops.proofs.Common.{prefix_cmp, with_rows}
 use Rattle.fabric.specs.Patches.{rows_to_set}
-use Rattle.fabric.proofs.Setting.{set_more}
+use Rattle.fabric.proofs.NamedRows.{set_more}
 use Rattle.fabric.proofs.images.rows_named.Goals as goal
 
 pub returns-clause-patch : goal.returns-clause-patch

@@ -1,5 +1,5 @@
 use Rattle.std.proofs.Common.{◌≡◌, ◌++◌, ◌||◌, not, filter}
-use Rattle.packet_loops.proofs.Common.{list_any, prefix_eq, has_row}
+use Rattle.no_packet_loops.proofs.Common.{list_any, prefix_eq, has_row}
 use Rattle.fabric.specs.Patches.{rows_to_set}
 use Rattle.fabric.proofs.images.rows_named.Given as goal
 

@@ -1,7 +1,7 @@
 use Rattle.std.proofs.Common.{rules, ◌≡◌, ◌+◌, ◌-◌, ◌++◌, [], ◌∷◌, All, subst, sym, arith}
 use Rattle.std.proofs.lemmas.List.Elements.{All-append}
 use Rattle.fabric.specs.Writers.{IsReaderPort}
-use Rattle.fabric.proofs.Dealing.{all_one}
+use Rattle.fabric.proofs.ReaderLists.{all_one}
 use Rattle.fabric.proofs.ports.deal.Goals as goal
 
 pub loop-done-init : goal.loop-done-init

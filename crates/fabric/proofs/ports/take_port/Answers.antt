@@ -1,10 +1,10 @@
 use Rattle.std.proofs.Common.{rules, ◌≡◌, ◌∙◌, ◌≤◌, ◌++◌, [], ◌∷◌, List, Some, map, length, ap, subst, sym, arith, slice_get, set, option_map}
-use Rattle.packet_loops.proofs.Common.{map-set, slice_get-get_or, slice_get-map}
+use Rattle.no_packet_loops.proofs.Common.{map-set, slice_get-get_or, slice_get-map}
 use Rattle.publication.specs.declared.known.Known.{Known}
 use Rattle.publication.specs.Lists.{EachAt, no_patches}
 use Rattle.publication.proofs.Places.{each-push}
 use Rattle.fabric.specs.Writers.{HaveReaders}
-use Rattle.fabric.proofs.Dealing.{taken_is, left_after, others_after}
+use Rattle.fabric.proofs.ReaderLists.{taken_is, left_after, others_after}
 use Rattle.fabric.proofs.ports.take_port.Goals as goal
 
 pub loop-router-preserved : goal.loop-router-preserved
@@ -33,3 +33,9 @@ loop-router-preserved g c =
       stock = λ k fewer. subst (HaveReaders k) (sym written) (left_after lists i rest reader there c.args.many k fewer enough (v.stock k fewer));
       untouched = λ j later rs at. others_after lists i rest reader there c.args.many v.untouched j later rs (sym (ap (λ xs. slice_get xs j) written) ∙ at);
     }
+
+pub returns-in_err-port-clause-port : goal.returns-in_err-port-clause-port
+returns-in_err-port-clause-port g c = search rules
+
+pub returns-clause-port : goal.returns-clause-port
+returns-clause-port g c = search rules

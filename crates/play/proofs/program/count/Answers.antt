@@ -1,4 +1,4 @@
-use Rattle.std.proofs.Common.{string_bytes, refl, is_some, Some}
+use Rattle.std.proofs.Common.{string_bytes, refl, is_some}
 use Rattle.script.proofs.Exits.{at_err}
 use Rattle.plans.specs.Faults.{OfBytes}
 use Rattle.plans.proofs.Planned.{IsPlanned}

@@ -1,7 +1,6 @@
-use Rattle.std.proofs.Common.{◌≡◌, ◌+◌, ◌++◌, [], ◌∷◌, take, sym, ap, subst, ◌∙◌, arith, add-one}
+use Rattle.std.proofs.Common.{◌≡◌, ◌+◌, ◌++◌, [], ◌∷◌, take, sym, ap, ◌∙◌, arith, add-one}
 use Rattle.std.proofs.Math.Seq.{take-suc}
 use Rattle.network_model.specs.declared.step.Step.{Step}
-use Rattle.network_model.specs.Run.{Runs}
 use Rattle.world.proofs.Runs.{with_last_step}
 use Rattle.sessions.specs.Nets.{Counted}
 use Rattle.play.proofs.replay.do_steps.Goals as goal

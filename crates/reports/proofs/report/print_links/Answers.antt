@@ -6,5 +6,5 @@ loop-link-init g c = record { printed = prints_none (g.W.Write.contents c.args.o
 
 pub loop-link-preserved : goal.loop-link-preserved
 loop-link-preserved g c = record {
-  printed = prints_more (g.W.Write.contents c.args.out.now) (g.W.Write.contents c.loop-link.out) (g.W.Write.contents c.link.new.out) _ c.loop-link.invariant.printed c.in_ok-link.ensures;
+  printed = prints_more (g.W.Write.contents c.args.out.now) (g.W.Write.contents c.loop-link.out) (g.W.Write.contents c.print.new.out) _ c.loop-link.invariant.printed c.in_ok-print.ensures;
 }

@@ -1,11 +1,14 @@
-use Rattle.std.proofs.Common.{subst}
+use Rattle.std.proofs.Common.{Some, None, subst}
+use Rattle.std.proofs.lemmas.Result.{on_ok_weaker}
 use Rattle.reports.specs.Report.{IsMachineLine}
-use Rattle.reports.proofs.Printed.{prints_unheard}
 use Rattle.reports.proofs.report.print_machine.Goals as goal
+
+pub returns-in-Some : goal.returns-in-Some
+returns-in-Some g c =
+    on_ok_weaker c.print.result
+    (λ printed. (Some c.in-Some.line, subst (IsMachineLine c.args.number c.args.router.now c.args.prefix) c.in-Some.is c.machine_line.ensures, printed)) c.print.ensures
 
 pub returns-in-None : goal.returns-in-None
 returns-in-None g c =
-    let printer = c.args.printer.now in
-    prints_unheard c.print.result printer.format printer.directory.now c.args.number c.args.router.now c.args.prefix (g.W.Write.contents c.args.out.now) (g.W.Write.contents c.print.new.out)
-    c.unheard.result c.unheard-json.result c.unheard.ensures c.unheard-json.ensures
-    (subst (λ line. IsMachineLine c.args.number c.args.router.now c.args.prefix line) c.in-None.is c.machine_line.ensures) c.print.ensures
+    on_ok_weaker c.print-in-None.result
+    (λ printed. (None, subst (IsMachineLine c.args.number c.args.router.now c.args.prefix) c.in-None.is c.machine_line.ensures, printed)) c.print-in-None.ensures

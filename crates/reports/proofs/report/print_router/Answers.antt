@@ -1,8 +1,8 @@
-use Rattle.reports.proofs.Printed.{printed_in, prints_none, prints_more}
+use Rattle.reports.proofs.Printed.{prints_none, prints_more}
 use Rattle.reports.proofs.report.print_router.Goals as goal
 
 pub loop-prefix-init : goal.loop-prefix-init
-loop-prefix-init g c = record { printed = prints_more (g.W.Write.contents c.args.out.now) (g.W.Write.contents c.args.out.now) (g.W.Write.contents c.print.new.out) _ (prints_none (g.W.Write.contents c.args.out.now)) (printed_in c.args.printer.now.format _ _ _ _ c.in_ok-print.ensures) }
+loop-prefix-init g c = record { printed = prints_more (g.W.Write.contents c.args.out.now) (g.W.Write.contents c.args.out.now) (g.W.Write.contents c.print.new.out) _ (prints_none (g.W.Write.contents c.args.out.now)) c.in_ok-print.ensures }
 
 pub loop-prefix-preserved : goal.loop-prefix-preserved
 loop-prefix-preserved g c = record {

@@ -3,5 +3,5 @@ use Rattle.std.specs.Io.KnownBytes.{Appends}
 use Rattle.reports.specs.Waiting.{held_lines}
 use Rattle.reports.proofs.waiting.print_held.Given as goal
 
-abbrev pub invariant-loop-message : goal.invariant-loop-message
-invariant-loop-message g l = Appends (g.W.Write.contents l.initial.out) (g.W.Write.contents l.out) (held_lines l.printer.format l.printer.directory.now l.router l.ripe (take l.message-index l.messages))
+abbrev pub invariant-loop-held : goal.invariant-loop-held
+invariant-loop-held g l = Appends (g.W.Write.contents l.initial.out) (g.W.Write.contents l.out) (held_lines l.printer.format l.printer.directory.now l.router l.ripe (take l.held-index l.messages))

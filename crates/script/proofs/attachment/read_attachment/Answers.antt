@@ -1,6 +1,6 @@
 use Rattle.std.proofs.Common.{refl, sym, ◌∙◌}
 use Rattle.script.proofs.Common.{false≢true, AttachmentLine, IsAttachmentFault, word-full}
-use Rattle.script.specs.declared.fault.Fault.TheVariants.{BadCost, Prefix as OfPrefix}
+use Rattle.script.specs.declared.fault.LineFault.TheVariants.{BadCost, Prefix as OfPrefix}
 use Rattle.script.proofs.Exits.{at_err}
 use Rattle.script.proofs.attachment.read_attachment.Goals as goal
 use Rattle.script.proofs.attachment.read_attachment.Goals.{After-parse}

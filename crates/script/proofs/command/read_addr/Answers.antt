@@ -1,5 +1,5 @@
 use Rattle.std.proofs.Common.{◌∷◌}
-use Rattle.script.specs.declared.fault.Fault.TheVariants.{Prefix as OfPrefix}
+use Rattle.script.specs.declared.fault.LineFault.TheVariants.{Prefix as OfPrefix}
 use Rattle.script.proofs.Common.{Text, words_of, NamesNoAddress}
 use Rattle.script.proofs.Exits.{at_err}
 use Rattle.script.proofs.command.read_addr.Goals as goal

@@ -1,5 +1,5 @@
 use Rattle.std.proofs.Common.{◌∷◌, sym, subst, ◌∙◌}
-use Rattle.script.specs.declared.fault.Fault.TheVariants.{Prefix as OfPrefix}
+use Rattle.script.specs.declared.fault.LineFault.TheVariants.{Prefix as OfPrefix}
 use Rattle.script.proofs.Common.{Text, words_of, NamesNoPrefix}
 use Rattle.script.proofs.Exits.{at_err}
 use Rattle.script.proofs.StepTexts.{IsStrange, no_prefix, text_unique}

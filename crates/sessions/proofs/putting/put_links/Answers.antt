@@ -1,9 +1,10 @@
-use Rattle.std.proofs.Common.{◌∙◌, ◌<◌, inr, ap, length, sym, subst}
+use Rattle.std.proofs.Common.{◌∙◌, ◌<◌, inr, ap, length, sym, subst, arith}
 use Rattle.network_model.specs.World.{Network}
 use Rattle.world.specs.Steps.{CanBeRefused}
 use Rattle.fabric.proofs.Causes.{refused_as}
 use Rattle.sessions.specs.Commands.{is_amiss_at}
 use Rattle.sessions.specs.Nets.{refusal_of}
+use Rattle.sessions.proofs.Links.{none_below}
 use Rattle.sessions.proofs.putting.put_links.Goals as goal
 
 -- the first that is refused
@@ -18,3 +19,9 @@ returns-in-Err-clause-err g c =
       amiss = ap (λ w. is_amiss_at w c.args.up c.args.router c.loop-place.place) (sym c.world-in-loop-place.ensures) ∙ sym c.if-is_amiss.ensures;
       refused = subst (λ s. CanBeRefused (refusal_of before s) e) c.put.ensures (refused_as _ (refusal_of before c.put.result) e c.in-Err.ensures.cause);
     }))
+
+pub returns-clause-all : goal.returns-clause-all
+returns-clause-all g c l within =
+    let all = ap length (c.links-place-end.ensures.links ∙ ap (λ (n : Network). n.links) c.network.ensures) in
+    let last = c.loop-place-test.false in
+    none_below c.args.up c.args.router c.loop-place.place c.args.live.now c.loop-place.live c.loop-place.invariant.put l (omega (arith, within, all, last))

@@ -1,5 +1,5 @@
 use Rattle.std.proofs.Common.{rules, ◌≡◌, ◌<◌, Some, Err, IsOk, MatchOption, length, vec_len, slice_get, refl, subst, arith}
-use Rattle.packet_loops.proofs.Common.{Lawful, Lawful_to_refusal, next, refusal}
+use Rattle.no_packet_loops.proofs.Common.{Lawful, Lawful_to_refusal, next, refusal}
 use Rattle.network_model.specs.declared.step.Step.TheVariants.{Publish}
 use Rattle.world.proofs.Done.{memory_lacked}
 use Rattle.simulation.specs.InForce.{IsPatchDue}

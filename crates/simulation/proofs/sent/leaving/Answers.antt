@@ -1,5 +1,5 @@
 use Rattle.std.proofs.Common.{◌≡◌, ◌∙◌, None, Some, IfSome, slice_get, sym, ap, subst, option_and_then}
-use Rattle.packet_loops.proofs.Common.{Held, Link, World, place_at, release_at, ripe_front}
+use Rattle.no_packet_loops.proofs.Common.{Held, Link, World, place_at, release_at, ripe_front}
 use Rattle.network_model.specs.declared.step.Step.TheVariants.{Release}
 use Rattle.simulation.specs.Counts.{leaving}
 use Rattle.simulation.proofs.InForce.{read_at}

@@ -1,5 +1,5 @@
 use Rattle.std.proofs.Common.{◌≡◌, ◌<◌, length, map, set, refl, sym, subst, arith}
-use Rattle.packet_loops.proofs.Common.{length-map}
+use Rattle.no_packet_loops.proofs.Common.{length-map}
 use Rattle.link_fifo.proofs.Changes.{slice_get-read, written_in}
 use Rattle.timed_simulation.specs.Links.{link_of, links_after, moved, HasRoomFor}
 use Rattle.timed_simulation.proofs.Lists.{changed_past}

@@ -1,5 +1,5 @@
 use Rattle.std.proofs.Common.{◌≡◌, ◌∙◌, Some, false, IfSome, slice_get, sym, ap, subst, refl, option_and_then}
-use Rattle.packet_loops.proofs.Common.{Held, Link, World, other, place_at, release_at, ripe_front, is_up_in}
+use Rattle.no_packet_loops.proofs.Common.{Held, Link, World, other, place_at, release_at, ripe_front, is_up_in}
 use Rattle.simulation.proofs.InForce.{read_at}
 use Rattle.simulation.proofs.Leaving.{link_there}
 use Rattle.timed_simulation.specs.declared.links.Motion.TheVariants.{Put}

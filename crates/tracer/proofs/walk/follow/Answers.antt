@@ -1,5 +1,5 @@
 use Rattle.std.proofs.Common.{rules, ◌≡◌, ◌∙◌, ◌+◌, ◌-◌, ◌<◌, length, ◌++◌, [], ◌∷◌, Some, sym, ap, subst, suc, arith}
-use Rattle.packet_loops.proofs.Common.{Ends, Goes, onward}
+use Rattle.no_packet_loops.proofs.Common.{Ends, Goes, onward}
 use Rattle.fabric.specs.Fabric.{Fabric}
 use Rattle.tracer.specs.Tracing.{onward_of}
 use Rattle.tracer.specs.Following.{followed_from, kept_prefix}

@@ -1,6 +1,6 @@
 use Rattle.std.proofs.Common.{subst}
 use Rattle.network_model.specs.Network.{IsNetwork}
-use Rattle.packet_loops.proofs.Traces.{always_traces_end}
+use Rattle.no_packet_loops.proofs.Traces.{always_traces_end}
 use Rattle.all_packets.proofs.Through.{always_through_ends}
 use Rattle.tracer.proofs.Runs.{leads_to_routers}
 use Rattle.tracer.proofs.Walks.{follows_end}

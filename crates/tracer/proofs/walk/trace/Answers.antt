@@ -1,6 +1,6 @@
 use Rattle.std.proofs.Common.{◌≡◌, ◌∙◌, ◌<◌, false, length}
 use Rattle.network_model.specs.Forwarding.{trace, trace_of}
-use Rattle.packet_loops.proofs.Common.{IfOk-weaker, IsPacketWalk, meets_twice}
+use Rattle.no_packet_loops.proofs.Common.{IfOk-weaker, IsPacketWalk, meets_twice}
 use Rattle.ipv4_prefix.specs.Prefix.{Prefix}
 use Rattle.fabric.specs.Headline.{IsImageWalk, none_published}
 use Rattle.tracer.specs.Following.{followed}

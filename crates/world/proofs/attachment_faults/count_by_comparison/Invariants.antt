@@ -1,5 +1,5 @@
 use Rattle.std.proofs.Common.{◌≡◌, [], take, length}
-use Rattle.packet_loops.proofs.Common.{prefixes_of, first_cause, attachment_causes}
+use Rattle.no_packet_loops.proofs.Common.{prefixes_of, first_cause, attachment_causes}
 use Rattle.world.proofs.Faults.{attachment_causes_from}
 use Rattle.world.proofs.attachment_faults.count_by_comparison.Given as goal
 

@@ -1,5 +1,5 @@
 use Rattle.std.proofs.Common.{◌≡◌, [], take}
-use Rattle.packet_loops.proofs.Common.{first_cause, attachment_causes}
+use Rattle.no_packet_loops.proofs.Common.{first_cause, attachment_causes}
 use Rattle.world.specs.Given.{IsGiven}
 use Rattle.world.proofs.Faults.{attachment_causes_from}
 use Rattle.world.proofs.attachment_faults.count_by_sets.Given as goal

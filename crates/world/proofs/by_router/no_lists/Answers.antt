@@ -1,6 +1,6 @@
 use Rattle.std.proofs.Common.{◌∙◌, ap, arith, [], ◌∷◌, map}
 use Rattle.std.specs.declared.vec.Vec.{Vec}
-use Rattle.packet_loops.proofs.Common.{map-append, range_with_len}
+use Rattle.no_packet_loops.proofs.Common.{map-append, range_with_len}
 use Rattle.world.proofs.Ranges.{one_made}
 use Rattle.world.proofs.by_router.no_lists.Goals as goal
 

@@ -1,5 +1,5 @@
 use Rattle.std.proofs.Common.{◌≡◌, ◌++◌, ◌-◌, [], map, vec_len, vec_capacity}
-use Rattle.packet_loops.proofs.Common.{range_with_len}
+use Rattle.no_packet_loops.proofs.Common.{range_with_len}
 use Rattle.world.proofs.by_router.no_lists.Given as goal
 
 abbrev pub invariant-loop : goal.invariant-loop

@@ -1,5 +1,5 @@
 use Rattle.std.proofs.Common.{◌≡◌, []}
-use Rattle.packet_loops.proofs.Common.{first_cause, link_causes}
+use Rattle.no_packet_loops.proofs.Common.{first_cause, link_causes}
 use Rattle.world.proofs.Faults.{link_causes_from}
 use Rattle.world.proofs.link_faults.fault_by_comparison.Given as goal
 

@@ -1,5 +1,5 @@
 use Rattle.std.proofs.Common.{◌≡◌, [], map, filter, take}
-use Rattle.packet_loops.proofs.Common.{range_with_len, first_cause, link_causes, touches}
+use Rattle.no_packet_loops.proofs.Common.{range_with_len, first_cause, link_causes, touches}
 use Rattle.world.proofs.Faults.{link_causes_from}
 use Rattle.world.proofs.link_faults.fault_by_lists.Given as goal
 

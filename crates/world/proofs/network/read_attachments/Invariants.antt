@@ -1,5 +1,5 @@
 use Rattle.std.proofs.Common.{ℕ, ◌<◌, get_or}
-use Rattle.packet_loops.proofs.Common.{Prefix, IsPrefix, IsCost}
+use Rattle.no_packet_loops.proofs.Common.{Prefix, IsPrefix, IsCost}
 use Rattle.world.proofs.network.read_attachments.Given as goal
 
 abbrev pub invariant-loop-attachment : goal.invariant-loop-attachment

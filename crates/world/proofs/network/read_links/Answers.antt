@@ -1,5 +1,5 @@
 use Rattle.std.proofs.Common.{subst, arith}
-use Rattle.packet_loops.proofs.Common.{HasCosts, IsCost}
+use Rattle.no_packet_loops.proofs.Common.{HasCosts, IsCost}
 use Rattle.world.proofs.Elements.{all_more}
 use Rattle.world.proofs.network.read_links.Goals as goal
 

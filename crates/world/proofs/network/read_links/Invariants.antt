@@ -1,5 +1,5 @@
 use Rattle.std.proofs.Common.{ℕ, ◌<◌, get_or}
-use Rattle.packet_loops.proofs.Common.{LinkSpec, HasCosts}
+use Rattle.no_packet_loops.proofs.Common.{LinkSpec, HasCosts}
 use Rattle.world.proofs.network.read_links.Given as goal
 
 abbrev pub invariant-loop-link : goal.invariant-loop-link

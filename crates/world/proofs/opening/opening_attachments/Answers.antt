@@ -1,5 +1,5 @@
 use Rattle.std.proofs.Common.{arith, ap, ◌∙◌, []}
-use Rattle.packet_loops.proofs.Common.{costs_of, rows_of}
+use Rattle.no_packet_loops.proofs.Common.{costs_of, rows_of}
 use Rattle.world.specs.Parts.{attachments_of}
 use Rattle.world.proofs.ByRouter.{made_at, made_count}
 use Rattle.world.proofs.Ranges.{one_made}

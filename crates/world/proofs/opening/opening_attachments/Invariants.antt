@@ -1,5 +1,5 @@
 use Rattle.std.proofs.Common.{◌≡◌, ◌++◌, ◌-◌, [], map}
-use Rattle.packet_loops.proofs.Common.{range_with_len, costs_of}
+use Rattle.no_packet_loops.proofs.Common.{range_with_len, costs_of}
 use Rattle.world.specs.Parts.{attachments_of}
 use Rattle.world.proofs.opening.opening_attachments.Given as goal
 

@@ -1,5 +1,5 @@
 use Rattle.std.proofs.Common.{◌≡◌, map, take}
-use Rattle.packet_loops.proofs.Common.{range_with_len}
+use Rattle.no_packet_loops.proofs.Common.{range_with_len}
 use Rattle.world.proofs.CostsOfRouters.{own_rows}
 use Rattle.world.proofs.opening.opening_costs.Given as goal
 

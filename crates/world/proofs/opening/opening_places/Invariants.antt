@@ -1,5 +1,5 @@
 use Rattle.std.proofs.Common.{◌≡◌, map, take}
-use Rattle.packet_loops.proofs.Common.{range_with_len, places_from}
+use Rattle.no_packet_loops.proofs.Common.{range_with_len, places_from}
 use Rattle.world.proofs.opening.opening_places.Given as goal
 
 abbrev pub invariant-loop-i : goal.invariant-loop-i

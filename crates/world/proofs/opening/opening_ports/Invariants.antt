@@ -1,5 +1,5 @@
 use Rattle.std.proofs.Common.{◌≡◌, ◌++◌, drop, map}
-use Rattle.packet_loops.proofs.Common.{opening_port, opening_link}
+use Rattle.no_packet_loops.proofs.Common.{opening_port, opening_link}
 use Rattle.world.proofs.opening.opening_ports.Given as goal
 
 abbrev pub invariant-loop-place : goal.invariant-loop-place

@@ -1,6 +1,6 @@
 use Rattle.std.proofs.Common.{◌≡◌, ℕ, ◌-◌, ◌<◌, ◌≤◌, ◌∷◌, Bool, if◌then◌else◌, List, drop, sym, ap, ◌∙◌, arith, get_or, length}
 use Rattle.std.specs.BTreeSet.{contains}
-use Rattle.packet_loops.proofs.Common.{Prefix, prefix_cmp, prefixes_of}
+use Rattle.no_packet_loops.proofs.Common.{Prefix, prefix_cmp, prefixes_of}
 use Rattle.world.proofs.Prefixes.{prefixes_from, given_from, reversed_with}
 use Rattle.world.proofs.opening.opening_prefixes.Goals as goal
 

@@ -1,7 +1,7 @@
 use Rattle.std.proofs.Common.{◌≡◌, drop, map}
 use mathlib.Core.List.{reverse}
 use Rattle.std.specs.BTreeSet.{contains}
-use Rattle.packet_loops.proofs.Common.{Prefix, prefix_cmp, prefix_eq, list_any, prefixes_of}
+use Rattle.no_packet_loops.proofs.Common.{Prefix, prefix_cmp, prefix_eq, list_any, prefixes_of}
 use Rattle.world.proofs.opening.opening_prefixes.Given as goal
 
 abbrev pub invariant-loop-i : goal.invariant-loop-i

@@ -1,5 +1,5 @@
 use Rattle.std.proofs.Common.{◌≡◌, ◌++◌, ◌-◌, map}
-use Rattle.packet_loops.proofs.Common.{range_with_len, opening_router_of}
+use Rattle.no_packet_loops.proofs.Common.{range_with_len, opening_router_of}
 use Rattle.world.proofs.opening.opening_routers.Given as goal
 
 abbrev pub invariant-loop-router : goal.invariant-loop-router

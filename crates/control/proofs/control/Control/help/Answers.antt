@@ -1,6 +1,6 @@
 use Rattle.std.proofs.Common.{vec_len}
 use Rattle.control.specs.Shares.{owes}
-use Rattle.control.proofs.Sharing.{gave_back, halted}
+use Rattle.control.proofs.Shares.{gave_back, halted}
 use Rattle.control.proofs.control.Control.help.Goals as goal
 
 pub returns : goal.returns

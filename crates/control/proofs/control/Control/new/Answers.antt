@@ -1,5 +1,5 @@
 use Rattle.std.proofs.Common.{rules, ap, ◌≡◌, ◌∙◌, length, arith}
-use Rattle.control.proofs.Sharing.{new_more}
+use Rattle.control.proofs.Shares.{new_more}
 use Rattle.control.proofs.control.Control.new.Goals as goal
 
 pub loop-number-preserved : goal.loop-number-preserved

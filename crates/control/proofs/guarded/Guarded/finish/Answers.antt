@@ -1,12 +1,12 @@
-use Rattle.std.proofs.Common.{◌≡◌, ◌∙◌, ◌+◌, None, true, false, ap, refl, subst, sym, arith, MatchBool}
+use Rattle.std.proofs.Common.{◌≡◌, ◌∙◌, ◌+◌, None, true, false, ap, refl, subst, sym, arith, MatchBool, rules}
 use Rattle.network_model.proofs.Common.{sum_by_push, Lawful}
 use Rattle.network_model.specs.declared.step.Step.TheVariants.{Publish}
 use Rattle.network_model.specs.Journal.{Fits, journal_sum, step_number}
 use Rattle.publication.specs.Outings.{Outing}
 use Rattle.fabric.specs.Fabric.{Fabric, after_step, count_lent, is_lent, with_lent}
-use Rattle.control.proofs.Lending.{count_in}
+use Rattle.control.proofs.WritersOut.{count_in}
 use Rattle.control.specs.Served.{IsServed}
-use Rattle.control.proofs.Serving.{served_published, served_unpublished}
+use Rattle.control.proofs.Served.{served_published, served_unpublished}
 use Rattle.control.proofs.guarded.Guarded.finish.Goals as goal
 use Rattle.control.proofs.guarded.Guarded.finish.Goals.{then-published, else-published}
 
@@ -57,3 +57,21 @@ invariant_of-self-2 g c =
                 omega (arith, fewer, bound, out, held, lent, c.sub.ensures.total)),
           )
     ]
+
+pub invariant_of-share : goal.invariant_of-share
+invariant_of-share g c = search rules
+
+pub invariant_of-self : goal.invariant_of-self
+invariant_of-self g c = search rules
+
+pub returns-in_err-give_back-clause-sum : goal.returns-in_err-give_back-clause-sum
+returns-in_err-give_back-clause-sum g c = search rules
+
+pub invariant_of-share-then-published : goal.invariant_of-share-then-published
+invariant_of-share-then-published g c = search rules
+
+pub invariant_of-share-else-published : goal.invariant_of-share-else-published
+invariant_of-share-else-published g c = search rules
+
+pub returns-clause-sum : goal.returns-clause-sum
+returns-clause-sum g c = search rules

@@ -2,8 +2,8 @@ use Rattle.std.proofs.Common.{◌≡◌, ◌∙◌, Some, false, refl, ap, arith
 use Rattle.network_model.specs.Journal.{journal_sum}
 use Rattle.network_model.specs.declared.step.Step.TheVariants.{Publish}
 use Rattle.fabric.specs.Fabric.{Fabric, count_lent, is_lent, next_fabric_step}
-use Rattle.control.proofs.Lending.{can_fail, count_out, was_in}
-use Rattle.control.proofs.Serving.{done_free, done_none, is_next, served_lent, turn_next}
+use Rattle.control.proofs.WritersOut.{can_fail, count_out, was_in}
+use Rattle.control.proofs.Served.{done_free, done_none, is_next, served_lent, turn_next}
 use Rattle.control.proofs.guarded.Guarded.lend.Goals as goal
 
 pub new-requires : goal.new-requires

@@ -1,8 +1,8 @@
-use Rattle.std.proofs.Common.{◌≡◌, ◌+◌, refl, ap, sym, subst, ◌∙◌, arith}
+use Rattle.std.proofs.Common.{◌≡◌, ◌+◌, refl, ap, sym, subst, ◌∙◌, arith, rules}
 use Rattle.network_model.proofs.Common.{sum_by_push, journal_sum, step_number}
 use Rattle.fabric.specs.Fabric.{Fabric, count_lent}
 use Rattle.control.specs.Served.{IsTurnAt}
-use Rattle.control.proofs.Serving.{done_free, served_next}
+use Rattle.control.proofs.Served.{done_free, served_next}
 use Rattle.control.proofs.guarded.Guarded.step.Goals as goal
 
 pub invariant_of-self-2 : goal.invariant_of-self-2
@@ -18,3 +18,15 @@ invariant_of-self-2 g c =
           (subst (λ (f : Fabric). IsTurnAt g.N.ControlName.asked f.world c.args.step) (sym c.self.view_is) c.requires) ok.0 c.number-number.ensures.fits ok.1,
       (let lent = ap (λ (f : Fabric). count_lent f.lent) ok.1 in let before = c.self.invariant.2 in omega (arith, lent, before)),
     )
+
+pub returns-in_err-step-clause-ok : goal.returns-in_err-step-clause-ok
+returns-in_err-step-clause-ok g c = search rules
+
+pub returns-in_err-step-clause-cause : goal.returns-in_err-step-clause-cause
+returns-in_err-step-clause-cause g c = search rules
+
+pub returns-clause-ok : goal.returns-clause-ok
+returns-clause-ok g c = search rules
+
+pub returns-clause-cause : goal.returns-clause-cause
+returns-clause-cause g c = search rules

@@ -1,5 +1,5 @@
 use Rattle.std.proofs.Common.{◌<◌, arith}
-use Rattle.control.proofs.Sharing.{turn_refused}
+use Rattle.control.proofs.Shares.{turn_refused}
 use Rattle.control.proofs.guarded.Guarded.turn.Goals as goal
 
 pub returns-in-Err-clause-err : goal.returns-in-Err-clause-err

@@ -1,5 +1,5 @@
 use Rattle.std.proofs.Common.{refl, sym, ap, ◌∙◌, ◌≡◌, false, true, Some}
-use Rattle.packet_loops.proofs.Common.{false≢true}
+use Rattle.no_packet_loops.proofs.Common.{false≢true}
 use Rattle.publication.specs.declared.known.Known.{Known}
 use Rattle.fabric.specs.Desks.{Desk, desk_out}
 use Rattle.fabric.specs.Places.{desk_of}

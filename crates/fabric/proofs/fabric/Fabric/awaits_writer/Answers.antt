@@ -1,8 +1,8 @@
 use Rattle.std.proofs.Common.{refl, sym, ap, ◌∙◌, arith, ◌≡◌, ◌≤◌, Some, false, is_some, length, slice_get}
-use Rattle.packet_loops.proofs.Common.{slice_get_past, slice_get_read}
+use Rattle.no_packet_loops.proofs.Common.{slice_get_past, slice_get_read}
 use Rattle.fabric.specs.Fabric.{Fabric, lent_at}
-use Rattle.fabric.proofs.Lending.{lent_there}
-use Rattle.fabric.proofs.Lending.{awaits_at}
+use Rattle.fabric.proofs.WritersOut.{lent_there}
+use Rattle.fabric.proofs.WritersOut.{awaits_at}
 use Rattle.fabric.proofs.Seats.{none_lent_at}
 use Rattle.fabric.proofs.fabric.Fabric.awaits_writer.Goals as goal
 use Rattle.fabric.proofs.fabric.Fabric.awaits_writer.Goals.{in-Deliver, in-Deliver-2}

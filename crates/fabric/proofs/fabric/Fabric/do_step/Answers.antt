@@ -1,5 +1,5 @@
 use Rattle.std.proofs.Common.{rules, Ok, Err, Result, None, ◌≡◌, ◌+◌, ◌<◌, ◌≤◌, ◌++◌, [], ◌∷◌, length, vec_len, refl, sym, ap, subst, ◌∙◌, arith, Some, IsOk, IsSome, MatchOption, false, is_some, slice_get, vec_capacity, set}
-use Rattle.packet_loops.proofs.Common.{false≢true, err_from_is_err_and, most_steps, Lawful, next, refusal, Refusal, release_at, Lawful_to_refusal, None_not_Some}
+use Rattle.no_packet_loops.proofs.Common.{false≢true, err_from_is_err_and, most_steps, Lawful, next, refusal, Refusal, release_at, Lawful_to_refusal, None_not_Some}
 use Rattle.network_model.specs.declared.step.Step.{Step}
 use Rattle.network_model.specs.declared.step.Step.TheVariants.{Publish}
 use Rattle.router_core.proofs.Refused.{gave_up, not_ok}
@@ -14,9 +14,9 @@ use Rattle.fabric.specs.Images.{due_at, image_in_force, images_in_force}
 use Rattle.fabric.specs.Writers.{FitTogether, ArePending, AreReaders, AreWriters, shown_images, waiting_at, fabric_seen}
 use Rattle.fabric.proofs.Causes.{admitted, due_lawful, due_seen, passed_on}
 use Rattle.fabric.proofs.Fabrics.{room_left, images_stay, images_due, kept_as, due_of, summed_more}
-use Rattle.fabric.proofs.Lending.{all_pending_next}
+use Rattle.fabric.proofs.WritersOut.{all_pending_next}
 use Rattle.fabric.proofs.Seats.{desk_within, due_desk, is_in, lent_same, none_kept, pending_same, seat, writings_set}
-use Rattle.fabric.proofs.Publishing.{IsDue, due_there, none_heard, number_is, names_all, next_number, readers_next, shown_done, still_heard, unseen_shown, writers_next, writers_set}
+use Rattle.fabric.proofs.Publications.{IsDue, due_there, none_heard, number_is, names_all, next_number, readers_next, shown_done, still_heard, unseen_shown, writers_next, writers_set}
 use Rattle.fabric.proofs.fabric.Fabric.do_step.Given as given
 use Rattle.fabric.proofs.fabric.Fabric.do_step.Goals as goal
 use Rattle.fabric.proofs.fabric.Fabric.do_step.Goals.{in-Publish+in_ok-patch-in-Publish+in-Some+in_ok-publish-in-Some, in-Publish+in_ok-patch-in-Publish+in-None+in_ok-step-in-None, in_default+in_ok-step-in_default}

@@ -1,7 +1,7 @@
 use Rattle.std.specs.Prelude.{vec_capacity}
 use Rattle.fabric.specs.Writers.{fabric_seen}
 use Rattle.fabric.proofs.Headline.{never_twice, least_cost, converges}
-use Rattle.fabric.proofs.Lending.{lent_due}
+use Rattle.fabric.proofs.WritersOut.{lent_due}
 use Rattle.fabric.proofs.fabric.Fabric.holds.Goals as goal
 
 pub returns-clause-no_loop : goal.returns-clause-no_loop

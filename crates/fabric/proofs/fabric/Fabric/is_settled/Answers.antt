@@ -1,4 +1,4 @@
-use Rattle.std.proofs.Common.{◌≡◌, ◌<◌, None, sym, subst, ap, ◌∙◌}
+use Rattle.std.proofs.Common.{◌≡◌, ◌<◌, None, sym, subst, ap, ◌∙◌, rules}
 use Rattle.std.specs.Prelude.{vec_capacity}
 use Rattle.network_model.specs.Turns.{is_settled, next_step}
 use Rattle.network_model.specs.Forwarding.{is_quiet}
@@ -27,3 +27,6 @@ returns-clause-least_cost g c = λ settled.
     rw (← c.self.view_is) (
     least_cost (fabric_seen g.B.FabricName.openings c.self.inside.network c.self.inside.journal.items c.self.inside.world c.self.inside.desks.items) (vec_capacity c.self.inside.journal) c.self.invariant.0 c.routers-routers.ensures.valid
     (sym (settled_is_quiet c.self.inside.network c.self.inside.journal.items c.self.inside.world c.routers-routers.ensures.valid c.self.invariant.0.runs) ∙ sym c.is_settled.ensures ∙ settled))
+
+pub returns-clause-settled : goal.returns-clause-settled
+returns-clause-settled g c = search rules

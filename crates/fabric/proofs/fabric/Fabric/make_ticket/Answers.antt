@@ -1,5 +1,5 @@
 use Rattle.std.proofs.Common.{rules, ◌≡◌, ◌∙◌, ◌+◌, ◌<◌, length, vec_len, None, Some, refl, sym, ap, subst, arith, IsSome, false, is_some, option_map, slice_get, set, vec_capacity}
-use Rattle.packet_loops.proofs.Common.{slice_get-map, most_steps, Patch}
+use Rattle.no_packet_loops.proofs.Common.{slice_get-map, most_steps, Patch}
 use Rattle.network_model.specs.declared.step.Step.TheVariants.{Publish}
 use Rattle.image_patch.specs.Patches.{patched}
 use Rattle.world.specs.Steps.{HasRoomForSteps}
@@ -13,7 +13,7 @@ use Rattle.fabric.specs.Patches.{IsPatchDue}
 use Rattle.fabric.specs.Writers.{ArePending, AreWriters, shown_images, waiting_at, fabric_seen}
 use Rattle.fabric.proofs.Causes.{admitted, due_lawful, due_seen}
 use Rattle.fabric.proofs.Fabrics.{room_left}
-use Rattle.fabric.proofs.Publishing.{IsDue, due_there, names_all, next_number, number_is, shows}
+use Rattle.fabric.proofs.Publications.{IsDue, due_there, names_all, next_number, number_is, shows}
 use Rattle.fabric.proofs.Seats.{count_away, desk_within, due_desk, is_in, kept_away, lent_away, none_kept, pending_away, seat, shown_away, writers_away, writing_there}
 use Rattle.fabric.proofs.fabric.Fabric.make_ticket.Given as given
 use Rattle.fabric.proofs.fabric.Fabric.make_ticket.Goals as goal

@@ -1,15 +1,15 @@
 use Rattle.std.proofs.Common.{rules, ◌≡◌, ◌∙◌, ◌≤◌, ◌+◌, [], All, map, length, vec_len, refl, ap, subst, sym, arith, vec_capacity}
-use Rattle.packet_loops.proofs.Common.{IsNetwork, most_routers, length-map, World, opening, Image}
-use Rattle.packet_loops.proofs.Wiring.{few_routers}
+use Rattle.no_packet_loops.proofs.Common.{IsNetwork, most_routers, length-map, World, opening, Image}
+use Rattle.no_packet_loops.proofs.Wiring.{few_routers}
 use Rattle.publication.specs.Lists.{no_patches}
 use Rattle.fabric.specs.Images.{chosen_image}
 use Rattle.fabric.specs.Desks.{all_lent, desk_in, writings}
 use Rattle.fabric.specs.Fabric.{count_lent, fabric_of, IsFabric}
 use Rattle.fabric.specs.Writers.{ArePending, AreWriters, IsReaderPort, shown_images, fabric_seen}
-use Rattle.fabric.proofs.Lending.{count-none, none_lent}
+use Rattle.fabric.proofs.WritersOut.{count-none, none_lent}
 use Rattle.fabric.proofs.Fabrics.{summed_none}
 use Rattle.fabric.proofs.Idle.{router_count}
-use Rattle.fabric.proofs.Opening.{chosen_rows_are, chosen_zero, each_map, is_opening, kept_open, new_readers, new_writers, none_pending, writings_in}
+use Rattle.fabric.proofs.Openings.{chosen_rows_are, chosen_zero, each_map, is_opening, kept_open, new_readers, new_writers, none_pending, writings_in}
 use Rattle.fabric.proofs.fabric.Fabric.open.Given as given
 use Rattle.fabric.proofs.fabric.Fabric.open.Goals as goal
 

@@ -1,7 +1,7 @@
-use Rattle.std.proofs.Common.{◌≡◌, ◌+◌, ◌++◌, [], ◌∷◌, Some, slice_get, length, refl, take, sym, ap, subst, ◌∙◌, arith, add-one, append_assoc}
+use Rattle.std.proofs.Common.{◌≡◌, ◌+◌, ◌++◌, [], ◌∷◌, Some, slice_get, length, refl, take, sym, ap, subst, ◌∙◌, arith, add-one, append_assoc, rules}
 use Rattle.std.proofs.Math.Seq.{take-suc}
 use Rattle.network_model.specs.declared.step.Step.{Step}
-use Rattle.packet_loops.proofs.Common.{Lawful, Runs, slice_get_read}
+use Rattle.no_packet_loops.proofs.Common.{Lawful, Runs, slice_get_read}
 use Rattle.world.specs.Steps.{CanBeRefused}
 use Rattle.fabric.specs.Fabric.{Fabric, after_step, fabric_refusal}
 use Rattle.fabric.proofs.Causes.{refused_as}
@@ -28,3 +28,9 @@ returns-in-Err-clause-stop g c =
     let s : Step = c.index-steps-done.result in
     let at : slice_get c.args.steps.now c.loop-done.done ≡ Some s = slice_get_read c.args.steps.now (length c.args.steps.now) c.loop-done.done s refl (omega arith) c.index-steps-done.is in
     (s, at, subst (λ f. CanBeRefused (fabric_refusal f s) c.in-Err.refusal) (sym c.in-Err.ensures.err) (refused_as _ (fabric_refusal c.loop-done.self s) c.in-Err.refusal c.in-Err.ensures.cause))
+
+pub returns-in-Err-clause-runs : goal.returns-in-Err-clause-runs
+returns-in-Err-clause-runs g c = search rules
+
+pub returns-clause-runs : goal.returns-clause-runs
+returns-clause-runs g c = search rules

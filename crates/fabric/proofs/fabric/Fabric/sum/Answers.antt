@@ -1,5 +1,5 @@
 use Rattle.std.proofs.Common.{◌∙◌, ap, arith}
-use Rattle.packet_loops.proofs.Common.{steps_in_sum, journal_length}
+use Rattle.no_packet_loops.proofs.Common.{steps_in_sum, journal_length}
 use Rattle.fabric.proofs.fabric.Fabric.sum.Goals as goal
 
 pub returns-clause-length : goal.returns-clause-length

@@ -1,5 +1,5 @@
 use Rattle.std.proofs.Common.{rules, ◌≡◌, ◌∙◌, ◌+◌, ◌-◌, ◌*◌, ◌^◌, ◌<◌, ◌≤◌, ◌++◌, [], ◌∷◌, length, vec_len, None, Some, refl, sym, ap, subst, arith, true, false, IsOk, MatchBool, MatchOption, Err, slice_get, set, vec_capacity}
-use Rattle.packet_loops.proofs.Common.{false≢true, slice_get_past, err_from_is_err_and, Lawful, next, Lawful_to_refusal, None_not_Some}
+use Rattle.no_packet_loops.proofs.Common.{false≢true, slice_get_past, err_from_is_err_and, Lawful, next, Lawful_to_refusal, None_not_Some}
 use Rattle.network_model.specs.declared.step.Step.TheVariants.{Publish}
 use Rattle.network_model.specs.Journal.{Fits, most_steps, step_number}
 use Rattle.router_core.proofs.Refused.{gave_up}
@@ -9,8 +9,8 @@ use Rattle.fabric.specs.Desks.{all_lent, desk_in, writings}
 use Rattle.fabric.specs.Fabric.{Fabric, after_step, count_lent, fabric_of, lent_at, with_lent, IsFabric}
 use Rattle.fabric.specs.Writers.{ArePending, AreReaders, AreWriters, shown_images, fabric_seen}
 use Rattle.fabric.proofs.Fabrics.{kept_as, room_left, summed_more}
-use Rattle.fabric.proofs.Lending.{lent_there}
-use Rattle.fabric.proofs.Publishing.{readers_next, writers_next}
+use Rattle.fabric.proofs.WritersOut.{lent_there}
+use Rattle.fabric.proofs.Publications.{readers_next, writers_next}
 use Rattle.fabric.proofs.Seats.{count_back, set_again, images_back, kept_back, lawful_back, lent_was, none_lent_at, pending_back, pending_on, published_is, seat, short_back, shown_back, unpublished_is, writers_back, writing_there}
 use Rattle.fabric.proofs.fabric.Fabric.take_ticket.Given as given
 use Rattle.fabric.proofs.fabric.Fabric.take_ticket.Goals as goal

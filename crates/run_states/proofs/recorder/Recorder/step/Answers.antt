@@ -1,6 +1,6 @@
 use Rattle.std.proofs.Common.{sym, subst, ◌∙◌}
 use Rattle.network_model.specs.Step.{next}
-use Rattle.packet_loops.proofs.WorldLaws.{next-shape}
+use Rattle.no_packet_loops.proofs.WorldLaws.{next-shape}
 use Rattle.run_states.specs.Recorders.{IsCurrent, IsRecorderOf}
 use Rattle.run_states.proofs.Marked.{by_result, current_after, led_nowhere, led_to_next}
 use Rattle.run_states.proofs.recorder.Recorder.step.Goals as goal

@@ -1,5 +1,5 @@
 use Rattle.std.proofs.Common.{◌≡◌, ◌∙◌, ◌+◌, ◌<◌, ◌^◌, None, Ok, Err, Result, IsOk, MatchOption, refl, sym, ap, subst, arith}
-use Rattle.packet_loops.proofs.Common.{err_from_is_err_and, Lawful_to_refusal, Refusal, refusal}
+use Rattle.no_packet_loops.proofs.Common.{err_from_is_err_and, Lawful_to_refusal, Refusal, refusal}
 use Rattle.router_core.proofs.Refused.{gave_up}
 use Rattle.world.proofs.Done.{not_caused, only_cause}
 use Rattle.world.specs.Steps.{DeliveryNeedsMemory, IsDoneOr}

@@ -1,5 +1,5 @@
 use Rattle.std.proofs.Common.{◌∙◌, ap, map}
-use Rattle.packet_loops.proofs.Common.{World}
+use Rattle.no_packet_loops.proofs.Common.{World}
 use Rattle.simulation.specs.InForce.{chosen_image}
 use Rattle.simulation.proofs.Simulations.{is_opening, kept_open}
 use Rattle.simulation.proofs.simulation.Simulation.open.Goals as goal

@@ -1,7 +1,7 @@
 use Rattle.std.proofs.Common.{◌≡◌, ◌+◌, ◌++◌, [], ◌∷◌, Some, slice_get, length, refl, take, sym, ap, subst, ◌∙◌, arith, add-one}
 use Rattle.std.proofs.Math.Seq.{take-suc}
 use Rattle.network_model.specs.declared.step.Step.{Step}
-use Rattle.packet_loops.proofs.Common.{Lawful, Runs, slice_get_read}
+use Rattle.no_packet_loops.proofs.Common.{Lawful, Runs, slice_get_read}
 use Rattle.world.specs.Steps.{CanBeRefused}
 use Rattle.world.proofs.Runs.{with_last_step}
 use Rattle.simulation.specs.Simulation.{Simulation, after_step, after_steps, simulation_refusal}

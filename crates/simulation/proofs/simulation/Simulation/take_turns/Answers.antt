@@ -1,5 +1,5 @@
 use Rattle.std.proofs.Common.{◌≡◌, ◌∙◌, sym, ap, subst, refl, arith, inl, inr}
-use Rattle.packet_loops.proofs.Common.{Lawful}
+use Rattle.no_packet_loops.proofs.Common.{Lawful}
 use Rattle.network_model.specs.Turns.{is_settled}
 use Rattle.world.specs.Steps.{CanBeRefused}
 use Rattle.simulation.specs.Simulation.{Simulation, after_step, simulation_refusal}

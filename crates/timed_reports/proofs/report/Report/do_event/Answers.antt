@@ -1,5 +1,5 @@
 use Rattle.std.proofs.Common.{◌≡◌, ◌∙◌, length, sym, ap, subst}
-use Rattle.packet_loops.proofs.Common.{World}
+use Rattle.no_packet_loops.proofs.Common.{World}
 use Rattle.simulation.specs.Simulation.{Simulation}
 use Rattle.timed_simulation.specs.Timed.{Timed, after_event, world_of}
 use Rattle.timed_simulation.specs.Events.{next_event}

@@ -1,5 +1,5 @@
 use Rattle.std.proofs.Common.{◌≡◌, ◌∙◌, ◌≤◌, [], length, ℕ, ap, sym, subst}
-use Rattle.packet_loops.proofs.Common.{World}
+use Rattle.no_packet_loops.proofs.Common.{World}
 use Rattle.simulation.specs.Simulation.{Simulation}
 use Rattle.timed_simulation.specs.Timed.{world_of}
 use Rattle.timed_reports.proofs.Whole.{few_at, report_opens}

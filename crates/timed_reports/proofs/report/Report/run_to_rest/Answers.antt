@@ -6,5 +6,5 @@ use Rattle.timed_reports.proofs.Stops.{rests_or}
 use Rattle.timed_reports.proofs.report.Report.run_to_rest.Goals as goal
 
 pub returns-clause-stop : goal.returns-clause-stop
-returns-clause-stop g c = rests_or 18446744073709551615 c.do_events-ran.result.fault (c.do_events-ran.new.self).timed (c.do_events-ran.result.done ≡ c.args.most) (IsStoppedAt (c.do_events-ran.new.self).timed)
-    (subst (λ (t : Timed). IsDoneUntil 18446744073709551615 t → IsAtRest t) c.timed.ensures c.rests.ensures) c.do_events-ran.ensures.stop
+returns-clause-stop g c = rests_or 18446744073709551615 c.run_until-ran.result.fault (c.run_until-ran.new.self).timed (c.run_until-ran.result.done ≡ c.args.most) (IsStoppedAt (c.run_until-ran.new.self).timed)
+    (subst (λ (t : Timed). IsDoneUntil 18446744073709551615 t → IsAtRest t) c.timed.ensures c.rests.ensures) c.run_until-ran.ensures.stop

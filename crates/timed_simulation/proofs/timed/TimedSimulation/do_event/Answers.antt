@@ -1,5 +1,5 @@
 use Rattle.std.proofs.Common.{◌≡◌, ◌∙◌, ◌<◌, inl, Err, IfErr, map, refl, sym, ap, subst}
-use Rattle.packet_loops.proofs.Common.{err_from_is_err_and}
+use Rattle.no_packet_loops.proofs.Common.{err_from_is_err_and}
 use Rattle.router_core.proofs.Refused.{gave_up}
 use Rattle.simulation.specs.Runs.{HasLinksOfPorts}
 use Rattle.simulation.specs.Simulation.{simulation_refusal}

@@ -1,5 +1,5 @@
 use Rattle.std.proofs.Common.{◌≡◌, ◌∙◌, ◌<◌, ◌≤◌, Some, None, sym, ap, subst, arith, length}
-use Rattle.packet_loops.proofs.Common.{IsNetwork, Some_injective, World, degree_of, place_at}
+use Rattle.no_packet_loops.proofs.Common.{IsNetwork, Some_injective, World, degree_of, place_at}
 use Rattle.timed_simulation.specs.Timed.{world_of}
 use Rattle.timed_simulation.specs.Events.{arrival_event}
 use Rattle.timed_simulation.specs.Runs.{steps_of}

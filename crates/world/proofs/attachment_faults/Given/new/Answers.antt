@@ -1,6 +1,6 @@
 use Rattle.std.proofs.Common.{ap, length}
 use Rattle.std.specs.BTreeMap.{is_at}
-use Rattle.packet_loops.proofs.Common.{list_any, prefix_cmp}
+use Rattle.no_packet_loops.proofs.Common.{list_any, prefix_cmp}
 use Rattle.world.specs.Given.{pair_cmp}
 use Rattle.world.proofs.attachment_faults.Given.new.Goals as goal
 

@@ -1,5 +1,5 @@
 use Rattle.std.proofs.Common.{◌≡◌, ℕ, List, ◌<◌, ◌≤◌, ◌-◌, drop, get_or, length, sym, ap, subst, ◌∙◌, arith}
-use Rattle.packet_loops.proofs.Common.{put, Prefix, prefix_cmp, rows_of}
+use Rattle.no_packet_loops.proofs.Common.{put, Prefix, prefix_cmp, rows_of}
 use Rattle.route_table.specs.PrefixMap.{map_rows}
 use Rattle.router_core.proofs.Opening.{rows_of-earlier}
 use Rattle.world.proofs.Prefixes.{few_rows_after}

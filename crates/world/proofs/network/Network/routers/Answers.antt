@@ -1,4 +1,4 @@
-use Rattle.packet_loops.proofs.Wiring.{few_routers}
+use Rattle.no_packet_loops.proofs.Wiring.{few_routers}
 use Rattle.world.specs.Parts.{network_of}
 use Rattle.world.proofs.network.Network.routers.Goals as goal
 

@@ -1,5 +1,5 @@
 use Rattle.std.proofs.Common.{◌≡◌, true, false, [], length, Some, None, Option, Err, Result, refl, sym, ap, subst, ◌∙◌, arith, All, MatchOption, IsOk}
-use Rattle.packet_loops.proofs.Common.{err_from_is_err_and, IsPrefix, IsCost, prefixes_of, HasCosts, first_cause, link_causes, attachment_causes, widest_limits}
+use Rattle.no_packet_loops.proofs.Common.{err_from_is_err_and, IsPrefix, IsCost, prefixes_of, HasCosts, first_cause, link_causes, attachment_causes, widest_limits}
 use Rattle.world.specs.Parts.{network_of}
 use Rattle.world.proofs.Done.{no_cause, only_cause}
 use Rattle.world.proofs.Faults.{fault_of_link, fault_of_attachments}

@@ -1,6 +1,6 @@
 use Rattle.std.proofs.Common.{◌≤◌, length, subst}
 use Rattle.network_model.specs.Network.{most_links}
-use Rattle.packet_loops.proofs.Wiring.{few_routers}
+use Rattle.no_packet_loops.proofs.Wiring.{few_routers}
 use Rattle.world.proofs.Rest.{watched-opening}
 use Rattle.world.proofs.watched.WatchedWorld.open.Goals as goal
 

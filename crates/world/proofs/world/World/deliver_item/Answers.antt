@@ -1,5 +1,5 @@
 use Rattle.std.proofs.Common.{◌≡◌, Some, Ok, refl, sym, ap, subst, ◌∙◌, set, false, slice_get, option_map}
-use Rattle.packet_loops.proofs.Common.{result_err, slice_get_within, Deliver, World}
+use Rattle.no_packet_loops.proofs.Common.{result_err, slice_get_within, Deliver, World}
 use Rattle.network_model.specs.Step as steps
 use Rattle.link_fifo.specs.Refusals.{step_refusal}
 use Rattle.link_fifo.proofs.Changes.{written, slice_get-read}

@@ -1,5 +1,5 @@
 use Rattle.std.proofs.Common.{◌≡◌, true, Ok, Err, refl, sym, ap, subst, ◌∙◌, set}
-use Rattle.packet_loops.proofs.Common.{Deliver, Refusal, World}
+use Rattle.no_packet_loops.proofs.Common.{Deliver, Refusal, World}
 use Rattle.network_model.specs.Step as steps
 use Rattle.link_fifo.proofs.Changes.{written, slice_get-read}
 use Rattle.world.specs.Kept.{IsWorld}

@@ -1,5 +1,5 @@
 use Rattle.std.proofs.Common.{◌≡◌, None, Some, Ok, Err, refl, sym, ap, subst, ◌∙◌, arith, slice_get, is_none}
-use Rattle.packet_loops.proofs.Common.{Detach, Refusal, World}
+use Rattle.no_packet_loops.proofs.Common.{Detach, Refusal, World}
 use Rattle.network_model.specs.Step as steps
 use Rattle.link_fifo.proofs.Changes.{written, slice_get-read}
 use Rattle.world.specs.Steps.{IsDoneOr, prefix_refusal}

@@ -1,5 +1,5 @@
 use Rattle.std.proofs.Common.{◌≡◌, ◌<◌, ◌∙◌, IfSome, None, Some, length, slice_get, if◌then◌else◌, sym, subst}
-use Rattle.packet_loops.proofs.Common.{Link, World, element_there, is_up_in, other, side}
+use Rattle.no_packet_loops.proofs.Common.{Link, World, element_there, is_up_in, other, side}
 use Rattle.world.specs.Kept.{IsWorld}
 use Rattle.world.proofs.FarEnds.{leads_over}
 use Rattle.world.proofs.world.World.far_router.Goals as goal

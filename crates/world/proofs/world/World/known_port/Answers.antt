@@ -1,5 +1,5 @@
 use Rattle.std.proofs.Common.{◌<◌, length, ap, subst, ◌∙◌, arith}
-use Rattle.packet_loops.proofs.Common.{Refusal, World}
+use Rattle.no_packet_loops.proofs.Common.{Refusal, World}
 use Rattle.std.specs.Option.{ok_or}
 use Rattle.world.specs.Kept.{IsWorld}
 use Rattle.world.proofs.Done.{port_answer, port_cause}

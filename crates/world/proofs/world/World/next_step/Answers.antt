@@ -1,5 +1,5 @@
 use Rattle.std.proofs.Common.{◌≡◌, ◌<◌, length, get_or, Some, slice_get, sym, ap, ◌∙◌, arith, option_map, is_some, ℕ, List}
-use Rattle.packet_loops.proofs.Common.{slice_get_within, Deliver, Router, World}
+use Rattle.no_packet_loops.proofs.Common.{slice_get_within, Deliver, Router, World}
 use Rattle.link_fifo.proofs.Changes.{slice_get-read}
 use Rattle.world.proofs.Waiting.{next_step-release, next_step-publish, next_step-port}
 use Rattle.world.proofs.world.World.next_step.Goals as goal

@@ -1,5 +1,5 @@
 use Rattle.std.proofs.Common.{◌≡◌, sym, ap, subst, ◌∙◌, map}
-use Rattle.packet_loops.proofs.Common.{Network, opening, opening_link}
+use Rattle.no_packet_loops.proofs.Common.{Network, opening, opening_link}
 use Rattle.world.specs.Kept.{IsWorld}
 use Rattle.world.specs.Parts.{world_of}
 use Rattle.world.proofs.Openings.{opening-kept}

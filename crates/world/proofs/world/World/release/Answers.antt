@@ -1,6 +1,6 @@
 use Rattle.std.proofs.Common.{◌≡◌, ◌<◌, false, Some, Ok, slice_get, get_or, length, refl, sym, ap, subst, ◌∙◌, set, option_and_then, IsErrAnd, true≢false}
 use Rattle.std.specs.declared.vec.Vec.{Vec}
-use Rattle.packet_loops.proofs.Common.{slice_get_within, Release, changed_at, Router, World, place_at, None_not_Some, Some_injective}
+use Rattle.no_packet_loops.proofs.Common.{slice_get_within, Release, changed_at, Router, World, place_at, None_not_Some, Some_injective}
 use Rattle.network_model.specs.Step as steps
 use Rattle.link_fifo.specs.declared.refusal.LinkRefusal.{LinkRefusal}
 use Rattle.link_fifo.specs.Refusals.{step_refusal}

@@ -1,4 +1,4 @@
-use Rattle.packet_loops.proofs.Common.{⊤, get_or_from_slice_get, Lawful, next, refusal, Runs}
+use Rattle.no_packet_loops.proofs.Common.{⊤, get_or_from_slice_get, Lawful, next, refusal, Runs}
 use Rattle.std.proofs.Common.{◌≡◌, Some, suc, ◌+◌, ◌-◌, ◌++◌, [], ◌∷◌, take, length, sym, ap, subst, ◌∙◌, arith, add-one, rules}
 use Rattle.std.proofs.Math.Seq.{take-suc}
 use Rattle.network_model.specs.declared.step.Step.{Step}

@@ -1,5 +1,5 @@
 use Rattle.std.proofs.Common.{sym, subst, Ok}
-use Rattle.packet_loops.proofs.Common.{IsCost, World, refusal}
+use Rattle.no_packet_loops.proofs.Common.{IsCost, World, refusal}
 use Rattle.network_model.specs.declared.step.Step.TheVariants.{SetCost}
 use Rattle.link_fifo.specs.Refusals.{refusal_to_change}
 use Rattle.world.specs.Steps.{IsPort, IsDoneOr}

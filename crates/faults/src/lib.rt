@@ -1,0 +1,33 @@
+//! The faults that the program and its libraries tell, each with its number and its name, in one table.
+//!
+//! The problem: programs tell faults apart by their numbers, people by their names, and both have to be the
+//! same wherever a fault comes from. So each error of the crates above says which [`FaultKind`] it is, and is
+//! displayed as that:
+//!
+//! ```text
+//! #[derive(.., Error)]
+//! #[error("{}", FaultKind::from(*self))]           // 4 HostBits
+//! pub enum PrefixFault { .., HostBits }
+//!
+//! impl From<PrefixFault> for FaultKind { .. }      // HostBits => FaultKind::HostBits
+//! ```
+//!
+//! The numbers have gaps, because some are only for the libraries for C (`c_interface`). For example, 7 says
+//! there that a handle is empty, and is no kind here. The program prints each kind but 51, a fault of
+//! simulated time that it does not let happen (`timed_simulation`). What a number means to you stands in
+//! `explanations`.
+//!
+//! ```text
+//! let kind = FaultKind::of(45)?;                   // None for a number that is never printed
+//! kind.name()                                      // "BadCommand"
+//! ```
+//!
+//! What always holds: `FaultKind::of` finds a kind exactly for each number that some kind has. The number, the
+//! name and the text of a kind are those of one table (`kind_number`, `name_of` in `specs/Numbers.antt`).
+//!
+//! What is tricky: all crates stand on this one, so a new number has each of them proved anew.
+#![tactic(auto)]
+
+mod kind;
+
+pub use kind::FaultKind;

@@ -1,0 +1,36 @@
+-- Each line that is printed, for people and as an object of JSON.
+use Rattle.std.specs.Prelude.{◌++◌, codes}
+use Rattle.texts.specs.Words.{Text}
+use Rattle.script.specs.Directories.{Directory}
+use Rattle.lines.specs.Texts.{asked_text, awaits_text, counts_text, ended_text, known_text, next_text, told_text, trace_text, tried_text, waiting_text}
+use Rattle.lines.specs.Objects.{asked_json, awaits_json, counts_json, ended_json, known_json, next_json, told_json, trace_json, tried_json, waiting_json}
+use Rattle.lines.specs.declared.line.Line.{Line}
+use Rattle.lines.specs.declared.line.Line.TheVariants.{Asked, Traced, Told, Awaits, Known, Waiting, Moved, Next, Tried, Counted, Ended}
+
+-- a line for people
+abbrev pub line_text : Directory → Line → Text
+line_text d (Asked asked) = asked_text d asked
+line_text d (Traced router addr through path end) = trace_text d router addr through path.now end
+line_text d (Told told) = told_text d told
+line_text d (Awaits router prefix neighbours) = awaits_text d neighbours.now
+line_text d (Known router prefix known) = known_text d known
+line_text d (Waiting waiting) = waiting_text d waiting
+line_text d (Moved waiting) = codes "  " ++ waiting_text d waiting
+line_text d (Next router links step) = next_text d links.now router step
+line_text d (Tried fault) = tried_text fault
+line_text d (Counted counts) = counts_text counts
+line_text d (Ended ended) = ended_text ended
+
+-- the same as an object of JSON
+abbrev pub line_json : Directory → Line → Text
+line_json d (Asked asked) = asked_json d asked
+line_json d (Traced router addr through path end) = trace_json d router addr through path.now end
+line_json d (Told told) = told_json d told
+line_json d (Awaits router prefix neighbours) = awaits_json d router prefix neighbours.now
+line_json d (Known router prefix known) = known_json d router prefix known
+line_json d (Waiting waiting) = waiting_json d waiting
+line_json d (Moved waiting) = waiting_json d waiting
+line_json d (Next router links step) = next_json d links.now router step
+line_json d (Tried fault) = tried_json fault
+line_json d (Counted counts) = counts_json counts
+line_json d (Ended ended) = ended_json ended

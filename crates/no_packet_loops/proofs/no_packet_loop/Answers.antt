@@ -1,0 +1,6 @@
+use Rattle.no_packet_loops.proofs.Traces.{always_traces_end}
+use Rattle.no_packet_loops.proofs.Walks.{always_mixtures_free, always_packets_free}
+use Rattle.no_packet_loops.proofs.no_packet_loop.Goals as goal
+
+pub returns : goal.returns
+returns c = record { published = always_packets_free; mixtures = always_mixtures_free; traces = always_traces_end }

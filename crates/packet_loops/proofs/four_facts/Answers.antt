@@ -1,5 +1,0 @@
-use Rattle.packet_loops.proofs.FourFacts.{always_four_facts}
-use Rattle.packet_loops.proofs.four_facts.Goals as goal
-
-pub returns : goal.returns
-returns c = always_four_facts

@@ -1,0 +1,191 @@
+//! Does commands as they come, a line each.
+
+ghost use Rattle.std.specs.Prelude.{◌≡◌, IfErr};
+ghost use Rattle.either.specs.Either.{is_left};
+ghost use Rattle.play.specs.Works.{CannotReadOn, WereTried};
+
+use crate::answers::{Listed, Told, begin_answer, end_answer, print_text, tell_fault};
+use command_line::{Format, SHELL_COMMANDS};
+use fabric::FabricName;
+use plans::{Cause, Fault, read_failure};
+use script::read_command;
+use sessions::{Host, Live, Session, TurnGate, do_command, network, steps};
+use std::io::{BufRead, BufReader, Read, Write};
+
+/// Does the commands that the lines of an input say, each answered at once, to the end of the input or to `quit`. A
+/// line that cannot be read or whose command is refused ends nothing: it is told on `err`, and as JSON in its answer.
+pub fn do_lines<B, H, G, J, W, E>(
+    session: &Session<'_, G>,
+    live: &mut Live<B, H>,
+    input: J,
+    out: &mut W,
+    err: &mut E,
+) -> Result<(), Fault>
+where
+    B: FabricName + Send + Sync + 'static,
+    H: Host,
+    G: TurnGate + Sync,
+    J: Read + Drop,
+    W: Write,
+    E: Write,
+    ensures tried { WereTried live.old live.new }
+    ensures fault { IfErr result CannotReadOn }
+    ensures side { is_left live.new ≡ is_left live.old }
+{
+    let alloc = session.alloc;
+    let reader = match BufReader::new(alloc, input) {
+        Ok(reader) => reader,
+        Err(error) => return Err(Fault::from(read_failure(&error))),
+    };
+    let mut number = 0_usize;
+    for line in reader.split(alloc, b'\n') {
+        number = number.saturating_add(1);
+        match line {
+            Ok(line) => {
+                if !do_line(session, live, number, &line, out, err) {
+                    return Ok(());
+                }
+            }
+            Err(error) => return Err(Fault::from(read_failure(&error))),
+        }
+    }
+    Ok(())
+}
+
+// Does what the line of this number says, tells of it where it cannot be read or is refused, and answers
+// whether the shell goes on.
+fn do_line<B, H, G, W, E>(
+    session: &Session<'_, G>,
+    live: &mut Live<B, H>,
+    number: usize,
+    line: &[u8],
+    out: &mut W,
+    err: &mut E,
+) -> bool
+where
+    B: FabricName + Send + Sync + 'static,
+    H: Host,
+    G: TurnGate + Sync,
+    W: Write,
+    E: Write,
+    ensures tried { WereTried live.old live.new }
+    ensures side { is_left live.new ≡ is_left live.old }
+{
+    let line = line.strip_suffix(b"\r").unwrap_or(line);
+    let done = answer_line(session, live, number, line, out);
+    let (goes_on, fault) = match done {
+        Ok(goes_on) => (goes_on, None),
+        Err(cause) => (true, Some(Fault::from(cause))),
+    };
+    let told = Told {
+        alloc: session.alloc,
+        names: session.directory.names(),
+        links: network(live).links(),
+        explain: session.telling.explain,
+        number,
+        line,
+    };
+    match (session.telling.format, fault) {
+        (Format::Text, Some(fault)) => tell_fault(&told, fault, out, err),
+        (Format::Text, None) => {}
+        (Format::Json, fault) => {
+            let _ = end_answer(&told, fault, steps(live), out);
+        }
+    }
+    let _ = out.flush();
+    goes_on
+}
+
+// Does what the line of this number says, and answers whether the shell goes on. As JSON, what it prints
+// is the list of an answer that has begun.
+fn answer_line<B, H, G, W>(
+    session: &Session<'_, G>,
+    live: &mut Live<B, H>,
+    number: usize,
+    line: &[u8],
+    out: &mut W,
+) -> Result<bool, Cause>
+where
+    B: FabricName + Send + Sync + 'static,
+    H: Host,
+    G: TurnGate + Sync,
+    W: Write,
+    ensures tried { WereTried live.old live.new }
+    ensures side { is_left live.new ≡ is_left live.old }
+{
+    match session.telling.format {
+        Format::Text => answer(session, live, line, out),
+        Format::Json => {
+            let _ = begin_answer(number, out);
+            answer(session, live, line, &mut Listed::new(out))
+        }
+    }
+}
+
+// Does what a line says, and answers whether the shell goes on. An empty line says nothing.
+fn answer<B, H, G, W>(
+    session: &Session<'_, G>,
+    live: &mut Live<B, H>,
+    line: &[u8],
+    out: &mut W,
+) -> Result<bool, Cause>
+where
+    B: FabricName + Send + Sync + 'static,
+    H: Host,
+    G: TurnGate + Sync,
+    W: Write,
+    ensures tried { WereTried live.old live.new }
+    ensures side { is_left live.new ≡ is_left live.old }
+{
+    let Ok(line) = str::from_utf8(line) else {
+        return Err(Cause::Lines(script::LineFault::BadCommand));
+    };
+    match line {
+        "" => Ok(true),
+        "quit" => Ok(false),
+        "help" => {
+            let _ = print_text(session.telling.format, "help", SHELL_COMMANDS, out);
+            Ok(true)
+        }
+        _ => match line.strip_prefix("say ") {
+            Some(text) => {
+                let _ = print_text(session.telling.format, "said", text, out);
+                Ok(true)
+            }
+            None => do_typed(session, live, line, out),
+        },
+    }
+}
+
+// Does the command that a line says; the shell goes on.
+fn do_typed<B, H, G, W>(
+    session: &Session<'_, G>,
+    live: &mut Live<B, H>,
+    line: &str,
+    out: &mut W,
+) -> Result<bool, Cause>
+where
+    B: FabricName + Send + Sync + 'static,
+    H: Host,
+    G: TurnGate + Sync,
+    W: Write,
+    ensures tried { WereTried live.old live.new }
+    ensures side { is_left live.new ≡ is_left live.old }
+{
+    let opened = network(live);
+    match read_command(
+        session.directory.names(),
+        opened.links(),
+        opened.attachments(),
+        line,
+    ) {
+        Ok(command) => {
+            let done = do_command(session, live, command, out, &mut ());
+            match done {
+                Ok(()) => Ok(true),
+                Err(cause) => Err(cause),
+            }
+        }
+        Err(fault) => Err(Cause::Lines(fault)),
+    }
+}

@@ -1,0 +1,19 @@
+use Rattle.std.proofs.Common.{◌+◌, length, ap, ◌∙◌}
+use Rattle.script.proofs.Common.{length_push}
+use Rattle.script.proofs.ReadLines.{reads_none, reads_line}
+use Rattle.timing.specs.Lines.{SaysChange}
+use Rattle.timing.proofs.Reading.{all_read}
+use Rattle.timing.proofs.line_reading.read_changes.Goals as goal
+
+pub loop-position-init : goal.loop-position-init
+loop-position-init c = record { reads = reads_none _ _ _ c.requires; count = ap length c.requires }
+
+pub loop-position-preserved : goal.loop-position-preserved
+loop-position-preserved c = record {
+  reads = reads_line (SaysChange c.args.names.now c.args.links.now c.args.attachments.now) c.args.lines.now c.loop-position.changes.items _ c.loop-position.position c.index-lines-position.result _ c.in-Ok.change
+      c.loop-position.invariant.reads c.loop-position.invariant.count c.loop-position-test.true c.index-lines-position.is c.as_str.ensures.value c.in-Ok.ensures c.in_ok-push-in-Ok.ensures.items;
+  count = ap length c.in_ok-push-in-Ok.ensures.items ∙ length_push c.loop-position.changes.items c.in-Ok.change ∙ ap (λ n. n + 1) c.loop-position.invariant.count;
+}
+
+pub returns : goal.returns
+returns c = all_read (SaysChange c.args.names.now c.args.links.now c.args.attachments.now) c.args.lines.now c.loop-position.changes.items c.loop-position.position c.loop-position.invariant.reads c.loop-position.invariant.count c.loop-position-test.false

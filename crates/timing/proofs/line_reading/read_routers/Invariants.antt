@@ -1,0 +1,10 @@
+use Rattle.std.proofs.Common.{◌≡◌, length}
+use Rattle.script.proofs.Common.{ReadsFirst, texts}
+use Rattle.timing.specs.Lines.{SaysRouter}
+use Rattle.timing.proofs.line_reading.read_routers.Given as goal
+
+abbrev pub invariant-loop-position : goal.invariant-loop-position
+invariant-loop-position l = record {
+  reads : ReadsFirst (SaysRouter l.names) (texts l.lines) l.given.items;
+  count : length l.given.items ≡ l.position;
+}

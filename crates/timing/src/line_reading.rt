@@ -1,0 +1,158 @@
+//! The lines of a document of times.
+
+ghost use Rattle.std.specs.Prelude.{◌≡◌, ◌<◌, [], IfOk, IfSome, OnOk, length, position};
+ghost use Rattle.std.specs.List.{AllZip};
+ghost use Rattle.network_model.specs.Network.{joins};
+ghost use Rattle.texts.specs.Words.{texts};
+ghost use Rattle.timing.specs.Lines.{delays_from, SaysChange, SaysLink, SaysRouter};
+
+use crate::given::Given;
+use crate::moment::read_moment;
+use ipv4_prefix::Prefix;
+use metric::Cost;
+use network_model::{LinkSpec, Step};
+use plans::{Cause, TimesFault, TimesKey};
+use script::{LineFault, Names, parse_step};
+use texts::{first_word, four_words, two_words};
+use timed_simulation::{Change, LinkDelays, is_change};
+
+/// Reads the lines of links.
+pub fn read_links(
+    names: &Names,
+    links: &[LinkSpec],
+    given: &mut Vec<Given<LinkDelays>>,
+    lines: &[String],
+) -> Result<(), Cause>
+    requires { given.old.items ≡ [] }
+    ensures { OnOk result (AllZip (SaysLink names.now links.now) (texts lines.now) given.new.items) }
+{
+    for (position, line) in lines.iter().enumerate() {
+        match read_link(names, links, line.as_str()) {
+            Ok(delays) => given.push(delays)?,
+            Err(fault) => return Err(at_line(fault, TimesKey::Links, position)),
+        }
+    }
+    Ok(())
+}
+
+/// Reads the lines of routers.
+pub fn read_routers(
+    names: &Names,
+    given: &mut Vec<Given<u64>>,
+    lines: &[String],
+) -> Result<(), Cause>
+    requires { given.old.items ≡ [] }
+    ensures { OnOk result (AllZip (SaysRouter names.now) (texts lines.now) given.new.items) }
+{
+    for (position, line) in lines.iter().enumerate() {
+        match read_router(names, line.as_str()) {
+            Ok(delay) => given.push(delay)?,
+            Err(fault) => return Err(at_line(fault, TimesKey::Routers, position)),
+        }
+    }
+    Ok(())
+}
+
+/// Reads the lines of changes.
+pub fn read_changes(
+    names: &Names,
+    links: &[LinkSpec],
+    attachments: &[(Prefix, u16, Cost)],
+    changes: &mut Vec<Change>,
+    lines: &[String],
+) -> Result<(), Cause>
+    requires { changes.old.items ≡ [] }
+    ensures { OnOk result (AllZip (SaysChange names.now links.now attachments.now) (texts lines.now)
+        changes.new.items) }
+{
+    // Names the type of a change's step, without which the checker has no plan for the list.
+    let _step: Option<Step> = None;
+    for (position, line) in lines.iter().enumerate() {
+        match read_change(names, links, attachments, line.as_str()) {
+            Ok(change) => changes.push(change)?,
+            Err(fault) => return Err(at_line(fault, TimesKey::Changes, position)),
+        }
+    }
+    Ok(())
+}
+
+// The fault of a line.
+fn at_line(fault: LineFault, key: TimesKey, position: usize) -> Cause {
+    Cause::Times(TimesFault::Line {
+        fault,
+        key,
+        position,
+    })
+}
+
+// The delays that a line says: `A B THERE BACK`, two routers that a link joins, and how long an item is on its
+// way from the first to the second, and back.
+fn read_link(names: &Names, links: &[LinkSpec], line: &str) -> Result<Given<LinkDelays>, LineFault>
+    ensures { IfOk result (SaysLink names.now links.now line.now) }
+{
+    let (name, neighbour, there, back) = four_words(line).ok_or(LineFault::BadLine)?;
+    let router = names.number(name).ok_or(LineFault::BadLine)?;
+    let far = names.number(neighbour).ok_or(LineFault::BadLine)?;
+    let number = link_between(links, router, far).ok_or(LineFault::BadLine)?;
+    let there = read_moment(there).ok_or(LineFault::BadLine)?;
+    let back = read_moment(back).ok_or(LineFault::BadLine)?;
+    let link = &links[number];
+    let value = delays_from(router, link, there, back);
+    Ok(Given { number, value })
+}
+
+// The first link that joins two routers.
+fn link_between(links: &[LinkSpec], a: u16, b: u16) -> Option<usize>
+    ensures value { result ≡ position (joins a b) links.now }
+    ensures within { IfSome result (λ link. link < length links.now) }
+{
+    links.iter().position(|link| link.joins(a, b))
+}
+
+// The delays of a link on which an item is so long on its way from a router, and so long back.
+fn delays_from(router: u16, link: &LinkSpec, there: u64, back: u64) -> LinkDelays
+    ensures { result ≡ delays_from router link.now there back }
+{
+    if link.a == router {
+        LinkDelays {
+            to_a: back,
+            to_b: there,
+        }
+    } else {
+        LinkDelays {
+            to_a: there,
+            to_b: back,
+        }
+    }
+}
+
+// The delay that a line says: `A DELAY`, a router, and how long it takes to publish.
+fn read_router(names: &Names, line: &str) -> Result<Given<u64>, LineFault>
+    ensures { IfOk result (SaysRouter names.now line.now) }
+{
+    let (name, delay) = two_words(line).ok_or(LineFault::BadLine)?;
+    let router = names.number(name).ok_or(LineFault::BadLine)?;
+    let value = read_moment(delay).ok_or(LineFault::BadLine)?;
+    Ok(Given {
+        number: usize::from(router),
+        value,
+    })
+}
+
+// The change that a line says: `MOMENT STEP`, where the step is none that a router does.
+fn read_change(
+    names: &Names,
+    links: &[LinkSpec],
+    attachments: &[(Prefix, u16, Cost)],
+    line: &str,
+) -> Result<Change, LineFault>
+    ensures { IfOk result (SaysChange names.now links.now attachments.now line.now) }
+{
+    let (moment, step) = first_word(line).ok_or(LineFault::BadCommand)?;
+    let moment = read_moment(moment).ok_or(LineFault::BadCommand)?;
+    let step = parse_step(names, links, attachments, step)?;
+    if !is_change(&step) {
+        return Err(LineFault::BadCommand);
+    }
+    Ok(Change { moment, step })
+}
