@@ -1,6 +1,6 @@
 //! The numbers of faults.
 
-ghost use Rattle.std.specs.Prelude.{◌≡◌, ◌≢◌, IfSome, IfNone};
+ghost use Rattle.std.specs.Prelude.{◌≡◌, ◌≢◌, Some, IfSome, IfNone};
 ghost use Rattle.faults.specs.declared.kind.FaultKind.{FaultKind};
 ghost use Rattle.faults.specs.Numbers.{kind_number, name_of};
 
@@ -60,6 +60,7 @@ impl FaultKind {
     pub fn of(number: u8) -> Option<FaultKind>
         ensures some { IfSome result (λ k. kind_number k ≡ number) }
         ensures none { IfNone result ((k : FaultKind) → kind_number k ≢ number) }
+        ensures only { (k : FaultKind) → kind_number k ≡ number → result ≡ Some k }
     {
         match number {
             1 => Some(FaultKind::NoSlash),

@@ -1,15 +1,16 @@
 //! The faults that the program and its libraries tell, each with its number and its name, in one table.
 //!
 //! The problem: programs tell faults apart by their numbers, people by their names, and both have to be the
-//! same wherever a fault comes from. So each error of the crates above says which [`FaultKind`] it is, and is
-//! displayed as that:
+//! same wherever a fault comes from. So an error that the program prints says which [`FaultKind`] it is, and
+//! is displayed as that:
 //!
 //! ```text
 //! #[derive(.., Error)]
 //! #[error("{}", FaultKind::from(*self))]           // 4 HostBits
 //! pub enum PrefixFault { .., HostBits }
 //!
-//! impl From<PrefixFault> for FaultKind { .. }      // HostBits => FaultKind::HostBits
+//! impl From<PrefixFault> for FaultKind {           // HostBits => FaultKind::HostBits
+//!     ghost from_gives = { λ fault k. k ≡ prefix_kind fault };
 //! ```
 //!
 //! The numbers have gaps, because some are only for the libraries for C (`c_interface`). For example, 7 says
@@ -18,14 +19,15 @@
 //! `explanations`.
 //!
 //! ```text
-//! let kind = FaultKind::of(45)?;                   // None for a number that is never printed
+//! let kind = FaultKind::of(45)?;                   // None for a number that no kind has
 //! kind.name()                                      // "BadCommand"
 //! ```
 //!
-//! What always holds: `FaultKind::of` finds a kind exactly for each number that some kind has. The number, the
-//! name and the text of a kind are those of one table (`kind_number`, `name_of` in `specs/Numbers.antt`).
+//! What always holds: no two kinds have one number, and `FaultKind::of` finds the kind of each (`only` of it).
+//! The number, the name and the text of a kind are those of one table (`kind_number`, `name_of` in
+//! `specs/Numbers.antt`).
 //!
-//! What is tricky: all crates stand on this one, so a new number has each of them proved anew.
+//! What is tricky: nearly all crates stand on this one, so a new number has them proved anew.
 #![tactic(auto)]
 
 mod kind;

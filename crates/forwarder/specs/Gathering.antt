@@ -5,6 +5,7 @@ use Rattle.publication.specs.declared.job.Job.{Job}
 use Rattle.forwarder.specs.Replies.{Replied}
 use Rattle.forwarder.specs.declared.gathering.GatherFault.{GatherFault}
 use Rattle.forwarder.specs.declared.gathering.GatherFault.TheVariants.{Stranger, Doubled, Missing}
+use Rattle.faults.specs.declared.kind.FaultKind.{FaultKind}
 
 -- the first of two faults
 abbrev pub first_of : Option GatherFault → Option GatherFault → Option GatherFault
@@ -34,3 +35,9 @@ module _ {X : Type 0} where
   -- what is wrong with replies to jobs: each in turn may be a stranger's or a second one; a job without a reply comes last
   abbrev pub fault_of : List (Job X) → List (Replied X) → Option GatherFault
   fault_of jobs replies = first_of (fault_in jobs [] replies) (if list_all (λ j. list_any (is_reply_to j) replies) jobs then None else Some Missing)
+
+-- as which number and name a fault is printed
+abbrev pub gather_kind : GatherFault → FaultKind
+gather_kind GatherFault.Stranger = FaultKind.Stranger
+gather_kind GatherFault.Doubled = FaultKind.Doubled
+gather_kind GatherFault.Missing = FaultKind.Missing

@@ -24,6 +24,10 @@ pub enum GatherFault {
 }
 
 impl From<GatherFault> for FaultKind {
+    ghost use Rattle.forwarder.specs.Gathering.{gather_kind};
+
+    ghost from_gives = { λ fault k. k ≡ gather_kind fault };
+
     fn from(fault: GatherFault) -> FaultKind {
         match fault {
             GatherFault::Stranger => FaultKind::Stranger,

@@ -5,6 +5,7 @@ use Rattle.ipv4_prefix.specs.declared.fault.PrefixFault.{PrefixFault}
 use Rattle.ipv4_prefix.specs.declared.fault.PrefixFault.TheVariants.{NoSlash, BadAddress, BadLength, HostBits}
 use Rattle.ipv4_prefix.specs.Prefix.{Prefix, IsPrefix}
 use Rattle.ipv4_prefix.specs.Texts.{address_text, prefix_text}
+use Rattle.faults.specs.declared.kind.FaultKind.{FaultKind}
 
 -- the block with this first address and this length
 abbrev pub block : ℕ → ℕ → Prefix
@@ -63,3 +64,10 @@ IsFirstFault text NoSlash = ¬ (Contains text slash)
 IsFirstFault text BadAddress = Contains text slash × ¬ (IsAddressText (address_part text))
 IsFirstFault text BadLength = Contains text slash × IsAddressText (address_part text) × ¬ (IsLengthText (length_part text))
 IsFirstFault text HostBits = Contains text slash × SpellsHostBits text
+
+-- as which number and name a fault is printed
+abbrev pub prefix_kind : PrefixFault → FaultKind
+prefix_kind NoSlash = FaultKind.NoSlash
+prefix_kind BadAddress = FaultKind.BadAddress
+prefix_kind BadLength = FaultKind.BadLength
+prefix_kind HostBits = FaultKind.HostBits

@@ -19,6 +19,11 @@ pub enum PrefixFault {
 }
 
 impl From<PrefixFault> for FaultKind {
+    ghost use Rattle.std.specs.Prelude.{◌≡◌};
+    ghost use Rattle.ipv4_prefix.specs.Faults.{prefix_kind};
+
+    ghost from_gives = { λ fault k. k ≡ prefix_kind fault };
+
     fn from(fault: PrefixFault) -> FaultKind {
         match fault {
             PrefixFault::NoSlash => FaultKind::NoSlash,

@@ -22,6 +22,10 @@ pub enum JournalFault {
 }
 
 impl From<JournalFault> for FaultKind {
+    ghost use Rattle.journal.specs.Kinds.{journal_kind};
+
+    ghost from_gives = { λ fault k. k ≡ journal_kind fault };
+
     fn from(fault: JournalFault) -> FaultKind {
         match fault {
             JournalFault::BadText => FaultKind::BadJournal,

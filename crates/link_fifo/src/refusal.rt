@@ -27,6 +27,11 @@ pub enum LinkRefusal {
 }
 
 impl From<LinkRefusal> for FaultKind {
+    ghost use Rattle.network_model.specs.Kinds.{refusal_kind};
+    ghost use Rattle.link_fifo.specs.Refusals.{step_refusal};
+
+    ghost from_gives = { λ refusal k. k ≡ refusal_kind (step_refusal refusal) };
+
     fn from(fault: LinkRefusal) -> FaultKind {
         FaultKind::from(Refusal::from(fault))
     }

@@ -29,8 +29,18 @@ impl Model for Cost {
 
 /// A number that is no cost: 0, or above 65535.
 #[derive(Clone, Copy, Debug, PartialEq, Eq, Drop, Error)]
-#[error("{}", FaultKind::BadCost)]
+#[error("{}", FaultKind::from(*self))]
 pub struct BadCost;
+
+impl From<BadCost> for FaultKind {
+    ghost use Rattle.faults.specs.declared.kind.FaultKind.TheVariants.{BadCost as CostKind};
+
+    ghost from_gives = { λ _ k. k ≡ CostKind };
+
+    fn from(_fault: BadCost) -> FaultKind {
+        FaultKind::BadCost
+    }
+}
 
 impl Cost {
     /// The least cost.

@@ -10,3 +10,4 @@ pub mod Forwarding
 pub mod Publication
 pub mod Journal
 pub mod View
+pub mod Kinds

@@ -14,6 +14,10 @@ use thiserror::Error;
 pub struct NoMemory;
 
 impl From<NoMemory> for FaultKind {
+    ghost use Rattle.faults.specs.declared.kind.FaultKind.TheVariants.{NoMemory as MemoryKind};
+
+    ghost from_gives = { λ _ k. k ≡ MemoryKind };
+
     fn from(_fault: NoMemory) -> FaultKind {
         FaultKind::NoMemory
     }

@@ -148,6 +148,11 @@ pub enum NetworkFault {
 }
 
 impl From<NetworkFault> for FaultKind {
+    ghost use Rattle.std.specs.Prelude.{◌≡◌};
+    ghost use Rattle.network_model.specs.Kinds.{network_kind};
+
+    ghost from_gives = { λ fault k. k ≡ network_kind fault };
+
     fn from(fault: NetworkFault) -> FaultKind {
         match fault {
             NetworkFault::BadRouters => FaultKind::BadRouters,

@@ -161,6 +161,10 @@ pub enum Refusal {
 }
 
 impl From<Refusal> for FaultKind {
+    ghost use Rattle.network_model.specs.Kinds.{refusal_kind};
+
+    ghost from_gives = { λ refusal k. k ≡ refusal_kind refusal };
+
     fn from(fault: Refusal) -> FaultKind {
         match fault {
             Refusal::UnknownRouter => FaultKind::UnknownRouter,

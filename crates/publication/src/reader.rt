@@ -20,8 +20,18 @@ use thiserror::Error;
 /// The writer is closed. By its contract `left_right` may give a reader no copy in other cases too,
 /// or an older one than it was told of; it does not.
 #[derive(Clone, Copy, Debug, PartialEq, Eq, Drop, Error)]
-#[error("{}", FaultKind::NoImage)]
+#[error("{}", FaultKind::from(*self))]
 pub struct NoImage;
+
+impl From<NoImage> for FaultKind {
+    ghost use Rattle.faults.specs.declared.kind.FaultKind.TheVariants.{NoImage as ImageKind};
+
+    ghost from_gives = { λ _ k. k ≡ ImageKind };
+
+    fn from(_fault: NoImage) -> FaultKind {
+        FaultKind::NoImage
+    }
+}
 
 impl From<NoImage> for Refusal {
     ghost use Rattle.network_model.specs.declared.step.Refusal.TheVariants.{NoImage as WithoutImage};

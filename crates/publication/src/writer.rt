@@ -36,6 +36,11 @@ pub enum OpenFault {
 }
 
 impl From<OpenFault> for FaultKind {
+    ghost use Rattle.faults.specs.declared.kind.FaultKind.TheVariants.{NoMemory as MemoryKind, NoReaderPlace as PlaceKind};
+
+    ghost from_gives = { λ fault k. ((fault ≡ OutOfMemory) × (k ≡ MemoryKind))
+        ⊎ ((fault ≡ NoPlace) × (k ≡ PlaceKind)) };
+
     fn from(fault: OpenFault) -> FaultKind {
         FaultKind::from(Refusal::from(fault))
     }

@@ -21,6 +21,10 @@ pub enum Fault {
 }
 
 impl From<Fault> for FaultKind {
+    ghost use Rattle.scenario.specs.Kinds.{document_kind};
+
+    ghost from_gives = { λ fault k. k ≡ document_kind fault };
+
     fn from(fault: Fault) -> FaultKind {
         match fault {
             Fault::BadToml => FaultKind::BadToml,

@@ -6,3 +6,4 @@ pub mod Places
 pub mod Reading
 pub mod Seen
 pub mod Directories
+pub mod Kinds

@@ -31,6 +31,10 @@ pub enum LineFault {
 }
 
 impl From<LineFault> for FaultKind {
+    ghost use Rattle.script.specs.Kinds.{line_kind};
+
+    ghost from_gives = { λ fault k. k ≡ line_kind fault };
+
     fn from(fault: LineFault) -> FaultKind {
         match fault {
             LineFault::BadName => FaultKind::BadName,

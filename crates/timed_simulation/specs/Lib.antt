@@ -4,3 +4,4 @@ pub mod Events
 pub mod Due
 pub mod Since
 pub mod Runs
+pub mod Kinds

@@ -21,6 +21,10 @@ pub enum TimeFault {
 }
 
 impl From<TimeFault> for FaultKind {
+    ghost use Rattle.timed_simulation.specs.Kinds.{time_kind};
+
+    ghost from_gives = { λ fault k. k ≡ time_kind fault };
+
     fn from(fault: TimeFault) -> FaultKind {
         match fault {
             TimeFault::PastMoment => FaultKind::PastMoment,

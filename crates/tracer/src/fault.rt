@@ -24,6 +24,10 @@ pub enum TraceFault {
 }
 
 impl From<TraceFault> for FaultKind {
+    ghost use Rattle.network_model.specs.Kinds.{refusal_kind};
+
+    ghost from_gives = { λ fault k. k ≡ refusal_kind (refusal_of fault) };
+
     fn from(fault: TraceFault) -> FaultKind {
         FaultKind::from(Refusal::from(fault))
     }
