@@ -1,5 +1,6 @@
 -- Jobs that workers are given, and what they answer.
-use Rattle.std.specs.Prelude.{◌≡◌, ℕ, ◌+◌, ◌⊎◌, List, Option, Some, min, slice_get}
+use Rattle.std.specs.Prelude.{◌≡◌, ℕ, ◌+◌, ◌⊎◌, List, [], Option, Some, min, slice_get}
+use Rattle.std.specs.Option.{option_map_or}
 use Rattle.ipv4_prefix.specs.Prefix.{Prefix}
 use Rattle.network_model.specs.declared.route.Entry.{Entry}
 use Rattle.network_model.specs.declared.step.Refusal.{Refusal}
@@ -14,15 +15,25 @@ use Rattle.script.specs.Directories.{Directory}
 use Rattle.lines.specs.declared.answers.Asked.TheVariants.{Packet}
 use Rattle.lines.specs.declared.line.Line.TheVariants.{Asked}
 use Rattle.reports.specs.Formats.{line_in}
+use Rattle.worker_pool.specs.Crews.{Crew}
 use Rattle.worker_pool.specs.Faults.{IsBeginFault, IsInjectFault}
 use Rattle.plans.specs.declared.fault.Cause.{Cause}
 use Rattle.plans.specs.Faults.{OfRefusal, OfWorkers}
 use Rattle.texts.specs.Lines.{lines_text}
 
--- the jobs that wait until the workers have answered them, in order, and the number of the last job that was given
+-- the jobs that wait until the workers have answered them, in order, the number of the last job that was given, and how many workers there are
 pub record Dispatched (X : Type 0) : Type 0 where
   pub jobs : List (Job X)
   pub last : ℕ
+  pub workers : ℕ
+
+-- what waits with workers who have begun
+abbrev pub jobs_in : {X : Type 0} → Option (Crew X) → List (Job X)
+jobs_in pool = option_map_or (λ p. p.jobs) pool []
+
+-- how many workers there are: so many at rest, and those who have begun
+abbrev pub workers_in : {X : Type 0} → ℕ → Option (Crew X) → ℕ
+workers_in at_rest pool = at_rest + option_map_or (λ p. p.workers) pool 0
 
 -- the number of the job after this one; it stays at the greatest that a number can be
 abbrev pub next_number : ℕ → ℕ

@@ -1,6 +1,6 @@
 //! Jobs of a script, which workers answer.
 
-ghost use Rattle.std.specs.Prelude.{◌≡◌, ◌≤◌, ◌++◌, ◌∷◌, [], true, All, IfOk, IfErr, OnErr, OnOk, count_by, length, map, vec_len};
+ghost use Rattle.std.specs.Prelude.{◌≡◌, ◌≤◌, ◌++◌, ◌∷◌, [], None, true, All, IfOk, IfErr, IfSome, OnErr, OnOk, count_by, length, map, vec_len};
 ghost use Rattle.std.specs.List.{list_any};
 ghost use Rattle.std.specs.List.Sorted.{IsStrictlyIncreasing};
 ghost use Rattle.std.specs.Io.KnownBytes.{Appends};
@@ -10,7 +10,7 @@ ghost use Rattle.fabric.specs.Writers.{IsReaderPort};
 ghost use Rattle.forwarder.specs.Gathering.{is_reply_to, job_number};
 ghost use Rattle.worker_pool.specs.Faults.{IsBeginFault, IsDrainFault};
 ghost use Rattle.reports.specs.Report.{unknown_router};
-ghost use Rattle.dispatch.specs.Dispatching.{CannotInject, IsNextJob, packets_text};
+ghost use Rattle.dispatch.specs.Dispatching.{CannotInject, IsNextJob, jobs_in, packets_text, workers_in};
 
 use crate::host::Host;
 use fabric::{Fabric, FabricName};
@@ -27,8 +27,8 @@ use worker_pool::{ForwardPort, PoolFault, Reply, WorkerPool};
 
 /// The workers of a run, and the jobs that they were given. They begin with the first job after a
 /// `drain`; until then they are at rest, and their ports are here. Contracts see the jobs that wait for
-/// a `drain`, in order, and the number of the last job that was given. It is not `Drop`: end it by
-/// `close`, so that no worker is left running.
+/// a `drain`, in order, the number of the last job that was given, and how many workers there are. It is
+/// not `Drop`: end it by `close`, so that no worker is left running.
 pub struct Dispatcher<B: FabricName> {
     at_rest: Vec<ForwardPort<B>>,
     pool: Option<WorkerPool<B>>,
@@ -36,17 +36,20 @@ pub struct Dispatcher<B: FabricName> {
 }
 
 impl<B: FabricName> Model for Dispatcher<B> {
-    ghost use Rattle.std.specs.Prelude.{◌≤◌, [], IfSome, vec_len};
-    ghost use Rattle.std.specs.Option.{option_map_or};
+    ghost use Rattle.std.specs.Prelude.{◌≡◌, ◌≤◌, IfSome, vec_len};
     ghost use Rattle.network_model.specs.Network.{most_workers};
-    ghost use Rattle.dispatch.specs.Dispatching.{Dispatched};
+    ghost use Rattle.dispatch.specs.Dispatching.{Dispatched, jobs_in, workers_in};
 
     ghost Value = { Dispatched B };
 
-    ghost view = { λ d. record { jobs = option_map_or (λ p. p.jobs) d.pool []; last = d.last } };
+    ghost view = { λ d. record {
+      jobs = jobs_in d.pool;
+      last = d.last;
+      workers = workers_in (vec_len d.at_rest) d.pool;
+    } };
 
-    ghost invariant = { λ d. (vec_len d.at_rest ≤ most_workers)
-        × IfSome d.pool (λ p. p.workers ≤ most_workers) };
+    ghost invariant = { λ d. (workers_in (vec_len d.at_rest) d.pool ≤ most_workers)
+        × IfSome d.pool (λ _. vec_len d.at_rest ≡ 0) };
 }
 
 impl<B: FabricName + Send + Sync + 'static> Dispatcher<B> {
@@ -55,6 +58,7 @@ impl<B: FabricName + Send + Sync + 'static> Dispatcher<B> {
         requires { vec_len ports ≤ most_workers }
         ensures jobs { result.jobs ≡ [] }
         ensures last { result.last ≡ 0 }
+        ensures workers { result.workers ≡ vec_len ports }
     {
         Dispatcher {
             at_rest: ports,
@@ -64,7 +68,8 @@ impl<B: FabricName + Send + Sync + 'static> Dispatcher<B> {
     }
 
     /// Gives the workers the next job: to look the address up at the router, in an image no older than
-    /// the one in force now. Jobs are numbered from 1. Refused, it gives no job, and takes no number.
+    /// the one in force now. Jobs are numbered from 1. Refused, it gives no job, takes no number, and
+    /// keeps its workers: the next job may begin them.
     pub fn inject<H: Host>(
         &mut self,
         rt: H,
@@ -79,10 +84,11 @@ impl<B: FabricName + Send + Sync + 'static> Dispatcher<B> {
         ensures refused { OnErr result ((self.new.jobs ≡ self.old.jobs)
             × (self.new.last ≡ self.old.last)) }
         ensures err { IfErr result (CannotInject (unknown_router (fabric.now).world router)) }
+        ensures workers { self.new.workers ≡ self.old.workers }
     {
         let job = fabric.job(self.last.saturating_add(1), router, addr)?;
         let number = job.number;
-        let mut pool = self.take_or_begin(rt, alloc)?;
+        let mut pool = begun(rt, alloc, self.pool.take(), &mut self.at_rest)?;
         let given = pool.inject(&rt, job);
         // There are no others, since they were taken.
         if let Some(others) = self.pool.replace(pool) {
@@ -91,23 +97,6 @@ impl<B: FabricName + Send + Sync + 'static> Dispatcher<B> {
         given?;
         self.last = number;
         Ok(())
-    }
-
-    // The workers, which begin where they are at rest.
-    fn take_or_begin<H: Host>(&mut self, rt: H, alloc: Global) -> Result<WorkerPool<B>, PoolFault>
-        ensures jobs { IfOk result (λ p. p.jobs ≡ self.old.jobs) }
-        ensures few { IfOk result (λ p. p.workers ≤ most_workers) }
-        ensures refused { OnErr result (self.new.jobs ≡ self.old.jobs) }
-        ensures err { IfErr result IsBeginFault }
-        ensures last { self.new.last ≡ self.old.last }
-    {
-        match self.pool.take() {
-            Some(pool) => Ok(pool),
-            None => {
-                let ports = mem::replace(&mut self.at_rest, Vec::new(alloc));
-                WorkerPool::new(rt, alloc, ports)
-            }
-        }
     }
 
     /// Waits until the workers have answered all jobs, and answers their replies: one to each job, in
@@ -121,6 +110,7 @@ impl<B: FabricName + Send + Sync + 'static> Dispatcher<B> {
         ensures fault { IfErr result (IsDrainFault self.old.jobs) }
         ensures jobs { self.new.jobs ≡ [] }
         ensures last { self.new.last ≡ self.old.last }
+        ensures workers { self.new.workers ≡ self.old.workers }
     {
         let Some(pool) = self.pool.take() else {
             return Ok(Vec::new(alloc));
@@ -152,6 +142,34 @@ impl<B: FabricName + Send + Sync + 'static> Dispatcher<B> {
             drop(others.end(rt));
         }
         replies
+    }
+}
+
+// The workers, which begin if they are at rest. Refused, they stay so.
+fn begun<B: FabricName + Send + Sync + 'static, H: Host>(
+    rt: H,
+    alloc: Global,
+    pool: Option<WorkerPool<B>>,
+    at_rest: &mut Vec<ForwardPort<B>>,
+) -> Result<WorkerPool<B>, PoolFault>
+    requires few { workers_in (vec_len at_rest.old) pool ≤ most_workers }
+    requires apart { IfSome pool (λ _. vec_len at_rest.old ≡ 0) }
+    ensures jobs { IfOk result (λ p. p.jobs ≡ jobs_in pool) }
+    ensures workers { IfOk result (λ p. p.workers ≡ workers_in (vec_len at_rest.old) pool) }
+    ensures gone { OnOk result (vec_len at_rest.new ≡ 0) }
+    ensures refused { OnErr result ((pool ≡ None) × (vec_len at_rest.new ≡ vec_len at_rest.old)) }
+    ensures err { IfErr result IsBeginFault }
+{
+    if let Some(pool) = pool {
+        return Ok(pool);
+    }
+    let ports = mem::replace(at_rest, Vec::new(alloc));
+    match WorkerPool::new(rt, alloc, ports) {
+        Ok(pool) => Ok(pool),
+        Err(refused) => {
+            *at_rest = refused.ports;
+            Err(refused.fault)
+        }
     }
 }
 

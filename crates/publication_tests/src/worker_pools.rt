@@ -5,7 +5,7 @@ ghost use Rattle.network_model.specs.Network.{most_workers};
 
 use crate::publications::via;
 use forwarder::{Answer, GatherFault, ImageReader};
-use network_model::Refusal;
+use network_model::{NoMemory, Refusal};
 use publication::{Told, Unnamed, close_all, open_all};
 use std::alloc::{AllocError, Global};
 use std::marker::Brand;
@@ -231,6 +231,52 @@ where
     assert_eq!(rt; replies.err(), Some(fault));
 }
 
+// A gate whose second copy is refused.
+#[derive(Drop)]
+struct CopiedOnce {
+    copies: AtomicU64,
+}
+
+impl Clone for CopiedOnce {
+    fn clone(&self) -> Result<Self, AllocError> {
+        if self.copies.fetch_add(1, Ordering::SeqCst) == 1 {
+            return Err(AllocError);
+        }
+        Ok(CopiedOnce {
+            copies: AtomicU64::new(0),
+        })
+    }
+}
+
+impl JobGate for CopiedOnce {
+    fn before(&self, _job: u64) {}
+
+    fn after(&self, _job: u64) {}
+}
+
+// Workers of which the second is refused give all ports back, by which others answer.
+fn answers_after_a_refusal<B, R>(rt: R, alloc: Global, ports: Vec<ForwardPort<B>>, tolds: &Tolds<B>)
+where
+    B: FabricName + Send + Sync + 'static,
+    R: Threads + Wait + Abort + Copy + Send + 'static,
+    requires { vec_len ports ≤ most_workers }
+{
+    let gate = CopiedOnce {
+        copies: AtomicU64::new(0),
+    };
+    let many = ports.len();
+    let refused = match WorkerPool::watched(rt, alloc, ports, &gate) {
+        Ok(pool) => {
+            drop(pool.end(&rt));
+            panic!(rt; "a second worker");
+        }
+        Err(refused) => refused,
+    };
+    assert_eq!(rt; refused.fault, PoolFault::Memory(NoMemory));
+    assert_eq!(rt; refused.ports.len(), many);
+    drop(answers(rt, alloc, refused.ports, tolds, 3));
+}
+
 // Without workers each job is refused.
 fn refuses<B, R>(rt: R, alloc: Global, tolds: &Tolds<B>)
 where
@@ -255,6 +301,7 @@ enum Trial {
     Answers(u8),
     Meets,
     AnswersLater,
+    AnswersAfterARefusal,
     Doubles,
     HasNoImage,
     Refuses,
@@ -270,6 +317,7 @@ where
         Trial::Answers(jobs) => drop(answers(rt, alloc, ports, tolds, jobs)),
         Trial::Meets => meets(rt, alloc, ports, tolds),
         Trial::AnswersLater => answers_later(rt, alloc, ports, tolds),
+        Trial::AnswersAfterARefusal => answers_after_a_refusal(rt, alloc, ports, tolds),
         Trial::Doubles => {
             let fault = PoolFault::Gather(GatherFault::Doubled);
             has_fault(rt, alloc, ports, tolds, fault);
@@ -353,6 +401,11 @@ fn sixteen_workers_answer_all_jobs(rt: HostRuntime) {
 #[test]
 fn the_ports_of_a_pool_come_back(rt: HostRuntime) {
     pooled(rt, rt.alloc(), 2, Trial::AnswersLater);
+}
+
+#[test]
+fn the_ports_of_a_refused_pool_come_back(rt: HostRuntime) {
+    pooled(rt, rt.alloc(), 3, Trial::AnswersAfterARefusal);
 }
 
 #[test]

@@ -6,6 +6,9 @@ use Rattle.forwarder.specs.Replies.{Replied}
 use Rattle.forwarder.specs.Gathering.{fault_of}
 use Rattle.worker_pool.specs.declared.fault.PoolFault.{PoolFault}
 use Rattle.worker_pool.specs.declared.fault.PoolFault.TheVariants.{NoThread, Memory, Closed, Refused, Gather}
+use Rattle.faults.specs.declared.kind.FaultKind.{FaultKind}
+use Rattle.network_model.specs.Kinds.{refusal_kind}
+use Rattle.forwarder.specs.Gathering.{gather_kind}
 
 -- workers do not begin: there is no thread, or no memory
 abbrev pub IsBeginFault : PoolFault → Type 0
@@ -38,3 +41,11 @@ IsDrainFault jobs (Memory _) = ⊤
 IsDrainFault jobs Closed = ⊥
 IsDrainFault jobs (Refused r) = (r ≡ Refusal.NoMemory) ⊎ (r ≡ Refusal.NoImage)
 IsDrainFault {X} jobs (Gather g) = (rs : List (Replied X)) × (fault_of jobs rs ≡ Some g)
+
+-- as which number and name a fault is printed
+abbrev pub pool_kind : PoolFault → FaultKind
+pool_kind NoThread = FaultKind.NoThread
+pool_kind (Memory _) = FaultKind.NoMemory
+pool_kind Closed = FaultKind.Closed
+pool_kind (Refused refusal) = refusal_kind refusal
+pool_kind (Gather fault) = gather_kind fault

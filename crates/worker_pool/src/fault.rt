@@ -3,8 +3,9 @@
 ghost use Rattle.std.specs.Prelude.{◌≡◌};
 
 use faults::FaultKind;
-use forwarder::GatherFault;
+use forwarder::{FabricName, ForwardPort, GatherFault};
 use network_model::{NoMemory, Refusal};
+use std::fmt;
 use thiserror::Error;
 
 /// Why jobs are not answered. Its text is its number and name.
@@ -24,6 +25,10 @@ pub enum PoolFault {
 }
 
 impl From<PoolFault> for FaultKind {
+    ghost use Rattle.worker_pool.specs.Faults.{pool_kind};
+
+    ghost from_gives = { λ fault k. k ≡ pool_kind fault };
+
     fn from(fault: PoolFault) -> FaultKind {
         match fault {
             PoolFault::NoThread => FaultKind::NoThread,
@@ -42,5 +47,19 @@ impl From<NoMemory> for PoolFault {
 
     fn from(memory: NoMemory) -> PoolFault {
         PoolFault::Memory(memory)
+    }
+}
+
+/// Workers that did not begin: why, and their ports, which may begin later.
+#[derive(Drop)]
+pub struct NotBegun<B: FabricName> {
+    pub fault: PoolFault,
+    pub ports: Vec<ForwardPort<B>>,
+}
+
+impl<B: FabricName> fmt::Debug for NotBegun<B> {
+    fn fmt<W: fmt::Write>(&self, f: &mut fmt::Formatter<W>) -> fmt::Result {
+        let fault = self.fault;
+        write!(f, "{fault}")
     }
 }

@@ -10,7 +10,7 @@
 //! let (ports, replies) = pool.drain(&rt, alloc);        // ends the workers; a reply to each job, or a fault
 //! ```
 //!
-//! - `new` begins a worker for each port, or is refused.
+//! - `new` begins a worker for each port, or is refused and hands all ports back ([`NotBegun`]).
 //! - `inject` keeps a copy of each job that it puts into the queue. A job that is refused is not kept.
 //! - `drain` sends stop messages, joins the threads, and compares the replies with the copies. So if it gives
 //!   replies, there is exactly one to each job and none to anything else, in order of the numbers (`each`,
@@ -32,11 +32,13 @@
 //! - A pool without workers is a pool. It refuses each job as closed.
 //! - No clause says that threads come back, or that ports which are given back are those that the workers
 //!   had. Nor does one say that a `new` that is refused has waited for the threads that it began.
+//! - A thread that could not be made leaves its work behind, with the port inside. So `new` closes the queue and
+//!   does that work itself: it finds no job, and gives the port back.
 #![tactic(auto)]
 
 mod fault;
 mod pool;
 
-pub use fault::PoolFault;
+pub use fault::{NotBegun, PoolFault};
 pub use forwarder::{FabricName, ForwardPort, Job, JobGate, Reply};
 pub use pool::WorkerPool;

@@ -1,6 +1,6 @@
 //! A pool of workers.
 
-ghost use Rattle.std.specs.Prelude.{◌≡◌, ◌≤◌, ◌⊎◌, ◌++◌, ◌∷◌, [], Err, true, All, count_by, map, IfErr, IfOk, MatchResult, vec_len};
+ghost use Rattle.std.specs.Prelude.{◌≡◌, ◌+◌, ◌≤◌, ◌⊎◌, ◌++◌, ◌∷◌, [], Err, true, All, count_by, map, IfErr, IfOk, MatchResult, vec_len};
 ghost use Rattle.std.specs.List.{list_any};
 ghost use Rattle.std.specs.List.Sorted.{IsStrictlyIncreasing};
 ghost use Rattle.std.specs.Vec.{vec_capacity};
@@ -10,7 +10,7 @@ ghost use Rattle.forwarder.specs.Gathering.{is_reply_to, job_number};
 ghost use Rattle.worker_pool.specs.declared.fault.PoolFault.TheVariants.{Closed as IsClosed};
 ghost use Rattle.worker_pool.specs.Faults.{IsBeginFault, IsInjectFault, IsWorkFault, IsDrainFault};
 
-use crate::fault::PoolFault;
+use crate::fault::{NotBegun, PoolFault};
 use forwarder::{FabricName, ForwardPort, Job, JobGate, Reply, Worked, gather, work};
 use network_model::{NoMemory, Refusal};
 use packet_queue::{Injector, PacketQueue, Taker};
@@ -66,43 +66,49 @@ impl<B: FabricName> Promise<Worked<B>> for TellsWhy {
 
 type Running<B> = PromisedHandle<Worked<B>, TellsWhy>;
 
-// Begins a worker.
+// Begins a worker. If that is refused, nobody gives the others a job any more, and its port is handed back.
 fn begin<B, R, G>(
     rt: R,
     alloc: Global,
+    injector: Injector<B>,
     port: ForwardPort<B>,
     taker: Taker<B>,
     gate: &G,
-) -> Result<Running<B>, PoolFault>
+) -> Result<(Injector<B>, Running<B>), (PoolFault, ForwardPort<B>)>
 where
     B: FabricName + Send + Sync + 'static,
     R: Threads + Wait + Copy + Send + 'static,
     G: JobGate + Clone + Send + 'static,
-    ensures { IfErr result IsBeginFault }
+    ensures { IfErr result (λ refused. IsBeginFault refused.0) }
 {
     let Ok(gate) = gate.clone() else {
-        return Err(PoolFault::Memory(NoMemory));
+        return Err((PoolFault::Memory(NoMemory), port));
     };
-    let worker = move || work(&rt, alloc, port, taker, &gate);
+    let worker = move || {
+        let (port, taker) = (port, taker);
+        work(&rt, alloc, port, taker, &gate)
+    };
     match thread::spawn_with(&rt, TellsWhy, worker) {
-        Ok(handle) => Ok(handle),
-        Err(_) => Err(PoolFault::NoThread),
+        Ok(handle) => Ok((injector, handle)),
+        Err(refused) => {
+            // Without an injector it finds no job, so it ends at once.
+            drop(injector);
+            let worker = refused.value;
+            Err((PoolFault::NoThread, worker().port))
+        }
     }
 }
 
-// Waits for workers whom nobody gives a job any more, and puts their ports into the room for them.
+// Waits for workers whom nobody gives a job any more, and adds their ports to these, which have room for them.
 fn end_all<B: FabricName, R: Threads>(
     rt: &R,
-    injector: Injector<B>,
     running: Vec<Running<B>>,
-    room: Vec<ForwardPort<B>>,
+    ports: Vec<ForwardPort<B>>,
 ) -> Vec<ForwardPort<B>>
-    requires empty { room.items ≡ [] }
-    requires fits { vec_len running ≤ vec_capacity room }
-    ensures { vec_len result ≡ vec_len running }
+    requires fits { vec_len ports + vec_len running ≤ vec_capacity ports }
+    ensures { vec_len result ≡ vec_len ports + vec_len running }
 {
-    drop(injector);
-    let (mut running, mut ports) = (running, room);
+    let (mut running, mut ports) = (running, ports);
     while let Some(handle) = running.pop() {
         ports.push_reserved(handle.join(rt).port);
     }
@@ -110,20 +116,21 @@ fn end_all<B: FabricName, R: Threads>(
 }
 
 impl<B: FabricName + Send + Sync + 'static> WorkerPool<B> {
-    /// Begins a worker for each port, at most 16; there may be none. Refused with `NoThread` where there
-    /// is no thread for one of them, or with `Memory`: it has waited for those that it began, and their
-    /// ports are let go.
+    /// Begins a worker for each port, at most 16; there may be none. Refused with `NoThread` if there is
+    /// no thread for one of them, or with `Memory`: it has waited for those that it began, and hands all
+    /// ports back, in any order.
     pub fn new<R>(
         rt: R,
         alloc: Global,
         ports: Vec<ForwardPort<B>>,
-    ) -> Result<WorkerPool<B>, PoolFault>
+    ) -> Result<WorkerPool<B>, NotBegun<B>>
     where
         R: Threads + Wait + Copy + Send + 'static,
         requires few { vec_len ports ≤ most_workers }
         ensures jobs { IfOk result (λ p. p.jobs ≡ []) }
         ensures workers { IfOk result (λ p. p.workers ≡ vec_len ports) }
-        ensures err { IfErr result IsBeginFault }
+        ensures err { IfErr result (λ e. IsBeginFault e.fault) }
+        ensures ports { IfErr result (λ e. vec_len e.ports ≡ vec_len ports) }
     {
         WorkerPool::watched(rt, alloc, ports, &Unwatched)
     }
@@ -134,32 +141,39 @@ impl<B: FabricName + Send + Sync + 'static> WorkerPool<B> {
         alloc: Global,
         ports: Vec<ForwardPort<B>>,
         gate: &G,
-    ) -> Result<WorkerPool<B>, PoolFault>
+    ) -> Result<WorkerPool<B>, NotBegun<B>>
     where
         R: Threads + Wait + Copy + Send + 'static,
         G: JobGate + Clone + Send + 'static,
         requires few { vec_len ports ≤ most_workers }
         ensures jobs { IfOk result (λ p. p.jobs ≡ []) }
         ensures workers { IfOk result (λ p. p.workers ≡ vec_len ports) }
-        ensures err { IfErr result IsBeginFault }
+        ensures err { IfErr result (λ e. IsBeginFault e.fault) }
+        ensures ports { IfErr result (λ e. vec_len e.ports ≡ vec_len ports) }
     {
-        let (injector, takers) = PacketQueue::new::<B, _>(alloc, ports.len() as u8)?;
         let Ok(mut running) = Vec::with_capacity(alloc, ports.len()) else {
-            return Err(PoolFault::Memory(NoMemory));
+            return Err(without_memory(ports));
         };
         let Ok(room) = Vec::with_capacity(alloc, ports.len()) else {
-            return Err(PoolFault::Memory(NoMemory));
+            return Err(without_memory(ports));
         };
-        let (mut ports, mut takers) = (ports, takers);
+        let Ok((injector, takers)) = PacketQueue::new::<B, _>(alloc, ports.len() as u8) else {
+            return Err(without_memory(ports));
+        };
+        let (mut injector, mut ports, mut takers) = (injector, ports, takers);
         while let Some(port) = ports.pop() {
             let Some(taker) = takers.pop() else {
                 unreachable!()
             };
-            match begin(rt, alloc, port, taker, gate) {
-                Ok(handle) => running.push_reserved(handle),
-                Err(fault) => {
-                    drop(end_all(&rt, injector, running, room));
-                    return Err(fault);
+            match begin(rt, alloc, injector, port, taker, gate) {
+                Ok((kept, handle)) => {
+                    injector = kept;
+                    running.push_reserved(handle);
+                }
+                Err((fault, port)) => {
+                    ports.push_reserved(port);
+                    let ports = end_all(&rt, running, ports);
+                    return Err(NotBegun { fault, ports });
                 }
             }
         }
@@ -245,7 +259,19 @@ impl<B: FabricName> WorkerPool<B> {
             jobs: _,
             ports,
         } = self;
-        end_all(rt, injector, running, ports)
+        drop(injector);
+        end_all(rt, running, ports)
+    }
+}
+
+// No worker has begun, because memory was refused.
+fn without_memory<B: FabricName>(ports: Vec<ForwardPort<B>>) -> NotBegun<B>
+    ensures fault { IsBeginFault result.fault }
+    ensures ports { vec_len result.ports ≡ vec_len ports }
+{
+    NotBegun {
+        fault: PoolFault::Memory(NoMemory),
+        ports,
     }
 }
 

@@ -1,9 +1,6 @@
 use Rattle.std.proofs.Common.{rules}
 use Rattle.worker_pool.proofs.pool.WorkerPool.watched.Goals as goal
 
-pub returns-in_err-injector-clause-workers : goal.returns-in_err-injector-clause-workers
-returns-in_err-injector-clause-workers g c = search rules
-
 pub returns-in_default-clause-workers : goal.returns-in_default-clause-workers
 returns-in_default-clause-workers g c = search rules
 

@@ -7,6 +7,7 @@ invariant-loop-port g l =
     (vec_len l.running + vec_len l.ports ≡ vec_len l.fn.ports)
     × (vec_len l.takers ≡ vec_len l.ports)
     × (vec_len l.fn.ports ≤ vec_capacity l.running)
+    × (vec_len l.fn.ports ≤ vec_capacity l.ports)
 
 abbrev pub decreases-loop-port : goal.decreases-loop-port
 decreases-loop-port g l = vec_len l.ports
