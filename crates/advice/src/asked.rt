@@ -19,11 +19,3 @@ pub fn file_to_explain<'a>(words: &Words<'a>) -> Option<&'a str>
     };
     if explain { Some(file) } else { None }
 }
-
-/// Whether a scenario is to be checked alone.
-pub fn is_check(words: &Words<'_>) -> bool {
-    match words {
-        Words::Check { .. } => true,
-        _ => false,
-    }
-}

@@ -5,7 +5,7 @@ use std::io;
 use std::io::Write;
 
 /// Tells the first byte of a file that is not UTF-8, and where it stands; nothing if there is none.
-pub fn advise_bytes<W: Write>(file: &str, bytes: &[u8], out: &mut W) -> io::Result<()> {
+pub(crate) fn explain_bytes<W: Write>(file: &str, bytes: &[u8], out: &mut W) -> io::Result<()> {
     let Err(error) = str::from_utf8(bytes) else {
         return Ok(());
     };

@@ -1,6 +1,6 @@
 //! Why a line is no command.
 
-use crate::number::{tell_number, tell_seed};
+use crate::number::{explain_number, explain_seed};
 use crate::shown::{SafeLetter, odd_space, shown};
 use network_model::LinkSpec;
 use script::Names;
@@ -40,14 +40,14 @@ const FORMS: [&str; 23] = [
 const JOBS: [&str; 2] = ["inject A ADDR", "drain"];
 
 /// Tells why a line of the script is no command on this network.
-pub fn tell_command<W: Write>(
+pub fn explain_command<W: Write>(
     alloc: Global,
     names: &Names,
     links: &[LinkSpec],
     line: &str,
     out: &mut W,
 ) -> io::Result<()> {
-    if tell_spaces(line, out)? {
+    if explain_spaces(line, out)? {
         return Ok(());
     }
     let tried = line.strip_prefix("try ");
@@ -55,17 +55,17 @@ pub fn tell_command<W: Write>(
     let verb = line.split(' ').next().unwrap_or("");
     let count = line.split(' ').count();
     let Some(form) = form_of(verb, if tried.is_some() { None } else { Some(count) }) else {
-        return tell_unknown(alloc, verb, out);
+        return explain_unknown(alloc, verb, out);
     };
     if form.split(' ').count() != count {
         return writeln!(out, "  wrong number of words: write `{form}`");
     }
-    tell_words(names, links, form, line, out)
+    explain_words(names, links, form, line, out)
 }
 
 /// Tells of two spaces in a row, of one at an end, or of a character that looks like one; answers whether it
 /// told of any.
-pub fn tell_spaces<W: Write>(line: &str, out: &mut W) -> io::Result<bool> {
+pub fn explain_spaces<W: Write>(line: &str, out: &mut W) -> io::Result<bool> {
     if let Some(letter) = odd_space(line) {
         writeln!(
             out,
@@ -104,7 +104,7 @@ fn form_of(verb: &str, count: Option<usize>) -> Option<&'static str> {
 }
 
 // Tells of a word that is no command, and of the nearest one that is, if it is near.
-fn tell_unknown<W: Write>(alloc: Global, verb: &str, out: &mut W) -> io::Result<()> {
+fn explain_unknown<W: Write>(alloc: Global, verb: &str, out: &mut W) -> io::Result<()> {
     let mut nearest = ("", 3);
     for form in FORMS {
         nearest = nearer(alloc, verb, form, nearest)?;
@@ -139,7 +139,7 @@ fn nearer<'a>(
 }
 
 // Tells of the first word that does not fit its form.
-fn tell_words<W: Write>(
+fn explain_words<W: Write>(
     names: &Names,
     links: &[LinkSpec],
     form: &str,
@@ -162,12 +162,12 @@ fn tell_words<W: Write>(
                 first = Some(router);
             }
             "C" | "COST" => {
-                if tell_number(word, out)? {
+                if explain_number(word, out)? {
                     return Ok(());
                 }
             }
             "N" => {
-                if tell_seed(word, out)? {
+                if explain_seed(word, out)? {
                     return Ok(());
                 }
             }

@@ -10,7 +10,7 @@ use toml::{Table, Value};
 const KEYS: [&str; 4] = ["routers", "links", "prefixes", "script"];
 
 /// Tells where a text is no TOML document.
-pub fn tell_document<W: Write>(
+pub fn explain_document<W: Write>(
     alloc: Global,
     file: &str,
     text: &str,
@@ -37,24 +37,29 @@ pub fn tell_document<W: Write>(
 }
 
 /// Tells which keys of a document are not those of a scenario.
-pub fn tell_keys<W: Write>(alloc: Global, file: &str, text: &str, out: &mut W) -> io::Result<()> {
+pub fn explain_keys<W: Write>(
+    alloc: Global,
+    file: &str,
+    text: &str,
+    out: &mut W,
+) -> io::Result<()> {
     let Ok(table) = toml::table_from_str(alloc, text) else {
         return Ok(());
     };
     for key in KEYS {
-        tell_key(&table, key, file, text, out)?;
+        explain_key(&table, key, file, text, out)?;
     }
     for (key, _) in table.iter() {
         let key = key.as_str();
         if !KEYS.contains(&key) {
-            tell_place(file, text, key, out)?;
+            print_place(file, text, key, out)?;
             writeln!(out, "unknown key `{}`", shown(key))?;
         }
     }
     Ok(())
 }
 
-fn tell_key<W: Write>(
+fn explain_key<W: Write>(
     table: &Table,
     key: &str,
     file: &str,
@@ -64,7 +69,7 @@ fn tell_key<W: Write>(
     match table.get(key) {
         None => writeln!(out, "  the key `{key}` is missing"),
         Some(value) if !is_list(value) => {
-            tell_place(file, text, key, out)?;
+            print_place(file, text, key, out)?;
             writeln!(out, "`{key}` is not an array of strings")
         }
         Some(_) => Ok(()),
@@ -72,7 +77,7 @@ fn tell_key<W: Write>(
 }
 
 // Tells where a key stands, if it is written without quotes.
-fn tell_place<W: Write>(file: &str, text: &str, key: &str, out: &mut W) -> io::Result<()> {
+fn print_place<W: Write>(file: &str, text: &str, key: &str, out: &mut W) -> io::Result<()> {
     match key_at(text, key) {
         Some(at) => write!(out, "  {file}:{at}: "),
         None => write!(out, "  {file}: "),

@@ -12,23 +12,23 @@
 //! ```
 //!
 //! ```text
-//! if let Some(file) = file_to_explain(&words) { .. }      // the scenario, if `--explain` was asked for
-//! advise(alloc, Faulty { file, text, kind, place, is_check }, &mut err)?;
+//! explain(alloc, &words, fault, &scenario, &beside, &mut err)?;      // beside: a journal, or a document of times
+//! explain_typed(alloc, &typed, &mut err)?;                           // a line that was typed into a shell
 //! ```
 //!
-//! - [`advise`] finds the line in the file (`src/position.rt`), and reads it again to see what is wrong
+//! - [`explain`] finds the line in the file (`src/position.rt`), and reads it again to see what is wrong
 //!   (`src/command.rt`, `src/line.rt`). For example, a word is too many, a name is not known, or no link
 //!   joins two routers. If a text is not a TOML document, it says at which place. If keys are missing or
-//!   unknown, it names them.
-//! - If the scenario was only to be checked, it also tells of other faults, 20 in all (`src/others.rt`). It
-//!   tells those that it need not guess.
-//! - [`advise_journal`] does the same for a line of a journal, [`advise_typed`] for one that was typed into a
-//!   shell, and [`advise_bytes`] for a file that is not UTF-8.
+//!   unknown, it names them. If the text is not UTF-8, it tells the first byte that is not.
+//! - If the scenario was only to be checked, other faults are told, too, 20 in all (`src/others.rt`): those that
+//!   need no guess.
+//! - Of a journal the line at fault is shown (`src/journal_line.rt`), and of a document of times the string
+//!   (`src/times.rt`).
 //! - What is shown of a file is safe for a terminal (`src/shown.rt`): at most 60 characters, and those that
 //!   cannot be seen by their numbers.
 //!
-//! What always holds: more is told only if it is asked for, and then of the scenario that the words name (the
-//! clause of [`file_to_explain`]). Nothing else of this crate has a contract. What it prints is tested by
+//! What always holds: more is told only if it is asked for (the clause of [`file_to_explain`], which names the
+//! scenario). Nothing else of this crate has a contract. What it prints is tested by
 //! files of cases.
 //!
 //! What is tricky: the fault itself is never decided here. `plans` has decided it, and this crate only looks
@@ -43,18 +43,17 @@ mod asked;
 mod bytes;
 mod command;
 mod document;
-mod journal;
+mod fault;
+mod journal_line;
 mod line;
 mod name;
 mod number;
 mod others;
 mod position;
 mod shown;
-mod told;
+mod times;
 mod typed;
 
-pub use asked::{file_to_explain, is_check};
-pub use bytes::advise_bytes;
-pub use journal::advise_journal;
-pub use told::{Faulty, advise};
-pub use typed::{Typed, advise_typed};
+pub use asked::file_to_explain;
+pub use fault::explain;
+pub use typed::{Typed, explain_typed};

@@ -1,7 +1,7 @@
 //! Why a line of links or of prefixes cannot be taken.
 
-use crate::command::tell_spaces;
-use crate::number::tell_number;
+use crate::command::explain_spaces;
+use crate::number::explain_number;
 use crate::shown::shown;
 use script::Names;
 use std::io;
@@ -11,7 +11,7 @@ use std::io::Write;
 const MOST_LINKS: usize = 32;
 
 /// Tells why the line of this number is no link of these routers.
-pub fn tell_link<W: Write>(
+pub fn explain_link<W: Write>(
     names: &Names,
     links: &[String],
     position: usize,
@@ -21,14 +21,14 @@ pub fn tell_link<W: Write>(
         return Ok(());
     };
     let line = line.as_str();
-    if tell_spaces(line, out)? {
+    if explain_spaces(line, out)? {
         return Ok(());
     }
     if line.split(' ').count() != 4 {
         return writeln!(out, "  wrong number of words: write `A B C1 C2`");
     }
     for word in line.split(' ').skip(2) {
-        if tell_number(word, out)? {
+        if explain_number(word, out)? {
             return Ok(());
         }
     }
@@ -41,7 +41,7 @@ pub fn tell_link<W: Write>(
     if a == b {
         return writeln!(out, "  both ends are the same router");
     }
-    tell_earlier(links, position, a, b, out)
+    explain_earlier(links, position, a, b, out)
 }
 
 // The two ends of a link.
@@ -51,7 +51,7 @@ fn ends(line: &str) -> (&str, &str) {
 }
 
 // Tells which of the earlier links leaves no place for one of these two routers.
-fn tell_earlier<W: Write>(
+fn explain_earlier<W: Write>(
     links: &[String],
     position: usize,
     a: &str,
@@ -79,7 +79,7 @@ fn tell_earlier<W: Write>(
 }
 
 /// Tells why the line of this number attaches no router to a prefix.
-pub fn tell_prefix<W: Write>(
+pub fn explain_prefix<W: Write>(
     names: &Names,
     prefixes: &[String],
     position: usize,
@@ -89,7 +89,7 @@ pub fn tell_prefix<W: Write>(
         return Ok(());
     };
     let line = line.as_str();
-    if tell_spaces(line, out)? {
+    if explain_spaces(line, out)? {
         return Ok(());
     }
     let mut words = line.split(' ');
@@ -108,7 +108,7 @@ pub fn tell_prefix<W: Write>(
         return writeln!(out, "  unknown router `{}`", shown(router));
     }
     if let Some(cost) = cost
-        && tell_number(cost, out)?
+        && explain_number(cost, out)?
     {
         return Ok(());
     }

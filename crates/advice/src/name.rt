@@ -8,7 +8,7 @@ use std::io::Write;
 const MOST_CHARACTERS: usize = 16;
 
 /// Tells why the name of this number is none that a router can have, or that it was given before.
-pub fn tell_name<W: Write>(names: &[String], position: usize, out: &mut W) -> io::Result<()> {
+pub fn explain_name<W: Write>(names: &[String], position: usize, out: &mut W) -> io::Result<()> {
     let Some(name) = names.get(position) else {
         return Ok(());
     };

@@ -6,17 +6,17 @@ use std::io::Write;
 use texts::read_number;
 
 /// Tells why a word is no number, or none that a cost can be; answers whether it told of any.
-pub fn tell_number<W: Write>(word: &str, out: &mut W) -> io::Result<bool> {
-    tell_outside(word, 1, 65535, out)
+pub fn explain_number<W: Write>(word: &str, out: &mut W) -> io::Result<bool> {
+    explain_outside(word, 1, 65535, out)
 }
 
 /// Tells why a word is no number of 32 bits; answers whether it told of any.
-pub fn tell_seed<W: Write>(word: &str, out: &mut W) -> io::Result<bool> {
-    tell_outside(word, 0, u32::MAX, out)
+pub fn explain_seed<W: Write>(word: &str, out: &mut W) -> io::Result<bool> {
+    explain_outside(word, 0, u32::MAX, out)
 }
 
 // Tells why a word is no number of `least` to `most`.
-fn tell_outside<W: Write>(word: &str, least: u32, most: u32, out: &mut W) -> io::Result<bool> {
+fn explain_outside<W: Write>(word: &str, least: u32, most: u32, out: &mut W) -> io::Result<bool> {
     if is_within(word, least, most) {
         return Ok(false);
     }

@@ -1,6 +1,6 @@
 //! The other faults of a scenario's lines, as far as each can be told by itself.
 
-use crate::told::{Faulty, tell_line};
+use crate::fault::{Faulty, explain_line};
 use faults::FaultKind;
 use network_model::Step;
 use scenario::Lines;
@@ -14,7 +14,7 @@ const MOST_OTHERS: u8 = 19;
 
 /// Tells of faults beside the first: of other names where a name is at fault, of other links and
 /// prefixes where one of these is, else of other commands.
-pub fn tell_others<W: Write>(
+pub fn explain_others<W: Write>(
     alloc: Global,
     faulty: Faulty<'_>,
     lines: &Lines,
@@ -23,19 +23,19 @@ pub fn tell_others<W: Write>(
 ) -> io::Result<()> {
     match first.key {
         Key::Routers => {
-            tell_list(alloc, faulty, lines, Key::Routers, first, MOST_OTHERS, out)?;
+            explain_list(alloc, faulty, lines, Key::Routers, first, MOST_OTHERS, out)?;
         }
         Key::Links | Key::Prefixes => {
-            let left = tell_list(alloc, faulty, lines, Key::Links, first, MOST_OTHERS, out)?;
-            tell_list(alloc, faulty, lines, Key::Prefixes, first, left, out)?;
+            let left = explain_list(alloc, faulty, lines, Key::Links, first, MOST_OTHERS, out)?;
+            explain_list(alloc, faulty, lines, Key::Prefixes, first, left, out)?;
         }
-        Key::Script => tell_commands(alloc, faulty, lines, first, out)?,
+        Key::Script => explain_commands(alloc, faulty, lines, first, out)?,
     }
     Ok(())
 }
 
 // Tells of the faults of a list's lines, and answers how many more may be told.
-fn tell_list<W: Write>(
+fn explain_list<W: Write>(
     alloc: Global,
     faulty: Faulty<'_>,
     lines: &Lines,
@@ -56,7 +56,7 @@ fn tell_list<W: Write>(
             && place != first
             && let Some(fault) = fault_alone(alloc, lines, key, one)
         {
-            tell_other(alloc, faulty, lines, fault, place, out)?;
+            explain_other(alloc, faulty, lines, fault, place, out)?;
             left = left.saturating_sub(1);
         }
     }
@@ -81,7 +81,7 @@ fn fault_alone(alloc: Global, lines: &Lines, key: Key, one: &[String]) -> Option
 }
 
 // Tells of the faults of other commands.
-fn tell_commands<W: Write>(
+fn explain_commands<W: Write>(
     alloc: Global,
     faulty: Faulty<'_>,
     lines: &Lines,
@@ -100,7 +100,7 @@ fn tell_commands<W: Write>(
             && place != first
             && let Some(fault) = command_fault(&reading.script, line.as_str())
         {
-            tell_other(alloc, faulty, lines, fault, place, out)?;
+            explain_other(alloc, faulty, lines, fault, place, out)?;
             left = left.saturating_sub(1);
         }
     }
@@ -116,7 +116,7 @@ fn command_fault(script: &Script, line: &str) -> Option<LineFault> {
     }
 }
 
-fn tell_other<W: Write>(
+fn explain_other<W: Write>(
     alloc: Global,
     faulty: Faulty<'_>,
     lines: &Lines,
@@ -129,5 +129,5 @@ fn tell_other<W: Write>(
         place: Some(place),
     };
     writeln!(out, "dualnet: {located}")?;
-    tell_line(alloc, faulty, lines, FaultKind::from(fault), place, out)
+    explain_line(alloc, faulty, lines, FaultKind::from(fault), place, out)
 }

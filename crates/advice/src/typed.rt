@@ -1,6 +1,6 @@
 //! Why a line that was typed into a shell is not done.
 
-use crate::command::tell_command;
+use crate::command::explain_command;
 use crate::shown::shown;
 use explanations::Brief;
 use faults::FaultKind;
@@ -23,13 +23,13 @@ pub struct Typed<'a> {
 }
 
 /// Tells of a line that was typed what is wrong with it, when the fault comes, and what to do.
-pub fn advise_typed<W: Write>(alloc: Global, typed: &Typed<'_>, out: &mut W) -> io::Result<()> {
+pub fn explain_typed<W: Write>(alloc: Global, typed: &Typed<'_>, out: &mut W) -> io::Result<()> {
     let number = typed.number;
     match str::from_utf8(typed.line) {
         Ok(line) => {
             writeln!(out, "  line {number}: {}", shown(line))?;
             if matches!(typed.kind, FaultKind::BadCommand | FaultKind::BadCost) {
-                tell_command(alloc, typed.names, typed.links, line, out)?;
+                explain_command(alloc, typed.names, typed.links, line, out)?;
             }
         }
         Err(_) => writeln!(out, "  line {number} is not UTF-8")?,

@@ -20,8 +20,8 @@
 //! - Output is written line by line to a terminal, and else a block at a time.
 //! - With `--explain` the bytes of both files are kept as they are read, so that advice can show the line at
 //!   fault. The text of a journal is made only if a file is named for it.
-//! - A journal that would be written over the scenario, or to the standard output, is refused before the run
-//!   begins (49).
+//! - A journal that would be written over a file that is read, or to the standard output, is refused before the
+//!   run begins (49).
 //!
 //! What always holds: the exit status is the one that `play` promises for these words and files. If the
 //! journal cannot be written after that, it is 2. No function here has a contract of its own.
@@ -30,13 +30,12 @@
 //! blocks. So `play` flushes the output first.
 #![tactic(auto)]
 
-use advice::{Faulty, advise, advise_bytes, advise_journal, file_to_explain, is_check};
+use advice::{explain, file_to_explain};
 use command_line::{Words, read_words};
-use journal::JournalFault;
 use play::{Cause, Fault, Host, NoGate, Source, THRESHOLDS, play_by, refuse};
 use program_files::{
-    Input, exit_code, given_words, is_one_file, kept_path, open_file, replayed_path, scenario_path,
-    tell, tell_unreadable, times_path,
+    Input, exit_code, explain_unreadable, given_words, is_input, is_one_file, kept_path, open_file,
+    print_error, replayed_path, scenario_path, times_path,
 };
 use std::io::{BufWriter, IsTerminal, LineWriter, Read, Write};
 use std::process::ExitCode;
@@ -60,7 +59,7 @@ fn run_given<H: Host>(rt: &HostRuntime, wait: &H, given: &[String]) -> io::Resul
     let words: Vec<&str> = given.iter().map(|word| word.as_str()).collect(rt.alloc())?;
     match read_words(rt.alloc(), words.as_slice()) {
         Ok(words) => print_by(rt, wait, &words),
-        Err(error) => Ok(tell(rt, &error)),
+        Err(error) => Ok(print_error(rt, &error)),
     }
 }
 
@@ -115,28 +114,23 @@ fn run_over<H: Host, W: Write>(
     );
     let _ = out.flush();
     if let Some(fault) = fault {
-        tell_more(rt, words, fault, &scenario.bytes, &second.bytes);
+        explain_fault(rt, words, fault, &scenario.bytes, &second.bytes);
     }
     keep_journal(rt, words, status, &journal)
 }
 
 // Tells more of a fault, where that is asked for.
-fn tell_more(rt: &HostRuntime, words: &Words<'_>, fault: Fault, scenario: &[u8], second: &[u8]) {
-    if let Some(file) = file_to_explain(words) {
-        if fault.cause == Cause::Unreadable {
-            tell_files(rt, words);
-        }
-        tell_line(rt, words, fault, second);
-        let _ = advise_bytes(file, scenario, &mut rt.stderr());
-        let faulty = Faulty {
-            file,
-            text: str::from_utf8(scenario).unwrap_or(""),
-            kind: fault.kind(),
-            place: fault.place,
-            is_check: is_check(words),
-        };
-        let _ = advise(rt.alloc(), faulty, &mut rt.stderr());
+fn explain_fault(
+    rt: &HostRuntime,
+    words: &Words<'_>,
+    fault: Fault,
+    scenario: &[u8],
+    second: &[u8],
+) {
+    if fault.cause == Cause::Unreadable && file_to_explain(words).is_some() {
+        explain_files(rt, words);
     }
+    let _ = explain(rt.alloc(), words, fault, scenario, second, &mut rt.stderr());
 }
 
 // Writes the journal of a run or a shell that ended with this status, where that is asked for, and answers the exit
@@ -184,30 +178,26 @@ fn second_path<'a>(words: &Words<'a>) -> Option<&'a str> {
 }
 
 // Tells why the files that are read cannot be read.
-fn tell_files(rt: &HostRuntime, words: &Words<'_>) {
+fn explain_files(rt: &HostRuntime, words: &Words<'_>) {
     for path in [scenario_path(words), second_path(words)] {
         if let Some(path) = path {
-            tell_unreadable(rt, path, &mut rt.stderr());
+            explain_unreadable(rt, path, &mut rt.stderr());
         }
     }
 }
 
-// Tells of the line of a journal that is none of its, where that is the fault.
-fn tell_line(rt: &HostRuntime, words: &Words<'_>, fault: Fault, journal: &[u8]) {
-    if let (Some(path), Cause::Journal(JournalFault::BadLine { line })) = (
-        replayed_path(words),
-        fault.cause,
-    ) {
-        let text = str::from_utf8(journal).unwrap_or("");
-        let _ = advise_journal(path, text, line, &mut rt.stderr());
-    }
+// Whether the standard input is read: by a shell, or as the scenario.
+fn reads_input(words: &Words<'_>) -> bool {
+    matches!(words, Words::Shell { .. }) || is_scenario_from_input(words)
 }
 
-// Whether the journal is to be written to the standard output, which has the lines, or over the scenario.
+// Whether the journal is to be written to the standard output, which has the lines, or over a file that is read.
 fn is_unwritable(rt: &HostRuntime, words: &Words<'_>) -> bool {
     match (scenario_path(words), kept_path(words)) {
         (_, Some(journal)) if journal == "-" => true,
-        (Some(scenario), Some(journal)) => is_one_file(rt, scenario, journal),
+        (Some(scenario), Some(journal)) => {
+            is_one_file(rt, scenario, journal) || (reads_input(words) && is_input(rt, journal))
+        }
         _ => false,
     }
 }

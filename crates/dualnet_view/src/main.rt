@@ -11,7 +11,7 @@
 //!
 //! The words: *states* are the network before the first step and after each. FILE is the scenario, JOURNAL a
 //! journal of a run of it. With `--times` the network runs in simulated time, as `dualnet time` does it. With
-//! neither the script is run. Without `-o` the page goes to the standard output.
+//! neither the script is run. Without `-o`, or with `-o -`, the page goes to the standard output.
 //!
 //! - With `-o` all is first made in memory, and written if it is not empty. So a fault in the input leaves
 //!   the file as it was.
@@ -27,7 +27,7 @@
 
 use command_line::{ViewWords, read_view_words};
 use play::{Cause, Fault, Host, Source, refuse};
-use program_files::{exit_code, given_words, is_read, open_file, tell};
+use program_files::{exit_code, given_words, is_input, is_read, open_file, print_error};
 use std::io::{BufWriter, Write};
 use std::process::ExitCode;
 use std::{fs, io};
@@ -48,15 +48,17 @@ fn status<H: Host>(rt: &HostRuntime, wait: &H) -> io::Result<u8> {
     let words: Vec<&str> = given.iter().map(|word| word.as_str()).collect(alloc)?;
     match read_view_words(alloc, words.as_slice()) {
         Ok(words) => show_to(rt, wait, &words),
-        Err(error) => Ok(tell(rt, &error)),
+        Err(error) => Ok(print_error(rt, &error)),
     }
 }
 
 // Writes what the words ask for, to where they say.
 fn show_to<H: Host>(rt: &HostRuntime, wait: &H, words: &ViewWords<'_>) -> io::Result<u8> {
     match words.output {
-        Some(path) if is_read(rt, words, path) => Ok(unwritable(rt)),
-        Some(path) => {
+        Some(path) if path != "-" => {
+            if is_read(rt, words, path) || (reads_input(words) && is_input(rt, path)) {
+                return Ok(unwritable(rt));
+            }
             let mut page = Vec::new(rt.alloc());
             let status = write_to(rt, wait, words, &mut page);
             if page.is_empty() {
@@ -67,7 +69,7 @@ fn show_to<H: Host>(rt: &HostRuntime, wait: &H, words: &ViewWords<'_>) -> io::Re
                 Err(_) => unwritable(rt),
             })
         }
-        None => {
+        _ => {
             let mut out = BufWriter::new(rt.alloc(), rt.stdout())?;
             let status = write_to(rt, wait, words, &mut out);
             Ok(match out.flush() {
@@ -107,6 +109,11 @@ fn second_path<'a>(words: &ViewWords<'a>) -> Option<&'a str> {
         Some(path) => Some(path),
         None => words.times,
     }
+}
+
+// Whether the standard input is read.
+fn reads_input(words: &ViewWords<'_>) -> bool {
+    words.file == "-" || second_path(words) == Some("-")
 }
 
 // Says that the output could not be written, and answers the exit status.

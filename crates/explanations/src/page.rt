@@ -210,12 +210,12 @@ fn texts_of(kind: FaultKind) -> [&'static str; 3] {
         FaultKind::BadCommand => [
             "a line of the script is no command, a line of the changes is not `MOMENT STEP`, or one names a router, link or prefix that the scenario does not have",
             "`setle`, `up`, `up a z`, `up  a b`, `state a 11.0.0.0/8`",
-            "see `dualnet --help` for the commands; `dualnet check FILE --explain` says what is wrong with the line",
+            "see `dualnet --help` for the commands; `dualnet check FILE --explain` says what is wrong with a line of the script; a change is a moment and `up A B`, `down A B`, `cost A B C`, `attach A PREFIX COST` or `detach A PREFIX`",
         ],
         FaultKind::TooLarge => [
-            "the file has more than 4,194,304 bytes, or the script has more than 10,000 commands",
-            "a script of 10,001 lines",
-            "make the scenario smaller; one `settle` does many steps",
+            "the file has more than 4,194,304 bytes, a journal has more than 268,435,456, or there are more than 10,000 commands or changes",
+            "a script of 10,001 lines, `dualnet run /dev/zero`",
+            "make the file smaller, or write fewer lines; one `settle` does many steps",
         ],
         FaultKind::Unreadable => [
             "the file is not there, is a folder, or may not be read",

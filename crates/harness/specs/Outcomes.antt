@@ -2,7 +2,7 @@
 use Rattle.std.specs.Prelude.{◌≡◌, ℕ, ◌⊎◌, Option, true, []}
 use Rattle.texts.specs.Words.{Text}
 use Rattle.command_line.specs.declared.words.Words.{Words}
-use Rattle.reports.specs.declared.end.End.{End}
+use Rattle.reports.specs.declared.outcome.Outcome.{Outcome}
 use Rattle.plans.specs.declared.fault.Fault.{Fault}
 use Rattle.reports.specs.Ends.{status_at}
 use Rattle.play.specs.Outcomes.{Ends, StopsWords}
@@ -12,5 +12,5 @@ use Rattle.plans.specs.Faults.{status_of}
 -- not
 abbrev pub Gave : Words → Option Text → Option Text → ℕ → Text → Type 0
 Gave words scenario journal status kept =
-    ((end : End) × (status ≡ status_at end) × Ends true words scenario journal [] kept end)
+    ((end : Outcome) × (status ≡ status_at end) × Ends true words scenario journal [] kept end)
     ⊎ ((fault : Fault) × (status ≡ status_of fault.cause) × StopsWords words scenario journal fault)

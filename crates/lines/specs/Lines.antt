@@ -2,16 +2,16 @@
 use Rattle.std.specs.Prelude.{◌++◌, codes}
 use Rattle.texts.specs.Words.{Text}
 use Rattle.script.specs.Directories.{Directory}
-use Rattle.lines.specs.Texts.{asked_text, awaits_text, counts_text, ended_text, known_text, next_text, told_text, trace_text, tried_text, waiting_text}
-use Rattle.lines.specs.Objects.{asked_json, awaits_json, counts_json, ended_json, known_json, next_json, told_json, trace_json, tried_json, waiting_json}
+use Rattle.lines.specs.Texts.{asked_text, awaits_text, counts_text, ended_text, known_text, next_text, state_text, trace_text, tried_text, waiting_text}
+use Rattle.lines.specs.Objects.{asked_json, awaits_json, counts_json, ended_json, known_json, next_json, state_json, trace_json, tried_json, waiting_json}
 use Rattle.lines.specs.declared.line.Line.{Line}
-use Rattle.lines.specs.declared.line.Line.TheVariants.{Asked, Traced, Told, Awaits, Known, Waiting, Moved, Next, Tried, Counted, Ended}
+use Rattle.lines.specs.declared.line.Line.TheVariants.{Asked, Traced, State, Awaits, Known, Waiting, Moved, Next, Tried, Counted, Ended}
 
 -- a line for people
 abbrev pub line_text : Directory → Line → Text
 line_text d (Asked asked) = asked_text d asked
 line_text d (Traced router addr through path end) = trace_text d router addr through path.now end
-line_text d (Told told) = told_text d told
+line_text d (State state) = state_text d state
 line_text d (Awaits router prefix neighbours) = awaits_text d neighbours.now
 line_text d (Known router prefix known) = known_text d known
 line_text d (Waiting waiting) = waiting_text d waiting
@@ -25,7 +25,7 @@ line_text d (Ended ended) = ended_text ended
 abbrev pub line_json : Directory → Line → Text
 line_json d (Asked asked) = asked_json d asked
 line_json d (Traced router addr through path end) = trace_json d router addr through path.now end
-line_json d (Told told) = told_json d told
+line_json d (State state) = state_json d state
 line_json d (Awaits router prefix neighbours) = awaits_json d router prefix neighbours.now
 line_json d (Known router prefix known) = known_json d router prefix known
 line_json d (Waiting waiting) = waiting_json d waiting

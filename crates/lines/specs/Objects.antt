@@ -23,8 +23,8 @@ use Rattle.lines.specs.declared.answers.Asked.TheVariants.{Row, Lookup, Packet}
 use Rattle.lines.specs.declared.states.LinkLine.{LinkLine}
 use Rattle.lines.specs.declared.states.RouterLine.{RouterLine}
 use Rattle.lines.specs.declared.states.MachineLine.{MachineLine}
-use Rattle.lines.specs.declared.states.Told.{Told}
-use Rattle.lines.specs.declared.states.Told.TheVariants.{Link, Router, Machine, Unheard}
+use Rattle.lines.specs.declared.states.State.{State}
+use Rattle.lines.specs.declared.states.State.TheVariants.{Link, Router, Machine, Unheard}
 use Rattle.lines.specs.declared.reasons.Known.{Known}
 use Rattle.lines.specs.declared.reasons.Known.TheVariants.{Owes, Attached, AtNeighbour}
 use Rattle.lines.specs.declared.waiting.Waiting.{Waiting}
@@ -100,21 +100,21 @@ trace_json d router addr through path end =
 -- the cost of a link from each end, and how many items each end has yet to take
 abbrev pub loads_json : LinkLine → Text
 loads_json l =
-    codes "\"costs\":[" ++ decimal l.from_a ++ codes "," ++ decimal l.from_b
+    codes "\"costs\":[" ++ decimal (l.at).from_a ++ codes "," ++ decimal (l.at).from_b
     ++ codes "],\"queued\":[" ++ decimal l.queued_a ++ codes "," ++ decimal l.queued_b ++ codes "]"
 
 -- a link: its ends, whether it is up, its session, its cost from each end, and how many items each end has yet to take
 abbrev pub link_json : Directory → LinkLine → Text
 link_json d l =
     codes "{\"kind\":\"link\",\"a\":\"" ++ name_text d (Some l.a) ++ codes "\",\"b\":\"" ++ name_text d (Some l.b)
-    ++ codes "\",\"up\":" ++ flag_json l.up ++ codes ",\"session\":" ++ decimal l.session
+    ++ codes "\",\"up\":" ++ flag_json (l.at).up ++ codes ",\"session\":" ++ decimal (l.at).session
     ++ codes "," ++ loads_json l ++ codes "}"
 
 -- a router: how often it published, how many messages it holds, how many of them are ripe, and how many notices of its own attachments it has yet to take
 abbrev pub router_json : Directory → RouterLine → Text
 router_json d r =
-    codes "{\"kind\":\"router\",\"router\":\"" ++ name_text d (Some r.router) ++ codes "\",\"generation\":" ++ decimal r.generation
-    ++ codes ",\"held\":" ++ decimal r.held ++ codes ",\"ripe\":" ++ decimal r.ripe ++ codes ",\"notices\":" ++ decimal r.notices ++ codes "}"
+    codes "{\"kind\":\"router\",\"router\":\"" ++ name_text d (Some r.router) ++ codes "\",\"generation\":" ++ decimal (r.at).generation
+    ++ codes ",\"held\":" ++ decimal (r.at).held ++ codes ",\"ripe\":" ++ decimal (r.at).ripe ++ codes ",\"notices\":" ++ decimal (r.at).notices ++ codes "}"
 
 -- the origin state of a machine where a computation is under way, its reported and its feasible distance
 abbrev pub distances_json : Option ℕ → ℕ → ℕ → Text
@@ -124,14 +124,14 @@ distances_json origin rd fd = codes "\"active\":" ++ number_json origin ++ codes
 abbrev pub machine_json : Directory → MachineLine → Text
 machine_json d m =
     codes "{\"kind\":\"machine\",\"router\":\"" ++ name_text d (Some m.router) ++ codes "\",\"prefix\":\"" ++ prefix_text m.prefix
-    ++ codes "\"," ++ distances_json m.origin m.rd m.fd ++ codes "," ++ entry_json d m.router m.entry ++ codes "}"
+    ++ codes "\"," ++ distances_json (m.at).origin (m.at).rd (m.at).fd ++ codes "," ++ entry_json d m.router m.entry ++ codes "}"
 
 -- what is told of a network: also a prefix that a router has not heard of
-abbrev pub told_json : Directory → Told → Text
-told_json d (Link l) = link_json d l
-told_json d (Router r) = router_json d r
-told_json d (Machine m) = machine_json d m
-told_json d (Unheard router prefix) =
+abbrev pub state_json : Directory → State → Text
+state_json d (Link l) = link_json d l
+state_json d (Router r) = router_json d r
+state_json d (Machine m) = machine_json d m
+state_json d (Unheard router prefix) =
     codes "{\"kind\":\"unheard\",\"router\":\"" ++ name_text d (Some router) ++ codes "\",\"prefix\":\"" ++ prefix_text prefix ++ codes "\"}"
 
 -- ---- what a machine knows

@@ -26,8 +26,8 @@ use Rattle.lines.specs.declared.answers.Asked.TheVariants.{Row, Lookup, Packet}
 use Rattle.lines.specs.declared.states.LinkLine.{LinkLine}
 use Rattle.lines.specs.declared.states.RouterLine.{RouterLine}
 use Rattle.lines.specs.declared.states.MachineLine.{MachineLine}
-use Rattle.lines.specs.declared.states.Told.{Told}
-use Rattle.lines.specs.declared.states.Told.TheVariants.{Link, Router, Machine, Unheard}
+use Rattle.lines.specs.declared.states.State.{State}
+use Rattle.lines.specs.declared.states.State.TheVariants.{Link, Router, Machine, Unheard}
 use Rattle.lines.specs.declared.reasons.Known.{Known}
 use Rattle.lines.specs.declared.reasons.Known.TheVariants.{Owes, Attached, AtNeighbour}
 use Rattle.lines.specs.declared.waiting.Waiting.{Waiting}
@@ -103,7 +103,7 @@ up_text false = codes "down"
 
 -- the cost of a link from each end, and how many items each end has yet to take
 abbrev pub loads_text : LinkLine → Text
-loads_text l = decimal l.from_a ++ codes " " ++ decimal l.from_b ++ codes " queued " ++ decimal l.queued_a ++ codes " " ++ decimal l.queued_b
+loads_text l = decimal (l.at).from_a ++ codes " " ++ decimal (l.at).from_b ++ codes " queued " ++ decimal l.queued_a ++ codes " " ++ decimal l.queued_b
 
 -- whether a computation is under way, and in which origin state
 abbrev pub origin_text : Option ℕ → Text
@@ -114,28 +114,28 @@ origin_text (Some origin) = codes "active " ++ decimal origin
 abbrev pub link_text : Directory → LinkLine → Text
 link_text d l =
     codes "link " ++ name_text d (Some l.a) ++ codes " " ++ name_text d (Some l.b)
-    ++ codes " " ++ up_text l.up ++ codes " " ++ decimal l.session ++ codes " " ++ loads_text l
+    ++ codes " " ++ up_text (l.at).up ++ codes " " ++ decimal (l.at).session ++ codes " " ++ loads_text l
 
 -- a router: how often it published, how many messages it holds, how many of them are ripe, and how many notices of its own attachments it has yet to take
 abbrev pub router_text : Directory → RouterLine → Text
 router_text d r =
     name_text d (Some r.router)
-    ++ codes " gen " ++ decimal r.generation ++ codes " held " ++ decimal r.held ++ codes " ripe " ++ decimal r.ripe
-    ++ codes " attach " ++ decimal r.notices
+    ++ codes " gen " ++ decimal (r.at).generation ++ codes " held " ++ decimal (r.at).held ++ codes " ripe " ++ decimal (r.at).ripe
+    ++ codes " attach " ++ decimal (r.at).notices
 
 -- a router's machine for a prefix: its state, its reported and its feasible distance, and the entry that the router chose
 abbrev pub machine_text : Directory → MachineLine → Text
 machine_text d m =
-    name_text d (Some m.router) ++ codes " " ++ prefix_text m.prefix ++ codes " " ++ origin_text m.origin
-    ++ codes " RD " ++ distance_text m.rd ++ codes " FD " ++ distance_text m.fd
+    name_text d (Some m.router) ++ codes " " ++ prefix_text m.prefix ++ codes " " ++ origin_text (m.at).origin
+    ++ codes " RD " ++ distance_text (m.at).rd ++ codes " FD " ++ distance_text (m.at).fd
     ++ codes " " ++ entry_text d m.router m.entry
 
 -- what is told of a network: also a prefix that a router has not heard of
-abbrev pub told_text : Directory → Told → Text
-told_text d (Link l) = link_text d l
-told_text d (Router r) = router_text d r
-told_text d (Machine m) = machine_text d m
-told_text d (Unheard router prefix) = name_text d (Some router) ++ codes " " ++ prefix_text prefix ++ codes " unheard"
+abbrev pub state_text : Directory → State → Text
+state_text d (Link l) = link_text d l
+state_text d (Router r) = router_text d r
+state_text d (Machine m) = machine_text d m
+state_text d (Unheard router prefix) = name_text d (Some router) ++ codes " " ++ prefix_text prefix ++ codes " unheard"
 
 -- ---- what a machine knows
 

@@ -7,7 +7,7 @@ use crate::answers::{AskedJson, TraceJson};
 use crate::ends::{CountsJson, EndedJson, NextJson};
 use crate::line::Line;
 use crate::reasons::{AwaitsJson, KnownJson};
-use crate::states::ToldJson;
+use crate::states::StateJson;
 use crate::waiting::WaitingJson;
 use script::Directory;
 use std::fmt;
@@ -36,7 +36,7 @@ impl fmt::Display for Json<'_, '_, '_> {
                 let trace = TraceJson(directory, router, addr, through, path, end);
                 write!(f, "{trace}")
             }
-            Line::Told(told) => write!(f, "{}", ToldJson(directory, told)),
+            Line::State(state) => write!(f, "{}", StateJson(directory, state)),
             Line::Awaits {
                 router,
                 prefix,

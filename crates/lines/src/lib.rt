@@ -1,4 +1,4 @@
-//! The lines that the program prints, each as text for people and as an object of JSON.
+//! The lines that a run or a replay prints, each as text for people and as an object of JSON.
 //!
 //! The problem: a text for people is hard to read by programs, so each line can be printed as JSON, too. If
 //! each caller made both, they would soon tell different things. So a line is a value ([`Line`]), made once,
@@ -31,7 +31,8 @@
 //! prefixes and addresses are digits, dots and slashes. `Names` takes no other names, so none can come here.
 //!
 //! That each object is JSON for another reader is tested with `serde_json`. The schema is
-//! `docs/lines.schema.json`.
+//! `docs/lines.schema.json`. It has the lines of simulated time, too, which `timing` prints, and the objects
+//! by which a shell answers, which are those of `play`.
 #![tactic(auto)]
 
 mod answers;
@@ -49,6 +50,6 @@ pub use ends::{Counts, Ended};
 pub use json::Json;
 pub use line::Line;
 pub use reasons::Known;
-pub use states::{LinkLine, MachineLine, RouterLine, Told};
+pub use states::{LinkLine, MachineLine, RouterLine, State};
 pub use text::Text;
 pub use waiting::Waiting;

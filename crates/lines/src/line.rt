@@ -3,7 +3,7 @@
 use crate::answers::Asked;
 use crate::ends::{Counts, Ended};
 use crate::reasons::Known;
-use crate::states::Told;
+use crate::states::State;
 use crate::waiting::Waiting;
 use faults::FaultKind;
 use ipv4_prefix::Prefix;
@@ -14,7 +14,7 @@ use network_model::{Ending, LinkSpec, Step};
 pub enum Line<'a> {
     /// A row, or what was found for an address.
     Asked(Asked),
-    /// A trace from a router: the routers that the packet passes, and why it ends.
+    /// `trace A ADDR: A B C END`: the routers that the packet passes, and why it ends.
     Traced {
         router: u16,
         addr: u32,
@@ -24,7 +24,7 @@ pub enum Line<'a> {
         end: Ending,
     },
     /// What a link, a router or a machine is at.
-    Told(Told),
+    State(State),
     /// The neighbours whose replies a router's machine for a prefix awaits. For people, this and the next are
     /// two columns to the right.
     Awaits {
@@ -42,16 +42,16 @@ pub enum Line<'a> {
     Waiting(Waiting),
     /// The same, of what a step takes or sends. For people it is two columns to the right.
     Moved(Waiting),
-    /// What a router has to do next, in a network of these links.
+    /// `next A: STEP`, or `next A: nothing`: what a router has to do next, in a network of these links.
     Next {
         router: u16,
         links: &'a [LinkSpec],
         step: Option<Step>,
     },
-    /// What came of a step that was tried: done, or refused.
+    /// `done`, or `refused NUMBER NAME`: what came of a step that was tried.
     Tried(Option<FaultKind>),
-    /// What was done since the last time.
+    /// `count: S steps, U updates Q queries R replies`: what was done since the last time.
     Counted(Counts),
-    /// How a run or a replay ended.
+    /// How a run or a replay ended, for example `done: 9 steps`.
     Ended(Ended),
 }

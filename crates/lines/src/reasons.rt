@@ -91,9 +91,9 @@ impl fmt::Display for OverLinkJson {
 
 // A router that may not be there, in JSON.
 #[derive(Clone, Copy)]
-struct RouterJson<'a>(&'a Directory, Option<u16>);
+struct NameJson<'a>(&'a Directory, Option<u16>);
 
-impl fmt::Display for RouterJson<'_> {
+impl fmt::Display for NameJson<'_> {
     ghost output = { λ t. Some (router_name_json t.0.now t.1) };
 
     fn fmt<W: fmt::Write>(&self, f: &mut fmt::Formatter<W>) -> fmt::Result {
@@ -157,7 +157,7 @@ impl fmt::Display for KnownJson<'_> {
         let name = directory.name(Some(router));
         match known {
             Known::Owes(router) => {
-                let owed = RouterJson(directory, router);
+                let owed = NameJson(directory, router);
                 write!(
                     f,
                     "{{\"kind\":\"owes\",\"router\":\"{name}\",\"prefix\":\"{prefix}\",\"neighbour\":{owed}}}"
@@ -168,7 +168,7 @@ impl fmt::Display for KnownJson<'_> {
                 "{{\"kind\":\"attached\",\"router\":\"{name}\",\"prefix\":\"{prefix}\",\"cost\":{cost}}}"
             ),
             Known::AtNeighbour(router, known) => {
-                let neighbour = RouterJson(directory, router);
+                let neighbour = NameJson(directory, router);
                 let over = OverLinkJson(known);
                 write!(
                     f,

@@ -1,13 +1,14 @@
 //! What links, routers and machines are at.
 
 ghost use Rattle.std.specs.Prelude.{◌≡◌, Some};
-ghost use Rattle.lines.specs.Texts.{link_text, loads_text, machine_text, origin_text, router_text, told_text, up_text};
-ghost use Rattle.lines.specs.Objects.{distances_json, link_json, loads_json, machine_json, number_json, router_json, told_json};
+ghost use Rattle.lines.specs.Texts.{link_text, loads_text, machine_text, origin_text, router_text, state_text, up_text};
+ghost use Rattle.lines.specs.Objects.{distances_json, link_json, loads_json, machine_json, number_json, router_json, state_json};
 
 use crate::values::{DistanceJson, EntryJson, EntryText};
 use ipv4_prefix::Prefix;
-use metric::{Cost, Distance};
+use metric::Distance;
 use network_model::Entry;
+use network_states::{LinkState, MachineState, RouterState};
 use script::Directory;
 use std::fmt;
 
@@ -18,14 +19,7 @@ pub struct LinkLine {
     pub a: u16,
     /// The router at its end B.
     pub b: u16,
-    /// Whether it is up.
-    pub up: bool,
-    /// How often it came up.
-    pub session: u16,
-    /// The cost from its end A.
-    pub from_a: Cost,
-    /// The cost from its end B.
-    pub from_b: Cost,
+    pub at: LinkState,
     /// How many items its end A has yet to take.
     pub queued_a: usize,
     /// How many items its end B has yet to take.
@@ -37,14 +31,7 @@ pub struct LinkLine {
 pub struct RouterLine {
     /// Its number.
     pub router: u16,
-    /// How often it published.
-    pub generation: u64,
-    /// How many messages it holds, the ripe ones too.
-    pub held: usize,
-    /// How many of them are ripe.
-    pub ripe: usize,
-    /// How many notices of its own attachments it has yet to take.
-    pub notices: usize,
+    pub at: RouterState,
 }
 
 /// What is told of a router's machine for a prefix.
@@ -53,19 +40,14 @@ pub struct MachineLine {
     /// The router's number.
     pub router: u16,
     pub prefix: Prefix,
-    /// The number of the origin state, 0..=3; none where the machine is passive.
-    pub origin: Option<u8>,
-    /// The reported distance.
-    pub rd: Distance,
-    /// The feasible distance.
-    pub fd: Distance,
+    pub at: MachineState,
     /// The entry that the router chose.
     pub entry: Entry,
 }
 
 /// What a link, a router or a machine is at.
 #[derive(Clone, Copy)]
-pub enum Told {
+pub enum State {
     /// `link A B up SESSION C1 C2 queued Q1 Q2`, or `down` in place of `up`: the costs from the ends A
     /// and B, and the items that they have yet to take.
     Link(LinkLine),
@@ -101,7 +83,7 @@ impl fmt::Display for LoadsText {
     ghost output = { λ t. Some (loads_text t.0) };
 
     fn fmt<W: fmt::Write>(&self, f: &mut fmt::Formatter<W>) -> fmt::Result {
-        let (from_a, from_b) = (self.0.from_a, self.0.from_b);
+        let (from_a, from_b) = (self.0.at.from_a, self.0.at.from_b);
         let (queued_a, queued_b) = (self.0.queued_a, self.0.queued_b);
         write!(f, "{from_a} {from_b} queued {queued_a} {queued_b}")
     }
@@ -116,8 +98,8 @@ impl fmt::Display for LoadsJson {
 
     fn fmt<W: fmt::Write>(&self, f: &mut fmt::Formatter<W>) -> fmt::Result {
         let (a, b, c, d) = (
-            self.0.from_a,
-            self.0.from_b,
+            self.0.at.from_a,
+            self.0.at.from_b,
             self.0.queued_a,
             self.0.queued_b,
         );
@@ -180,7 +162,7 @@ impl fmt::Display for LinkText<'_> {
         let LinkText(directory, line) = *self;
         let a = directory.name(Some(line.a));
         let b = directory.name(Some(line.b));
-        let (up, session, loads) = (UpText(line.up), line.session, LoadsText(line));
+        let (up, session, loads) = (UpText(line.at.up), line.at.session, LoadsText(line));
         write!(f, "link {a} {b} {up} {session} {loads}")
     }
 }
@@ -196,7 +178,7 @@ impl fmt::Display for LinkJson<'_> {
         let LinkJson(directory, line) = *self;
         let a = directory.name(Some(line.a));
         let b = directory.name(Some(line.b));
-        let (up, session, loads) = (line.up, line.session, LoadsJson(line));
+        let (up, session, loads) = (line.at.up, line.at.session, LoadsJson(line));
         write!(
             f,
             "{{\"kind\":\"link\",\"a\":\"{a}\",\"b\":\"{b}\",\"up\":{up},\"session\":{session},{loads}}}"
@@ -214,8 +196,12 @@ impl fmt::Display for RouterText<'_> {
     fn fmt<W: fmt::Write>(&self, f: &mut fmt::Formatter<W>) -> fmt::Result {
         let RouterText(directory, line) = *self;
         let name = directory.name(Some(line.router));
-        let (generation, held, ripe) = (line.generation, line.held, line.ripe);
-        let notices = line.notices;
+        let RouterState {
+            generation,
+            held,
+            ripe,
+            notices,
+        } = line.at;
         write!(
             f,
             "{name} gen {generation} held {held} ripe {ripe} attach {notices}"
@@ -233,8 +219,12 @@ impl fmt::Display for RouterJson<'_> {
     fn fmt<W: fmt::Write>(&self, f: &mut fmt::Formatter<W>) -> fmt::Result {
         let RouterJson(directory, line) = *self;
         let name = directory.name(Some(line.router));
-        let (generation, held, ripe) = (line.generation, line.held, line.ripe);
-        let notices = line.notices;
+        let RouterState {
+            generation,
+            held,
+            ripe,
+            notices,
+        } = line.at;
         write!(
             f,
             "{{\"kind\":\"router\",\"router\":\"{name}\",\"generation\":{generation},\"held\":{held},\"ripe\":{ripe},\"notices\":{notices}}}"
@@ -252,8 +242,8 @@ impl fmt::Display for MachineText<'_> {
     fn fmt<W: fmt::Write>(&self, f: &mut fmt::Formatter<W>) -> fmt::Result {
         let MachineText(directory, line) = *self;
         let name = directory.name(Some(line.router));
-        let (prefix, state) = (line.prefix, OriginText(line.origin));
-        let (rd, fd) = (line.rd, line.fd);
+        let (prefix, state) = (line.prefix, OriginText(line.at.origin));
+        let (rd, fd) = (line.at.rd, line.at.fd);
         let entry = EntryText(directory, line.router, line.entry);
         write!(f, "{name} {prefix} {state} RD {rd} FD {fd} {entry}")
     }
@@ -269,7 +259,7 @@ impl fmt::Display for MachineJson<'_> {
     fn fmt<W: fmt::Write>(&self, f: &mut fmt::Formatter<W>) -> fmt::Result {
         let MachineJson(directory, line) = *self;
         let entry = EntryJson(directory, line.router, line.entry);
-        let distances = DistancesJson(line.origin, line.rd, line.fd);
+        let distances = DistancesJson(line.at.origin, line.at.rd, line.at.fd);
         let name = directory.name(Some(line.router));
         let prefix = line.prefix;
         write!(
@@ -281,18 +271,18 @@ impl fmt::Display for MachineJson<'_> {
 
 // A line for people.
 #[derive(Clone, Copy)]
-pub(crate) struct ToldText<'a>(pub &'a Directory, pub Told);
+pub(crate) struct StateText<'a>(pub &'a Directory, pub State);
 
-impl fmt::Display for ToldText<'_> {
-    ghost output = { λ t. Some (told_text t.0.now t.1) };
+impl fmt::Display for StateText<'_> {
+    ghost output = { λ t. Some (state_text t.0.now t.1) };
 
     fn fmt<W: fmt::Write>(&self, f: &mut fmt::Formatter<W>) -> fmt::Result {
-        let ToldText(directory, told) = *self;
-        match told {
-            Told::Link(line) => write!(f, "{}", LinkText(directory, line)),
-            Told::Router(line) => write!(f, "{}", RouterText(directory, line)),
-            Told::Machine(line) => write!(f, "{}", MachineText(directory, line)),
-            Told::Unheard { router, prefix } => {
+        let StateText(directory, state) = *self;
+        match state {
+            State::Link(line) => write!(f, "{}", LinkText(directory, line)),
+            State::Router(line) => write!(f, "{}", RouterText(directory, line)),
+            State::Machine(line) => write!(f, "{}", MachineText(directory, line)),
+            State::Unheard { router, prefix } => {
                 let name = directory.name(Some(router));
                 write!(f, "{name} {prefix} unheard")
             }
@@ -302,18 +292,18 @@ impl fmt::Display for ToldText<'_> {
 
 // A line as an object of JSON: `active` is null where no computation is under way, a distance where no way is known.
 #[derive(Clone, Copy)]
-pub(crate) struct ToldJson<'a>(pub &'a Directory, pub Told);
+pub(crate) struct StateJson<'a>(pub &'a Directory, pub State);
 
-impl fmt::Display for ToldJson<'_> {
-    ghost output = { λ t. Some (told_json t.0.now t.1) };
+impl fmt::Display for StateJson<'_> {
+    ghost output = { λ t. Some (state_json t.0.now t.1) };
 
     fn fmt<W: fmt::Write>(&self, f: &mut fmt::Formatter<W>) -> fmt::Result {
-        let ToldJson(directory, told) = *self;
-        match told {
-            Told::Link(line) => write!(f, "{}", LinkJson(directory, line)),
-            Told::Router(line) => write!(f, "{}", RouterJson(directory, line)),
-            Told::Machine(line) => write!(f, "{}", MachineJson(directory, line)),
-            Told::Unheard { router, prefix } => {
+        let StateJson(directory, state) = *self;
+        match state {
+            State::Link(line) => write!(f, "{}", LinkJson(directory, line)),
+            State::Router(line) => write!(f, "{}", RouterJson(directory, line)),
+            State::Machine(line) => write!(f, "{}", MachineJson(directory, line)),
+            State::Unheard { router, prefix } => {
                 let name = directory.name(Some(router));
                 write!(
                     f,

@@ -7,7 +7,7 @@ use crate::answers::{AskedText, TraceText};
 use crate::ends::{CountsText, EndedText, NextText};
 use crate::line::Line;
 use crate::reasons::{AwaitsText, KnownText};
-use crate::states::ToldText;
+use crate::states::StateText;
 use crate::waiting::WaitingText;
 use script::Directory;
 use std::fmt;
@@ -36,7 +36,7 @@ impl fmt::Display for Text<'_, '_, '_> {
                 let trace = TraceText(directory, router, addr, through, path, end);
                 write!(f, "{trace}")
             }
-            Line::Told(told) => write!(f, "{}", ToldText(directory, told)),
+            Line::State(state) => write!(f, "{}", StateText(directory, state)),
             Line::Awaits {
                 router: _,
                 prefix: _,

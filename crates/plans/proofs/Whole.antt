@@ -2,7 +2,7 @@
 use Rattle.std.proofs.Common.{◌≡◌, ℕ, ◌<◌, List, [], ◌∷◌, ◌++◌, length, take, zero, suc, Option, Some, None, IfSome, option_map, refl, ap, ◌∙◌, arith, length-take}
 use Rattle.plans.specs.declared.fault.Cause.{Cause}
 use Rattle.plans.specs.declared.fault.Cause.TheVariants.{Memory, Unreadable, TooLarge, Document, Lines, Network, Refused, Journal, Times, TimeSpent, Unwritable, Workers, JournalKept, NothingSaved}
-use Rattle.plans.specs.Faults.{Gives, CannotRead, IsUnread}
+use Rattle.plans.specs.Faults.{Gives, CannotRead, IsUnreadFrom}
 
 -- what a limit does not reach is whole
 take_short : (n : ℕ) (xs : List ℕ) → length (take n xs) < n → take n xs ≡ xs
@@ -32,18 +32,18 @@ read_longer (Some xs) n most old bs nothing h longer =
     (xs, refl, omega (arith, longer, same, length-take n xs))
 
 -- a reader that fails gives no bytes that matter
-pub cannot_read : (cause : Cause) → CannotRead cause → (bytes : List ℕ) → IsUnread bytes cause
-cannot_read (Memory m) why bytes = tt
-cannot_read Unreadable why bytes = tt
-cannot_read TooLarge why bytes = absurd why
-cannot_read (Document fault) why bytes = absurd why
-cannot_read (Lines fault) why bytes = absurd why
-cannot_read (Network fault) why bytes = absurd why
-cannot_read (Refused refusal) why bytes = absurd why
-cannot_read (Journal fault) why bytes = absurd why
-cannot_read (Times fault) why bytes = absurd why
-cannot_read TimeSpent why bytes = absurd why
-cannot_read Unwritable why bytes = absurd why
-cannot_read (Workers fault) why bytes = absurd why
-cannot_read JournalKept why bytes = absurd why
-cannot_read NothingSaved why bytes = absurd why
+pub cannot_read : (most : ℕ) (cause : Cause) → CannotRead cause → (bytes : List ℕ) → IsUnreadFrom most bytes cause
+cannot_read most (Memory m) why bytes = tt
+cannot_read most Unreadable why bytes = tt
+cannot_read most TooLarge why bytes = absurd why
+cannot_read most (Document fault) why bytes = absurd why
+cannot_read most (Lines fault) why bytes = absurd why
+cannot_read most (Network fault) why bytes = absurd why
+cannot_read most (Refused refusal) why bytes = absurd why
+cannot_read most (Journal fault) why bytes = absurd why
+cannot_read most (Times fault) why bytes = absurd why
+cannot_read most TimeSpent why bytes = absurd why
+cannot_read most Unwritable why bytes = absurd why
+cannot_read most (Workers fault) why bytes = absurd why
+cannot_read most JournalKept why bytes = absurd why
+cannot_read most NothingSaved why bytes = absurd why

@@ -111,6 +111,10 @@ pub record IsWantOfMemory (fault : Fault) : Type 0 where
 abbrev pub most_bytes : ℕ
 most_bytes = 4194304
 
+-- the most bytes of a journal's file
+abbrev pub most_journal_bytes : ℕ
+most_journal_bytes = 268435456
+
 -- the bytes are those that a reader has to give, where it is known which
 abbrev pub Gives : Option Text → Text → Type 0
 Gives known bytes = IfSome known (λ k. bytes ≡ k)
@@ -125,8 +129,12 @@ CannotRead (Memory _) = ⊤
 CannotRead Unreadable = ⊤
 CannotRead _ = ⊥
 
+-- why the bytes of a file, which may have so many, are not read
+abbrev pub IsUnreadFrom : ℕ → Text → Cause → Type 0
+IsUnreadFrom most bytes TooLarge = most < length bytes
+IsUnreadFrom most bytes cause = CannotRead cause
+
 -- why the bytes of a file are not read as a text
 abbrev pub IsUnread : Text → Cause → Type 0
-IsUnread bytes TooLarge = most_bytes < length bytes
 IsUnread bytes (Document IsNoToml) = (length bytes ≤ most_bytes) × ¬ (IsUtf8 bytes)
-IsUnread bytes cause = CannotRead cause
+IsUnread bytes cause = IsUnreadFrom most_bytes bytes cause

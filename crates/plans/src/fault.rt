@@ -3,6 +3,7 @@
 ghost use Rattle.std.specs.Prelude.{◌≡◌};
 ghost use Rattle.network_model.specs.Journal.{most_steps};
 ghost use Rattle.plans.specs.declared.fault.Cause.TheVariants.{Memory as OfMemory, Document as OfDocument, Refused as OfRefusal, Journal as OfJournal, Workers as OfWorkers};
+ghost use Rattle.plans.specs.Kinds.{cause_kind};
 ghost use Rattle.plans.specs.Faults.{status_of, unplaced, line_fault, opening_fault};
 
 use crate::times::TimesFault;
@@ -53,6 +54,10 @@ pub enum Cause {
 }
 
 impl From<Cause> for FaultKind {
+    ghost use Rattle.plans.specs.Kinds.{cause_kind};
+
+    ghost from_gives = { λ cause k. k ≡ cause_kind cause };
+
     fn from(fault: Cause) -> FaultKind {
         match fault {
             Cause::Memory(fault) => FaultKind::from(fault),
@@ -82,8 +87,10 @@ pub struct Fault {
 }
 
 impl Fault {
-    /// What number it is told by.
-    pub fn kind(&self) -> FaultKind {
+    /// What number and name it is told by.
+    pub fn kind(&self) -> FaultKind
+        ensures { result ≡ cause_kind (self.now).cause }
+    {
         FaultKind::from(self.cause)
     }
 

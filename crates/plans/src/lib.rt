@@ -5,7 +5,7 @@
 //! number:
 //!
 //! ```text
-//!   file            47 Unreadable, 46 TooLarge (above 4,194,304 bytes)
+//!   file            47 Unreadable, 46 TooLarge (above 4,194,304 bytes; a journal above 268,435,456)
 //!   document        40 BadToml, 41 BadKey                             `scenario`
 //!   names           42 BadName
 //!   network         24 BadRouters, 25 to 27 with their place          `world`

@@ -12,13 +12,20 @@ pub enum TimesKey {
     Changes,
 }
 
-impl fmt::Display for TimesKey {
-    fn fmt<W: fmt::Write>(&self, f: &mut fmt::Formatter<W>) -> fmt::Result {
-        f.write_str(match self {
+impl TimesKey {
+    /// As it is written in the document.
+    pub fn name(self) -> &'static str {
+        match self {
             TimesKey::Links => "links",
             TimesKey::Routers => "routers",
             TimesKey::Changes => "changes",
-        })
+        }
+    }
+}
+
+impl fmt::Display for TimesKey {
+    fn fmt<W: fmt::Write>(&self, f: &mut fmt::Formatter<W>) -> fmt::Result {
+        f.write_str(self.name())
     }
 }
 
@@ -37,11 +44,16 @@ pub enum TimesFault {
         key: TimesKey,
         position: usize,
     },
-    /// There are more than 10,000 changes.
+    /// The file is larger than 4,194,304 bytes, or has more than 10,000 changes.
     TooLarge,
 }
 
 impl From<TimesFault> for FaultKind {
+    ghost use Rattle.std.specs.Prelude.{◌≡◌};
+    ghost use Rattle.plans.specs.Kinds.{times_kind};
+
+    ghost from_gives = { λ fault k. k ≡ times_kind fault };
+
     fn from(fault: TimesFault) -> FaultKind {
         match fault {
             TimesFault::Document { fault } => FaultKind::from(fault),

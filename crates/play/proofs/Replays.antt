@@ -13,11 +13,11 @@ use Rattle.plans.specs.declared.fault.Cause.{Cause}
 use Rattle.plans.specs.declared.fault.Fault.{Fault}
 use Rattle.plans.specs.declared.fault.Cause.TheVariants.{Journal as OfJournal}
 use Rattle.plans.specs.declared.plan.Plan.{Plan}
-use Rattle.plans.specs.Faults.{unplaced, IsWantOfMemory, CannotRead, Gives, most_bytes}
+use Rattle.plans.specs.Faults.{unplaced, IsWantOfMemory, IsUnreadFrom, Gives, most_bytes, most_journal_bytes}
 use Rattle.plans.specs.Scenarios.{network_read}
 use Rattle.plans.proofs.Planned.{IsPlanned}
-use Rattle.reports.specs.declared.end.End.{End}
-use Rattle.reports.specs.declared.end.End.TheVariants.{Done, Refused, Differs}
+use Rattle.reports.specs.declared.outcome.Outcome.{Outcome}
+use Rattle.reports.specs.declared.outcome.Outcome.TheVariants.{Done, Refused, Differs}
 use Rattle.play.specs.Replays.{IsJournalOf, Replays, RunsWhole, StepsReplay, StopsReplay}
 
 -- the journal is one of the scenario's network
@@ -35,7 +35,7 @@ journal_of text lines given plan names links attachments version steps report sh
 }
 
 -- a replay of its steps is one of the journal
-pub replay_ends : (text lines : Text) (plan : Plan) (planned : IsPlanned text plan) (version : Version) (steps : List Step) (f g : World) (end : End) → IsJournalOf text lines planned.0 version steps
+pub replay_ends : (text lines : Text) (plan : Plan) (planned : IsPlanned text plan) (version : Version) (steps : List Step) (f g : World) (end : Outcome) → IsJournalOf text lines planned.0 version steps
     → f ≡ opening plan.network → StepsReplay version steps f g end → Replays text lines end
 replay_ends text lines plan planned version steps f g end journal opened replays = by_end end replays
   where
@@ -45,7 +45,7 @@ replay_ends text lines plan planned version steps f g end journal opened replays
     whole : (v : Version) → IsJournalOf text lines planned.0 v steps → Runs f steps g → RunsWhole text lines v
     whole v is_journal runs = record { parts = planned.0; steps = steps; is_journal = is_journal; world = g; runs = from steps runs }
 
-    by_end : (end : End) → StepsReplay version steps f g end → Replays text lines end
+    by_end : (end : Outcome) → StepsReplay version steps f g end → Replays text lines end
     by_end Done runs = (version, whole version journal runs)
     by_end Refused stops = record { parts = planned.0; version = version; steps = steps; is_journal = journal; done = stops.0; world = g; runs = from (take stops.0 steps) stops.2; refused = stops.1; stops = stops.3 }
     by_end Differs differs = whole Two (subst (λ v. IsJournalOf text lines planned.0 v steps) differs.0 journal) differs.1
@@ -54,9 +54,9 @@ replay_ends text lines plan planned version steps f g end journal opened replays
 pub stops_memory : (text : Text) (known : Option Text) (fault : Fault) → IsWantOfMemory fault → StopsReplay text known fault
 stops_memory text known fault memory = inl (inr (inl memory))
 
--- a journal whose reader fails
-pub stops_unread : (text : Text) (known : Option Text) (plan : Plan) (cause : Cause) → length text ≤ most_bytes → IsPlanned text plan → CannotRead cause → StopsReplay text known (unplaced cause)
-stops_unread text known plan cause short planned cannot = inr (short, (planned.0, planned.1, inl (refl, cannot)))
+-- a journal that is not read
+pub stops_unread : (text lines : Text) (known : Option Text) (plan : Plan) (cause : Cause) → length text ≤ most_bytes → IsPlanned text plan → Gives known lines → IsUnreadFrom most_journal_bytes lines cause → StopsReplay text known (unplaced cause)
+stops_unread text lines known plan cause short planned gives unread = inr (short, (planned.0, planned.1, lines, gives, inl (refl, unread)))
 
 -- what is not a journal of the scenario's network
 pub stops_journal : (text lines given : Text) (known : Option Text) (plan : Plan) (names : List Text) (links : List LinkSpec) (attachments : List (Prefix × ℕ × ℕ)) (e : JournalFault) (fault : Fault) → length text ≤ most_bytes
@@ -70,9 +70,9 @@ stops_journal text lines given known plan names links attachments e fault short 
       (
         planned.0,
         planned.1,
+        lines,
+        gives,
         inr (
-          lines,
-          gives,
           e,
           subst (λ ls. IsJournalFault planned.0.names planned.0.links planned.0.attachments ls e) same
               (subst (λ xs. IsJournalFault planned.0.names planned.0.links xs given e) (attachments_are ∙ ap (λ n. n.attachments) planned.2.network)

@@ -4,8 +4,8 @@ use Rattle.texts.specs.Words.{Text}
 use Rattle.command_line.specs.declared.words.Words.{Words}
 use Rattle.command_line.specs.declared.words.Words.TheVariants.{Check, Run, Replay, Time, Explain, Shell}
 use Rattle.plans.specs.declared.fault.Fault.{Fault}
-use Rattle.reports.specs.declared.end.End.{End}
-use Rattle.reports.specs.declared.end.End.TheVariants.{Done}
+use Rattle.reports.specs.declared.outcome.Outcome.{Outcome}
+use Rattle.reports.specs.declared.outcome.Outcome.TheVariants.{Done}
 use Rattle.plans.specs.Faults.{OfBytes, status_of}
 use Rattle.plans.specs.Scenarios.{StopsReading}
 use Rattle.reports.specs.Ends.{IsChecked, KeepsJournal, status_at}
@@ -14,7 +14,7 @@ use Rattle.play.specs.Replays.{Replays, StopsReplay}
 use Rattle.play.specs.Works.{Comes, IsOfNothing, IsOfWorkers, IsWorked, Stops, StopsOn, counted, is_kept, kept, none_kept}
 
 -- how a command ends that has met no fault, where the text of a journal is wanted or not
-abbrev pub Ends : Bool → Words → Option Text → Option Text → Text → Text → End → Type 0
+abbrev pub Ends : Bool → Words → Option Text → Option Text → Text → Text → Outcome → Type 0
 Ends wanted (Check _ _) scenario journal old new end = (end ≡ Done) × (new ≡ old) × OfBytes scenario IsChecked
 Ends wanted (Run _ _ _ _ false _ _ _) scenario journal old new end = (end ≡ Done) × OfBytes scenario (IsWorked kept (Comes false) (is_kept (λ d f. KeepsJournal wanted d f (Some old) (Some new))))
 Ends wanted (Run _ _ _ _ true _ _ _) scenario journal old new end = (end ≡ Done) × (new ≡ old) × OfBytes scenario (IsWorked counted (Comes false) none_kept)
@@ -38,5 +38,5 @@ StopsWords (Shell _ _ true _ _) scenario journal fault = OfBytes scenario (λ by
 -- the program comes to an end, whose status it answers; or it stops for a fault, whose status it answers, and which alone its caller is handed
 abbrev pub IsPlayed : Bool → Words → Option Text → Option Text → Text → Text → Option Fault → Option Fault → ℕ → Type 0
 IsPlayed wanted words scenario journal old new told told_after status =
-    ((end : End) × (status ≡ status_at end) × Ends wanted words scenario journal old new end × (told_after ≡ told))
+    ((end : Outcome) × (status ≡ status_at end) × Ends wanted words scenario journal old new end × (told_after ≡ told))
     ⊎ ((fault : Fault) × (status ≡ status_of fault.cause) × StopsWords words scenario journal fault × (told_after ≡ Some fault))

@@ -16,9 +16,9 @@ use Rattle.journal.specs.declared.read.Version.TheVariants.{Two}
 use Rattle.journal.specs.Journal.{IsJournal, IsJournalFault as IsJournalFault}
 use Rattle.plans.specs.declared.fault.Fault.{Fault}
 use Rattle.plans.specs.declared.fault.Cause.TheVariants.{Journal as OfJournal}
-use Rattle.reports.specs.declared.end.End.{End}
-use Rattle.reports.specs.declared.end.End.TheVariants.{Done, Refused, Differs}
-use Rattle.plans.specs.Faults.{unplaced, most_bytes, Gives, CannotRead}
+use Rattle.reports.specs.declared.outcome.Outcome.{Outcome}
+use Rattle.reports.specs.declared.outcome.Outcome.TheVariants.{Done, Refused, Differs}
+use Rattle.plans.specs.Faults.{unplaced, most_bytes, most_journal_bytes, Gives, IsUnreadFrom}
 use Rattle.plans.specs.Scenarios.{IsScenario, StopsReading, network_read}
 
 -- why a step of a journal is refused, of which so many were done: a journal has no place for more, or as the world refuses it
@@ -53,22 +53,22 @@ pub record RunsToRefusal (bytes lines : Text) : Type 0 where
   pub stops : StopsAt (replay_refusal world done) steps done refused
 
 -- how a replay of these steps of a journal of this version ends, from one world to the other: a report of the first version never differs
-abbrev pub StepsReplay : Version → List Step → World → World → End → Type 0
+abbrev pub StepsReplay : Version → List Step → World → World → Outcome → Type 0
 StepsReplay version steps w v Done = Runs w steps v
 StepsReplay version steps w v Refused = (done : ℕ) × (e : Refusal) × Runs w (take done steps) v × StopsAt (replay_refusal v done) steps done e
 StepsReplay version steps w v Differs = (version ≡ Two) × Runs w steps v
 
 -- how a replay ends: a report of the first version never differs
-abbrev pub Replays : Text → Text → End → Type 0
+abbrev pub Replays : Text → Text → Outcome → Type 0
 Replays bytes lines Done = (version : Version) × RunsWhole bytes lines version
 Replays bytes lines Refused = RunsToRefusal bytes lines
 Replays bytes lines Differs = RunsWhole bytes lines Two
 
--- why a journal of the network of a scenario, which is read first, is not read: its reader fails, memory runs out, or it is no such journal
+-- why a journal of the network of a scenario, which is read first, is not read: its reader fails, memory runs out, it is too long, or it is no such journal
 abbrev pub StopsJournal : Text → Option Text → Fault → Type 0
-StopsJournal bytes journal fault = (parts : Parts) × IsScenario bytes parts × (
-    ((fault.place ≡ None) × CannotRead fault.cause)
-    ⊎ ((lines : Text) × Gives journal lines × (e : JournalFault) × IsJournalFault parts.names parts.links parts.attachments lines e × (fault ≡ unplaced (OfJournal e))))
+StopsJournal bytes journal fault = (parts : Parts) × IsScenario bytes parts × (lines : Text) × Gives journal lines × (
+    ((fault.place ≡ None) × IsUnreadFrom most_journal_bytes lines fault.cause)
+    ⊎ ((e : JournalFault) × IsJournalFault parts.names parts.links parts.attachments lines e × (fault ≡ unplaced (OfJournal e))))
 
 -- why a replay is not begun: for its scenario, or else for its journal
 abbrev pub StopsReplay : Text → Option Text → Fault → Type 0

@@ -1,6 +1,6 @@
 //! What a shell prints beside the lines of its commands.
 
-use advice::{Typed, advise_typed};
+use advice::{Typed, explain_typed};
 use command_line::Format;
 use network_model::LinkSpec;
 use plans::{Fault, refuse};
@@ -24,7 +24,7 @@ pub(crate) fn print_text<W: Write>(
 
 /// A line that was typed, and how it is told of where it is not done.
 #[derive(Clone, Copy)]
-pub(crate) struct Told<'a> {
+pub(crate) struct TypedLine<'a> {
     pub alloc: Global,
     pub names: &'a Names,
     pub links: &'a [LinkSpec],
@@ -35,9 +35,9 @@ pub(crate) struct Told<'a> {
     pub line: &'a [u8],
 }
 
-impl Told<'_> {
+impl TypedLine<'_> {
     // Tells more of the fault of the line.
-    fn advise<W: Write>(&self, fault: Fault, out: &mut W) -> io::Result<()> {
+    fn explain<W: Write>(&self, fault: Fault, out: &mut W) -> io::Result<()> {
         let typed = Typed {
             names: self.names,
             links: self.links,
@@ -45,22 +45,22 @@ impl Told<'_> {
             line: self.line,
             kind: fault.kind(),
         };
-        advise_typed(self.alloc, &typed, out)
+        explain_typed(self.alloc, &typed, out)
     }
 }
 
 /// Tells on `err` why a line was not done, after all that was printed before, and more where that is asked
 /// for. A write that fails is lost.
-pub(crate) fn tell_fault<W: Write, E: Write>(
-    told: &Told<'_>,
+pub(crate) fn print_fault<W: Write, E: Write>(
+    typed: &TypedLine<'_>,
     fault: Fault,
     out: &mut W,
     err: &mut E,
 ) {
     let _ = out.flush();
     let _ = refuse(fault, err);
-    if told.explain {
-        let _ = told.advise(fault, err);
+    if typed.explain {
+        let _ = typed.explain(fault, err);
     }
 }
 
@@ -74,7 +74,7 @@ pub(crate) fn begin_answer<W: Write>(number: usize, out: &mut W) -> io::Result<(
 
 /// Ends that object: the fault, if there is one, what is told more of it, and how many steps were done.
 pub(crate) fn end_answer<W: Write>(
-    told: &Told<'_>,
+    typed: &TypedLine<'_>,
     fault: Option<Fault>,
     steps: u64,
     out: &mut W,
@@ -83,10 +83,10 @@ pub(crate) fn end_answer<W: Write>(
         Some(fault) => {
             let cause = fault.cause;
             write!(out, "],\"fault\":\"{cause}\"")?;
-            if told.explain {
-                let mut bytes = Vec::new(told.alloc);
+            if typed.explain {
+                let mut bytes = Vec::new(typed.alloc);
                 // Where there is no memory for all of it, what there is memory for is told.
-                let _ = told.advise(fault, &mut bytes);
+                let _ = typed.explain(fault, &mut bytes);
                 let text = str::from_utf8(&bytes).unwrap_or("");
                 let text = Escaped { text };
                 write!(out, ",\"told\":\"{text}\"")?;

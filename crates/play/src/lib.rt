@@ -35,7 +35,8 @@
 //! each step that was done was lawful (`IsRunToEnd` in `specs/Works.antt`). `AreDone` in
 //! `sessions/specs/Commands.antt` says what each command does.
 //!
-//! What is tricky: a write that fails is lost, and changes nothing else. What is printed is not in these
+//! What is tricky: a write that fails is lost, and changes nothing else, but that a shell ends at an answer which
+//! nobody reads any more. What is printed is not in these
 //! clauses, but for the texts of single lines. [`play_by`] is the same with other thresholds for threads and
 //! a gate that they call, so tests can start threads in a small network.
 #![tactic(auto)]
@@ -48,5 +49,5 @@ mod shell;
 
 pub use plans::{Cause, Fault, Plan, Source, read_bytes, read_plan, read_text, refuse};
 pub use program::{play, play_by, run_quietly};
-pub use reports::{End, Keeper};
+pub use reports::{Keeper, Outcome};
 pub use sessions::{Host, NO_THRESHOLDS, NoGate, THRESHOLDS, Thresholds, TurnGate};

@@ -14,7 +14,9 @@ use lines::{Ended, Line};
 use plans::{Cause, Fault, Plan};
 use reports::{Keeper, end_line};
 use script::{Command, Directory};
-use sessions::{Counted, Crew, Host, Kept, Live, Session, Telling, TurnGate, do_commands, steps};
+use sessions::{
+    Counted, Crew, Host, Kept, Live, PrintStyle, Session, TurnGate, do_commands, steps,
+};
 use std::alloc::Global;
 use std::io::{Read, Write};
 use std::marker::Brand;
@@ -37,7 +39,7 @@ pub fn with_fabric<H, G, J, W, E, K, V>(
     plan: Plan,
     hands: Hands,
     gate: &G,
-    telling: Telling,
+    style: PrintStyle,
     typed: Option<J>,
     out: &mut W,
     err: &mut E,
@@ -59,7 +61,7 @@ where
 {
     let unnamed = Unnamed::many(alloc, plan.network.routers())?;
     with_named::<Brand, H, G, J, W, E, K, V>(
-        rt, alloc, plan, unnamed, hands, gate, telling, typed, out, err, keeper, kept,
+        rt, alloc, plan, unnamed, hands, gate, style, typed, out, err, keeper, kept,
     )
 }
 
@@ -71,7 +73,7 @@ fn with_named<B, H, G, J, W, E, K, V>(
     unnamed: Vec<Unnamed>,
     hands: Hands,
     gate: &G,
-    telling: Telling,
+    style: PrintStyle,
     typed: Option<J>,
     out: &mut W,
     err: &mut E,
@@ -106,7 +108,7 @@ where
         alloc,
         gate,
         directory: &directory,
-        telling,
+        style,
     };
     match Kept::new(*rt, alloc, hands.crew, fabric, readers) {
         Ok(live) => {
@@ -192,7 +194,7 @@ pub fn with_simulation<H, G, J, W, E>(
     alloc: Global,
     plan: Plan,
     gate: &G,
-    telling: Telling,
+    style: PrintStyle,
     typed: Option<J>,
     out: &mut W,
     err: &mut E,
@@ -217,7 +219,7 @@ where
         alloc,
         gate,
         directory: &directory,
-        telling,
+        style,
     };
     count_named::<Brand, H, G, J, W, E>(&session, counted, typed, &commands, out, err)
 }
@@ -274,7 +276,7 @@ where
         Some(input) => do_lines(session, live, input, out, err)?,
         None => {
             let done = do_commands(session, live, commands, out, err);
-            end_line(session.telling.progress, err);
+            end_line(session.style.progress, err);
             done?;
         }
     }

@@ -11,8 +11,8 @@ use crate::replay::replay;
 use command_line::{Format, Words};
 use explanations::Page;
 use plans::{Fault, Plan, read_plan, read_text, refuse};
-use reports::{End, JournalText, Keeper, check};
-use sessions::{Crew, Host, NoGate, THRESHOLDS, Telling, Thresholds, TurnGate};
+use reports::{JournalText, Keeper, Outcome, check};
+use sessions::{Crew, Host, NoGate, PrintStyle, THRESHOLDS, Thresholds, TurnGate};
 use std::alloc::Global;
 use std::io;
 use std::io::{Empty, Read, Write};
@@ -20,8 +20,9 @@ use timing::{TimeOptions, time};
 
 /// Does what the words ask for, and answers the exit status. Only a replay, a shell and a run in simulated time
 /// read `journal`: the shell reads its commands there, and the run its document of times. A fault is a line on `err`, and where the program stops for it,
-/// it is in `told`. A write to `out` or `err` that fails is lost, and changes nothing else. Where a run
-/// or a shell ends with status 0, its journal's text is added to `kept`.
+/// it is in `told`. A write to `out` or `err` that fails is lost, and changes nothing else, but that a shell
+/// ends at an answer which nobody reads. Where a run or a shell ends with status 0, its journal's text is added to
+/// `kept`.
 pub fn play<H, R, J, W, E>(
     rt: &H,
     alloc: Global,
@@ -99,7 +100,7 @@ fn do_words<H, G, R, J, W, E>(
     err: &mut E,
     wanted: bool,
     kept: &mut Vec<u8>,
-) -> Result<End, Fault>
+) -> Result<Outcome, Fault>
 where
     H: Host,
     G: TurnGate + Sync,
@@ -125,14 +126,14 @@ where
             no_journal,
             ..
         } => {
-            let telling = Telling {
+            let style = PrintStyle {
                 explain,
                 moves: false,
                 format,
                 progress,
             };
             if no_journal {
-                return count(by, scenario, telling, None::<J>, out, err);
+                return count(by, scenario, style, None::<J>, out, err);
             }
             let crew = Crew {
                 threads,
@@ -144,7 +145,7 @@ where
                 scenario,
                 hands,
                 wanted,
-                telling,
+                style,
                 None::<J>,
                 out,
                 err,
@@ -157,13 +158,13 @@ where
             progress,
             ..
         } => {
-            let telling = Telling {
+            let style = PrintStyle {
                 explain,
                 moves: false,
                 format,
                 progress,
             };
-            replay(alloc, scenario, journal, telling, out, err)
+            replay(alloc, scenario, journal, style, out, err)
         }
         Words::Time { spells, format, .. } => {
             let options = TimeOptions { format, spells };
@@ -171,7 +172,7 @@ where
         }
         Words::Explain { kind } => {
             let _ = write!(out, "{}", Page(kind));
-            Ok(End::Done)
+            Ok(Outcome::Done)
         }
         Words::Shell {
             explain,
@@ -179,14 +180,14 @@ where
             no_journal,
             ..
         } => {
-            let telling = Telling {
+            let style = PrintStyle {
                 explain,
                 moves: explain,
                 format,
                 progress: false,
             };
             if no_journal {
-                return count(by, scenario, telling, Some(journal), out, err);
+                return count(by, scenario, style, Some(journal), out, err);
             }
             let crew = Crew {
                 threads: 1,
@@ -194,7 +195,7 @@ where
             };
             let hands = Hands { crew, workers: 1 };
             let typed = Some(journal);
-            keep(by, scenario, hands, wanted, telling, typed, out, err, kept)
+            keep(by, scenario, hands, wanted, style, typed, out, err, kept)
         }
     }
 }
@@ -206,12 +207,12 @@ fn keep<H, G, R, J, W, E>(
     scenario: R,
     hands: Hands,
     wanted: bool,
-    telling: Telling,
+    style: PrintStyle,
     typed: Option<J>,
     out: &mut W,
     err: &mut E,
     kept: &mut Vec<u8>,
-) -> Result<End, Fault>
+) -> Result<Outcome, Fault>
 where
     H: Host,
     G: TurnGate + Sync,
@@ -219,7 +220,7 @@ where
     J: Read + Drop,
     W: Write,
     E: Write,
-    ensures ok { IfOk result (λ end. (end ≡ End.Done) × OfBytes (R.remaining scenario)
+    ensures ok { IfOk result (λ end. (end ≡ Outcome.Done) × OfBytes (R.remaining scenario)
         (IsWorked kept_net (Comes (is_some typed))
         (is_kept (λ d f. KeepsJournal wanted d f (Some kept.old.items) (Some kept.new.items))))) }
     ensures fault { IfErr result (λ e. OfBytes (R.remaining scenario) (λ bytes.
@@ -235,25 +236,25 @@ where
         plan,
         hands,
         gate,
-        telling,
+        style,
         typed,
         out,
         err,
         &mut keeper,
         kept,
     )?;
-    Ok(End::Done)
+    Ok(Outcome::Done)
 }
 
 // The same on a network whose steps are counted. Nothing is kept.
 fn count<H, G, R, J, W, E>(
     by: (&H, Global, &G),
     scenario: R,
-    telling: Telling,
+    style: PrintStyle,
     typed: Option<J>,
     out: &mut W,
     err: &mut E,
-) -> Result<End, Fault>
+) -> Result<Outcome, Fault>
 where
     H: Host,
     G: TurnGate + Sync,
@@ -261,7 +262,7 @@ where
     J: Read + Drop,
     W: Write,
     E: Write,
-    ensures ok { IfOk result (λ end. (end ≡ End.Done) × OfBytes (R.remaining scenario)
+    ensures ok { IfOk result (λ end. (end ≡ Outcome.Done) × OfBytes (R.remaining scenario)
         (IsWorked counted_net (Comes (is_some typed)) none_kept)) }
     ensures fault { IfErr result (λ e. OfBytes (R.remaining scenario) (λ bytes.
         StopsOn counted_net IsOfNothing (Stops (is_some typed)) bytes e)) }
@@ -269,8 +270,8 @@ where
     let (_, alloc, gate) = by;
     let text = read_text(alloc, scenario)?;
     let plan = read_plan(alloc, text.as_str())?;
-    with_simulation::<H, G, J, W, E>(alloc, plan, gate, telling, typed, out, err)?;
-    Ok(End::Done)
+    with_simulation::<H, G, J, W, E>(alloc, plan, gate, style, typed, out, err)?;
+    Ok(Outcome::Done)
 }
 
 /// Does the script of a plan by one thread and one worker, and has kept what is to be kept of the run. What the
@@ -295,7 +296,7 @@ where
         threads: 1,
         thresholds: THRESHOLDS,
     };
-    let telling = Telling {
+    let style = PrintStyle {
         explain: false,
         moves: false,
         format: Format::Text,
@@ -309,7 +310,7 @@ where
         plan,
         Hands { crew, workers: 1 },
         &NoGate,
-        telling,
+        style,
         None::<Empty>,
         &mut out,
         &mut err,

@@ -16,9 +16,9 @@ use journal::{Journal, StepText, Version, first_difference, read_journal};
 use lines::{Ended, Line};
 use network_model::{LinkSpec, NoMemory, Refusal, Step};
 use plans::{Cause, Fault, read_bytes, read_plan, read_text};
-use reports::{End, Printer, end_line, print_report, tell_steps};
+use reports::{Outcome, Printer, end_line, print_report, show_steps_done};
 use script::Directory;
-use sessions::{Counted, NoGate, Session, Telling};
+use sessions::{Counted, NoGate, PrintStyle, Session};
 use std::alloc::Global;
 use std::io;
 use std::io::{Read, Write};
@@ -34,10 +34,10 @@ pub fn replay<R, J, W, E>(
     alloc: Global,
     scenario: R,
     journal: J,
-    telling: Telling,
+    style: PrintStyle,
     out: &mut W,
     err: &mut E,
-) -> Result<End, Fault>
+) -> Result<Outcome, Fault>
 where
     R: Read + Drop,
     J: Read + Drop,
@@ -63,7 +63,7 @@ where
         alloc,
         gate: &NoGate,
         directory: &plan.directory,
-        telling,
+        style,
     };
     let end = do_journal(&session, &mut live, &journal, out, err)?;
     Ok(end)
@@ -76,32 +76,32 @@ fn do_journal<W: Write, E: Write>(
     journal: &Journal<'_>,
     out: &mut W,
     err: &mut E,
-) -> Result<End, Fault>
+) -> Result<Outcome, Fault>
     requires { (live.old).simulation.steps ≡ 0 }
     ensures ok { IfOk result (StepsReplay journal.now.version journal.now.steps.items
         (live.old).simulation.world (live.new).simulation.world) }
     ensures fault { IfErr result IsWantOfMemory }
 {
-    let ran = do_steps(live, &journal.steps, session.telling.progress, err);
-    end_line(session.telling.progress, err);
+    let ran = do_steps(live, &journal.steps, session.style.progress, err);
+    end_line(session.style.progress, err);
     let printer = session.printer();
     if let Some(refusal) = ran.refusal {
         let step = ran.done + 1;
         let fault = FaultKind::from(refusal);
         let refused = Ended::Refused { step, fault };
         let _ = printer.print(&Line::Ended(refused), out);
-        if session.telling.explain {
+        if session.style.explain {
             let _ = out.flush();
             let links = live.simulation().network().links();
-            let _ = tell_refused(session.directory, links, journal, ran.done, refusal, err);
+            let _ = explain_refusal(session.directory, links, journal, ran.done, refusal, err);
         }
-        return Ok(End::Refused);
+        return Ok(Outcome::Refused);
     }
     match journal.version {
         Version::One => {
             let done = Ended::StepsDone { steps: ran.done };
             let _ = printer.print(&Line::Ended(done), out);
-            Ok(End::Done)
+            Ok(Outcome::Done)
         }
         Version::Two => compare(session, live.simulation().world(), journal, out, err),
     }
@@ -109,7 +109,7 @@ fn do_journal<W: Write, E: Write>(
 
 // Tells of the step that is refused after so many: its line of the journal, when its refusal comes, and what to
 // do.
-fn tell_refused<E: Write>(
+fn explain_refusal<E: Write>(
     directory: &Directory,
     links: &[LinkSpec],
     journal: &Journal<'_>,
@@ -138,7 +138,7 @@ fn do_steps<E: Write>(live: &mut Counted, steps: &[Step], progress: bool, err: &
     let all = steps.len();
     for (done, &step) in steps.iter().enumerate() {
         if done % SLICE == 0 {
-            tell_steps(progress, done, all, err);
+            show_steps_done(progress, done, all, err);
         }
         match do_next(live, step, done) {
             Ok(()) => {}
@@ -150,7 +150,7 @@ fn do_steps<E: Write>(live: &mut Counted, steps: &[Step], progress: bool, err: &
             }
         }
     }
-    tell_steps(progress, all, all, err);
+    show_steps_done(progress, all, all, err);
     Ran {
         done: all,
         refusal: None,
@@ -178,8 +178,8 @@ fn compare<W: Write, E: Write>(
     journal: &Journal<'_>,
     out: &mut W,
     err: &mut E,
-) -> Result<End, Fault>
-    ensures end { IfOk result (λ end. (end ≡ End.Done) ⊎ (end ≡ End.Differs)) }
+) -> Result<Outcome, Fault>
+    ensures end { IfOk result (λ end. (end ≡ Outcome.Done) ⊎ (end ≡ Outcome.Differs)) }
     ensures fault { IfErr result IsWantOfMemory }
 {
     let printer = session.printer();
@@ -195,23 +195,23 @@ fn compare<W: Write, E: Write>(
         Some(line) => {
             let differs = Ended::Differs { line };
             let _ = printer.print(&Line::Ended(differs), out);
-            if session.telling.explain {
+            if session.style.explain {
                 let _ = out.flush();
-                let _ = tell_difference(line, journal.report, &printed, err);
+                let _ = explain_difference(line, journal.report, &printed, err);
             }
-            Ok(End::Differs)
+            Ok(Outcome::Differs)
         }
         None => {
             let steps = journal.steps.len();
             let agrees = Ended::Agrees { steps };
             let _ = printer.print(&Line::Ended(agrees), out);
-            Ok(End::Done)
+            Ok(Outcome::Done)
         }
     }
 }
 
 // Tells of the line of a report that differs: as the journal has it, and as the replay has it.
-fn tell_difference<E: Write>(
+fn explain_difference<E: Write>(
     number: usize,
     journal: &[u8],
     replay: &[u8],

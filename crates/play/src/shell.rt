@@ -4,16 +4,17 @@ ghost use Rattle.std.specs.Prelude.{◌≡◌, IfErr};
 ghost use Rattle.either.specs.Either.{is_left};
 ghost use Rattle.play.specs.Works.{CannotReadOn, WereTried};
 
-use crate::answers::{Listed, Told, begin_answer, end_answer, print_text, tell_fault};
+use crate::answers::{Listed, TypedLine, begin_answer, end_answer, print_fault, print_text};
 use command_line::{Format, SHELL_COMMANDS};
 use fabric::FabricName;
 use plans::{Cause, Fault, read_failure};
 use script::read_command;
 use sessions::{Host, Live, Session, TurnGate, do_command, network, steps};
-use std::io::{BufRead, BufReader, Read, Write};
+use std::io::{BufRead, BufReader, ErrorKind, Read, Write};
 
-/// Does the commands that the lines of an input say, each answered at once, to the end of the input or to `quit`. A
-/// line that cannot be read or whose command is refused ends nothing: it is told on `err`, and as JSON in its answer.
+/// Does the commands that the lines of an input say, each answered at once, to the end of the input or to `quit`, or
+/// to the first answer that nobody reads any more. A line that cannot be read or whose command is refused ends nothing: it
+/// is told on `err`, and as JSON in its answer.
 pub fn do_lines<B, H, G, J, W, E>(
     session: &Session<'_, G>,
     live: &mut Live<B, H>,
@@ -77,23 +78,25 @@ where
         Ok(goes_on) => (goes_on, None),
         Err(cause) => (true, Some(Fault::from(cause))),
     };
-    let told = Told {
+    let typed = TypedLine {
         alloc: session.alloc,
         names: session.directory.names(),
         links: network(live).links(),
-        explain: session.telling.explain,
+        explain: session.style.explain,
         number,
         line,
     };
-    match (session.telling.format, fault) {
-        (Format::Text, Some(fault)) => tell_fault(&told, fault, out, err),
+    match (session.style.format, fault) {
+        (Format::Text, Some(fault)) => print_fault(&typed, fault, out, err),
         (Format::Text, None) => {}
         (Format::Json, fault) => {
-            let _ = end_answer(&told, fault, steps(live), out);
+            let _ = end_answer(&typed, fault, steps(live), out);
         }
     }
-    let _ = out.flush();
-    goes_on
+    match out.flush() {
+        Err(error) if error.kind() == ErrorKind::BrokenPipe => false,
+        _ => goes_on,
+    }
 }
 
 // Does what the line of this number says, and answers whether the shell goes on. As JSON, what it prints
@@ -113,7 +116,7 @@ where
     ensures tried { WereTried live.old live.new }
     ensures side { is_left live.new ≡ is_left live.old }
 {
-    match session.telling.format {
+    match session.style.format {
         Format::Text => answer(session, live, line, out),
         Format::Json => {
             let _ = begin_answer(number, out);
@@ -144,12 +147,12 @@ where
         "" => Ok(true),
         "quit" => Ok(false),
         "help" => {
-            let _ = print_text(session.telling.format, "help", SHELL_COMMANDS, out);
+            let _ = print_text(session.style.format, "help", SHELL_COMMANDS, out);
             Ok(true)
         }
         _ => match line.strip_prefix("say ") {
             Some(text) => {
-                let _ = print_text(session.telling.format, "said", text, out);
+                let _ = print_text(session.style.format, "said", text, out);
                 Ok(true)
             }
             None => do_typed(session, live, line, out),

@@ -7,6 +7,9 @@ use std::io::{Read, Write};
 use std::os::unix::fs::MetadataExt;
 use std::{fs, io};
 
+// By this path Linux shows what the standard input reads.
+const INPUT: &str = "/dev/stdin";
+
 /// A file, or the standard input.
 #[derive(Drop)]
 pub enum Input {
@@ -35,7 +38,7 @@ pub fn open_file(rt: &HostRuntime, path: &str) -> Source<Input> {
 }
 
 /// Tells why a file cannot be read, if it cannot: its path, and the system's words. A write that fails is lost.
-pub fn tell_unreadable<E: Write>(rt: &HostRuntime, path: &str, err: &mut E) {
+pub fn explain_unreadable<E: Write>(rt: &HostRuntime, path: &str, err: &mut E) {
     if path == "-" {
         return;
     }
@@ -65,5 +68,13 @@ pub fn is_one_file(rt: &HostRuntime, one: &str, other: &str) -> bool
     match (fs::metadata(rt, one), fs::metadata(rt, other)) {
         (Ok(one), Ok(other)) => one.dev() == other.dev() && one.ino() == other.ino(),
         _ => false,
+    }
+}
+
+/// Whether a path leads to the file that the standard input reads. A pipe, a terminal or a device is no such file.
+pub fn is_input(rt: &HostRuntime, path: &str) -> bool {
+    match fs::metadata(rt, INPUT) {
+        Ok(found) => found.is_file() && is_one_file(rt, INPUT, path),
+        Err(_) => false,
     }
 }

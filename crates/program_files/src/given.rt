@@ -16,7 +16,7 @@ pub fn given_words(rt: &HostRuntime) -> io::Result<Result<Vec<String>, u8>> {
     match env::args(rt) {
         Ok(words) => Ok(Ok(words.collect(alloc)?)),
         Err(error) if error.kind() == io::ErrorKind::InvalidData => {
-            Ok(Err(tell(rt, &not_utf8(alloc)?)))
+            Ok(Err(print_error(rt, &not_utf8(alloc)?)))
         }
         Err(error) => Err(error),
     }
@@ -34,7 +34,7 @@ pub fn exit_code(rt: &HostRuntime, status: io::Result<u8>) -> ExitCode {
 
 /// Tells of an error of the command line, or gives the help that was asked for, and answers the exit
 /// status: 0 where help was asked for, 2 where a growth was refused, else 1.
-pub fn tell(rt: &HostRuntime, error: &Error) -> u8
+pub fn print_error(rt: &HostRuntime, error: &Error) -> u8
     ensures help { (kind_of error.now ≡ ErrorKind.DisplayHelp)
         ⊎ (kind_of error.now ≡ ErrorKind.DisplayVersion)
         → result ≡ 0 }

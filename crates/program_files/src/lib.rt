@@ -15,22 +15,22 @@
 //!   journal that is read, the document of times, and the journal that is written. [`is_read`] says so for `dualnet-view`.
 //! - [`open_file`] never fails. A file that cannot be opened is `Source::Missing`, and each read of it fails.
 //!   So `plans` finds that it is unreadable, as it finds all other faults of a scenario.
-//! - [`tell_unreadable`] says why, in the system's words.
-//! - [`tell`] prints an error of the command line, or the help that was asked for, and answers the status.
+//! - [`explain_unreadable`] says why, in the system's words.
+//! - [`print_error`] prints an error of the command line, or the help that was asked for, and answers the status.
 //!
 //! What always holds: the paths are those that the definition reads off the words (`specs/Paths.antt`). Two
 //! equal paths lead to one file (`is_one_file`). The status is 0 for help, 2 for want of memory, else 1
-//! (`help`, `memory`, `mistake` of [`tell`]).
+//! (`help`, `memory`, `mistake` of [`print_error`]).
 //!
 //! What is tricky: two paths may lead to one file though they are spelled otherwise. The system is asked for
-//! device and inode of both, and if it does not answer, they count as two files. No clause says what a file
-//! holds.
+//! device and inode of both, and if it does not answer, they count as two files. The file that the standard
+//! input reads has no path of its own, so [`is_input`] asks for `/dev/stdin`. No clause says what a file holds.
 #![tactic(auto)]
 
 mod files;
 mod given;
 mod paths;
 
-pub use files::{Input, is_one_file, open_file, tell_unreadable};
-pub use given::{exit_code, given_words, tell};
+pub use files::{Input, explain_unreadable, is_input, is_one_file, open_file};
+pub use given::{exit_code, given_words, print_error};
 pub use paths::{is_read, kept_path, replayed_path, scenario_path, times_path};

@@ -4,9 +4,10 @@ use crate::texts_of_lines::{Linked, pair};
 use crate::written::is_written;
 use command_line::{Format, Words};
 use harness::{play_in_memory, run_in_memory};
-use lines::{Answer, Asked, Ended, Json, Known, Line, LinkLine, MachineLine, RouterLine, Told};
+use lines::{Answer, Asked, Ended, Json, Known, Line, LinkLine, MachineLine, RouterLine, State};
 use metric::{Cost, Distance};
 use network_model::{Ending, Entry, Neighbour, Prefix};
+use network_states::{LinkState, MachineState, RouterState};
 use serde_json::Value;
 use std::alloc::Global;
 use std::process::Abort;
@@ -50,17 +51,19 @@ fn the_line_of_a_link(rt: HostRuntime) {
     let line = LinkLine {
         a: 1,
         b: 0,
-        up: false,
-        session: u16::MAX,
-        from_a: Cost::new(1).expect(&rt, "a cost"),
-        from_b: Cost::new(65535).expect(&rt, "a cost"),
+        at: LinkState {
+            up: false,
+            session: u16::MAX,
+            from_a: Cost::new(1).expect(&rt, "a cost"),
+            from_b: Cost::new(65535).expect(&rt, "a cost"),
+        },
         queued_a: 0,
         queued_b: 70_000,
     };
     let pair = pair(&rt, rt.alloc());
     let want = "{\"kind\":\"link\",\"a\":\"b\",\"b\":\"a\",\"up\":false,\"session\":65535,\
         \"costs\":[1,65535],\"queued\":[0,70000]}";
-    let line = Line::Told(Told::Link(line));
+    let line = Line::State(State::Link(line));
     is_json(&rt, rt.alloc(), &pair, &line, want);
 }
 
@@ -68,15 +71,17 @@ fn the_line_of_a_link(rt: HostRuntime) {
 fn the_line_of_a_router(rt: HostRuntime) {
     let line = RouterLine {
         router: 1,
-        generation: u64::MAX,
-        held: 3,
-        ripe: 2,
-        notices: 70_000,
+        at: RouterState {
+            generation: u64::MAX,
+            held: 3,
+            ripe: 2,
+            notices: 70_000,
+        },
     };
     let pair = pair(&rt, rt.alloc());
     let want = "{\"kind\":\"router\",\"router\":\"b\",\"generation\":18446744073709551615,\
         \"held\":3,\"ripe\":2,\"notices\":70000}";
-    let line = Line::Told(Told::Router(line));
+    let line = Line::State(State::Router(line));
     is_json(&rt, rt.alloc(), &pair, &line, want);
 }
 
@@ -85,22 +90,24 @@ fn the_lines_of_a_machine(rt: HostRuntime) {
     let line = MachineLine {
         router: 1,
         prefix: prefix(&rt),
-        origin: Some(3),
-        rd: Distance::new(4_294_967_294),
-        fd: Distance::new(u32::MAX),
+        at: MachineState {
+            origin: Some(3),
+            rd: Distance::new(4_294_967_294),
+            fd: Distance::new(u32::MAX),
+        },
         entry: Entry::Unreachable,
     };
     let pair = pair(&rt, rt.alloc());
     let want = "{\"kind\":\"machine\",\"router\":\"b\",\"prefix\":\"10.0.0.0/8\",\"active\":3,\
         \"rd\":4294967294,\"fd\":null,\"entry\":\"unreachable\"}";
-    let line = Line::Told(Told::Machine(line));
+    let line = Line::State(State::Machine(line));
     is_json(&rt, rt.alloc(), &pair, &line, want);
     let want = "{\"kind\":\"unheard\",\"router\":\"b\",\"prefix\":\"10.0.0.0/8\"}";
-    let unheard = Told::Unheard {
+    let unheard = State::Unheard {
         router: 1,
         prefix: prefix(&rt),
     };
-    is_json(&rt, rt.alloc(), &pair, &Line::Told(unheard), want);
+    is_json(&rt, rt.alloc(), &pair, &Line::State(unheard), want);
 }
 
 #[test]

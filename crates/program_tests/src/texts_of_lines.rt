@@ -1,9 +1,10 @@
 //! Lines with numbers that no run reaches.
 
 use crate::written::is_written;
-use lines::{Answer, Asked, Line, LinkLine, MachineLine, RouterLine, Text, Told};
+use lines::{Answer, Asked, Line, LinkLine, MachineLine, RouterLine, State, Text};
 use metric::{Cost, Distance};
 use network_model::{Entry, LinkSpec, Prefix, Step};
+use network_states::{LinkState, MachineState, RouterState};
 use script::{Directory, read_script};
 use std::alloc::{AllocError, Global};
 use std::process::Abort;
@@ -45,16 +46,18 @@ fn the_line_of_a_link(rt: HostRuntime) {
     let line = LinkLine {
         a: 1,
         b: 0,
-        up: false,
-        session: u16::MAX,
-        from_a: Cost::new(1).expect(&rt, "a cost"),
-        from_b: Cost::new(65535).expect(&rt, "a cost"),
+        at: LinkState {
+            up: false,
+            session: u16::MAX,
+            from_a: Cost::new(1).expect(&rt, "a cost"),
+            from_b: Cost::new(65535).expect(&rt, "a cost"),
+        },
         queued_a: 0,
         queued_b: 70_000,
     };
     let pair = pair(&rt, rt.alloc());
     let want = "link b a down 65535 1 65535 queued 0 70000";
-    let line = Line::Told(Told::Link(line));
+    let line = Line::State(State::Link(line));
     is_text(&rt, rt.alloc(), &pair, &line, want);
 }
 
@@ -62,14 +65,16 @@ fn the_line_of_a_link(rt: HostRuntime) {
 fn the_line_of_a_router(rt: HostRuntime) {
     let line = RouterLine {
         router: 1,
-        generation: u64::MAX,
-        held: 3,
-        ripe: 2,
-        notices: 70_000,
+        at: RouterState {
+            generation: u64::MAX,
+            held: 3,
+            ripe: 2,
+            notices: 70_000,
+        },
     };
     let pair = pair(&rt, rt.alloc());
     let want = "b gen 18446744073709551615 held 3 ripe 2 attach 70000";
-    let line = Line::Told(Told::Router(line));
+    let line = Line::State(State::Router(line));
     is_text(&rt, rt.alloc(), &pair, &line, want);
 }
 
@@ -78,14 +83,16 @@ fn the_line_of_a_machine(rt: HostRuntime) {
     let line = MachineLine {
         router: 1,
         prefix: Prefix::new(0x0a00_0000, 8).expect(&rt, "a prefix"),
-        origin: Some(3),
-        rd: Distance::new(4_294_967_294),
-        fd: Distance::new(u32::MAX),
+        at: MachineState {
+            origin: Some(3),
+            rd: Distance::new(4_294_967_294),
+            fd: Distance::new(u32::MAX),
+        },
         entry: Entry::Unreachable,
     };
     let pair = pair(&rt, rt.alloc());
     let want = "b 10.0.0.0/8 active 3 RD 4294967294 FD inf unreachable";
-    let line = Line::Told(Told::Machine(line));
+    let line = Line::State(State::Machine(line));
     is_text(&rt, rt.alloc(), &pair, &line, want);
 }
 

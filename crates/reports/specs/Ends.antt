@@ -6,13 +6,13 @@ use Rattle.texts.specs.Words.{Text}
 use Rattle.script.specs.Reading.{Parts}
 use Rattle.script.specs.Directories.{Directory}
 use Rattle.journal.specs.Journal.{journal_text}
-use Rattle.reports.specs.declared.end.End.{End}
-use Rattle.reports.specs.declared.end.End.TheVariants.{Done, Refused, Differs}
+use Rattle.reports.specs.declared.outcome.Outcome.{Outcome}
+use Rattle.reports.specs.declared.outcome.Outcome.TheVariants.{Done, Refused, Differs}
 use Rattle.plans.specs.Faults.{most_bytes}
 use Rattle.plans.specs.Scenarios.{IsScenario}
 
 -- the exit status
-abbrev pub status_at : End → ℕ
+abbrev pub status_at : Outcome → ℕ
 status_at Done = 0
 status_at Refused = 2
 status_at Differs = 3

@@ -1,26 +1,24 @@
 -- What is told of links, routers, machines and rows.
-use Rattle.std.specs.Prelude.{◌≡◌, ℕ, List, [], ◌∷◌, ◌++◌, ◌⊎◌, Option, Some, None, IsSome, nat_lt, if◌then◌else◌, option_map, length, is_some}
+use Rattle.std.specs.Prelude.{◌≡◌, ℕ, List, [], ◌∷◌, ◌++◌, ◌⊎◌, Option, Some, None, nat_lt, if◌then◌else◌, length}
 use Rattle.std.specs.FinMap.{find as row_of}
 use Rattle.std.specs.Io.KnownBytes.{Appends}
 use Rattle.ipv4_prefix.specs.Prefix.{Prefix, prefix_cmp}
-use Rattle.diffusing_replies.specs.Origin.{origin_number}
-use Rattle.network_model.specs.Machine.{Machine}
 use Rattle.network_model.specs.World.{Link, Router, World}
 use Rattle.network_model.specs.declared.route.Entry.{Entry}
 use Rattle.network_model.specs.declared.step.Refusal.{Refusal}
 use Rattle.network_model.specs.declared.step.Refusal.TheVariants.{UnknownRouter}
-use Rattle.dual_machine.specs.State.{MachineState}
+use Rattle.dual_machine.specs.State.{MachineState as Machine}
+use Rattle.network_states.specs.States.{link_state, IsMachineState}
 use Rattle.texts.specs.Words.{Text}
 use Rattle.texts.specs.Lines.{lines_text}
 use Rattle.script.specs.Directories.{Directory}
 use Rattle.command_line.specs.declared.format.Format.{Format}
 use Rattle.lines.specs.declared.answers.Asked.TheVariants.{Row}
 use Rattle.lines.specs.declared.line.Line.{Line}
-use Rattle.lines.specs.declared.line.Line.TheVariants.{Asked, Told}
+use Rattle.lines.specs.declared.line.Line.TheVariants.{Asked, State}
 use Rattle.lines.specs.declared.states.LinkLine.{LinkLine}
-use Rattle.lines.specs.declared.states.RouterLine.{RouterLine}
 use Rattle.lines.specs.declared.states.MachineLine.{MachineLine}
-use Rattle.lines.specs.declared.states.Told.TheVariants.{Machine as OfMachine, Unheard}
+use Rattle.lines.specs.declared.states.State.TheVariants.{Machine as OfMachine, Unheard}
 use Rattle.reports.specs.Formats.{line_in}
 
 -- why nothing is told of a router: it is not there
@@ -32,38 +30,18 @@ abbrev pub link_line : Link → LinkLine
 link_line k = record {
   a = k.a.router;
   b = k.b.router;
-  up = k.up;
-  session = k.session;
-  from_a = k.a.cost;
-  from_b = k.b.cost;
+  at = link_state k;
   queued_a = length k.a.inbox;
   queued_b = length k.b.inbox;
 }
 
--- what is told of a router that has yet to take so many notices of its attachments
-abbrev pub router_line : ℕ → Router → ℕ → RouterLine
-router_line number r notices = record {
-  router = number;
-  generation = r.generation;
-  held = length (r.gate).held;
-  ripe = (r.gate).ripe;
-  notices = notices;
-}
-
--- the number of the origin state of the computation under way, if one is
-abbrev pub IsOriginNumber : MachineState → Option ℕ → Type 0
-IsOriginNumber s None = (s.machine).computation ≡ None
-IsOriginNumber s (Some number) = IsSome (s.machine).computation × (option_map origin_number s.origin ≡ Some number)
-
--- a line that tells of a router's machine for a prefix: an origin state is named exactly while a computation is under way
+-- a line that tells of a router's machine for a prefix
 pub record TellsOfMachine (number : ℕ) (r : Router) (p : Prefix) (line : MachineLine) : Type 0 where
   pub machine : Machine
-  pub is_machine : row_of prefix_cmp p r.machines ≡ Some machine
+  pub is_machine : row_of prefix_cmp p r.machines ≡ Some machine.machine
   pub router : line.router ≡ number
   pub prefix : line.prefix ≡ p
-  pub origin : is_some line.origin ≡ is_some machine.computation
-  pub rd : line.rd ≡ machine.rd
-  pub fd : line.fd ≡ machine.fd
+  pub at : IsMachineState machine line.at
   pub entry : row_of prefix_cmp p (r.table).control ≡ Some line.entry
 
 -- what is told of a router's machine for a prefix; none where the router has no machine or no row for it
@@ -75,8 +53,8 @@ IsMachineLine number r p (Some line) = TellsOfMachine number r p line
 
 -- what is told of a router's machine for a prefix, or that the router has not heard of the prefix
 abbrev pub state_line : ℕ → Prefix → Option MachineLine → Line
-state_line number p None = Told (Unheard number p)
-state_line number p (Some line) = Told (OfMachine line)
+state_line number p None = State (Unheard number p)
+state_line number p (Some line) = State (OfMachine line)
 
 -- rows of a router, a line each
 abbrev pub rows_text : Format → Directory → ℕ → List (Prefix × Entry) → Text

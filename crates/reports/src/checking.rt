@@ -5,7 +5,7 @@ ghost use Rattle.plans.specs.Faults.{OfBytes};
 ghost use Rattle.plans.specs.Scenarios.{StopsReading};
 ghost use Rattle.reports.specs.Ends.{IsChecked};
 
-use crate::end::End;
+use crate::outcome::Outcome;
 use plans::{Fault, Plan, read_plan, read_text};
 use std::alloc::Global;
 use std::io::{Read, Write};
@@ -15,8 +15,8 @@ pub fn check<R: Read + Drop, W: Write>(
     alloc: Global,
     scenario: R,
     out: &mut W,
-) -> Result<End, Fault>
-    ensures ok { IfOk result (λ end. (end ≡ End.Done)
+) -> Result<Outcome, Fault>
+    ensures ok { IfOk result (λ end. (end ≡ Outcome.Done)
         × OfBytes (R.remaining scenario) IsChecked) }
     ensures fault { IfErr result (λ e. OfBytes (R.remaining scenario)
         (λ bytes. StopsReading bytes e)) }
@@ -35,5 +35,5 @@ pub fn check<R: Read + Drop, W: Write>(
         out,
         "ok: {routers} routers, {links} links, {prefixes} prefixes, {commands} commands"
     );
-    Ok(End::Done)
+    Ok(Outcome::Done)
 }

@@ -27,15 +27,15 @@
 //! `specs/Report.antt`). So is what is told of a queue the queue's, and of a gate the gate's
 //! (`specs/Waiting.antt`).
 //!
-//! The statuses ([`End`]): 0 done, 2 a step of the journal was refused, 3 the reports differ.
+//! The statuses ([`Outcome`]): 0 done, 2 a step of the journal was refused, 3 the reports differ.
 //!
 //! What is tricky: no clause says that a report tells of all links and routers. The tests do.
 #![tactic(auto)]
 
 mod checking;
-mod end;
 mod keeping;
 mod moved;
+mod outcome;
 mod printer;
 mod progress;
 mod reasons;
@@ -44,11 +44,11 @@ mod table;
 mod waiting;
 
 pub use checking::check;
-pub use end::End;
 pub use keeping::{JournalText, Keeper};
 pub use moved::moved_by;
+pub use outcome::Outcome;
 pub use printer::{Printer, print_either};
-pub use progress::{end_line, tell_commands, tell_steps};
+pub use progress::{end_line, show_commands_done, show_steps_done};
 pub use report::{print_report, print_state};
 pub use table::show_table;
 pub use waiting::{show_held, show_next, show_queue};

@@ -3,7 +3,13 @@
 use std::io::Write;
 
 /// Tells how many commands of a script were done, and how many steps.
-pub fn tell_commands<E: Write>(asked: bool, done: usize, all: usize, steps: usize, err: &mut E) {
+pub fn show_commands_done<E: Write>(
+    asked: bool,
+    done: usize,
+    all: usize,
+    steps: usize,
+    err: &mut E,
+) {
     if asked {
         let _ = write!(err, "\rdualnet: {done} of {all} commands, {steps} steps");
         let _ = err.flush();
@@ -11,7 +17,7 @@ pub fn tell_commands<E: Write>(asked: bool, done: usize, all: usize, steps: usiz
 }
 
 /// Tells how many steps of a journal were done.
-pub fn tell_steps<E: Write>(asked: bool, done: usize, all: usize, err: &mut E) {
+pub fn show_steps_done<E: Write>(asked: bool, done: usize, all: usize, err: &mut E) {
     if asked {
         let _ = write!(err, "\rdualnet: {done} of {all} steps");
         let _ = err.flush();

@@ -2,15 +2,15 @@
 
 ghost use Rattle.std.specs.Prelude.{◌≡◌, ◌<◌, Err, Some, IsOk, IfOk, IfSome, OnOk, OnErr, MatchOption, length, slice_get};
 ghost use Rattle.reports.specs.Report.{unknown_router};
-ghost use Rattle.reports.specs.Report.{link_line as line_of_link, router_line as line_of_router, IsMachineLine, IsOriginNumber, Prints, PrintsMachine};
+ghost use Rattle.reports.specs.Report.{link_line as line_of_link, IsMachineLine, Prints, PrintsMachine};
 
 use crate::printer::Printer;
 use crate::reasons::print_reasons;
-use dual_machine::{Machine, Mode};
 use ipv4_prefix::Prefix;
-use lines::{Line, LinkLine, MachineLine, RouterLine, Told};
+use lines::{Line, LinkLine, MachineLine, RouterLine, State};
 use link_fifo::Links;
 use network_model::{End, Refusal};
+use network_states::{LinkState, MachineState, RouterState};
 use router_core::Router;
 use std::io;
 use std::io::Write;
@@ -65,8 +65,8 @@ fn print_links<W: Write>(printer: &Printer<'_>, links: &Links, out: &mut W) -> i
 {
     let count = u16::try_from(links.len()).unwrap_or(u16::MAX);
     for link in 0..count {
-        let told = Told::Link(link_line(links, link));
-        printer.print(&Line::Told(told), out)?;
+        let state = State::Link(link_line(links, link));
+        printer.print(&Line::State(state), out)?;
     }
     Ok(())
 }
@@ -94,8 +94,11 @@ fn print_router<W: Write>(
 ) -> io::Result<()>
     ensures { OnOk result (Prints (W.contents out.old) (W.contents out.new)) }
 {
-    let told = Told::Router(router_line(number, router, notices));
-    printer.print(&Line::Told(told), out)?;
+    let line = RouterLine {
+        router: number,
+        at: RouterState::of(router, notices),
+    };
+    printer.print(&Line::State(State::Router(line)), out)?;
     for (prefix, _) in router.table().rows() {
         print_machine(printer, number, router, prefix, out)?;
     }
@@ -114,10 +117,10 @@ fn print_machine<W: Write>(
         (W.contents out.old) (W.contents out.new)) }
 {
     match machine_line(number, router, prefix) {
-        Some(line) => printer.print(&Line::Told(Told::Machine(line)), out),
+        Some(line) => printer.print(&Line::State(State::Machine(line)), out),
         None => {
             let router = number;
-            printer.print(&Line::Told(Told::Unheard { router, prefix }), out)
+            printer.print(&Line::State(State::Unheard { router, prefix }), out)
         }
     }
 }
@@ -130,25 +133,9 @@ fn link_line(links: &Links, link: u16) -> LinkLine
     LinkLine {
         a: links.router(link, End::A),
         b: links.router(link, End::B),
-        up: links.is_up(link),
-        session: links.session(link),
-        from_a: links.cost(link, End::A),
-        from_b: links.cost(link, End::B),
+        at: LinkState::of(links, link),
         queued_a: links.queued(link, End::A),
         queued_b: links.queued(link, End::B),
-    }
-}
-
-// What is told of a router that has yet to take so many notices of its attachments.
-fn router_line(number: u16, router: &Router, notices: usize) -> RouterLine
-    ensures { result ≡ line_of_router number router.now notices }
-{
-    RouterLine {
-        router: number,
-        generation: router.generation(),
-        held: router.held(),
-        ripe: router.ripe(),
-        notices,
     }
 }
 
@@ -161,19 +148,7 @@ fn machine_line(number: u16, router: &Router, prefix: Prefix) -> Option<MachineL
     Some(MachineLine {
         router: number,
         prefix,
-        origin: origin_number(machine),
-        rd: machine.rd(),
-        fd: machine.fd(),
+        at: MachineState::of(machine),
         entry,
     })
-}
-
-// The number of the origin state of the computation under way.
-fn origin_number(machine: &Machine) -> Option<u8>
-    ensures { IsOriginNumber machine.now result }
-{
-    match machine.mode() {
-        Mode::Passive => None,
-        Mode::Active { origin, .. } => Some(origin.number()),
-    }
 }

@@ -1,12 +1,13 @@
 -- What books show.
 use Rattle.std.proofs.Common.{refl, ap, sym, subst, ◌∙◌, ◌≡◌, ◌≢◌, ◌⊎◌, inl, inr, ℕ, ◌+◌, ◌<◌, Bool, false, true, List, [], ◌∷◌, ◌++◌, Option, Some, None, length, get_or, set, slice_get, arith}
-use Rattle.std.specs.Prelude.{is_some, slice_set}
+use Rattle.std.specs.Prelude.{slice_set}
 use Rattle.std.specs.FinMap.{find as row_of}
 use Rattle.std.proofs.lemmas.Bool.{cases_eq, false≢true}
 use Rattle.std.proofs.lemmas.List.{set-get_or}
 use Rattle.std.proofs.lemmas.Option.{get_or_from_slice_get, none-some, same_Some}
 use Rattle.ipv4_prefix.specs.Prefix.{Prefix, prefix_cmp}
 use Rattle.network_model.specs.World.{Router}
+use Rattle.network_states.specs.States.{IsMachineState}
 use Rattle.run_states.specs.declared.shown.MachineShown.{MachineShown}
 use Rattle.run_states.specs.Shown.{AreSame, ShowsMachine}
 use Rattle.run_states.specs.Books.{ShowsPlace, ShowsUnmarked, machines_after}
@@ -17,9 +18,7 @@ pub shows_same : (r : Router) (p : Prefix) (m n : MachineShown) → AreSame m n 
 shows_same r p m n same shows = record {
   machine = shows.machine;
   is_machine = shows.is_machine;
-  rd = same.rd ∙ shows.rd;
-  fd = same.fd ∙ shows.fd;
-  origin_is = ap is_some same.origin ∙ shows.origin_is;
+  at = subst (IsMachineState shows.machine) (sym same.at) shows.at;
   awaits = λ q below. same.awaits q below ∙ shows.awaits q below;
   chosen = same.chosen ∙ shows.chosen;
   published = same.published ∙ shows.published;

@@ -1,7 +1,6 @@
 pub mod Lists
 pub mod Same
 pub mod Books
-pub mod Untouched
 pub mod Unmet
 pub mod Marked
 pub mod Followed

@@ -7,6 +7,7 @@ use Rattle.std.proofs.lemmas.Bool.{cases_eq, false≢true}
 use Rattle.std.proofs.lemmas.Option.{none-some, same_Some, slice_get_read, slice_get_within}
 use Rattle.ipv4_prefix.specs.Prefix.{Prefix, prefix_cmp}
 use Rattle.network_model.specs.declared.step.Step.{Step}
+use Rattle.network_model.specs.declared.step.Step.TheVariants.{LinkUp, LinkDown, SetCost, Deliver, Publish, Release, Attach, Detach}
 use Rattle.network_model.specs.Machine.{Machine}
 use Rattle.network_model.specs.World.{Attachments, Network, Router, World}
 use Rattle.network_model.specs.Step.{next}
@@ -15,16 +16,17 @@ use Rattle.no_packet_loops.proofs.Runs.{reached}
 use Rattle.no_packet_loops.proofs.Wiring.{wired}
 use Rattle.no_packet_loops.proofs.WorldLaws.{next-shape}
 use Rattle.world.specs.Headline.{IsReached}
+use Rattle.world.specs.Touched.{touched_by}
 use Rattle.run_states.specs.declared.link_book.LinkBook.{LinkBook}
 use Rattle.run_states.specs.declared.router_book.RouterBook.{RouterBook}
 use Rattle.run_states.specs.declared.shown.MachineShown.{MachineShown}
 use Rattle.run_states.specs.declared.recorder.Recorder.{Recorder}
 use Rattle.run_states.specs.Books.{HasPlaces, MachinesMarked, ShowsPlace, link_shows, router_shows}
 use Rattle.run_states.specs.Recorders.{IsCurrent, IsRecorderOf, IsRouterCurrent}
-use Rattle.run_states.specs.Marks.{LinkMarked, Marks, RouterMarked, StepMarked, touched_link, touched_router, touches}
+use Rattle.run_states.specs.Marks.{LinkMarked, Marks, RouterMarked, StepMarked, either_of, touched_link, touched_router, touches}
 use Rattle.run_states.proofs.Lists.{all_at, all_from, slice_get-set_other, slice_get-set_same, written_alike}
 use Rattle.run_states.proofs.Unmet.{SameMachine, machine_untouched, stays}
-use Rattle.run_states.proofs.Untouched.{link_untouched, router_untouched}
+use Rattle.world.proofs.Untouched.{untouched}
 
 -- ---- recorders
 
@@ -227,15 +229,13 @@ shows_moved : (x y : Router) (p : Prefix) (m : Machine) (j : ℕ) (shown : List 
 shows_moved x y p m j shown at same place =
     let now = same m at in
     let s = place.2 in
-    let is : s.machine ≡ m = same_Some s.machine m (sym s.is_machine ∙ now.0) in (
+    let is : s.machine.machine ≡ m = same_Some s.machine.machine m (sym s.is_machine ∙ now.0) in (
       place.0,
       place.1,
       record {
         machine = s.machine;
         is_machine = at ∙ ap Some (sym is);
-        rd = s.rd;
-        fd = s.fd;
-        origin_is = s.origin_is;
+        at = s.at;
         awaits = s.awaits;
         chosen = s.chosen ∙ sym now.1;
         published = s.published ∙ sym now.2;
@@ -249,6 +249,29 @@ touched_or_not (Some k) i = by_number (cases_eq k i)
     by_number : (k ≡ i) ⊎ (k ≢ i) → (Some k ≡ Some i) ⊎ (Some k ≢ Some i)
     by_number (inl e) = inl (ap Some e)
     by_number (inr d) = inr (λ e. d (same_Some k i e))
+
+-- a step that does not touch a router does not touch its attachments either
+spares_attachments : (w : World) (s : Step) (i : ℕ) → touched_router w s ≢ Some i → (touched_by s w).attachments ≢ Some i
+spares_attachments w (LinkUp l) i apart = apart
+spares_attachments w (LinkDown l) i apart = apart
+spares_attachments w (SetCost k q cost) i apart = apart
+spares_attachments w (Deliver k q) i apart = apart
+spares_attachments w (Publish k) i apart = none-some i
+spares_attachments w (Release k) i apart = none-some i
+spares_attachments w (Attach k p cost) i apart = apart
+spares_attachments w (Detach k p) i apart = apart
+
+-- nor does it touch the router itself
+spares_router : (r o : Option ℕ) (i : ℕ) → either_of r o ≢ Some i → r ≢ Some i
+spares_router (Some k) o i apart = apart
+spares_router None o i apart = none-some i
+
+-- a step leaves each router that it does not touch, with its attachments
+router_untouched : (w : World) (s : Step) (i : ℕ) → touched_router w s ≢ Some i → (slice_get (next w s).routers i ≡ slice_get w.routers i) × (slice_get (next w s).attachments i ≡ slice_get w.attachments i)
+router_untouched w s i apart = (
+  (untouched w s).routers i (spares_router (touched_by s w).router (touched_by s w).attachments i apart),
+  (untouched w s).attachments i (spares_attachments w s i apart),
+)
 
 -- a world that became another by a step, or stayed as it was
 pub record IsLedTo (w : World) (s : Step) (v : World) : Type 0 where
@@ -264,7 +287,7 @@ led_to_next n w s r =
     record {
       routers_len = shape.routers;
       attachments_len = shape.attachments;
-      links = link_untouched w s;
+      links = (untouched w s).links;
       routers = router_untouched w s;
       machines = λ i x y p is at there apart. machine_untouched w i x y p at ((reached n (wired n r.valid) p r.steps w r.runs).kept.routers_kept i x at).control_is s is there apart;
     }

@@ -104,10 +104,10 @@ entry_plain w i (Some Unreachable) = refl
 entry_plain w i (Some (Via q session)) = or_false (port_plain w i q) refl
 
 machine_plain : (w : World) (i p : ℕ) (m : MachineShown) → has_float (machine_data w i p m) ≡ false
-machine_plain w i p m = by_origin m.origin
+machine_plain w i p m = by_origin (m.at).origin
   where
     rest : members_have_float (machine_members w i p m) ≡ false
-    rest = or_false (entry_plain w i m.chosen) (or_false (distance_plain m.fd) (or_false (entry_plain w i m.published) (or_false (distance_plain m.rd) refl)))
+    rest = or_false (entry_plain w i m.chosen) (or_false (distance_plain (m.at).fd) (or_false (entry_plain w i m.published) (or_false (distance_plain (m.at).rd) refl)))
 
     by_origin : (o : Option ℕ) → has_float (object (option_map_or (λ origin. member (codes "active") (count origin) (member (codes "awaits") (ports_data w i m.awaited) (machine_members w i p m))) o (machine_members w i p m))) ≡ false
     by_origin None = rest

@@ -17,10 +17,12 @@ use Rattle.network_model.specs.contracts.item.ItemPartialEq.TheImpl as ItemEq
 use Rattle.network_model.specs.declared.route.Entry.{Entry}
 use Rattle.network_model.specs.declared.route.Entry.TheVariants.{Local, Via, Unreachable}
 use Rattle.network_model.specs.contracts.route.EntryPartialEq.TheImpl as EntryEq
-use Rattle.run_states.specs.declared.shown.LinkShown.{LinkShown}
-use Rattle.run_states.specs.contracts.shown.LinkShownPartialEq.TheImpl as LinkEq
-use Rattle.run_states.specs.declared.shown.RouterShown.{RouterShown}
-use Rattle.run_states.specs.contracts.shown.RouterShownPartialEq.TheImpl as RouterEq
+use Rattle.network_states.specs.declared.state.LinkState.{LinkState}
+use Rattle.network_states.specs.contracts.state.LinkStatePartialEq.TheImpl as LinkEq
+use Rattle.network_states.specs.declared.state.RouterState.{RouterState}
+use Rattle.network_states.specs.contracts.state.RouterStatePartialEq.TheImpl as RouterEq
+use Rattle.network_states.specs.declared.state.MachineState.{MachineState}
+use Rattle.network_states.specs.contracts.state.MachineStatePartialEq.TheImpl as MachineEq
 
 -- what is not unequal is equal
 pub not_false : (b : Bool) → false ≡ not b → b ≡ true
@@ -94,12 +96,17 @@ item_same (Item.Message m) (Item.Up t d) h = absurd (cc)
 item_same (Item.Message m) (Item.Down t) h = absurd (cc)
 item_same (Item.Message m) (Item.Cost t d) h = absurd (cc)
 
-pub link_same : (a b : LinkShown) → (LinkEq.ghosts).eq a b ≡ true → a ≡ b
+pub link_same : (a b : LinkState) → (LinkEq.ghosts).eq a b ≡ true → a ≡ b
 link_same a b h =
     let p = and_parts _ _ h in let q = and_parts _ _ p.1 in let r = and_parts _ _ q.1 in
     λ i. record { up = (booleans_Decides a.up b.up).0 p.0 i; session = eqb-true a.session b.session q.0 i; from_a = eqb-true a.from_a b.from_a r.0 i; from_b = eqb-true a.from_b b.from_b r.1 i }
 
-pub router_same : (a b : RouterShown) → (RouterEq.ghosts).eq a b ≡ true → a ≡ b
+pub router_same : (a b : RouterState) → (RouterEq.ghosts).eq a b ≡ true → a ≡ b
 router_same a b h =
     let p = and_parts _ _ h in let q = and_parts _ _ p.1 in let r = and_parts _ _ q.1 in
     λ i. record { generation = eqb-true a.generation b.generation p.0 i; held = eqb-true a.held b.held q.0 i; ripe = eqb-true a.ripe b.ripe r.0 i; notices = eqb-true a.notices b.notices r.1 i }
+
+pub machine_same : (a b : MachineState) → (MachineEq.ghosts).eq a b ≡ true → a ≡ b
+machine_same a b h =
+    let p = and_parts _ _ h in let q = and_parts _ _ p.1 in
+    λ i. record { origin = option_same _ eqb-true a.origin b.origin p.0 i; rd = eqb-true a.rd b.rd q.0 i; fd = eqb-true a.fd b.fd q.1 i }

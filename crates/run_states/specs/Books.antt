@@ -6,15 +6,16 @@ use Rattle.ipv4_prefix.specs.Prefix.{Prefix, prefix_cmp, prefix_eq}
 use Rattle.network_model.specs.Machine.{Machine}
 use Rattle.network_model.specs.declared.item.Item.{Item}
 use Rattle.network_model.specs.World.{Link, Router}
-use Rattle.run_states.specs.declared.shown.LinkShown.{LinkShown}
-use Rattle.run_states.specs.declared.shown.RouterShown.{RouterShown}
+use Rattle.network_states.specs.declared.state.LinkState.{LinkState}
+use Rattle.network_states.specs.declared.state.RouterState.{RouterState}
 use Rattle.run_states.specs.declared.shown.MachineShown.{MachineShown}
 use Rattle.run_states.specs.declared.link_book.LinkBook.{LinkBook}
 use Rattle.run_states.specs.declared.link_book.LinkChange.{LinkChange}
 use Rattle.run_states.specs.declared.router_book.RouterBook.{RouterBook}
 use Rattle.run_states.specs.declared.router_book.RouterChange.{RouterChange}
 use Rattle.run_states.specs.Queues.{queue_after}
-use Rattle.run_states.specs.Shown.{link_shown, router_shown, ShowsMachine}
+use Rattle.network_states.specs.States.{link_state, router_state}
+use Rattle.run_states.specs.Shown.{ShowsMachine}
 
 -- what is shown after a change: what it says, or where it says nothing what was shown before
 abbrev pub shown_after : {X : Type 0} → Option X → Option X → Option X
@@ -24,7 +25,7 @@ shown_after (Some now) before = Some now
 -- ---- links
 
 -- what a book shows of its link, whatever it marks: the link itself, and what its ends A and B have yet to take
-abbrev pub link_shows : LinkBook → Option LinkShown × List Item × List Item
+abbrev pub link_shows : LinkBook → Option LinkState × List Item × List Item
 link_shows b = (b.shown, (b.to_a).items, (b.to_b).items)
 
 -- the book becomes this by the change
@@ -35,14 +36,14 @@ pub record LinkFollows (c : LinkChange) (before after : LinkBook) : Type 0 where
 
 -- the book shows the link as it is
 pub record ShowsLink (k : Link) (b : LinkBook) : Type 0 where
-  pub shown : b.shown ≡ Some (link_shown k)
+  pub shown : b.shown ≡ Some (link_state k)
   pub to_a : (b.to_a).items ≡ (k.a).inbox
   pub to_b : (b.to_b).items ≡ (k.b).inbox
 
 -- ---- routers
 
 -- what a book shows of its router, whatever it marks: the router itself, and its machines
-abbrev pub router_shows : RouterBook → Option RouterShown × List (Option MachineShown)
+abbrev pub router_shows : RouterBook → Option RouterState × List (Option MachineShown)
 router_shows b = (b.shown, (b.machines).items)
 
 -- nothing was shown of a router, and of none of its machines
@@ -75,7 +76,7 @@ ShowsUnmarked r prefixes marks shown = (j : ℕ) (p : Prefix) (m : Machine) → 
 
 -- the book shows the router, which has yet to take so many notices, as it is
 pub record ShowsRouter (prefixes : List Prefix) (r : Router) (notices : ℕ) (b : RouterBook) : Type 0 where
-  pub shown : b.shown ≡ Some (router_shown r notices)
+  pub shown : b.shown ≡ Some (router_state r notices)
   pub machines : ShowsMachines r prefixes (b.machines).items
 
 -- a router's book has a place and a mark for each of so many prefixes

@@ -20,7 +20,7 @@ abbrev pub touched_link : World → Step → Option ℕ
 touched_link w s = (touched_by s w).link
 
 -- the first, if there is one, or else the second
-abbrev either_of : Option ℕ → Option ℕ → Option ℕ
+abbrev pub either_of : Option ℕ → Option ℕ → Option ℕ
 either_of (Some i) o = Some i
 either_of None o = o
 

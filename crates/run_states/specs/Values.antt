@@ -19,8 +19,8 @@ use Rattle.serde_json.specs.View.{items_of}
 use Rattle.serde_json.specs.Written.{compact_text}
 use Rattle.texts.specs.Words.{Text}
 use Rattle.script.specs.Directories.{Directory, name_text}
-use Rattle.run_states.specs.declared.shown.LinkShown.{LinkShown}
-use Rattle.run_states.specs.declared.shown.RouterShown.{RouterShown}
+use Rattle.network_states.specs.declared.state.LinkState.{LinkState}
+use Rattle.network_states.specs.declared.state.RouterState.{RouterState}
 use Rattle.run_states.specs.declared.shown.MachineShown.{MachineShown}
 use Rattle.run_states.specs.declared.queue.QueueChange.{QueueChange}
 use Rattle.run_states.specs.declared.link_book.LinkChange.{LinkChange}
@@ -38,14 +38,14 @@ abbrev pub list : List Data → Data
 list ds = array (items_of ds)
 
 -- what is shown of a link: the costs from its ends A and B
-abbrev pub link_data : ℕ → LinkShown → Data
+abbrev pub link_data : ℕ → LinkState → Data
 link_data l k =
     object (member (codes "costs") (list (count k.from_a ∷ count k.from_b ∷ []))
     (member (codes "link") (count l)
     (member (codes "session") (count k.session)
     (member (codes "up") (boolean k.up) no_members))))
 
-abbrev pub router_data : ℕ → RouterShown → Data
+abbrev pub router_data : ℕ → RouterState → Data
 router_data i r =
     object (member (codes "generation") (count r.generation)
     (member (codes "held") (count r.held)
@@ -76,10 +76,10 @@ ports_data w i ports = list (map (port_data w i) (filter (set.contains ports) (r
 abbrev pub machine_members : World → ℕ → ℕ → MachineShown → Members
 machine_members w i p m =
     member (codes "chosen") (entry_data w i m.chosen)
-    (member (codes "fd") (distance_data m.fd)
+    (member (codes "fd") (distance_data (m.at).fd)
     (member (codes "prefix") (count p)
     (member (codes "published") (entry_data w i m.published)
-    (member (codes "rd") (distance_data m.rd)
+    (member (codes "rd") (distance_data (m.at).rd)
     (member (codes "router") (count i) no_members)))))
 
 -- what is shown of a router's machine for a prefix: the state and who is awaited, where a computation is under way
@@ -87,7 +87,7 @@ abbrev pub machine_data : World → ℕ → ℕ → MachineShown → Data
 machine_data w i p m =
     object (option_map_or (λ origin.
     member (codes "active") (count origin)
-    (member (codes "awaits") (ports_data w i m.awaited) (machine_members w i p m))) m.origin (machine_members w i p m))
+    (member (codes "awaits") (ports_data w i m.awaited) (machine_members w i p m))) (m.at).origin (machine_members w i p m))
 
 -- ---- queues
 

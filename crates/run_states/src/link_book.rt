@@ -4,16 +4,17 @@ ghost use Rattle.std.specs.Prelude.{◌≡◌, ◌<◌, [], Some, None, IfOk, If
 ghost use Rattle.run_states.specs.Books.{LinkFollows, ShowsLink, link_shows};
 
 use crate::queue::{QueueChange, has_message, queue_at, queue_change};
-use crate::shown::{LinkShown, is_same_link, link_shown};
+use crate::shown::is_same_link;
 use link_fifo::Links;
 use network_model::{End, Item, NoMemory};
+use network_states::LinkState;
 use std::alloc::Global;
 
 /// What was shown of a link last, and whether that may have changed.
 #[derive(Drop)]
 pub(crate) struct LinkBook {
     /// The link itself, where it was shown.
-    shown: Option<LinkShown>,
+    shown: Option<LinkState>,
     /// What its end A has yet to take.
     to_a: Vec<Item>,
     /// What its end B has yet to take.
@@ -28,7 +29,7 @@ pub(crate) struct LinkBook {
 #[derive(Drop)]
 pub(crate) struct LinkChange {
     /// The link itself, where it is another.
-    pub shown: Option<LinkShown>,
+    pub shown: Option<LinkState>,
     pub to_a: QueueChange,
     pub to_b: QueueChange,
 }
@@ -62,7 +63,7 @@ impl LinkBook {
             (λ k. ShowsLink k self.new)) }
         ensures unmarked { IfOk result (λ _. self.new.is_marked ≡ false) }
     {
-        let now = link_shown(links, link);
+        let now = LinkState::of(links, link);
         let (now_a, now_b) = (
             queue_at(alloc, links, link, End::A)?,
             queue_at(alloc, links, link, End::B)?,

@@ -7,9 +7,10 @@ ghost use Rattle.run_states.specs.declared.shown.MachineShown.{MachineShown};
 ghost use Rattle.run_states.specs.Shown.{ShowsMachine};
 ghost use Rattle.run_states.specs.Books.{HasPlaces, IsBlankRouter, MachinesMarked, RouterFollows, ShowsMachines, ShowsRouter, ShowsUnmarked, covers, machines_after};
 
-use crate::shown::{MachineShown, RouterShown, machine_shown, router_news, router_shown};
+use crate::shown::{MachineShown, machine_shown, router_news};
 use ipv4_prefix::Prefix;
 use network_model::NoMemory;
+use network_states::RouterState;
 use router_core::Router;
 use std::alloc::Global;
 
@@ -17,7 +18,7 @@ use std::alloc::Global;
 #[derive(Drop)]
 pub(crate) struct RouterBook {
     /// The router itself, where it was shown.
-    shown: Option<RouterShown>,
+    shown: Option<RouterState>,
     /// Its machines, by the numbers of the prefixes, where they were shown.
     machines: Vec<Option<MachineShown>>,
     /// Whether a step may have changed each of them.
@@ -30,7 +31,7 @@ pub(crate) struct RouterBook {
 #[derive(Drop)]
 pub(crate) struct RouterChange {
     /// The router itself, where it is another.
-    pub shown: Option<RouterShown>,
+    pub shown: Option<RouterState>,
     /// The machines that are others, each with the number of its prefix.
     pub machines: Vec<(usize, MachineShown)>,
 }
@@ -86,7 +87,7 @@ impl RouterBook {
             &mut self.marks,
             &mut self.machines,
         )?;
-        let now = router_shown(router, notices);
+        let now = RouterState::of(router, notices);
         let shown = router_news(self.shown, now);
         self.shown = Some(now);
         self.is_marked = false;

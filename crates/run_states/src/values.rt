@@ -12,17 +12,18 @@ ghost use Rattle.run_states.specs.Values.{link_data, router_data, machine_data, 
 use crate::link_book::LinkChange;
 use crate::queue::QueueChange;
 use crate::router_book::RouterChange;
-use crate::shown::{LinkShown, MachineShown, RouterShown};
+use crate::shown::MachineShown;
 use diffusing_replies::PortSet;
 use ipv4_prefix::Prefix;
 use metric::{Distance, Kind};
 use network_model::{End, Entry, Item};
+use network_states::{LinkState, MachineState, RouterState};
 use serde_json::{Map, Value, json, put};
 use std::alloc::{AllocError, Global};
 use world::World;
 
 // What is shown of the link of this number.
-fn link_value(alloc: Global, number: usize, link: LinkShown) -> Result<Value, AllocError>
+fn link_value(alloc: Global, number: usize, link: LinkState) -> Result<Value, AllocError>
     ensures { IfOk result (λ v. view v ≡ link_data number link) }
 {
     let costs = json!(in alloc; [link.from_a.value(), link.from_b.value()])?;
@@ -30,7 +31,7 @@ fn link_value(alloc: Global, number: usize, link: LinkShown) -> Result<Value, Al
 }
 
 // What is shown of the router of this number.
-fn router_value(alloc: Global, number: usize, router: RouterShown) -> Result<Value, AllocError>
+fn router_value(alloc: Global, number: usize, router: RouterState) -> Result<Value, AllocError>
     ensures { IfOk result (λ v. view v ≡ router_data number router) }
 {
     json!(in alloc; {
@@ -52,10 +53,11 @@ fn machine_value(
 ) -> Result<Value, AllocError>
     ensures { IfOk result (λ v. view v ≡ machine_data world.now router prefix machine) }
 {
+    let MachineState { origin, rd, fd } = machine.at;
     let chosen = entry_value(alloc, world, router, machine.chosen)?;
     let published = entry_value(alloc, world, router, machine.published)?;
-    let (rd, fd) = (distance_value(machine.rd), distance_value(machine.fd));
-    match machine.origin {
+    let (rd, fd) = (distance_value(rd), distance_value(fd));
+    match origin {
         None => json!(in alloc; {
             "router": router,
             "prefix": prefix,
@@ -261,7 +263,7 @@ fn push_link(
     alloc: Global,
     values: &mut Vec<Value>,
     link: usize,
-    shown: Option<LinkShown>,
+    shown: Option<LinkState>,
 ) -> Result<(), AllocError>
     ensures { OnOk result (map view values.new.items ≡ map view values.old.items ++ listed (link_data link) shown) }
 {
@@ -289,7 +291,7 @@ fn push_router(
     alloc: Global,
     values: &mut Vec<Value>,
     router: usize,
-    shown: Option<RouterShown>,
+    shown: Option<RouterState>,
 ) -> Result<(), AllocError>
     ensures { OnOk result (map view values.new.items ≡ map view values.old.items ++ listed (router_data router) shown) }
 {

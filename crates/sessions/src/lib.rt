@@ -10,7 +10,7 @@
 //! ```
 //!
 //! ```text
-//! let session = Session { alloc, gate: &NoGate, directory: &directory, telling };
+//! let session = Session { alloc, gate: &NoGate, directory: &directory, style };
 //! do_command(&session, &mut live, Command::Settle, &mut out, &mut ())?;
 //! ```
 //!
@@ -40,4 +40,4 @@ pub use counted::Counted;
 pub use dispatch::Host;
 pub use kept::Kept;
 pub use live::{Live, lookup, network, step, steps, world};
-pub use session::{Session, Telling, do_command, do_commands};
+pub use session::{PrintStyle, Session, do_command, do_commands};

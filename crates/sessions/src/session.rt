@@ -15,7 +15,8 @@ use fabric::FabricName;
 use network_model::Refusal;
 use plans::{Cause, Fault};
 use reports::{
-    Printer, print_report, print_state, show_held, show_next, show_queue, show_table, tell_commands,
+    Printer, print_report, print_state, show_commands_done, show_held, show_next, show_queue,
+    show_table,
 };
 use script::{Command, Directory, Key, Place};
 use std::alloc::Global;
@@ -23,7 +24,7 @@ use std::io::Write;
 
 /// What is told of a script or a shell, and how.
 #[derive(Clone, Copy, Debug, PartialEq, Eq)]
-pub struct Telling {
+pub struct PrintStyle {
     /// Whether more is told of a machine's state, and of what cannot be done.
     pub explain: bool,
     /// Whether it is told what each step takes or sends.
@@ -42,7 +43,7 @@ pub struct Session<'a, G> {
     pub gate: &'a G,
     /// The routers' names.
     pub directory: &'a Directory,
-    pub telling: Telling,
+    pub style: PrintStyle,
 }
 
 impl<'a, G> Session<'a, G> {
@@ -50,7 +51,7 @@ impl<'a, G> Session<'a, G> {
     pub fn printer(&self) -> Printer<'a> {
         Printer {
             directory: self.directory,
-            format: self.telling.format,
+            format: self.style.format,
         }
     }
 }
@@ -75,7 +76,7 @@ where
     ensures side { is_left live.new ≡ is_left live.old }
 {
     let mut progress = ScriptProgress {
-        asked: session.telling.progress,
+        asked: session.style.progress,
         done: 0,
         all: commands.len(),
         err,
@@ -110,7 +111,7 @@ struct ScriptProgress<'a, E: Write> {
 
 impl<'a, E: Write> Progress for ScriptProgress<'a, E> {
     fn steps(&mut self, steps: usize) {
-        tell_commands(self.asked, self.done, self.all, steps, self.err);
+        show_commands_done(self.asked, self.done, self.all, steps, self.err);
     }
 }
 
@@ -136,7 +137,7 @@ where
     let alloc = session.alloc;
     match command {
         Command::Step(step) => {
-            let done = do_step(live, &printer, session.telling.moves, step, out);
+            let done = do_step(live, &printer, session.style.moves, step, out);
             into_cause(done)
         }
         Command::Try(step) => {
@@ -153,7 +154,7 @@ where
         Command::RouterUp { router } => into_cause(put_links(live, true, router)),
         Command::RouterDown { router } => into_cause(put_links(live, false, router)),
         Command::State { router, prefix } => {
-            let explain = session.telling.explain;
+            let explain = session.style.explain;
             let done = print_state(world(live), &printer, router, prefix, explain, out);
             into_cause(done)
         }

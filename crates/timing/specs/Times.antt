@@ -1,9 +1,11 @@
 -- What a document of times says of a network.
-use Rattle.std.specs.Prelude.{◌≡◌, ℕ, List, Some, length, replicate, option_and_then}
+use Rattle.std.specs.Prelude.{◌≡◌, ℕ, ⊤, List, Some, length, replicate, option_and_then}
 use Rattle.std.specs.List.{AllZip}
 use Rattle.toml.specs.Parse.{parse_document}
 use Rattle.network_model.specs.World.{Network}
 use Rattle.texts.specs.Words.{Text}
+use Rattle.plans.specs.declared.fault.Cause.{Cause}
+use Rattle.plans.specs.Faults.{CannotRead}
 use Rattle.timed_simulation.specs.declared.links.LinkDelays.{LinkDelays}
 use Rattle.timing.specs.declared.given.Given.{Given}
 use Rattle.timing.specs.declared.times.Times.{Times}
@@ -30,3 +32,8 @@ pub record IsTimes (names : List Text) (n : Network) (text : Text) (times : Time
   pub links : AreLinkDelays names n lists.links lists.link times.links.items
   pub routers : AreRouterDelays names n lists.routers lists.router times.routers.items
   pub changes : AllZip (SaysChange names n.links n.attachments) lists.changes times.changes.items
+
+-- the cause tells of a document of times; or its reader fails, or memory runs out
+abbrev pub IsOfTimes : Cause → Type 0
+IsOfTimes (Cause.Times fault) = ⊤
+IsOfTimes cause = CannotRead cause

@@ -39,14 +39,14 @@ mod given;
 mod line_reading;
 mod mark;
 mod moment;
+mod printing;
 mod run;
 mod steps;
 mod tally;
-mod tell;
 mod timed;
 mod times;
 
 pub use mark::{Begun, Mark};
 pub use steps::{SteppedRun, run_in_steps};
 pub use timed::{TimeOptions, time};
-pub use times::{Times, read_times};
+pub use times::{Times, read_times, read_times_text};

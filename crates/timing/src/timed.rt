@@ -6,12 +6,12 @@ ghost use Rattle.plans.specs.Faults.{OfBytes};
 ghost use Rattle.timing.specs.Ends.{IsTimedToEnd, RunsTimes, StopsTime};
 
 use crate::mark::Mark;
+use crate::printing::{print_changes, print_end};
 use crate::run::{give, run_changes};
-use crate::tell::{tell_changes, tell_end};
-use crate::times::{Times, read_times};
+use crate::times::{Times, read_times, read_times_text};
 use command_line::Format;
 use plans::{Cause, Fault, Plan, read_plan, read_text};
-use reports::{End, Printer};
+use reports::{Outcome, Printer};
 use script::Directory;
 use std::alloc::Global;
 use std::io::{Read, Write};
@@ -37,12 +37,12 @@ pub fn time<R, J, W>(
     times: J,
     options: TimeOptions,
     out: &mut W,
-) -> Result<End, Fault>
+) -> Result<Outcome, Fault>
 where
     R: Read + Drop,
     J: Read + Drop,
     W: Write,
-    ensures ok { IfOk result (λ end. (end ≡ End.Done) × OfBytes (R.remaining scenario) (λ bytes.
+    ensures ok { IfOk result (λ end. (end ≡ Outcome.Done) × OfBytes (R.remaining scenario) (λ bytes.
         OfBytes (J.remaining times) (IsTimedToEnd bytes))) }
     ensures fault { IfErr result (λ e. OfBytes (R.remaining scenario) (λ bytes. StopsTime bytes e)) }
 {
@@ -52,10 +52,10 @@ where
         directory,
         ..
     } = read_plan(alloc, text.as_str())?;
-    let lines = read_text(alloc, times)?;
+    let lines = read_times_text(alloc, times)?;
     let times = read_times(alloc, directory.names(), &network, lines.as_str())?;
     run(alloc, network, &directory, &times, options, out)?;
-    Ok(End::Done)
+    Ok(Outcome::Done)
 }
 
 // Runs a network with these delays and changes.
@@ -88,8 +88,8 @@ fn run<W: Write>(
         format: options.format,
     };
     let links = recording.timed().simulation().network().links();
-    tell_changes(&printer, links, &begun, end, recording.report(), out);
+    print_changes(&printer, links, &begun, end, recording.report(), out);
     ran?;
-    tell_end(&printer, end, out);
+    print_end(&printer, end, out);
     Ok(())
 }

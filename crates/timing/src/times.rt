@@ -1,18 +1,20 @@
 //! Reads the delays of a network and its changes.
 
-ghost use Rattle.std.specs.Prelude.{◌≡◌, All, IfErr, IfOk, false, length};
+ghost use Rattle.std.specs.Prelude.{◌≡◌, All, IfErr, IfOk, false, length, string_bytes};
+ghost use Rattle.plans.specs.Faults.{Gives};
 ghost use Rattle.coming_to_rest.specs.Worlds.{is_own};
-ghost use Rattle.timing.specs.Times.{AreLinkDelays, AreRouterDelays, IsTimes};
+ghost use Rattle.timing.specs.Times.{AreLinkDelays, AreRouterDelays, IsOfTimes, IsTimes};
 ghost use Rattle.texts.specs.Words.{texts};
 
 use crate::document::{Document, read_document};
 use crate::given::values;
 use crate::line_reading::{read_changes, read_links, read_routers};
 use network_model::NoMemory;
-use plans::{Cause, TimesFault};
+use plans::{Cause, TimesFault, read_text};
 use scenario::Fault;
 use script::Names;
 use std::alloc::Global;
+use std::io::Read;
 use timed_simulation::{Change, LinkDelays};
 use world::Network;
 
@@ -28,6 +30,19 @@ pub struct Times {
     pub routers: Vec<u64>,
     /// The changes, each at its moment, in the order in which they stand.
     pub changes: Vec<Change>,
+}
+
+/// The whole text of a document of times. If it is too long or not UTF-8, the fault says that it is in the times.
+pub fn read_times_text<R: Read + Drop>(alloc: Global, reader: R) -> Result<String, Cause>
+    ensures whole { IfOk result (λ text. Gives (R.remaining reader) (string_bytes text)) }
+    ensures fault { IfErr result IsOfTimes }
+{
+    match read_text(alloc, reader) {
+        Ok(text) => Ok(text),
+        Err(Cause::TooLarge) => Err(Cause::Times(TimesFault::TooLarge)),
+        Err(Cause::Document(fault)) => Err(document_cause(fault)),
+        Err(cause) => Err(cause),
+    }
 }
 
 /// Reads the delays and the changes of a network whose routers have these names.
@@ -67,7 +82,9 @@ pub fn read_times(
 }
 
 // Why a text is no document of times.
-fn document_cause(fault: Fault) -> Cause {
+fn document_cause(fault: Fault) -> Cause
+    ensures { IsOfTimes result }
+{
     match fault {
         Fault::NoMemory => Cause::Memory(NoMemory),
         _ => Cause::Times(TimesFault::Document { fault }),

@@ -1,7 +1,7 @@
 //! Does what a case asks, and tells where it gives something else. Where it asks for several threads, these are
 //! started whenever there is something to publish: the networks of cases reach no threshold of the program.
 
-use advice::{Faulty, advise, file_to_explain, is_check};
+use advice::explain;
 use command_line::{Error, Format, Words, exit_status, read_words};
 use harness::case::{Given, Verdict, Wanted, judge};
 use harness::{Outcome, play_in_memory, play_in_memory_by};
@@ -56,7 +56,7 @@ fn is_line_right<H: Host, W: Write>(
     let verdict = judge(&case.wanted, &given);
     if verdict != Verdict::IsRight {
         let _ = writeln!(out, "{}: {}: {line}", case.file, case.name);
-        tell(&case.wanted, &given, verdict, out);
+        print_difference(&case.wanted, &given, verdict, out);
     }
     Ok(verdict == Verdict::IsRight)
 }
@@ -71,7 +71,7 @@ fn ask_words<H: Host>(
     let words: Vec<&str> = line.split(' ').collect(alloc)?;
     match read_words(alloc, words.as_slice()) {
         Ok(words) => do_words(wait, alloc, case, &words),
-        Err(error) => tell_refusal(alloc, &error),
+        Err(error) => print_refusal(alloc, &error),
     }
 }
 
@@ -96,15 +96,8 @@ fn do_words<H: Host>(
     // Where two outputs are right, it may be the other.
     let counted = case.wanted.other.is_some()
         || is_alike_counted(wait, alloc, asked, scenario, journal, &outcome);
-    if let (Some(file), Some(fault)) = (file_to_explain(asked), outcome.fault) {
-        let faulty = Faulty {
-            file,
-            text: case.scenario,
-            kind: fault.kind(),
-            place: fault.place,
-            is_check: is_check(asked),
-        };
-        let _ = advise(alloc, faulty, &mut outcome.err);
+    if let Some(fault) = outcome.fault {
+        let _ = explain(alloc, asked, fault, scenario, journal, &mut outcome.err);
     }
     let replay = replay_status(wait, alloc, asked, scenario, &outcome);
     Ok(Given {
@@ -206,7 +199,7 @@ fn tells_of_saving(text: &[u8]) -> bool {
 }
 
 // What the program gives where its command line asks for nothing that can be done.
-fn tell_refusal(alloc: Global, error: &Error) -> Result<Given, AllocError> {
+fn print_refusal(alloc: Global, error: &Error) -> Result<Given, AllocError> {
     let text = error.to_string(alloc)?.into_bytes();
     let nothing = Vec::new(alloc);
     let (out, err) = if error.use_stderr() {
@@ -230,7 +223,7 @@ fn tell_refusal(alloc: Global, error: &Error) -> Result<Given, AllocError> {
 }
 
 // Tells what was given that should not be.
-fn tell<W: Write>(wanted: &Wanted<'_>, given: &Given, verdict: Verdict, out: &mut W) {
+fn print_difference<W: Write>(wanted: &Wanted<'_>, given: &Given, verdict: Verdict, out: &mut W) {
     let ran = &given.outcome;
     let (wanted, bytes) = match verdict {
         Verdict::PrintsSomethingElse => (wanted.out.text(), ran.out.as_slice()),

@@ -26,7 +26,7 @@ use run_states::{StatesFault, run_from_opening, write_states};
 use script::Directory;
 use std::alloc::Global;
 use std::io::{Read, Write};
-use timing::{Times, read_times, run_in_steps};
+use timing::{Times, read_times, read_times_text, run_in_steps};
 use world::{Network, Ran};
 
 /// The most bytes of states that a page has, where fewer states make them fewer.
@@ -81,7 +81,7 @@ fn end_journal<J: Read + Drop, W: Write, E: Write>(
         × IsJournalShown json text.now lines (W.contents out.old) (W.contents out.new) }
 {
     match show_journal(alloc, json, text, journal, out) {
-        Ok(ran) => tell(ran, err),
+        Ok(ran) => print_refusal(ran, err),
         Err(fault) => refuse(fault, err),
     }
 }
@@ -189,7 +189,7 @@ fn show_in_time<J: Read + Drop, W: Write>(
     ensures { OnOk result ((lines : Text) × Gives (J.remaining times) lines
         × IsShownInTime json network directory.now lines (W.contents out.old) (W.contents out.new)) }
 {
-    let lines = read_text(alloc, times)?;
+    let lines = read_times_text(alloc, times)?;
     let times = read_times(alloc, directory.names(), &network, lines.as_str())?;
     show_run(alloc, json, network, directory, &times, out)
 }
@@ -364,7 +364,7 @@ fn states_of_page(
 }
 
 // Tells of a step that was refused, and answers the exit status.
-fn tell<E: Write>(ran: Ran, err: &mut E) -> u8
+fn print_refusal<E: Write>(ran: Ran, err: &mut E) -> u8
     ensures { result ≡ 0 → ran.refusal ≡ None }
 {
     match ran.refusal {

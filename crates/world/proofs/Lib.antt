@@ -18,3 +18,4 @@ pub mod GivenSets
 pub mod CostsOfRouters
 pub mod Elements
 pub mod FarEnds
+pub mod Untouched

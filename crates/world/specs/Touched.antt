@@ -1,5 +1,5 @@
 -- What of a network a step can change, and how much of that is not at rest.
-use Rattle.std.specs.Prelude.{ℕ, ◌+◌, Some, None, option_and_then}
+use Rattle.std.specs.Prelude.{◌≡◌, ◌≢◌, ℕ, ◌+◌, Some, None, option_and_then, slice_get}
 use Rattle.network_model.specs.declared.step.Step.{Step}
 use Rattle.network_model.specs.declared.step.Step.TheVariants.{LinkUp, LinkDown, SetCost, Deliver, Publish, Release, Attach, Detach}
 use Rattle.network_model.specs.World.{World}
@@ -18,6 +18,12 @@ touched_by (Publish i) w = record { link = None; attachments = None; router = So
 touched_by (Release i) w = record { link = option_and_then (λ h. link_number w i h.port) (release_at w i); attachments = None; router = Some i }
 touched_by (Attach i p cost) w = record { link = None; attachments = Some i; router = None }
 touched_by (Detach i p) w = record { link = None; attachments = Some i; router = None }
+
+-- the second world has every link, every router's attachments and every router of the first as they were, but those that the step can change
+pub record LeavesOthers (s : Step) (w v : World) : Type 0 where
+  pub links : (l : ℕ) → (touched_by s w).link ≢ Some l → slice_get v.links l ≡ slice_get w.links l
+  pub attachments : (i : ℕ) → (touched_by s w).attachments ≢ Some i → slice_get v.attachments i ≡ slice_get w.attachments i
+  pub routers : (i : ℕ) → (touched_by s w).router ≢ Some i → slice_get v.routers i ≡ slice_get w.routers i
 
 -- how much of these is not at rest
 abbrev pub unrest_at : Touched → World → ℕ

@@ -3,7 +3,7 @@
 ghost use Rattle.std.specs.Prelude.{◌≡◌, option_and_then};
 ghost use Rattle.network_model.specs.Step as steps;
 ghost use Rattle.world.specs.Rest.{link_number};
-ghost use Rattle.world.specs.Touched.{touched_by};
+ghost use Rattle.world.specs.Touched.{LeavesOthers, touched_by};
 
 use crate::world::World;
 use network_model::{SmallAllocator, Step};
@@ -17,9 +17,11 @@ pub struct Touched {
 }
 
 impl Touched {
-    /// What the step can change of this world, if it is done there.
+    /// What the step can change of this world, if it is done there. All else stays.
+    #[tactic(auto, using(crate::proofs::Untouched::untouched))]
     pub fn by<A: SmallAllocator>(step: &Step, world: &World<A>) -> Touched
-        ensures { result ≡ touched_by step.now world.now }
+        ensures named { result ≡ touched_by step.now world.now }
+        ensures others { LeavesOthers step.now world.now (steps.next world.now step.now) }
     {
         match *step {
             Step::LinkUp { link } | Step::LinkDown { link } => Touched {

@@ -13,9 +13,10 @@ returns-in_err-lines-clause-fault g c =
     let text = string_bytes c.in_ok-text.text in
     let planned : IsPlanned text c.in_ok-plan.plan = rw (← c.as_str.ensures.value) c.in_ok-plan.ensures.ok in
     let cause = c.in_err-lines.field-0.0 in
+    let unread = c.in_err-lines.ensures.fault in
     at_err c.from_residual-in_err-lines.result (λ e. OfBytes (g.R.Read.remaining c.args.scenario) (λ bytes. StopsReplay bytes (g.J.Read.remaining c.args.journal) e)) (unplaced cause)
     c.from_residual-in_err-lines.ensures.1
-    (text, c.in_ok-text.ensures.whole, stops_unread text (g.J.Read.remaining c.args.journal) c.in_ok-plan.plan cause c.in_ok-text.ensures.short planned c.in_err-lines.ensures.fault)
+    (text, c.in_ok-text.ensures.whole, stops_unread text unread.0 (g.J.Read.remaining c.args.journal) c.in_ok-plan.plan cause c.in_ok-text.ensures.short planned unread.1 unread.2)
 
 pub returns-in_err-journal-clause-fault : goal.returns-in_err-journal-clause-fault
 returns-in_err-journal-clause-fault g c =

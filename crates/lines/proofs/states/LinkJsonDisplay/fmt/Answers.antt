@@ -10,5 +10,5 @@ returns-clause-writes g c plain ok =
     let d = c.args.self.now.0.now in
     let line = c.args.self.now.1 in
     has_written_of_eq _ _ _ _ _
-    (sym (put_together (codes "{\"kind\":\"link\",\"a\":\"") (name_text d (Some line.a) ∷ codes "\",\"b\":\"" ∷ name_text d (Some line.b) ∷ codes "\",\"up\":" ∷ flag_json line.up ∷ codes ",\"session\":" ∷ decimal line.session ∷ codes "," ∷ loads_json line ∷ codes "}" ∷ [])))
+    (sym (put_together (codes "{\"kind\":\"link\",\"a\":\"") (name_text d (Some line.a) ∷ codes "\",\"b\":\"" ∷ name_text d (Some line.b) ∷ codes "\",\"up\":" ∷ flag_json (line.at).up ∷ codes ",\"session\":" ∷ decimal (line.at).session ∷ codes "," ∷ loads_json line ∷ codes "}" ∷ [])))
     (rw (c.name-a.ensures, c.name-b.ensures) at c.write.ensures.writes plain ok)

@@ -10,5 +10,5 @@ returns-clause-writes g c plain ok =
     let d = c.args.self.now.0.now in
     let line = c.args.self.now.1 in
     has_written_of_eq _ _ _ _ _
-    (sym (put_together (codes "link ") (name_text d (Some line.a) ∷ codes " " ∷ name_text d (Some line.b) ∷ codes " " ∷ up_text line.up ∷ codes " " ∷ decimal line.session ∷ codes " " ∷ loads_text line ∷ [])))
+    (sym (put_together (codes "link ") (name_text d (Some line.a) ∷ codes " " ∷ name_text d (Some line.b) ∷ codes " " ∷ up_text (line.at).up ∷ codes " " ∷ decimal (line.at).session ∷ codes " " ∷ loads_text line ∷ [])))
     (rw (c.name-a.ensures, c.name-b.ensures) at c.write.ensures.writes plain ok)

@@ -11,5 +11,5 @@ returns-clause-writes g c plain ok =
     let d = c.args.self.now.0.now in
     let line = c.args.self.now.1 in
     has_written_of_eq _ _ _ _ _
-    (sym (put_together (codes "{\"kind\":\"machine\",\"router\":\"") (name_text d (Some line.router) ∷ codes "\",\"prefix\":\"" ∷ prefix_text line.prefix ∷ codes "\"," ∷ distances_json line.origin line.rd line.fd ∷ codes "," ∷ entry_json d line.router line.entry ∷ codes "}" ∷ [])))
+    (sym (put_together (codes "{\"kind\":\"machine\",\"router\":\"") (name_text d (Some line.router) ∷ codes "\",\"prefix\":\"" ∷ prefix_text line.prefix ∷ codes "\"," ∷ distances_json (line.at).origin (line.at).rd (line.at).fd ∷ codes "," ∷ entry_json d line.router line.entry ∷ codes "}" ∷ [])))
     (rw c.name-name.ensures at c.write.ensures.writes plain ok)

@@ -12,5 +12,5 @@ returns-clause-writes g c plain ok =
     let d = c.args.self.now.0.now in
     let line = c.args.self.now.1 in
     has_written_of_eq _ _ _ _ _
-    (sym (put_together (name_text d (Some line.router)) (codes " " ∷ prefix_text line.prefix ∷ codes " " ∷ origin_text line.origin ∷ codes " RD " ∷ distance_text line.rd ∷ codes " FD " ∷ distance_text line.fd ∷ codes " " ∷ entry_text d line.router line.entry ∷ [])))
+    (sym (put_together (name_text d (Some line.router)) (codes " " ∷ prefix_text line.prefix ∷ codes " " ∷ origin_text (line.at).origin ∷ codes " RD " ∷ distance_text (line.at).rd ∷ codes " FD " ∷ distance_text (line.at).fd ∷ codes " " ∷ entry_text d line.router line.entry ∷ [])))
     (rw c.name-name.ensures at c.write.ensures.writes plain ok)

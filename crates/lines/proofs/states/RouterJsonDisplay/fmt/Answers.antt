@@ -9,5 +9,5 @@ returns-clause-writes g c plain ok =
     let d = c.args.self.now.0.now in
     let line = c.args.self.now.1 in
     has_written_of_eq _ _ _ _ _
-    (sym (put_together (codes "{\"kind\":\"router\",\"router\":\"") (name_text d (Some line.router) ∷ codes "\",\"generation\":" ∷ decimal line.generation ∷ codes ",\"held\":" ∷ decimal line.held ∷ codes ",\"ripe\":" ∷ decimal line.ripe ∷ codes ",\"notices\":" ∷ decimal line.notices ∷ codes "}" ∷ [])))
+    (sym (put_together (codes "{\"kind\":\"router\",\"router\":\"") (name_text d (Some line.router) ∷ codes "\",\"generation\":" ∷ decimal (line.at).generation ∷ codes ",\"held\":" ∷ decimal (line.at).held ∷ codes ",\"ripe\":" ∷ decimal (line.at).ripe ∷ codes ",\"notices\":" ∷ decimal (line.at).notices ∷ codes "}" ∷ [])))
     (rw c.name-name.ensures at c.write.ensures.writes plain ok)

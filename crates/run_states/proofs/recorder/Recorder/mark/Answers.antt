@@ -9,10 +9,10 @@ returns-in-Some c =
     let mid = c.mark_touched_router.new.self in
     let after = c.mark_link.new.self in
     step_marks c.args.world.now c.args.step.now c.args.self.now mid after c.mark_touched_router.ensures
-    (subst (λ o. LinkMarked o mid after) (sym c.in-Some.is ∙ ap (λ (t : Touched). t.link) c.by.ensures) c.mark_link.ensures)
+    (subst (λ o. LinkMarked o mid after) (sym c.in-Some.is ∙ ap (λ (t : Touched). t.link) c.by.ensures.named) c.mark_link.ensures)
 
 pub returns-in_default : goal.returns-in_default
 returns-in_default c =
     let mid = c.mark_touched_router.new.self in
     step_marks c.args.world.now c.args.step.now c.args.self.now mid mid c.mark_touched_router.ensures
-    (subst (λ o. LinkMarked o mid mid) (sym c.in_default.is ∙ ap (λ (t : Touched). t.link) c.by.ensures) (no_link mid))
+    (subst (λ o. LinkMarked o mid mid) (sym c.in_default.is ∙ ap (λ (t : Touched). t.link) c.by.ensures.named) (no_link mid))

@@ -21,9 +21,9 @@ invariant_of-self-2 g c =
     let n : ℕ = c.self.inside.unrest in
     let s = c.args.step in
     let made : c.step.new.self ≡ next w s = c.in_ok-step.ensures.ok.1 in
-    let before : c.unrest_of-before.result ≡ unrest_at (touched_by s w) w = c.unrest_of-before.ensures.unrest ∙ ap (λ t. unrest_at t w) c.by-touched.ensures in
+    let before : c.unrest_of-before.result ≡ unrest_at (touched_by s w) w = c.unrest_of-before.ensures.unrest ∙ ap (λ t. unrest_at t w) c.by-touched.ensures.named in
     let after : c.unrest_of-after.result ≡ unrest_at (touched_by s w) (next w s)
-    = c.unrest_of-after.ensures.unrest ∙ ap (λ t. unrest_at t c.step.new.self) c.by-touched.ensures ∙ ap (unrest_at (touched_by s w)) made in
+    = c.unrest_of-after.ensures.unrest ∙ ap (λ t. unrest_at t c.step.new.self) c.by-touched.ensures.named ∙ ap (unrest_at (touched_by s w)) made in
     let counted = touched-counted (touched_by s w) w in
     let sum : ((n - c.unrest_of-before.result) + c.unrest_of-after.result) + unrest_at (touched_by s w) w ≡ n + unrest_at (touched_by s w) (next w s)
     = omega (arith, before, after, counted, c.self.invariant.counts) in

@@ -6,7 +6,7 @@ use std::io::Write;
 
 /// Tells of a line of a journal's text, counted from 1, that is not what stands there in a journal: its
 /// place, its text, and what was expected.
-pub fn advise_journal<W: Write>(
+pub(crate) fn explain_journal<W: Write>(
     file: &str,
     text: &str,
     line: usize,

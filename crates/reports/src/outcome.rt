@@ -5,7 +5,7 @@ ghost use Rattle.reports.specs.Ends.{status_at};
 
 /// How a command ends that has met no fault.
 #[derive(Clone, Copy, Debug, PartialEq, Eq)]
-pub enum End {
+pub enum Outcome {
     /// It did what it was asked for.
     Done,
     /// A step of a journal was refused.
@@ -14,15 +14,15 @@ pub enum End {
     Differs,
 }
 
-impl End {
+impl Outcome {
     /// The exit status of the program.
     pub fn status(self) -> u8
         ensures { result ≡ status_at self }
     {
         match self {
-            End::Done => 0,
-            End::Refused => 2,
-            End::Differs => 3,
+            Outcome::Done => 0,
+            Outcome::Refused => 2,
+            Outcome::Differs => 3,
         }
     }
 }

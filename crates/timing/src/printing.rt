@@ -12,7 +12,7 @@ use timed_reports::{Report, Spell};
 /// Prints a line for each change, in the order of the moments. What is told of a change is what was done until
 /// the next one was, or until the run ended so far. If spells are recorded, those that began in that time are told
 /// below, in the order in which they ended. A write that fails is lost.
-pub fn tell_changes<W: Write>(
+pub fn print_changes<W: Write>(
     printer: &Printer<'_>,
     links: &[LinkSpec],
     begun: &[Begun],
@@ -25,7 +25,7 @@ pub fn tell_changes<W: Write>(
         let step = StepText::new(printer.directory, links, one.event.step);
         let moment = one.event.moment;
         match one.refusal {
-            Some(refusal) => tell_refusal(printer, moment, step, refusal, out),
+            Some(refusal) => print_refusal(printer, moment, step, refusal, out),
             None => {
                 let span = Span {
                     from: moment,
@@ -36,7 +36,7 @@ pub fn tell_changes<W: Write>(
                     before: one.before,
                     after,
                 };
-                tell_effect(printer, step, effect, span, report, out);
+                print_effect(printer, step, effect, span, report, out);
             }
         }
     }
@@ -52,7 +52,7 @@ fn next_change(begun: &[Begun], place: usize, end: Mark) -> (Mark, Option<u64>) 
     (end, None)
 }
 
-fn tell_refusal<W: Write>(
+fn print_refusal<W: Write>(
     printer: &Printer<'_>,
     moment: u64,
     step: StepText<'_>,
@@ -70,7 +70,7 @@ fn tell_refusal<W: Write>(
 }
 
 // Tells what came of a change that was done, with the spells that began in its time.
-fn tell_effect<W: Write>(
+fn print_effect<W: Write>(
     printer: &Printer<'_>,
     step: StepText<'_>,
     effect: Effect,
@@ -105,12 +105,12 @@ fn tell_effect<W: Write>(
         ),
         out,
     );
-    tell_spells(printer, "computation", span, report.computations(), out);
-    tell_spells(printer, "outage", span, report.outages(), out);
+    print_spells(printer, "computation", span, report.computations(), out);
+    print_spells(printer, "outage", span, report.outages(), out);
 }
 
 // Tells the spells of one kind that began in this time.
-fn tell_spells<W: Write>(
+fn print_spells<W: Write>(
     printer: &Printer<'_>,
     kind: &str,
     span: Span,
@@ -119,12 +119,12 @@ fn tell_spells<W: Write>(
 ) {
     for spell in spells {
         if began_in(span, spell) {
-            tell_spell(printer, kind, spell, out);
+            print_spell(printer, kind, spell, out);
         }
     }
 }
 
-fn tell_spell<W: Write>(printer: &Printer<'_>, kind: &str, spell: &Spell, out: &mut W) {
+fn print_spell<W: Write>(printer: &Printer<'_>, kind: &str, spell: &Spell, out: &mut W) {
     let Spell {
         router,
         prefix,
@@ -231,7 +231,7 @@ impl fmt::Display for EffectJson {
 }
 
 /// Prints the last line of a run that came to rest.
-pub fn tell_end<W: Write>(printer: &Printer<'_>, end: Mark, out: &mut W) {
+pub fn print_end<W: Write>(printer: &Printer<'_>, end: Mark, out: &mut W) {
     let (steps, now) = (end.steps, end.now);
     let _ = print_either(
         printer.format,

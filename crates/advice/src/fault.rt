@@ -1,0 +1,162 @@
+//! What is told of one fault.
+
+use crate::asked::file_to_explain;
+use crate::bytes::explain_bytes;
+use crate::command::explain_command;
+use crate::document::{explain_document, explain_keys};
+use crate::journal_line::explain_journal;
+use crate::line::{explain_link, explain_prefix};
+use crate::name::explain_name;
+use crate::others::explain_others;
+use crate::position::string_at;
+use crate::shown::shown;
+use crate::times::explain_times;
+use command_line::Words;
+use explanations::Brief;
+use faults::FaultKind;
+use journal::JournalFault;
+use plans::{Cause, Fault};
+use scenario::{Lines, read_scenario};
+use script::{Key, Place, read_script};
+use std::alloc::Global;
+use std::io;
+use std::io::Write;
+
+/// A fault, and the scenario that it is in.
+#[derive(Clone, Copy)]
+pub(crate) struct Faulty<'a> {
+    /// The file of the scenario, as it was named.
+    pub file: &'a str,
+    /// What it holds.
+    pub text: &'a str,
+    pub kind: FaultKind,
+    pub place: Option<Place>,
+}
+
+/// Tells more of the fault for which the program stops, if these words ask for it: where it stands, what was
+/// expected, when the fault comes, and what to do. If a scenario was to be checked alone, also its other faults, as
+/// far as they can be told without guessing, 20 in all. The scenario is given, and what was read beside it: a journal,
+/// or a document of times. What cannot be written is lost.
+pub fn explain<W: Write>(
+    alloc: Global,
+    words: &Words<'_>,
+    fault: Fault,
+    scenario: &[u8],
+    beside: &[u8],
+    out: &mut W,
+) -> io::Result<()> {
+    let Some(file) = file_to_explain(words) else {
+        return Ok(());
+    };
+    match (*words, fault.cause) {
+        (Words::Time { times, .. }, Cause::Times(fault)) => {
+            return explain_times(alloc, times, beside, fault, out);
+        }
+        (Words::Replay { journal, .. }, Cause::Journal(JournalFault::BadLine { line })) => {
+            let text = str::from_utf8(beside).unwrap_or("");
+            explain_journal(journal, text, line, out)?;
+        }
+        _ => {}
+    }
+    // A file that is too large was not read to its end, which may be half a character.
+    if fault.kind() != FaultKind::TooLarge {
+        explain_bytes(file, scenario, out)?;
+    }
+    let faulty = Faulty {
+        file,
+        text: str::from_utf8(scenario).unwrap_or(""),
+        kind: fault.kind(),
+        place: fault.place,
+    };
+    match faulty.kind {
+        FaultKind::BadToml => explain_document(alloc, file, faulty.text, out)?,
+        FaultKind::BadKey => explain_keys(alloc, file, faulty.text, out)?,
+        _ => explain_place(alloc, faulty, out)?,
+    }
+    write!(out, "{}", Brief(faulty.kind))?;
+    match (*words, faulty.place, read_scenario(alloc, faulty.text)) {
+        (Words::Check { .. }, Some(place), Ok(lines)) => {
+            explain_others(alloc, faulty, &lines, place, out)
+        }
+        _ => Ok(()),
+    }
+}
+
+// Tells of the line at fault, where there is one.
+fn explain_place<W: Write>(alloc: Global, faulty: Faulty<'_>, out: &mut W) -> io::Result<()> {
+    match (faulty.place, read_scenario(alloc, faulty.text)) {
+        (Some(place), Ok(lines)) => explain_line(alloc, faulty, &lines, faulty.kind, place, out),
+        _ => Ok(()),
+    }
+}
+
+/// Tells of a line: its place in the file, its text, and what is wrong with it.
+pub fn explain_line<W: Write>(
+    alloc: Global,
+    faulty: Faulty<'_>,
+    lines: &Lines,
+    kind: FaultKind,
+    place: Place,
+    out: &mut W,
+) -> io::Result<()> {
+    let Some(line) = line_at(lines, place) else {
+        return Ok(());
+    };
+    match string_at(faulty.text, key_text(place.key), place.position) {
+        Some(at) => writeln!(out, "  {}:{at}: {}", faulty.file, shown(line))?,
+        None => writeln!(out, "  {}: {}", faulty.file, shown(line))?,
+    }
+    explain_reason(alloc, kind, lines, place, line, out)
+}
+
+fn line_at<'a>(lines: &'a Lines, place: Place) -> Option<&'a str> {
+    let list = match place.key {
+        Key::Routers => &lines.routers,
+        Key::Links => &lines.links,
+        Key::Prefixes => &lines.prefixes,
+        Key::Script => &lines.script,
+    };
+    let line = list.get(place.position)?;
+    Some(line.as_str())
+}
+
+fn key_text(key: Key) -> &'static str {
+    match key {
+        Key::Routers => "routers",
+        Key::Links => "links",
+        Key::Prefixes => "prefixes",
+        Key::Script => "script",
+    }
+}
+
+// Tells what a line lacks, where its fault leaves that open.
+fn explain_reason<W: Write>(
+    alloc: Global,
+    kind: FaultKind,
+    lines: &Lines,
+    place: Place,
+    line: &str,
+    out: &mut W,
+) -> io::Result<()> {
+    let position = place.position;
+    if place.key == Key::Routers {
+        return explain_name(&lines.routers, position, out);
+    }
+    let none: &[String] = &[];
+    let Ok(reading) = read_script(alloc, &lines.routers, &lines.links, none, none) else {
+        return Ok(());
+    };
+    let script = reading.script;
+    match (kind, place.key) {
+        (FaultKind::BadCommand | FaultKind::BadCost, Key::Script) => {
+            explain_command(alloc, &script.names, &script.links, line, out)
+        }
+        (FaultKind::BadLine | FaultKind::BadLink | FaultKind::BadCost, Key::Links) => {
+            explain_link(&script.names, &lines.links, position, out)
+        }
+        (FaultKind::BadLine | FaultKind::BadOwner | FaultKind::BadCost, Key::Prefixes) => {
+            explain_prefix(&script.names, &lines.prefixes, position, out)
+        }
+        _ => Ok(()),
+    }
+}
