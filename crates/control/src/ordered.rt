@@ -8,7 +8,7 @@ ghost use Rattle.fabric.specs.Headline.{HasBestRows};
 ghost use Rattle.control.specs.Served.{IsServed, IsStopped, none_asked};
 
 use crate::progress::Progress;
-use crate::settling::tell;
+use crate::settling::report_steps;
 use fabric::Fabric;
 use network_model::{Refusal, Step};
 use publication::FabricName;
@@ -55,7 +55,7 @@ where
                 Ok(()) => order.after(router),
                 Err(refusal) => return Err(refusal),
             }
-            tell(fabric, progress);
+            report_steps(fabric, progress);
         }
     }
     unreachable!()

@@ -184,7 +184,7 @@ where
                 let _number = step.number();
                 watch.note(fabric, &step);
                 match fabric.step(rt, step) {
-                    Ok(()) => tell(fabric, progress),
+                    Ok(()) => report_steps(fabric, progress),
                     Err(refusal) => return Err(refusal),
                 }
             }
@@ -196,8 +196,8 @@ where
     Ok(())
 }
 
-// Tells how many steps were done, after every so many.
-pub(crate) fn tell<B: FabricName, P: Progress>(fabric: &Fabric<B>, progress: &mut P) {
+// Reports how many steps were done, after every so many.
+pub(crate) fn report_steps<B: FabricName, P: Progress>(fabric: &Fabric<B>, progress: &mut P) {
     let steps = fabric.journal().len();
     if steps % STEPS_BETWEEN == 0 {
         progress.steps(steps);

@@ -70,7 +70,7 @@ impl Sweep {
 }
 
 // What is shown of a router.
-fn tell_router<A: SmallAllocator + fmt::Debug>(
+fn print_router<A: SmallAllocator + fmt::Debug>(
     out: &mut String,
     router: &Router<A>,
     notices: usize,
@@ -89,7 +89,7 @@ fn tell_router<A: SmallAllocator + fmt::Debug>(
 }
 
 // What is shown of each router, link and step, and what the images answer.
-fn tell<B: FabricName, A: SmallAllocator + fmt::Debug>(
+fn print_network<B: FabricName, A: SmallAllocator + fmt::Debug>(
     out: &mut String,
     fabric: &mut Fabric<B, A>,
 ) -> fmt::Result {
@@ -98,7 +98,7 @@ fn tell<B: FabricName, A: SmallAllocator + fmt::Debug>(
         writeln!(out, "{number} {:?}", fabric.lookup(number, ADDR))?;
         let world = fabric.world();
         if usize::from(number) < world.routers().len() {
-            tell_router(out, world.router(number), world.notices(number))?;
+            print_router(out, world.router(number), world.notices(number))?;
         }
     }
     Ok(())
@@ -111,7 +111,7 @@ fn report_of<B: FabricName, A: SmallAllocator + fmt::Debug>(
     fabric: &mut Fabric<B, A>,
 ) -> String {
     let mut report = String::new(alloc);
-    tell(&mut report, fabric).expect(rt, "memory");
+    print_network(&mut report, fabric).expect(rt, "memory");
     report
 }
 

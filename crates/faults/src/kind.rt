@@ -1,6 +1,6 @@
 //! The numbers of faults.
 
-ghost use Rattle.std.specs.Prelude.{◌≡◌, ◌≢◌, Some, IfSome, IfNone};
+ghost use Rattle.std.specs.Prelude.{◌≡◌, ◌≢◌, ◌<◌, Some, IfSome, IfNone};
 ghost use Rattle.faults.specs.declared.kind.FaultKind.{FaultKind};
 ghost use Rattle.faults.specs.Numbers.{kind_number, name_of};
 
@@ -111,9 +111,10 @@ impl FaultKind {
         }
     }
 
-    /// Its number.
+    /// Its number, 1..=55.
     pub fn number(self) -> u8
-        ensures { result ≡ kind_number self }
+        ensures number { result ≡ kind_number self }
+        ensures some { 0 < result }
     {
         match self {
             FaultKind::NoSlash => 1,

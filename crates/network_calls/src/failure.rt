@@ -1,9 +1,10 @@
 //! Why a call on a network is refused.
 
 ghost use Rattle.std.specs.Prelude.{◌≡◌, ◌<◌, OnOk, IfErr};
-ghost use Rattle.network_calls.specs.Failures.{failure_number, network_number, refusal_number};
+ghost use Rattle.network_calls.specs.Failures.{failure_number};
 
 use c_interface::CallFault;
+use faults::FaultKind;
 use network_model::{NetworkFault, Refusal};
 
 /// Why a call on a network is refused.
@@ -28,44 +29,9 @@ impl Failure {
         match self {
             Failure::Given(fault) => fault.number(),
             Failure::BadLimits => 50,
-            Failure::Network(fault) => network_number(fault),
-            Failure::Refused(refusal) => refusal_number(refusal),
+            Failure::Network(fault) => u32::from(FaultKind::from(fault).number()),
+            Failure::Refused(refusal) => u32::from(FaultKind::from(refusal).number()),
         }
-    }
-}
-
-fn network_number(fault: NetworkFault) -> u32
-    ensures { result ≡ network_number fault }
-{
-    match fault {
-        NetworkFault::BadRouters => 24,
-        NetworkFault::BadLink { .. } => 25,
-        NetworkFault::TooManyLinks { .. } => 26,
-        NetworkFault::BadOwner { .. } => 27,
-    }
-}
-
-fn refusal_number(refusal: Refusal) -> u32
-    ensures { result ≡ refusal_number refusal }
-{
-    match refusal {
-        Refusal::UnknownRouter => 10,
-        Refusal::UnknownLink => 11,
-        Refusal::AlreadyUp => 13,
-        Refusal::IsDown => 14,
-        Refusal::SessionsSpent => 15,
-        Refusal::NothingToDeliver => 16,
-        Refusal::NothingDue => 17,
-        Refusal::NothingRipe => 18,
-        Refusal::JournalFull => 19,
-        Refusal::NoMemory => 20,
-        Refusal::Busy => 21,
-        Refusal::Stale => 22,
-        Refusal::NoReaderPlace => 23,
-        Refusal::UnknownPrefix => 28,
-        Refusal::NotAttached => 29,
-        Refusal::NoImage => 34,
-        Refusal::WrongTicket => 35,
     }
 }
 

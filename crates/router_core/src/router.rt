@@ -367,7 +367,7 @@ impl<A: SmallAllocator> Router<A> {
                     kind: message.kind,
                     value: message.value,
                 };
-                self.tell(message.prefix, &event)
+                self.meet_one(message.prefix, &event)
             }
         }
     }
@@ -386,7 +386,7 @@ impl<A: SmallAllocator> Router<A> {
             Some(cost) => Event::Attached { cost },
             None => Event::Detached,
         };
-        self.tell(prefix, &event)
+        self.meet_one(prefix, &event)
     }
 
     // Each machine meets the event of a port that changes.
@@ -418,7 +418,7 @@ impl<A: SmallAllocator> Router<A> {
 
     // The machine of one prefix meets the event, which leaves the router's ports as they are. It is
     // opened where the router has not heard of the prefix.
-    fn tell(&mut self, prefix: Prefix, event: &Event) -> Result<(), NoMemory>
+    fn meet_one(&mut self, prefix: Prefix, event: &Event) -> Result<(), NoMemory>
         requires known { IsKnown (length (self.old).ports) event.now }
         requires timely { IsTimely (is_port_up (self.old).ports) event.now }
         requires still { ups_after event.now (port_ups (self.old).ports)

@@ -1,24 +1,24 @@
 -- What the calls answer, by the network in simulated time that a handle holds, and what they leave.
 use Rattle.std.specs.Prelude.{◌≡◌, ◌≢◌, ◌⊎◌, ℕ, ◌≤◌, nat_lt, if◌then◌else◌, true, Option, Some, None, option_map, slice_get}
 use Rattle.std.specs.Option.{option_map_or}
+use Rattle.faults.specs.Numbers.{kind_number}
 use Rattle.c_interface.specs.Faults.{fault_number}
 use Rattle.c_interface.specs.declared.fault.CallFault.TheVariants.{Empty}
 use Rattle.timed_simulation.specs.declared.events.Event.{Event}
 use Rattle.timed_simulation.specs.declared.events.Change.{Change}
 use Rattle.timed_simulation.specs.declared.fault.TimeFault.{TimeFault}
-use Rattle.timed_simulation.specs.declared.fault.TimeFault.TheVariants.{PastMoment, TimeSpent, Refused}
+use Rattle.timed_simulation.specs.declared.fault.TimeFault.TheVariants.{PastMoment}
+use Rattle.timed_simulation.specs.Kinds.{time_kind}
 use Rattle.timed_simulation.specs.Timed.{Timed}
 use Rattle.timed_simulation.specs.Due.{IsDoneUntil, NothingIsLate}
 use Rattle.timed_simulation.specs.Runs.{IsAtRest, IsStoppedAt, IsTimedRun}
-use Rattle.network_calls.specs.Failures.{refusal_number, IsDoneOrFull}
+use Rattle.network_calls.specs.Failures.{IsDoneOrFull}
 use Rattle.network_calls.specs.declared.step.StepParts.{StepParts}
 use Rattle.timed_ffi.specs.Parts.{change_fault}
 
 -- the number by which C knows why a call on simulated time is refused
 abbrev pub time_number : TimeFault → ℕ
-time_number PastMoment = 51
-time_number TimeSpent = 52
-time_number (Refused e) = refusal_number e
+time_number f = kind_number (time_kind f)
 
 -- ---- changes
 

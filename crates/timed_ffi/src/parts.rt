@@ -7,7 +7,8 @@ ghost use Rattle.timed_ffi.specs.Calls.{time_number};
 ghost use Rattle.timed_ffi.specs.Parts.{change_fault, delays_of, parts_of_event};
 
 use c_interface::CallFault;
-use network_calls::{Failure, StepParts};
+use faults::FaultKind;
+use network_calls::StepParts;
 use network_model::{NoMemory, Step};
 use std::alloc::Global;
 use timed_simulation::{Event, LinkDelays, TimeFault, is_change};
@@ -83,9 +84,5 @@ pub fn time_number(fault: TimeFault) -> u32
     ensures number { result ≡ time_number fault }
     ensures some { 0 < result }
 {
-    match fault {
-        TimeFault::PastMoment => 51,
-        TimeFault::TimeSpent => 52,
-        TimeFault::Refused(refusal) => Failure::Refused(refusal).number(),
-    }
+    u32::from(FaultKind::from(fault).number())
 }

@@ -18,8 +18,8 @@ use c_interface::CallFault;
 use network_calls::{AttachmentParts, FaultPlace, LimitsParts, LinkParts};
 use std::alloc::Global;
 
-// Tells how many were written and whether there are more, or that no record is kept.
-fn tell(told: Option<(usize, bool)>, written: &mut usize, more: &mut u8) -> u32
+// Writes how many were written and whether there are more; 53 if no record is kept.
+fn write_count(told: Option<(usize, bool)>, written: &mut usize, more: &mut u8) -> u32
     ensures some { IfSome told (λ t.
         (result ≡ 0) × (written.new ≡ t.0) × (more.new ≡ flag t.1)) }
     ensures none { IfNone told
@@ -106,7 +106,7 @@ pub extern "C" fn tuhvondi_timed_computations(
         None => None,
     };
     timed.put(held);
-    tell(told, written, more)
+    write_count(told, written, more)
 }
 
 /// Writes the computations that go on, by prefixes and then by routers: as many as there is room for, how many
@@ -134,7 +134,7 @@ pub extern "C" fn tuhvondi_timed_computing(
         None => None,
     };
     timed.put(held);
-    tell(told, written, more)
+    write_count(told, written, more)
 }
 
 /// Writes the outages that ended, as `tuhvondi_timed_computations` does the computations.
@@ -162,7 +162,7 @@ pub extern "C" fn tuhvondi_timed_outages(
         None => None,
     };
     timed.put(held);
-    tell(told, written, more)
+    write_count(told, written, more)
 }
 
 /// Writes the outages that go on, as `tuhvondi_timed_computing` does the computations.
@@ -189,5 +189,5 @@ pub extern "C" fn tuhvondi_timed_cut_off(
         None => None,
     };
     timed.put(held);
-    tell(told, written, more)
+    write_count(told, written, more)
 }

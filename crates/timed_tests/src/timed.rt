@@ -168,7 +168,7 @@ fn time_is_spent(rt: HostRuntime) {
 }
 
 // What is shown of it.
-fn tell<A: SmallAllocator>(out: &mut String, timed: &TimedSimulation<A>) -> fmt::Result {
+fn print_timed<A: SmallAllocator>(out: &mut String, timed: &TimedSimulation<A>) -> fmt::Result {
     write!(out, "{} {:?} ", timed.now(), timed.next_event())?;
     for change in timed.changes() {
         write!(out, "{change:?} ")?;
@@ -186,7 +186,7 @@ fn report_of<A: SmallAllocator>(
     timed: &TimedSimulation<A>,
 ) -> String {
     let mut report = String::new(alloc);
-    tell(&mut report, timed).expect(rt, "memory");
+    print_timed(&mut report, timed).expect(rt, "memory");
     report
 }
 

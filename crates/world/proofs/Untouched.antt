@@ -1,5 +1,5 @@
 -- What a step leaves as it was: each link but the one that it touches, and each router, with its attachments, but those that it touches.
-use Rattle.std.proofs.Common.{refl, ap, sym, ◌∙◌, ◌≡◌, ◌≢◌, ℕ, Option, Some, None, option_map, slice_get}
+use Rattle.std.proofs.Common.{refl, ap, subst, sym, ◌∙◌, ◌≡◌, ◌≢◌, ℕ, Option, Some, None, option_map, slice_get}
 use Rattle.std.specs.Option.{option_map_or}
 use Rattle.std.specs.Prelude.{option_and_then}
 use Rattle.network_model.specs.declared.item.Held.{Held}
@@ -11,6 +11,7 @@ use Rattle.network_model.specs.Machine.{changed_at}
 use Rattle.network_model.specs.World.{Attachments, Link, Router, World, place_at}
 use Rattle.network_model.specs.Step.{changed_attachments, changed_link, changed_router, front_at, link_come_up, link_gone_down, next, notice_at, release_at, router_accepting, router_at_home, router_publishing, router_releasing, with_attachment, with_cost, with_delivered, with_front_taken, with_message, with_notice_taken, with_noticed, with_released, without_attachment}
 use Rattle.network_model.proofs.ListLaws.{option_map_or-ind, slice_get-changed_at_other}
+use Rattle.world.specs.declared.touched.Touched.{Touched}
 use Rattle.world.specs.Rest.{link_number}
 use Rattle.world.specs.Touched.{LeavesOthers, touched_by}
 
@@ -106,5 +107,9 @@ attachments_untouched w (Detach i p) j apart = changed_attachments-other w i (wi
 -- ---- all
 
 -- a step leaves all that it does not touch
-pub untouched : (w : World) (s : Step) → LeavesOthers s w (next w s)
+pub untouched : (w : World) (s : Step) → LeavesOthers (touched_by s w) w (next w s)
 untouched w s = record { links = link_untouched w s; attachments = attachments_untouched w s; routers = router_untouched w s }
+
+-- the same of what is found to be touched
+pub untouched_by : (w : World) (s : Step) (t : Touched) → t ≡ touched_by s w → LeavesOthers t w (next w s)
+untouched_by w s t at = subst (λ u. LeavesOthers u w (next w s)) (sym at) (untouched w s)

@@ -19,11 +19,11 @@ touched_by (Release i) w = record { link = option_and_then (λ h. link_number w 
 touched_by (Attach i p cost) w = record { link = None; attachments = Some i; router = None }
 touched_by (Detach i p) w = record { link = None; attachments = Some i; router = None }
 
--- the second world has every link, every router's attachments and every router of the first as they were, but those that the step can change
-pub record LeavesOthers (s : Step) (w v : World) : Type 0 where
-  pub links : (l : ℕ) → (touched_by s w).link ≢ Some l → slice_get v.links l ≡ slice_get w.links l
-  pub attachments : (i : ℕ) → (touched_by s w).attachments ≢ Some i → slice_get v.attachments i ≡ slice_get w.attachments i
-  pub routers : (i : ℕ) → (touched_by s w).router ≢ Some i → slice_get v.routers i ≡ slice_get w.routers i
+-- the second world has every link, every router's attachments and every router of the first as they were, but those that are named
+pub record LeavesOthers (t : Touched) (w v : World) : Type 0 where
+  pub links : (l : ℕ) → t.link ≢ Some l → slice_get v.links l ≡ slice_get w.links l
+  pub attachments : (i : ℕ) → t.attachments ≢ Some i → slice_get v.attachments i ≡ slice_get w.attachments i
+  pub routers : (i : ℕ) → t.router ≢ Some i → slice_get v.routers i ≡ slice_get w.routers i
 
 -- how much of these is not at rest
 abbrev pub unrest_at : Touched → World → ℕ

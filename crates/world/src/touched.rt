@@ -18,10 +18,10 @@ pub struct Touched {
 
 impl Touched {
     /// What the step can change of this world, if it is done there. All else stays.
-    #[tactic(auto, using(crate::proofs::Untouched::untouched))]
+    #[tactic(auto, using(crate::proofs::Untouched::untouched_by))]
     pub fn by<A: SmallAllocator>(step: &Step, world: &World<A>) -> Touched
         ensures named { result ≡ touched_by step.now world.now }
-        ensures others { LeavesOthers step.now world.now (steps.next world.now step.now) }
+        ensures others { LeavesOthers result world.now (steps.next world.now step.now) }
     {
         match *step {
             Step::LinkUp { link } | Step::LinkDown { link } => Touched {

@@ -15,8 +15,8 @@ use Rattle.router_core.proofs.Ports.{ups-neighbours}
 use Rattle.router_core.proofs.Kept.{kept-meeting}
 use Rattle.router_core.proofs.Opening.{machines_of-put}
 use Rattle.router_core.proofs.Notices.{has_ports_at, timely_over, known_over, most_sent_over, meeting_parts, machine_there, machine_new, row_known}
-use Rattle.router_core.proofs.router.Router.tell.Goals as goal
-use Rattle.router_core.proofs.router.Router.tell.Given as given
+use Rattle.router_core.proofs.router.Router.meet_one.Goals as goal
+use Rattle.router_core.proofs.router.Router.meet_one.Given as given
 
 pub place_of-requires : goal.place_of-requires
 place_of-requires g c = ap (is_sorted prefix_cmp) c.deref.ensures.value ∙ sym (sorted-map prefix_cmp (λ s. s.machine) c.self.inside.machines.items) ∙ c.self.invariant.sorted
