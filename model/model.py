@@ -5,7 +5,8 @@
 
 does the script of a scenario and prints what `dualnet run` prints for it. It shares no code with
 the program, and is there to be compared with it: in what it prints, and in how long it takes. It
-presumes a scenario without faults, and has no `inject` and `drain`. With `--time` it says on
+presumes a scenario without faults. It has no `inject` and `drain`, and neither `count`, `save`,
+`restore` nor `settle --seed N`: at one of these it ends with status 1. With `--time` it says on
 standard error how many steps it did, in how many seconds.
 """
 
@@ -16,6 +17,10 @@ from collections.abc import Iterator
 
 from model_machine import COST, DOWN, INF
 from model_network import Message, Network, Prefix, Refused, Router, Step, Via, read_addr
+
+
+class UnknownCommand(Exception):
+    """The model has no such command."""
 
 
 def step_of(network: Network, words: list[str]) -> Step:
@@ -39,7 +44,7 @@ def step_of(network: Network, words: list[str]) -> Step:
             return network.publish, network.routers[a]
         case ["release", a]:
             return network.release, network.routers[a]
-    raise ValueError(f"no command: {' '.join(words)}")
+    raise UnknownCommand(" ".join(words))
 
 
 def trace(router: Router, addr: int, through: bool = False) -> tuple[list[str], str]:
@@ -119,11 +124,23 @@ def report(network: Network) -> Iterator[str]:
             yield machine_line(router, prefix)
 
 
+def put_links(network: Network, name: str, up: bool) -> None:
+    """Puts each link of a router up or down that is not, in the order of the links."""
+    router = network.routers[name]
+    for link in network.links:
+        if link.up != up and any(port.router is router for port in link.ports):
+            network.do((network.link_up if up else network.link_down, link))
+
+
 def answers(network: Network, words: list[str]) -> Iterator[str]:
     """Does a command, and gives the lines that it prints."""
     match words:
         case ["settle"]:
             network.settle()
+        case ["up", name]:
+            put_links(network, name, up=True)
+        case ["down", name]:
+            put_links(network, name, up=False)
         case ["report"]:
             yield from report(network)
         case ["try", *step]:
@@ -170,6 +187,9 @@ def play(network: Network, script: list[str]) -> int:
         except Refused as refusal:
             print(f"dualnet: {refusal} at script {position}", file=sys.stderr)
             return 2
+        except UnknownCommand as command:
+            print(f"model.py: it has no command `{command}`", file=sys.stderr)
+            return 1
     print(f"done: {network.steps} steps")
     return 0
 

@@ -114,15 +114,15 @@ class Script:
                 return f"{kind} {self.ends()}"
 
     def command(self) -> str:
-        kinds = ["try", "settle", "state", "table", "next", "queue", "held", "lookup", "trace", "report"]
-        weights = [80, 2, 6, 3, 3, 3, 3, 3, 6, 1]
+        kinds = ["try", "settle", "state", "table", "next", "queue", "held", "lookup", "trace", "report", "up", "down"]
+        weights = [80, 2, 6, 3, 3, 3, 3, 3, 6, 1, 1, 1]
         kind = self.random.choices(kinds, weights)[0]
         match kind:
             case "try":
                 return f"try {self.step()}"
             case "state":
                 return f"state {self.router()} {self.random.choice(self.prefixes)}"
-            case "table" | "next" | "held":
+            case "table" | "next" | "held" | "up" | "down":
                 return f"{kind} {self.router()}"
             case "queue":
                 name = self.router()

@@ -10,7 +10,7 @@ use std::io::Write;
 use strsim::levenshtein;
 
 // The forms of all commands but `try STEP`. Of two forms of one verb, the first is that of a step.
-const FORMS: [&str; 23] = [
+const FORMS: [&str; 24] = [
     "up A B",
     "down A B",
     "cost A B C",
@@ -31,6 +31,7 @@ const FORMS: [&str; 23] = [
     "held A",
     "lookup A ADDR",
     "trace A ADDR",
+    "trace A ADDR --through",
     "report",
     "save",
     "restore",
@@ -38,6 +39,21 @@ const FORMS: [&str; 23] = [
 
 // The forms of those that workers answer.
 const JOBS: [&str; 2] = ["inject A ADDR", "drain"];
+
+// The forms of those that a shell alone has.
+const OF_SHELL: [&str; 3] = ["say TEXT", "help", "quit"];
+
+/// Tells how a command of the shell alone is written, if the line begins as one; answers whether it does.
+pub fn explain_of_shell<W: Write>(line: &str, out: &mut W) -> io::Result<bool> {
+    let verb = word_at(line, 0);
+    for form in OF_SHELL {
+        if word_at(form, 0) == verb {
+            writeln!(out, "  wrong number of words: write `{form}`")?;
+            return Ok(true);
+        }
+    }
+    Ok(false)
+}
 
 /// Tells why a line of the script is no command on this network.
 pub fn explain_command<W: Write>(
@@ -52,10 +68,9 @@ pub fn explain_command<W: Write>(
     }
     let tried = line.strip_prefix("try ");
     let line = tried.unwrap_or(line);
-    let verb = line.split(' ').next().unwrap_or("");
     let count = line.split(' ').count();
-    let Some(form) = form_of(verb, if tried.is_some() { None } else { Some(count) }) else {
-        return explain_unknown(alloc, verb, out);
+    let Some(form) = form_of(line, if tried.is_some() { None } else { Some(count) }) else {
+        return explain_unknown(alloc, word_at(line, 0), out);
     };
     if form.split(' ').count() != count {
         return writeln!(out, "  wrong number of words: write `{form}`");
@@ -63,9 +78,13 @@ pub fn explain_command<W: Write>(
     explain_words(names, links, form, line, out)
 }
 
-/// Tells of two spaces in a row, of one at an end, or of a character that looks like one; answers whether it
-/// told of any.
+/// Tells of a line with nothing in it, of two spaces in a row, of one at an end, or of a character that looks
+/// like one; answers whether it told of any.
 pub fn explain_spaces<W: Write>(line: &str, out: &mut W) -> io::Result<bool> {
+    if line.is_empty() {
+        writeln!(out, "  the line is empty")?;
+        return Ok(true);
+    }
     if let Some(letter) = odd_space(line) {
         writeln!(
             out,
@@ -84,27 +103,44 @@ pub fn explain_spaces<W: Write>(line: &str, out: &mut W) -> io::Result<bool> {
     Ok(false)
 }
 
-// The form of the verb with so many words, or else its first.
-fn form_of(verb: &str, count: Option<usize>) -> Option<&'static str> {
-    let mut first = None;
+// The form that the line's verb has with so many words; or else with the line's second word; or else its first.
+fn form_of(line: &str, count: Option<usize>) -> Option<&'static str> {
+    let (verb, second) = (word_at(line, 0), word_at(line, 1));
+    let (mut first, mut near) = (None, None);
     for form in FORMS {
-        if form.split(' ').next() == Some(verb) {
+        if word_at(form, 0) == verb {
             if count == Some(form.split(' ').count()) {
                 return Some(form);
             }
             first = first.or(Some(form));
+            if count.is_some() && word_at(form, 1) == second {
+                near = Some(form);
+            }
         }
     }
     for form in JOBS {
-        if form.split(' ').next() == Some(verb) {
+        if word_at(form, 0) == verb {
             return Some(form);
         }
     }
-    first
+    near.or(first)
+}
+
+// The word at a place of a line; empty if there is none.
+fn word_at(line: &str, place: usize) -> &str {
+    line.split(' ').nth(place).unwrap_or("")
 }
 
 // Tells of a word that is no command, and of the nearest one that is, if it is near.
 fn explain_unknown<W: Write>(alloc: Global, verb: &str, out: &mut W) -> io::Result<()> {
+    if verb.starts_with('#') {
+        return writeln!(out, "  a command cannot be a comment");
+    }
+    for form in OF_SHELL {
+        if word_at(form, 0) == verb {
+            return writeln!(out, "  `{verb}` is a command of the shell alone");
+        }
+    }
     let mut nearest = ("", 3);
     for form in FORMS {
         nearest = nearer(alloc, verb, form, nearest)?;
@@ -129,7 +165,7 @@ fn nearer<'a>(
     form: &'a str,
     before: (&'a str, usize),
 ) -> io::Result<(&'a str, usize)> {
-    let word = form.split(' ').next().unwrap_or("");
+    let word = word_at(form, 0);
     let distance = levenshtein(alloc, verb, word)?;
     Ok(if distance < before.1 {
         (word, distance)

@@ -1,6 +1,6 @@
 //! Why a line that was typed into a shell is not done.
 
-use crate::command::explain_command;
+use crate::command::{explain_command, explain_of_shell};
 use crate::shown::shown;
 use explanations::Brief;
 use faults::FaultKind;
@@ -28,7 +28,8 @@ pub fn explain_typed<W: Write>(alloc: Global, typed: &Typed<'_>, out: &mut W) ->
     match str::from_utf8(typed.line) {
         Ok(line) => {
             writeln!(out, "  line {number}: {}", shown(line))?;
-            if matches!(typed.kind, FaultKind::BadCommand | FaultKind::BadCost) {
+            let is_command = matches!(typed.kind, FaultKind::BadCommand | FaultKind::BadCost);
+            if is_command && !explain_of_shell(line, out)? {
                 explain_command(alloc, typed.names, typed.links, line, out)?;
             }
         }

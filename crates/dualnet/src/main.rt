@@ -39,7 +39,7 @@ use program_files::{
 };
 use std::io::{BufWriter, IsTerminal, LineWriter, Read, Write};
 use std::process::ExitCode;
-use std::{fs, io};
+use std::{fmt, fs, io};
 
 fn main(rt: HostRuntime) -> ExitCode {
     let status = status(&rt, &rt);
@@ -77,14 +77,13 @@ fn print_by<H: Host>(rt: &HostRuntime, wait: &H, words: &Words<'_>) -> io::Resul
 
 // Does what the words ask for, over the files that they name.
 fn run_words<H: Host, W: Write>(rt: &HostRuntime, wait: &H, words: &Words<'_>, out: &mut W) -> u8 {
-    if is_unwritable(rt, words) {
-        refuse(Fault::from(Cause::Unwritable), &mut rt.stderr())
-    } else {
-        let keeps = file_to_explain(words).is_some();
-        let mut scenario = Kept::of(rt, first_input(rt, words), keeps);
-        let mut second = Kept::of(rt, second_input(rt, words), keeps);
-        run_over(rt, wait, words, &mut scenario, &mut second, out)
+    if let Some(path) = unwritable_path(rt, words) {
+        return refuse_journal(rt, words, path, "it is read, or is the standard output");
     }
+    let keeps = file_to_explain(words).is_some();
+    let mut scenario = Kept::of(rt, first_input(rt, words), keeps);
+    let mut second = Kept::of(rt, second_input(rt, words), keeps);
+    run_over(rt, wait, words, &mut scenario, &mut second, out)
 }
 
 // Does what the words ask for, over these files.
@@ -137,7 +136,7 @@ fn explain_fault(
 // status.
 fn keep_journal(rt: &HostRuntime, words: &Words<'_>, status: u8, journal: &[u8]) -> u8 {
     match kept_path(words) {
-        Some(path) if status == 0 => write_journal(rt, path, journal),
+        Some(path) if status == 0 => write_journal(rt, words, path, journal),
         _ => status,
     }
 }
@@ -191,23 +190,38 @@ fn reads_input(words: &Words<'_>) -> bool {
     matches!(words, Words::Shell { .. }) || is_scenario_from_input(words)
 }
 
-// Whether the journal is to be written to the standard output, which has the lines, or over a file that is read.
-fn is_unwritable(rt: &HostRuntime, words: &Words<'_>) -> bool {
-    match (scenario_path(words), kept_path(words)) {
-        (_, Some(journal)) if journal == "-" => true,
-        (Some(scenario), Some(journal)) => {
-            is_one_file(rt, scenario, journal) || (reads_input(words) && is_input(rt, journal))
-        }
-        _ => false,
-    }
+// The path of the journal, if that is the standard output, which has the lines, or a file that is read.
+fn unwritable_path<'a>(rt: &HostRuntime, words: &Words<'a>) -> Option<&'a str> {
+    let journal = kept_path(words)?;
+    let scenario = scenario_path(words)?;
+    let is_in_use = journal == "-"
+        || is_one_file(rt, scenario, journal)
+        || (reads_input(words) && is_input(rt, journal));
+    if is_in_use { Some(journal) } else { None }
 }
 
 // Writes a journal, and answers the exit status.
-fn write_journal(rt: &HostRuntime, path: &str, journal: &[u8]) -> u8 {
+fn write_journal(rt: &HostRuntime, words: &Words<'_>, path: &str, journal: &[u8]) -> u8 {
     match fs::write(rt, path, journal) {
         Ok(()) => 0,
-        Err(_) => refuse(Fault::from(Cause::Unwritable), &mut rt.stderr()),
+        Err(error) => refuse_journal(rt, words, path, error),
     }
+}
+
+// Tells that the journal cannot be written there and, if that is asked for, why; and answers the exit status.
+fn refuse_journal<D: fmt::Display + Drop>(
+    rt: &HostRuntime,
+    words: &Words<'_>,
+    path: &str,
+    why: D,
+) -> u8 {
+    let fault = Fault::from(Cause::Unwritable);
+    let status = refuse(fault, &mut rt.stderr());
+    if file_to_explain(words).is_some() {
+        let _ = writeln!(rt.stderr(), "  {path}: {why}");
+    }
+    explain_fault(rt, words, fault, &[], &[]);
+    status
 }
 
 // A reader, and what was read by it, where that is kept.

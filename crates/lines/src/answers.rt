@@ -1,7 +1,7 @@
 //! Rows, what was found for addresses, and traces.
 
 ghost use Rattle.std.specs.Prelude.{◌≡◌, Some};
-ghost use Rattle.lines.specs.Texts.{answer_text, asked_text, end_text, found_text, through_text, trace_text};
+ghost use Rattle.lines.specs.Texts.{answer_text, asked_text, end_text, through_text, trace_text};
 ghost use Rattle.lines.specs.Objects.{answer_json, asked_json, found_json, through_json, trace_json};
 
 use crate::values::{EachName, EntryJson, EntryText, NamesJson};

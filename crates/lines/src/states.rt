@@ -1,6 +1,6 @@
 //! What links, routers and machines are at.
 
-ghost use Rattle.std.specs.Prelude.{◌≡◌, Some};
+ghost use Rattle.std.specs.Prelude.{Some};
 ghost use Rattle.lines.specs.Texts.{link_text, loads_text, machine_text, origin_text, router_text, state_text, up_text};
 ghost use Rattle.lines.specs.Objects.{distances_json, link_json, loads_json, machine_json, number_json, router_json, state_json};
 

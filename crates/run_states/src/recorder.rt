@@ -1,6 +1,6 @@
 //! What of a run was shown, and what has changed since.
 
-ghost use Rattle.std.specs.Prelude.{◌≡◌, IfOk, OnErr, OnOk, Some, false, option_map, vec_len};
+ghost use Rattle.std.specs.Prelude.{◌≡◌, IfOk, OnErr, OnOk, Some, false, vec_len};
 ghost use Rattle.network_model.specs.Step as steps;
 ghost use Rattle.network_model.specs.World as model;
 ghost use Rattle.world.specs.Headline.{IsReached};

@@ -4,7 +4,7 @@ ghost use Rattle.std.specs.Prelude.{◌≡◌, ◌+◌, ◌<◌, ◌≤◌, IfOk
 ghost use Rattle.std.specs.Io.KnownBytes.{Appends};
 ghost use Rattle.std.specs.List.{range_with_len};
 ghost use Rattle.ipv4_prefix.specs.Texts.{prefix_text};
-ghost use Rattle.network_model.specs.Network.{IsNetwork, most_routers};
+ghost use Rattle.network_model.specs.Network.{most_routers};
 ghost use Rattle.network_model.specs.Run.{Runs};
 ghost use Rattle.network_model.specs.Step.{refusal};
 ghost use Rattle.network_model.specs.World as model;
@@ -16,7 +16,7 @@ ghost use Rattle.journal.specs.Steps.{step_text};
 ghost use Rattle.texts.specs.Lines.{lines_text};
 ghost use Rattle.texts.specs.Words.{Text};
 ghost use Rattle.run_states.specs.declared.recorder.Changes.{Changes as ChangesTold};
-ghost use Rattle.run_states.specs.Recorders.{ArePrefixesOf, Follows, IsCurrent, IsRecorderOf, ShowsWorld};
+ghost use Rattle.run_states.specs.Recorders.{Follows, IsCurrent, IsRecorderOf, ShowsWorld};
 ghost use Rattle.run_states.specs.Told.{IsStatesText, Tell, is_told as told_of, moment_told, numbers_from, stride as stride_of};
 ghost use Rattle.run_states.specs.Values.{count as number_of, line_text, list, opening_data, put_moment as with_moment, put_step as with_step, state_data, word};
 

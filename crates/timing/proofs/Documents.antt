@@ -1,5 +1,5 @@
 -- What a document's table says of times.
-use Rattle.std.proofs.Common.{◌≡◌, ◌<◌, ℕ, ℤ, List, [], Option, Some, None, option_and_then, refl, sym, ap, ◌∙◌, codes, ne_eqb, eq-eqb, arith}
+use Rattle.std.proofs.Common.{◌≡◌, ◌<◌, ℕ, ℤ, List, [], Option, Some, None, option_and_then, refl, ap, codes, ne_eqb, eq-eqb, arith}
 use Rattle.std.proofs.Common.{Result, Ok, Err}
 use Rattle.std.specs.Int.{w64, FitsUnsignedBits}
 use Rattle.std.specs.Option.{option_map_or}
@@ -10,7 +10,7 @@ use mir.Val.{SFits}
 use Rattle.toml.specs.Data.{Data, string, integer, float, boolean, datetime, array, table, as_integer, Members}
 use Rattle.texts.specs.Words.{Text}
 use Rattle.scenario.specs.Scenario.{array_texts, key_count}
-use Rattle.timing.specs.Document.{TimesLists, delay_at, delay_of, natural, known_keys, list_at, times_in}
+use Rattle.timing.specs.Document.{delay_at, delay_of, natural, known_keys, list_at, times_in}
 
 pub read_all : (doc : Option Members) (t : Members) (l r c : List Text) (link router : ℕ) → doc ≡ Some t → key_count t ≡ known_keys t
     → list_at (codes "links") t ≡ Some l → list_at (codes "routers") t ≡ Some r → list_at (codes "changes") t ≡ Some c

@@ -1,5 +1,5 @@
 -- Lines that are read to the last.
-use Rattle.std.proofs.Common.{◌≡◌, ℕ, ◌≤◌, ◌<◌, zero, suc, List, [], ◌∷◌, All, get_or, length, String, string_bytes, Bool, true, false, not, true≢false, refl, subst, arith, take_all}
+use Rattle.std.proofs.Common.{◌≡◌, ℕ, ◌≤◌, zero, suc, List, [], ◌∷◌, All, length, String, string_bytes, Bool, true, false, not, true≢false, refl, subst, arith, take_all}
 use Rattle.std.specs.List.{AllZip}
 use Rattle.script.proofs.Common.{length-map, Text, texts, ReadsFirst}
 

@@ -5,10 +5,9 @@ use Rattle.network_model.specs.declared.step.Step.{Step}
 use Rattle.network_model.specs.declared.step.Refusal.{Refusal}
 use Rattle.network_model.specs.World.{Network, World, opening}
 use Rattle.network_model.specs.Run.{Runs}
-use Rattle.timed_simulation.specs.declared.links.LinkDelays.{LinkDelays}
 use Rattle.timed_simulation.specs.declared.events.Change.{Change}
 use Rattle.timed_simulation.specs.declared.events.Event.{Event}
-use Rattle.timed_simulation.specs.Timed.{Timed, after_event, opening_timed, with_change, world_of}
+use Rattle.timed_simulation.specs.Timed.{Timed, opening_timed, with_change, world_of}
 use Rattle.timed_simulation.specs.Runs.{steps_of}
 use Rattle.timing.specs.declared.times.Times.{Times}
 use Rattle.timing.specs.Runs.{Comes, with_changes}

@@ -1,5 +1,5 @@
 -- How runs in simulated time end.
-use Rattle.std.proofs.Common.{◌≡◌, ◌≤◌, inl, inr, List, length, ap, subst, ◌∙◌}
+use Rattle.std.proofs.Common.{◌≡◌, ◌≤◌, inr, List, length, ap, subst, ◌∙◌}
 use Rattle.network_model.specs.World.{Network}
 use Rattle.texts.specs.Words.{Text}
 use Rattle.plans.specs.declared.fault.Fault.{Fault}

@@ -1,5 +1,5 @@
 -- How a run in simulated time ends.
-use Rattle.std.specs.Prelude.{◌≡◌, ◌≤◌, ◌⊎◌, List, length}
+use Rattle.std.specs.Prelude.{◌≤◌, ◌⊎◌, List, length}
 use Rattle.network_model.specs.World.{Network}
 use Rattle.texts.specs.Words.{Text}
 use Rattle.script.specs.Reading.{Parts}

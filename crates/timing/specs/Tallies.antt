@@ -1,5 +1,5 @@
 -- How many spells began in a time, and how long the longest was.
-use Rattle.std.specs.Prelude.{ℕ, ◌+◌, ◌-◌, ◌^◌, Bool, true, ◌&&◌, not, nat_lt, List, [], ◌∷◌, min, max, if◌then◌else◌}
+use Rattle.std.specs.Prelude.{◌+◌, ◌-◌, ◌^◌, Bool, true, ◌&&◌, not, nat_lt, List, [], ◌∷◌, min, max, if◌then◌else◌}
 use Rattle.std.specs.Option.{option_map_or}
 use Rattle.timed_reports.specs.declared.spells.Spell.{Spell}
 use Rattle.timing.specs.declared.tally.Span.{Span}

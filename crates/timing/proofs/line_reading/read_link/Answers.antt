@@ -1,4 +1,4 @@
-use Rattle.std.proofs.Common.{◌∷◌, [], Some, decimal, length, refl, ap, sym, ◌∙◌}
+use Rattle.std.proofs.Common.{◌∷◌, [], decimal, length, refl, ap, sym, ◌∙◌}
 use Rattle.std.proofs.lemmas.Option.{slice_get_read}
 use Rattle.timing.proofs.line_reading.read_link.Goals as goal
 

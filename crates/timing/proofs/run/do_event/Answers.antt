@@ -1,6 +1,5 @@
-use Rattle.std.proofs.Common.{sym, subst, ◌∙◌}
 use Rattle.timed_reports.specs.Recordings.{timed_in}
-use Rattle.timing.proofs.Leading.{none_done, one_done, refused_as}
+use Rattle.timing.proofs.Leading.{one_done}
 use Rattle.timing.proofs.run.do_event.Goals as goal
 
 pub returns-in-None : goal.returns-in-None

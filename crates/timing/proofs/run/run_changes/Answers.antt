@@ -1,4 +1,4 @@
-use Rattle.std.proofs.Common.{◌≡◌, subst, sym}
+use Rattle.std.proofs.Common.{subst, sym}
 use Rattle.timed_reports.specs.Recordings.{timed_in}
 use Rattle.timing.specs.Runs.{Leads}
 use Rattle.timing.proofs.Leading.{leads_none, leads_on, leads_push, on_ok_more}
