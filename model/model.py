@@ -5,17 +5,19 @@
 
 does the script of a scenario and prints what `dualnet run` prints for it. It shares no code with
 the program, and is there to be compared with it: in what it prints, and in how long it takes. It
-presumes a scenario without faults. It has no `inject` and `drain`, and neither `count`, `save`,
-`restore` nor `settle --seed N`: at one of these it ends with status 1. With `--time` it says on
-standard error how many steps it did, in how many seconds.
+presumes a scenario without faults. It has no `inject` and `drain`: at one of these it ends with
+status 1. It does `save` and `restore` as the program does with `--no-journal`. With `--time` it says
+on standard error how many steps it did, in how many seconds.
 """
 
 import sys
 import time
 import tomllib
+from collections import Counter
 from collections.abc import Iterator
+from copy import deepcopy
 
-from model_machine import COST, DOWN, INF
+from model_machine import COST, DOWN, INF, QUERY, REPLY, UPDATE
 from model_network import Message, Network, Prefix, Refused, Router, Step, Via, read_addr
 
 
@@ -137,6 +139,8 @@ def answers(network: Network, words: list[str]) -> Iterator[str]:
     match words:
         case ["settle"]:
             network.settle()
+        case ["settle", "--seed", seed]:
+            network.settle_drawn(int(seed))
         case ["up", name]:
             put_links(network, name, up=True)
         case ["down", name]:
@@ -178,11 +182,47 @@ def answers(network: Network, words: list[str]) -> Iterator[str]:
             network.do(step_of(network, words))
 
 
-def play(network: Network, script: list[str]) -> int:
+class Session:
+    """A network, the one that was saved, and what was done since the last count."""
+
+    def __init__(self, network: Network) -> None:
+        self.network = network
+        self.saved: Network | None = None
+        self.counted = self.totals()
+
+    def totals(self) -> Counter[str]:
+        return Counter(steps=self.network.steps) + self.network.sent
+
+    def answers(self, words: list[str]) -> Iterator[str]:
+        """Does a command, and gives the lines that it prints."""
+        match words:
+            case ["count"]:
+                now = self.totals()
+                steps, updates, queries, replies = (
+                    now[what] - self.counted[what] for what in ["steps", UPDATE, QUERY, REPLY]
+                )
+                self.counted = now
+                yield f"count: {steps} steps, {updates} updates {queries} queries {replies} replies"
+            case ["save"]:
+                self.saved = deepcopy(self.network)
+            case ["restore"]:
+                if self.saved is None:
+                    raise Refused("55 NothingSaved")
+                before = self.totals()
+                self.network = deepcopy(self.saved)
+                # What is taken back was done all the same.
+                for what, total in self.totals().items():
+                    self.counted[what] += total
+                self.counted.subtract(before)
+            case _:
+                yield from answers(self.network, words)
+
+
+def play(session: Session, script: list[str]) -> int:
     """Does a script, and gives the program's status."""
     for position, line in enumerate(script):
         try:
-            for answer in answers(network, line.split()):
+            for answer in session.answers(line.split()):
                 print(answer)
         except Refused as refusal:
             print(f"dualnet: {refusal} at script {position}", file=sys.stderr)
@@ -190,7 +230,7 @@ def play(network: Network, script: list[str]) -> int:
         except UnknownCommand as command:
             print(f"model.py: it has no command `{command}`", file=sys.stderr)
             return 1
-    print(f"done: {network.steps} steps")
+    print(f"done: {session.network.steps} steps")
     return 0
 
 
@@ -200,11 +240,12 @@ def main(words: list[str]) -> int:
         scenario = tomllib.load(file)
     network = Network(scenario["routers"], scenario["links"], scenario["prefixes"])
     start = time.perf_counter()
-    status = play(network, scenario["script"])
+    session = Session(network)
+    status = play(session, scenario["script"])
     seconds = time.perf_counter() - start
     if is_timed:
-        rate = network.steps / seconds
-        print(f"{network.steps} steps, {seconds:.2f} s, {rate:.0f} steps/s", file=sys.stderr)
+        steps = session.network.steps
+        print(f"{steps} steps, {seconds:.2f} s, {steps / seconds:.0f} steps/s", file=sys.stderr)
     return status
 
 

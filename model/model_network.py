@@ -1,6 +1,6 @@
 """Routers, links, and the steps that they do, as the model has them."""
 
-from collections import deque
+from collections import Counter, deque
 from collections.abc import Callable
 from itertools import cycle
 from typing import Any, NamedTuple
@@ -209,6 +209,8 @@ class Network:
 
     def __init__(self, routers: list[str], links: list[str], prefixes: list[str]) -> None:
         self.steps = 0
+        # How many messages of each kind were put on links.
+        self.sent: Counter[str] = Counter()
         self.routers = {name: Router(name) for name in routers}
         self.links: list[Link] = []
         # The number of a router's port, by the names of the router and of the other end.
@@ -286,6 +288,7 @@ class Network:
         router.ripe -= 1
         if held.port.link.is_up_in(held.session):
             held.port.other.put(held.message)
+            self.sent[held.message.kind] += 1
 
     def do(self, step: Step) -> None:
         if self.steps == MAX_STEPS:
@@ -306,6 +309,19 @@ class Network:
         if router.notices:
             return self.take_notice, router
         return None
+
+    def settle_drawn(self, seed: int) -> None:
+        """The same, but after each turn a router is drawn, and the first from it on that has
+        something to do is next: by xorshift of 64 bits (Marsaglia 2003), of which the highest 16
+        count."""
+        routers = list(self.routers.values())
+        state = seed or 2**64 - 1
+        while any(self.next_step(router) for router in routers):
+            state ^= state << 13 & 2**64 - 1
+            state ^= state >> 7
+            state ^= state << 17 & 2**64 - 1
+            first = (state >> 48) % len(routers)
+            self.do(next(filter(None, map(self.next_step, routers[first:] + routers[:first]))))
 
     def settle(self) -> None:
         """Turns of all routers, until none has anything to do. One without work is idle until an

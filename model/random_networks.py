@@ -10,7 +10,7 @@ import sys
 from ipaddress import IPv4Network
 from random import Random
 
-from model import answers
+from model import Session
 from model_network import Network
 from networks import Scenario, ups
 
@@ -61,12 +61,13 @@ class Script:
     def __init__(self, random: Random, network: Network, prefixes: list[IPv4Network]) -> None:
         self.random = random
         self.network = network
+        self.session = Session(network)
         self.prefixes = prefixes
         self.commands: list[str] = []
 
     def add(self, command: str) -> None:
         self.commands.append(command)
-        for _ in answers(self.network, command.split()):
+        for _ in self.session.answers(command.split()):
             pass
 
     def router(self) -> str:
@@ -114,12 +115,16 @@ class Script:
                 return f"{kind} {self.ends()}"
 
     def command(self) -> str:
-        kinds = ["try", "settle", "state", "table", "next", "queue", "held", "lookup", "trace", "report", "up", "down"]
-        weights = [80, 2, 6, 3, 3, 3, 3, 3, 6, 1, 1, 1]
-        kind = self.random.choices(kinds, weights)[0]
+        weights = {
+            "try": 80, "settle": 2, "drawn": 1, "count": 2, "state": 6, "table": 3, "next": 3, "queue": 3,
+            "held": 3, "lookup": 3, "trace": 6, "report": 1, "up": 1, "down": 1,
+        }
+        kind = self.random.choices(list(weights), list(weights.values()))[0]
         match kind:
             case "try":
                 return f"try {self.step()}"
+            case "drawn":
+                return f"settle --seed {self.random.getrandbits(32)}"
             case "state":
                 return f"state {self.router()} {self.random.choice(self.prefixes)}"
             case "table" | "next" | "held" | "up" | "down":

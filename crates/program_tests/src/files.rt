@@ -3,6 +3,7 @@
 use command_line::{Format, Words, exit_status, not_utf8};
 use harness::{Outcome, play_in_memory, run_in_memory};
 use play::{Host, Source, play};
+use program_files::is_one_file;
 use std::alloc::Global;
 use std::io::{self, Read, Write};
 use std::process::Abort;
@@ -31,6 +32,14 @@ const REPLAY: Words<'static> = Words::Replay {
     progress: false,
 };
 
+pub const TIME: Words<'static> = Words::Time {
+    file: "scenario.toml",
+    times: "times.toml",
+    spells: false,
+    explain: false,
+    format: Format::Text,
+};
+
 const SCENARIO: &[u8] = b"routers = [\"a\"]\nlinks = []\nprefixes = [\"0.0.0.0/0 a\"]\n\
     script = [\"table a\", \"lookup a 0.0.0.0\", \"state a 0.0.0.0/0\", \"report\"]\n";
 
@@ -44,7 +53,7 @@ pub fn tells(rt: &impl Abort, got: &Outcome, fault: &str) {
 
 // A reader that gives one byte and then fails.
 #[derive(Drop)]
-struct Broken {
+pub struct Broken {
     given: bool,
 }
 
@@ -59,7 +68,7 @@ impl Read for Broken {
     }
 }
 
-const BROKEN: Broken = Broken { given: false };
+pub const BROKEN: Broken = Broken { given: false };
 
 const MISSING: Source<io::Empty> = Source::Missing;
 
@@ -95,6 +104,17 @@ fn journal_cannot_be_read(rt: HostRuntime) {
     tells(&rt, &got, "dualnet: 48 BadJournal\n");
 }
 
+#[test]
+fn times_cannot_be_read(rt: HostRuntime) {
+    let alloc = rt.alloc();
+    let got = play_in_memory(&rt, alloc, &TIME, SCENARIO, MISSING);
+    tells(&rt, &got, "dualnet: 47 Unreadable\n");
+    let got = play_in_memory(&rt, alloc, &TIME, SCENARIO, BROKEN);
+    tells(&rt, &got, "dualnet: 47 Unreadable\n");
+    let got = play_in_memory(&rt, alloc, &TIME, SCENARIO, b"\xff".as_slice());
+    tells(&rt, &got, "dualnet: 40 BadToml in the times\n");
+}
+
 // The last line of a journal may end without a line feed.
 #[test]
 fn journal_without_its_last_line_feed(rt: HostRuntime) {
@@ -103,6 +123,13 @@ fn journal_without_its_last_line_feed(rt: HostRuntime) {
     let got = play_in_memory(&rt, rt.alloc(), &REPLAY, SCENARIO, journal.as_slice());
     assert_eq!(rt; got.out.as_slice(), b"replay agrees: 0 steps\n".as_slice());
     assert_eq!(rt; got.status, 0);
+}
+
+#[test]
+fn one_file_by_two_paths(rt: HostRuntime) {
+    assert!(rt; is_one_file(&rt, "/dev/null", "/dev/../dev/null"));
+    assert!(rt; !is_one_file(&rt, "/dev/null", "/dev/zero"));
+    assert!(rt; !is_one_file(&rt, "/dev/null", "/dev/no-such-file"));
 }
 
 #[test]

@@ -1,7 +1,7 @@
 //! Scenarios at the limits, and one past each.
 
-use crate::files::{CHECK, RUN, tells};
-use harness::run_in_memory;
+use crate::files::{CHECK, RUN, TIME, tells};
+use harness::{play_in_memory, run_in_memory};
 use std::alloc::{AllocError, Global};
 use std::io::{self, Read};
 use std::process::Abort;
@@ -192,4 +192,29 @@ fn a_script_that_is_too_long_is_refused(rt: HostRuntime) {
         &run_in_memory(&rt, rt.alloc(), &RUN, text.as_bytes()),
         "dualnet: 46 TooLarge\n",
     );
+}
+
+// A document of times with so many changes, each of which is refused, because the link is down.
+fn changes(rt: &impl Abort, alloc: Global, count: u16) -> String {
+    let mut text = String::new(alloc);
+    text.push_str("changes = [").expect(rt, "memory");
+    for _ in 0..count {
+        text.push_str("\"0 down a b\",").expect(rt, "memory");
+    }
+    text.push_str("]\n").expect(rt, "memory");
+    text
+}
+
+#[test]
+fn as_many_changes_as_there_may_be(rt: HostRuntime) {
+    let alloc = rt.alloc();
+    let scenario =
+        b"routers = [\"a\", \"b\"]\nlinks = [\"a b 1 1\"]\nprefixes = []\nscript = []\n";
+    let times = changes(&rt, alloc, 10_000);
+    let got = play_in_memory(&rt, alloc, &TIME, scenario, times.as_bytes());
+    assert!(rt; got.out.as_slice().ends_with(b"done: 0 steps, at rest at 0\n"));
+    assert_eq!(rt; got.status, 0);
+    let times = changes(&rt, alloc, 10_001);
+    let got = play_in_memory(&rt, alloc, &TIME, scenario, times.as_bytes());
+    tells(&rt, &got, "dualnet: 46 TooLarge in the times\n");
 }

@@ -1,5 +1,6 @@
 //! Lines that are typed into a shell and that no file of cases can hold.
 
+use crate::files::{BROKEN, tells};
 use crate::json::are_objects;
 use command_line::{Format, Words};
 use harness::play_in_memory;
@@ -47,4 +48,10 @@ fn each_line_is_answered_by_an_object(rt: HostRuntime) {
     assert_eq!(rt; are_objects(&rt, rt.alloc(), &got.out), 9);
     assert!(rt; got.err.is_empty());
     assert_eq!(rt; got.status, 0);
+}
+
+#[test]
+fn what_is_typed_cannot_be_read(rt: HostRuntime) {
+    let got = play_in_memory(&rt, rt.alloc(), &SHELL, SCENARIO, BROKEN);
+    tells(&rt, &got, "dualnet: 47 Unreadable\n");
 }

@@ -216,3 +216,28 @@ fn output_is_lost(rt: HostRuntime) {
         assert_eq!(rt; status, 2);
     }
 }
+
+// One message is on its way when the link goes down. Of the second prefix `b` has not heard then.
+const LOSES: &[u8] = b"routers = [\"a\", \"b\"]\nlinks = [\"a b 1 2\"]\n\
+    prefixes = [\"10.0.0.0/8 a 1\", \"11.0.0.0/8 a 1\"]\n\
+    script = [\"up a b\", \"deliver a b\", \"deliver b a\", \"publish a\", \"release a\", \"deliver b a\", \
+    \"release a\", \"down a b\"]\n";
+
+const HEARD: &str =
+    "{\"kind\":\"state\",\"machines\":[{\"chosen\":[0,1],\"fd\":3,\"prefix\":0,\"published\":null,\"rd\":3,\"router\":1}],\"number\":6,\
+    \"queues\":[{\"end\":1,\"link\":0,\"take\":1}],\"routers\":[{\"generation\":0,\"held\":1,\"notices\":0,\"ripe\":0,\"router\":1}],\"step\":\"deliver b a\"}\n";
+
+const LOST: &str =
+    "{\"kind\":\"state\",\"links\":[{\"costs\":[1,2],\"link\":0,\"session\":1,\"up\":false}],\"number\":8,\
+    \"queues\":[{\"end\":0,\"link\":0,\"put\":[[\"down\"]]},{\"end\":1,\"link\":0,\"lose\":true,\"put\":[[\"down\"]]}],\"step\":\"down a b\"}\n";
+
+#[test]
+fn messages_that_are_lost(rt: HostRuntime) {
+    let alloc = rt.alloc();
+    let (out, err, status) = shown(&rt, alloc, &LINES, LOSES, b"");
+    let text = str::from_utf8(&out).expect(&rt, "text");
+    assert!(rt; text.contains(HEARD));
+    assert!(rt; text.ends_with(LOST));
+    assert!(rt; err.is_empty());
+    assert_eq!(rt; status, 0);
+}
