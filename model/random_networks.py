@@ -55,11 +55,26 @@ def random_attachments(random: Random, routers: list[str], prefixes: list[IPv4Ne
     return lines
 
 
+# How often which commands are drawn, and those of a session besides.
+COMMANDS_OF_NETWORKS = {
+    "try": 80, "settle": 2, "state": 6, "table": 3, "next": 3, "queue": 3, "held": 3, "lookup": 3, "trace": 6,
+    "report": 1,
+}  # fmt: skip
+COMMANDS_OF_SESSIONS = COMMANDS_OF_NETWORKS | {"drawn": 1, "count": 2, "up": 1, "down": 1}
+
+
 class Script:
     """Random commands. The model does each of them, so that most of the steps tried are lawful."""
 
-    def __init__(self, random: Random, network: Network, prefixes: list[IPv4Network]) -> None:
+    def __init__(
+        self,
+        random: Random,
+        network: Network,
+        prefixes: list[IPv4Network],
+        weights: dict[str, int] = COMMANDS_OF_NETWORKS,
+    ) -> None:
         self.random = random
+        self.weights = weights
         self.network = network
         self.session = Session(network)
         self.prefixes = prefixes
@@ -115,11 +130,7 @@ class Script:
                 return f"{kind} {self.ends()}"
 
     def command(self) -> str:
-        weights = {
-            "try": 80, "settle": 2, "drawn": 1, "count": 2, "state": 6, "table": 3, "next": 3, "queue": 3,
-            "held": 3, "lookup": 3, "trace": 6, "report": 1, "up": 1, "down": 1,
-        }
-        kind = self.random.choices(list(weights), list(weights.values()))[0]
+        kind = self.random.choices(list(self.weights), list(self.weights.values()))[0]
         match kind:
             case "try":
                 return f"try {self.step()}"
@@ -140,13 +151,13 @@ class Script:
                 return kind
 
 
-def random_scenario(seed: int) -> Scenario:
+def random_scenario(seed: int, weights: dict[str, int] = COMMANDS_OF_NETWORKS) -> Scenario:
     random = Random(seed)
     routers = [f"r{k}" for k in range(random.randint(3, 8))]
     links = random_links(random, routers)
     prefixes = random_prefixes(random, routers)
     attachments = random_attachments(random, routers, prefixes)
-    script = Script(random, Network(routers, links, attachments), prefixes)
+    script = Script(random, Network(routers, links, attachments), prefixes, weights)
     for up in ups(links):
         if random.random() < 0.8:
             script.add(up)
@@ -158,7 +169,7 @@ def random_scenario(seed: int) -> Scenario:
 
 
 def main(words: list[str]) -> None:
-    print(random_scenario(int(words[0])).toml(), end="")
+    print(random_scenario(int(words[0]), COMMANDS_OF_SESSIONS).toml(), end="")
 
 
 if __name__ == "__main__":
