@@ -5,3 +5,4 @@ pub mod Narrowed
 pub mod Plain
 pub mod Rows
 pub mod Subcommands
+pub mod Viewed

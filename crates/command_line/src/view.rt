@@ -1,7 +1,7 @@
 //! What the command line of the program that shows a run asks for.
 
-ghost use Rattle.std.specs.Prelude.{◌≡◌, [], IfErr, IfOk, codes, false};
-ghost use Rattle.clap.specs.Words.{HasKind, app_of, fault_of, found_of, matches_of, rows_of, rule_of};
+ghost use Rattle.std.specs.Prelude.{◌≡◌, [], IfErr, IfOk, MatchResult, ⊤, codes, false};
+ghost use Rattle.clap.specs.Words.{HasKind, app_of, fault_of, found_of, kind_of, matches_of, rows_of, rule_of};
 ghost use Rattle.command_line.specs.Asked.{word_texts};
 ghost use Rattle.command_line.specs.Commands.{flag_rule, path_rule};
 ghost use Rattle.command_line.specs.View.{IsView, NamesOneRun, output_rule, view_kinds_of, view_program, word_rule};
@@ -101,6 +101,9 @@ pub fn read_view_words<'a>(alloc: Global, words: &'a [&'a str]) -> Result<ViewWo
     ensures one { IfOk result NamesOneRun }
     ensures taken { IfOk result (λ _. fault_of view_program (word_texts words.entry.now) ≡ []) }
     ensures kinds { IfErr result (HasKind (view_kinds_of (word_texts words.entry.now))) }
+    ensures every { (asked : ViewWords) → fault_of view_program (word_texts words.entry.now) ≡ []
+        → IsView (matches_of view_program (word_texts words.entry.now)) asked → NamesOneRun asked
+        → MatchResult result (λ _. ⊤) (λ e. kind_of e ≡ ErrorKind.OutOfMemory) }
 {
     let mut command = view_command(alloc)?;
     let matches = command.try_get_matches_from_mut(words)?;
@@ -114,6 +117,8 @@ pub fn read_view_words<'a>(alloc: Global, words: &'a [&'a str]) -> Result<ViewWo
 fn view_words<'a>(matches: &ArgMatches<'a>) -> Result<ViewWords<'a>, &'static str>
     ensures asked { IfOk result (IsView (rows_of (found_of matches.now))) }
     ensures one { IfOk result NamesOneRun }
+    ensures none { IfErr result (λ _. (w : ViewWords) → IsView (rows_of (found_of matches.now)) w
+        → NamesOneRun w → ⊥) }
 {
     let Some(file) = matches.get_str("file") else {
         return Err("no file is named");

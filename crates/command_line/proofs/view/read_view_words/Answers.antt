@@ -5,6 +5,7 @@ use Rattle.clap.proofs.FaultLemmas.{first_fails, past}
 use Rattle.clap.proofs.TakesLemmas.{passed_up}
 use Rattle.command_line.specs.Asked.{word_texts}
 use Rattle.command_line.specs.View.{IsView, view_kinds_of, view_program}
+use Rattle.command_line.proofs.Lines.{only_memory}
 use Rattle.command_line.proofs.view.read_view_words.Goals as goal
 
 pub returns-in_err-matches-clause-kinds : goal.returns-in_err-matches-clause-kinds
@@ -30,3 +31,14 @@ returns-clause-kinds c =
     ∙ c.in_ok-matches.ensures.kinds (ap is_simple_and_free c.in_ok-command.ensures ∙ refl) in
     subst (λ k. HasKind k c.in_ok-error-in-Err.field-0) (sym (past (fault_of view_program (word_texts c.args.words.now)) (InvalidValue ∷ []) none))
     (inr (inl c.in_ok-error-in-Err.ensures.kind))
+
+pub returns-in_err-matches-clause-every : goal.returns-in_err-matches-clause-every
+returns-in_err-matches-clause-every c asked none is one =
+    let failed = subst (λ (b : App). HasKind (fault_of b (word_texts c.args.words.now)) c.in_err-matches.field-0.0) c.in_ok-command.ensures
+    (c.in_err-matches.ensures.kinds (ap is_simple_and_free c.in_ok-command.ensures ∙ refl)) in
+    only_memory c.from_residual-in_err-matches.result c.in_err-matches.field-0.0 _ (fault_of view_program (word_texts c.args.words.now)) c.from_residual-in_err-matches.ensures.1 failed none
+
+pub returns-clause-every : goal.returns-clause-every
+returns-clause-every c asked none is one =
+    let rows = (c.in_ok-matches.ensures.ok.2 (ap is_simple c.in_ok-command.ensures ∙ refl)).0 ∙ ap (λ (a : App). matches_of a (word_texts c.args.words.now)) c.in_ok-command.ensures in
+    absurd (c.in-Err.ensures.none asked (subst (λ r. IsView r asked) (sym rows) is) one)
