@@ -12,7 +12,7 @@
 //!   dualnet time FILE TIMES [--spells] [--explain] [--format F]
 //!   dualnet shell FILE [--journal PATH] [--no-journal] [--explain] [--format F]
 //!   dualnet explain NUMBER
-//!   dualnet-view FILE [JOURNAL] [-o PATH] [--json]
+//!   dualnet-view FILE [JOURNAL] [--times TIMES] [-o PATH] [--json]
 //! ```
 //!
 //! ```text
@@ -28,8 +28,8 @@
 //!
 //! What always holds: the words that are given are those of the matches that `clap`'s definition has for this
 //! line (`IsAsked` in `specs/Asked.antt`). If that definition finds no fault and a command, the words are
-//! read (`every`). The plain lines `NAME check FILE`, `NAME run FILE` and `NAME replay FILE JOURNAL` are read
-//! always. `specs/Commands.antt` has the options, their ranges and defaults: both numbers are 1 to 16, and 1
+//! read, but for want of memory (`every`). So are the plain lines `NAME check FILE`, `NAME run FILE` and
+//! `NAME replay FILE JOURNAL`, if no file begins with a hyphen. `specs/Commands.antt` has the options, their ranges and defaults: both numbers are 1 to 16, and 1
 //! if left out.
 //!
 //! What is tricky: help that is asked for comes as an error, too, because `clap` has it so. Three things are

@@ -3,8 +3,8 @@
 //!
 //! A clause can say of a call that takes a lock what it did, but not of which fabric: others may have
 //! stepped it meanwhile. So a control is named ([`ControlName`]) by the fabric from which it began, the
-//! steps that may be asked for, and two *ledgers*, in which each holder's share adds up the numbers of the
-//! steps that it did:
+//! steps that may be asked for, and three *ledgers*. In two of them each holder's share adds up the numbers of
+//! the steps that it did, and the third counts the writers that are out:
 //!
 //! ```text
 //!   Control ( lock )                          beside it

@@ -13,8 +13,8 @@
 //! ran.kept         // the journal's text, if a run or a shell ended with 0
 //! ```
 //!
-//! Beside the [`Outcome`] stand the verdicts, each with its rule in a contract. So a trial cannot be called
-//! right by mistake:
+//! Beside the [`Outcome`] stand the verdicts, each with its rule in a contract. So what was gathered is not
+//! called right by mistake:
 //!
 //! - `example::judge`: the run and the shell ended with 0 and printed what is wanted, to the byte. And the
 //!   replay of the run's journal ended with 0.

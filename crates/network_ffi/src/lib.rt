@@ -21,7 +21,8 @@
 //! the network's own refusal, and want of memory last (`step_fault` in `specs/Calls.antt` of `network_calls`). If a call is
 //! done, the network is what `simulation` says, by the very definitions that its contracts cite. So all that
 //! is proved of a simulation holds of it, for example that no packet circles. If a call is refused, the
-//! network stays as it was, and nothing is written but what the contract names. Only `tuhvondi_network_new`,
+//! network stays as it was, but for the steps that a run or a settling did before. Nothing is written but what
+//! the contract names. Only `tuhvondi_network_new`,
 //! `tuhvondi_network_within`, `tuhvondi_network_copy` and the calls that do steps ask for memory.
 //!
 //! What is tricky is the pointer. Each call takes the box out of the handle, works on what is in it, and puts

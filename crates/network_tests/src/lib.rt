@@ -15,6 +15,7 @@
 //!   patches, compiled                 images of tables, and what patches make of them
 //!   machines, replies                 worked tables of one machine, with origin states and awaited ports
 //!   links, tables, gates, routers, worlds
+//!   copies, wide                      copies of networks; networks with other limits
 //!   refusals                          want of memory
 //! ```
 //!

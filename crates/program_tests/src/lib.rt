@@ -8,7 +8,7 @@
 //! ```text
 //!   files     files that cannot be read or written, and texts that are not UTF-8
 //!   limits    the largest file, network and script that are taken, and larger ones that are refused
-//!   lines     lines with numbers that no run reaches
+//!   texts_of_lines   lines with numbers that no run reaches
 //!   written   what faults, costs and distances are written as
 //!   json      lines of JSON, read by another reader (`serde_json`)
 //!   shells    lines that are typed into a shell and are no text, and its answers as objects

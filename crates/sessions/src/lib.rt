@@ -22,8 +22,8 @@
 //! `specs/Commands.antt`). `specs/Nets.antt` says what a step, a settling or a copy is of either. A look-up answers
 //! with the longest match of the rows that the router published (`answer` of [`lookup`]).
 //!
-//! What is tricky: with a seed both settle in the same order, so a script ends with the same lines. A job of
-//! [`Counted`] is answered as soon as it is given, and told by the next `drain`. That is lawful, because the answer
+//! What is tricky: with a seed both settle in the same order, so a script ends with the same lines. No clause says
+//! so, and cases test it. A job of [`Counted`] is answered as soon as it is given, and told by the next `drain`. That is lawful, because the answer
 //! of a worker may be that of any table from then on.
 #![tactic(auto)]
 

@@ -25,8 +25,8 @@
 //! ..
 //! ```
 //!
-//! What always holds: what is right is said by the contracts of `harness`, so this program cannot call a case
-//! right that is not. Words that are done are not done again (the clause of `first_task`). A number that is
+//! What always holds: what is right is said by the contracts of `harness`. So a case is called right only if
+//! what was gathered is as its file says. Words that are done are not done again (the clause of `first_task`). A number that is
 //! drawn is below its bound (the clause of `Dice::below`).
 //!
 //! The exit status is 0 if all is as it should be, else 1. Without words it is 1, too.
