@@ -1,5 +1,5 @@
 -- Marks, one after another, and that what is current stays so by a step whose link, router and machines are marked.
-use Rattle.std.proofs.Common.{refl, sym, ap, subst, ◌∙◌, ◌≡◌, ◌≢◌, ◌⊎◌, inl, inr, ℕ, ◌<◌, ◌≤◌, false, true, List, All, length, get_or, set, Option, Some, None, slice_get, vec_len, Ok, Err, Result, arith}
+use Rattle.std.proofs.Common.{refl, sym, ap, subst, ◌∙◌, ◌≡◌, ◌≢◌, ◌⊎◌, inl, inr, ℕ, ◌<◌, ◌≤◌, ◌||◌, Bool, false, true, List, All, length, get_or, set, Option, Some, None, slice_get, vec_len, Ok, Err, Result, arith}
 use Rattle.std.specs.Prelude.{OnErr, OnOk, map}
 use Rattle.std.specs.FinMap.{find as row_of}
 use Rattle.std.specs.Vec.{with_item}
@@ -23,7 +23,7 @@ use Rattle.run_states.specs.declared.shown.MachineShown.{MachineShown}
 use Rattle.run_states.specs.declared.recorder.Recorder.{Recorder}
 use Rattle.run_states.specs.Books.{HasPlaces, MachinesMarked, ShowsPlace, link_shows, router_shows}
 use Rattle.run_states.specs.Recorders.{IsCurrent, IsRecorderOf, IsRouterCurrent}
-use Rattle.run_states.specs.Marks.{LinkMarked, Marks, RouterMarked, StepMarked, either_of, touched_link, touched_router, touches}
+use Rattle.run_states.specs.Marks.{AreCut, LinkMarked, Marks, RouterMarked, StepMarked, cuts, either_of, touched_link, touched_router, touches}
 use Rattle.run_states.proofs.Lists.{all_at, all_from, slice_get-set_other, slice_get-set_same, written_alike}
 use Rattle.run_states.proofs.Unmet.{SameMachine, machine_untouched, stays}
 use Rattle.world.proofs.Untouched.{untouched}
@@ -31,8 +31,8 @@ use Rattle.world.proofs.Untouched.{untouched}
 -- ---- recorders
 
 -- a link's mark keeps what a recorder is of
-link_of : (link : Option ℕ) (before after : Recorder) (v : World) → LinkMarked link before after → IsRecorderOf v before → IsRecorderOf v after
-link_of link before after v marked of = record {
+link_of : (link : Option ℕ) (goes_down : Bool) (before after : Recorder) (v : World) → LinkMarked link goes_down before after → IsRecorderOf v before → IsRecorderOf v after
+link_of link goes_down before after v marked of = record {
   links = marked.many ∙ of.links;
   routers = ap vec_len marked.routers ∙ of.routers;
   few_links = let few = of.few_links in let many = marked.many in omega (arith, few, many);
@@ -90,14 +90,23 @@ abbrev pub with_link : Recorder → ℕ → LinkBook → Recorder
 with_link r k new = record { prefixes = r.prefixes; links = with_item r.links k new; routers = r.routers }
 
 -- one that is marked was written over its book
-pub link_written : (r : Recorder) (link k : ℕ) (old new : LinkBook) → k ≡ link → k < vec_len r.links → old ≡ get_or (r.links).items k old
-    → link_shows new ≡ link_shows old → new.is_marked ≡ true → LinkMarked (Some link) r (with_link r k new)
-link_written r link k old new is within read same marked = subst (λ i. LinkMarked (Some i) r (with_link r k new)) is (record {
+pub link_written : (r : Recorder) (link k : ℕ) (goes_down : Bool) (old new : LinkBook) → k ≡ link → k < vec_len r.links → old ≡ get_or (r.links).items k old
+    → link_shows new ≡ link_shows old → new.is_marked ≡ true → new.is_cut ≡ (old.is_cut || goes_down) → LinkMarked (Some link) goes_down r (with_link r k new)
+link_written r link k goes_down old new is within read same marked cut = subst (λ i. LinkMarked (Some i) goes_down r (with_link r k new)) is (record {
   prefixes = refl;
   routers = refl;
-  shows = written_alike link_shows books k old new (slice_get_read books (length books) k old refl room read) same;
+  shows = written_alike link_shows books k old new before same;
   many = refl;
   books = λ l b at unmarked. by_number l b at unmarked (cases_eq l k);
+  cut = record {
+    this = λ l was now here old_at new_at.
+        let l_is = same_Some k l here in
+        let was_is : old ≡ was = same_Some old was (sym before ∙ ap (slice_get books) l_is ∙ old_at) in
+        let now_is : new ≡ now = same_Some new now (sym (slice_get-set_same books k new room) ∙ ap (slice_get (set books k new)) l_is ∙ new_at) in
+        ap (λ (x : LinkBook). x.is_cut) (sym now_is) ∙ cut ∙ ap (λ (x : LinkBook). x.is_cut || goes_down) was_is;
+    others = λ l was now apart old_at new_at.
+        ap (λ (x : LinkBook). x.is_cut) (same_Some now was (sym new_at ∙ slice_get-set_other books k l new (λ e. apart (ap Some (sym e))) ∙ old_at));
+  };
 })
   where
     books : List LinkBook
@@ -106,20 +115,31 @@ link_written r link k old new is within read same marked = subst (λ i. LinkMark
     room : k < length books
     room = let ok = (r.links).ok in omega (arith, within, ok)
 
+    before : slice_get books k ≡ Some old
+    before = slice_get_read books (length books) k old refl room read
+
     by_number : (l : ℕ) (b : LinkBook) → slice_get (set books k new) l ≡ Some b → b.is_marked ≡ false → (l ≡ k) ⊎ (l ≢ k) → (slice_get books l ≡ Some b) × (Some k ≢ Some l)
     by_number l b at unmarked (inl e) =
         let here : new ≡ b = same_Some new b (sym (slice_get-set_same books k new room) ∙ subst (λ i. slice_get (set books k new) i ≡ Some b) e at) in
         absurd (false≢true (sym unmarked ∙ ap (λ (x : LinkBook). x.is_marked) (sym here) ∙ marked))
     by_number l b at unmarked (inr d) = (sym (slice_get-set_other books k l new d) ∙ at, λ e. d (sym (same_Some k l e)))
 
+-- a book that stays keeps its flag
+flag_stays : (books : List LinkBook) (l : ℕ) (old new : LinkBook) → slice_get books l ≡ Some old → slice_get books l ≡ Some new → new.is_cut ≡ old.is_cut
+flag_stays books l old new was now = ap (λ (x : LinkBook). x.is_cut) (same_Some new old (sym now ∙ was))
+
 -- a recorder that has no such link
-pub link_missing : (r : Recorder) (link : ℕ) → length (r.links).items ≤ link → LinkMarked (Some link) r r
-link_missing r link past = record {
+pub link_missing : (r : Recorder) (link : ℕ) (goes_down : Bool) → length (r.links).items ≤ link → LinkMarked (Some link) goes_down r r
+link_missing r link goes_down past = record {
   prefixes = refl;
   routers = refl;
   shows = refl;
   many = refl;
   books = λ l b at unmarked. (at, λ e. let within = slice_get_within (r.links).items l b at in let is = same_Some link l e in absurd (omega (arith, past, within, is)));
+  cut = record {
+    this = λ l old new e was now. let within = slice_get_within (r.links).items l old was in let is = same_Some link l e in absurd (omega (arith, past, within, is));
+    others = λ l old new apart was now. flag_stays (r.links).items l old new was now;
+  };
 }
 
 -- a recorder that has no such router
@@ -169,23 +189,31 @@ spares_also router One Other before after also marked = record {
 }
 
 -- no link
-pub no_link : (r : Recorder) → LinkMarked None r r
-no_link r = record { prefixes = refl; routers = refl; shows = refl; many = refl; books = λ l b at unmarked. (at, λ e. none-some l e) }
+pub no_link : (r : Recorder) (goes_down : Bool) → LinkMarked None goes_down r r
+no_link r goes_down = record {
+  prefixes = refl;
+  routers = refl;
+  shows = refl;
+  many = refl;
+  books = λ l b at unmarked. (at, λ e. none-some l e);
+  cut = record { this = λ l old new e was now. absurd (none-some l e); others = λ l old new apart was now. flag_stays (r.links).items l old new was now };
+}
 
 -- a step that touches no router
-link_marks : (w : World) (s : Step) (before after : Recorder) → touched_router w s ≡ None → LinkMarked (touched_link w s) before after → Marks w s before after
+link_marks : (w : World) (s : Step) (before after : Recorder) → touched_router w s ≡ None → LinkMarked (touched_link w s) (cuts s) before after → Marks w s before after
 link_marks w s before after none marked = record {
   prefixes = marked.prefixes;
   shows = record { prefixes = marked.prefixes; links = marked.shows; routers = ap (λ rs. map router_shows rs.items) marked.routers };
   links = marked.books;
+  cut = marked.cut;
   others = λ i d. ap (λ rs. slice_get rs.items i) marked.routers;
   book = λ i b is at. absurd (none-some i (sym none ∙ is));
-  of = λ v of. link_of (touched_link w s) before after v marked of;
+  of = λ v of. link_of (touched_link w s) (cuts s) before after v marked of;
 }
 
 -- a step that touches a router, and a link or none
 router_marks : (w : World) (s : Step) (router : ℕ) (Spared : Prefix → Type 0) (before mid after : Recorder) → touched_router w s ≡ Some router → ((p : Prefix) → Spared p → touches w s p ≡ false)
-    → RouterMarked router Spared before mid → LinkMarked (touched_link w s) mid after → Marks w s before after
+    → RouterMarked router Spared before mid → LinkMarked (touched_link w s) (cuts s) mid after → Marks w s before after
 router_marks w s router Spared before mid after is spares routers links = record {
   prefixes = links.prefixes ∙ routers.prefixes;
   shows = record {
@@ -194,13 +222,14 @@ router_marks w s router Spared before mid after is spares routers links = record
     routers = ap (λ rs. map router_shows rs.items) links.routers ∙ routers.shows;
   };
   links = λ l b at unmarked. let was = links.books l b at unmarked in (ap (λ ls. slice_get ls.items l) (sym routers.links) ∙ was.0, was.1);
+  cut = subst (λ ls. AreCut (touched_link w s) (cuts s) ls.items (after.links).items) routers.links links.cut;
   others = λ i d. ap (λ rs. slice_get rs.items i) links.routers ∙ routers.others i (λ e. d (is ∙ ap Some (sym e)));
   book = λ i b touched at.
       let here : router ≡ i = same_Some router i (sym is ∙ touched) in
       subst (λ k. (old : RouterBook) × (slice_get (before.routers).items k ≡ Some old) × MachinesMarked (λ p. touches w s p ≡ false) (before.prefixes).items old b) here
       (let old = routers.book b (subst (λ rs. slice_get rs.items router ≡ Some b) links.routers (subst (λ k. slice_get (after.routers).items k ≡ Some b) (sym here) at)) in
       (old.0, old.1, record { shown = old.2.shown; machines = old.2.machines; places = old.2.places; is_marked = old.2.is_marked; spared = λ j p there unmarked. let was = old.2.spared j p there unmarked in (was.0, spares p was.1) }));
-  of = λ v of. link_of (touched_link w s) mid after v links (router_of router Spared before mid v routers of);
+  of = λ v of. link_of (touched_link w s) (cuts s) mid after v links (router_of router Spared before mid v routers of);
 }
 
 -- of a step that touches a router
@@ -215,7 +244,7 @@ pub none_marked : (w : World) (s : Step) (r : Recorder) → touched_router w s �
 none_marked w s r none = record { none = λ _. refl; one = λ i touched. absurd (none-some i (sym none ∙ touched)) }
 
 -- the router of a step is marked, and then its link
-pub step_marks : (w : World) (s : Step) (before mid after : Recorder) → StepMarked w s before mid → LinkMarked (touched_link w s) mid after → Marks w s before after
+pub step_marks : (w : World) (s : Step) (before mid after : Recorder) → StepMarked w s before mid → LinkMarked (touched_link w s) (cuts s) mid after → Marks w s before after
 step_marks w s before mid after routers links = by_router (touched_router w s) refl
   where
     by_router : (o : Option ℕ) → touched_router w s ≡ o → Marks w s before after

@@ -1,5 +1,5 @@
 -- Books of what was shown: what a change makes of one, and when one shows its link or its router as it is.
-use Rattle.std.specs.Prelude.{◌≡◌, ℕ, All, List, [], ◌∷◌, Bool, false, true, Option, Some, None, slice_get, slice_set, vec_len}
+use Rattle.std.specs.Prelude.{◌≡◌, ◌&&◌, ℕ, All, List, [], ◌∷◌, Bool, false, true, Option, Some, None, slice_get, slice_set, vec_len}
 use Rattle.std.specs.Option.{option_map_or}
 use Rattle.std.specs.FinMap.{find as row_of}
 use Rattle.ipv4_prefix.specs.Prefix.{Prefix, prefix_cmp, prefix_eq}
@@ -13,7 +13,7 @@ use Rattle.run_states.specs.declared.link_book.LinkBook.{LinkBook}
 use Rattle.run_states.specs.declared.link_book.LinkChange.{LinkChange}
 use Rattle.run_states.specs.declared.router_book.RouterBook.{RouterBook}
 use Rattle.run_states.specs.declared.router_book.RouterChange.{RouterChange}
-use Rattle.run_states.specs.Queues.{queue_after}
+use Rattle.run_states.specs.Queues.{has_message, queue_after}
 use Rattle.network_states.specs.States.{link_state, router_state}
 use Rattle.run_states.specs.Shown.{ShowsMachine}
 
@@ -28,11 +28,13 @@ shown_after (Some now) before = Some now
 abbrev pub link_shows : LinkBook → Option LinkState × List Item × List Item
 link_shows b = (b.shown, (b.to_a).items, (b.to_b).items)
 
--- the book becomes this by the change
+-- the book becomes this by the change. The messages of a queue are told as lost exactly if the book was cut and the queue had one
 pub record LinkFollows (c : LinkChange) (before after : LinkBook) : Type 0 where
   pub shown : after.shown ≡ shown_after c.shown before.shown
   pub to_a : (after.to_a).items ≡ queue_after c.to_a (before.to_a).items
   pub to_b : (after.to_b).items ≡ queue_after c.to_b (before.to_b).items
+  pub lost_a : (c.to_a).lose ≡ (before.is_cut && has_message (before.to_a).items)
+  pub lost_b : (c.to_b).lose ≡ (before.is_cut && has_message (before.to_b).items)
 
 -- the book shows the link as it is
 pub record ShowsLink (k : Link) (b : LinkBook) : Type 0 where

@@ -1,5 +1,5 @@
 -- What a step may change, and the marks of it.
-use Rattle.std.specs.Prelude.{◌≡◌, ◌≢◌, ℕ, Bool, false, is_some, Option, Some, None, map, slice_get, vec_len}
+use Rattle.std.specs.Prelude.{◌≡◌, ◌≢◌, ◌||◌, ℕ, Bool, true, false, is_some, List, Option, Some, None, map, slice_get, vec_len}
 use Rattle.std.specs.FinMap.{find as row_of}
 use Rattle.std.specs.Option.{option_map_or}
 use Rattle.ipv4_prefix.specs.Prefix.{Prefix, prefix_cmp}
@@ -48,15 +48,32 @@ touches w (Release i) p = false
 touches w (Attach i p' cost) p = false
 touches w (Detach i p') p = false
 
--- this link's book is marked, where there is one, and all else of the recorder stays: those that are not marked now were not changed, and
--- are of others
-pub record LinkMarked (link : Option ℕ) (before after : Recorder) : Type 0 where
+-- whether a step takes from a link the messages that stood on it: only one that brings the link down
+abbrev pub cuts : Step → Bool
+cuts (LinkUp l) = false
+cuts (LinkDown l) = true
+cuts (SetCost i q cost) = false
+cuts (Deliver i q) = false
+cuts (Publish i) = false
+cuts (Release i) = false
+cuts (Attach i p cost) = false
+cuts (Detach i p) = false
+
+-- the book of this link is cut now exactly if it was cut before or the link goes down. Each other book keeps its flag
+pub record AreCut (link : Option ℕ) (goes_down : Bool) (before after : List LinkBook) : Type 0 where
+  pub this : (l : ℕ) (old new : LinkBook) → link ≡ Some l → slice_get before l ≡ Some old → slice_get after l ≡ Some new → new.is_cut ≡ (old.is_cut || goes_down)
+  pub others : (l : ℕ) (old new : LinkBook) → link ≢ Some l → slice_get before l ≡ Some old → slice_get after l ≡ Some new → new.is_cut ≡ old.is_cut
+
+-- this link's book is marked, where there is one, and cut, if the link goes down. All else of the recorder stays: those that are not marked
+-- now were not changed, and are of others
+pub record LinkMarked (link : Option ℕ) (goes_down : Bool) (before after : Recorder) : Type 0 where
   pub prefixes : after.prefixes ≡ before.prefixes
   pub routers : after.routers ≡ before.routers
   pub shows : map link_shows (after.links).items ≡ map link_shows (before.links).items
   pub many : vec_len after.links ≡ vec_len before.links
   pub books : (l : ℕ) (b : LinkBook) → slice_get (after.links).items l ≡ Some b → b.is_marked ≡ false
       → (slice_get (before.links).items l ≡ Some b) × (link ≢ Some l)
+  pub cut : AreCut link goes_down (before.links).items (after.links).items
 
 -- this router's book is marked, where there is one, with all of its machines but for prefixes of which this is so; all else of the
 -- recorder stays
@@ -74,12 +91,14 @@ pub record StepMarked (w : World) (s : Step) (before after : Recorder) : Type 0 
   pub none : touched_router w s ≡ None → after ≡ before
   pub one : (i : ℕ) → touched_router w s ≡ Some i → RouterMarked i (λ p. touches w s p ≡ false) before after
 
--- all that a step may change is marked, and all else of the recorder stays: what was shown is shown
+-- all that a step may change is marked, and all else of the recorder stays: what was shown is shown. The book of a link that the step brings
+-- down is cut
 pub record Marks (w : World) (s : Step) (before after : Recorder) : Type 0 where
   pub prefixes : after.prefixes ≡ before.prefixes
   pub shows : ShowSame before after
   pub links : (l : ℕ) (b : LinkBook) → slice_get (after.links).items l ≡ Some b → b.is_marked ≡ false
       → (slice_get (before.links).items l ≡ Some b) × (touched_link w s ≢ Some l)
+  pub cut : AreCut (touched_link w s) (cuts s) (before.links).items (after.links).items
   pub others : (i : ℕ) → touched_router w s ≢ Some i → slice_get (after.routers).items i ≡ slice_get (before.routers).items i
   pub book : (i : ℕ) (b : RouterBook) → touched_router w s ≡ Some i → slice_get (after.routers).items i ≡ Some b
       → (old : RouterBook) × (slice_get (before.routers).items i ≡ Some old) × MachinesMarked (λ p. touches w s p ≡ false) (before.prefixes).items old b

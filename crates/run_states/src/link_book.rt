@@ -62,6 +62,7 @@ impl LinkBook {
         ensures shows { IfOk result (λ _. IfSome (slice_get links.now.links link)
             (λ k. ShowsLink k self.new)) }
         ensures unmarked { IfOk result (λ _. self.new.is_marked ≡ false) }
+        ensures uncut { IfOk result (λ _. self.new.is_cut ≡ false) }
     {
         let now = LinkState::of(links, link);
         let (now_a, now_b) = (

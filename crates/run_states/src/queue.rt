@@ -4,7 +4,7 @@ ghost use Rattle.std.specs.Prelude.{◌≡◌, ◌<◌, ◌≤◌, ◌↔◌, If
 ghost use Rattle.network_model.specs.declared.item.Item.{Item};
 ghost use Rattle.network_model.specs.World as world;
 ghost use Rattle.network_model.specs.Step as step;
-ghost use Rattle.run_states.specs.Queues.{is_nothing, left_after, queue_after};
+ghost use Rattle.run_states.specs.Queues.{has_message, is_nothing, left_after, queue_after};
 
 use link_fifo::Links;
 use network_model::{End, Item, NoMemory};
@@ -59,7 +59,8 @@ pub(crate) fn queue_change(
     now: &[Item],
     lose: bool,
 ) -> Result<QueueChange, NoMemory>
-    ensures { IfOk result (λ c. queue_after c before.now ≡ now.now) }
+    ensures after { IfOk result (λ c. queue_after c before.now ≡ now.now) }
+    ensures lost { IfOk result (λ c. c.lose ≡ lose) }
 {
     for take in 0..before.len() {
         let left = left_of(alloc, before, take, lose)?;
@@ -76,7 +77,9 @@ pub(crate) fn queue_change(
 }
 
 /// Whether a message is among the items.
-pub(crate) fn has_message(items: &[Item]) -> bool {
+pub(crate) fn has_message(items: &[Item]) -> bool
+    ensures { result ≡ has_message items.now }
+{
     items.iter().any(|item| !is_notice(item))
 }
 

@@ -6,7 +6,7 @@ ghost use Rattle.network_model.specs.World as model;
 ghost use Rattle.world.specs.Headline.{IsReached};
 ghost use Rattle.world.specs.Steps.{HasRoomForSteps};
 ghost use Rattle.run_states.specs.Books.{covers};
-ghost use Rattle.run_states.specs.Marks.{LinkMarked, Marks, RouterMarked, StepMarked, message_prefix, touches};
+ghost use Rattle.run_states.specs.Marks.{AreCut, LinkMarked, Marks, RouterMarked, StepMarked, cuts, message_prefix, touched_link, touches};
 ghost use Rattle.run_states.specs.Recorders.{AreLinksCurrent, ArePrefixesOf, AreRoutersCurrent, Follows, IsBlank, IsCurrent, IsRecorderOf, LinksFollow, RoutersFollow, ShowSame, ShowsLinks, ShowsRouters, ShowsWorld};
 
 use crate::link_book::{LinkBook, LinkChange};
@@ -70,6 +70,7 @@ impl Recorder {
         ensures of { IsRecorderOf world.new self.new }
         ensures current { IsCurrent world.new self.new }
         ensures shows { ShowSame self.old self.new }
+        ensures cut { AreCut (touched_link world.old step) (cuts step) (self.old.links).items (self.new.links).items }
     {
         self.mark(world, &step);
         world.step(step)
@@ -87,7 +88,7 @@ impl Recorder {
 
     // Marks a link; one that goes down has lost what stood on it.
     fn mark_link(&mut self, link: u16, goes_down: bool)
-        ensures { LinkMarked (Some link) self.old self.new }
+        ensures { LinkMarked (Some link) goes_down self.old self.new }
     {
         if let Some(book) = self.links.get_mut(usize::from(link)) {
             book.is_marked = true;
@@ -233,6 +234,8 @@ fn prefixes_of(alloc: Global, network: &Network) -> Result<Vec<Prefix>, NoMemory
 }
 
 // Whether a step takes from a link what stood on it.
-fn cuts(step: &Step) -> bool {
+fn cuts(step: &Step) -> bool
+    ensures { result ≡ cuts step.now }
+{
     matches!(step, Step::LinkDown { .. })
 }

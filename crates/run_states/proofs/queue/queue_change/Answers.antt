@@ -2,8 +2,8 @@ use Rattle.std.proofs.Common.{◌∙◌, ◌++◌, sym, ap}
 use Rattle.run_states.proofs.Same.{item_same, starts_same}
 use Rattle.run_states.proofs.queue.queue_change.Goals as goal
 
-pub returns-then-starts_with : goal.returns-then-starts_with
-returns-then-starts_with c =
+pub returns-then-starts_with-clause-after : goal.returns-then-starts_with-clause-after
+returns-then-starts_with-clause-after c =
     let now = c.args.now.now in
     let n = c.len.result in
     let put = c.in_ok-put.ensures.items_if_clones_equal (λ x y same. same) in
