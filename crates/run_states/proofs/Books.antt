@@ -6,6 +6,7 @@ use Rattle.std.proofs.lemmas.Bool.{cases_eq, false≢true}
 use Rattle.std.proofs.lemmas.List.{set-get_or}
 use Rattle.std.proofs.lemmas.Option.{get_or_from_slice_get, none-some, same_Some}
 use Rattle.ipv4_prefix.specs.Prefix.{Prefix, prefix_cmp}
+use Rattle.network_model.specs.Machine.{Machine}
 use Rattle.network_model.specs.World.{Router}
 use Rattle.network_states.specs.States.{IsMachineState}
 use Rattle.run_states.specs.declared.shown.MachineShown.{MachineShown}
@@ -45,26 +46,41 @@ noted cs ds first shown n now old new follows (inr e) =
 pub shows_next : (r : Router) (prefixes : List Prefix) (marks : List Bool) (n : ℕ) (shown : List (Option MachineShown)) (p : Prefix) (new : Option MachineShown)
     → n < length shown → p ≡ get_or prefixes n p → ShowsUnmarked r prefixes marks shown → ((s : MachineShown) × (new ≡ Some s) × ShowsMachine r p s)
     → ShowsUnmarked r prefixes (set marks n false) (set shown n new)
-shows_next r prefixes marks n shown p new room there all here j q m at heard unmarked = by_place (cases_eq j n)
+shows_next r prefixes marks n shown p new room there all here = record {
+  heard = λ j q m at heard unmarked. by_place j q m at heard unmarked (cases_eq j n);
+  unheard = λ j q at none. none_by_place j q at none (cases_eq j n);
+}
   where
-    by_place : (j ≡ n) ⊎ (j ≢ n) → ShowsPlace r q j (set shown n new)
-    by_place (inl e) =
-        let same : p ≡ q = there ∙ get_or_from_slice_get prefixes n q p (ap (slice_get prefixes) (sym e) ∙ at) in
-        (here.0, ap (slice_get (set shown n new)) e ∙ slice_get-set_same shown n new room ∙ ap Some here.1, subst (λ x. ShowsMachine r x here.0) same here.2)
-    by_place (inr d) =
-        let old = all j q m at heard (sym (slice_get-set_other marks n j false d) ∙ unmarked) in
+    same_prefix : (j : ℕ) (q : Prefix) → slice_get prefixes j ≡ Some q → j ≡ n → p ≡ q
+    same_prefix j q at e = there ∙ get_or_from_slice_get prefixes n q p (ap (slice_get prefixes) (sym e) ∙ at)
+
+    by_place : (j : ℕ) (q : Prefix) (m : Machine) → slice_get prefixes j ≡ Some q → row_of prefix_cmp q r.machines ≡ Some m → slice_get (set marks n false) j ≡ Some false
+        → (j ≡ n) ⊎ (j ≢ n) → ShowsPlace r q j (set shown n new)
+    by_place j q m at heard unmarked (inl e) =
+        (here.0, ap (slice_get (set shown n new)) e ∙ slice_get-set_same shown n new room ∙ ap Some here.1, subst (λ x. ShowsMachine r x here.0) (same_prefix j q at e) here.2)
+    by_place j q m at heard unmarked (inr d) =
+        let old = all.heard j q m at heard (sym (slice_get-set_other marks n j false d) ∙ unmarked) in
         (old.0, slice_get-set_other shown n j new d ∙ old.1, old.2)
+
+    none_by_place : (j : ℕ) (q : Prefix) → slice_get prefixes j ≡ Some q → row_of prefix_cmp q r.machines ≡ None → (j ≡ n) ⊎ (j ≢ n) → slice_get (set shown n new) j ≡ Some None
+    none_by_place j q at none (inl e) =
+        absurd (none-some ((here.2).machine).machine (sym none ∙ ap (λ x. row_of prefix_cmp x r.machines) (sym (same_prefix j q at e)) ∙ (here.2).is_machine))
+    none_by_place j q at none (inr d) = slice_get-set_other shown n j new d ∙ all.unheard j q at none
 
 -- a machine that is not there is not shown
 pub shows_none : (r : Router) (prefixes : List Prefix) (marks : List Bool) (n : ℕ) (shown : List (Option MachineShown)) (p : Prefix)
     → p ≡ get_or prefixes n p → row_of prefix_cmp p r.machines ≡ None → ShowsUnmarked r prefixes marks shown → ShowsUnmarked r prefixes (set marks n false) shown
-shows_none r prefixes marks n shown p there unheard all j q m at heard unmarked = by_place (cases_eq j n)
+shows_none r prefixes marks n shown p there unheard all = record {
+  heard = λ j q m at heard unmarked. by_place j q m at heard unmarked (cases_eq j n);
+  unheard = all.unheard;
+}
   where
-    by_place : (j ≡ n) ⊎ (j ≢ n) → ShowsPlace r q j shown
-    by_place (inl e) =
+    by_place : (j : ℕ) (q : Prefix) (m : Machine) → slice_get prefixes j ≡ Some q → row_of prefix_cmp q r.machines ≡ Some m → slice_get (set marks n false) j ≡ Some false
+        → (j ≡ n) ⊎ (j ≢ n) → ShowsPlace r q j shown
+    by_place j q m at heard unmarked (inl e) =
         let same : p ≡ q = there ∙ get_or_from_slice_get prefixes n q p (ap (slice_get prefixes) (sym e) ∙ at) in
         absurd (none-some m (sym unheard ∙ ap (λ x. row_of prefix_cmp x r.machines) same ∙ heard))
-    by_place (inr d) = all j q m at heard (sym (slice_get-set_other marks n j false d) ∙ unmarked)
+    by_place j q m at heard unmarked (inr d) = all.heard j q m at heard (sym (slice_get-set_other marks n j false d) ∙ unmarked)
 
 -- ---- marks
 

@@ -10,7 +10,7 @@ use Rattle.network_model.specs.declared.step.Step.{Step}
 use Rattle.network_model.specs.declared.step.Step.TheVariants.{LinkUp, LinkDown, SetCost, Deliver, Publish, Release, Attach, Detach}
 use Rattle.network_model.specs.Machine.{Machine}
 use Rattle.network_model.specs.World.{Attachments, Network, Router, World}
-use Rattle.network_model.specs.Step.{next}
+use Rattle.network_model.specs.Step.{chosen_rows, next}
 use Rattle.network_model.proofs.ListLaws.{element_there}
 use Rattle.no_packet_loops.proofs.Runs.{reached}
 use Rattle.no_packet_loops.proofs.Wiring.{wired}
@@ -25,7 +25,7 @@ use Rattle.run_states.specs.Books.{HasPlaces, MachinesMarked, ShowsPlace, link_s
 use Rattle.run_states.specs.Recorders.{IsCurrent, IsRecorderOf, IsRouterCurrent}
 use Rattle.run_states.specs.Marks.{AreCut, LinkMarked, Marks, RouterMarked, StepMarked, cuts, either_of, touched_link, touched_router, touches}
 use Rattle.run_states.proofs.Lists.{all_at, all_from, slice_get-set_other, slice_get-set_same, written_alike}
-use Rattle.run_states.proofs.Unmet.{SameMachine, machine_untouched, stays}
+use Rattle.run_states.proofs.Unmet.{Remembers, SameMachine, machine_untouched, remembered, stays, stays_heard}
 use Rattle.world.proofs.Untouched.{untouched}
 
 -- ---- recorders
@@ -309,6 +309,7 @@ pub record IsLedTo (w : World) (s : Step) (v : World) : Type 0 where
   pub links : (l : ℕ) → touched_link w s ≢ Some l → slice_get v.links l ≡ slice_get w.links l
   pub routers : (i : ℕ) → touched_router w s ≢ Some i → (slice_get v.routers i ≡ slice_get w.routers i) × (slice_get v.attachments i ≡ slice_get w.attachments i)
   pub machines : (i : ℕ) (x y : Router) (p : Prefix) → touched_router w s ≡ Some i → slice_get w.routers i ≡ Some x → slice_get v.routers i ≡ Some y → touches w s p ≡ false → SameMachine p x y
+  pub heard : (i : ℕ) (x y : Router) (p : Prefix) → touched_router w s ≡ Some i → slice_get w.routers i ≡ Some x → slice_get v.routers i ≡ Some y → Remembers p x y
 
 pub led_to_next : (n : Network) (w : World) (s : Step) → IsReached n w → IsLedTo w s (next w s)
 led_to_next n w s r =
@@ -318,8 +319,12 @@ led_to_next n w s r =
       attachments_len = shape.attachments;
       links = (untouched w s).links;
       routers = router_untouched w s;
-      machines = λ i x y p is at there apart. machine_untouched w i x y p at ((reached n (wired n r.valid) p r.steps w r.runs).kept.routers_kept i x at).control_is s is there apart;
+      machines = λ i x y p is at there apart. machine_untouched w i x y p at (chosen i x p at) s is there apart;
+      heard = λ i x y p is at there. remembered w i x y p at (chosen i x p at) s is there;
     }
+  where
+    chosen : (i : ℕ) (x : Router) (p : Prefix) → slice_get w.routers i ≡ Some x → (x.table).control ≡ chosen_rows x.ports x.machines
+    chosen i x p at = ((reached n (wired n r.valid) p r.steps w r.runs).kept.routers_kept i x at).control_is
 
 pub led_nowhere : (w : World) (s : Step) → IsLedTo w s w
 led_nowhere w s = record {
@@ -328,6 +333,7 @@ led_nowhere w s = record {
   links = λ l d. refl;
   routers = λ i d. (refl, refl);
   machines = λ i x y p is at there apart. stays p x y (same_Some x y (sym at ∙ there));
+  heard = λ i x y p is at there. stays_heard p x y (same_Some x y (sym at ∙ there));
 }
 
 -- what is current stays so, where what the step may change is marked
@@ -352,11 +358,16 @@ current_after w s v before after led of marks current = record {
         let was = current.routers i was_router.0 was_attachments.0 old.0 was_router.1 was_attachments.1 old.1 in
         record {
           router = λ unmarked. absurd (false≢true (sym unmarked ∙ old.2.is_marked));
-          machines = λ j p m there heard unmarked.
-              let before_that = old.2.spared j p there unmarked in
-              let same = led.machines i was_router.0 y p is was_router.1 at before_that.1 in
-              subst (λ ms. ShowsPlace y p j ms.items) (sym old.2.machines)
-              (shows_moved was_router.0 y p m j ((old.0).machines).items heard same (was.machines j p m there (same m heard).0 before_that.0));
+          machines = record {
+            heard = λ j p m there heard unmarked.
+                let before_that = old.2.spared j p there unmarked in
+                let same = led.machines i was_router.0 y p is was_router.1 at before_that.1 in
+                subst (λ ms. ShowsPlace y p j ms.items) (sym old.2.machines)
+                (shows_moved was_router.0 y p m j ((old.0).machines).items heard same ((was.machines).heard j p m there (same m heard).0 before_that.0));
+            unheard = λ j p there none.
+                subst (λ ms. slice_get ms.items j ≡ Some None) (sym old.2.machines)
+                ((was.machines).unheard j p there (led.heard i was_router.0 y p is was_router.1 at none));
+          };
         }
 
 -- what is so of both ends of a result

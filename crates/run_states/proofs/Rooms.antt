@@ -22,7 +22,7 @@ shown_current w r shows = record {
   links = λ l k b at book unmarked. shows.links l k b at book tt;
   routers = λ i x a b at has book.
       let all = shows.routers i x a b at has book in
-      record { router = λ unmarked. all; machines = λ j p m there heard unmarked. all.machines j p m there heard };
+      record { router = λ unmarked. all; machines = record { heard = λ j p m there heard unmarked. (all.machines).heard j p m there heard; unheard = (all.machines).unheard } };
 }
 
 -- the front of a list is no longer than the list

@@ -9,13 +9,15 @@ use Rattle.ipv4_prefix.specs.Prefix.{Prefix, prefix_cmp, prefix_eq}
 use Rattle.ipv4_prefix.proofs.PrefixOrder.{prefix_eq-Decides}
 use Rattle.network_model.specs.declared.item.Held.{Held}
 use Rattle.network_model.specs.declared.item.Item.{Item}
+use Rattle.network_model.specs.declared.item.Notice.{Notice}
 use Rattle.network_model.specs.declared.machine.Event.{Event}
+use Rattle.network_model.specs.declared.network.Port.{Port}
 use Rattle.network_model.specs.declared.route.Entry.{Entry}
 use Rattle.network_model.specs.declared.step.Step.{Step}
 use Rattle.network_model.specs.declared.step.Step.TheVariants.{LinkUp, LinkDown, SetCost, Deliver, Publish, Release, Attach, Detach}
-use Rattle.network_model.specs.Machine.{Machine, reaction}
+use Rattle.network_model.specs.Machine.{Machine, Reaction, event_at_home, reaction}
 use Rattle.network_model.specs.World.{Router, World, machine_of}
-use Rattle.network_model.specs.Step.{changed_link, changed_router, changed_rows, chosen_rows, entry_eq, entry_of, front_at, has_row, next, notice_at, release_at, router_accepting, router_meeting, router_publishing, router_releasing, with_cost, with_delivered, with_front_taken, with_message, with_noticed, with_released}
+use Rattle.network_model.specs.Step.{changed_attachments, changed_link, changed_router, changed_rows, chosen_rows, entry_eq, entry_of, front_at, has_row, next, notice_at, reactions, release_at, router_accepting, router_at_home, router_meeting, router_noticing, router_publishing, router_releasing, with_cost, with_delivered, with_front_taken, with_message, with_notice_taken, with_noticed, with_released}
 use Rattle.network_model.proofs.EntryLaws.{entry_from_eq}
 use Rattle.network_model.proofs.ListLaws.{slice_get-changed_at}
 use Rattle.network_model.proofs.WorldLaws.{routers-changed_link}
@@ -29,7 +31,40 @@ SameMachine p x y = (m : Machine) → row_of prefix_cmp p y.machines ≡ Some m
     → (row_of prefix_cmp p x.machines ≡ Some m) × (row_of prefix_cmp p (y.table).control ≡ row_of prefix_cmp p (x.table).control)
     × (row_of prefix_cmp p (y.table).published ≡ row_of prefix_cmp p (x.table).published)
 
+-- where a router has no machine for a prefix, it had none before: it never forgets one
+abbrev pub Remembers : Prefix → Router → Router → Type 0
+Remembers p x y = row_of prefix_cmp p y.machines ≡ None → row_of prefix_cmp p x.machines ≡ None
+
 -- ---- routers
+
+-- a router whose machine for a prefix meets an event
+met_remembers : (x : Router) (p k : Prefix) (e : Event) → Remembers p x (router_meeting k e x)
+met_remembers x p k e none = by_key (prefix_eq p k) (sym (find-put prefix_cmp prefix_cmp_total p k met x.machines) ∙ none)
+  where
+    met : Machine
+    met = (reaction (machine_of x k) e).machine
+
+    by_key : (b : Bool) → cond b (Some met) (row_of prefix_cmp p x.machines) ≡ None → row_of prefix_cmp p x.machines ≡ None
+    by_key true is = absurd (none-some met (sym is))
+    by_key false is = is
+
+-- a router whose machines all meet an event
+noticed_remembers : (x : Router) (p : Prefix) (e : Event) (ports : List Port) → Remembers p x (router_noticing e ports x)
+noticed_remembers x p e ports none = by_row (row_of prefix_cmp p x.machines) (sym row ∙ none)
+  where
+    row : row_of prefix_cmp p (router_noticing e ports x).machines ≡ option_map (λ (y : Reaction). y.machine) (option_map (λ m. reaction m e) (row_of prefix_cmp p x.machines))
+    row = find-map prefix_cmp (λ (y : Reaction). y.machine) p (reactions e x.machines) ∙ ap (option_map (λ (y : Reaction). y.machine)) (find-map prefix_cmp (λ (m : Machine). reaction m e) p x.machines)
+
+    by_row : (o : Option Machine) → option_map (λ (y : Reaction). y.machine) (option_map (λ m. reaction m e) o) ≡ None → o ≡ None
+    by_row None is = refl
+    by_row (Some m) is = absurd (none-some (reaction m e).machine (sym is))
+
+-- a router that took an item
+accepted_remembers : (x : Router) (p : Prefix) (q : ℕ) (item : Item) → Remembers p x (router_accepting q item x)
+accepted_remembers x p q (Item.Up session cost) = noticed_remembers x p (Event.Up q cost) (router_accepting q (Item.Up session cost) x).ports
+accepted_remembers x p q (Item.Down session) = noticed_remembers x p (Event.Down q) (router_accepting q (Item.Down session) x).ports
+accepted_remembers x p q (Item.Cost session cost) = noticed_remembers x p (Event.Cost q cost) (router_accepting q (Item.Cost session cost) x).ports
+accepted_remembers x p q (Item.Message m) = met_remembers x p m.prefix (Event.Message q m.kind m.value)
 
 -- the row of another prefix that is chosen
 chosen_row : (x : Router) (p : Prefix) → (x.table).control ≡ chosen_rows x.ports x.machines → row_of prefix_cmp p (x.table).control ≡ option_map (entry_of x.ports) (row_of prefix_cmp p x.machines)
@@ -75,6 +110,10 @@ published_other x p chosen unchanged = λ m at.
 
 -- ---- the world
 
+-- a router that stays remembers
+pub stays_heard : (p : Prefix) (x y : Router) → x ≡ y → Remembers p x y
+stays_heard p x y same = subst (λ z. Remembers p x z) same (λ none. none)
+
 -- a router that stays
 pub stays : (p : Prefix) (x y : Router) → x ≡ y → SameMachine p x y
 stays p x y same = subst (λ z. SameMachine p x z) same (λ m at. (at, refl, refl))
@@ -102,6 +141,33 @@ module _ (w : World) (i : ℕ) (x y : Router) (p : Prefix) (at : slice_get w.rou
   released : (o : Option Held) → slice_get (option_map_or (with_released i w) o w).routers i ≡ Some y → SameMachine p x y
   released None there = stays p x y (same_is w refl there)
   released (Some h) there = subst (SameMachine p x) (changed_is router_releasing (changed_link i h.port (with_message h) w) (routers-changed_link i h.port (with_message h) w) there) (λ m at. (at, refl, refl))
+
+  -- a notice of an attachment is taken
+  noticed : (o : Option Notice) → slice_get (option_map_or (with_noticed i w) o w).routers i ≡ Some y → Remembers p x y
+  noticed None there = stays_heard p x y (same_is w refl there)
+  noticed (Some n) there = subst (λ z. Remembers p x z) (changed_is (router_at_home n) (changed_attachments i with_notice_taken w) refl there) (met_remembers x p n.prefix (event_at_home n.cost))
+
+  -- an item, or where there is none a notice
+  taken : (q : ℕ) (o : Option Item) → slice_get (option_map_or (with_delivered i q w) o (option_map_or (with_noticed i w) (notice_at w i q) w)).routers i ≡ Some y → Remembers p x y
+  taken q (Some item) there =
+      subst (λ z. Remembers p x z) (changed_is (router_accepting q item) (changed_link i q with_front_taken w) (routers-changed_link i q with_front_taken w) there) (accepted_remembers x p q item)
+  taken q None there = noticed (notice_at w i q) there
+
+  -- the router that a step touches forgets no machine
+  pub remembered : (s : Step) → touched_router w s ≡ Some i → slice_get (next w s).routers i ≡ Some y → Remembers p x y
+  remembered (Deliver j q) is there = taken q (front_at w i q) (subst (λ k. slice_get (next w (Deliver k q)).routers i ≡ Some y) (same_Some j i is) there)
+  remembered (Publish j) is there =
+      subst (λ z. Remembers p x z) (changed_is router_publishing w refl (subst (λ k. slice_get (next w (Publish k)).routers i ≡ Some y) (same_Some j i is) there)) (λ none. none)
+  remembered (Release j) is there = released_heard (release_at w i) (subst (λ k. slice_get (next w (Release k)).routers i ≡ Some y) (same_Some j i is) there)
+    where
+      released_heard : (o : Option Held) → slice_get (option_map_or (with_released i w) o w).routers i ≡ Some y → Remembers p x y
+      released_heard None there = stays_heard p x y (same_is w refl there)
+      released_heard (Some h) there = subst (λ z. Remembers p x z) (changed_is router_releasing (changed_link i h.port (with_message h) w) (routers-changed_link i h.port (with_message h) w) there) (λ none. none)
+  remembered (LinkUp l) is there = stays_heard p x y (same_is w refl there)
+  remembered (LinkDown l) is there = stays_heard p x y (same_is w refl there)
+  remembered (SetCost j q cost) is there = stays_heard p x y (same_is (changed_link j q (with_cost cost) w) (routers-changed_link j q (with_cost cost) w) there)
+  remembered (Attach j k cost) is there = stays_heard p x y (same_is w refl there)
+  remembered (Detach j k) is there = stays_heard p x y (same_is w refl there)
 
   -- the router that a step touches has for each prefix that it does not touch what it had
   pub machine_untouched : (s : Step) → touched_router w s ≡ Some i → slice_get (next w s).routers i ≡ Some y → touches w s p ≡ false → SameMachine p x y

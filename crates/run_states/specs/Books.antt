@@ -67,14 +67,20 @@ pub record RouterFollows (c : RouterChange) (before after : RouterBook) : Type 0
 abbrev pub ShowsPlace : Router → Prefix → ℕ → List (Option MachineShown) → Type 0
 ShowsPlace r p j shown = (s : MachineShown) × (slice_get shown j ≡ Some (Some s)) × ShowsMachine r p s
 
--- what is shown of a router's machines for these prefixes: of those that it has heard of what they are
-abbrev pub ShowsMachines : Router → List Prefix → List (Option MachineShown) → Type 0
-ShowsMachines r prefixes shown = (j : ℕ) (p : Prefix) (m : Machine) → slice_get prefixes j ≡ Some p → row_of prefix_cmp p r.machines ≡ Some m → ShowsPlace r p j shown
+-- for each of these prefixes that a router has not heard of, no machine is shown
+abbrev pub ShowsNoOther : Router → List Prefix → List (Option MachineShown) → Type 0
+ShowsNoOther r prefixes shown = (j : ℕ) (p : Prefix) → slice_get prefixes j ≡ Some p → row_of prefix_cmp p r.machines ≡ None → slice_get shown j ≡ Some None
 
--- the same of the machines that are not marked
-abbrev pub ShowsUnmarked : Router → List Prefix → List Bool → List (Option MachineShown) → Type 0
-ShowsUnmarked r prefixes marks shown = (j : ℕ) (p : Prefix) (m : Machine) → slice_get prefixes j ≡ Some p → row_of prefix_cmp p r.machines ≡ Some m → slice_get marks j ≡ Some false
-    → ShowsPlace r p j shown
+-- what is shown of a router's machines for these prefixes: for those that it has heard of what they are, and for the others none
+pub record ShowsMachines (r : Router) (prefixes : List Prefix) (shown : List (Option MachineShown)) : Type 0 where
+  pub heard : (j : ℕ) (p : Prefix) (m : Machine) → slice_get prefixes j ≡ Some p → row_of prefix_cmp p r.machines ≡ Some m → ShowsPlace r p j shown
+  pub unheard : ShowsNoOther r prefixes shown
+
+-- the same of the machines that are not marked. For a prefix that the router has not heard of none is shown, also where the place is marked
+pub record ShowsUnmarked (r : Router) (prefixes : List Prefix) (marks : List Bool) (shown : List (Option MachineShown)) : Type 0 where
+  pub heard : (j : ℕ) (p : Prefix) (m : Machine) → slice_get prefixes j ≡ Some p → row_of prefix_cmp p r.machines ≡ Some m → slice_get marks j ≡ Some false
+      → ShowsPlace r p j shown
+  pub unheard : ShowsNoOther r prefixes shown
 
 -- the book shows the router, which has yet to take so many notices, as it is
 pub record ShowsRouter (prefixes : List Prefix) (r : Router) (notices : ℕ) (b : RouterBook) : Type 0 where

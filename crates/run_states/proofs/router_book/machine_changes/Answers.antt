@@ -46,5 +46,8 @@ loop-number-preserved c =
     ]
 
 pub returns-clause-shows : goal.returns-clause-shows
-returns-clause-shows c = λ j p m at heard.
-    c.loop-number.invariant.shows j p m at heard (c.loop-number.invariant.unmarked j (let lt = slice_get_within c.args.prefixes.now j p at in omega (arith, lt)))
+returns-clause-shows c = record {
+  heard = λ j p m at heard.
+      c.loop-number.invariant.shows.heard j p m at heard (c.loop-number.invariant.unmarked j (let lt = slice_get_within c.args.prefixes.now j p at in omega (arith, lt)));
+  unheard = c.loop-number.invariant.shows.unheard;
+}
