@@ -20,7 +20,7 @@ use Rattle.play.specs.Replays.{IsJournalOf}
 use Rattle.run_states.specs.declared.fault.StatesFault.{StatesFault}
 use Rattle.run_states.specs.Told.{IsStatesText}
 use Rattle.view.specs.Page.{page_text}
-use Rattle.view.specs.Shown.{IsJournalShown, IsShownInTime, IsTimesShown, IsWritten}
+use Rattle.view.specs.Shown.{IsJournalShown, IsShort, IsShownInTime, IsTimesShown, IsWritten}
 
 -- how far steps came from an opening, and why the next was refused, if one was
 abbrev pub CameTo : Network → List Step → Ran → Type 0
@@ -39,17 +39,19 @@ lines_written n d steps moments json old new (Ok x) is told = record {
   each = λ e. refl;
   states = told.0;
   are_states = told.1;
+  short = λ page. absurd (false≢true (sym page ∙ is));
   written = subst (λ b. Appends old new (if b then told.0 else page_text told.0)) (sym is) told.2;
 }
 
 -- a page of states was written
 pub page_written : (n : Network) (d : Directory) (steps : List Step) (moments : List ℕ) (json : Bool) (old new : Option Text) (states : Text) → json ≡ false
-    → (every : ℕ) × IsStatesText n d steps moments every states → Appends old new (page_text states) → IsWritten json n d steps moments old new
+    → (every : ℕ) × IsStatesText n d steps moments every states × IsShort steps every states → Appends old new (page_text states) → IsWritten json n d steps moments old new
 page_written n d steps moments json old new states is told written = record {
   every = told.0;
   each = λ one. absurd (false≢true (sym is ∙ one));
   states = states;
   are_states = told.1;
+  short = λ page. told.2;
   written = subst (λ b. Appends old new (if b then states else page_text states)) (sym is) written;
 }
 

@@ -7,3 +7,7 @@ use Rattle.view.specs.declared.style.TheConstants.{STYLE}
 -- the page that shows these states: they stand in it as they are
 abbrev pub page_text : List ℕ → List ℕ
 page_text states = (((((HEAD.now ++ STYLE.now) ++ BODY.now) ++ states) ++ FOOT.now) ++ SCRIPT.now) ++ END.now
+
+-- the most bytes of states that a page has, where fewer states make them fewer
+abbrev pub most_page_bytes : ℕ
+most_page_bytes = 20000000

@@ -1,5 +1,5 @@
 -- What is shown.
-use Rattle.std.specs.Prelude.{◌≡◌, ℕ, Bool, true, false, List, [], Option, if◌then◌else◌}
+use Rattle.std.specs.Prelude.{◌≡◌, ◌≤◌, ◌⊎◌, ℕ, Bool, true, false, List, [], Option, if◌then◌else◌, length}
 use Rattle.std.specs.Io.KnownBytes.{Appends}
 use Rattle.network_model.specs.declared.step.Step.{Step}
 use Rattle.network_model.specs.World.{Network, opening}
@@ -18,7 +18,12 @@ use Rattle.timing.specs.declared.times.Times.{Times}
 use Rattle.timing.specs.Times.{IsTimes}
 use Rattle.timing.specs.Steps.{RunsInSteps}
 use Rattle.run_states.specs.Told.{IsStatesText}
-use Rattle.view.specs.Page.{page_text}
+use Rattle.view.specs.Page.{most_page_bytes, page_text}
+
+-- states of these steps, told after so many steps each, are no more bytes than a page has. If even few states are more, only those at the
+-- opening and the end are told
+abbrev pub IsShort : List Step → ℕ → Text → Type 0
+IsShort steps every states = (length states ≤ most_page_bytes) ⊎ (length steps ≤ every)
 
 -- the states of these steps were written, each with its moment if that is known: as lines, one for each step, or in a page, after so many steps each
 pub record IsWritten (json : Bool) (n : Network) (d : Directory) (steps : List Step) (moments : List ℕ) (old new : Option Text) : Type 0 where
@@ -26,6 +31,7 @@ pub record IsWritten (json : Bool) (n : Network) (d : Directory) (steps : List S
   pub each : json ≡ true → every ≡ 1
   pub states : Text
   pub are_states : IsStatesText n d steps moments every states
+  pub short : json ≡ false → IsShort steps every states
   pub written : Appends old new (if json then states else page_text states)
 
 -- the states of the steps of a fabric were written, each of them lawful

@@ -11,7 +11,7 @@ ghost use Rattle.coming_to_rest.specs.Worlds.{is_own};
 ghost use Rattle.timed_simulation.specs.Timed.{Timed};
 ghost use Rattle.timing.specs.Steps.{RunsInSteps};
 ghost use Rattle.run_states.specs.Told.{IsStatesText};
-ghost use Rattle.view.specs.Shown.{IsJournalShown, IsRunShown, IsShown, IsShownInTime, IsTimesShown, IsWritten};
+ghost use Rattle.view.specs.Shown.{IsJournalShown, IsRunShown, IsShort, IsShown, IsShownInTime, IsTimesShown, IsWritten};
 
 use crate::limited::Limited;
 use crate::page::write_page;
@@ -28,9 +28,6 @@ use std::alloc::Global;
 use std::io::{Read, Write};
 use timing::{Times, read_times, read_times_text, run_in_steps};
 use world::{Network, Ran};
-
-/// The most bytes of states that a page has, where fewer states make them fewer.
-const MOST_BYTES: usize = 20_000_000;
 
 /// Writes what the words ask for, and answers the exit status: 0, or 2 where a step of the journal is refused,
 /// of which a line on `err` tells, and the states before it are written; a fault is a line on `err`, and its
@@ -328,14 +325,15 @@ fn states_of_page(
 ) -> Result<Vec<u8>, StatesFault>
     requires { (w : model.World) × Runs (model.opening network.now) steps.now w }
     ensures { IfOk result (λ states. (every : ℕ)
-        × IsStatesText network.now directory.now steps.now moments.now every states.items) }
+        × IsStatesText network.now directory.now steps.now moments.now every states.items
+        × IsShort steps.now every states.items) }
 {
     let mut every: usize = 1;
     for _ in 0..20 {
         if every >= steps.len() {
             break;
         }
-        let mut states = Limited::new(alloc, MOST_BYTES);
+        let mut states = Limited::new(alloc);
         match write_states(
             alloc,
             network,

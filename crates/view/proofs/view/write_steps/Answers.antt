@@ -1,5 +1,6 @@
 use Rattle.std.proofs.Common.{ℕ, subst, sym}
 use Rattle.run_states.specs.Told.{IsStatesText}
+use Rattle.view.specs.Shown.{IsShort}
 use Rattle.view.proofs.Written.{lines_written, page_written}
 use Rattle.view.proofs.view.write_steps.Goals as goal
 
@@ -14,6 +15,6 @@ returns-in-Ok g c =
     let d = c.args.directory.now in
     let steps = c.args.steps.now in
     let moments = c.args.moments.now in
-    let told = subst (λ text. (every : ℕ) × IsStatesText n d steps moments every text) (sym c.deref.ensures.value) c.in_ok-states.ensures in
+    let told = subst (λ text. (every : ℕ) × IsStatesText n d steps moments every text × IsShort steps every text) (sym c.deref.ensures.value) c.in_ok-states.ensures in
     page_written n d steps moments c.args.json (g.W.Write.contents c.args.out.now) (g.W.Write.contents c.write_page.new.out) c.deref.result.now
     c.if-json.false told c.in-Ok.ensures
