@@ -17,7 +17,7 @@ use Rattle.timed_reports.specs.declared.recording.Recording.{Recording}
 use Rattle.timed_reports.specs.declared.recording.Recording.TheVariants.{On, Off}
 use Rattle.timed_reports.specs.Recordings.{timed_in, with_timed}
 use Rattle.timing.specs.declared.mark.Begun.{Begun}
-use Rattle.timing.specs.Runs.{IsBegun, Leads, with_changes}
+use Rattle.timing.specs.Runs.{IsBegun, Leads, LeadsAlone, with_changes}
 
 -- ---- one run after another
 
@@ -36,15 +36,17 @@ runs_on old mid new a b one two = (a + length two.events, run_on two.events old 
 -- ---- changes
 
 pub leads_none : (t : Timed) → Leads t [] t
-leads_none t = (0, run_none t)
+leads_none t = record { done = 0; run = run_none t; changes = refl }
 
-pub leads_on : (t : Timed) (bs : List Begun) (u v : Timed) (n : ℕ) → Leads t bs u → IsTimedRun u v n → Leads t bs v
-leads_on t [] u v n leads run = runs_on t u v leads.0 n leads.1 run
-leads_on t (b ∷ bs) u v n leads run = (leads.0, leads.1, leads.2, leads.3, leads.4, leads_on leads.1 bs u v n leads.5 run)
+pub leads_on : (t : Timed) (bs : List Begun) (u v : Timed) → Leads t bs u → LeadsAlone u v → Leads t bs v
+leads_on t [] u v leads more =
+    let both = runs_on t u v leads.done more.done leads.run more.run in
+    record { done = both.0; run = both.1; changes = more.changes ∙ leads.changes }
+leads_on t (b ∷ bs) u v leads more = (leads.0, leads.1, leads.2, leads.3, leads_on leads.1 bs u v leads.4 more)
 
 pub leads_push : (t : Timed) (bs : List Begun) (u v : Timed) (b : Begun) → Leads t bs u → IsBegun u b v → Leads t (bs ++ b ∷ []) v
-leads_push t [] u v b leads begun = (u, v, leads.0, leads.1, begun, (0, run_none v))
-leads_push t (x ∷ xs) u v b leads begun = (leads.0, leads.1, leads.2, leads.3, leads.4, leads_push leads.1 xs u v b leads.5 begun)
+leads_push t [] u v b leads begun = (u, v, leads, begun, leads_none v)
+leads_push t (x ∷ xs) u v b leads begun = (leads.0, leads.1, leads.2, leads.3, leads_push leads.1 xs u v b leads.4 begun)
 
 -- ---- the next event
 

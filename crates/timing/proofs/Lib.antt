@@ -2,6 +2,7 @@ pub mod Numbers
 pub mod Documents
 pub mod Listed
 pub mod Leading
+pub mod Alone
 pub mod Stepping
 pub mod Reading
 pub mod Tallies

@@ -1,5 +1,5 @@
 -- Lines that are read to the last.
-use Rattle.std.proofs.Common.{◌≡◌, ℕ, ◌≤◌, zero, suc, List, [], ◌∷◌, All, length, String, string_bytes, Bool, true, false, not, true≢false, refl, subst, arith, take_all}
+use Rattle.std.proofs.Common.{◌≡◌, ℕ, ◌≤◌, zero, suc, List, [], ◌∷◌, All, length, String, string_bytes, Bool, true, false, not, true≢false, refl, ap, subst, arith, take_all}
 use Rattle.std.specs.List.{AllZip}
 use Rattle.script.proofs.Common.{length-map, Text, texts, ReadsFirst}
 
@@ -20,3 +20,10 @@ all_said Says P (line ∷ lines) (x ∷ xs) each says (suc i) d within = all_sai
 pub not_so : (b : Bool) → true ≡ not b → b ≡ false
 not_so false is = refl
 not_so true is = absurd (true≢false is)
+
+-- as many are read as there are lines
+pub zip_length : {X Y : Type 0} (R : X → Y → Type 0) (xs : List X) (ys : List Y) → AllZip R xs ys → length ys ≡ length xs
+zip_length R [] [] all = refl
+zip_length R [] (y ∷ ys) all = absurd all
+zip_length R (x ∷ xs) [] all = absurd all
+zip_length R (x ∷ xs) (y ∷ ys) all = ap suc (zip_length R xs ys all.1)

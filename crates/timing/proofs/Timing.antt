@@ -1,14 +1,15 @@
 -- How runs in simulated time end.
-use Rattle.std.proofs.Common.{◌≡◌, ◌≤◌, inr, List, length, ap, subst, ◌∙◌}
+use Rattle.std.proofs.Common.{◌≡◌, ◌≤◌, ◌⊎◌, inr, List, Option, None, length, ap, subst, ◌∙◌}
 use Rattle.network_model.specs.World.{Network}
 use Rattle.texts.specs.Words.{Text}
 use Rattle.plans.specs.declared.fault.Fault.{Fault}
 use Rattle.plans.specs.declared.plan.Plan.{Plan}
-use Rattle.plans.specs.Faults.{most_bytes}
+use Rattle.plans.specs.Faults.{OfBytes, most_bytes}
 use Rattle.plans.specs.Scenarios.{network_read}
 use Rattle.plans.proofs.Planned.{IsPlanned}
 use Rattle.timing.specs.declared.times.Times.{Times}
-use Rattle.timing.specs.Times.{IsTimes}
+use Rattle.timing.specs.Runs.{IsOfEvents}
+use Rattle.timing.specs.Times.{IsOfTimes, IsTimes}
 use Rattle.timing.specs.Ends.{IsTimedToEnd, RunsTimes, StopsTime}
 
 -- the document says the times of the scenario's network
@@ -32,5 +33,6 @@ timed_to_end text lines given plan names times short planned names_are same says
 }
 
 -- a scenario without faults
-pub stops_after : (text : Text) (plan : Plan) (fault : Fault) → length text ≤ most_bytes → IsPlanned text plan → StopsTime text fault
-stops_after text plan fault short planned = inr (short, planned.0, planned.1)
+pub stops_after : (text : Text) (times : Option Text) (plan : Plan) (fault : Fault) → length text ≤ most_bytes → IsPlanned text plan → fault.place ≡ None
+    → OfBytes times (λ lines. IsOfTimes lines fault.cause) ⊎ IsOfEvents fault.cause → StopsTime text times fault
+stops_after text times plan fault short planned unplaced why = inr (short, planned.0, planned.1, unplaced, why)

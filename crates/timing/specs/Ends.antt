@@ -1,17 +1,17 @@
 -- How a run in simulated time ends.
-use Rattle.std.specs.Prelude.{◌≤◌, ◌⊎◌, List, length}
+use Rattle.std.specs.Prelude.{◌≡◌, ◌≤◌, ◌⊎◌, List, None, Option, length}
 use Rattle.network_model.specs.World.{Network}
 use Rattle.texts.specs.Words.{Text}
 use Rattle.script.specs.Reading.{Parts}
 use Rattle.plans.specs.declared.fault.Fault.{Fault}
-use Rattle.plans.specs.Faults.{most_bytes}
+use Rattle.plans.specs.Faults.{OfBytes, most_bytes}
 use Rattle.plans.specs.Scenarios.{IsScenario, StopsReading, network_read}
 use Rattle.timed_simulation.specs.Timed.{Timed, opening_timed}
 use Rattle.timed_simulation.specs.Runs.{IsAtRest}
 use Rattle.timing.specs.declared.times.Times.{Times}
 use Rattle.timing.specs.declared.mark.Begun.{Begun}
-use Rattle.timing.specs.Runs.{Leads, with_changes}
-use Rattle.timing.specs.Times.{IsTimes}
+use Rattle.timing.specs.Runs.{IsOfEvents, Leads, with_changes}
+use Rattle.timing.specs.Times.{IsOfTimes, IsTimes}
 
 -- a network with these delays was given these changes. Each was done or refused, and it came to rest
 pub record RunsTimes (n : Network) (times : Times) : Type 0 where
@@ -29,6 +29,7 @@ pub record IsTimedToEnd (bytes lines : Text) : Type 0 where
   pub says : IsTimes parts.names (network_read parts) lines times
   pub runs : RunsTimes (network_read parts) times
 
--- why a run ends before: for its scenario; or else for its document of times, or for an event that cannot be done
-abbrev pub StopsTime : Text → Fault → Type 0
-StopsTime bytes fault = StopsReading bytes fault ⊎ ((length bytes ≤ most_bytes) × (parts : Parts) × IsScenario bytes parts)
+-- why a run ends before. It is for its scenario; or else for its document of times or an event that is not done, and then the fault has no place. What the document's reader gives may be known
+abbrev pub StopsTime : Text → Option Text → Fault → Type 0
+StopsTime bytes times fault = StopsReading bytes fault ⊎ ((length bytes ≤ most_bytes) × (parts : Parts) × IsScenario bytes parts × (fault.place ≡ None)
+    × (OfBytes times (λ lines. IsOfTimes lines fault.cause) ⊎ IsOfEvents fault.cause))

@@ -1,12 +1,15 @@
 -- Runs in which changes are done, or refused and taken off.
-use Rattle.std.specs.Prelude.{◌≡◌, ℕ, true, List, [], ◌∷◌, Option, Some, MatchOption}
+use Rattle.std.specs.Prelude.{◌≡◌, ◌≤◌, ℕ, ⊤, true, List, [], ◌∷◌, Option, Some, MatchOption, slice_get}
 use Rattle.network_model.specs.declared.step.Refusal.{Refusal}
 use Rattle.network_model.specs.Turns.{is_settled}
 use Rattle.simulation.specs.Simulation.{simulation_refusal}
+use Rattle.plans.specs.declared.fault.Cause.{Cause}
+use Rattle.plans.specs.declared.fault.Cause.TheVariants.{Memory, Refused as OfStep, TimeSpent}
 use Rattle.timed_simulation.specs.declared.events.Change.{Change}
 use Rattle.timed_simulation.specs.declared.events.Event.{Event}
 use Rattle.timed_simulation.specs.Timed.{Timed, after_event, with_change, world_of}
 use Rattle.timed_simulation.specs.Events.{next_event}
+use Rattle.timed_simulation.specs.Due.{IsDue}
 use Rattle.timed_simulation.specs.Runs.{IsNext, IsTimedRun}
 use Rattle.timed_reports.specs.Recordings.{without_first}
 use Rattle.timing.specs.declared.mark.Mark.{Mark}
@@ -34,7 +37,26 @@ pub record IsBegun (t : Timed) (b : Begun) (u : Timed) : Type 0 where
   pub before : b.before ≡ mark_of t
   pub ends : Comes t b.event u b.refusal
 
--- events, each the next one, lead to the first change, and behind it to the others, and from the last on
+-- some events, each the next one, lead from the one to the other. None of them is a change that was given: the changes to come stay the same
+pub record LeadsAlone (t u : Timed) : Type 0 where
+  pub done : ℕ
+  pub run : IsTimedRun t u done
+  pub changes : u.changes ≡ t.changes
+
+-- events of the routers alone lead to the first change, and behind it to each of the others, and from the last on
 abbrev pub Leads : Timed → List Begun → Timed → Type 0
-Leads t [] u = (done : ℕ) × IsTimedRun t u done
-Leads t (b ∷ bs) u = (mid next : Timed) × (done : ℕ) × IsTimedRun t mid done × IsBegun mid b next × Leads next bs u
+Leads t [] u = LeadsAlone t u
+Leads t (b ∷ bs) u = (mid next : Timed) × LeadsAlone t mid × IsBegun mid b next × Leads next bs u
+
+-- a change is to come, and nothing that is left to do is due before the first
+pub record IsReady (t : Timed) : Type 0 where
+  pub change : Change
+  pub at : slice_get t.changes 0 ≡ Some change
+  pub first : (d : Event) → IsDue t d → change.moment ≤ d.moment
+
+-- why events are not done to the last: the clock is spent, a step is refused, or memory runs out
+abbrev pub IsOfEvents : Cause → Type 0
+IsOfEvents TimeSpent = ⊤
+IsOfEvents (OfStep refusal) = ⊤
+IsOfEvents (Memory memory) = ⊤
+IsOfEvents cause = ⊥

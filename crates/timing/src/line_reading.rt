@@ -1,10 +1,13 @@
 //! The lines of a document of times.
 
-ghost use Rattle.std.specs.Prelude.{◌≡◌, ◌<◌, [], IfOk, IfSome, OnOk, length, position};
+ghost use Rattle.std.specs.Prelude.{◌≡◌, ◌<◌, [], IfErr, IfOk, IfSome, OnOk, length, position};
 ghost use Rattle.std.specs.List.{AllZip};
 ghost use Rattle.network_model.specs.Network.{joins};
 ghost use Rattle.texts.specs.Words.{texts};
+ghost use Rattle.plans.specs.declared.fault.Cause.TheVariants.{Times as OfTimes};
+ghost use Rattle.plans.specs.declared.times.TimesFault.TheVariants.{Line as OfLine};
 ghost use Rattle.timing.specs.Lines.{delays_from, SaysChange, SaysLink, SaysRouter};
+ghost use Rattle.timing.specs.Times.{StopsLines};
 
 use crate::given::Given;
 use crate::moment::read_moment;
@@ -24,7 +27,8 @@ pub fn read_links(
     lines: &[String],
 ) -> Result<(), Cause>
     requires { given.old.items ≡ [] }
-    ensures { OnOk result (AllZip (SaysLink names.now links.now) (texts lines.now) given.new.items) }
+    ensures says { OnOk result (AllZip (SaysLink names.now links.now) (texts lines.now) given.new.items) }
+    ensures fault { IfErr result (StopsLines TimesKey.Links (length lines.now)) }
 {
     for (position, line) in lines.iter().enumerate() {
         match read_link(names, links, line.as_str()) {
@@ -42,7 +46,8 @@ pub fn read_routers(
     lines: &[String],
 ) -> Result<(), Cause>
     requires { given.old.items ≡ [] }
-    ensures { OnOk result (AllZip (SaysRouter names.now) (texts lines.now) given.new.items) }
+    ensures says { OnOk result (AllZip (SaysRouter names.now) (texts lines.now) given.new.items) }
+    ensures fault { IfErr result (StopsLines TimesKey.Routers (length lines.now)) }
 {
     for (position, line) in lines.iter().enumerate() {
         match read_router(names, line.as_str()) {
@@ -62,8 +67,9 @@ pub fn read_changes(
     lines: &[String],
 ) -> Result<(), Cause>
     requires { changes.old.items ≡ [] }
-    ensures { OnOk result (AllZip (SaysChange names.now links.now attachments.now) (texts lines.now)
+    ensures says { OnOk result (AllZip (SaysChange names.now links.now attachments.now) (texts lines.now)
         changes.new.items) }
+    ensures fault { IfErr result (StopsLines TimesKey.Changes (length lines.now)) }
 {
     // Names the type of a change's step, without which the checker has no plan for the list.
     let _step: Option<Step> = None;
@@ -77,7 +83,9 @@ pub fn read_changes(
 }
 
 // The fault of a line.
-fn at_line(fault: LineFault, key: TimesKey, position: usize) -> Cause {
+fn at_line(fault: LineFault, key: TimesKey, position: usize) -> Cause
+    ensures { result ≡ OfTimes (OfLine fault key position) }
+{
     Cause::Times(TimesFault::Line {
         fault,
         key,

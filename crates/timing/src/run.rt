@@ -1,12 +1,12 @@
 //! Runs a network in simulated time, change by change.
 
-ghost use Rattle.std.specs.Prelude.{◌≡◌, ◌≢◌, ◌<◌, ◌-◌, ◌^◌, ℕ, All, IfOk, MatchOption, None, OnOk, Some, [], false, true};
+ghost use Rattle.std.specs.Prelude.{◌≡◌, ◌≢◌, ◌<◌, ◌-◌, ◌^◌, All, IfErr, IfOk, None, OnOk, Some, [], false, length, slice_get, true};
 ghost use Rattle.coming_to_rest.specs.Worlds.{is_own};
 ghost use Rattle.timed_simulation.specs.Due.{IsDue};
 ghost use Rattle.timed_simulation.specs.Events.{next_event};
-ghost use Rattle.timed_simulation.specs.Runs.{IsAtRest, IsTimedRun};
+ghost use Rattle.timed_simulation.specs.Runs.{IsAtRest};
 ghost use Rattle.timed_reports.specs.Recordings.{timed_in};
-ghost use Rattle.timing.specs.Runs.{Comes, IsBegun, Leads, with_changes};
+ghost use Rattle.timing.specs.Runs.{Comes, IsBegun, IsOfEvents, IsReady, Leads, LeadsAlone, with_changes};
 
 use crate::mark::{Begun, Mark};
 use network_model::{NoMemory, Refusal, Step};
@@ -29,34 +29,52 @@ pub fn give(recording: &mut Recording, changes: &[Change]) -> Result<(), NoMemor
 }
 
 /// Does all changes, each after what is due before it, and then all that is left to do. Each change is put down
-/// in the list.
+/// in the list, and no other is done.
 pub fn run_changes(recording: &mut Recording, begun: &mut Vec<Begun>) -> Result<(), Cause>
     requires { begun.old.items ≡ [] }
     ensures leads { OnOk result (Leads (timed_in recording.old) begun.new.items (timed_in recording.new)) }
     ensures rest { OnOk result (IsAtRest (timed_in recording.new)) }
+    ensures fault { IfErr result IsOfEvents }
 {
     // Names the types of what the list has, without which the checker has no plan for it.
     let _step: Option<Step> = None;
     let _event: Option<Event> = None;
     let _sent: Option<Sent> = None;
-    for done in 0..recording.timed().changes().len() {
+    let count = changes_left(recording);
+    for done in 0..count {
         run_before(recording)?;
-        let Some(one) = begin(recording)? else {
-            return run_to_rest(recording);
-        };
+        let one = begin(recording)?;
         begun.push(one)?;
     }
     run_to_rest(recording)
 }
 
-// Does what is due before the first change.
-fn run_before(recording: &mut Recording) -> Result<(), Cause>
-    ensures { OnOk result ((done : ℕ) × IsTimedRun (timed_in recording.old) (timed_in recording.new) done) }
+// How many changes are to come.
+fn changes_left(recording: &Recording) -> usize
+    ensures { result ≡ length (timed_in recording.now).changes }
 {
-    let moment = match recording.timed().changes().front() {
-        Some(change) => change.moment,
-        None => 0,
+    recording.timed().changes().len()
+}
+
+// The first of the changes that are to come.
+fn first_change(recording: &Recording) -> Option<Change>
+    ensures { result ≡ slice_get (timed_in recording.now).changes 0 }
+{
+    recording.timed().changes().front().copied()
+}
+
+// Does what is due before the first change, and no change.
+fn run_before(recording: &mut Recording) -> Result<(), Cause>
+    requires { (timed_in recording.old).changes ≢ [] }
+    ensures alone { OnOk result (LeadsAlone (timed_in recording.old) (timed_in recording.new)) }
+    ensures ready { OnOk result (IsReady (timed_in recording.new)) }
+    ensures fault { IfErr result IsOfEvents }
+{
+    recording.timed().holds();
+    let Some(change) = first_change(recording) else {
+        unreachable!()
     };
+    let moment = change.moment;
     if moment == 0 {
         return Ok(());
     }
@@ -64,10 +82,12 @@ fn run_before(recording: &mut Recording) -> Result<(), Cause>
     ended(ran)
 }
 
-// Does all that is left to do.
+// Does all that is left to do, where no change is to come.
 fn run_to_rest(recording: &mut Recording) -> Result<(), Cause>
-    ensures run { OnOk result ((done : ℕ) × IsTimedRun (timed_in recording.old) (timed_in recording.new) done) }
+    requires { (timed_in recording.old).changes ≡ [] }
+    ensures alone { OnOk result (LeadsAlone (timed_in recording.old) (timed_in recording.new)) }
     ensures rest { OnOk result (IsAtRest (timed_in recording.new)) }
+    ensures fault { IfErr result IsOfEvents }
 {
     let ran = recording.run_to_rest(usize::MAX);
     ended(ran)
@@ -75,7 +95,8 @@ fn run_to_rest(recording: &mut Recording) -> Result<(), Cause>
 
 // Whether a run of as many events as can be counted came to its end.
 fn ended(ran: TimedRan) -> Result<(), Cause>
-    ensures { OnOk result ((ran.fault ≡ None) × (ran.done < 2 ^ 64 - 1)) }
+    ensures ok { OnOk result ((ran.fault ≡ None) × (ran.done < 2 ^ 64 - 1)) }
+    ensures fault { IfErr result IsOfEvents }
 {
     match ran.fault {
         Some(fault) => Err(cause_of(fault)),
@@ -84,31 +105,30 @@ fn ended(ran: TimedRan) -> Result<(), Cause>
     }
 }
 
-// Does the next event, if it is a change; or takes the change off, if its step is refused.
-fn begin(recording: &mut Recording) -> Result<Option<Begun>, Cause>
-    ensures { IfOk result (λ o. MatchOption o (timed_in recording.new ≡ timed_in recording.old)
-        (λ b. IsBegun (timed_in recording.old) b (timed_in recording.new))) }
+// Does the first change, which is the next event; or takes it off, if its step is refused.
+fn begin(recording: &mut Recording) -> Result<Begun, Cause>
+    requires { IsReady (timed_in recording.old) }
+    ensures ok { IfOk result (λ b. IsBegun (timed_in recording.old) b (timed_in recording.new)) }
+    ensures fault { IfErr result IsOfEvents }
 {
     let Some(event) = recording.timed().next_event() else {
-        return Ok(None);
+        unreachable!()
     };
-    if !event.given {
-        return Ok(None);
-    }
     let before = Mark::of(recording.timed());
     let refusal = do_event(recording, &event)?;
-    Ok(Some(Begun {
+    Ok(Begun {
         event,
         before,
         refusal,
-    }))
+    })
 }
 
 /// Does the next event. If it is a change that is refused, it is taken off, and the answer says why it is refused.
 pub fn do_event(recording: &mut Recording, event: &Event) -> Result<Option<Refusal>, Cause>
     requires next { next_event (timed_in recording.old) ≡ Some event.now }
     requires due { IsDue (timed_in recording.old) event.now }
-    ensures { IfOk result (Comes (timed_in recording.old) event.now (timed_in recording.new)) }
+    ensures ok { IfOk result (Comes (timed_in recording.old) event.now (timed_in recording.new)) }
+    ensures fault { IfErr result IsOfEvents }
 {
     let ran = recording.run_until(event.moment, 1);
     match ran.fault {
@@ -130,7 +150,9 @@ fn is_of_step(refusal: Refusal) -> bool
 }
 
 // Why a run stops. No change is given for a past moment.
-fn cause_of(fault: TimeFault) -> Cause {
+fn cause_of(fault: TimeFault) -> Cause
+    ensures { IsOfEvents result }
+{
     match fault {
         TimeFault::Refused(refusal) => Cause::Refused(refusal),
         TimeFault::PastMoment | TimeFault::TimeSpent => Cause::TimeSpent,

@@ -4,6 +4,7 @@ ghost use Rattle.std.specs.Prelude.{◌≡◌, All, IfErr, IfOk, OnOk, false, le
 ghost use Rattle.coming_to_rest.specs.Worlds.{is_own};
 ghost use Rattle.plans.specs.Faults.{OfBytes};
 ghost use Rattle.timing.specs.Ends.{IsTimedToEnd, RunsTimes, StopsTime};
+ghost use Rattle.timing.specs.Runs.{IsOfEvents};
 
 use crate::mark::Mark;
 use crate::printing::{print_changes, print_end};
@@ -44,7 +45,8 @@ where
     W: Write,
     ensures ok { IfOk result (λ end. (end ≡ Outcome.Done) × OfBytes (R.remaining scenario) (λ bytes.
         OfBytes (J.remaining times) (IsTimedToEnd bytes))) }
-    ensures fault { IfErr result (λ e. OfBytes (R.remaining scenario) (λ bytes. StopsTime bytes e)) }
+    ensures fault { IfErr result (λ e. OfBytes (R.remaining scenario) (λ bytes.
+        StopsTime bytes (J.remaining times) e)) }
 {
     let text = read_text(alloc, scenario)?;
     let Plan {
@@ -70,7 +72,8 @@ fn run<W: Write>(
     requires links { length times.now.links.items ≡ length network.links }
     requires routers { length times.now.routers.items ≡ network.routers }
     requires changes { All (λ c. is_own c.step ≡ false) times.now.changes.items }
-    ensures { OnOk result (RunsTimes network times.now) }
+    ensures ok { OnOk result (RunsTimes network times.now) }
+    ensures fault { IfErr result IsOfEvents }
 {
     let mut recording = Recording::open(
         alloc,

@@ -1,16 +1,16 @@
 //! Reads the delays of a network and its changes.
 
-ghost use Rattle.std.specs.Prelude.{◌≡◌, All, IfErr, IfOk, false, length, string_bytes};
-ghost use Rattle.plans.specs.Faults.{Gives};
+ghost use Rattle.std.specs.Prelude.{◌≡◌, ◌≤◌, All, IfErr, IfOk, false, length, string_bytes};
+ghost use Rattle.plans.specs.Faults.{Gives, IsUnread, OfBytes, most_bytes};
 ghost use Rattle.coming_to_rest.specs.Worlds.{is_own};
-ghost use Rattle.timing.specs.Times.{AreLinkDelays, AreRouterDelays, IsOfTimes, IsTimes};
-ghost use Rattle.texts.specs.Words.{texts};
+ghost use Rattle.timing.specs.Times.{AreLinkDelays, AreRouterDelays, IsCauseOf, IsTimes, IsUnreadTimes, SaysNoTimes, StopsLines};
+ghost use Rattle.texts.specs.Words.{Text, texts};
 
 use crate::document::{Document, read_document};
 use crate::given::values;
 use crate::line_reading::{read_changes, read_links, read_routers};
 use network_model::NoMemory;
-use plans::{Cause, TimesFault, read_text};
+use plans::{Cause, TimesFault, TimesKey, read_text};
 use scenario::Fault;
 use script::Names;
 use std::alloc::Global;
@@ -35,13 +35,24 @@ pub struct Times {
 /// The whole text of a document of times. If it is too long or not UTF-8, the fault says that it is in the times.
 pub fn read_times_text<R: Read + Drop>(alloc: Global, reader: R) -> Result<String, Cause>
     ensures whole { IfOk result (λ text. Gives (R.remaining reader) (string_bytes text)) }
-    ensures fault { IfErr result IsOfTimes }
+    ensures short { IfOk result (λ text. length (string_bytes text) ≤ most_bytes) }
+    ensures fault { IfErr result (λ cause.
+        OfBytes (R.remaining reader) (λ bytes. IsUnreadTimes bytes cause)) }
 {
     match read_text(alloc, reader) {
         Ok(text) => Ok(text),
-        Err(Cause::TooLarge) => Err(Cause::Times(TimesFault::TooLarge)),
-        Err(Cause::Document(fault)) => Err(document_cause(fault)),
-        Err(cause) => Err(cause),
+        Err(cause) => Err(times_cause(cause)),
+    }
+}
+
+// Why the bytes are not read, as it is told of a document of times.
+fn times_cause(cause: Cause) -> Cause
+    ensures { (bytes : Text) → IsUnread bytes cause → IsUnreadTimes bytes result }
+{
+    match cause {
+        Cause::TooLarge => Cause::Times(TimesFault::TooLarge),
+        Cause::Document(fault) => document_cause(fault),
+        _ => cause,
     }
 }
 
@@ -56,6 +67,8 @@ pub fn read_times(
     ensures links { IfOk result (λ t. length t.links.items ≡ length network.now.links) }
     ensures routers { IfOk result (λ t. length t.routers.items ≡ network.now.routers) }
     ensures changes { IfOk result (λ t. All (λ c. is_own c.step ≡ false) t.changes.items) }
+    ensures few { IfOk result (λ t. length t.changes.items ≤ 10000) }
+    ensures fault { IfErr result (SaysNoTimes text.now) }
 {
     let document = match read_document(alloc, text) {
         Ok(document) => document,
@@ -83,7 +96,7 @@ pub fn read_times(
 
 // Why a text is no document of times.
 fn document_cause(fault: Fault) -> Cause
-    ensures { IsOfTimes result }
+    ensures { IsCauseOf fault result }
 {
     match fault {
         Fault::NoMemory => Cause::Memory(NoMemory),
@@ -102,6 +115,7 @@ fn link_delays(
     ensures delays { IfOk result (λ v.
         AreLinkDelays names.now network.now (texts lines.now) other v.items) }
     ensures count { IfOk result (λ v. length v.items ≡ length network.now.links) }
+    ensures fault { IfErr result (StopsLines TimesKey.Links (length lines.now)) }
 {
     let mut given = Vec::new(alloc);
     read_links(names, network.links(), &mut given, lines)?;
@@ -124,6 +138,7 @@ fn router_delays(
     ensures delays { IfOk result (λ v.
         AreRouterDelays names.now network.now (texts lines.now) other v.items) }
     ensures count { IfOk result (λ v. length v.items ≡ network.now.routers) }
+    ensures fault { IfErr result (StopsLines TimesKey.Routers (length lines.now)) }
 {
     let mut given = Vec::new(alloc);
     read_routers(names, &mut given, lines)?;

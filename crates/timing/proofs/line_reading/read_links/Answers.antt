@@ -1,4 +1,4 @@
-use Rattle.std.proofs.Common.{◌+◌, length, ap, ◌∙◌}
+use Rattle.std.proofs.Common.{◌+◌, length, ap, ◌∙◌, inr}
 use Rattle.script.proofs.Common.{length_push}
 use Rattle.script.proofs.ReadLines.{reads_none, reads_line}
 use Rattle.timing.specs.Lines.{SaysLink}
@@ -15,5 +15,8 @@ loop-position-preserved c = record {
   count = ap length c.in_ok-push-in-Ok.ensures.items ∙ length_push c.loop-position.given.items c.in-Ok.delays ∙ ap (λ n. n + 1) c.loop-position.invariant.count;
 }
 
-pub returns : goal.returns
-returns c = all_read (SaysLink c.args.names.now c.args.links.now) c.args.lines.now c.loop-position.given.items c.loop-position.position c.loop-position.invariant.reads c.loop-position.invariant.count c.loop-position-test.false
+pub returns-clause-says : goal.returns-clause-says
+returns-clause-says c = all_read (SaysLink c.args.names.now c.args.links.now) c.args.lines.now c.loop-position.given.items c.loop-position.position c.loop-position.invariant.reads c.loop-position.invariant.count c.loop-position-test.false
+
+pub returns-in-Err-clause-fault : goal.returns-in-Err-clause-fault
+returns-in-Err-clause-fault c = inr (c.in-Err.fault, c.loop-position.position, c.at_line.ensures, c.loop-position-test.true)
