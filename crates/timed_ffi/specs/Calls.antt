@@ -1,5 +1,5 @@
 -- What the calls answer, by the network in simulated time that a handle holds, and what they leave.
-use Rattle.std.specs.Prelude.{◌≡◌, ◌≢◌, ◌⊎◌, ℕ, ◌≤◌, nat_lt, if◌then◌else◌, true, Option, Some, None, option_map, slice_get}
+use Rattle.std.specs.Prelude.{◌≡◌, ◌≢◌, ◌⊎◌, ℕ, ◌<◌, ◌≤◌, nat_lt, if◌then◌else◌, true, Option, Some, None, option_map, slice_get}
 use Rattle.std.specs.Option.{option_map_or}
 use Rattle.faults.specs.Numbers.{kind_number}
 use Rattle.c_interface.specs.Faults.{fault_number}
@@ -11,7 +11,7 @@ use Rattle.timed_simulation.specs.declared.fault.TimeFault.TheVariants.{PastMome
 use Rattle.timed_simulation.specs.Kinds.{time_kind}
 use Rattle.timed_simulation.specs.Timed.{Timed}
 use Rattle.timed_simulation.specs.Due.{IsDoneUntil, NothingIsLate}
-use Rattle.timed_simulation.specs.Runs.{IsAtRest, IsStoppedAt, IsTimedRun}
+use Rattle.timed_simulation.specs.Runs.{IsAtRest, IsStoppedAt, IsStoppedShort, IsTimedRun}
 use Rattle.network_calls.specs.Failures.{IsDoneOrFull}
 use Rattle.network_calls.specs.declared.step.StepParts.{StepParts}
 use Rattle.timed_ffi.specs.Parts.{change_fault}
@@ -48,16 +48,18 @@ pub record HasRun (old new : Timed) (most done status : ℕ) : Type 0 where
   pub stop : status ≢ 0 → (f : TimeFault) × IsStoppedAt new f × (status ≡ time_number f)
   pub on_time : NothingIsLate new
 
--- the same up to a moment, that included
+-- the same up to a moment, that included. It is stopped only at an event that is due by then, and before it has done as many as it may
 pub record IsRunUntil (moment : ℕ) (old new : Timed) (most done status : ℕ) : Type 0 where
   pub ran : HasRun old new most done status
   pub until : (done ≡ 0) ⊎ (new.clock ≤ moment)
   pub all : status ≡ 0 → IsDoneUntil moment new ⊎ (done ≡ most)
+  pub short : status ≢ 0 → IsStoppedShort moment most done new
 
--- the same until nothing is left to do
+-- the same until nothing is left to do. It is stopped only before it has done as many as it may
 pub record IsRunToRest (old new : Timed) (most done status : ℕ) : Type 0 where
   pub ran : HasRun old new most done status
   pub all : status ≡ 0 → IsAtRest new ⊎ (done ≡ most)
+  pub fewer : status ≢ 0 → done < most
 
 -- 1 where this is so, else 0
 abbrev pub IsFlagOf : Type 0 → ℕ → Type 0

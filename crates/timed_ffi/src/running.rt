@@ -1,11 +1,11 @@
 //! The network in simulated time that runs behind a handle.
 
-ghost use Rattle.std.specs.Prelude.{◌≡◌, ◌≢◌, ◌≤◌, ◌⊎◌, None, Some, false, IfOk, MatchOption, length};
+ghost use Rattle.std.specs.Prelude.{◌≡◌, ◌≢◌, ◌<◌, ◌≤◌, ◌⊎◌, None, Some, false, IfOk, IfSome, MatchOption, length};
 ghost use Rattle.coming_to_rest.specs.Worlds.{is_own};
 ghost use Rattle.timed_simulation.specs.Timed.{opening_timed, with_change};
 ghost use Rattle.timed_simulation.specs.Events.{next_event};
 ghost use Rattle.timed_simulation.specs.Due.{IsDoneUntil, NothingIsLate};
-ghost use Rattle.timed_simulation.specs.Runs.{IsAtRest, IsStoppedAt, IsTimedRun};
+ghost use Rattle.timed_simulation.specs.Runs.{IsAtRest, IsStoppedAt, IsStoppedShort, IsTimedRun};
 ghost use Rattle.timed_ffi.specs.Calls.{first_change, moment_number, IsFlagOf, IsNumberBy};
 ghost use Rattle.timed_reports.specs.Recordings.{report_in, timed_in, with_timed, without_first, GoesOn, IsOpened};
 ghost use Rattle.timed_ffi.specs.Parts.{parts_of_event};
@@ -133,6 +133,8 @@ impl RunningTimed {
         ensures until { (result.done ≡ 0) ⊎ ((timed_in self.new).clock ≤ moment) }
         ensures stop { MatchOption result.fault
             (IsDoneUntil moment (timed_in self.new) ⊎ (result.done ≡ most)) (IsStoppedAt (timed_in self.new)) }
+        ensures short { IfSome result.fault
+            (λ _. IsStoppedShort moment most result.done (timed_in self.new)) }
         ensures on_time { NothingIsLate (timed_in self.new) }
     {
         self.recording.run_until(moment, most)
@@ -145,6 +147,7 @@ impl RunningTimed {
         ensures most { result.done ≤ most }
         ensures stop { MatchOption result.fault
             (IsAtRest (timed_in self.new) ⊎ (result.done ≡ most)) (IsStoppedAt (timed_in self.new)) }
+        ensures fewer { IfSome result.fault (λ _. result.done < most) }
         ensures on_time { NothingIsLate (timed_in self.new) }
     {
         self.recording.run_to_rest(most)

@@ -1,10 +1,10 @@
 //! A network in simulated time that keeps a record, or one that keeps none.
 
-ghost use Rattle.std.specs.Prelude.{◌≡◌, ◌≤◌, ◌⊎◌, None, Some, false, length, slice_get, IfOk, MatchOption, OnErr, OnOk};
+ghost use Rattle.std.specs.Prelude.{◌≡◌, ◌<◌, ◌≤◌, ◌⊎◌, None, Some, false, length, slice_get, IfOk, IfSome, MatchOption, OnErr, OnOk};
 ghost use Rattle.coming_to_rest.specs.Worlds.{is_own};
 ghost use Rattle.timed_simulation.specs.Timed.{opening_timed, with_change};
 ghost use Rattle.timed_simulation.specs.Due.{IsDoneUntil, NothingIsLate};
-ghost use Rattle.timed_simulation.specs.Runs.{IsAtRest, IsGivenOr, IsStoppedAt, IsTimedRun};
+ghost use Rattle.timed_simulation.specs.Runs.{IsAtRest, IsGivenOr, IsStoppedAt, IsStoppedShort, IsTimedRun};
 ghost use Rattle.timed_reports.specs.Recordings.{report_in, timed_in, with_timed, without_first, GoesOn, IsOpened};
 
 use crate::report::Report;
@@ -100,6 +100,8 @@ impl Recording {
         ensures stop { MatchOption result.fault
             (IsDoneUntil moment (timed_in self.new) ⊎ (result.done ≡ most))
             (IsStoppedAt (timed_in self.new)) }
+        ensures short { IfSome result.fault
+            (λ _. IsStoppedShort moment most result.done (timed_in self.new)) }
         ensures on_time { NothingIsLate (timed_in self.new) }
     {
         match self {
@@ -120,6 +122,7 @@ impl Recording {
         ensures stop { MatchOption result.fault
             (IsAtRest (timed_in self.new) ⊎ (result.done ≡ most))
             (IsStoppedAt (timed_in self.new)) }
+        ensures fewer { IfSome result.fault (λ _. result.done < most) }
         ensures on_time { NothingIsLate (timed_in self.new) }
     {
         match self {

@@ -1,12 +1,12 @@
 //! The report: a network in simulated time, and what goes on in it and went on.
 
-ghost use Rattle.std.specs.Prelude.{Err, [], ◌≡◌, ◌+◌, ◌≤◌, ◌⊎◌, false, Some, drop, length, slice_get, IfOk, IfErr, IfSome, OnOk, OnErr, MatchOption};
+ghost use Rattle.std.specs.Prelude.{Err, [], ◌≡◌, ◌+◌, ◌<◌, ◌≤◌, ◌⊎◌, false, Some, drop, length, slice_get, IfOk, IfErr, IfSome, OnOk, OnErr, MatchOption};
 ghost use Rattle.std.specs.Vec.{vec_capacity, vec_len};
 ghost use Rattle.coming_to_rest.specs.Worlds.{is_own};
 ghost use Rattle.timed_simulation.specs.Timed.{after_event, opening_timed, with_change};
 ghost use Rattle.timed_simulation.specs.Events.{next_event};
 ghost use Rattle.timed_simulation.specs.Due.{IsDoneUntil, NothingIsLate};
-ghost use Rattle.timed_simulation.specs.Runs.{IsAtRest, IsGivenOr, IsNext, IsStoppedAt, IsTimed};
+ghost use Rattle.timed_simulation.specs.Runs.{IsAtRest, IsGivenOr, IsNext, IsStoppedAt, IsStoppedShort, IsTimed};
 ghost use Rattle.timed_reports.specs.Reports.{IsReport, IsReportOf, IsReportRun, RecordsEvent};
 
 use crate::looks::{look_for_computations, look_for_outages};
@@ -273,6 +273,7 @@ impl<A: SmallAllocator> Report<A> {
         ensures stop { MatchOption result.fault
             (IsDoneUntil moment (self.new).timed ⊎ (result.done ≡ most))
             (IsStoppedAt (self.new).timed) }
+        ensures short { IfSome result.fault (λ _. IsStoppedShort moment most result.done (self.new).timed) }
     {
         for done in 0..most {
             let Some(event) = self.event_until(moment) else {
@@ -299,6 +300,7 @@ impl<A: SmallAllocator> Report<A> {
         ensures stop { MatchOption result.fault
             (IsAtRest (self.new).timed ⊎ (result.done ≡ most))
             (IsStoppedAt (self.new).timed) }
+        ensures fewer { IfSome result.fault (λ _. result.done < most) }
     {
         let ran = self.run_until(u64::MAX, most);
         rests(self.timed());

@@ -7,12 +7,13 @@ use Rattle.simulation.specs.Simulation.{Simulation, after_step, opening_simulati
 use Rattle.timed_simulation.specs.declared.events.Change.{Change}
 use Rattle.timed_simulation.specs.declared.events.Event.{Event}
 use Rattle.timed_simulation.specs.declared.events.RouterTime.{RouterTime}
+use Rattle.timed_simulation.specs.declared.fault.TimeFault.{TimeFault}
 use Rattle.timed_simulation.specs.declared.links.LinkDelays.{LinkDelays}
 use Rattle.timed_simulation.specs.Links.{TimedLink, last_moment, links_after, motion_of, opening_link}
 use Rattle.timed_simulation.specs.Timed.{Timed, after_event, after_events, begins_at, opening_router, opening_timed, routers_after, timed_of, world_of}
 use Rattle.timed_simulation.specs.Events.{next_event}
 use Rattle.timed_simulation.specs.Due.{IsDue, IsFirst, NothingIsDue, RisesFrom}
-use Rattle.timed_simulation.specs.Runs.{Ascends, IsNext, IsTimed, IsTimedRun, LeadsTo, steps_of}
+use Rattle.timed_simulation.specs.Runs.{Ascends, IsNext, IsStoppedShort, IsTimed, IsTimedRun, LeadsTo, steps_of}
 use Rattle.timed_simulation.proofs.Moments.{next-after}
 use Rattle.timed_simulation.proofs.First.{next_due, next_first, nothing_due}
 use Rattle.timed_simulation.proofs.OnTime.{on_time_after, opened}
@@ -103,6 +104,11 @@ run_more old mid new done e run is made = subst (λ u. IsTimedRun old u (done + 
   runs = runs_push (world_of old) run.events (world_of mid) e run.runs is.lawful;
   after = ap (λ u. after_event u e) run.after ∙ sym (after_push old run.events e);
 })
+
+-- a run that stopped short did fewer events than it might have done
+pub fewer_done : (moment most done : ℕ) (t : Timed) (o : Option TimeFault) → IfSome o (λ f. IsStoppedShort moment most done t) → IfSome o (λ f. done < most)
+fewer_done moment most done t None short = tt
+fewer_done moment most done t (Some f) short = short.few
 
 -- ---- the parts of an opening
 

@@ -80,6 +80,13 @@ pub record IsStoppedAt (t : Timed) (fault : TimeFault) : Type 0 where
   pub cause : IsStoppedFor t event fault
   pub own : event.given ≡ false → IsSpent fault
 
+-- a run up to a moment stopped short: the next event is due by then, and fewer events were done than it might have done
+pub record IsStoppedShort (moment most done : ℕ) (t : Timed) : Type 0 where
+  pub event : Event
+  pub next : next_event t ≡ Some event
+  pub due : event.moment ≤ moment
+  pub few : done < most
+
 -- a change for this moment is taken if that is not past, unless memory runs out
 abbrev pub IsGivenOr : {X : Type 0} → ℕ → ℕ → Result X TimeFault → Type 0
 IsGivenOr now moment r = MatchBool (nat_lt moment now) (r ≡ Err PastMoment) (IsOkUnless r (Refused Refusal.NoMemory))

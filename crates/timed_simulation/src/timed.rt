@@ -8,7 +8,7 @@ ghost use Rattle.simulation.specs.Simulation as simulations;
 ghost use Rattle.timed_simulation.specs.Timed.{after_event, opening_timed, with_change, world_of};
 ghost use Rattle.timed_simulation.specs.Events.{arrival_event, change_event, event_now, home_event, next_event, own_event, publication_event, publication_moment, router_event, waiting_event};
 ghost use Rattle.timed_simulation.specs.Due.{IsDoneUntil, IsDue, IsFirst, NothingIsDue, NothingIsLate, NothingIsLeftOut};
-ghost use Rattle.timed_simulation.specs.Runs.{IsAtRest, IsGivenOr, IsNext, IsStoppedAt, IsStoppedFor, IsTimed, IsTimedRun};
+ghost use Rattle.timed_simulation.specs.Runs.{IsAtRest, IsGivenOr, IsNext, IsStoppedAt, IsStoppedFor, IsStoppedShort, IsTimed, IsTimedRun};
 
 use crate::events::{
     Change, Event, RouterTime, begins_at, insert_change, note_begun, opening_routers, sooner,
@@ -323,6 +323,7 @@ impl<A: SmallAllocator> TimedSimulation<A> {
         ensures stop { MatchOption result.fault
             (IsDoneUntil moment self.new ⊎ (result.done ≡ most))
             (IsStoppedAt self.new) }
+        ensures short { IfSome result.fault (λ _. IsStoppedShort moment most result.done self.new) }
         ensures on_time { NothingIsLate self.new }
         ensures forwards { simulations.ForwardsAsPublished (self.new).simulation }
         ensures no_loop { headline.NeverMeetsTwice (self.new).simulation }
@@ -341,6 +342,7 @@ impl<A: SmallAllocator> TimedSimulation<A> {
         ensures stop { MatchOption result.fault
             (IsDoneUntil moment self.new ⊎ (result.done ≡ most))
             (IsStoppedAt self.new) }
+        ensures short { IfSome result.fault (λ _. IsStoppedShort moment most result.done self.new) }
     {
         for done in 0..most {
             let Some(event) = self.event_until(moment) else {
@@ -367,6 +369,7 @@ impl<A: SmallAllocator> TimedSimulation<A> {
         ensures stop { MatchOption result.fault
             (IsAtRest self.new ⊎ (result.done ≡ most))
             (IsStoppedAt self.new) }
+        ensures fewer { IfSome result.fault (λ _. result.done < most) }
         ensures on_time { NothingIsLate self.new }
         ensures forwards { simulations.ForwardsAsPublished (self.new).simulation }
         ensures no_loop { headline.NeverMeetsTwice (self.new).simulation }

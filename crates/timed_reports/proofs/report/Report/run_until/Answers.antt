@@ -1,6 +1,6 @@
-use Rattle.std.proofs.Common.{◌≤◌, inl, inr, refl, sym, subst}
+use Rattle.std.proofs.Common.{◌≤◌, arith, inl, inr, refl, sym, subst}
 use Rattle.timed_simulation.specs.Timed.{Timed}
-use Rattle.timed_simulation.specs.Runs.{IsStoppedAt}
+use Rattle.timed_simulation.specs.Runs.{IsStoppedAt, IsStoppedShort}
 use Rattle.timed_reports.specs.Reports.{Reported}
 use Rattle.timed_reports.proofs.Whole.{run_begins, run_goes_on}
 use Rattle.timed_reports.proofs.report.Report.run_until.Goals as goal
@@ -19,3 +19,13 @@ loop-done-preserved g c =
 -- the event could not be done
 pub returns-in-Err-clause-stop : goal.returns-in-Err-clause-stop
 returns-in-Err-clause-stop g c = subst (λ (u : Reported). IsStoppedAt u.timed c.in-Err.fault) (sym c.in-Err.ensures.err) c.in-Err.ensures.cause
+
+pub returns-in-Err-clause-short : goal.returns-in-Err-clause-short
+returns-in-Err-clause-short g c =
+    let below = c.loop-done-test.true in
+    subst (λ (u : Reported). IsStoppedShort c.args.moment c.args.most c.loop-done.done u.timed) (sym c.in-Err.ensures.err) (record {
+      event = c.in-Some.event;
+      next = c.in-Some.ensures.some.0;
+      due = c.in-Some.ensures.some.1;
+      few = omega (arith, below);
+    })

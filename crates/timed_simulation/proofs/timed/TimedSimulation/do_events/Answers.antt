@@ -1,6 +1,6 @@
-use Rattle.std.proofs.Common.{◌≤◌, inr, sym, subst}
+use Rattle.std.proofs.Common.{◌≤◌, arith, inr, sym, subst}
 use Rattle.timed_simulation.specs.Timed.{Timed}
-use Rattle.timed_simulation.specs.Runs.{IsStoppedAt}
+use Rattle.timed_simulation.specs.Runs.{IsStoppedAt, IsStoppedShort}
 use Rattle.timed_simulation.proofs.Lawful.{own_spent}
 use Rattle.timed_simulation.proofs.Runs.{run_more}
 use Rattle.timed_simulation.proofs.timed.TimedSimulation.do_events.Goals as goal
@@ -23,4 +23,14 @@ returns-in-Err-clause-stop g c =
       next = next;
       cause = cause;
       own = own_spent c.loop-done.self c.in-Some.event c.in-Err.fault next cause;
+    })
+
+pub returns-in-Err-clause-short : goal.returns-in-Err-clause-short
+returns-in-Err-clause-short g c =
+    let below = c.loop-done-test.true in
+    subst (IsStoppedShort c.args.moment c.args.most c.loop-done.done) (sym c.in-Err.ensures.err) (record {
+      event = c.in-Some.event;
+      next = c.in-Some.ensures.some.0;
+      due = c.in-Some.ensures.some.1;
+      few = omega (arith, below);
     })
