@@ -1,5 +1,6 @@
 -- Elements of lists, by their places: after a push and after a write.
-use Rattle.std.proofs.Common.{refl, ap, subst, arith, inl, inr, ◌≡◌, ◌≢◌, ◌⊎◌, ℕ, zero, suc, ◌<◌, List, [], ◌∷◌, ◌++◌, length, set, Some, slice_get}
+use Rattle.std.proofs.Common.{refl, sym, ap, subst, ◌∙◌, arith, inl, inr, append-nil, append_assoc, ◌≡◌, ◌≢◌, ◌⊎◌, ℕ, zero, suc, ◌<◌, List, [], ◌∷◌, ◌++◌, map, length, set, Some, slice_get}
+use mathlib.Core.List.{IsPrefix}
 use Rattle.no_packet_loops.proofs.Common.{None_not_Some, Some_injective}
 use Rattle.timed_reports.specs.Records.{IsListed}
 
@@ -59,3 +60,23 @@ module _ {A : Type 0} where
   set_other (z ∷ xs) zero (suc j) y apart = refl
   set_other (z ∷ xs) (suc k) zero y apart = refl
   set_other (z ∷ xs) (suc k) (suc j) y apart = set_other xs k j y (λ e. apart (ap suc e))
+
+  -- ---- lists that grow
+
+  pub prefix_same : (xs : List A) → IsPrefix xs xs
+  prefix_same xs = ([], append-nil xs)
+
+  pub prefix_longer : (xs ys zs : List A) → IsPrefix xs ys → IsPrefix xs (ys ++ zs)
+  prefix_longer xs ys zs begins = (begins.0 ++ zs, sym (append_assoc xs begins.0 zs) ∙ ap (λ (l : List A). l ++ zs) begins.1)
+
+  pub prefix_further : (xs ys zs : List A) → IsPrefix xs ys → IsPrefix ys zs → IsPrefix xs zs
+  prefix_further xs ys zs begins more = (begins.0 ++ more.0, sym (append_assoc xs begins.0 more.0) ∙ ap (λ (l : List A). l ++ more.0) begins.1 ∙ more.1)
+
+-- lists whose elements show the same, place by place
+pub map_alike : {A B : Type 0} (f : A → B) (xs ys : List A) → length ys ≡ length xs → ((k : ℕ) (x y : A) → slice_get xs k ≡ Some x → slice_get ys k ≡ Some y → f y ≡ f x) → map f ys ≡ map f xs
+map_alike f [] [] long each = refl
+map_alike f [] (y ∷ ys) long each = absurd (omega (arith, long))
+map_alike f (x ∷ xs) [] long each = absurd (omega (arith, long))
+map_alike {A} {B} f (x ∷ xs) (y ∷ ys) long each =
+    ap (λ (z : B). z ∷ map f ys) (each 0 x y refl refl)
+    ∙ ap (λ (zs : List B). f x ∷ zs) (map_alike f xs ys (omega (arith, long)) (λ k a b at there. each (suc k) a b at there))

@@ -7,7 +7,7 @@ use Rattle.timed_reports.specs.declared.spells.Spell.{Spell}
 use Rattle.timed_reports.specs.declared.spells.Watched.{Watched}
 use Rattle.timed_reports.specs.Records.{AreLooked, HoldsOf, IsEnding, IsListed, IsLooked, IsSeen, Kind, ended_by, seen, spell}
 use Rattle.timed_reports.proofs.Watching.{read_is}
-use Rattle.timed_reports.proofs.Lists.{get_within, listed_first, listed_last, listed_pushed, set_other, set_same}
+use Rattle.timed_reports.proofs.Lists.{get_within, listed_first, listed_last, listed_pushed, prefix_longer, prefix_same, set_other, set_same}
 
 module _ (K : Kind) (v : World) (now : ℕ) (Aside : Watched → Type 0) (old : List Watched) (before : List Spell) where
   abbrev Looked : ℕ → List Watched → List Spell → Type 0
@@ -19,6 +19,7 @@ module _ (K : Kind) (v : World) (now : ℕ) (Aside : Watched → Type 0) (old : 
     as_many = refl;
     looked = λ x c d below. absurd (omega (arith, below));
     rest = λ x past. refl;
+    grown = prefix_same before;
     kept = λ s listed. listed;
     made = λ s listed. inl listed;
     listed = λ x c from below. absurd (omega (arith, below));
@@ -30,6 +31,7 @@ module _ (K : Kind) (v : World) (now : ℕ) (Aside : Watched → Type 0) (old : 
     as_many = refl;
     looked = λ x c d below at there. inl (Some_injective (sym there ∙ at), aside c);
     rest = λ x past. refl;
+    grown = prefix_same before;
     kept = λ s listed. listed;
     made = λ s listed. inl listed;
     listed = λ x c from below at began. inl (aside c);
@@ -46,6 +48,7 @@ module _ (K : Kind) (v : World) (now : ℕ) (Aside : Watched → Type 0) (old : 
       as_many = L.as_many;
       looked = λ x b d less was there. by_place_looked x b d was there (cases_lt x below) less;
       rest = λ x past. L.rest x (omega (arith, past));
+      grown = L.grown;
       kept = L.kept;
       made = L.made;
       listed = λ x b from less was began. by_place_listed x b from was began (cases_lt x below) less;
@@ -72,6 +75,7 @@ module _ (K : Kind) (v : World) (now : ℕ) (Aside : Watched → Type 0) (old : 
       as_many = length-set cs below (seen now holds c) ∙ L.as_many;
       looked = λ x b d less was there. by_place_looked x b d was there (cases_lt x below) less;
       rest = λ x past. (let apart : x ≢ below = λ (e : x ≡ below). omega (arith, past, e) in set_other cs below x (seen now holds c) apart ∙ L.rest x (omega (arith, past)));
+      grown = prefix_longer before after (option_to_list (ended_by now holds c)) L.grown;
       kept = λ s listed. listed_first s after (option_to_list (ended_by now holds c)) (L.kept s listed);
       made = λ s listed. by_end holds rightly c.since refl s listed;
       listed = λ x b from less was began. by_place_listed x b from was began (cases_lt x below) less;
@@ -142,6 +146,7 @@ looked_beside_more K v now Aside More more below old new before after L = record
   as_many = L.as_many;
   looked = λ x c d less was is. by_look c d (L.looked x c d less was is);
   rest = L.rest;
+  grown = L.grown;
   kept = L.kept;
   made = L.made;
   listed = λ x c from less was began. by_list c from (L.listed x c from less was began);

@@ -11,8 +11,8 @@ use Rattle.timed_simulation.specs.Runs.{steps_of}
 use Rattle.timed_reports.specs.declared.spells.Spell.{Spell}
 use Rattle.timed_reports.specs.declared.spells.Watched.{Watched}
 use Rattle.timed_reports.specs.Spells.{IsSpell}
-use Rattle.timed_reports.specs.Records.{AreLooked, AreWatched, HoldsOf, IsEnding, IsListed, IsRecorded, IsSeen, Kind, seen, spell, watched}
-use Rattle.timed_reports.proofs.Lists.{get_within}
+use Rattle.timed_reports.specs.Records.{AreInOrder, AreLooked, AreWatched, HoldsOf, IsEnding, IsListed, IsRecorded, IsSeen, Kind, seen, spell, watched, watched_at}
+use Rattle.timed_reports.proofs.Lists.{get_within, map_alike}
 use Rattle.timed_reports.proofs.OneMore.{goes_on, one_goes_on, runs_all, spell_begins, spell_ended, spell_on, spell_past, spell_till}
 
 -- ---- what is watched
@@ -38,6 +38,18 @@ watched_after K v now Aside past new cs ds count ps L each p i below one =
     let (since, (x, at)) = each p i below one in
     let (later, there) = still_there K v now Aside past new cs ds L x (watched i p since) at in
     (later, (x, there))
+
+-- and stands at its place
+pub order_after : (K : Kind) (v : World) (now : ℕ) (Aside : Watched → Type 0) (past new : List Spell) (cs ds : List Watched) (count : ℕ) (ps : List Prefix) → AreLooked K v now Aside (length cs) cs ds past new → AreInOrder count ps cs → AreInOrder count ps ds
+order_after K v now Aside past new cs ds count ps L order = map_alike watched_at cs ds L.as_many (λ x c d at there. by_look c d (L.looked x c d (slice_get_within cs x c at) at there)) ∙ order
+  where
+    of_seen : (b : Bool) (c d : Watched) → d ≡ seen now b c → watched_at d ≡ watched_at c
+    of_seen true c d is = ap watched_at is
+    of_seen false c d is = ap watched_at is
+
+    by_look : (c d : Watched) → ((d ≡ c) × Aside c) ⊎ IsSeen K v now c d → watched_at d ≡ watched_at c
+    by_look c d (inl (is, aside)) = ap watched_at is
+    by_look c d (inr look) = of_seen look.holds c d look.written
 
 module _ (K : Kind) where
   -- ---- one router and one prefix

@@ -1,13 +1,16 @@
 -- One for each router and each prefix.
-use Rattle.std.proofs.Common.{refl, sym, ap, subst, ◌∙◌, arith, inl, inr, append-nil, ◌≡◌, ◌⊎◌, ℕ, suc, ◌+◌, ◌<◌, ◌≤◌, Bool, true, false, ◌||◌, List, [], ◌∷◌, ◌++◌, length, get_or, Option, Some, None, option_to_list, slice_get}
+use Rattle.std.proofs.Common.{refl, sym, ap, subst, ◌∙◌, arith, inl, inr, append-nil, append_assoc, ◌≡◌, ◌⊎◌, ℕ, suc, ◌+◌, ◌<◌, ◌≤◌, Bool, true, false, ◌||◌, List, [], ◌∷◌, ◌++◌, map, flat_map, take, length, get_or, Option, Some, None, option_to_list, slice_get}
 use Rattle.std.proofs.lemmas.Bool.{cases_lt}
+use Rattle.std.proofs.lemmas.List.{map-append, take_all, take_more}
+use Rattle.std.proofs.lemmas.List.Concat.{flat_map-append}
+use Rattle.std.proofs.lemmas.List.FromFn.{map-range_with_len_more}
 use Rattle.std.proofs.lemmas.Option.{get_or_from_slice_get, slice_get_within}
 use Rattle.std.specs.List.{list_any}
-use Rattle.no_packet_loops.proofs.Common.{false≢true, prefix_eq, Prefix}
+use Rattle.no_packet_loops.proofs.Common.{None_not_Some, false≢true, prefix_eq, Prefix}
 use Rattle.no_packet_loops.proofs.Machines.{prefix_same}
 use Rattle.timed_reports.specs.declared.spells.Spell.{Spell}
 use Rattle.timed_reports.specs.declared.spells.Watched.{Watched}
-use Rattle.timed_reports.specs.Records.{IsListed, ended_by, watched}
+use Rattle.timed_reports.specs.Records.{AreInOrder, IsListed, ended_by, watched, watched_at, with_routers}
 use Rattle.timed_reports.proofs.Lists.{each_pushed, listed_first, listed_last}
 
 -- ---- a push
@@ -56,6 +59,37 @@ pub each_prefix : (ps : List Prefix) (count : ℕ) (zs : List Watched) → ((k :
 each_prefix ps count zs each p i below one =
     let (k, q, at, same) = any_place (prefix_eq p) ps one in
     (None, subst (λ (x : Prefix). IsListed (watched i x None) zs) (sym (prefix_same p q same)) (each k q (slice_get_within ps k q at) at i below))
+
+-- ---- their order
+
+-- one more router of a prefix
+pub routers_more : (p : Prefix) (place : ℕ) (before xs zs : List Watched) → zs ≡ xs ++ watched place p None ∷ [] → map watched_at xs ≡ map watched_at before ++ with_routers place p → map watched_at zs ≡ map watched_at before ++ with_routers (place + 1) p
+routers_more p place before xs zs pushed order =
+    ap (map watched_at) pushed
+    ∙ map-append watched_at xs (watched place p None ∷ [])
+    ∙ ap (λ (l : List (Prefix × ℕ)). l ++ (p, place) ∷ []) order
+    ∙ append_assoc (map watched_at before) (with_routers place p) ((p, place) ∷ [])
+    ∙ ap (λ (l : List (Prefix × ℕ)). map watched_at before ++ l) (sym (map-range_with_len_more {X = Prefix × ℕ} (λ i. (p, i)) 0 place place (omega arith)))
+
+-- nothing is watched
+pub none_listed : (cs : List Watched) → cs ≡ [] → (k : ℕ) (c : Watched) → slice_get cs k ≡ Some c → c.since ≡ None
+none_listed cs none k c at = absurd (None_not_Some (sym (ap (λ (l : List Watched). slice_get l k) none) ∙ at))
+
+pub none_in_order : (count : ℕ) (ps : List Prefix) (cs : List Watched) → cs ≡ [] → AreInOrder count (take 0 ps) cs
+none_in_order count ps cs none = ap (map watched_at) none
+
+-- one more prefix
+pub in_order_more : (count : ℕ) (ps : List Prefix) (n : ℕ) (q : Prefix) (xs zs : List Watched) → n < length ps → q ≡ get_or ps n q → AreInOrder count (take n ps) xs → map watched_at zs ≡ map watched_at xs ++ with_routers count q → AreInOrder count (take (n + 1) ps) zs
+in_order_more count ps n q xs zs below read order pushed =
+    pushed
+    ∙ ap (λ (l : List (Prefix × ℕ)). l ++ with_routers count q) order
+    ∙ ap (λ (l : List (Prefix × ℕ)). flat_map (with_routers count) (take n ps) ++ l) (sym (append-nil (with_routers count q)))
+    ∙ sym (flat_map-append (with_routers count) (take n ps) (q ∷ []))
+    ∙ ap (flat_map (with_routers count)) (ap (λ (p : Prefix). take n ps ++ p ∷ []) read ∙ sym (take_more ps n q below))
+
+-- all of them
+pub all_in_order : (count : ℕ) (ps : List Prefix) (n : ℕ) (cs : List Watched) → length ps ≤ n → AreInOrder count (take n ps) cs → AreInOrder count ps cs
+all_in_order count ps n cs over order = order ∙ ap (flat_map (with_routers count)) (take_all n ps over)
 
 -- ---- a look
 

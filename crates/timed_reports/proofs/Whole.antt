@@ -14,10 +14,11 @@ use Rattle.no_packet_loops.proofs.WorldLaws.{next-shape}
 use Rattle.timed_reports.specs.declared.spells.Spell.{Spell}
 use Rattle.timed_reports.specs.declared.spells.Watched.{Watched}
 use Rattle.timed_reports.specs.Going.{IsComputing}
-use Rattle.timed_reports.specs.Records.{AreLooked, AreWatched, IsElsewhere, IsRecorded, MovesNoWay}
-use Rattle.timed_reports.specs.Reports.{IsReport, IsReportOf, IsReportRun, RecordsEvent, Reported, reported_of}
+use Rattle.timed_reports.specs.Records.{AreInOrder, AreLooked, AreWatched, IsElsewhere, IsRecorded, MovesNoWay}
+use Rattle.timed_reports.specs.Reports.{HasGrown, IsReport, IsReportOf, IsReportRun, RecordsEvent, Reported, reported_of}
+use Rattle.timed_reports.proofs.Lists.{prefix_further, prefix_same}
 use Rattle.timed_reports.proofs.OneMore.{ascends_all, leads_all, runs_all}
-use Rattle.timed_reports.proofs.Recorded.{recorded_after, recorded_opening, watched_after}
+use Rattle.timed_reports.proofs.Recorded.{order_after, recorded_after, recorded_opening, watched_after}
 use Rattle.timed_reports.proofs.Machines.{computing_too, same_machines}
 use Rattle.timed_reports.proofs.Alike.{alike_after, alike_turned, cut_off_alike}
 use Rattle.timed_reports.proofs.Known.{computing_known, cut_off_known}
@@ -56,8 +57,10 @@ report_after es old e computations computing outages cut_off R is L M =
       runs = runs_all (opening n) es (world_of old.timed) e R.runs is.lawful;
       computations = computations_after n es (world_of old.timed) R.runs e is.lawful old.computations computations old.computing computing R.each_computing R.computations L;
       each_computing = watched_after IsComputing (next (world_of old.timed) e.step) e.moment (IsElsewhere e.step) old.computations computations old.computing computing n.routers (prefixes_of n.attachments) L R.each_computing;
+      ordered_computing = order_after IsComputing (next (world_of old.timed) e.step) e.moment (IsElsewhere e.step) old.computations computations old.computing computing n.routers (prefixes_of n.attachments) L R.ordered_computing;
       outages = outages_after n es (world_of old.timed) R.runs e is.lawful old.outages outages old.cut_off cut_off R.each_cut_off R.outages M;
       each_cut_off = watched_after IsCutOff (next (world_of old.timed) e.step) e.moment (MovesNoWay e.step) old.outages outages old.cut_off cut_off n.routers (prefixes_of n.attachments) M R.each_cut_off;
+      ordered_cut_off = order_after IsCutOff (next (world_of old.timed) e.step) e.moment (MovesNoWay e.step) old.outages outages old.cut_off cut_off n.routers (prefixes_of n.attachments) M R.ordered_cut_off;
     }
 
 -- the same of what the code has of it
@@ -65,15 +68,18 @@ pub records_event : (old : Reported) (e : Event) (timed : Timed) (w u : World) (
     → AreLooked IsComputing w e.moment (IsElsewhere e.step) (length old.computing) old.computing computing past computations
     → AreLooked IsCutOff u e.moment (MovesNoWay e.step) (length old.cut_off) old.cut_off cut_off out outages
     → RecordsEvent old e (reported_of timed computations computing outages cut_off)
-records_event old e timed w u past out computations computing outages cut_off is made at at_out before before_out L M es R =
+records_event old e timed w u past out computations computing outages cut_off is made at at_out before before_out L M =
     let same : w ≡ next (world_of old.timed) e.step = at ∙ ap world_of made in
     let same_out : u ≡ next (world_of old.timed) e.step = at_out ∙ ap world_of made in
-    subst (λ (t : Timed). IsReportOf (es ++ e ∷ []) (reported_of t computations computing outages cut_off)) (sym made)
-    (report_after es old e computations computing outages cut_off R is
-    (subst (λ (v : World). AreLooked IsComputing v e.moment (IsElsewhere e.step) (length old.computing) old.computing computing old.computations computations) same
-    (subst (λ (xs : List Spell). AreLooked IsComputing w e.moment (IsElsewhere e.step) (length old.computing) old.computing computing xs computations) before L))
-    (subst (λ (v : World). AreLooked IsCutOff v e.moment (MovesNoWay e.step) (length old.cut_off) old.cut_off cut_off old.outages outages) same_out
-    (subst (λ (xs : List Spell). AreLooked IsCutOff u e.moment (MovesNoWay e.step) (length old.cut_off) old.cut_off cut_off xs outages) before_out M)))
+    let looked : AreLooked IsComputing w e.moment (IsElsewhere e.step) (length old.computing) old.computing computing old.computations computations = subst (λ (xs : List Spell). AreLooked IsComputing w e.moment (IsElsewhere e.step) (length old.computing) old.computing computing xs computations) before L in
+    let looked_out : AreLooked IsCutOff u e.moment (MovesNoWay e.step) (length old.cut_off) old.cut_off cut_off old.outages outages = subst (λ (xs : List Spell). AreLooked IsCutOff u e.moment (MovesNoWay e.step) (length old.cut_off) old.cut_off cut_off xs outages) before_out M in
+    record {
+      exact = λ es R. subst (λ (t : Timed). IsReportOf (es ++ e ∷ []) (reported_of t computations computing outages cut_off)) (sym made)
+          (report_after es old e computations computing outages cut_off R is
+          (subst (λ (v : World). AreLooked IsComputing v e.moment (IsElsewhere e.step) (length old.computing) old.computing computing old.computations computations) same looked)
+          (subst (λ (v : World). AreLooked IsCutOff v e.moment (MovesNoWay e.step) (length old.cut_off) old.cut_off cut_off old.outages outages) same_out looked_out));
+      grown = record { computations = looked.grown; outages = looked_out.grown };
+    }
 
 -- the world fits together after the event
 pub joined_after : (old : Reported) (e : Event) (timed : Timed) (w : World) → IsReport old → IsNext old.timed e → timed ≡ after_event old.timed e → w ≡ world_of timed → IsJoined w
@@ -97,8 +103,9 @@ same_report r timed xs ys same past out =
 pub report_opening : (t : Timed) → IsNetwork (t.simulation).network → t.clock ≡ 0 → world_of t ≡ opening (t.simulation).network → (computing cut_off : List Watched)
     → AreWatched ((t.simulation).network).routers (prefixes_of ((t.simulation).network).attachments) computing → ((x : ℕ) (c : Watched) → slice_get computing x ≡ Some c → c.since ≡ None)
     → AreWatched ((t.simulation).network).routers (prefixes_of ((t.simulation).network).attachments) cut_off → ((x : ℕ) (c : Watched) → slice_get cut_off x ≡ Some c → c.since ≡ None)
+    → AreInOrder ((t.simulation).network).routers (prefixes_of ((t.simulation).network).attachments) computing → AreInOrder ((t.simulation).network).routers (prefixes_of ((t.simulation).network).attachments) cut_off
     → IsReportOf [] (reported_of t [] computing [] cut_off)
-report_opening t V clock at computing cut_off each none each_out none_out =
+report_opening t V clock at computing cut_off each none each_out none_out order order_out =
     let n : Network = (t.simulation).network in
     record {
       valid = V;
@@ -106,11 +113,24 @@ report_opening t V clock at computing cut_off each none each_out none_out =
       runs = sym at;
       computations = subst (λ (v : World). IsRecorded IsComputing (opening n) [] v [] computing) (sym at) (recorded_opening IsComputing (opening n) computing (none_computing_yet n V) none);
       each_computing = each;
+      ordered_computing = order;
       outages = subst (λ (v : World). IsRecorded IsCutOff (opening n) [] v [] cut_off) (sym at) (recorded_opening IsCutOff (opening n) cut_off (none_out_yet n V) none_out);
       each_cut_off = each_out;
+      ordered_cut_off = order_out;
     }
 
 -- ---- runs
+
+-- nothing has ended
+grown_none : (r : Reported) → HasGrown r r
+grown_none r = record { computations = prefix_same r.computations; outages = prefix_same r.outages }
+
+-- the lists grow on
+grown_on : (old mid new : Reported) → HasGrown old mid → HasGrown mid new → HasGrown old new
+grown_on old mid new G H = record {
+  computations = prefix_further old.computations mid.computations new.computations G.computations H.computations;
+  outages = prefix_further old.outages mid.outages new.outages G.outages H.outages;
+}
 
 pub run_begins : (r : Reported) → IsReportRun r r 0
 run_begins r = record {
@@ -119,6 +139,7 @@ run_begins r = record {
   count = refl;
   leads = refl;
   exact = λ es R. subst (λ (xs : List Event). IsReportOf xs r) (sym (append-nil es)) R;
+  grown = grown_none r;
 }
 
 pub run_goes_on : (old mid new : Reported) (done : ℕ) (e : Event) → IsReportRun old mid done → IsNext mid.timed e → new.timed ≡ after_event mid.timed e → RecordsEvent mid e new → IsReportRun old new (done + 1)
@@ -127,12 +148,13 @@ run_goes_on old mid new done e R is made records = record {
   events = R.events ++ e ∷ [];
   count = (let longer : length (R.events ++ e ∷ []) ≡ length R.events + 1 = length-append R.events (e ∷ []) in let count = R.count in omega (arith, longer, count));
   leads = subst (LeadsTo old.timed (R.events ++ e ∷ [])) (sym made) (leads_all old.timed R.events mid.timed e R.leads is);
-  exact = λ es E. subst (λ (xs : List Event). IsReportOf xs new) (append_assoc es R.events (e ∷ [])) (records (es ++ R.events) (R.exact es E));
+  exact = λ es E. subst (λ (xs : List Event). IsReportOf xs new) (append_assoc es R.events (e ∷ [])) (records.exact (es ++ R.events) (R.exact es E));
+  grown = grown_on old mid new R.grown records.grown;
 }
 
 -- what is kept
 pub kept_after : (old new : Reported) (e : Event) → IsReport old → RecordsEvent old e new → IsReport new
-kept_after old new e K records = record { done = K.done ++ e ∷ []; exact = records K.done K.exact }
+kept_after old new e K records = record { done = K.done ++ e ∷ []; exact = records.exact K.done K.exact }
 
 -- with another timed simulation of the same network, world and clock
 pub report_same : (t : Timed) (r : Reported) (es : List Event) → (t.simulation) ≡ ((r.timed).simulation) → t.clock ≡ (r.timed).clock → IsReportOf es r → IsReportOf es (record r { timed = t })
@@ -142,8 +164,10 @@ report_same t r es same clock R = record {
   runs = subst (λ (s : Simulation). Runs (opening s.network) (steps_of es) s.world) (sym same) R.runs;
   computations = subst (λ (s : Simulation). IsRecorded IsComputing (opening s.network) es s.world r.computations r.computing) (sym same) R.computations;
   each_computing = subst (λ (s : Simulation). AreWatched (s.network).routers (prefixes_of (s.network).attachments) r.computing) (sym same) R.each_computing;
+  ordered_computing = subst (λ (s : Simulation). AreInOrder (s.network).routers (prefixes_of (s.network).attachments) r.computing) (sym same) R.ordered_computing;
   outages = subst (λ (s : Simulation). IsRecorded IsCutOff (opening s.network) es s.world r.outages r.cut_off) (sym same) R.outages;
   each_cut_off = subst (λ (s : Simulation). AreWatched (s.network).routers (prefixes_of (s.network).attachments) r.cut_off) (sym same) R.each_cut_off;
+  ordered_cut_off = subst (λ (s : Simulation). AreInOrder (s.network).routers (prefixes_of (s.network).attachments) r.cut_off) (sym same) R.ordered_cut_off;
 }
 
 pub report_kept : (r : Reported) (t : Timed) → (t.simulation ≡ (r.timed).simulation) × (t.clock ≡ (r.timed).clock) → IsReport r → IsReport (record r { timed = t })
@@ -169,12 +193,14 @@ few_at t K = (joined (t.simulation).network K.valid (steps_of K.done) (world_of 
 
 pub report_opens : (t : Timed) → IsTimed t → (n : Network) (delays : List LinkDelays) (waits : List ℕ) → t ≡ opening_timed n delays waits → (count : ℕ) → count ≡ length (world_of t).routers → (ps : List Prefix) → ps ≡ (world_of t).prefixes
     → (computing cut_off : List Watched) → AreWatched count ps computing → ((x : ℕ) (c : Watched) → slice_get computing x ≡ Some c → c.since ≡ None) → AreWatched count ps cut_off → ((x : ℕ) (c : Watched) → slice_get cut_off x ≡ Some c → c.since ≡ None)
+    → AreInOrder count ps computing → AreInOrder count ps cut_off
     → (past out : List Spell) → past ≡ [] → out ≡ [] → IsReportOf [] (reported_of t past computing out cut_off)
-report_opens t K n delays waits is count count_is ps ps_is computing cut_off each none each_out none_out past out nothing nothing_out =
+report_opens t K n delays waits is count count_is ps ps_is computing cut_off each none each_out none_out order order_out past out nothing nothing_out =
     let m : Network = (t.simulation).network in
     let at : world_of t ≡ opening m = ap world_of is ∙ sym (ap (λ (x : Timed). opening (x.simulation).network) is) in
     let routers : count ≡ m.routers = count_is ∙ ap (λ (w : World). length w.routers) at ∙ length-map-range_with_len (opening_router_of m) 0 m.routers in
     let prefixes : ps ≡ prefixes_of m.attachments = ps_is ∙ ap (λ (w : World). w.prefixes) at in
     let all : (cs : List Watched) → AreWatched count ps cs → AreWatched m.routers (prefixes_of m.attachments) cs = λ cs e. subst (λ (k : ℕ). AreWatched k (prefixes_of m.attachments) cs) routers (subst (λ (qs : List Prefix). AreWatched count qs cs) prefixes e) in
+    let in_order : (cs : List Watched) → AreInOrder count ps cs → AreInOrder m.routers (prefixes_of m.attachments) cs = λ cs o. subst (λ (k : ℕ). AreInOrder k (prefixes_of m.attachments) cs) routers (subst (λ (qs : List Prefix). AreInOrder count qs cs) prefixes o) in
     subst (λ (xs : List Spell). IsReportOf [] (reported_of t xs computing out cut_off)) (sym nothing) (subst (λ (xs : List Spell). IsReportOf [] (reported_of t [] computing xs cut_off)) (sym nothing_out)
-    (report_opening t K.valid (ap (λ (x : Timed). x.clock) is) at computing cut_off (all computing each) none (all cut_off each_out) none_out))
+    (report_opening t K.valid (ap (λ (x : Timed). x.clock) is) at computing cut_off (all computing each) none (all cut_off each_out) none_out (in_order computing order) (in_order cut_off order_out)))

@@ -31,7 +31,7 @@ IsOpened true (Off t) = ⊥
 IsOpened false (On r) = ⊥
 IsOpened false (Off t) = Unit {0}
 
--- with so many events done: where a record is kept, it is exact of the events with them; where none is, none is
+-- with so many events done. Where a record is kept, it is exact of the events with them, and its lists of what ended only grew. Where none is, none is
 abbrev pub GoesOn : Recording → Recording → ℕ → Type 0
 GoesOn (Off s) (Off t) done = Unit {0}
 GoesOn (Off s) (On t) done = ⊥

@@ -1,6 +1,7 @@
 -- What is recorded of one kind of thing that goes on at routers for prefixes, and how a look at a world changes that.
-use Rattle.std.specs.Prelude.{ℕ, ◌≡◌, ◌≢◌, ◌<◌, ◌≤◌, ◌⊎◌, ◌↔◌, IsTrue, Bool, true, false, List, ◌++◌, length, Option, Some, None, option_map, option_to_list, slice_get, slice_set, unwrap_or}
-use Rattle.std.specs.List.{list_any}
+use Rattle.std.specs.Prelude.{ℕ, ◌≡◌, ◌≢◌, ◌<◌, ◌≤◌, ◌⊎◌, ◌↔◌, IsTrue, Bool, true, false, List, ◌++◌, map, flat_map, length, Option, Some, None, option_map, option_to_list, slice_get, slice_set, unwrap_or}
+use Rattle.std.specs.List.{list_any, range_with_len}
+use mathlib.Core.List.{IsPrefix}
 use Rattle.ipv4_prefix.specs.Prefix.{Prefix, prefix_eq}
 use Rattle.network_model.specs.declared.step.Step.{Step}
 use Rattle.network_model.specs.declared.step.Step.TheVariants.{LinkUp, LinkDown, SetCost, Deliver, Publish, Release, Attach, Detach}
@@ -33,6 +34,18 @@ HoldsOf K w c = K c.prefix c.router w
 -- there is one for each of so many routers and each of these prefixes
 abbrev pub AreWatched : ℕ → List Prefix → List Watched → Type 0
 AreWatched count ps cs = (p : Prefix) (i : ℕ) → i < count → list_any (prefix_eq p) ps ≡ true → (since : Option ℕ) × IsListed (watched i p since) cs
+
+-- the router and the prefix that are watched
+abbrev pub watched_at : Watched → Prefix × ℕ
+watched_at c = (c.prefix, c.router)
+
+-- each of so many routers with a prefix, by number
+abbrev pub with_routers : ℕ → Prefix → List (Prefix × ℕ)
+with_routers count p = map (λ i. (p, i)) (range_with_len 0 count)
+
+-- there is just one for each of so many routers and each of these prefixes: by prefixes, as these stand, and then by routers
+abbrev pub AreInOrder : ℕ → List Prefix → List Watched → Type 0
+AreInOrder count ps cs = map watched_at cs ≡ flat_map (with_routers count) ps
 
 -- the record is exact: these events lead from the world w to the world v. A spell that ended stands in the list if and only if there was one; what goes on stands there with the moment at which it began if and only if it does; and where none stands, it does not hold
 pub record IsRecorded (K : Kind) (w : World) (es : List Event) (v : World) (past : List Spell) (cs : List Watched) : Type 0 where
@@ -68,11 +81,12 @@ pub record IsEnding (K : Kind) (v : World) (now : ℕ) (cs : List Watched) (s : 
   pub over : HoldsOf K v was → ⊥
   pub is : s ≡ spell was.router was.prefix from now
 
--- the first of these were looked at, but for some that are left aside; what ended by that was listed, and nothing else
+-- the first of these were looked at, but for some that are left aside. What ended by that was listed behind the others, and nothing else
 pub record AreLooked (K : Kind) (v : World) (now : ℕ) (Aside : Watched → Type 0) (below : ℕ) (old new : List Watched) (before after : List Spell) : Type 0 where
   pub as_many : length new ≡ length old
   pub looked : (x : ℕ) (c d : Watched) → x < below → slice_get old x ≡ Some c → slice_get new x ≡ Some d → ((d ≡ c) × Aside c) ⊎ IsSeen K v now c d
   pub rest : (x : ℕ) → below ≤ x → slice_get new x ≡ slice_get old x
+  pub grown : IsPrefix before after
   pub kept : (s : Spell) → IsListed s before → IsListed s after
   pub made : (s : Spell) → IsListed s after → IsListed s before ⊎ IsEnding K v now old s
   pub listed : (x : ℕ) (c : Watched) (from : ℕ) → x < below → slice_get old x ≡ Some c → c.since ≡ Some from → Aside c ⊎ HoldsOf K v c ⊎ IsListed (spell c.router c.prefix from now) after

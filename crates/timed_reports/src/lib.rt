@@ -35,6 +35,7 @@
 //! spell that ended stands in its list if and only if there was one. What goes on stands there with the moment
 //! at which it began if and only if it goes on. At rest nobody is cut off, and no machine is computing
 //! ([`nothing_goes_on`]). So each spell ends, at the latest with the event after which the network is at rest.
+//! The lists of what ended only grow (`HasGrown`), so you read them on from where you were.
 //!
 //! What is tricky is memory: nothing may be refused after an event is done. So room is made first for all that
 //! may end with it.

@@ -1,8 +1,8 @@
 //! What is recorded of one kind of thing: the spells that ended, and since when others go on.
 
-ghost use Rattle.std.specs.Prelude.{ℕ, ◌≡◌, ◌+◌, ◌<◌, ◌≤◌, ◌++◌, None, Some, IfOk, OnOk, option_to_list, slice_get, slice_set, length};
+ghost use Rattle.std.specs.Prelude.{ℕ, ◌≡◌, ◌+◌, ◌<◌, ◌≤◌, ◌++◌, None, Some, IfOk, OnOk, map, option_to_list, slice_get, slice_set, length};
 ghost use Rattle.std.specs.Vec.{vec_capacity, vec_len};
-ghost use Rattle.timed_reports.specs.Records.{AreWatched, IsListed, ended_by, seen, watched};
+ghost use Rattle.timed_reports.specs.Records.{AreInOrder, AreWatched, IsListed, ended_by, seen, watched, watched_at, with_routers};
 
 use network_model::{NoMemory, Prefix, SmallAllocator};
 
@@ -36,6 +36,8 @@ fn watch_prefix<A: SmallAllocator>(
     ensures each { OnOk result ((i : ℕ) → i < routers → IsListed (watched i prefix None) all.new.items) }
     ensures kept { OnOk result ((c : Watched) → IsListed c all.old.items → IsListed c all.new.items) }
     ensures none { (k : ℕ) (c : Watched) → slice_get all.new.items k ≡ Some c → c.since ≡ None }
+    ensures order { OnOk result (map watched_at all.new.items
+        ≡ map watched_at all.old.items ++ with_routers routers prefix) }
 {
     for place in 0..routers {
         all.push(Watched {
@@ -57,6 +59,7 @@ pub fn watch_all<A: SmallAllocator>(
     ensures each { IfOk result (λ all. AreWatched routers prefixes.now all.items) }
     ensures none { IfOk result (λ all. (k : ℕ) (c : Watched) → slice_get all.items k ≡ Some c
         → c.since ≡ None) }
+    ensures order { IfOk result (λ all. AreInOrder routers prefixes.now all.items) }
 {
     let mut all = Vec::new(alloc);
     for prefix in prefixes {
