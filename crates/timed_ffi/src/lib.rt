@@ -25,8 +25,9 @@
 //! a moment is past, and want of memory last (`given_number` in `specs/Calls.antt`). If a call is done, the
 //! network is what `timed_simulation` says, by the very definitions that its contracts cite. So all that is
 //! proved of a simulation holds of it, at every moment and whatever the delays are. A record is exact, as
-//! `timed_reports` defines that, of all events since the opening (`IsOpened`, `GoesOn` in `specs/Forms.antt`). If
-//! a call is refused, the network stays as it was, and nothing is written but what the contract names.
+//! `timed_reports` defines that, of all events since the opening (`IsOpened`, `GoesOn` in
+//! `specs/Recordings.antt` of `timed_reports`). If a call is refused, the network stays as it was, but for the
+//! events that a run did before. Nothing is written but what the contract names.
 //!
 //! What is tricky is the pointer. As in `network_ffi`, only three small functions touch it (`src/handle.rt`),
 //! and these are proved by hand. What C is shown of the network without its time is that of `network_calls`.
