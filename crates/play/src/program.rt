@@ -22,7 +22,7 @@ use timing::{TimeOptions, time};
 /// read `journal`: the shell reads its commands there, and the run its document of times. A fault is a line on `err`, and where the program stops for it,
 /// it is in `told`. A write to `out` or `err` that fails is lost, and changes nothing else, but that a shell
 /// ends at an answer which nobody reads. Where a run or a shell ends with status 0, its journal's text is added to
-/// `kept`.
+/// `kept`. If memory runs out while that is made, a part of it is there, and the status is 2.
 pub fn play<H, R, J, W, E>(
     rt: &H,
     alloc: Global,
