@@ -209,10 +209,14 @@ fn changes(rt: &impl Abort, alloc: Global, count: u16) -> String {
 fn as_many_changes_as_there_may_be(rt: HostRuntime) {
     let alloc = rt.alloc();
     let scenario =
-        b"routers = [\"a\", \"b\"]\nlinks = [\"a b 1 1\"]\nprefixes = []\nscript = []\n";
+        b"routers = [\"a\", \"b\"]\nlinks = [\"a b 1 1\"]\nprefixes = []\nscript = []\n".as_slice();
     let times = changes(&rt, alloc, 10_000);
     let got = play_in_memory(&rt, alloc, &TIME, scenario, times.as_bytes());
-    assert!(rt; got.out.as_slice().ends_with(b"done: 0 steps, at rest at 0\n"));
+    assert!(rt;
+        got.out
+            .as_slice()
+            .ends_with(b"done: 0 steps, at rest at 0\n")
+    );
     assert_eq!(rt; got.status, 0);
     let times = changes(&rt, alloc, 10_001);
     let got = play_in_memory(&rt, alloc, &TIME, scenario, times.as_bytes());
