@@ -1,12 +1,12 @@
 //! What the libraries for C programs share: the numbers of faults, rows as C has them, and what a handle
 //! owns.
 //!
-//! The problem: C has no `Result`, no enum with fields and no owner. So each call of the two libraries
-//! (`lookup_ffi`, `router_ffi`) answers a number, reads and writes plain structs, and is handed a pointer.
-//! This crate says once what these mean.
+//! The problem: C has no `Result`, no enum with fields and no owner. So each call of the four libraries
+//! (`lookup_ffi`, `router_ffi`, `network_ffi`, `timed_ffi`) answers a number, reads and writes plain structs,
+//! and is handed a pointer. This crate says once what these mean.
 //!
 //! - A *status* is 0, or the number of the [`CallFault`] for which the call was refused. Numbers that the program
-//!   has too (`docs/dualnet.1`) mean the same here. 6 to 9, 36 to 39 and 44 are of the libraries alone.
+//!   has too (`docs/dualnet.1`) mean the same here. 6 to 9, 36 to 39, 44, 50 and 53 are of the libraries alone.
 //! - A [`Row`] is a prefix, and where packets go that it matches. Its `kind` is 0 for local, 1 for via, 2 for
 //!   unreachable, and in answers 3 for no row.
 //! - A *handle* is a pointer to a box, and a flag if there is one. What each library's handle holds and owns
@@ -28,7 +28,7 @@
 //! of other rows are not read. In answers they are 0.
 //!
 //! `include/tuhvondi.h` and `include/tuhvondi_router.h` have the same numbers and structs for C. No proof
-//! compares them with this crate.
+//! compares them with this crate, but `docs/check` compares the numbers.
 #![tactic(auto)]
 
 mod fault;

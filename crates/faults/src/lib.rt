@@ -14,8 +14,8 @@
 //! ```
 //!
 //! The numbers have gaps, because some are only for the libraries for C (`c_interface`). For example, 7 says
-//! there that a handle is empty, and is no kind here. The program prints each kind but 51, a fault of
-//! simulated time that it does not let happen (`timed_simulation`). What a number means to you stands in
+//! there that a handle is empty, and is no kind here. The program never prints some kinds, because it does
+//! not let them happen: 51 (`timed_simulation`), for example. What a number means to you stands in
 //! `explanations`.
 //!
 //! ```text

@@ -22,9 +22,10 @@
 //! first_difference(&printed, journal.report)                             // None, or a line from 1
 //! ```
 //!
-//! What always holds: [`read_journal`] reads a text exactly if it is a journal of this network (`IsJournal`
-//! in `specs/Journal.antt`). If not, the fault says that it is no UTF-8, or names the first line that is not
-//! what stands there (`IsJournalFault`). What [`write_steps`] writes is `journal_text`.
+//! What always holds: [`read_journal`] reads a text if it is a journal of this network (`IsJournal` in
+//! `specs/Journal.antt`) and memory is left, and no other text. If it is none, the fault says that it is no
+//! UTF-8, or names the first line that is not what stands there (`IsJournalFault`). What [`write_steps`]
+//! writes is `journal_text`.
 //!
 //! What is tricky:
 //!
