@@ -90,7 +90,7 @@ impl<B: FabricName, A: SmallAllocator> Fabric<B, A> {
     {
         let world = WatchedWorld::open(alloc, &network)?;
         let images = opening_images(alloc, world.world())?;
-        let journal = Vec::with_capacity(alloc, MOST_STEPS)?;
+        let journal = Vec::with_capacity(alloc, MOST_STEPS).map_err(|_| Refusal::NoMemory)?;
         let (writers, lists) = open_all::<B, _, R>(rt, alloc, unnamed, images, workers + 1)?;
         let desks = seat_all(rt, alloc, writers)?;
         let Ok((readers, ports)) = deal(alloc, lists, workers) else {

@@ -4,8 +4,8 @@ ghost use Rattle.std.specs.Prelude.{◌≡◌};
 ghost use Rattle.link_fifo.specs.declared.refusal.LinkRefusal.TheVariants.{NoMemory as OutOfMemory};
 
 use faults::FaultKind;
-use network_model::{NoMemory, Refusal};
-use std::alloc::{AllocError, AllocFailed};
+use network_model::Refusal;
+use std::alloc::AllocError;
 use thiserror::Error;
 
 /// Why a call on links is refused. Its text is its number and name.
@@ -37,26 +37,10 @@ impl From<LinkRefusal> for FaultKind {
     }
 }
 
-impl From<NoMemory> for LinkRefusal {
-    ghost from_gives = { λ _ e. e ≡ OutOfMemory };
-
-    fn from(_error: NoMemory) -> LinkRefusal {
-        LinkRefusal::NoMemory
-    }
-}
-
 impl From<AllocError> for LinkRefusal {
     ghost from_gives = { λ _ e. e ≡ OutOfMemory };
 
     fn from(_error: AllocError) -> LinkRefusal {
-        LinkRefusal::NoMemory
-    }
-}
-
-impl<T: Drop> From<AllocFailed<T>> for LinkRefusal {
-    ghost from_gives = { λ _ e. e ≡ OutOfMemory };
-
-    fn from(_error: AllocFailed<T>) -> LinkRefusal {
         LinkRefusal::NoMemory
     }
 }

@@ -8,7 +8,6 @@ use crate::memory::NoMemory;
 use faults::FaultKind;
 use ipv4_prefix::Prefix;
 use metric::Cost;
-use std::alloc::{AllocError, AllocFailed};
 use thiserror::Error;
 
 /// One atomic step of a network. Routers and links go by their numbers, ports by their router's.
@@ -192,22 +191,6 @@ impl From<NoMemory> for Refusal {
     ghost from_gives = { λ _ e. e ≡ OutOfMemory };
 
     fn from(_error: NoMemory) -> Refusal {
-        Refusal::NoMemory
-    }
-}
-
-impl From<AllocError> for Refusal {
-    ghost from_gives = { λ _ e. e ≡ OutOfMemory };
-
-    fn from(_error: AllocError) -> Refusal {
-        Refusal::NoMemory
-    }
-}
-
-impl<T: Drop> From<AllocFailed<T>> for Refusal {
-    ghost from_gives = { λ _ e. e ≡ OutOfMemory };
-
-    fn from(_error: AllocFailed<T>) -> Refusal {
         Refusal::NoMemory
     }
 }

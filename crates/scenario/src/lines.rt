@@ -82,7 +82,8 @@ fn strings(alloc: Global, values: &[Value]) -> Result<Vec<String>, Fault>
     let mut lines = Vec::new(alloc);
     for value in values {
         let text = value.as_str().ok_or(Fault::BadKey)?;
-        lines.push(String::from_str(alloc, text)?)?;
+        let line = String::from_str(alloc, text)?;
+        lines.push(line).map_err(|_| Fault::NoMemory)?;
     }
     Ok(lines)
 }

@@ -101,7 +101,9 @@ impl Names {
         let key = String::from_str(alloc, name)?;
         let name = String::from_str(alloc, name)?;
         self.names.reserve(1)?;
-        self.numbers.insert(key, count)?;
+        self.numbers
+            .insert(key, count)
+            .map_err(|_| LineFault::NoMemory)?;
         self.names.push(name).unwrap();
         Ok(())
     }

@@ -76,12 +76,13 @@ impl Counted {
     {
         let found = self.lookup(router, addr)?;
         let number = self.last.saturating_add(1);
-        self.answers.push(JobAnswer {
+        let answer = JobAnswer {
             number,
             router,
             addr,
             found,
-        })?;
+        };
+        self.answers.push(answer).map_err(|_| Refusal::NoMemory)?;
         self.last = number;
         Ok(())
     }
