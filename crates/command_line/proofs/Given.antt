@@ -1,18 +1,15 @@
 -- From the matches of one command to what they ask for.
-use Rattle.std.proofs.Common.{◌≡◌, ◌≢◌, ◌≤◌, ℕ, Bool, true, false, List, [], Option, Some, None, Result, Ok, Err, IfNone, IfSome, option_map, Bor, refl, sym, ap, subst, ◌∙◌, codes, arith, unwrap_or, length, if◌then◌else◌}
+use Rattle.std.proofs.Common.{◌≡◌, ◌≤◌, ℕ, Bool, true, false, List, [], Option, Some, None, Result, Ok, Err, IfNone, IfSome, option_map, Bor, refl, sym, ap, subst, ◌∙◌, codes, arith, unwrap_or, length, if◌then◌else◌}
 use Rattle.std.specs.Option.{option_map_or}
+use Rattle.std.proofs.lemmas.Option.{none-some}
 use Rattle.std.specs.Str.Parse.{ParsesBool, ParsesUnsigned}
 use Rattle.clap.specs.Words.{Row, Text, first_of, first_value, one_text, rows_of}
 use Rattle.clap.specs.Matches.{ReadsOne}
 use Rattle.clap.specs.declared.parser.matches.Found.{Found}
 use Rattle.clap.proofs.WalkLemmas.{first_value-rows, one_text-rows}
 use Rattle.command_line.specs.Formats.{format_text}
-use Rattle.command_line.specs.Asked.{GoTogether, HasFlag, HasFormat, HasNumber, IsNumberText, IsCheck, IsExplain, IsFlag, IsReplay, IsRun, IsShell, IsTime}
-use Rattle.faults.specs.Numbers.{kind_number}
-use Rattle.faults.specs.declared.kind.FaultKind.{FaultKind}
+use Rattle.command_line.specs.Asked.{GoTogether, HasFlag, HasFormat, HasNumber, IsNumberText, IsFlag}
 use Rattle.command_line.specs.declared.format.Format.{Format}
-use Rattle.command_line.specs.declared.words.Words.{Words}
-use Rattle.command_line.specs.declared.words.Words.TheVariants.{Check, Run, Replay, Time, Explain, Shell}
 
 -- a look-up gives the first text of its rows
 pub text_given : (r : Option (Bor Text)) (f : Found) (id : Text) → option_map (λ s. s.now) r ≡ first_value f id → first_of id (rows_of f) ≡ option_map (λ s. s.now) r
@@ -97,7 +94,7 @@ one_flag rows id false true h k = absurd (omega (arith, ap (λ o. option_map_or 
 one_flag rows id false false h k = refl
 
 -- and one number
-one_number : (rows : List Row) (id : Text) (most m n : ℕ) → HasNumber rows id most m → HasNumber rows id most n → m ≡ n
+pub one_number : (rows : List Row) (id : Text) (most m n : ℕ) → HasNumber rows id most m → HasNumber rows id most n → m ≡ n
 one_number rows id most m n h k =
     let same : h.0 ≡ k.0 = ap (λ o. unwrap_or o []) (sym h.1 ∙ k.1) in
     (subst (λ t. IsNumberText t m) same h.2).1 ∙ sym k.2.1
@@ -127,179 +124,15 @@ no_name rows is o h =
 
 -- ---- matches that ask for nothing
 
-pub no_check : (rows : List Row) → first_of (codes "file") rows ≡ None → (w : Words) → IsCheck rows w → ⊥
-no_check rows none (Check f e) h =
-    let there = h.0 in
-    cc
-no_check rows none (Run f t k j n e o p) h = h
-no_check rows none (Replay f j e o p) h = h
-no_check rows none (Time f t s e o) h = h
-no_check rows none (Explain k) h = h
-no_check rows none (Shell f j n e o) h = h
-
-pub no_run : (rows : List Row) → first_of (codes "file") rows ≡ None → (w : Words) → IsRun rows w → ⊥
-no_run rows none (Check f e) h = h
-no_run rows none (Run f t k j n e o p) h =
-    let there = h.0 in
-    cc
-no_run rows none (Replay f j e o p) h = h
-no_run rows none (Time f t s e o) h = h
-no_run rows none (Explain k) h = h
-no_run rows none (Shell f j n e o) h = h
-
-pub no_threads : (rows : List Row) → ((n : ℕ) → HasNumber rows (codes "threads") 16 n → ⊥) → (w : Words) → IsRun rows w → ⊥
-no_threads rows none (Check f e) h = h
-no_threads rows none (Run f t k j n e o p) h = none t h.1
-no_threads rows none (Replay f j e o p) h = h
-no_threads rows none (Time f t s e o) h = h
-no_threads rows none (Explain k) h = h
-no_threads rows none (Shell f j n e o) h = h
-
-pub no_workers : (rows : List Row) → ((n : ℕ) → HasNumber rows (codes "workers") 16 n → ⊥) → (w : Words) → IsRun rows w → ⊥
-no_workers rows none (Check f e) h = h
-no_workers rows none (Run f t k j n e o p) h = none k h.2
-no_workers rows none (Replay f j e o p) h = h
-no_workers rows none (Time f t s e o) h = h
-no_workers rows none (Explain k) h = h
-no_workers rows none (Shell f j n e o) h = h
-
-pub no_run_format : (rows : List Row) → ((o : Format) → HasFormat rows o → ⊥) → (w : Words) → IsRun rows w → ⊥
-no_run_format rows none (Check f e) h = h
-no_run_format rows none (Run f t k j n e o p) h = none o h.5
-no_run_format rows none (Replay f j e o p) h = h
-no_run_format rows none (Time f t s e o) h = h
-no_run_format rows none (Explain k) h = h
-no_run_format rows none (Shell f j n e o) h = h
-
-pub no_run_flag : (rows : List Row) → ((is : Bool) → HasFlag rows (codes "no-journal") is → ⊥) → (w : Words) → IsRun rows w → ⊥
-no_run_flag rows none (Check f e) h = h
-no_run_flag rows none (Run f t k j n e o p) h = none n h.7
-no_run_flag rows none (Replay f j e o p) h = h
-no_run_flag rows none (Time f t s e o) h = h
-no_run_flag rows none (Explain x) h = h
-no_run_flag rows none (Shell f j n e o) h = h
+-- a look-up that finds none finds nothing
+pub not_found : {t : Text} (rows : List Row) (id : Text) → first_of id rows ≡ None → first_of id rows ≡ Some t → ⊥
+not_found rows id none some = none-some _ (sym none ∙ some)
 
 -- options that do not go together
-pub no_run_together : (rows : List Row) (threads workers : ℕ) (journal : Option (Bor Text)) (no_journal : Bool)
-    → HasNumber rows (codes "threads") 16 threads → HasNumber rows (codes "workers") 16 workers → first_of (codes "journal") rows ≡ option_map (λ path. path.now) journal
-    → HasFlag rows (codes "no-journal") no_journal → ¬ (GoTogether no_journal journal threads workers) → (w : Words) → IsRun rows w → ⊥
-no_run_together rows threads workers journal no_journal at_threads at_workers at_journal at_flag apart (Check f e) h = h
-no_run_together rows threads workers journal no_journal at_threads at_workers at_journal at_flag apart (Run f t k j n e o p) h = apart (λ is.
-    let together = h.8 (one_flag rows (codes "no-journal") n no_journal h.7 at_flag ∙ is) in (
-      none_twice journal j (sym at_journal ∙ h.3) together.0,
-      one_number rows (codes "threads") 16 threads t at_threads h.1 ∙ together.1,
-      one_number rows (codes "workers") 16 workers k at_workers h.2 ∙ together.2,
-    ))
-no_run_together rows threads workers journal no_journal at_threads at_workers at_journal at_flag apart (Replay f j e o p) h = h
-no_run_together rows threads workers journal no_journal at_threads at_workers at_journal at_flag apart (Time f t s e o) h = h
-no_run_together rows threads workers journal no_journal at_threads at_workers at_journal at_flag apart (Explain x) h = h
-no_run_together rows threads workers journal no_journal at_threads at_workers at_journal at_flag apart (Shell f j n e o) h = h
-
-pub no_replay : (rows : List Row) → first_of (codes "file") rows ≡ None → (w : Words) → IsReplay rows w → ⊥
-no_replay rows none (Check f e) h = h
-no_replay rows none (Run f t k j n e o p) h = h
-no_replay rows none (Replay f j e o p) h =
-    let there = h.0 in
-    cc
-no_replay rows none (Time f t s e o) h = h
-no_replay rows none (Explain k) h = h
-no_replay rows none (Shell f j n e o) h = h
-
-pub no_steps : (rows : List Row) → first_of (codes "journal") rows ≡ None → (w : Words) → IsReplay rows w → ⊥
-no_steps rows none (Check f e) h = h
-no_steps rows none (Run f t k j n e o p) h = h
-no_steps rows none (Replay f j e o p) h =
-    let there = h.1 in
-    cc
-no_steps rows none (Time f t s e o) h = h
-no_steps rows none (Explain k) h = h
-no_steps rows none (Shell f j n e o) h = h
-
-pub no_replay_format : (rows : List Row) → ((o : Format) → HasFormat rows o → ⊥) → (w : Words) → IsReplay rows w → ⊥
-no_replay_format rows none (Check f e) h = h
-no_replay_format rows none (Run f t k j n e o p) h = h
-no_replay_format rows none (Replay f j e o p) h = none o h.3
-no_replay_format rows none (Time f t s e o) h = h
-no_replay_format rows none (Explain k) h = h
-no_replay_format rows none (Shell f j n e o) h = h
-
-pub no_time : (rows : List Row) → first_of (codes "file") rows ≡ None → (w : Words) → IsTime rows w → ⊥
-no_time rows none (Check f e) h = h
-no_time rows none (Run f t k j n e o p) h = h
-no_time rows none (Replay f j e o p) h = h
-no_time rows none (Time f t s e o) h =
-    let there = h.0 in
-    cc
-no_time rows none (Explain k) h = h
-no_time rows none (Shell f j n e o) h = h
-
-pub no_times : (rows : List Row) → first_of (codes "times") rows ≡ None → (w : Words) → IsTime rows w → ⊥
-no_times rows none (Check f e) h = h
-no_times rows none (Run f t k j n e o p) h = h
-no_times rows none (Replay f j e o p) h = h
-no_times rows none (Time f t s e o) h =
-    let there = h.1 in
-    cc
-no_times rows none (Explain k) h = h
-no_times rows none (Shell f j n e o) h = h
-
-pub no_time_format : (rows : List Row) → ((o : Format) → HasFormat rows o → ⊥) → (w : Words) → IsTime rows w → ⊥
-no_time_format rows none (Check f e) h = h
-no_time_format rows none (Run f t k j n e o p) h = h
-no_time_format rows none (Replay f j e o p) h = h
-no_time_format rows none (Time f t s e o) h = none o h.4
-no_time_format rows none (Explain k) h = h
-no_time_format rows none (Shell f j n e o) h = h
-
-pub no_explain : (rows : List Row) → ((n : ℕ) → HasNumber rows (codes "number") 55 n → ⊥) → (w : Words) → IsExplain rows w → ⊥
-no_explain rows none (Check f e) h = h
-no_explain rows none (Run f t k j n e o p) h = h
-no_explain rows none (Replay f j e o p) h = h
-no_explain rows none (Time f t s e o) h = h
-no_explain rows none (Explain k) h = none (kind_number k) h
-no_explain rows none (Shell f j n e o) h = h
-
-pub no_kind : (rows : List Row) (n : ℕ) → ((m : ℕ) → HasNumber rows (codes "number") 55 m → n ≡ m) → ((k : FaultKind) → kind_number k ≢ n) → (w : Words) → IsExplain rows w → ⊥
-no_kind rows n same other (Check f e) h = h
-no_kind rows n same other (Run f t k j q e o p) h = h
-no_kind rows n same other (Replay f j e o p) h = h
-no_kind rows n same other (Time f t s e o) h = h
-no_kind rows n same other (Explain k) h = other k (sym (same (kind_number k) h))
-no_kind rows n same other (Shell f j q e o) h = h
-
-pub no_shell : (rows : List Row) → first_of (codes "file") rows ≡ None → (w : Words) → IsShell rows w → ⊥
-no_shell rows none (Check f e) h = h
-no_shell rows none (Run f t k j n e o p) h = h
-no_shell rows none (Replay f j e o p) h = h
-no_shell rows none (Time f t s e o) h = h
-no_shell rows none (Explain k) h = h
-no_shell rows none (Shell f j n e o) h =
-    let there = h.0 in
-    cc
-
-pub no_shell_format : (rows : List Row) → ((o : Format) → HasFormat rows o → ⊥) → (w : Words) → IsShell rows w → ⊥
-no_shell_format rows none (Check f e) h = h
-no_shell_format rows none (Run f t k j n e o p) h = h
-no_shell_format rows none (Replay f j e o p) h = h
-no_shell_format rows none (Time f t s e o) h = h
-no_shell_format rows none (Explain k) h = h
-no_shell_format rows none (Shell f j n e o) h = none o h.3
-
-pub no_shell_flag : (rows : List Row) → ((is : Bool) → HasFlag rows (codes "no-journal") is → ⊥) → (w : Words) → IsShell rows w → ⊥
-no_shell_flag rows none (Check f e) h = h
-no_shell_flag rows none (Run f t k j n e o p) h = h
-no_shell_flag rows none (Replay f j e o p) h = h
-no_shell_flag rows none (Time f t s e o) h = h
-no_shell_flag rows none (Explain k) h = h
-no_shell_flag rows none (Shell f j n e o) h = none n h.4
-
-pub no_shell_together : (rows : List Row) (journal : Option (Bor Text)) (no_journal : Bool) → first_of (codes "journal") rows ≡ option_map (λ path. path.now) journal
-    → HasFlag rows (codes "no-journal") no_journal → ¬ (GoTogether no_journal journal 1 1) → (w : Words) → IsShell rows w → ⊥
-no_shell_together rows journal no_journal at_journal at_flag apart (Check f e) h = h
-no_shell_together rows journal no_journal at_journal at_flag apart (Run f t k j n e o p) h = h
-no_shell_together rows journal no_journal at_journal at_flag apart (Replay f j e o p) h = h
-no_shell_together rows journal no_journal at_journal at_flag apart (Time f t s e o) h = h
-no_shell_together rows journal no_journal at_journal at_flag apart (Explain k) h = h
-no_shell_together rows journal no_journal at_journal at_flag apart (Shell f j n e o) h = apart (λ is.
-    let together = h.5 (one_flag rows (codes "no-journal") n no_journal h.4 at_flag ∙ is) in
-    (none_twice journal j (sym at_journal ∙ h.1) together.0, refl, refl))
+pub not_together : (rows : List Row) (threads workers t k : ℕ) (journal j : Option (Bor Text)) (no_journal n : Bool)
+    → first_of (codes "journal") rows ≡ option_map (λ path. path.now) journal → HasFlag rows (codes "no-journal") no_journal
+    → first_of (codes "journal") rows ≡ option_map (λ path. path.now) j → HasFlag rows (codes "no-journal") n → t ≡ threads → k ≡ workers
+    → ¬ (GoTogether no_journal journal threads workers) → GoTogether n j t k → ⊥
+not_together rows threads workers t k journal j no_journal n at_journal at_flag path flag one two apart together = apart (λ is.
+    let all = together (one_flag rows (codes "no-journal") n no_journal flag at_flag ∙ is) in
+    (none_twice journal j (sym at_journal ∙ path) all.0, sym one ∙ all.1, sym two ∙ all.2))

@@ -1,20 +1,18 @@
 -- What command lines with no options ask for.
-use Rattle.std.proofs.Common.{◌≡◌, ℕ, List, [], Option, Some, None, option_map, ◌*◌, ◌+◌, length, slice_index, Bor, Bool, true, false, true≢false, refl, sym, ap, subst, ◌∙◌, codes, arith, unwrap_or}
+use Rattle.std.proofs.Common.{◌≡◌, ℕ, List, [], Option, Some, None, option_map, length, slice_index, Bor, Bool, true, false, true≢false, refl, sym, ap, subst, ◌∙◌, codes, arith, unwrap_or}
 use Rattle.std.specs.Option.{option_map_or}
 use Rattle.clap.specs.Words.{Row, Text, first_of, one_of}
-use Rattle.command_line.specs.Asked.{ChecksFile, HasFlag, HasFormat, HasNumber, IsAsked, IsFlag, IsNumberText, ReplaysFiles, RunsFile}
+use Rattle.command_line.specs.Asked.{ChecksFile, HasFlag, HasFormat, HasNumber, IsAsked, IsFlag, IsNumberText, ReplaysFiles, RunsFile, command_name}
 use Rattle.command_line.specs.declared.format.Format.{Format}
 use Rattle.command_line.specs.declared.format.Format.TheVariants.{Text as ForPeople, Json}
 use Rattle.command_line.specs.declared.words.Words.{Words}
-use Rattle.command_line.specs.declared.words.Words.TheVariants.{Check, Run, Replay, Time, Explain, Shell}
+use Rattle.command_line.specs.declared.words.Words.TheVariants.{Check, Run, Replay}
+use Rattle.command_line.proofs.Subcommands.{of_check, of_replay, of_run}
 use Rattle.command_line.proofs.Lines.{Seen, seen, seen_check, seen_run, seen_replay}
 
 -- a part of what the matches have
 abbrev part : {X : Type 0} (of : Seen → X) (other : X) → Option Seen → X
 part of other o = option_map_or of o other
-
-abbrev key_seen : Option Seen → ℕ
-key_seen = part (λ s. 256 * length s.name + slice_index s.name 0) 0
 
 abbrev pub given : Text → Bor Text
 given text = record { ref_ptr = (0, 0); now = text }
@@ -41,51 +39,39 @@ module _ (met : Option (Text × List Row)) (file : Text) where
   -- ---- what was asked for is what the line says
 
   pub check_asked : (w : Words) → IsAsked met w → seen met ≡ Some (seen_check file) → ChecksFile file w
-  check_asked (Check f e) h is =
-      let here = ap seen (sym h.1) ∙ is in
-      (ap (λ o. unwrap_or o []) (sym h.2.0 ∙ ap (part (λ s. s.file) None) here), h.2.1.1 (ap (part (λ s. s.explain) None) here))
-  check_asked (Run f t k j n e o p) h is = omega (arith, ap key_seen (ap seen (sym h.1) ∙ is))
-  check_asked (Replay f j e o p) h is = omega (arith, ap key_seen (ap seen (sym h.1) ∙ is))
-  check_asked (Time f t s e o) h is = omega (arith, ap key_seen (ap seen (sym h.1) ∙ is))
-  check_asked (Explain k) h is = omega (arith, ap key_seen (ap seen (sym h.1) ∙ is))
-  check_asked (Shell f j n e o) h is = omega (arith, ap key_seen (ap seen (sym h.1) ∙ is))
+  check_asked w h is =
+      let here : seen (Some (command_name w, h.0)) ≡ Some (seen_check file) = ap seen (sym h.1) ∙ is in
+      of_check (ChecksFile file) h.0 (λ f e asks. (ap (λ o. unwrap_or o []) (sym asks.0 ∙ ap (part (λ s. s.file) None) here), asks.1.1 (ap (part (λ s. s.explain) None) here)))
+      w (ap (part (λ s. s.name) []) here, h.2)
 
   pub run_asked : (w : Words) → IsAsked met w → seen met ≡ Some (seen_run file) → RunsFile file w
-  run_asked (Run f t k j n e o p) h is =
-      let here = ap seen (sym h.1) ∙ is in (
-        ap (λ o. unwrap_or o []) (sym h.2.0 ∙ ap (part (λ s. s.file) None) here),
-        the_one h.0 (codes "threads") t h.2.1 (ap (part (λ s. s.threads) None) here),
-        the_one h.0 (codes "workers") k h.2.2 (ap (part (λ s. s.workers) None) here),
-        no_path j (sym h.2.3 ∙ ap (part (λ s. s.journal) None) here),
-        h.2.4.1 (ap (part (λ s. s.explain) None) here),
-        for_people h.0 o h.2.5 (ap (part (λ s. s.format) None) here),
-        h.2.6.1 (ap (part (λ s. s.progress) None) here),
-        not_given h.0 (codes "no-journal") n h.2.7 (ap (part (λ s. s.no_journal) None) here),
-      )
+  run_asked w h is =
+      let here : seen (Some (command_name w, h.0)) ≡ Some (seen_run file) = ap seen (sym h.1) ∙ is in
+      of_run (RunsFile file) h.0 (λ f t k j n e o p asks. (
+        ap (λ o. unwrap_or o []) (sym asks.0 ∙ ap (part (λ s. s.file) None) here),
+        the_one h.0 (codes "threads") t asks.1 (ap (part (λ s. s.threads) None) here),
+        the_one h.0 (codes "workers") k asks.2 (ap (part (λ s. s.workers) None) here),
+        no_path j (sym asks.3 ∙ ap (part (λ s. s.journal) None) here),
+        asks.4.1 (ap (part (λ s. s.explain) None) here),
+        for_people h.0 o asks.5 (ap (part (λ s. s.format) None) here),
+        asks.6.1 (ap (part (λ s. s.progress) None) here),
+        not_given h.0 (codes "no-journal") n asks.7 (ap (part (λ s. s.no_journal) None) here),
+      )) w (ap (part (λ s. s.name) []) here, h.2)
     where
       no_path : (j : Option (Bor Text)) → option_map (λ path. path.now) j ≡ None → j ≡ None
       no_path None e = refl
       no_path (Some p) e = cc
-  run_asked (Check f e) h is = omega (arith, ap key_seen (ap seen (sym h.1) ∙ is))
-  run_asked (Replay f j e o p) h is = omega (arith, ap key_seen (ap seen (sym h.1) ∙ is))
-  run_asked (Time f t s e o) h is = omega (arith, ap key_seen (ap seen (sym h.1) ∙ is))
-  run_asked (Explain k) h is = omega (arith, ap key_seen (ap seen (sym h.1) ∙ is))
-  run_asked (Shell f j n e o) h is = omega (arith, ap key_seen (ap seen (sym h.1) ∙ is))
 
   pub replay_asked : (journal : Text) (w : Words) → IsAsked met w → seen met ≡ Some (seen_replay file journal) → ReplaysFiles file journal w
-  replay_asked journal (Replay f j e o p) h is =
-      let here = ap seen (sym h.1) ∙ is in (
-        ap (λ o. unwrap_or o []) (sym h.2.0 ∙ ap (part (λ s. s.file) None) here),
-        ap (λ o. unwrap_or o []) (sym h.2.1 ∙ ap (part (λ s. s.journal) None) here),
-        h.2.2.1 (ap (part (λ s. s.explain) None) here),
-        for_people h.0 o h.2.3 (ap (part (λ s. s.format) None) here),
-        h.2.4.1 (ap (part (λ s. s.progress) None) here),
-      )
-  replay_asked journal (Check f e) h is = omega (arith, ap key_seen (ap seen (sym h.1) ∙ is))
-  replay_asked journal (Run f t k j n e o p) h is = omega (arith, ap key_seen (ap seen (sym h.1) ∙ is))
-  replay_asked journal (Time f t s e o) h is = omega (arith, ap key_seen (ap seen (sym h.1) ∙ is))
-  replay_asked journal (Explain k) h is = omega (arith, ap key_seen (ap seen (sym h.1) ∙ is))
-  replay_asked journal (Shell f j n e o) h is = omega (arith, ap key_seen (ap seen (sym h.1) ∙ is))
+  replay_asked journal w h is =
+      let here : seen (Some (command_name w, h.0)) ≡ Some (seen_replay file journal) = ap seen (sym h.1) ∙ is in
+      of_replay (ReplaysFiles file journal) h.0 (λ f j e o p asks. (
+        ap (λ o. unwrap_or o []) (sym asks.0 ∙ ap (part (λ s. s.file) None) here),
+        ap (λ o. unwrap_or o []) (sym asks.1 ∙ ap (part (λ s. s.journal) None) here),
+        asks.2.1 (ap (part (λ s. s.explain) None) here),
+        for_people h.0 o asks.3 (ap (part (λ s. s.format) None) here),
+        asks.4.1 (ap (part (λ s. s.progress) None) here),
+      )) w (ap (part (λ s. s.name) []) here, h.2)
 
 -- ---- something was asked for
 

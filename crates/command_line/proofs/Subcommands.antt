@@ -1,11 +1,14 @@
 -- From the subcommand that was met to what it asks for.
-use Rattle.std.proofs.Common.{◌≡◌, ℕ, List, Option, Some, None, IfNone, option_map, ◌*◌, ◌+◌, length, slice_index, Box, sym, ap, subst, ◌∙◌, codes, arith}
+use Rattle.std.proofs.Common.{◌≡◌, ℕ, List, Bool, Bor, Option, Some, None, IfNone, IfSome, option_map, ◌*◌, ◌+◌, length, slice_index, Box, sym, ap, subst, ◌∙◌, codes, arith}
 use Rattle.std.specs.Box.{box_value}
 use Rattle.std.specs.Option.{option_map_or}
+use Rattle.std.proofs.lemmas.Option.{IfSome_then}
+use Rattle.faults.specs.declared.kind.FaultKind.{FaultKind}
 use Rattle.clap.specs.Words.{Row, Text, found_of, rows_of, subcommand_rows}
 use Rattle.clap.specs.declared.parser.matches.SubCommand.{SubCommand}
 use Rattle.clap.specs.declared.parser.matches.ArgMatches.TheViews.{out-SubCommand}
-use Rattle.command_line.specs.Asked.{IsAsked, IsCheck, IsExplain, IsReplay, IsRun, IsShell, IsTime}
+use Rattle.command_line.specs.Asked.{Asks, AsksAs, IsAsked, command_name}
+use Rattle.command_line.specs.declared.format.Format.{Format}
 use Rattle.command_line.specs.declared.words.Words.{Words}
 use Rattle.command_line.specs.declared.words.Words.TheVariants.{Check, Run, Replay, Time, Explain, Shell}
 
@@ -19,62 +22,71 @@ met_rows (Some b) name rows e h =
     let r = ap (λ o. elim o [ Some v ↦ v | None ↦ rows ]) h in
     ap (λ x. Some (x, rows_of (found_of (out-SubCommand (box_value b)).matches))) n ∙ ap (λ x. Some (name, x)) r
 
--- the commands are told apart by the lengths of their names and their first letters
-abbrev name_key : Option (Text × List Row) → ℕ
-name_key met = option_map_or (λ p. 256 * length p.0 + slice_index p.0 0) met 0
-
-abbrev rows_in : List Row → Option (Text × List Row) → List Row
-rows_in other met = option_map_or (λ p. p.1) met other
-
-module _ (met : Option (Text × List Row)) (rows : List Row) where
-  pub no_check_asked : met ≡ Some (codes "check", rows) → ((w : Words) → IsCheck rows w → ⊥) → (w : Words) → IsAsked met w → ⊥
-  no_check_asked is none (Check f e) h = none (Check f e) (subst (λ r. IsCheck r (Check f e)) (sym (ap (rows_in rows) h.1) ∙ ap (rows_in rows) is) h.2)
-  no_check_asked is none (Run f t k j n e o p) h = absurd (omega (arith, sym (ap name_key h.1) ∙ ap name_key is))
-  no_check_asked is none (Replay f j e o p) h = absurd (omega (arith, sym (ap name_key h.1) ∙ ap name_key is))
-  no_check_asked is none (Time f t s e o) h = absurd (omega (arith, sym (ap name_key h.1) ∙ ap name_key is))
-  no_check_asked is none (Explain k) h = absurd (omega (arith, sym (ap name_key h.1) ∙ ap name_key is))
-  no_check_asked is none (Shell f j n e o) h = absurd (omega (arith, sym (ap name_key h.1) ∙ ap name_key is))
-
-  pub no_run_asked : met ≡ Some (codes "run", rows) → ((w : Words) → IsRun rows w → ⊥) → (w : Words) → IsAsked met w → ⊥
-  no_run_asked is none (Check f e) h = absurd (omega (arith, sym (ap name_key h.1) ∙ ap name_key is))
-  no_run_asked is none (Run f t k j n e o p) h = none (Run f t k j n e o p) (subst (λ r. IsRun r (Run f t k j n e o p)) (sym (ap (rows_in rows) h.1) ∙ ap (rows_in rows) is) h.2)
-  no_run_asked is none (Replay f j e o p) h = absurd (omega (arith, sym (ap name_key h.1) ∙ ap name_key is))
-  no_run_asked is none (Time f t s e o) h = absurd (omega (arith, sym (ap name_key h.1) ∙ ap name_key is))
-  no_run_asked is none (Explain k) h = absurd (omega (arith, sym (ap name_key h.1) ∙ ap name_key is))
-  no_run_asked is none (Shell f j n e o) h = absurd (omega (arith, sym (ap name_key h.1) ∙ ap name_key is))
-
-  pub no_replay_asked : met ≡ Some (codes "replay", rows) → ((w : Words) → IsReplay rows w → ⊥) → (w : Words) → IsAsked met w → ⊥
-  no_replay_asked is none (Check f e) h = absurd (omega (arith, sym (ap name_key h.1) ∙ ap name_key is))
-  no_replay_asked is none (Run f t k j n e o p) h = absurd (omega (arith, sym (ap name_key h.1) ∙ ap name_key is))
-  no_replay_asked is none (Replay f j e o p) h = none (Replay f j e o p) (subst (λ r. IsReplay r (Replay f j e o p)) (sym (ap (rows_in rows) h.1) ∙ ap (rows_in rows) is) h.2)
-  no_replay_asked is none (Time f t s e o) h = absurd (omega (arith, sym (ap name_key h.1) ∙ ap name_key is))
-  no_replay_asked is none (Explain k) h = absurd (omega (arith, sym (ap name_key h.1) ∙ ap name_key is))
-  no_replay_asked is none (Shell f j n e o) h = absurd (omega (arith, sym (ap name_key h.1) ∙ ap name_key is))
-
-  pub no_time_asked : met ≡ Some (codes "time", rows) → ((w : Words) → IsTime rows w → ⊥) → (w : Words) → IsAsked met w → ⊥
-  no_time_asked is none (Check f e) h = absurd (omega (arith, sym (ap name_key h.1) ∙ ap name_key is))
-  no_time_asked is none (Run f t k j n e o p) h = absurd (omega (arith, sym (ap name_key h.1) ∙ ap name_key is))
-  no_time_asked is none (Replay f j e o p) h = absurd (omega (arith, sym (ap name_key h.1) ∙ ap name_key is))
-  no_time_asked is none (Time f t s e o) h = none (Time f t s e o) (subst (λ r. IsTime r (Time f t s e o)) (sym (ap (rows_in rows) h.1) ∙ ap (rows_in rows) is) h.2)
-  no_time_asked is none (Explain k) h = absurd (omega (arith, sym (ap name_key h.1) ∙ ap name_key is))
-  no_time_asked is none (Shell f j n e o) h = absurd (omega (arith, sym (ap name_key h.1) ∙ ap name_key is))
-
-  pub no_explain_asked : met ≡ Some (codes "explain", rows) → ((w : Words) → IsExplain rows w → ⊥) → (w : Words) → IsAsked met w → ⊥
-  no_explain_asked is none (Check f e) h = absurd (omega (arith, sym (ap name_key h.1) ∙ ap name_key is))
-  no_explain_asked is none (Run f t k j n e o p) h = absurd (omega (arith, sym (ap name_key h.1) ∙ ap name_key is))
-  no_explain_asked is none (Replay f j e o p) h = absurd (omega (arith, sym (ap name_key h.1) ∙ ap name_key is))
-  no_explain_asked is none (Time f t s e o) h = absurd (omega (arith, sym (ap name_key h.1) ∙ ap name_key is))
-  no_explain_asked is none (Explain k) h = none (Explain k) (subst (λ r. IsExplain r (Explain k)) (sym (ap (rows_in rows) h.1) ∙ ap (rows_in rows) is) h.2)
-  no_explain_asked is none (Shell f j n e o) h = absurd (omega (arith, sym (ap name_key h.1) ∙ ap name_key is))
-
-  pub no_shell_asked : met ≡ Some (codes "shell", rows) → ((w : Words) → IsShell rows w → ⊥) → (w : Words) → IsAsked met w → ⊥
-  no_shell_asked is none (Check f e) h = absurd (omega (arith, sym (ap name_key h.1) ∙ ap name_key is))
-  no_shell_asked is none (Run f t k j n e o p) h = absurd (omega (arith, sym (ap name_key h.1) ∙ ap name_key is))
-  no_shell_asked is none (Replay f j e o p) h = absurd (omega (arith, sym (ap name_key h.1) ∙ ap name_key is))
-  no_shell_asked is none (Time f t s e o) h = absurd (omega (arith, sym (ap name_key h.1) ∙ ap name_key is))
-  no_shell_asked is none (Explain k) h = absurd (omega (arith, sym (ap name_key h.1) ∙ ap name_key is))
-  no_shell_asked is none (Shell f j n e o) h = none (Shell f j n e o) (subst (λ r. IsShell r (Shell f j n e o)) (sym (ap (rows_in rows) h.1) ∙ ap (rows_in rows) is) h.2)
-
 pub passed_on : {A : Type 0} (o : Option A) (P Q : Type 0) → (P → Q) → IfNone o P → IfNone o Q
 passed_on None P Q f h = f h
 passed_on (Some x) P Q f h = tt
+
+-- what the matches of the subcommand that was met ask for
+module _ (met : Option (Text × List Row)) (name : Text) (rows : List Row) (is : met ≡ Some (name, rows)) where
+  pub asked : (r : Option Words) → IfSome r (AsksAs name rows) → IfSome r (IsAsked met)
+  asked r some = IfSome_then r some (λ w it. (rows, is ∙ ap (λ n. Some (n, rows)) (sym it.0), it.1))
+
+  pub none_asked : (r : Option Words) → IfNone r ((w : Words) → AsksAs name rows w → ⊥) → IfNone r ((w : Words) → IsAsked met w → ⊥)
+  none_asked r none = passed_on r _ _ (λ other w it.
+      let same : Some (command_name w, it.0) ≡ Some (name, rows) = sym it.1 ∙ is in
+      other w (ap (λ o. option_map_or (λ p. p.0) o name) same, subst (λ r. Asks r w) (ap (λ o. option_map_or (λ p. p.1) o rows) same) it.2)) none
+
+-- ---- what was asked for, by the name of its command
+
+-- the names are told apart by their lengths and their first letters
+abbrev name_key : Text → ℕ
+name_key name = 256 * length name + slice_index name 0
+
+module _ (P : Words → Type 0) (rows : List Row) where
+  pub of_check : ((f : Bor Text) (e : Bool) → Asks rows (Check f e) → P (Check f e)) → (w : Words) → AsksAs (codes "check") rows w → P w
+  of_check it (Check f e) h = it f e h.1
+  of_check it (Run f t k j n e o p) h = absurd (omega (arith, ap name_key h.0))
+  of_check it (Replay f j e o p) h = absurd (omega (arith, ap name_key h.0))
+  of_check it (Time f t s e o) h = absurd (omega (arith, ap name_key h.0))
+  of_check it (Explain k) h = absurd (omega (arith, ap name_key h.0))
+  of_check it (Shell f j n e o) h = absurd (omega (arith, ap name_key h.0))
+
+  pub of_run : ((f : Bor Text) (t k : ℕ) (j : Option (Bor Text)) (n e : Bool) (o : Format) (p : Bool) → Asks rows (Run f t k j n e o p) → P (Run f t k j n e o p)) → (w : Words) → AsksAs (codes "run") rows w → P w
+  of_run it (Check f e) h = absurd (omega (arith, ap name_key h.0))
+  of_run it (Run f t k j n e o p) h = it f t k j n e o p h.1
+  of_run it (Replay f j e o p) h = absurd (omega (arith, ap name_key h.0))
+  of_run it (Time f t s e o) h = absurd (omega (arith, ap name_key h.0))
+  of_run it (Explain k) h = absurd (omega (arith, ap name_key h.0))
+  of_run it (Shell f j n e o) h = absurd (omega (arith, ap name_key h.0))
+
+  pub of_replay : ((f j : Bor Text) (e : Bool) (o : Format) (p : Bool) → Asks rows (Replay f j e o p) → P (Replay f j e o p)) → (w : Words) → AsksAs (codes "replay") rows w → P w
+  of_replay it (Check f e) h = absurd (omega (arith, ap name_key h.0))
+  of_replay it (Run f t k j n e o p) h = absurd (omega (arith, ap name_key h.0))
+  of_replay it (Replay f j e o p) h = it f j e o p h.1
+  of_replay it (Time f t s e o) h = absurd (omega (arith, ap name_key h.0))
+  of_replay it (Explain k) h = absurd (omega (arith, ap name_key h.0))
+  of_replay it (Shell f j n e o) h = absurd (omega (arith, ap name_key h.0))
+
+  pub of_time : ((f t : Bor Text) (s e : Bool) (o : Format) → Asks rows (Time f t s e o) → P (Time f t s e o)) → (w : Words) → AsksAs (codes "time") rows w → P w
+  of_time it (Check f e) h = absurd (omega (arith, ap name_key h.0))
+  of_time it (Run f t k j n e o p) h = absurd (omega (arith, ap name_key h.0))
+  of_time it (Replay f j e o p) h = absurd (omega (arith, ap name_key h.0))
+  of_time it (Time f t s e o) h = it f t s e o h.1
+  of_time it (Explain k) h = absurd (omega (arith, ap name_key h.0))
+  of_time it (Shell f j n e o) h = absurd (omega (arith, ap name_key h.0))
+
+  pub of_explain : ((k : FaultKind) → Asks rows (Explain k) → P (Explain k)) → (w : Words) → AsksAs (codes "explain") rows w → P w
+  of_explain it (Check f e) h = absurd (omega (arith, ap name_key h.0))
+  of_explain it (Run f t k j n e o p) h = absurd (omega (arith, ap name_key h.0))
+  of_explain it (Replay f j e o p) h = absurd (omega (arith, ap name_key h.0))
+  of_explain it (Time f t s e o) h = absurd (omega (arith, ap name_key h.0))
+  of_explain it (Explain k) h = it k h.1
+  of_explain it (Shell f j n e o) h = absurd (omega (arith, ap name_key h.0))
+
+  pub of_shell : ((f : Bor Text) (j : Option (Bor Text)) (n e : Bool) (o : Format) → Asks rows (Shell f j n e o) → P (Shell f j n e o)) → (w : Words) → AsksAs (codes "shell") rows w → P w
+  of_shell it (Check f e) h = absurd (omega (arith, ap name_key h.0))
+  of_shell it (Run f t k j n e o p) h = absurd (omega (arith, ap name_key h.0))
+  of_shell it (Replay f j e o p) h = absurd (omega (arith, ap name_key h.0))
+  of_shell it (Time f t s e o) h = absurd (omega (arith, ap name_key h.0))
+  of_shell it (Explain k) h = absurd (omega (arith, ap name_key h.0))
+  of_shell it (Shell f j n e o) h = it f j n e o h.1

@@ -42,62 +42,49 @@ GoTogether no_journal journal threads workers =
 abbrev pub HasFormat : List Row → Format → Type 0
 HasFormat rows format = first_of (codes "format") rows ≡ Some (format_text format)
 
--- the matches of `check`: a file
-abbrev pub IsCheck : List Row → Words → Type 0
-IsCheck rows (Check file explain) = (first_of (codes "file") rows ≡ Some file.now)
-    × IsFlag rows (codes "explain") explain
-IsCheck rows _ = ⊥
+-- the name of the command that was asked for
+abbrev pub command_name : Words → Text
+command_name (Check _ _) = codes "check"
+command_name (Run _ _ _ _ _ _ _ _) = codes "run"
+command_name (Replay _ _ _ _ _) = codes "replay"
+command_name (Time _ _ _ _ _) = codes "time"
+command_name (Explain _) = codes "explain"
+command_name (Shell _ _ _ _ _) = codes "shell"
 
--- the matches of `run`: a file, two numbers, a path where one is given, and a format; if the options do not go together, they ask for nothing
-abbrev pub IsRun : List Row → Words → Type 0
-IsRun rows (Run file threads workers journal no_journal explain format progress) = (first_of (codes "file") rows ≡ Some file.now)
+-- the matches of its command ask for this
+abbrev pub Asks : List Row → Words → Type 0
+-- a file
+Asks rows (Check file explain) = (first_of (codes "file") rows ≡ Some file.now)
+    × IsFlag rows (codes "explain") explain
+-- a file, two numbers, a path if one is given, and a format; if the options do not go together, nothing is asked for
+Asks rows (Run file threads workers journal no_journal explain format progress) = (first_of (codes "file") rows ≡ Some file.now)
     × HasNumber rows (codes "threads") 16 threads × HasNumber rows (codes "workers") 16 workers
     × (first_of (codes "journal") rows ≡ option_map (λ path. path.now) journal)
     × IsFlag rows (codes "explain") explain × HasFormat rows format × IsFlag rows (codes "progress") progress
     × HasFlag rows (codes "no-journal") no_journal × GoTogether no_journal journal threads workers
-IsRun rows _ = ⊥
-
--- the matches of `replay`: two files, and a format
-abbrev pub IsReplay : List Row → Words → Type 0
-IsReplay rows (Replay file journal explain format progress) = (first_of (codes "file") rows ≡ Some file.now)
+-- two files, and a format
+Asks rows (Replay file journal explain format progress) = (first_of (codes "file") rows ≡ Some file.now)
     × (first_of (codes "journal") rows ≡ Some journal.now)
     × IsFlag rows (codes "explain") explain × HasFormat rows format × IsFlag rows (codes "progress") progress
-IsReplay rows _ = ⊥
-
--- the matches of `time`: two files, if spells are asked for, and a format
-abbrev pub IsTime : List Row → Words → Type 0
-IsTime rows (Time file times spells explain format) = (first_of (codes "file") rows ≡ Some file.now)
+-- two files, whether spells are asked for, and a format
+Asks rows (Time file times spells explain format) = (first_of (codes "file") rows ≡ Some file.now)
     × (first_of (codes "times") rows ≡ Some times.now)
     × IsFlag rows (codes "spells") spells × IsFlag rows (codes "explain") explain × HasFormat rows format
-IsTime rows _ = ⊥
-
--- the matches of `explain`: the number of a fault
-abbrev pub IsExplain : List Row → Words → Type 0
-IsExplain rows (Explain kind) = HasNumber rows (codes "number") 55 (kind_number kind)
-IsExplain rows _ = ⊥
-
--- the matches of `shell`: a file, a path where one is given, and a format; if the options do not go together, they ask for nothing
-abbrev pub IsShell : List Row → Words → Type 0
-IsShell rows (Shell file journal no_journal explain format) = (first_of (codes "file") rows ≡ Some file.now)
+-- the number of a fault
+Asks rows (Explain kind) = HasNumber rows (codes "number") 55 (kind_number kind)
+-- a file, a path if one is given, and a format; if the options do not go together, nothing is asked for
+Asks rows (Shell file journal no_journal explain format) = (first_of (codes "file") rows ≡ Some file.now)
     × (first_of (codes "journal") rows ≡ option_map (λ path. path.now) journal)
     × IsFlag rows (codes "explain") explain × HasFormat rows format
     × HasFlag rows (codes "no-journal") no_journal × GoTogether no_journal journal 1 1
-IsShell rows _ = ⊥
+
+-- the matches of the command of this name ask for this
+abbrev pub AsksAs : Text → List Row → Words → Type 0
+AsksAs name rows words = (command_name words ≡ name) × Asks rows words
 
 -- the subcommand that was met, with its matches, asks for this
 abbrev pub IsAsked : Option (Text × List Row) → Words → Type 0
-IsAsked met (Check file explain) =
-    (rows : List Row) × (met ≡ Some (codes "check", rows)) × IsCheck rows (Check file explain)
-IsAsked met (Run file threads workers journal no_journal explain format progress) = (rows : List Row)
-    × (met ≡ Some (codes "run", rows)) × IsRun rows (Run file threads workers journal no_journal explain format progress)
-IsAsked met (Replay file journal explain format progress) = (rows : List Row)
-    × (met ≡ Some (codes "replay", rows)) × IsReplay rows (Replay file journal explain format progress)
-IsAsked met (Time file times spells explain format) = (rows : List Row)
-    × (met ≡ Some (codes "time", rows)) × IsTime rows (Time file times spells explain format)
-IsAsked met (Explain kind) =
-    (rows : List Row) × (met ≡ Some (codes "explain", rows)) × IsExplain rows (Explain kind)
-IsAsked met (Shell file journal no_journal explain format) = (rows : List Row)
-    × (met ≡ Some (codes "shell", rows)) × IsShell rows (Shell file journal no_journal explain format)
+IsAsked met words = (rows : List Row) × (met ≡ Some (command_name words, rows)) × Asks rows words
 
 -- the words are the program's name, the command and a file, which does not begin with a hyphen
 pub record IsFileLine (command file : Text) (words : List Text) : Type 0 where

@@ -1,5 +1,5 @@
 -- The program's command line, as clap's definition reads it.
-use Rattle.std.specs.Prelude.{◌≡◌, List, [], ◌∷◌, Some, codes, pos, true, false}
+use Rattle.std.specs.Prelude.{◌≡◌, List, [], ◌∷◌, Some, codes, fold, pos, true, false}
 use Rattle.clap.specs.Words.{App, Rule, Text, Kinds, app_of, fault_of, new_app, new_rule, with_rule, with_subcommand}
 use Rattle.clap.specs.Kinds.{or_else}
 use Rattle.clap.specs.declared.error.kind.ErrorKind.TheVariants.{InvalidValue}
@@ -8,66 +8,72 @@ use Rattle.clap.specs.declared.builder.command.Command.{Command}
 use Rattle.clap.specs.declared.builder.command.Command.TheViews.{out-Command}
 use Rattle.clap.specs.declared.builder.value_parser.ValueParser.TheVariants.{Signed}
 use Rattle.clap.specs.declared.builder.action.ArgAction.TheVariants.{SetTrue}
+use Rattle.command_line.specs.declared.arguments.Argument.{Argument}
+use Rattle.command_line.specs.declared.arguments.Shape.{Shape}
+use Rattle.command_line.specs.declared.arguments.Shape.TheVariants.{Word, FreeWord, Known, Number, Value, Output, Choice, Flag}
 
+-- the rule of an argument of this shape and name
+abbrev pub rule_as : Shape → Text → Rule
 -- a word that has to be there
-abbrev pub file_rule : Text → Rule
-file_rule id = record (new_rule id) { value_names = 1; required = true }
-
--- an option with a number of 1 to 16, which is 1 where it is left out
-abbrev pub number_rule : Text → Rule
-number_rule id = record (new_rule id) {
+rule_as Word id = record (new_rule id) { value_names = 1; required = true }
+-- a word that may be left out
+rule_as FreeWord id = record (new_rule id) { value_names = 1 }
+-- a number of 1 to 55 that has to be there
+rule_as Known id = record (new_rule id) { value_names = 1; required = true; parser = Some (Signed (pos 1) (pos 55)) }
+-- an option with a number of 1 to 16, which is 1 if it is left out
+rule_as Number id = record (new_rule id) {
   long = Some id;
   value_names = 1;
   parser = Some (Signed (pos 1) (pos 16));
   defaults = codes "1" ∷ [];
 }
-
--- an option with a path, which may be left out
-abbrev pub path_rule : Text → Rule
-path_rule id = record (new_rule id) { long = Some id; value_names = 1 }
-
--- an option with a word, which is `text` where it is left out
-abbrev pub choice_rule : Text → Rule
-choice_rule id = record (new_rule id) { long = Some id; value_names = 1; defaults = codes "text" ∷ [] }
-
+-- an option with a value, which may be left out
+rule_as Value id = record (new_rule id) { long = Some id; value_names = 1 }
+-- the same, for which `-o` is short
+rule_as Output id = record (new_rule id) { long = Some id; short = Some 111; value_names = 1 }
+-- an option with a word, which is `text` if it is left out
+rule_as Choice id = record (new_rule id) { long = Some id; value_names = 1; defaults = codes "text" ∷ [] }
 -- an option with no value, which may be left out
-abbrev pub flag_rule : Text → Rule
-flag_rule id = record (new_rule id) { long = Some id; action = Some SetTrue }
+rule_as Flag id = record (new_rule id) { long = Some id; action = Some SetTrue }
 
--- a number of 1 to 55 that has to be there
-abbrev pub known_rule : Text → Rule
-known_rule id = record (new_rule id) { value_names = 1; required = true; parser = Some (Signed (pos 1) (pos 55)) }
+abbrev pub argument_rule : Argument → Rule
+argument_rule a = rule_as a.shape (a.id).now
+
+-- a command of this name, with these rules
+abbrev pub app_with : Text → List Rule → App
+app_with name rules = fold with_rule (new_app name) rules
 
 -- `check FILE [--explain]`
 abbrev pub check_app : App
-check_app = with_rule (with_rule (new_app (codes "check")) (file_rule (codes "file"))) (flag_rule (codes "explain"))
+check_app = app_with (codes "check") (rule_as Word (codes "file") ∷ rule_as Flag (codes "explain") ∷ [])
 
 -- `run FILE [--threads N] [--workers N] [--journal PATH] [--no-journal] [--explain] [--format FORMAT] [--progress]`
 abbrev pub run_app : App
-run_app = with_rule (with_rule (with_rule (with_rule (with_rule (with_rule (with_rule (with_rule (new_app (codes "run"))
-    (file_rule (codes "file"))) (number_rule (codes "threads"))) (number_rule (codes "workers")))
-    (path_rule (codes "journal"))) (flag_rule (codes "no-journal"))) (flag_rule (codes "explain")))
-    (choice_rule (codes "format"))) (flag_rule (codes "progress"))
+run_app = app_with (codes "run") (
+    rule_as Word (codes "file") ∷ rule_as Number (codes "threads") ∷ rule_as Number (codes "workers") ∷ rule_as Value (codes "journal")
+    ∷ rule_as Flag (codes "no-journal") ∷ rule_as Flag (codes "explain") ∷ rule_as Choice (codes "format") ∷ rule_as Flag (codes "progress") ∷ [])
 
 -- `replay FILE JOURNAL [--explain] [--format FORMAT] [--progress]`
 abbrev pub replay_app : App
-replay_app = with_rule (with_rule (with_rule (with_rule (with_rule (new_app (codes "replay")) (file_rule (codes "file")))
-    (file_rule (codes "journal"))) (flag_rule (codes "explain"))) (choice_rule (codes "format")))
-    (flag_rule (codes "progress"))
+replay_app = app_with (codes "replay") (
+    rule_as Word (codes "file") ∷ rule_as Word (codes "journal") ∷ rule_as Flag (codes "explain") ∷ rule_as Choice (codes "format")
+    ∷ rule_as Flag (codes "progress") ∷ [])
 
 -- `time FILE TIMES [--spells] [--explain] [--format FORMAT]`
 abbrev pub time_app : App
-time_app = with_rule (with_rule (with_rule (with_rule (with_rule (new_app (codes "time")) (file_rule (codes "file")))
-    (file_rule (codes "times"))) (flag_rule (codes "spells"))) (flag_rule (codes "explain"))) (choice_rule (codes "format"))
+time_app = app_with (codes "time") (
+    rule_as Word (codes "file") ∷ rule_as Word (codes "times") ∷ rule_as Flag (codes "spells") ∷ rule_as Flag (codes "explain")
+    ∷ rule_as Choice (codes "format") ∷ [])
 
 -- `explain NUMBER`
 abbrev pub explain_app : App
-explain_app = with_rule (new_app (codes "explain")) (known_rule (codes "number"))
+explain_app = app_with (codes "explain") (rule_as Known (codes "number") ∷ [])
 
 -- `shell FILE [--journal PATH] [--no-journal] [--explain] [--format FORMAT]`
 abbrev pub shell_app : App
-shell_app = with_rule (with_rule (with_rule (with_rule (with_rule (new_app (codes "shell")) (file_rule (codes "file")))
-    (path_rule (codes "journal"))) (flag_rule (codes "no-journal"))) (flag_rule (codes "explain"))) (choice_rule (codes "format"))
+shell_app = app_with (codes "shell") (
+    rule_as Word (codes "file") ∷ rule_as Value (codes "journal") ∷ rule_as Flag (codes "no-journal") ∷ rule_as Flag (codes "explain")
+    ∷ rule_as Choice (codes "format") ∷ [])
 
 -- the program, which has to be given one of its commands
 abbrev pub program : App

@@ -1,26 +1,19 @@
 -- The command line of the program that shows a run, as clap's definition reads it, and what its matches ask for.
-use Rattle.std.specs.Prelude.{◌≡◌, List, [], ◌∷◌, Some, option_map, codes, false, true, is_some}
-use Rattle.clap.specs.Words.{App, Rule, Row, Text, Kinds, fault_of, first_of, new_app, new_rule, with_rule}
+use Rattle.std.specs.Prelude.{◌≡◌, List, [], ◌∷◌, Some, option_map, codes, false, true, fold, is_some}
+use Rattle.clap.specs.Words.{App, Row, Text, Kinds, fault_of, first_of, new_app, with_rule}
 use Rattle.clap.specs.Kinds.{or_else}
 use Rattle.clap.specs.Simple.{on_top}
 use Rattle.clap.specs.declared.error.kind.ErrorKind.TheVariants.{InvalidValue}
 use Rattle.command_line.specs.Asked.{IsFlag}
-use Rattle.command_line.specs.Commands.{file_rule, flag_rule, path_rule}
+use Rattle.command_line.specs.Commands.{rule_as}
+use Rattle.command_line.specs.declared.arguments.Shape.TheVariants.{Word, FreeWord, Value, Output, Flag}
 use Rattle.command_line.specs.declared.view.ViewWords.{ViewWords}
-
--- a word that may be left out
-abbrev pub word_rule : Text → Rule
-word_rule id = record (new_rule id) { value_names = 1 }
-
--- the option of the file to write to, which `-o` names too
-abbrev pub output_rule : Rule
-output_rule = record (path_rule (codes "output")) { short = Some 111 }
 
 -- `dualnet-view FILE [JOURNAL] [--times PATH] [--output PATH] [--json]`
 abbrev pub view_program : App
-view_program = with_rule (with_rule (with_rule (with_rule (with_rule
-    (on_top (λ s. record s { has_version = true }) (new_app (codes "dualnet-view")))
-    (file_rule (codes "file"))) (word_rule (codes "journal"))) (path_rule (codes "times"))) output_rule) (flag_rule (codes "json"))
+view_program = fold with_rule (on_top (λ s. record s { has_version = true }) (new_app (codes "dualnet-view"))) (
+    rule_as Word (codes "file") ∷ rule_as FreeWord (codes "journal") ∷ rule_as Value (codes "times") ∷ rule_as Output (codes "output")
+    ∷ rule_as Flag (codes "json") ∷ [])
 
 -- the matches: a file; a journal, a document of times and an output if they are given; and whether JSON is asked for
 abbrev pub IsView : List Row → ViewWords → Type 0

@@ -1,13 +1,12 @@
 //! The program's commands, as `clap` is told of them.
 
-ghost use Rattle.std.specs.Prelude.{◌≡◌, IfOk, codes, false, pos};
-ghost use Rattle.clap.specs.declared.builder.value_parser.ValueParser.TheVariants.{Signed};
-ghost use Rattle.clap.specs.Words.{app_of, kind_of, rule_of};
-ghost use Rattle.command_line.specs.Commands.{IsProgramCommand, check_app, choice_rule, explain_app, file_rule, flag_rule, known_rule, number_rule, path_rule, program, replay_app, run_app, shell_app, time_app};
+ghost use Rattle.std.specs.Prelude.{◌≡◌, IfOk};
+ghost use Rattle.clap.specs.Words.{app_of, kind_of};
+ghost use Rattle.command_line.specs.Commands.{IsProgramCommand, check_app, explain_app, program, replay_app, run_app, shell_app, time_app};
 
-use clap::builder::ValueParser;
+use crate::arguments::{Argument, Shape, command_of};
 use clap::error::ErrorKind;
-use clap::{Arg, ArgAction, Command, Error, value_parser};
+use clap::{Command, Error};
 use std::alloc::{AllocError, Global};
 
 /// The error of a command line of which a word is not UTF-8.
@@ -114,240 +113,159 @@ pub(crate) fn program_command<'a>(alloc: Global) -> Result<Command<'a>, AllocErr
 fn check_command<'a>(alloc: Global) -> Result<Command<'a>, AllocError>
     ensures { IfOk result (IsProgramCommand check_app) }
 {
-    Command::new(alloc, "check")
-        .about("Checks a scenario, and prints its size or its first fault")
-        .after_help("Example:\n  dualnet check examples/two-routers.toml")
-        .arg(scenario_arg(alloc))?
-        .arg(explain_arg(alloc))
+    command_of(
+        alloc,
+        "check",
+        "Checks a scenario, and prints its size or its first fault",
+        "Example:\n  dualnet check examples/two-routers.toml",
+        &[FILE, EXPLAIN],
+    )
 }
 
 fn run_command<'a>(alloc: Global) -> Result<Command<'a>, AllocError>
     ensures { IfOk result (IsProgramCommand run_app) }
 {
-    let threads = number_arg(
+    command_of(
         alloc,
-        "threads",
-        "Let up to N threads do the steps of a settle: 1 to 16",
-    );
-    let workers = number_arg(
-        alloc,
-        "workers",
-        "Let N threads answer the packets of inject: 1 to 16",
-    );
-    Command::new(alloc, "run")
-        .about("Opens the network of a scenario, and does the commands of its script")
-        .after_help(
-            "Example:\n  dualnet run examples/two-routers.toml --threads 4 --journal two-routers.journal",
-        )
-        .arg(scenario_arg(alloc))?
-        .arg(threads)?
-        .arg(workers)?
-        .arg(journal_arg(alloc))?
-        .arg(no_journal_arg(alloc))?
-        .arg(explain_arg(alloc))?
-        .arg(format_arg(alloc))?
-        .arg(progress_arg(alloc))
+        "run",
+        "Opens the network of a scenario, and does the commands of its script",
+        "Example:\n  dualnet run examples/two-routers.toml --threads 4 --journal two-routers.journal",
+        &[
+            FILE, THREADS, WORKERS, JOURNAL, NO_JOURNAL, EXPLAIN, FORMAT, PROGRESS,
+        ],
+    )
 }
 
 fn replay_command<'a>(alloc: Global) -> Result<Command<'a>, AllocError>
     ensures { IfOk result (IsProgramCommand replay_app) }
 {
-    let journal = file_arg(
+    command_of(
         alloc,
-        "journal",
-        "JOURNAL",
-        "Journal that a run of this scenario wrote",
-    );
-    Command::new(alloc, "replay")
-        .about("Does the steps of a journal again, and compares how the network ends")
-        .after_help("Example:\n  dualnet replay examples/two-routers.toml two-routers.journal")
-        .arg(scenario_arg(alloc))?
-        .arg(journal)?
-        .arg(explain_arg(alloc))?
-        .arg(format_arg(alloc))?
-        .arg(progress_arg(alloc))
+        "replay",
+        "Does the steps of a journal again, and compares how the network ends",
+        "Example:\n  dualnet replay examples/two-routers.toml two-routers.journal",
+        &[FILE, GIVEN_JOURNAL, EXPLAIN, FORMAT, PROGRESS],
+    )
 }
 
 fn time_command<'a>(alloc: Global) -> Result<Command<'a>, AllocError>
     ensures { IfOk result (IsProgramCommand time_app) }
 {
-    let times = file_arg(
+    command_of(
         alloc,
-        "times",
-        "TIMES",
-        "Delays, and changes with their moments: a TOML file",
-    );
-    let spells = flag_arg(
-        alloc,
-        "spells",
-        "Print who was in a computation, and who had no way, from when until when",
-    );
-    Command::new(alloc, "time")
-        .about(
-            "Runs the network of a scenario in simulated time, and prints a line for each change",
-        )
-        .after_help("Example:\n  dualnet time examples/ring.toml examples/ring-times.toml --spells")
-        .arg(scenario_arg(alloc))?
-        .arg(times)?
-        .arg(spells)?
-        .arg(explain_arg(alloc))?
-        .arg(format_arg(alloc))
+        "time",
+        "Runs the network of a scenario in simulated time, and prints a line for each change",
+        "Example:\n  dualnet time examples/ring.toml examples/ring-times.toml --spells",
+        &[FILE, TIMES, SPELLS, EXPLAIN, FORMAT],
+    )
 }
 
 fn explain_command<'a>(alloc: Global) -> Result<Command<'a>, AllocError>
     ensures { IfOk result (IsProgramCommand explain_app) }
 {
-    Command::new(alloc, "explain")
-        .about("Explains a number that the program prints: when it comes, and what to do")
-        .after_help("Example:\n  dualnet explain 45")
-        .arg(known_arg(alloc))
+    command_of(
+        alloc,
+        "explain",
+        "Explains a number that the program prints: when it comes, and what to do",
+        "Example:\n  dualnet explain 45",
+        &[NUMBER],
+    )
 }
 
 fn shell_command<'a>(alloc: Global) -> Result<Command<'a>, AllocError>
     ensures { IfOk result (IsProgramCommand shell_app) }
 {
-    Command::new(alloc, "shell")
-        .about("Opens the network of a scenario, and does the commands that you type")
-        .after_help("Example:\n  dualnet shell examples/ring.toml")
-        .arg(scenario_arg(alloc))?
-        .arg(journal_arg(alloc))?
-        .arg(no_journal_arg(alloc))?
-        .arg(explain_arg(alloc))?
-        .arg(format_arg(alloc))
-}
-
-pub(crate) fn scenario_arg<'a>(alloc: Global) -> Arg<'a>
-    ensures rule { rule_of result ≡ file_rule (codes "file") }
-    ensures local { result.global ≡ false }
-{
-    file_arg(
+    command_of(
         alloc,
-        "file",
-        "FILE",
-        "Scenario: a TOML file, or - for the standard input",
+        "shell",
+        "Opens the network of a scenario, and does the commands that you type",
+        "Example:\n  dualnet shell examples/ring.toml",
+        &[FILE, JOURNAL, NO_JOURNAL, EXPLAIN, FORMAT],
     )
 }
 
-fn journal_arg<'a>(alloc: Global) -> Arg<'a>
-    ensures rule { rule_of result ≡ path_rule (codes "journal") }
-    ensures local { result.global ≡ false }
-{
-    path_arg(
-        alloc,
-        "journal",
-        "Write all steps to this file, if the status is 0",
-    )
-}
+// ---- their arguments
 
-fn no_journal_arg<'a>(alloc: Global) -> Arg<'a>
-    ensures rule { rule_of result ≡ flag_rule (codes "no-journal") }
-    ensures local { result.global ≡ false }
-{
-    flag_arg(
-        alloc,
-        "no-journal",
-        "Count the steps and keep none, without a limit, by one thread and one worker; not with --journal",
-    )
-}
+pub(crate) const FILE: Argument = Argument {
+    shape: Shape::Word,
+    id: "file",
+    value: "FILE",
+    help: "Scenario: a TOML file, or - for the standard input",
+};
 
-fn explain_arg<'a>(alloc: Global) -> Arg<'a>
-    ensures rule { rule_of result ≡ flag_rule (codes "explain") }
-    ensures local { result.global ≡ false }
-{
-    flag_arg(
-        alloc,
-        "explain",
-        "Print below a fault where it is, and what to do; print more of a state",
-    )
-}
+const THREADS: Argument = Argument {
+    shape: Shape::Number,
+    id: "threads",
+    value: "N",
+    help: "Let up to N threads do the steps of a settle: 1 to 16",
+};
 
-fn format_arg<'a>(alloc: Global) -> Arg<'a>
-    ensures rule { rule_of result ≡ choice_rule (codes "format") }
-    ensures local { result.global ≡ false }
-{
-    Arg::new(alloc, "format")
-        .long("format")
-        .value_name("FORMAT")
-        .help("Print text, or json: an object on each line")
-        .default_value("text")
-}
+const WORKERS: Argument = Argument {
+    shape: Shape::Number,
+    id: "workers",
+    value: "N",
+    help: "Let N threads answer the packets of inject: 1 to 16",
+};
 
-fn progress_arg<'a>(alloc: Global) -> Arg<'a>
-    ensures rule { rule_of result ≡ flag_rule (codes "progress") }
-    ensures local { result.global ≡ false }
-{
-    flag_arg(
-        alloc,
-        "progress",
-        "Print on the standard error how much is done",
-    )
-}
+const JOURNAL: Argument = Argument {
+    shape: Shape::Value,
+    id: "journal",
+    value: "PATH",
+    help: "Write all steps to this file, if the status is 0",
+};
 
-// A word that has to be there.
-fn file_arg<'a>(alloc: Global, id: &'a str, value: &'a str, help: &'a str) -> Arg<'a>
-    ensures rule { rule_of result ≡ file_rule id.entry.now }
-    ensures local { result.global ≡ false }
-{
-    Arg::new(alloc, id)
-        .value_name(value)
-        .help(help)
-        .required(true)
-}
+const NO_JOURNAL: Argument = Argument {
+    shape: Shape::Flag,
+    id: "no-journal",
+    value: "",
+    help: "Count the steps and keep none, without a limit, by one thread and one worker; not with --journal",
+};
 
-// An option with a number of 1 to 16, which is 1 if it is left out.
-fn number_arg<'a>(alloc: Global, id: &'a str, help: &'a str) -> Arg<'a>
-    ensures rule { rule_of result ≡ number_rule id.entry.now }
-    ensures local { result.global ≡ false }
-{
-    Arg::new(alloc, id)
-        .long(id)
-        .value_name("N")
-        .help(help)
-        .value_parser(small_number())
-        .default_value("1")
-}
+const GIVEN_JOURNAL: Argument = Argument {
+    shape: Shape::Word,
+    id: "journal",
+    value: "JOURNAL",
+    help: "Journal that a run of this scenario wrote",
+};
 
-// A number of 1 to 16.
-fn small_number<'a>() -> ValueParser<'a>
-    ensures { result ≡ Signed (pos 1) (pos 16) }
-{
-    value_parser!(u8).range(1..=16)
-}
+const TIMES: Argument = Argument {
+    shape: Shape::Word,
+    id: "times",
+    value: "TIMES",
+    help: "Delays, and changes with their moments: a TOML file",
+};
 
-// The number of a fault: 1 to 55.
-fn known_number<'a>() -> ValueParser<'a>
-    ensures { result ≡ Signed (pos 1) (pos 55) }
-{
-    value_parser!(u8).range(1..=55)
-}
+const SPELLS: Argument = Argument {
+    shape: Shape::Flag,
+    id: "spells",
+    value: "",
+    help: "Print who was in a computation, and who had no way, from when until when",
+};
 
-// The number of a fault, which has to be there.
-fn known_arg<'a>(alloc: Global) -> Arg<'a>
-    ensures rule { rule_of result ≡ known_rule (codes "number") }
-    ensures local { result.global ≡ false }
-{
-    Arg::new(alloc, "number")
-        .value_name("NUMBER")
-        .help("Number that the program printed, for example 45 of `45 BadCommand`")
-        .required(true)
-        .value_parser(known_number())
-}
+const NUMBER: Argument = Argument {
+    shape: Shape::Known,
+    id: "number",
+    value: "NUMBER",
+    help: "Number that the program printed, for example 45 of `45 BadCommand`",
+};
 
-// An option with no value, which may be left out.
-pub(crate) fn flag_arg<'a>(alloc: Global, id: &'a str, help: &'a str) -> Arg<'a>
-    ensures rule { rule_of result ≡ flag_rule id.entry.now }
-    ensures local { result.global ≡ false }
-{
-    Arg::new(alloc, id)
-        .long(id)
-        .help(help)
-        .action(ArgAction::SetTrue)
-}
+const EXPLAIN: Argument = Argument {
+    shape: Shape::Flag,
+    id: "explain",
+    value: "",
+    help: "Print below a fault where it is, and what to do; print more of a state",
+};
 
-// An option with a path, which may be left out.
-pub(crate) fn path_arg<'a>(alloc: Global, id: &'a str, help: &'a str) -> Arg<'a>
-    ensures rule { rule_of result ≡ path_rule id.entry.now }
-    ensures local { result.global ≡ false }
-{
-    Arg::new(alloc, id).long(id).value_name("PATH").help(help)
-}
+const FORMAT: Argument = Argument {
+    shape: Shape::Choice,
+    id: "format",
+    value: "FORMAT",
+    help: "Print text, or json: an object on each line",
+};
+
+const PROGRESS: Argument = Argument {
+    shape: Shape::Flag,
+    id: "progress",
+    value: "",
+    help: "Print on the standard error how much is done",
+};

@@ -37,6 +37,7 @@
 //! what `--no-journal` goes with. Their errors are told as the other errors of the command line.
 #![tactic(auto)]
 
+mod arguments;
 mod commands;
 mod format;
 mod status;

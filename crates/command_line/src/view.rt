@@ -1,15 +1,15 @@
 //! What the command line of the program that shows a run asks for.
 
-ghost use Rattle.std.specs.Prelude.{◌≡◌, [], IfErr, IfOk, MatchResult, ⊤, codes, false};
-ghost use Rattle.clap.specs.Words.{HasKind, app_of, fault_of, found_of, kind_of, matches_of, rows_of, rule_of};
+ghost use Rattle.std.specs.Prelude.{◌≡◌, [], IfErr, IfOk, MatchResult, ⊤};
+ghost use Rattle.clap.specs.Words.{HasKind, app_of, fault_of, found_of, kind_of, matches_of, rows_of};
 ghost use Rattle.command_line.specs.Asked.{word_texts};
-ghost use Rattle.command_line.specs.Commands.{flag_rule, path_rule};
-ghost use Rattle.command_line.specs.View.{IsView, NamesOneRun, output_rule, view_kinds_of, view_program, word_rule};
+ghost use Rattle.command_line.specs.View.{IsView, NamesOneRun, view_kinds_of, view_program};
 
-use crate::commands::{flag_arg, path_arg, scenario_arg};
+use crate::arguments::{Argument, Shape, with_arguments};
+use crate::commands::FILE;
 use crate::words::flag;
 use clap::error::ErrorKind;
-use clap::{Arg, ArgMatches, Command, Error};
+use clap::{ArgMatches, Command, Error};
 use std::alloc::{AllocError, Global};
 
 /// What the command line asks for: the states of a run.
@@ -38,60 +38,40 @@ Examples:
 fn view_command<'a>(alloc: Global) -> Result<Command<'a>, AllocError>
     ensures { IfOk result (λ c. app_of c ≡ view_program) }
 {
-    Command::new(alloc, "dualnet-view")
+    let command = Command::new(alloc, "dualnet-view")
         .about("Writes the run of a network as a page for a browser, or as lines of JSON")
         .version("0.1.0")
-        .after_help(AFTER_HELP)
-        .arg(scenario_arg(alloc))?
-        .arg(journal_arg(alloc))?
-        .arg(times_arg(alloc))?
-        .arg(output_arg(alloc))?
-        .arg(json_arg(alloc))
+        .after_help(AFTER_HELP);
+    with_arguments(alloc, command, &[FILE, JOURNAL, TIMES, OUTPUT, JSON])
 }
 
-// A word that may be left out.
-fn journal_arg<'a>(alloc: Global) -> Arg<'a>
-    ensures rule { rule_of result ≡ word_rule (codes "journal") }
-    ensures local { result.global ≡ false }
-{
-    Arg::new(alloc, "journal").value_name("JOURNAL").help(
-        "Journal whose steps are shown. If you name none, the script is run",
-    )
-}
+const JOURNAL: Argument = Argument {
+    shape: Shape::FreeWord,
+    id: "journal",
+    value: "JOURNAL",
+    help: "Journal whose steps are shown. If you name none, the script is run",
+};
 
-fn times_arg<'a>(alloc: Global) -> Arg<'a>
-    ensures rule { rule_of result ≡ path_rule (codes "times") }
-    ensures local { result.global ≡ false }
-{
-    path_arg(
-        alloc,
-        "times",
-        "Run the network in simulated time, by this document of times, and not the script",
-    )
-}
+const TIMES: Argument = Argument {
+    shape: Shape::Value,
+    id: "times",
+    value: "PATH",
+    help: "Run the network in simulated time, by this document of times, and not the script",
+};
 
-fn output_arg<'a>(alloc: Global) -> Arg<'a>
-    ensures rule { rule_of result ≡ output_rule }
-    ensures local { result.global ≡ false }
-{
-    path_arg(
-        alloc,
-        "output",
-        "Write to this file, and not to the standard output",
-    )
-    .short('o')
-}
+const OUTPUT: Argument = Argument {
+    shape: Shape::Output,
+    id: "output",
+    value: "PATH",
+    help: "Write to this file, and not to the standard output",
+};
 
-fn json_arg<'a>(alloc: Global) -> Arg<'a>
-    ensures rule { rule_of result ≡ flag_rule (codes "json") }
-    ensures local { result.global ≡ false }
-{
-    flag_arg(
-        alloc,
-        "json",
-        "Write a line of JSON for each state, and no page",
-    )
-}
+const JSON: Argument = Argument {
+    shape: Shape::Flag,
+    id: "json",
+    value: "",
+    help: "Write a line of JSON for each state, and no page",
+};
 
 /// What the words ask for. The first word is the program's name. If you ask for help, it comes as an
 /// error too, and `exit_status` knows it by its kind. A file whose name begins with a hyphen stands

@@ -3,7 +3,7 @@
 ghost use Rattle.std.specs.Prelude.{◌≡◌, ◌↔◌, Bool, IfOk, IfErr, IfSome, IfNone, IsTrue, MatchResult, List, ℕ, [], ⊤, codes};
 ghost use Rattle.clap.specs.Words.{HasKind, Text, fault_of, first_of, kind_of, rows_of, found_of, subcommand_of, subcommand_rows_of};
 ghost use Rattle.command_line.specs.Commands.{program, kinds_of};
-ghost use Rattle.command_line.specs.Asked.{ChecksFile, GoTogether, HasFlag, HasFormat, HasNumber, IsAsked, IsCheck, IsExplain, IsFileLine, IsFlag, IsReplay, IsReplayLine, IsRun, IsShell, IsTime, ReplaysFiles, RunsFile, word_texts};
+ghost use Rattle.command_line.specs.Asked.{AsksAs, ChecksFile, GoTogether, HasFlag, HasFormat, HasNumber, IsAsked, IsFileLine, IsFlag, IsReplayLine, ReplaysFiles, RunsFile, word_texts};
 
 use crate::commands::program_command;
 use crate::format::Format;
@@ -127,8 +127,9 @@ fn read_matches<'a>(matches: &ArgMatches<'a>) -> Option<Words<'a>>
 }
 
 fn check_words<'a>(matches: &ArgMatches<'a>) -> Option<Words<'a>>
-    ensures some { IfSome result (IsCheck (rows_of (found_of matches.now))) }
-    ensures none { IfNone result ((w : Words) → IsCheck (rows_of (found_of matches.now)) w → ⊥) }
+    ensures some { IfSome result (AsksAs (codes "check") (rows_of (found_of matches.now))) }
+    ensures none { IfNone result ((w : Words) → AsksAs (codes "check") (rows_of (found_of matches.now)) w
+        → ⊥) }
 {
     let file = matches.get_str("file")?;
     let explain = flag(matches, "explain");
@@ -136,8 +137,9 @@ fn check_words<'a>(matches: &ArgMatches<'a>) -> Option<Words<'a>>
 }
 
 fn run_words<'a>(matches: &ArgMatches<'a>) -> Option<Words<'a>>
-    ensures some { IfSome result (IsRun (rows_of (found_of matches.now))) }
-    ensures none { IfNone result ((w : Words) → IsRun (rows_of (found_of matches.now)) w → ⊥) }
+    ensures some { IfSome result (AsksAs (codes "run") (rows_of (found_of matches.now))) }
+    ensures none { IfNone result ((w : Words) → AsksAs (codes "run") (rows_of (found_of matches.now)) w
+        → ⊥) }
 {
     let file = matches.get_str("file")?;
     let threads = number(matches, "threads", 16)?;
@@ -163,8 +165,9 @@ fn run_words<'a>(matches: &ArgMatches<'a>) -> Option<Words<'a>>
 }
 
 fn replay_words<'a>(matches: &ArgMatches<'a>) -> Option<Words<'a>>
-    ensures some { IfSome result (IsReplay (rows_of (found_of matches.now))) }
-    ensures none { IfNone result ((w : Words) → IsReplay (rows_of (found_of matches.now)) w → ⊥) }
+    ensures some { IfSome result (AsksAs (codes "replay") (rows_of (found_of matches.now))) }
+    ensures none { IfNone result ((w : Words) → AsksAs (codes "replay") (rows_of (found_of matches.now)) w
+        → ⊥) }
 {
     let file = matches.get_str("file")?;
     let journal = matches.get_str("journal")?;
@@ -181,8 +184,9 @@ fn replay_words<'a>(matches: &ArgMatches<'a>) -> Option<Words<'a>>
 }
 
 fn time_words<'a>(matches: &ArgMatches<'a>) -> Option<Words<'a>>
-    ensures some { IfSome result (IsTime (rows_of (found_of matches.now))) }
-    ensures none { IfNone result ((w : Words) → IsTime (rows_of (found_of matches.now)) w → ⊥) }
+    ensures some { IfSome result (AsksAs (codes "time") (rows_of (found_of matches.now))) }
+    ensures none { IfNone result ((w : Words) → AsksAs (codes "time") (rows_of (found_of matches.now)) w
+        → ⊥) }
 {
     let file = matches.get_str("file")?;
     let times = matches.get_str("times")?;
@@ -199,8 +203,9 @@ fn time_words<'a>(matches: &ArgMatches<'a>) -> Option<Words<'a>>
 }
 
 fn explain_words<'a>(matches: &ArgMatches<'a>) -> Option<Words<'a>>
-    ensures some { IfSome result (IsExplain (rows_of (found_of matches.now))) }
-    ensures none { IfNone result ((w : Words) → IsExplain (rows_of (found_of matches.now)) w → ⊥) }
+    ensures some { IfSome result (AsksAs (codes "explain") (rows_of (found_of matches.now))) }
+    ensures none { IfNone result ((w : Words) → AsksAs (codes "explain") (rows_of (found_of matches.now)) w
+        → ⊥) }
 {
     let number = number(matches, "number", 55)?;
     let kind = FaultKind::of(number)?;
@@ -208,8 +213,9 @@ fn explain_words<'a>(matches: &ArgMatches<'a>) -> Option<Words<'a>>
 }
 
 fn shell_words<'a>(matches: &ArgMatches<'a>) -> Option<Words<'a>>
-    ensures some { IfSome result (IsShell (rows_of (found_of matches.now))) }
-    ensures none { IfNone result ((w : Words) → IsShell (rows_of (found_of matches.now)) w → ⊥) }
+    ensures some { IfSome result (AsksAs (codes "shell") (rows_of (found_of matches.now))) }
+    ensures none { IfNone result ((w : Words) → AsksAs (codes "shell") (rows_of (found_of matches.now)) w
+        → ⊥) }
 {
     let file = matches.get_str("file")?;
     let journal = matches.get_str("journal");

@@ -6,7 +6,7 @@ ghost use Rattle.script.specs.declared.fault.LineFault.TheVariants.{Prefix as Of
 use faults::FaultKind;
 use ipv4_prefix::PrefixFault;
 use metric::BadCost;
-use std::alloc::AllocError;
+use std::alloc::{AllocError, AllocFailed};
 use thiserror::Error;
 
 /// Why the lines of a scenario cannot be read. Its text is its number and name.
@@ -68,6 +68,14 @@ impl From<AllocError> for LineFault {
     ghost from_gives = { λ _ e. e ≡ OutOfMemory };
 
     fn from(_error: AllocError) -> LineFault {
+        LineFault::NoMemory
+    }
+}
+
+impl<T: Drop> From<AllocFailed<T>> for LineFault {
+    ghost from_gives = { λ _ e. e ≡ OutOfMemory };
+
+    fn from(_error: AllocFailed<T>) -> LineFault {
         LineFault::NoMemory
     }
 }

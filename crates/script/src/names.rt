@@ -101,9 +101,7 @@ impl Names {
         let key = String::from_str(alloc, name)?;
         let name = String::from_str(alloc, name)?;
         self.names.reserve(1)?;
-        self.numbers
-            .insert(key, count)
-            .map_err(|_| LineFault::NoMemory)?;
+        self.numbers.insert(key, count)?;
         self.names.push(name).unwrap();
         Ok(())
     }

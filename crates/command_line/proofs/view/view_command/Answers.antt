@@ -3,19 +3,13 @@ use Rattle.std.proofs.lemmas.Result.{IfOk-weaker}
 use Rattle.clap.specs.Words.{new_app}
 use Rattle.clap.specs.Simple.{app_of_fields, on_top}
 use Rattle.command_line.specs.Commands.{IsProgramCommand}
-use Rattle.command_line.proofs.Building.{one_more}
 use Rattle.command_line.proofs.view.view_command.Goals as goal
 
 pub returns : goal.returns
 returns c =
-    let none : IsProgramCommand (on_top (λ s. record s { has_version = true }) (new_app (codes "dualnet-view"))) c.after_help.result = (
-      ap app_of_fields c.after_help.ensures ∙ ap app_of_fields c.version.ensures
+    let none : IsProgramCommand (on_top (λ s. record s { has_version = true }) (new_app (codes "dualnet-view"))) c.after_help-command.result = (
+      ap app_of_fields c.after_help-command.ensures ∙ ap app_of_fields c.version.ensures
           ∙ ap (on_top (λ s. record s { has_version = true })) (ap app_of_fields c.about.ensures ∙ c.new.ensures.app),
-      ap (λ f. f.has_globals) c.after_help.ensures ∙ ap (λ f. f.has_globals) c.version.ensures ∙ ap (λ f. f.has_globals) c.about.ensures ∙ c.new.ensures.local,
+      ap (λ f. f.has_globals) c.after_help-command.ensures ∙ ap (λ f. f.has_globals) c.version.ensures ∙ ap (λ f. f.has_globals) c.about.ensures ∙ c.new.ensures.local,
     ) in
-    let one = one_more c.after_help.result c.in_ok-arg.field-0 c.scenario_arg.result _ _ none c.in_ok-arg.ensures c.scenario_arg.ensures.rule c.scenario_arg.ensures.local in
-    let two = one_more c.in_ok-arg.field-0 c.in_ok-arg-2.field-0 c.journal_arg.result _ _ one c.in_ok-arg-2.ensures c.journal_arg.ensures.rule c.journal_arg.ensures.local in
-    let three = one_more c.in_ok-arg-2.field-0 c.in_ok-arg-3.field-0 c.times_arg.result _ _ two c.in_ok-arg-3.ensures c.times_arg.ensures.rule c.times_arg.ensures.local in
-    let four = one_more c.in_ok-arg-3.field-0 c.in_ok-arg-4.field-0 c.output_arg.result _ _ three c.in_ok-arg-4.ensures c.output_arg.ensures.rule c.output_arg.ensures.local in
-    IfOk-weaker c.arg-5.result _ _
-    (λ m added. (one_more c.in_ok-arg-4.field-0 m c.json_arg.result _ _ four added c.json_arg.ensures.rule c.json_arg.ensures.local).0) c.arg-5.ensures
+    IfOk-weaker c.with_arguments.result _ _ (λ m is. is.0) (c.with_arguments.ensures _ none)

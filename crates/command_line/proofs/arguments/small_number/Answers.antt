@@ -1,6 +1,6 @@
 use Rattle.std.proofs.Common.{ap, pos, Some}
 use Rattle.command_line.proofs.Narrowed.{narrowed}
-use Rattle.command_line.proofs.commands.small_number.Goals as goal
+use Rattle.command_line.proofs.arguments.small_number.Goals as goal
 
 pub returns : goal.returns
 returns c =
