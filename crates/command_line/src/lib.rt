@@ -29,8 +29,11 @@
 //! What always holds: the words that are given are those of the matches that `clap`'s definition has for this
 //! line (`IsAsked` in `specs/Asked.antt`). If that definition finds no fault and a command, the words are
 //! read, but for want of memory (`every`). So are the plain lines `NAME check FILE`, `NAME run FILE` and
-//! `NAME replay FILE JOURNAL`, if no file begins with a hyphen. `specs/Commands.antt` has the options, their ranges and defaults: both numbers are 1 to 16, and 1
-//! if left out.
+//! `NAME replay FILE JOURNAL`, if no file begins with a hyphen.
+//!
+//! Each command has a list of arguments, in `src/commands.rt` for `clap` and in `specs/Commands.antt` for the
+//! proofs. An argument has one of a few shapes (`Shape` in `src/arguments.rt`), which say whether it has to be
+//! there, its range and its default. For example, both numbers of `run` are 1 to 16, and 1 if left out.
 //!
 //! What is tricky: help that is asked for comes as an error, too, because `clap` has it so. Three things are
 //! tested here and not by `clap`: the name of a format, that a number to be explained is printed at all, and
