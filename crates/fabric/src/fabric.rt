@@ -1,6 +1,6 @@
 //! The fabric: a world, the images in force, and the journal.
 
-ghost use Rattle.std.specs.Prelude.{ℕ, None, Some, Err, IsTrue, ◌≡◌, ◌≢◌, ◌⊎◌, ◌≤◌, ◌++◌, ◌+◌, ◌<◌, ◌↔◌, [], ◌∷◌, take, length, slice_get, vec_len, All, IfOk, IfErr, IfSome, IsSome, IsOk, OnOk, OnErr, MatchBool, MatchOption, false};
+ghost use Rattle.std.specs.Prelude.{ℕ, None, Some, Err, IsTrue, ◌≡◌, ◌≢◌, ◌⊎◌, ◌≤◌, ◌++◌, ◌+◌, ◌<◌, ◌↔◌, [], ◌∷◌, take, length, slice_get, vec_capacity, vec_len, All, IfOk, IfErr, IfSome, IsSome, IsOk, OnOk, OnErr, MatchBool, MatchOption, false};
 ghost use Rattle.network_model.specs.World as model;
 ghost use Rattle.network_model.specs.Step as steps;
 ghost use Rattle.network_model.specs.Run.{Runs};
@@ -22,7 +22,7 @@ ghost use Rattle.network_model.specs.Network.{most_workers};
 use crate::desk::{Desk, close_all, seat_all};
 use crate::images::{opening_images, patch_due};
 use crate::ports::deal;
-use network_model::{Answer, Prefix, Refusal, SmallAllocator, Step};
+use network_model::{Answer, NoMemory, Prefix, Refusal, SmallAllocator, Step};
 use publication::{FabricName, ImageReader, Job, Ticket, Told, Unnamed, copy_of, open_all};
 use route_table::RouteTable;
 use std::alloc::Global;
@@ -90,7 +90,7 @@ impl<B: FabricName, A: SmallAllocator> Fabric<B, A> {
     {
         let world = WatchedWorld::open(alloc, &network)?;
         let images = opening_images(alloc, world.world())?;
-        let journal = Vec::with_capacity(alloc, MOST_STEPS).map_err(|_| Refusal::NoMemory)?;
+        let journal = empty_journal(alloc)?;
         let (writers, lists) = open_all::<B, _, R>(rt, alloc, unnamed, images, workers + 1)?;
         let desks = seat_all(rt, alloc, writers)?;
         let Ok((readers, ports)) = deal(alloc, lists, workers) else {
@@ -541,4 +541,12 @@ fn waiting_at<B: FabricName, A: SmallAllocator>(desks: &[Desk<B, A>], router: u1
         Some(desk) => desk.waiting(),
         None => &[],
     }
+}
+
+// An empty journal, with a place for each step that it may have.
+fn empty_journal<A: SmallAllocator>(alloc: A) -> Result<Vec<Step, A>, NoMemory>
+    ensures items { IfOk result (λ v. v.items ≡ []) }
+    ensures capacity { IfOk result (λ v. most_steps ≤ vec_capacity v) }
+{
+    Ok(Vec::with_capacity(alloc, MOST_STEPS)?)
 }
