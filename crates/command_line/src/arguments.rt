@@ -30,7 +30,7 @@ pub(crate) enum Shape {
     Flag,
 }
 
-/// An argument: how it is given, its name, what help calls its value, and what it is for.
+/// An argument: how it is given, its name, what help calls its value (nothing for a flag), and what it is for.
 #[derive(Clone, Copy)]
 pub(crate) struct Argument {
     pub(crate) shape: Shape,

@@ -8,9 +8,9 @@ use Rattle.reports.specs.Ends.{status_at}
 use Rattle.play.specs.Outcomes.{Ends, StopsWords}
 use Rattle.plans.specs.Faults.{status_of}
 
--- a command came to an end, or it stopped for a fault; the status says which, and a journal was kept or
--- not
+-- a command came to an end, and a journal was kept or not; or it stopped for a fault, and nothing was kept; the
+-- status says which
 abbrev pub Gave : Words → Option Text → Option Text → ℕ → Text → Type 0
 Gave words scenario journal status kept =
     ((end : Outcome) × (status ≡ status_at end) × Ends true words scenario journal [] kept end)
-    ⊎ ((fault : Fault) × (status ≡ status_of fault.cause) × StopsWords words scenario journal fault)
+    ⊎ ((fault : Fault) × (status ≡ status_of fault.cause) × StopsWords words scenario journal fault × (kept ≡ []))

@@ -54,7 +54,7 @@ pub struct Outcome {
     pub out: Vec<u8>,
     /// What it printed of a fault.
     pub err: Vec<u8>,
-    /// The text of the journal of a run or a shell that ended with status 0. If memory ran out, a part of it.
+    /// The text of the journal of a run or a shell that ended with status 0.
     pub kept: Vec<u8>,
     /// The fault for which it stopped, where it did.
     pub fault: Option<Fault>,

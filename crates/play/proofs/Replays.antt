@@ -18,7 +18,7 @@ use Rattle.plans.specs.Scenarios.{network_read}
 use Rattle.plans.proofs.Planned.{IsPlanned}
 use Rattle.reports.specs.declared.outcome.Outcome.{Outcome}
 use Rattle.reports.specs.declared.outcome.Outcome.TheVariants.{Done, Refused, Differs}
-use Rattle.play.specs.Replays.{IsJournalOf, Replays, RunsWhole, StepsReplay, StopsReplay}
+use Rattle.play.specs.Replays.{IsJournalOf, Replays, RunsInPlaces, StepsReplay, StepsRun, StopsReplay}
 
 -- the journal is one of the scenario's network
 pub journal_of : (text lines given : Text) (plan : Plan) (names : List Text) (links : List LinkSpec) (attachments : List (Prefix × ℕ × ℕ)) (version : Version) (steps : List Step) (report : Text) → length text ≤ most_bytes → (planned : IsPlanned text plan)
@@ -42,12 +42,12 @@ replay_ends text lines plan planned version steps f g end journal opened replays
     from : (ss : List Step) → Runs f ss g → Runs (opening (network_read planned.0)) ss g
     from ss runs = subst (λ w. Runs w ss g) (opened ∙ ap opening planned.2.network) runs
 
-    whole : (v : Version) → IsJournalOf text lines planned.0 v steps → Runs f steps g → RunsWhole text lines v
-    whole v is_journal runs = record { parts = planned.0; steps = steps; is_journal = is_journal; world = g; runs = from steps runs }
+    whole : (v : Version) → IsJournalOf text lines planned.0 v steps → StepsRun steps f g → RunsInPlaces text lines v
+    whole v is_journal run = (record { parts = planned.0; steps = steps; is_journal = is_journal; world = g; runs = from steps run.1 }, run.0)
 
     by_end : (end : Outcome) → StepsReplay version steps f g end → Replays text lines end
-    by_end Done runs = (version, whole version journal runs)
-    by_end Refused stops = record { parts = planned.0; version = version; steps = steps; is_journal = journal; done = stops.0; world = g; runs = from (take stops.0 steps) stops.2; refused = stops.1; stops = stops.3 }
+    by_end Done run = (version, whole version journal run)
+    by_end Refused stops = record { parts = planned.0; version = version; steps = steps; is_journal = journal; done = stops.0; world = g; few = stops.2; runs = from (take stops.0 steps) stops.3; refused = stops.1; stops = stops.4 }
     by_end Differs differs = whole Two (subst (λ v. IsJournalOf text lines planned.0 v steps) differs.0 journal) differs.1
 
 -- a replay that has not enough memory

@@ -1,8 +1,8 @@
 -- What is done on the network of the plan of a text is done on the network of the text.
 use Rattle.std.specs.Prelude.{⊤}
-use Rattle.std.proofs.Common.{Result, Ok, Err, OnOk, ◌≡◌, ◌≤◌, inl, inr, List, length, subst}
+use Rattle.std.proofs.Common.{Result, Ok, Err, OnOk, ◌≡◌, ◌≤◌, ◌++◌, [], Bool, true, false, Some, unwrap_or, append-nil, inl, inr, List, length, ap, subst, ◌∙◌}
 use Rattle.network_model.specs.World.{Network}
-use Rattle.either.specs.declared.Either.TheVariants.{Left}
+use Rattle.either.specs.declared.Either.TheVariants.{Left, Right}
 use Rattle.fabric.specs.Fabric.{Fabric, opening_fabric}
 use Rattle.texts.specs.Words.{Text}
 use Rattle.script.specs.Directories.{Directory}
@@ -13,6 +13,8 @@ use Rattle.plans.specs.Faults.{most_bytes}
 use Rattle.plans.specs.Scenarios.{network_read}
 use Rattle.plans.proofs.Planned.{IsPlanned}
 use Rattle.sessions.specs.Nets.{Net}
+use Rattle.journal.specs.Journal.{journal_text}
+use Rattle.reports.specs.Ends.{KeepsJournal}
 use Rattle.play.specs.Works.{IsWorked, StopsOn, StopsWork, Works, is_kept, kept}
 
 module _ (opened : Network → Net) (text : Text) (plan : Plan) (short : length text ≤ most_bytes) (planned : IsPlanned text plan) where
@@ -47,3 +49,14 @@ works_kept Done Keeps plan d f g done (Ok x) cs names opens commands comes keeps
       (subst (λ (xs : List Command). Done xs (Left f) (Left g)) commands (subst (λ q. OnOk q (Done cs (Left f) (Left g))) keeps.0 comes)),
   subst (λ (e : Directory). Keeps e g) names keeps.1,
 )
+
+-- what was made of a journal is added behind what is kept
+journal_added : (wanted : Bool) (d : Directory) (f : Fabric) (old none made new : Text) → none ≡ [] → new ≡ old ++ made → KeepsJournal wanted d f (Some none) (Some made) → KeepsJournal wanted d f (Some old) (Some new)
+journal_added true d f old none made new empty added (report, appends) = (report, added ∙ ap (λ bytes. old ++ bytes) (appends ∙ ap (λ bytes. bytes ++ (journal_text d f.network.links f.journal ++ report)) empty))
+journal_added false d f old none made new empty added same =
+    ap Some (added ∙ ap (λ bytes. old ++ bytes) (ap (λ o. unwrap_or o []) same ∙ empty) ∙ append-nil old)
+
+pub works_added : (wanted : Bool) (Done : List Command → Net → Net → Type 0) (plan : Plan) (old none made new : Text) → none ≡ [] → new ≡ old ++ made
+    → Works kept Done (is_kept (λ d f. KeepsJournal wanted d f (Some none) (Some made))) plan → Works kept Done (is_kept (λ d f. KeepsJournal wanted d f (Some old) (Some new))) plan
+works_added wanted Done plan old none made new empty added (Left f, done, keeps) = (Left f, done, journal_added wanted plan.directory f old none made new empty added keeps)
+works_added wanted Done plan old none made new empty added (Right c, done, keeps) = absurd keeps

@@ -35,8 +35,8 @@ StopsWords (Explain _) scenario journal fault = ⊥
 StopsWords (Shell _ _ false _ _) scenario journal fault = OfBytes scenario (λ bytes. StopsOn kept IsOfWorkers (Stops true) bytes fault)
 StopsWords (Shell _ _ true _ _) scenario journal fault = OfBytes scenario (λ bytes. StopsOn counted IsOfNothing (Stops true) bytes fault)
 
--- the program comes to an end, whose status it answers; or it stops for a fault, whose status it answers, and which alone its caller is handed
+-- the program comes to an end, whose status it answers; or it stops for a fault, whose status it answers, and which alone its caller is handed: nothing is added to what is kept
 abbrev pub IsPlayed : Bool → Words → Option Text → Option Text → Text → Text → Option Fault → Option Fault → ℕ → Type 0
 IsPlayed wanted words scenario journal old new told told_after status =
     ((end : Outcome) × (status ≡ status_at end) × Ends wanted words scenario journal old new end × (told_after ≡ told))
-    ⊎ ((fault : Fault) × (status ≡ status_of fault.cause) × StopsWords words scenario journal fault × (told_after ≡ Some fault))
+    ⊎ ((fault : Fault) × (status ≡ status_of fault.cause) × StopsWords words scenario journal fault × (new ≡ old) × (told_after ≡ Some fault))

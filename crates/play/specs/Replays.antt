@@ -40,7 +40,11 @@ pub record RunsWhole (bytes lines : Text) (version : Version) : Type 0 where
   pub world : World
   pub runs : Runs (opening (network_read parts)) steps world
 
--- the steps of the journal before one that is refused were done
+-- a journal has a place for each of the steps
+abbrev pub RunsInPlaces : Text → Text → Version → Type 0
+RunsInPlaces bytes lines version = (whole : RunsWhole bytes lines version) × (length whole.steps ≤ most_steps)
+
+-- the steps of the journal before one that is refused were done, and a journal has a place for each of them
 pub record RunsToRefusal (bytes lines : Text) : Type 0 where
   pub parts : Parts
   pub version : Version
@@ -48,21 +52,26 @@ pub record RunsToRefusal (bytes lines : Text) : Type 0 where
   pub is_journal : IsJournalOf bytes lines parts version steps
   pub done : ℕ
   pub world : World
+  pub few : done ≤ most_steps
   pub runs : Runs (opening (network_read parts)) (take done steps) world
   pub refused : Refusal
   pub stops : StopsAt (replay_refusal world done) steps done refused
 
+-- these steps were done, from one world to the other, and a journal has a place for each
+abbrev pub StepsRun : List Step → World → World → Type 0
+StepsRun steps w v = (length steps ≤ most_steps) × Runs w steps v
+
 -- how a replay of these steps of a journal of this version ends, from one world to the other: a report of the first version never differs
 abbrev pub StepsReplay : Version → List Step → World → World → Outcome → Type 0
-StepsReplay version steps w v Done = Runs w steps v
-StepsReplay version steps w v Refused = (done : ℕ) × (e : Refusal) × Runs w (take done steps) v × StopsAt (replay_refusal v done) steps done e
-StepsReplay version steps w v Differs = (version ≡ Two) × Runs w steps v
+StepsReplay version steps w v Done = StepsRun steps w v
+StepsReplay version steps w v Refused = (done : ℕ) × (e : Refusal) × (done ≤ most_steps) × Runs w (take done steps) v × StopsAt (replay_refusal v done) steps done e
+StepsReplay version steps w v Differs = (version ≡ Two) × StepsRun steps w v
 
 -- how a replay ends: a report of the first version never differs
 abbrev pub Replays : Text → Text → Outcome → Type 0
-Replays bytes lines Done = (version : Version) × RunsWhole bytes lines version
+Replays bytes lines Done = (version : Version) × RunsInPlaces bytes lines version
 Replays bytes lines Refused = RunsToRefusal bytes lines
-Replays bytes lines Differs = RunsWhole bytes lines Two
+Replays bytes lines Differs = RunsInPlaces bytes lines Two
 
 -- why a journal of the network of a scenario, which is read first, is not read: its reader fails, memory runs out, it is too long, or it is no such journal
 abbrev pub StopsJournal : Text → Option Text → Fault → Type 0

@@ -1,6 +1,6 @@
 //! What the program does, over any readers and writers.
 
-ghost use Rattle.std.specs.Prelude.{◌≡◌, true, false, Some, IfOk, IfErr, OnOk, is_some};
+ghost use Rattle.std.specs.Prelude.{◌≡◌, ◌++◌, true, false, Some, IfOk, IfErr, OnErr, OnOk, is_some};
 ghost use Rattle.plans.specs.Faults.{OfBytes};
 ghost use Rattle.reports.specs.Ends.{KeepsJournal};
 ghost use Rattle.play.specs.Works.{Comes, IsOfNothing, IsOfWorkers, IsWorked, Stops, StopsOn, StopsWork, Works, counted as counted_net, is_kept, kept as kept_net, none_kept};
@@ -10,6 +10,7 @@ use crate::opening::{Hands, with_fabric, with_simulation};
 use crate::replay::replay;
 use command_line::{Format, Words};
 use explanations::Page;
+use network_model::NoMemory;
 use plans::{Fault, Plan, read_plan, read_text, refuse};
 use reports::{JournalText, Keeper, Outcome, check};
 use sessions::{Crew, Host, NoGate, PrintStyle, THRESHOLDS, Thresholds, TurnGate};
@@ -22,7 +23,7 @@ use timing::{TimeOptions, time};
 /// read `journal`: the shell reads its commands there, and the run its document of times. A fault is a line on `err`, and where the program stops for it,
 /// it is in `told`. A write to `out` or `err` that fails is lost, and changes nothing else, but that a shell
 /// ends at an answer which nobody reads. Where a run or a shell ends with status 0, its journal's text is added to
-/// `kept`. If memory runs out while that is made, a part of it is there, and the status is 2.
+/// `kept`. If the program stops for a fault, nothing is added.
 pub fn play<H, R, J, W, E>(
     rt: &H,
     alloc: Global,
@@ -112,6 +113,7 @@ where
         (Ends wanted words.now (R.remaining scenario)
         (J.remaining journal) kept.old.items kept.new.items) }
     ensures fault { IfErr result (StopsWords words.now (R.remaining scenario) (J.remaining journal)) }
+    ensures kept { OnErr result (kept.new.items ≡ kept.old.items) }
 {
     let (thresholds, gate) = by;
     let by = (rt, alloc, gate);
@@ -225,11 +227,13 @@ where
         (is_kept (λ d f. KeepsJournal wanted d f (Some kept.old.items) (Some kept.new.items))))) }
     ensures fault { IfErr result (λ e. OfBytes (R.remaining scenario) (λ bytes.
         StopsOn kept_net IsOfWorkers (Stops (is_some typed)) bytes e)) }
+    ensures kept { OnErr result (kept.new.items ≡ kept.old.items) }
 {
     let (rt, alloc, gate) = by;
     let text = read_text(alloc, scenario)?;
     let plan = read_plan(alloc, text.as_str())?;
     let mut keeper = JournalText { wanted };
+    let mut made = Vec::new(alloc);
     with_fabric(
         rt,
         alloc,
@@ -241,9 +245,23 @@ where
         out,
         err,
         &mut keeper,
-        kept,
+        &mut made,
     )?;
+    add(kept, made)?;
     Ok(Outcome::Done)
+}
+
+// Adds bytes behind those that are kept. If none are, nothing is copied.
+fn add(kept: &mut Vec<u8>, mut made: Vec<u8>) -> Result<(), NoMemory>
+    ensures ok { OnOk result (kept.new.items ≡ kept.old.items ++ made.items) }
+    ensures err { OnErr result (kept.new.items ≡ kept.old.items) }
+{
+    if kept.is_empty() {
+        *kept = made;
+        return Ok(());
+    }
+    kept.append(&mut made)?;
+    Ok(())
 }
 
 // The same on a network whose steps are counted. Nothing is kept.

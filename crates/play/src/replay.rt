@@ -1,6 +1,7 @@
 //! Replays a journal over the network of its scenario.
 
-ghost use Rattle.std.specs.Prelude.{◌≡◌, ◌⊎◌, ◌≤◌, IfOk, IfErr, OnOk, OnErr, MatchOption, length, take};
+ghost use Rattle.std.specs.Prelude.{◌≡◌, ◌⊎◌, ◌≤◌, ◌<◌, IfOk, IfErr, OnOk, OnErr, MatchOption, length, take};
+ghost use Rattle.network_model.specs.Journal.{most_steps};
 ghost use Rattle.network_model.specs.Run.{Runs};
 ghost use Rattle.world.specs.Steps.{CanBeRefused, StopsAt};
 ghost use Rattle.plans.specs.Faults.{IsWantOfMemory, OfBytes};
@@ -134,6 +135,7 @@ fn do_steps<E: Write>(live: &mut Counted, steps: &[Step], progress: bool, err: &
     ensures stop { MatchOption result.refusal (result.done ≡ length steps.now)
         (StopsAt (replay_refusal (live.new).simulation.world result.done) steps.now result.done) }
     ensures done { result.done ≤ length steps.now }
+    ensures few { result.done ≤ most_steps }
 {
     let all = steps.len();
     for (done, &step) in steps.iter().enumerate() {
@@ -162,6 +164,7 @@ fn do_next(live: &mut Counted, step: Step, done: usize) -> Result<(), Refusal>
     requires { (live.old).simulation.steps ≡ done }
     ensures ok { OnOk result (Lawful (live.old).simulation.world step
         × (live.new ≡ counted_after live.old step)) }
+    ensures place { OnOk result (done < most_steps) }
     ensures err { OnErr result (live.new ≡ live.old) }
     ensures cause { IfErr result (CanBeRefused (replay_refusal (live.old).simulation.world done step)) }
 {

@@ -16,4 +16,5 @@ loop-done-preserved g c =
     record {
       runs = rw (ap (λ (x : Counted). x.simulation.world) ok.1, more) (with_last_step c.args.live.now.simulation.world first c.loop-done.live.simulation.world s c.loop-done.invariant.runs ok.0);
       counted = ap (λ (x : Counted). x.simulation.steps) ok.1 ∙ ap (λ n. n + 1) c.loop-done.invariant.counted;
+      few = omega (arith, c.in-Ok.ensures.place);
     }

@@ -1,4 +1,5 @@
-use Rattle.std.proofs.Common.{◌≡◌, take}
+use Rattle.std.proofs.Common.{◌≡◌, ◌≤◌, take}
+use Rattle.network_model.specs.Journal.{most_steps}
 use Rattle.network_model.specs.Run.{Runs}
 use Rattle.play.proofs.replay.do_steps.Given as goal
 
@@ -6,4 +7,5 @@ abbrev pub invariant-loop-done : goal.invariant-loop-done
 invariant-loop-done g l = record {
   runs : Runs l.initial.live.simulation.world (take l.done l.steps) l.live.simulation.world;
   counted : l.live.simulation.steps ≡ l.done;
+  few : l.done ≤ most_steps;
 }
