@@ -1,4 +1,4 @@
-use Rattle.std.proofs.Common.{refl, sym, ap, ◌∙◌, ◌≡◌, false, true, Some}
+use Rattle.std.proofs.Common.{refl, sym, ap, ◌∙◌, ◌≡◌, Some}
 use Rattle.no_packet_loops.proofs.Common.{false≢true}
 use Rattle.publication.specs.declared.known.Known.{Known}
 use Rattle.fabric.specs.Desks.{Desk, desk_out}

@@ -1,4 +1,4 @@
-use Rattle.std.proofs.Common.{◌≡◌, ◌∙◌, ◌⊎◌, ◌<◌, Some, length, refl, ap, sym, subst, arith, IfOk, IfErr, MatchOption, option_map, length-set}
+use Rattle.std.proofs.Common.{◌≡◌, ◌∙◌, ◌⊎◌, ◌<◌, Some, length, refl, ap, sym, subst, arith, IfErr, MatchOption, option_map, length-set}
 use Rattle.no_packet_loops.proofs.Common.{IfOk-weaker, Answer, UnknownRouter, Stale, NoImage, Router, answer_of}
 use Rattle.publication.specs.declared.known.Known.{Known}
 use Rattle.publication.specs.Lists.{image_of}
