@@ -155,10 +155,10 @@ impl Write for Closed {
     }
 }
 
-// The status of a run whose output is lost.
-fn lost<H: Host>(rt: &H, alloc: Global, scenario: &[u8]) -> u8 {
-    let mut kept = Vec::new(alloc);
-    play(
+// The status of a run whose output is lost, and what is kept behind a line that was kept before.
+fn lost<H: Host + Abort>(rt: &H, alloc: Global, scenario: &[u8]) -> (u8, Vec<u8>) {
+    let mut kept = vec![in alloc; b'k', b'\n'].expect(rt, "memory");
+    let status = play(
         rt,
         alloc,
         &RUN,
@@ -168,15 +168,22 @@ fn lost<H: Host>(rt: &H, alloc: Global, scenario: &[u8]) -> u8 {
         &mut Closed,
         &mut kept,
         &mut None,
-    )
+    );
+    (status, kept)
 }
 
-// What cannot be written is lost, and the status stays.
+// What cannot be written is lost, and the status stays. A journal comes behind what was kept before, and of a run
+// that stops nothing is kept.
 #[test]
 fn writes_that_fail_leave_the_status(rt: HostRuntime) {
     let refused =
         b"routers = [\"a\"]\nlinks = []\nprefixes = []\nscript = [\"table a\", \"publish a\"]\n";
-    assert_eq!(rt; lost(&rt, rt.alloc(), SCENARIO), 0);
-    assert_eq!(rt; lost(&rt, rt.alloc(), refused.as_slice()), 2);
-    assert_eq!(rt; lost(&rt, rt.alloc(), b"x".as_slice()), 1);
+    let (status, kept) = lost(&rt, rt.alloc(), SCENARIO);
+    assert_eq!(rt; status, 0);
+    assert!(rt; kept.starts_with(b"k\ndualnet journal 2\nend\n"));
+    let (status, kept) = lost(&rt, rt.alloc(), refused.as_slice());
+    assert_eq!(rt; status, 2);
+    assert_eq!(rt; kept.as_slice(), b"k\n".as_slice());
+    let (status, _) = lost(&rt, rt.alloc(), b"x".as_slice());
+    assert_eq!(rt; status, 1);
 }
