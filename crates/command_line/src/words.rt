@@ -109,20 +109,24 @@ fn read_matches<'a>(matches: &ArgMatches<'a>) -> Option<Words<'a>>
     ensures some { IfSome result (IsAsked (subcommand_rows_of matches.now)) }
     ensures none { IfNone result ((w : Words) → IsAsked (subcommand_rows_of matches.now) w → ⊥) }
 {
-    if let Some(inner) = matches.subcommand_matches("check") {
-        check_words(inner)
-    } else if let Some(inner) = matches.subcommand_matches("run") {
-        run_words(inner)
-    } else if let Some(inner) = matches.subcommand_matches("replay") {
-        replay_words(inner)
-    } else if let Some(inner) = matches.subcommand_matches("explain") {
-        explain_words(inner)
-    } else if let Some(inner) = matches.subcommand_matches("shell") {
-        shell_words(inner)
-    } else if let Some(inner) = matches.subcommand_matches("time") {
-        time_words(inner)
-    } else {
-        None
+    let (name, inner) = matches.subcommand()?;
+    command_words(name, inner)
+}
+
+// What the matches of the command of this name ask for.
+fn command_words<'a>(name: &str, matches: &ArgMatches<'a>) -> Option<Words<'a>>
+    ensures some { IfSome result (AsksAs name.now (rows_of (found_of matches.now))) }
+    ensures none { IfNone result ((w : Words) → AsksAs name.now (rows_of (found_of matches.now)) w
+        → ⊥) }
+{
+    match name {
+        "check" => check_words(matches),
+        "run" => run_words(matches),
+        "replay" => replay_words(matches),
+        "time" => time_words(matches),
+        "explain" => explain_words(matches),
+        "shell" => shell_words(matches),
+        _ => None,
     }
 }
 
