@@ -1,6 +1,6 @@
 //! The links of a network, by number.
 
-ghost use Rattle.std.specs.Prelude.{◌≡◌, ◌<◌, ◌≤◌, ◌↔◌, ◌⊎◌, [], IsTrue, map, length, slice_get, IfSome, IfOk, IsOk, OnOk, OnErr, MatchOption, Err};
+ghost use Rattle.std.specs.Prelude.{◌≡◌, ◌<◌, ◌≤◌, ◌↔◌, ◌⊎◌, [], IsTrue, map, length, slice_get, IfSome, IfOk, IsOk, OnOk, OnErr, MatchOption, Err, Some, None, if◌then◌else◌};
 ghost use Rattle.network_model.specs.Machine.{changed_at};
 ghost use Rattle.network_model.specs.World as world;
 ghost use Rattle.network_model.specs.Step as step;
@@ -107,6 +107,18 @@ impl<S: Allocator> Links<S> {
             (λ k. result ≡ (world.side end k).router) }
     {
         self.links[usize::from(link)].router(end)
+    }
+
+    /// The router at the other end of the link, if the link is up in this session.
+    pub fn far_end(&self, link: u16, end: End, session: u16) -> Option<u16>
+        requires known { link < length self.now.links }
+        ensures far { IfSome (slice_get self.now.links link) (λ k. result
+            ≡ (if step.is_up_in session k then Some (world.side (world.other end) k).router else None)) }
+    {
+        if !self.is_up(link) || self.session(link) != session {
+            return None;
+        }
+        Some(self.router(link, end.other()))
     }
 
     /// The cost of the link from one end, which it keeps while it is down.

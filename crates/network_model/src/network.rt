@@ -65,6 +65,18 @@ pub enum End {
     B,
 }
 
+impl End {
+    /// The end across the link.
+    pub fn other(self) -> End
+        ensures { result ≡ model.other self }
+    {
+        match self {
+            End::A => End::B,
+            End::B => End::A,
+        }
+    }
+}
+
 /// A link to be: its two routers, and the cost from each.
 #[derive(Clone, Copy, Debug, PartialEq, Eq)]
 pub struct LinkSpec {

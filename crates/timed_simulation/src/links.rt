@@ -40,14 +40,14 @@ pub enum Motion {
 }
 
 // One direction of a link: how long an item is on its way, and the items, oldest first.
-#[derive(Debug, Drop)]
+#[derive(Drop)]
 pub struct Line<S: Allocator> {
     delay: u64,
     arrivals: VecDeque<Arrival, S>,
 }
 
 // A link: what is on its way towards each end.
-#[derive(Debug, Drop)]
+#[derive(Drop)]
 pub struct LinkTimes<S: Allocator> {
     to_a: Line<S>,
     to_b: Line<S>,
@@ -231,10 +231,7 @@ fn release_motion<A: SmallAllocator>(world: &World<A>, router: u16) -> Option<(u
     if !is_up_in(world, place.link, held.session) {
         return None;
     }
-    let to = match place.end {
-        End::A => End::B,
-        End::B => End::A,
-    };
+    let to = place.end.other();
     Some((place.link, Motion::Put { to, notice: false }))
 }
 

@@ -36,22 +36,6 @@ pub struct Ran {
     pub refusal: Option<Refusal>,
 }
 
-// The router at the other end of the link at a place, if the link is up in this session.
-fn far_end<A: SmallAllocator>(links: &Links<A>, place: Place, session: u16) -> Option<u16>
-    requires { place.link < length links.now.links }
-    ensures { IfSome (slice_get links.now.links place.link) (λ k. result ≡ (if is_up_in session k
-        then Some (model.side (model.other place.end) k).router else None)) }
-{
-    if !links.is_up(place.link) || links.session(place.link) != session {
-        return None;
-    }
-    let far = match place.end {
-        End::A => End::B,
-        End::B => End::A,
-    };
-    Some(links.router(place.link, far))
-}
-
 /// A network that runs: its links, its routers, the place of each router's ports on the links, its
 /// prefixes, and what each router is attached to.
 #[derive(Drop)]
@@ -154,7 +138,7 @@ impl<A: SmallAllocator> World<A> {
         ensures { result ≡ entry_leads self.now router (Entries.Via port session) }
     {
         let place = self.port(router, port)?;
-        far_end(&self.links, place, session)
+        self.links.far_end(place.link, place.end, session)
     }
 
     /// How many notices of its attachments a router has yet to take.
