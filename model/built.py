@@ -1,17 +1,24 @@
-"""Programs to be tried or timed: the proved ones, which are proved and built first if they are not there."""
+"""The program to be tried or timed: the proved one, which is proved and built first if it is not there."""
 
+import atexit
 import os
 import subprocess
+import tempfile
 from pathlib import Path
 
 ROOT = Path(__file__).resolve().parent.parent
 
 
 def built(name: str = "dualnet") -> str:
-    """The path of a program: the one that DUALNET or DUALNET_VIEW names, else the proved one."""
-    crate = name.replace("-", "_")
-    named = os.environ.get(crate.upper())
-    if named is None:
-        subprocess.run([ROOT / name, "--prove"], check=True)
-        named = str(ROOT / "crates" / crate / "out" / crate)
-    return named
+    """The path of the program that DUALNET names, else of the proved one; by the name `dualnet-view` it shows runs."""
+    program = os.environ.get("DUALNET")
+    if program is None:
+        subprocess.run([ROOT / "dualnet", "--prove"], check=True)
+        program = str(ROOT / "crates/dualnet/out/dualnet")
+    if name == "dualnet":
+        return program
+    folder = tempfile.TemporaryDirectory(prefix="view")
+    atexit.register(folder.cleanup)
+    link = Path(folder.name) / name
+    link.symlink_to(Path(program).resolve())
+    return str(link)

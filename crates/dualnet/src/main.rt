@@ -27,8 +27,11 @@
 //! journal cannot be written after that, it is 2. No function here has a contract of its own.
 //!
 //! What is tricky: what was printed before a fault has to be seen before it, although output may come in
-//! blocks. So `play` flushes the output first.
+//! blocks. So `play` flushes the output first. And the program goes by two names: called as `dualnet-view`, by a
+//! link, it shows a run (`src/pages.rt`). One program is proved and compiled in half the time of two.
 #![tactic(auto)]
+
+mod pages;
 
 use advice::{explain, file_to_explain};
 use command_line::{Words, read_words};
@@ -57,6 +60,9 @@ fn status<H: Host>(rt: &HostRuntime, wait: &H) -> io::Result<u8> {
 // Does what the words of the command line ask for.
 fn run_given<H: Host>(rt: &HostRuntime, wait: &H, given: &[String]) -> io::Result<u8> {
     let words: Vec<&str> = given.iter().map(|word| word.as_str()).collect(rt.alloc())?;
+    if pages::is_called(words.as_slice()) {
+        return pages::show_given(rt, wait, words.as_slice());
+    }
     match read_words(rt.alloc(), words.as_slice()) {
         Ok(words) => print_by(rt, wait, &words),
         Err(error) => Ok(print_error(rt, &error)),

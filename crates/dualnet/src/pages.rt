@@ -1,7 +1,4 @@
-//! The program that shows the run of a network: its states in a page, or as lines of JSON.
-//!
-//! The problem is that of `dualnet`: contracts and tests cannot see files and arguments. So this crate has
-//! these alone, and `view` does the rest over readers and writers.
+//! The page of a run: what the program does if it is called by the name `dualnet-view`.
 //!
 //! ```text
 //! ./dualnet-view examples/ring.toml -o ring.html           # a page of the run of its script
@@ -9,44 +6,32 @@
 //! ./dualnet-view examples/ring.toml --times examples/ring-times.toml -o ring.html    # the network in simulated time
 //! ```
 //!
-//! The words: *states* are the network before the first step and after each. FILE is the scenario, JOURNAL a
-//! journal of a run of it. With `--times` the network runs in simulated time, as `dualnet time` does it. With
-//! neither the script is run. Without `-o`, or with `-o -`, the page goes to the standard output.
-//!
-//! - With `-o` all is first made in memory, and written if it is not empty. So a fault in the input leaves
-//!   the file as it was.
-//! - A path that leads to a file that is read is not written over (49).
-//!
-//! What always holds: the exit status is that of `view::show`, and status 0 says that the states of lawful
-//! steps were written. If the file or the standard output cannot be written, the status is 2. No function
-//! here has a contract of its own.
-//!
-//! What is tricky: if a step of the journal is refused, the states before it are written nevertheless, and
-//! the status is 2.
-#![tactic(auto)]
+//! `view` writes the states over readers and writers, and its exit status is the program's. Without `-o`, or with
+//! `-o -`, they go to the standard output. With `-o` all is first made in memory, and written if it is not empty, so
+//! that a fault in the input leaves the file as it was; a path that leads to a file that is read is refused (49).
+//! If a step of the journal is refused, the states before it are written nevertheless, and the status is 2.
 
 use command_line::{ViewWords, read_view_words};
 use play::{Cause, Fault, Host, Source, refuse};
-use program_files::{exit_code, given_words, is_input, is_read, open_file, print_error};
+use program_files::{is_input, is_read, open_file, print_error};
 use std::io::{BufWriter, Write};
-use std::process::ExitCode;
 use std::{fs, io};
 use view::show;
 
-fn main(rt: HostRuntime) -> ExitCode {
-    let status = status(&rt, &rt);
-    exit_code(&rt, status)
+// The name by which the program shows runs.
+const NAME: &str = "dualnet-view";
+
+/// Whether the first word of the command line, by which the program was called, is that name, in whatever folder.
+pub fn is_called(words: &[&str]) -> bool {
+    match words.first() {
+        Some(called) => called.rsplit('/').next() == Some(NAME),
+        None => false,
+    }
 }
 
-// Does what the command line asks for.
-fn status<H: Host>(rt: &HostRuntime, wait: &H) -> io::Result<u8> {
-    let alloc = rt.alloc();
-    let given = match given_words(rt)? {
-        Ok(given) => given,
-        Err(status) => return Ok(status),
-    };
-    let words: Vec<&str> = given.iter().map(|word| word.as_str()).collect(alloc)?;
-    match read_view_words(alloc, words.as_slice()) {
+/// Does what the words of the command line ask for.
+pub fn show_given<H: Host>(rt: &HostRuntime, wait: &H, words: &[&str]) -> io::Result<u8> {
+    match read_view_words(rt.alloc(), words) {
         Ok(words) => show_to(rt, wait, &words),
         Err(error) => Ok(print_error(rt, &error)),
     }
