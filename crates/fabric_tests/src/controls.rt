@@ -5,6 +5,7 @@ ghost use Rattle.fabric.specs.Fabric.{count_lent};
 ghost use Rattle.fabric.specs.Writers.{opening_tables};
 ghost use Rattle.control.specs.Names.{IsNamed};
 
+use crate::equal_to::equal;
 use crate::outside::{publish_outside, settle_side_by_side};
 use control::{Control, ControlName, Opening, Refusal, Share, Step, TurnGate};
 use fabric::{Fabric, MOST_STEPS, Network, Unnamed};
@@ -95,7 +96,7 @@ where
             tried(rt, &control, &mut shares, trial);
             let sum = sum_of(&shares);
             let fabric = control.close(shares);
-            assert_eq!(rt; fabric.sum(), sum);
+            equal(rt, fabric.sum(), sum);
             fabric
         }
         Err(fabric) => {
@@ -142,7 +143,7 @@ fn steps<B: FabricName, N: ControlName, H: Wait + Abort>(
 )
     requires asked { (s : Step) → N.asked s ≡ true }
 {
-    assert_eq!(rt; control.step(rt, step, share), wanted);
+    equal(rt, control.step(rt, step, share), wanted);
 }
 
 fn turns<B: FabricName, N: ControlName, H: Wait + Abort>(
@@ -154,11 +155,11 @@ fn turns<B: FabricName, N: ControlName, H: Wait + Abort>(
 )
     requires asked { (s : Step) → N.asked s ≡ true }
 {
-    assert_eq!(rt; control.turn(rt, router, share), wanted);
+    equal(rt, control.turn(rt, router, share), wanted);
 }
 
 fn has_sum<N: ControlName>(rt: &impl Abort, share: &Share<N>, sum: u128) {
-    assert_eq!(rt; share.sum(), sum);
+    equal(rt, share.sum(), sum);
 }
 
 fn by_hand<B: FabricName, N: ControlName, H: Wait + Abort>(
@@ -182,7 +183,7 @@ fn by_hand<B: FabricName, N: ControlName, H: Wait + Abort>(
     turns(rt, control, share, 1, Ok(Some(deliver)));
     has_sum(rt, share, delivered);
     let unknown = control.job(rt, 1, 2, ADDR).err();
-    assert_eq!(rt; unknown, Some(Refusal::UnknownRouter));
+    equal(rt, unknown, Some(Refusal::UnknownRouter));
 }
 
 #[test]
@@ -301,7 +302,7 @@ where
 {
     fill(rt, control, router, &mut shares[0]);
     let done = control.serve(rt, shares, &Open);
-    assert_eq!(rt; done, Err(Refusal::JournalFull));
+    equal(rt, done, Err(Refusal::JournalFull));
 }
 
 #[test]
@@ -352,7 +353,7 @@ where
         met: AtomicU64::new(0),
     };
     serves_after(rt, control, shares, UP, &gate);
-    assert_eq!(rt; gate.met.load(Ordering::SeqCst), 2);
+    equal(rt, gate.met.load(Ordering::SeqCst), 2);
 }
 
 #[test]

@@ -3,6 +3,7 @@
 ghost use Rattle.std.specs.Prelude.{◌≡◌, vec_len};
 ghost use Rattle.fabric.specs.Writers.{opening_tables};
 
+use crate::equal_to::equal;
 use fabric::{Answer, Entry, Fabric, FabricName, ImageReader, Network, Refusal, Step, Unnamed};
 use std::alloc::Global;
 use std::marker::Brand;
@@ -83,7 +84,7 @@ fn runs<B: FabricName, H: Wait + Abort>(
     wanted: (usize, Option<Refusal>),
 ) {
     let ran = fabric.run(rt, steps);
-    assert_eq!(rt; (ran.done, ran.refusal), wanted);
+    equal(rt, (ran.done, ran.refusal), wanted);
 }
 
 // A look-up of the address at a router is answered so.
@@ -93,15 +94,15 @@ fn looks_up<B: FabricName>(
     router: u16,
     wanted: Result<Answer, Refusal>,
 ) {
-    assert_eq!(rt; fabric.lookup(router, ADDR), wanted);
+    equal(rt, fabric.lookup(router, ADDR), wanted);
 }
 
 fn publishes<B: FabricName, H: Wait + Abort>(rt: &H, fabric: &mut Fabric<B>) {
     runs(rt, fabric, &LEARNS, (7, None));
-    assert_eq!(rt; fabric.journal(), LEARNS.as_slice());
+    equal(rt, fabric.journal(), LEARNS.as_slice());
     looks_up(rt, fabric, 1, Ok(way()));
     let table = fabric.table(1).expect(rt, "table");
-    assert_eq!(rt; table.published_rows().next(), way().matched);
+    equal(rt, table.published_rows().next(), way().matched);
 }
 
 #[test]
@@ -139,7 +140,7 @@ fn stops<B: FabricName, H: Wait + Abort>(rt: &H, fabric: &mut Fabric<B>) {
         (Step::Publish { router: 7 }, Refusal::UnknownRouter),
         (Step::Publish { router: 1 }, Refusal::NothingDue),
     ] {
-        assert_eq!(rt; fabric.step(rt, step), Err(refusal));
+        equal(rt, fabric.step(rt, step), Err(refusal));
     }
 }
 
@@ -160,15 +161,15 @@ fn tells<B: FabricName, H: Wait + Abort>(
     runs(rt, fabric, &LEARNS, (7, None));
     has_job(rt, fabric, 1);
     let unknown = fabric.job(3, 2, ADDR).err();
-    assert_eq!(rt; unknown, Some(Refusal::UnknownRouter));
+    equal(rt, unknown, Some(Refusal::UnknownRouter));
     let mut second = port.pop().expect(rt, "reader");
-    assert_eq!(rt; second.lookup(ADDR), Ok(way()));
+    equal(rt, second.lookup(ADDR), Ok(way()));
 }
 
 // A job at router 1 is told of the list of this generation.
 fn has_job<B: FabricName>(rt: &impl Abort, fabric: &Fabric<B>, generation: u64) {
     let job = fabric.job(1, 1, ADDR).expect(rt, "job");
-    assert_eq!(rt; (job.router(), job.generation()), (1, generation));
+    equal(rt, (job.router(), job.generation()), (1, generation));
 }
 
 #[test]

@@ -5,6 +5,7 @@ ghost use Rattle.fabric.specs.Fabric.{count_lent};
 ghost use Rattle.fabric.specs.Writers.{opening_tables};
 ghost use Rattle.control.specs.Names.{IsNamed};
 
+use crate::equal_to::equal;
 use control::{Control, ControlName, Opening, Share, Step, TurnGate};
 use fabric::{Fabric, Network, Unnamed};
 use forwarder::{Answer, ForwardPort, ImageReader};
@@ -75,7 +76,7 @@ where
     let Ok(reply) = port.answer(&job) else {
         panic!(rt; "answer");
     };
-    assert_eq!(rt; reply.answer(), wanted);
+    equal(rt, reply.answer(), wanted);
 }
 
 // Does that at router 0, by its opening table, once the first turn has begun, and lets the turn go on.
@@ -146,7 +147,7 @@ where
         || { serve(rt, control, shares, &gate) },
         || answer_first(rt, control, port, &gate),
     );
-    assert_eq!(rt; gate.missed.load(Ordering::SeqCst), 0);
+    equal(rt, gate.missed.load(Ordering::SeqCst), 0);
     let mut port = port;
     let via = Entry::Via {
         port: 0,

@@ -34,6 +34,8 @@
 #[cfg(test)]
 mod controls;
 #[cfg(test)]
+mod equal_to;
+#[cfg(test)]
 mod fabrics;
 #[cfg(test)]
 mod jobs;

@@ -3,6 +3,7 @@
 ghost use Rattle.std.specs.Prelude.{◌≡◌, ◌<◌, true, vec_len};
 
 use crate::controls::{UP, serves_after};
+use crate::equal_to::equal;
 use control::{Control, ControlName, Crew, NO_THRESHOLDS, Share, Step, TurnGate, settle};
 use fabric::Fabric;
 use network_model::Cost;
@@ -68,8 +69,8 @@ where
         missed: AtomicU64::new(0),
     };
     serves_after(rt, control, shares, UP, &gate);
-    assert_eq!(rt; gate.met.load(Ordering::SeqCst), 1);
-    assert_eq!(rt; gate.missed.load(Ordering::SeqCst), 0);
+    equal(rt, gate.met.load(Ordering::SeqCst), 1);
+    equal(rt, gate.missed.load(Ordering::SeqCst), 0);
 }
 
 // Each of two threads that settle waits, before it publishes, until the other is to publish too.
@@ -129,6 +130,6 @@ where
     assert!(rt; fabric.is_settled());
     assert!(rt; gate.first.load(Ordering::SeqCst) > 0);
     assert!(rt; gate.second.load(Ordering::SeqCst) > 0);
-    assert_eq!(rt; gate.missed.load(Ordering::SeqCst), 0);
+    equal(rt, gate.missed.load(Ordering::SeqCst), 0);
     fabric
 }

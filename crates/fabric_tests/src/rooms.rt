@@ -4,6 +4,7 @@
 ghost use Rattle.std.specs.Prelude.{◌≡◌, vec_len};
 ghost use Rattle.fabric.specs.Writers.{opening_tables};
 
+use crate::equal_to::equal;
 use fabric::{Fabric, FabricName, MOST_STEPS, Network, Refusal, Step, Unnamed};
 use linked_list_allocator::LocalHeap;
 use packet_queue::PacketQueue;
@@ -60,7 +61,7 @@ fn is_queue_refused<'h, B: FabricName>(
     let (_injector, takers) = match first {
         Ok(made) => made,
         Err(_) => {
-            assert_eq!(rt; heap.used(), 0);
+            equal(rt, heap.used(), 0);
             PacketQueue::new::<B, &'h LocalHeap>(heap, 2).expect(rt, "room")
         }
     };
@@ -117,7 +118,7 @@ fn is_opening_refused<H: Wait + Abort>(rt: &H, alloc: Global, left: usize) -> bo
     let network = two_routers(alloc).expect(rt, "network");
     let unnamed = Unnamed::many(&heap, network.routers()).expect(rt, "room");
     let end = is_opening_refused_over::<Brand, H>(rt, alloc, &heap, network, unnamed, left);
-    assert_eq!(rt; heap.used(), 0);
+    equal(rt, heap.used(), 0);
     end
 }
 

@@ -5,6 +5,7 @@
 ghost use Rattle.std.specs.Prelude.{◌≡◌, vec_len, false};
 ghost use Rattle.fabric.specs.Writers.{opening_tables};
 
+use crate::equal_to::equal;
 use crate::tickets::give_back;
 use fabric::{Entry, Fabric, FabricName, Network, Prefix, Refusal, Step, Ticket, Unnamed};
 use network_model::{Cost, Distance, SmallAllocator};
@@ -132,7 +133,7 @@ fn step<B: FabricName, H: Wait + Abort>(
         if end.is_ok() {
             return;
         }
-        assert_eq!(rt; end, Err(Refusal::NoMemory));
+        equal(rt, end, Err(Refusal::NoMemory));
         assert!(rt; report_of(rt, alloc, fabric) == before);
     }
     panic!(rt; "refused for ever");
@@ -156,7 +157,7 @@ fn lent<'h, B: FabricName, H: Wait + Abort>(
         let _was_met = memory.was_met(end.is_err()).expect(rt, "refusal");
         match end {
             Ok(ticket) => return ticket,
-            Err(refusal) => assert_eq!(rt; refusal, Refusal::NoMemory),
+            Err(refusal) => equal(rt, refusal, Refusal::NoMemory),
         }
         assert!(rt; report_of(rt, alloc, fabric) == before);
     }
@@ -240,12 +241,13 @@ fn are_at<B: FabricName, A: SmallAllocator>(rt: &impl Abort, fabric: &Fabric<B, 
             None => (None, Entry::Unreachable),
         };
         assert!(rt; machine.is_passive());
-        assert_eq!(rt;
+        equal(
+            rt,
             (machine.rd(), machine.fd()),
-            (Distance::new(rd), Distance::new(fd))
+            (Distance::new(rd), Distance::new(fd)),
         );
-        assert_eq!(rt; machine.successor(), successor);
-        assert_eq!(rt; router.table().published(prefix), Some(entry));
+        equal(rt, machine.successor(), successor);
+        equal(rt, router.table().published(prefix), Some(entry));
     }
 }
 

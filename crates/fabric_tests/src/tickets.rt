@@ -3,6 +3,7 @@
 ghost use Rattle.std.specs.Prelude.{◌≡◌, vec_len, false};
 ghost use Rattle.fabric.specs.Writers.{opening_tables};
 
+use crate::equal_to::equal;
 use crate::fabrics::LEARNS;
 use fabric::{Fabric, FabricName, Network, Refusal, Step, Ticket, Unnamed};
 use network_model::SmallAllocator;
@@ -40,7 +41,7 @@ fn refuses<B: FabricName, H: Wait + Abort>(
             ticket.close(rt);
             panic!(rt; "a ticket");
         }
-        Err(refusal) => assert_eq!(rt; refusal, wanted),
+        Err(refusal) => equal(rt, refusal, wanted),
     }
 }
 
@@ -50,7 +51,7 @@ fn steps<B: FabricName, H: Wait + Abort>(
     step: Step,
     wanted: Result<(), Refusal>,
 ) {
-    assert_eq!(rt; fabric.step(rt, step), wanted);
+    equal(rt, fabric.step(rt, step), wanted);
 }
 
 // So many steps are in the journal.
@@ -70,7 +71,7 @@ fn is_busy<B: FabricName, H: Wait + Abort>(rt: &H, fabric: &mut Fabric<B>) {
         steps(rt, fabric, step, Err(refusal));
     }
     refuses(rt, fabric, 1, Refusal::Busy);
-    assert_eq!(rt; fabric.next_step(1), None);
+    equal(rt, fabric.next_step(1), None);
     has_steps(rt, fabric, 6);
 }
 
@@ -82,7 +83,7 @@ fn ends<B: FabricName>(
     wanted: Result<Ending, TraceFault>,
 ) {
     let end = trace(fabric, alloc, 1, ADDR).map(|t| t.end);
-    assert_eq!(rt; end, wanted);
+    equal(rt, end, wanted);
 }
 
 // The writer of router 1 publishes, while the fabric goes on.
@@ -108,15 +109,15 @@ fn goes_on<B: FabricName, H: Wait + Abort>(
 // The publication is the last step, and its link is down.
 fn has_published<B: FabricName>(rt: &impl Abort, alloc: Global, fabric: &mut Fabric<B>) {
     let last = fabric.journal().last().copied();
-    assert_eq!(rt; last, Some(Step::Publish { router: 1 }));
+    equal(rt, last, Some(Step::Publish { router: 1 }));
     let after = trace(fabric, alloc, 1, ADDR).expect(rt, "trace");
-    assert_eq!(rt; after.end, Ending::DeadLink);
-    assert_eq!(rt; after.path.as_slice(), [1u16].as_slice());
+    equal(rt, after.end, Ending::DeadLink);
+    equal(rt, after.path.as_slice(), [1u16].as_slice());
 }
 
 fn lends<B: FabricName, H: Wait + Abort>(rt: &H, alloc: Global, fabric: &mut Fabric<B>) {
     let ran = fabric.run(rt, &LEARNS[..6]);
-    assert_eq!(rt; (ran.done, ran.refusal), (6, None));
+    equal(rt, (ran.done, ran.refusal), (6, None));
     refuses(rt, fabric, 2, Refusal::UnknownRouter);
     refuses(rt, fabric, 0, Refusal::NothingDue);
     let Ok(ticket) = fabric.ticket(1) else {

@@ -3,6 +3,7 @@
 ghost use Rattle.std.specs.Prelude.{◌≡◌, vec_len};
 ghost use Rattle.fabric.specs.Writers.{opening_tables};
 
+use crate::equal_to::equal;
 use fabric::{Network, Prefix, Unnamed};
 use network_model::Cost;
 use std::alloc::Global;
@@ -65,8 +66,8 @@ fn goes<B: FabricName, H: Wait + Abort>(
     end: Ending,
 ) {
     let traced = trace(fabric, alloc, start, addr).expect(rt, "trace");
-    assert_eq!(rt; traced.path.as_slice(), [start].as_slice());
-    assert_eq!(rt; traced.end, end);
+    equal(rt, traced.path.as_slice(), [start].as_slice());
+    equal(rt, traced.end, end);
 }
 
 // Every link is down.
@@ -75,7 +76,7 @@ fn ends<B: FabricName, H: Wait + Abort>(rt: &H, alloc: Global, fabric: &mut Fabr
     goes(rt, alloc, fabric, LONGER, B, Ending::Delivered);
     goes(rt, alloc, fabric, ADDR, C, Ending::NoRoute);
     let unknown = trace(fabric, alloc, 3, ADDR);
-    assert_eq!(rt; unknown, Err(TraceFault::UnknownRouter));
+    equal(rt, unknown, Err(TraceFault::UnknownRouter));
 }
 
 #[test]

@@ -18,7 +18,15 @@ use crate::{
 use c_interface::{CallFault, Row};
 use lookup_calls::Block;
 use std::alloc::Global;
+use std::fmt::Debug;
+use std::process::Abort;
 use std::test::Fail;
+
+// What was found is what was wanted. An `assert_eq!` that is written out costs the gate three seconds, and a call of this
+// function less than one, because it is proved once.
+pub(crate) fn equal<T: PartialEq + Debug + Drop>(rt: &impl Abort, found: T, wanted: T) {
+    assert_eq!(rt; found, wanted);
+}
 
 const NOTHING: Row = Row {
     addr: 0,
@@ -68,51 +76,69 @@ fn an_image_is_made_patched_and_freed(rt: HostRuntime) {
         of_kind(0xc000_0200, 24, 2),
         via(0x0a00_0000, 8, 2),
     ];
-    assert_eq!(rt; tuhvondi_image_new(alloc, &rows, &mut image), 0);
+    equal(&rt, tuhvondi_image_new(alloc, &rows, &mut image), 0);
     let addrs = [0x0a02_0304, 0x0a01_0203, 0xc000_0201, 0x0808_0808];
     let mut answers = [NOTHING; 4];
-    assert_eq!(rt;
+    equal(
+        &rt,
         tuhvondi_image_lookup(alloc, &mut image, &addrs, &mut answers),
-        0
+        0,
     );
-    assert_eq!(rt; answers[0], via(0x0a00_0000, 8, 2));
-    assert_eq!(rt; answers[1], of_kind(0x0a01_0000, 16, 0));
-    assert_eq!(rt; answers[2], of_kind(0xc000_0200, 24, 2));
-    assert_eq!(rt; answers[3], NOTHING);
+    equal(&rt, answers[0], via(0x0a00_0000, 8, 2));
+    equal(&rt, answers[1], of_kind(0x0a01_0000, 16, 0));
+    equal(&rt, answers[2], of_kind(0xc000_0200, 24, 2));
+    equal(&rt, answers[3], NOTHING);
     let mut generation = 9;
-    assert_eq!(rt;
+    equal(
+        &rt,
         tuhvondi_image_generation(alloc, &mut image, &mut generation),
-        0
+        0,
     );
-    assert_eq!(rt; generation, 0);
+    equal(&rt, generation, 0);
     // A default route, and another way to 10.1.0.0/16.
     let patch = [via(0, 0, 5), via(0x0a01_0000, 16, 3)];
-    assert_eq!(rt; tuhvondi_image_apply(alloc, &mut image, 7, &patch), 0);
-    assert_eq!(rt;
+    equal(&rt, tuhvondi_image_apply(alloc, &mut image, 7, &patch), 0);
+    equal(
+        &rt,
         tuhvondi_image_generation(alloc, &mut image, &mut generation),
-        0
+        0,
     );
-    assert_eq!(rt; generation, 7);
-    assert_eq!(rt; answer(alloc, &mut image, 0x0808_0808), Ok(via(0, 0, 5)));
-    assert_eq!(rt;
+    equal(&rt, generation, 7);
+    equal(
+        &rt,
+        answer(alloc, &mut image, 0x0808_0808),
+        Ok(via(0, 0, 5)),
+    );
+    equal(
+        &rt,
         answer(alloc, &mut image, 0x0a01_0203),
-        Ok(via(0x0a01_0000, 16, 3))
+        Ok(via(0x0a01_0000, 16, 3)),
     );
-    assert_eq!(rt;
+    equal(
+        &rt,
         answer(alloc, &mut image, 0x0a02_0304),
-        Ok(via(0x0a00_0000, 8, 2))
+        Ok(via(0x0a00_0000, 8, 2)),
     );
     // Another image in its place.
-    assert_eq!(rt; tuhvondi_image_new(alloc, &[via(0, 1, 4)], &mut image), 0);
-    assert_eq!(rt; answer(alloc, &mut image, 0x0808_0808), Ok(via(0, 1, 4)));
-    assert_eq!(rt; answer(alloc, &mut image, 0xc000_0201), Ok(NOTHING));
-    assert_eq!(rt;
-        tuhvondi_image_generation(alloc, &mut image, &mut generation),
-        0
+    equal(
+        &rt,
+        tuhvondi_image_new(alloc, &[via(0, 1, 4)], &mut image),
+        0,
     );
-    assert_eq!(rt; generation, 0);
+    equal(
+        &rt,
+        answer(alloc, &mut image, 0x0808_0808),
+        Ok(via(0, 1, 4)),
+    );
+    equal(&rt, answer(alloc, &mut image, 0xc000_0201), Ok(NOTHING));
+    equal(
+        &rt,
+        tuhvondi_image_generation(alloc, &mut image, &mut generation),
+        0,
+    );
+    equal(&rt, generation, 0);
     tuhvondi_image_free(alloc, &mut image);
-    assert_eq!(rt; answer(alloc, &mut image, 0x0808_0808), Err(7));
+    equal(&rt, answer(alloc, &mut image, 0x0808_0808), Err(7));
 }
 
 #[test]
@@ -120,32 +146,37 @@ fn two_handles_hold_an_image(rt: HostRuntime) {
     let alloc = rt.alloc();
     let mut image = ImageHandle::none(alloc);
     let mut other = ImageHandle::none(alloc);
-    assert_eq!(rt;
+    equal(
+        &rt,
         tuhvondi_image_new(alloc, &[via(0x0a00_0000, 8, 1)], &mut image),
-        0
+        0,
     );
-    assert_eq!(rt; tuhvondi_image_share(alloc, &mut image, &mut other), 0);
-    assert_eq!(rt;
+    equal(&rt, tuhvondi_image_share(alloc, &mut image, &mut other), 0);
+    equal(
+        &rt,
         answer(alloc, &mut other, 0x0a00_0001),
-        Ok(via(0x0a00_0000, 8, 1))
+        Ok(via(0x0a00_0000, 8, 1)),
     );
-    assert_eq!(rt;
+    equal(
+        &rt,
         answer(alloc, &mut image, 0x0a00_0001),
-        Ok(via(0x0a00_0000, 8, 1))
+        Ok(via(0x0a00_0000, 8, 1)),
     );
     // While both hold it, it does not change.
     let patch = [via(0x0a00_0000, 8, 2)];
-    assert_eq!(rt; tuhvondi_image_apply(alloc, &mut image, 1, &patch), 9);
-    assert_eq!(rt; tuhvondi_image_apply(alloc, &mut other, 1, &patch), 9);
+    equal(&rt, tuhvondi_image_apply(alloc, &mut image, 1, &patch), 9);
+    equal(&rt, tuhvondi_image_apply(alloc, &mut other, 1, &patch), 9);
     tuhvondi_image_free(alloc, &mut image);
-    assert_eq!(rt;
+    equal(
+        &rt,
         answer(alloc, &mut other, 0x0a00_0001),
-        Ok(via(0x0a00_0000, 8, 1))
+        Ok(via(0x0a00_0000, 8, 1)),
     );
-    assert_eq!(rt; tuhvondi_image_apply(alloc, &mut other, 1, &patch), 0);
-    assert_eq!(rt;
+    equal(&rt, tuhvondi_image_apply(alloc, &mut other, 1, &patch), 0);
+    equal(
+        &rt,
         answer(alloc, &mut other, 0x0a00_0001),
-        Ok(via(0x0a00_0000, 8, 2))
+        Ok(via(0x0a00_0000, 8, 2)),
     );
 }
 
@@ -154,22 +185,24 @@ fn a_copy_changes_alone(rt: HostRuntime) {
     let alloc = rt.alloc();
     let mut image = ImageHandle::none(alloc);
     let mut other = ImageHandle::none(alloc);
-    assert_eq!(rt; tuhvondi_image_copy(alloc, &mut image, &mut other), 7);
+    equal(&rt, tuhvondi_image_copy(alloc, &mut image, &mut other), 7);
     let rows = [via(0x0a00_0000, 8, 1), via(0x0b00_0000, 8, 1)];
-    assert_eq!(rt; tuhvondi_image_new(alloc, &rows, &mut image), 0);
-    assert_eq!(rt; tuhvondi_image_copy(alloc, &mut image, &mut other), 0);
+    equal(&rt, tuhvondi_image_new(alloc, &rows, &mut image), 0);
+    equal(&rt, tuhvondi_image_copy(alloc, &mut image, &mut other), 0);
     let patch = [via(0x0a00_0000, 8, 2)];
-    assert_eq!(rt; tuhvondi_image_apply(alloc, &mut other, 1, &patch), 0);
-    assert_eq!(rt;
+    equal(&rt, tuhvondi_image_apply(alloc, &mut other, 1, &patch), 0);
+    equal(
+        &rt,
         answer(alloc, &mut image, 0x0a00_0001),
-        Ok(via(0x0a00_0000, 8, 1))
+        Ok(via(0x0a00_0000, 8, 1)),
     );
-    assert_eq!(rt;
+    equal(
+        &rt,
         answer(alloc, &mut other, 0x0a00_0001),
-        Ok(via(0x0a00_0000, 8, 2))
+        Ok(via(0x0a00_0000, 8, 2)),
     );
-    assert_eq!(rt; answer(alloc, &mut other, 0x0b00_0001), Ok(rows[1]));
-    assert_eq!(rt; tuhvondi_image_apply(alloc, &mut image, 1, &patch), 0);
+    equal(&rt, answer(alloc, &mut other, 0x0b00_0001), Ok(rows[1]));
+    equal(&rt, tuhvondi_image_apply(alloc, &mut image, 1, &patch), 0);
 }
 
 fn block(addr: u32, len: u8) -> Block {
@@ -186,48 +219,61 @@ fn rows_are_listed_and_removed(rt: HostRuntime) {
         via(0x0a01_0000, 16, 2),
         via(0x0a00_0000, 8, 1),
     ];
-    assert_eq!(rt; tuhvondi_image_new(alloc, &rows, &mut image), 0);
+    equal(&rt, tuhvondi_image_new(alloc, &rows, &mut image), 0);
     let mut count = 0;
-    assert_eq!(rt; tuhvondi_image_row_count(alloc, &mut image, &mut count), 0);
-    assert_eq!(rt; count, 3);
+    equal(
+        &rt,
+        tuhvondi_image_row_count(alloc, &mut image, &mut count),
+        0,
+    );
+    equal(&rt, count, 3);
     let mut from = block(0, 0);
     let mut listed = [NOTHING; 2];
-    assert_eq!(rt;
+    equal(
+        &rt,
         tuhvondi_image_rows(alloc, &mut image, &mut from, &mut listed, &mut count),
-        0
+        0,
     );
-    assert_eq!(rt; count, 2);
-    assert_eq!(rt; listed, [rows[2], rows[1]]);
-    assert_eq!(rt;
+    equal(&rt, count, 2);
+    equal(&rt, listed, [rows[2], rows[1]]);
+    equal(
+        &rt,
         tuhvondi_image_rows(alloc, &mut image, &mut from, &mut listed, &mut count),
-        0
+        0,
     );
-    assert_eq!(rt; count, 1);
-    assert_eq!(rt; listed, [rows[0], rows[1]]);
-    assert_eq!(rt; from.len, 33);
-    assert_eq!(rt;
+    equal(&rt, count, 1);
+    equal(&rt, listed, [rows[0], rows[1]]);
+    equal(&rt, from.len, 33);
+    equal(
+        &rt,
         tuhvondi_image_rows(alloc, &mut image, &mut from, &mut listed, &mut count),
-        0
+        0,
     );
-    assert_eq!(rt; count, 0);
+    equal(&rt, count, 0);
     // A prefix that has no row is passed over.
     let gone = [block(0x0a01_0000, 16), block(0x0a01_0000, 17)];
-    assert_eq!(rt; tuhvondi_image_remove(alloc, &mut image, 5, &gone), 0);
-    assert_eq!(rt;
+    equal(&rt, tuhvondi_image_remove(alloc, &mut image, 5, &gone), 0);
+    equal(
+        &rt,
         answer(alloc, &mut image, 0x0a01_0203),
-        Ok(via(0x0a00_0000, 8, 1))
+        Ok(via(0x0a00_0000, 8, 1)),
     );
     let mut generation = 0;
-    assert_eq!(rt;
+    equal(
+        &rt,
         tuhvondi_image_generation(alloc, &mut image, &mut generation),
-        0
+        0,
     );
-    assert_eq!(rt; generation, 5);
-    assert_eq!(rt; tuhvondi_image_row_count(alloc, &mut image, &mut count), 0);
-    assert_eq!(rt; count, 2);
+    equal(&rt, generation, 5);
+    equal(
+        &rt,
+        tuhvondi_image_row_count(alloc, &mut image, &mut count),
+        0,
+    );
+    equal(&rt, count, 2);
     // A root, and a node each for 2, 6 and 6 depths: cells of 16 bytes, and of 8 for results.
-    assert_eq!(rt; tuhvondi_image_bytes(alloc, &mut image, &mut count), 0);
-    assert!(rt; count >= 16 * 15 + 8 * 3);
+    equal(&rt, tuhvondi_image_bytes(alloc, &mut image, &mut count), 0);
+    equal(&rt, count >= 16 * 15 + 8 * 3, true);
 }
 
 // 10.0.0.0 with 16 times this in place of its second number.
@@ -242,31 +288,35 @@ fn place(v: u8) -> u32
 fn sixteen_patches_fill_a_node(rt: HostRuntime) {
     let alloc = rt.alloc();
     let mut image = ImageHandle::none(alloc);
-    assert_eq!(rt; tuhvondi_image_new(alloc, &[], &mut image), 0);
+    equal(&rt, tuhvondi_image_new(alloc, &[], &mut image), 0);
     for v in [15, 14, 13, 12, 11, 10, 9, 8, 7, 6, 5, 4, 3, 2, 1, 0] {
         let rows = [via(place(v), 12, v)];
         let generation = u64::from(v) + 1;
-        assert_eq!(rt;
+        equal(
+            &rt,
             tuhvondi_image_apply(alloc, &mut image, generation, &rows),
-            0
+            0,
         );
     }
-    assert_eq!(rt;
+    equal(
+        &rt,
         answer(alloc, &mut image, 0x0a60_0001),
-        Ok(via(0x0a60_0000, 12, 6))
+        Ok(via(0x0a60_0000, 12, 6)),
     );
     for v in [0, 1, 2, 3, 4, 5, 6, 7, 8, 9, 10, 11, 12, 13, 14, 15] {
-        assert_eq!(rt;
+        equal(
+            &rt,
             answer(alloc, &mut image, place(v) + 1),
-            Ok(via(place(v), 12, v))
+            Ok(via(place(v), 12, v)),
         );
     }
     let mut generation = 0;
-    assert_eq!(rt;
+    equal(
+        &rt,
         tuhvondi_image_generation(alloc, &mut image, &mut generation),
-        0
+        0,
     );
-    assert_eq!(rt; generation, 1);
+    equal(&rt, generation, 1);
 }
 
 #[test]
@@ -276,18 +326,24 @@ fn each_fault_has_its_number(rt: HostRuntime) {
     let mut other = ImageHandle::none(alloc);
     let mut answers = [NOTHING; 2];
     let mut generation = 9;
-    assert_eq!(rt; tuhvondi_image_apply(alloc, &mut image, 1, &[]), 7);
-    assert_eq!(rt;
+    equal(&rt, tuhvondi_image_apply(alloc, &mut image, 1, &[]), 7);
+    equal(
+        &rt,
         tuhvondi_image_lookup(alloc, &mut image, &[1], &mut answers),
-        7
+        7,
     );
-    assert_eq!(rt;
+    equal(
+        &rt,
         tuhvondi_image_generation(alloc, &mut image, &mut generation),
-        7
+        7,
     );
-    assert_eq!(rt; tuhvondi_image_share(alloc, &mut image, &mut other), 7);
-    assert_eq!(rt; generation, 9);
-    assert_eq!(rt; tuhvondi_image_new(alloc, &[via(0, 0, 1)], &mut image), 0);
+    equal(&rt, tuhvondi_image_share(alloc, &mut image, &mut other), 7);
+    equal(&rt, generation, 9);
+    equal(
+        &rt,
+        tuhvondi_image_new(alloc, &[via(0, 0, 1)], &mut image),
+        0,
+    );
     for (row, fault) in [
         (via(1, 33, 1), 3),
         (via(0x0a00_0001, 8, 1), 4),
@@ -295,18 +351,35 @@ fn each_fault_has_its_number(rt: HostRuntime) {
         (of_kind(0x0a00_0000, 8, 3), 6),
     ] {
         let rows = [via(0x0a00_0000, 8, 2), row, via(1, 33, 1)];
-        assert_eq!(rt; tuhvondi_image_new(alloc, &rows, &mut image), fault);
-        assert_eq!(rt; tuhvondi_image_apply(alloc, &mut image, 1, &rows), fault);
-        assert_eq!(rt; tuhvondi_image_apply(alloc, &mut other, 1, &rows), fault);
-        assert_eq!(rt; answer(alloc, &mut image, 0x0a00_0001), Ok(via(0, 0, 1)));
+        equal(&rt, tuhvondi_image_new(alloc, &rows, &mut image), fault);
+        equal(
+            &rt,
+            tuhvondi_image_apply(alloc, &mut image, 1, &rows),
+            fault,
+        );
+        equal(
+            &rt,
+            tuhvondi_image_apply(alloc, &mut other, 1, &rows),
+            fault,
+        );
+        equal(
+            &rt,
+            answer(alloc, &mut image, 0x0a00_0001),
+            Ok(via(0, 0, 1)),
+        );
     }
-    assert_eq!(rt;
+    equal(
+        &rt,
         tuhvondi_image_lookup(alloc, &mut image, &[1], &mut answers),
-        8
+        8,
     );
-    assert_eq!(rt; answers[0], NOTHING);
-    assert_eq!(rt; tuhvondi_image_lookup(alloc, &mut image, &[], &mut []), 0);
-    assert_eq!(rt; CallFault::NoMemory.number(), 20);
+    equal(&rt, answers[0], NOTHING);
+    equal(
+        &rt,
+        tuhvondi_image_lookup(alloc, &mut image, &[], &mut []),
+        0,
+    );
+    equal(&rt, CallFault::NoMemory.number(), 20);
 }
 
 // What the reader answers for one address, and by which generation, or the number of a fault.
@@ -327,21 +400,35 @@ fn readers_see_what_is_published(rt: HostRuntime) {
     let mut one = ReaderHandle::none(alloc);
     let mut two = ReaderHandle::none(alloc);
     let rows = [via(0x0a00_0000, 8, 1), via(0x0b00_0000, 8, 1)];
-    assert_eq!(rt; tuhvondi_writer_new(alloc, &mut image, 2, &mut writer), 7);
-    assert_eq!(rt; tuhvondi_image_new(alloc, &rows, &mut image), 0);
-    assert_eq!(rt;
-        tuhvondi_writer_new(alloc, &mut image, 1025, &mut writer),
-        8
+    equal(
+        &rt,
+        tuhvondi_writer_new(alloc, &mut image, 2, &mut writer),
+        7,
     );
-    assert_eq!(rt; tuhvondi_writer_reader(alloc, &mut writer, &mut one), 7);
-    assert_eq!(rt; tuhvondi_writer_publish(alloc, &mut writer, 1, &[], &[]), 7);
-    assert_eq!(rt; read(alloc, &mut one, 0x0a00_0001), Err(7));
-    assert_eq!(rt; tuhvondi_writer_new(alloc, &mut image, 2, &mut writer), 0);
-    assert_eq!(rt; tuhvondi_writer_reader(alloc, &mut writer, &mut one), 0);
-    assert_eq!(rt; tuhvondi_writer_reader(alloc, &mut writer, &mut two), 0);
-    assert_eq!(rt;
+    equal(&rt, tuhvondi_image_new(alloc, &rows, &mut image), 0);
+    equal(
+        &rt,
+        tuhvondi_writer_new(alloc, &mut image, 1025, &mut writer),
+        8,
+    );
+    equal(&rt, tuhvondi_writer_reader(alloc, &mut writer, &mut one), 7);
+    equal(
+        &rt,
+        tuhvondi_writer_publish(alloc, &mut writer, 1, &[], &[]),
+        7,
+    );
+    equal(&rt, read(alloc, &mut one, 0x0a00_0001), Err(7));
+    equal(
+        &rt,
+        tuhvondi_writer_new(alloc, &mut image, 2, &mut writer),
+        0,
+    );
+    equal(&rt, tuhvondi_writer_reader(alloc, &mut writer, &mut one), 0);
+    equal(&rt, tuhvondi_writer_reader(alloc, &mut writer, &mut two), 0);
+    equal(
+        &rt,
         read(alloc, &mut one, 0x0a00_0001),
-        Ok((via(0x0a00_0000, 8, 1), 0))
+        Ok((via(0x0a00_0000, 8, 1), 0)),
     );
     // Four publications, so that each copy is changed by two of them, and misses two.
     for generation in 1..=4u8 {
@@ -354,56 +441,77 @@ fn readers_see_what_is_published(rt: HostRuntime) {
             len: 8,
         }];
         let number = u64::from(generation);
-        assert_eq!(rt;
+        equal(
+            &rt,
             tuhvondi_writer_publish(alloc, &mut writer, number, &rows, &gone),
-            0
+            0,
         );
-        assert_eq!(rt;
+        equal(
+            &rt,
             read(alloc, &mut one, 0x0a00_0001),
-            Ok((via(0x0a00_0000, 8, generation), number))
+            Ok((via(0x0a00_0000, 8, generation), number)),
         );
-        assert_eq!(rt; read(alloc, &mut two, 0x0b00_0001), Ok((NOTHING, number)));
+        equal(
+            &rt,
+            read(alloc, &mut two, 0x0b00_0001),
+            Ok((NOTHING, number)),
+        );
     }
     for generation in 1..=4u32 {
-        assert_eq!(rt;
+        equal(
+            &rt,
             read(alloc, &mut two, generation << 28),
-            Ok((via(generation << 28, 4, 7), 4))
+            Ok((via(generation << 28, 4, 7), 4)),
         );
     }
     // A fault of a row, and then one of a prefix: nothing is published.
     let bad = [Block { addr: 1, len: 8 }];
-    assert_eq!(rt;
+    equal(
+        &rt,
         tuhvondi_writer_publish(alloc, &mut writer, 5, &[via(1, 33, 1)], &bad),
-        3
+        3,
     );
-    assert_eq!(rt;
+    equal(
+        &rt,
         tuhvondi_writer_publish(alloc, &mut writer, 5, &[], &bad),
-        4
+        4,
     );
-    assert_eq!(rt;
+    equal(
+        &rt,
         read(alloc, &mut one, 0x0a00_0001),
-        Ok((via(0x0a00_0000, 8, 4), 4))
+        Ok((via(0x0a00_0000, 8, 4), 4)),
     );
     // Handles have both readers; one that is freed makes room.
     let mut three = ReaderHandle::none(alloc);
-    assert_eq!(rt; tuhvondi_writer_reader(alloc, &mut writer, &mut three), 8);
-    tuhvondi_reader_free(alloc, &mut two);
-    assert_eq!(rt; tuhvondi_writer_reader(alloc, &mut writer, &mut three), 0);
-    let mut generation = 99;
-    assert_eq!(rt;
-        tuhvondi_reader_lookup(alloc, &mut three, &[1], &mut [], &mut generation),
-        8
+    equal(
+        &rt,
+        tuhvondi_writer_reader(alloc, &mut writer, &mut three),
+        8,
     );
-    assert_eq!(rt; generation, 99);
+    tuhvondi_reader_free(alloc, &mut two);
+    equal(
+        &rt,
+        tuhvondi_writer_reader(alloc, &mut writer, &mut three),
+        0,
+    );
+    let mut generation = 99;
+    equal(
+        &rt,
+        tuhvondi_reader_lookup(alloc, &mut three, &[1], &mut [], &mut generation),
+        8,
+    );
+    equal(&rt, generation, 99);
     // Readers outlive their writer, and the image that it was made of is as it was.
     tuhvondi_writer_free(alloc, &mut writer);
-    assert_eq!(rt;
+    equal(
+        &rt,
         read(alloc, &mut three, 0x0a00_0001),
-        Ok((via(0x0a00_0000, 8, 4), 4))
+        Ok((via(0x0a00_0000, 8, 4), 4)),
     );
-    assert_eq!(rt;
+    equal(
+        &rt,
         answer(alloc, &mut image, 0x0b00_0001),
-        Ok(via(0x0b00_0000, 8, 1))
+        Ok(via(0x0b00_0000, 8, 1)),
     );
 }
 
@@ -415,41 +523,61 @@ fn readers_learn_what_is_published(rt: HostRuntime) {
     let mut writer = WriterHandle::none(alloc);
     let mut reader = ReaderHandle::none(alloc);
     let mut published = 77;
-    assert_eq!(rt;
+    equal(
+        &rt,
         tuhvondi_writer_published(alloc, &mut writer, &mut published),
-        7
+        7,
     );
-    assert_eq!(rt; published, 77);
-    assert_eq!(rt; tuhvondi_reader_learn(alloc, &mut reader, 0), 7);
-    assert_eq!(rt; tuhvondi_image_new(alloc, &[via(0, 0, 0)], &mut image), 0);
-    assert_eq!(rt; tuhvondi_writer_new(alloc, &mut image, 1, &mut writer), 0);
-    assert_eq!(rt; tuhvondi_writer_reader(alloc, &mut writer, &mut reader), 0);
+    equal(&rt, published, 77);
+    equal(&rt, tuhvondi_reader_learn(alloc, &mut reader, 0), 7);
+    equal(
+        &rt,
+        tuhvondi_image_new(alloc, &[via(0, 0, 0)], &mut image),
+        0,
+    );
+    equal(
+        &rt,
+        tuhvondi_writer_new(alloc, &mut image, 1, &mut writer),
+        0,
+    );
+    equal(
+        &rt,
+        tuhvondi_writer_reader(alloc, &mut writer, &mut reader),
+        0,
+    );
     for number in 1..=4u8 {
         let count = u64::from(number);
-        assert_eq!(rt;
+        equal(
+            &rt,
             tuhvondi_writer_published(alloc, &mut writer, &mut published),
-            0
+            0,
         );
-        assert_eq!(rt; published, count);
+        equal(&rt, published, count);
         for (learned, status) in [(count, 0), (count + 1, 8), (u64::MAX, 8), (0, 0)] {
-            assert_eq!(rt; tuhvondi_reader_learn(alloc, &mut reader, learned), status);
+            equal(
+                &rt,
+                tuhvondi_reader_learn(alloc, &mut reader, learned),
+                status,
+            );
         }
         // A publication that is refused is none.
-        assert_eq!(rt;
+        equal(
+            &rt,
             tuhvondi_writer_publish(alloc, &mut writer, 9, &[via(1, 33, 1)], &[]),
-            3
+            3,
         );
         let rows = [via(0, 0, number)];
-        assert_eq!(rt;
+        equal(
+            &rt,
             tuhvondi_writer_publish(alloc, &mut writer, count, &rows, &[]),
-            0
+            0,
         );
-        assert_eq!(rt; tuhvondi_reader_learn(alloc, &mut reader, count + 1), 0);
-        assert_eq!(rt; read(alloc, &mut reader, 7), Ok((rows[0], count)));
+        equal(&rt, tuhvondi_reader_learn(alloc, &mut reader, count + 1), 0);
+        equal(&rt, read(alloc, &mut reader, 7), Ok((rows[0], count)));
     }
     tuhvondi_writer_free(alloc, &mut writer);
-    assert_eq!(rt; tuhvondi_reader_learn(alloc, &mut reader, 6), 8);
-    assert_eq!(rt; tuhvondi_reader_learn(alloc, &mut reader, 5), 0);
+    equal(&rt, tuhvondi_reader_learn(alloc, &mut reader, 6), 8);
+    equal(&rt, tuhvondi_reader_learn(alloc, &mut reader, 5), 0);
 }
 
 // As many readers as a writer may have: each answers by a publication in the next look-up after it.
@@ -460,32 +588,54 @@ fn a_thousand_readers_answer_by_the_last_publication(rt: HostRuntime) {
     let mut writer = WriterHandle::none(alloc);
     let mut other = ReaderHandle::none(alloc);
     let mut readers = Vec::with_capacity(alloc, 1024).expect(&rt, "memory");
-    assert_eq!(rt; tuhvondi_image_new(alloc, &[via(0, 0, 0)], &mut image), 0);
-    assert_eq!(rt;
+    equal(
+        &rt,
+        tuhvondi_image_new(alloc, &[via(0, 0, 0)], &mut image),
+        0,
+    );
+    equal(
+        &rt,
         tuhvondi_writer_new(alloc, &mut image, 1024, &mut writer),
-        0
+        0,
     );
     for _ in 0..1024 {
         let mut reader = ReaderHandle::none(alloc);
-        assert_eq!(rt; tuhvondi_writer_reader(alloc, &mut writer, &mut reader), 0);
+        equal(
+            &rt,
+            tuhvondi_writer_reader(alloc, &mut writer, &mut reader),
+            0,
+        );
         readers.push(reader).expect(&rt, "memory");
     }
-    assert_eq!(rt; tuhvondi_writer_reader(alloc, &mut writer, &mut other), 8);
+    equal(
+        &rt,
+        tuhvondi_writer_reader(alloc, &mut writer, &mut other),
+        8,
+    );
     for number in 1..=4u8 {
         let generation = u64::from(number);
         let rows = [via(0, 0, number)];
-        assert_eq!(rt;
+        equal(
+            &rt,
             tuhvondi_writer_publish(alloc, &mut writer, generation, &rows, &[]),
-            0
+            0,
         );
         for reader in &mut readers {
-            assert_eq!(rt; read(alloc, reader, 7), Ok((rows[0], generation)));
+            equal(&rt, read(alloc, reader, 7), Ok((rows[0], generation)));
         }
     }
     // Any one that is freed makes room for one more, which begins with what is published.
     let mut last = readers.pop().expect(&rt, "1,024 readers");
     tuhvondi_reader_free(alloc, &mut last);
-    assert_eq!(rt; tuhvondi_writer_reader(alloc, &mut writer, &mut other), 0);
-    assert_eq!(rt; read(alloc, &mut other, 7), Ok((via(0, 0, 4), 4)));
-    assert_eq!(rt; tuhvondi_writer_reader(alloc, &mut writer, &mut last), 8);
+    equal(
+        &rt,
+        tuhvondi_writer_reader(alloc, &mut writer, &mut other),
+        0,
+    );
+    equal(&rt, read(alloc, &mut other, 7), Ok((via(0, 0, 4), 4)));
+    equal(
+        &rt,
+        tuhvondi_writer_reader(alloc, &mut writer, &mut last),
+        8,
+    );
 }

@@ -19,6 +19,14 @@ use network_calls::{
 };
 use single_router::{Frame, State};
 use std::alloc::Global;
+use std::fmt::Debug;
+use std::process::Abort;
+
+// What was found is what was wanted. An `assert_eq!` that is written out costs the gate three seconds, and a call of this
+// function less than one, because it is proved once.
+pub(crate) fn equal<T: PartialEq + Debug + Drop>(rt: &impl Abort, found: T, wanted: T) {
+    assert_eq!(rt; found, wanted);
+}
 
 const NOWHERE: FaultPlace = FaultPlace {
     position: 9,
@@ -95,28 +103,32 @@ fn line_settles_and_a_cut_is_heard(rt: HostRuntime) {
     let alloc = rt.alloc();
     let mut network = line(alloc);
     let mut done = 0;
-    assert_eq!(rt;
+    equal(
+        &rt,
         tuhvondi_network_run(alloc, &mut network, &[plain(0, 0), plain(0, 1)], &mut done),
-        0
+        0,
     );
-    assert_eq!(rt; done, 2);
+    equal(&rt, done, 2);
     for seed in [0, 1, 7] {
-        assert_eq!(rt;
+        equal(
+            &rt,
             tuhvondi_network_settle(alloc, &mut network, seed, 10_000, &mut done),
-            0
+            0,
         );
     }
     let mut settled = 9;
-    assert_eq!(rt;
+    equal(
+        &rt,
         tuhvondi_network_is_settled(alloc, &mut network, &mut settled),
-        0
+        0,
     );
-    assert_eq!(rt; settled, 1);
-    assert_eq!(rt; look_up(alloc, &mut network, 0), row(0, 0, 0));
-    assert_eq!(rt; look_up(alloc, &mut network, 1), row(1, 0, 1));
-    assert_eq!(rt; look_up(alloc, &mut network, 2), row(1, 0, 1));
+    equal(&rt, settled, 1);
+    equal(&rt, look_up(alloc, &mut network, 0), row(0, 0, 0));
+    equal(&rt, look_up(alloc, &mut network, 1), row(1, 0, 1));
+    equal(&rt, look_up(alloc, &mut network, 2), row(1, 0, 1));
     let (mut hops, mut count, mut end) = ([9, 9, 9, 9], 0, 9);
-    assert_eq!(rt;
+    equal(
+        &rt,
         tuhvondi_network_trace(
             alloc,
             &mut network,
@@ -124,22 +136,28 @@ fn line_settles_and_a_cut_is_heard(rt: HostRuntime) {
             0x0a01_0203,
             &mut hops,
             &mut count,
-            &mut end
+            &mut end,
         ),
-        0
+        0,
     );
-    assert_eq!(rt; (count, end), (3, 0));
-    assert_eq!(rt; hops, [2, 1, 0, 9]);
+    equal(&rt, (count, end), (3, 0));
+    equal(&rt, hops, [2, 1, 0, 9]);
     let (mut rows, mut more) = ([NO_ROW; 2], 9);
-    assert_eq!(rt;
+    equal(
+        &rt,
         tuhvondi_network_rows(alloc, &mut network, 2, &mut rows, &mut count, &mut more),
-        0
+        0,
     );
-    assert_eq!(rt; (count, more), (1, 0));
-    assert_eq!(rt; rows, [row(1, 0, 1), NO_ROW]);
+    equal(&rt, (count, more), (1, 0));
+    equal(&rt, rows, [row(1, 0, 1), NO_ROW]);
     // The link of routers 0 and 1 goes down: until router 1 hears of that, its row leads over a dead link.
-    assert_eq!(rt; tuhvondi_network_step(alloc, &mut network, &plain(1, 0)), 0);
-    assert_eq!(rt;
+    equal(
+        &rt,
+        tuhvondi_network_step(alloc, &mut network, &plain(1, 0)),
+        0,
+    );
+    equal(
+        &rt,
         tuhvondi_network_trace(
             alloc,
             &mut network,
@@ -147,29 +165,31 @@ fn line_settles_and_a_cut_is_heard(rt: HostRuntime) {
             0x0a01_0203,
             &mut hops,
             &mut count,
-            &mut end
+            &mut end,
         ),
-        0
+        0,
     );
-    assert_eq!(rt; (count, end), (2, 3));
-    assert_eq!(rt;
+    equal(&rt, (count, end), (2, 3));
+    equal(
+        &rt,
         tuhvondi_network_settle(alloc, &mut network, 0, 10_000, &mut done),
-        0
+        0,
     );
-    assert_eq!(rt; look_up(alloc, &mut network, 1), row(2, 0, 0));
-    assert_eq!(rt; look_up(alloc, &mut network, 2), row(2, 0, 0));
+    equal(&rt, look_up(alloc, &mut network, 1), row(2, 0, 0));
+    equal(&rt, look_up(alloc, &mut network, 2), row(2, 0, 0));
     let mut counts = Counts {
         steps: 0,
         updates: 0,
         queries: 0,
         replies: 0,
     };
-    assert_eq!(rt;
+    equal(
+        &rt,
         tuhvondi_network_counts(alloc, &mut network, &mut counts),
-        0
+        0,
     );
     // Each query is answered once.
-    assert_eq!(rt; counts.queries, counts.replies);
+    equal(&rt, counts.queries, counts.replies);
     tuhvondi_network_free(alloc, &mut network);
 }
 
@@ -278,10 +298,11 @@ fn a_query_is_shown_on_its_way(rt: HostRuntime) {
     let alloc = rt.alloc();
     let mut network = line(alloc);
     let mut done = 0;
-    assert_eq!(rt; machine(alloc, &mut network), Err(28));
-    assert_eq!(rt;
+    equal(&rt, machine(alloc, &mut network), Err(28));
+    equal(
+        &rt,
         tuhvondi_network_run(alloc, &mut network, &[plain(0, 0), plain(0, 1)], &mut done),
-        0
+        0,
     );
     let came_up = ItemShown {
         value: 1,
@@ -289,35 +310,41 @@ fn a_query_is_shown_on_its_way(rt: HostRuntime) {
         kind: 3,
         ..NO_ITEM
     };
-    assert_eq!(rt; item(alloc, &mut network, 1, 0, 2), Ok((came_up, 1, 0)));
-    assert_eq!(rt; item(alloc, &mut network, 1, 0, 0), Ok((NO_ITEM, 0, 1)));
-    assert_eq!(rt;
+    equal(&rt, item(alloc, &mut network, 1, 0, 2), Ok((came_up, 1, 0)));
+    equal(&rt, item(alloc, &mut network, 1, 0, 0), Ok((NO_ITEM, 0, 1)));
+    equal(
+        &rt,
         tuhvondi_network_settle(alloc, &mut network, 0, 10_000, &mut done),
-        0
+        0,
     );
     // Router 1 loses its successor, and router 2 is no feasible one. So router 1 asks it, and waits until its
     // row is in force.
-    assert_eq!(rt;
+    equal(
+        &rt,
         tuhvondi_network_run(alloc, &mut network, &[plain(1, 0), plain(3, 1)], &mut done),
-        0
+        0,
     );
     let shown = machine(alloc, &mut network);
-    assert!(rt;
+    equal(
+        &rt,
         shown.is_ok_and(|m| m.successor == 255
             && m.neighbours[0].up == 0
             && m.neighbours[1]
                 == NeighbourShown {
                     reported: 3,
                     cost: 1,
-                    up: 1
-                })
+                    up: 1,
+                }),
+        true,
     );
-    assert!(rt;
+    equal(
+        &rt,
         shown.is_ok_and(|m| m.state.rd == u32::MAX
             && m.state.fd == 2
             && m.state.active == 1
             && m.state.awaited[1] == 1
-            && m.state.published == row(1, 0, 1))
+            && m.state.published == row(1, 0, 1)),
+        true,
     );
     let cut = LinkShown {
         to_a: 1,
@@ -329,7 +356,7 @@ fn a_query_is_shown_on_its_way(rt: HostRuntime) {
         session: 1,
         up: 0,
     };
-    assert_eq!(rt; link(alloc, &mut network, 0), Ok(cut));
+    equal(&rt, link(alloc, &mut network, 0), Ok(cut));
     let mut waits = GateShown {
         held: 1,
         ripe: 0,
@@ -338,9 +365,13 @@ fn a_query_is_shown_on_its_way(rt: HostRuntime) {
         front: NO_MESSAGE,
         due: 1,
     };
-    assert_eq!(rt; gate(alloc, &mut network, 1), Ok(waits));
+    equal(&rt, gate(alloc, &mut network, 1), Ok(waits));
     // Router 1 publishes, and then its query leaves: it has no distance any more.
-    assert_eq!(rt; tuhvondi_network_step(alloc, &mut network, &plain(4, 1)), 0);
+    equal(
+        &rt,
+        tuhvondi_network_step(alloc, &mut network, &plain(4, 1)),
+        0,
+    );
     waits.ripe = 1;
     waits.generation = 2;
     waits.due = 0;
@@ -352,8 +383,12 @@ fn a_query_is_shown_on_its_way(rt: HostRuntime) {
         kind: 1,
         port: 1,
     };
-    assert_eq!(rt; gate(alloc, &mut network, 1), Ok(waits));
-    assert_eq!(rt; tuhvondi_network_step(alloc, &mut network, &plain(5, 1)), 0);
+    equal(&rt, gate(alloc, &mut network, 1), Ok(waits));
+    equal(
+        &rt,
+        tuhvondi_network_step(alloc, &mut network, &plain(5, 1)),
+        0,
+    );
     let query = ItemShown {
         addr: 0x0a00_0000,
         value: u32::MAX,
@@ -361,15 +396,15 @@ fn a_query_is_shown_on_its_way(rt: HostRuntime) {
         kind: 1,
         len: 8,
     };
-    assert_eq!(rt; item(alloc, &mut network, 2, 0, 2), Ok((query, 1, 0)));
+    equal(&rt, item(alloc, &mut network, 2, 0, 2), Ok((query, 1, 0)));
     // Hostile arguments.
-    assert_eq!(rt; item(alloc, &mut network, 3, 0, 2), Err(10));
-    assert_eq!(rt; item(alloc, &mut network, 2, 1, 2), Err(11));
-    assert_eq!(rt; link(alloc, &mut network, 2), Err(11));
-    assert_eq!(rt; gate(alloc, &mut network, 3), Err(10));
+    equal(&rt, item(alloc, &mut network, 3, 0, 2), Err(10));
+    equal(&rt, item(alloc, &mut network, 2, 1, 2), Err(11));
+    equal(&rt, link(alloc, &mut network, 2), Err(11));
+    equal(&rt, gate(alloc, &mut network, 3), Err(10));
     tuhvondi_network_free(alloc, &mut network);
-    assert_eq!(rt; machine(alloc, &mut network), Err(7));
-    assert_eq!(rt; gate(alloc, &mut network, 0), Err(7));
+    equal(&rt, machine(alloc, &mut network), Err(7));
+    equal(&rt, gate(alloc, &mut network, 0), Err(7));
 }
 
 #[test]
@@ -378,89 +413,103 @@ fn faults_are_told_with_their_place(rt: HostRuntime) {
     let mut network = NetworkHandle::none(alloc);
     let mut place = NOWHERE;
     // No router; the second link joins the same two; the first link has no cost from its second end.
-    assert_eq!(rt;
+    equal(
+        &rt,
         tuhvondi_network_new(alloc, 0, &[], &[], &mut place, &mut network),
-        24
+        24,
     );
-    assert_eq!(rt;
+    equal(
+        &rt,
         place,
         FaultPlace {
             position: 0,
-            list: 0
-        }
+            list: 0,
+        },
     );
-    assert_eq!(rt;
+    equal(
+        &rt,
         tuhvondi_network_new(
             alloc,
             3,
             &[LINE[0], LINE[0]],
             &OWNER,
             &mut place,
-            &mut network
+            &mut network,
         ),
-        25
+        25,
     );
-    assert_eq!(rt;
+    equal(
+        &rt,
         place,
         FaultPlace {
             position: 1,
-            list: 1
-        }
+            list: 1,
+        },
     );
     let costless = LinkParts {
         from_b: 0,
         ..LINE[1]
     };
-    assert_eq!(rt;
+    equal(
+        &rt,
         tuhvondi_network_new(
             alloc,
             3,
             &[LINE[0], costless],
             &OWNER,
             &mut place,
-            &mut network
+            &mut network,
         ),
-        5
+        5,
     );
-    assert_eq!(rt;
+    equal(
+        &rt,
         place,
         FaultPlace {
             position: 1,
-            list: 1
-        }
+            list: 1,
+        },
     );
     let long = AttachmentParts {
         len: 33,
         ..OWNER[0]
     };
-    assert_eq!(rt;
+    equal(
+        &rt,
         tuhvondi_network_new(alloc, 3, &LINE, &[OWNER[0], long], &mut place, &mut network),
-        3
+        3,
     );
-    assert_eq!(rt;
+    equal(
+        &rt,
         place,
         FaultPlace {
             position: 1,
-            list: 2
-        }
+            list: 2,
+        },
     );
     let nobody = AttachmentParts {
         router: 3,
         ..OWNER[0]
     };
-    assert_eq!(rt;
+    equal(
+        &rt,
         tuhvondi_network_new(alloc, 3, &LINE, &[nobody], &mut place, &mut network),
-        27
+        27,
     );
-    assert_eq!(rt;
+    equal(
+        &rt,
         place,
         FaultPlace {
             position: 0,
-            list: 2
-        }
+            list: 2,
+        },
     );
     // The handle is empty still.
-    assert_eq!(rt; tuhvondi_network_step(alloc, &mut network, &plain(0, 0)), 7);
+    equal(
+        &rt,
+        tuhvondi_network_step(alloc, &mut network, &plain(0, 0)),
+        7,
+    );
     tuhvondi_network_free(alloc, &mut network);
 }
 
@@ -468,47 +517,60 @@ fn faults_are_told_with_their_place(rt: HostRuntime) {
 fn refused_steps_are_told(rt: HostRuntime) {
     let alloc = rt.alloc();
     let mut network = line(alloc);
-    assert_eq!(rt; tuhvondi_network_step(alloc, &mut network, &plain(8, 0)), 6);
-    assert_eq!(rt;
+    equal(
+        &rt,
+        tuhvondi_network_step(alloc, &mut network, &plain(8, 0)),
+        6,
+    );
+    equal(
+        &rt,
         tuhvondi_network_step(alloc, &mut network, &plain(0, 2)),
-        11
+        11,
     );
-    assert_eq!(rt;
+    equal(
+        &rt,
         tuhvondi_network_step(alloc, &mut network, &plain(1, 0)),
-        14
+        14,
     );
-    assert_eq!(rt;
+    equal(
+        &rt,
         tuhvondi_network_step(alloc, &mut network, &plain(4, 3)),
-        10
+        10,
     );
-    assert_eq!(rt;
+    equal(
+        &rt,
         tuhvondi_network_step(alloc, &mut network, &plain(4, 0)),
-        17
+        17,
     );
-    assert_eq!(rt;
+    equal(
+        &rt,
         tuhvondi_network_step(alloc, &mut network, &plain(5, 0)),
-        18
+        18,
     );
     let mut done = 9;
-    assert_eq!(rt;
+    equal(
+        &rt,
         tuhvondi_network_run(alloc, &mut network, &[plain(0, 0), plain(0, 0)], &mut done),
-        13
+        13,
     );
-    assert_eq!(rt; done, 1);
+    equal(&rt, done, 1);
     let mut next = plain(9, 9);
-    assert_eq!(rt;
+    equal(
+        &rt,
         tuhvondi_network_next_step(alloc, &mut network, 0, &mut next),
-        0
+        0,
     );
-    assert_eq!(rt; next, plain(3, 0));
-    assert_eq!(rt;
+    equal(&rt, next, plain(3, 0));
+    equal(
+        &rt,
         tuhvondi_network_next_step(alloc, &mut network, 2, &mut next),
-        0
+        0,
     );
-    assert_eq!(rt; next, plain(255, 0));
-    assert_eq!(rt;
+    equal(&rt, next, plain(255, 0));
+    equal(
+        &rt,
         tuhvondi_network_next_step(alloc, &mut network, 3, &mut next),
-        10
+        10,
     );
     tuhvondi_network_free(alloc, &mut network);
 }
@@ -527,22 +589,30 @@ fn a_copy_goes_its_own_way(rt: HostRuntime) {
     let mut done = 0;
     let _ = tuhvondi_network_run(alloc, &mut network, &[plain(0, 0), plain(0, 1)], &mut done);
     let _ = tuhvondi_network_settle(alloc, &mut network, 0, 3, &mut done);
-    assert_eq!(rt; tuhvondi_network_copy(alloc, &mut network, &mut other), 0);
+    equal(
+        &rt,
+        tuhvondi_network_copy(alloc, &mut network, &mut other),
+        0,
+    );
     // Both have as much left to do, and come to rest alike.
-    assert_eq!(rt; settle(alloc, &mut other), settle(alloc, &mut network));
-    assert_eq!(rt; look_up(alloc, &mut other, 2), row(1, 0, 1));
+    equal(&rt, settle(alloc, &mut other), settle(alloc, &mut network));
+    equal(&rt, look_up(alloc, &mut other, 2), row(1, 0, 1));
     // A link of the copy goes down. Then a copy of that copy replaces it.
-    assert_eq!(rt; tuhvondi_network_step(alloc, &mut other, &plain(1, 0)), 0);
+    equal(
+        &rt,
+        tuhvondi_network_step(alloc, &mut other, &plain(1, 0)),
+        0,
+    );
     let mut third = line(alloc);
-    assert_eq!(rt; tuhvondi_network_copy(alloc, &mut other, &mut third), 0);
+    equal(&rt, tuhvondi_network_copy(alloc, &mut other, &mut third), 0);
     tuhvondi_network_free(alloc, &mut other);
-    assert!(rt; settle(alloc, &mut third) > 0);
-    assert_eq!(rt; look_up(alloc, &mut third, 2), row(2, 0, 0));
-    assert_eq!(rt; look_up(alloc, &mut network, 2), row(1, 0, 1));
-    assert_eq!(rt; settle(alloc, &mut network), 0);
+    equal(&rt, settle(alloc, &mut third) > 0, true);
+    equal(&rt, look_up(alloc, &mut third, 2), row(2, 0, 0));
+    equal(&rt, look_up(alloc, &mut network, 2), row(1, 0, 1));
+    equal(&rt, settle(alloc, &mut network), 0);
     // An empty handle has nothing to copy, and the other keeps what it holds.
-    assert_eq!(rt; tuhvondi_network_copy(alloc, &mut other, &mut third), 7);
-    assert_eq!(rt; look_up(alloc, &mut third, 2), row(2, 0, 0));
+    equal(&rt, tuhvondi_network_copy(alloc, &mut other, &mut third), 7);
+    equal(&rt, look_up(alloc, &mut third, 2), row(2, 0, 0));
     tuhvondi_network_free(alloc, &mut network);
     tuhvondi_network_free(alloc, &mut third);
 }
@@ -651,14 +721,15 @@ fn limits_are_those_of_the_caller(rt: HostRuntime) {
     ];
     for (limits, status, position, list) in rows {
         let mut place = NOWHERE;
-        assert_eq!(rt;
+        equal(
+            &rt,
             tuhvondi_network_within(alloc, &limits, 3, &LINE, &OWNER, &mut place, &mut network),
-            status
+            status,
         );
-        assert_eq!(rt; place, FaultPlace { position, list });
+        equal(&rt, place, FaultPlace { position, list });
     }
     // The network of the widest limits is held still. A fault of the limits comes before those of the lists.
-    assert_eq!(rt; look_up(alloc, &mut network, 0), row(0, 0, 0));
+    equal(&rt, look_up(alloc, &mut network, 0), row(0, 0, 0));
     let mut place = NOWHERE;
     let costless = [LinkParts {
         from_a: 0,
@@ -666,9 +737,10 @@ fn limits_are_those_of_the_caller(rt: HostRuntime) {
     }];
     let over = LimitsParts { ports: 33, ..TIGHT };
     for (limits, status) in [(over, 50), (TIGHT, 5)] {
-        assert_eq!(rt;
+        equal(
+            &rt,
             tuhvondi_network_within(alloc, &limits, 0, &costless, &[], &mut place, &mut network),
-            status
+            status,
         );
     }
     tuhvondi_network_free(alloc, &mut network);
@@ -689,7 +761,8 @@ fn the_last_of_all_routers_is_reached(rt: HostRuntime) {
         router: 65_535,
         ..OWNER[0]
     }];
-    assert_eq!(rt;
+    equal(
+        &rt,
         tuhvondi_network_within(
             alloc,
             &WIDEST,
@@ -697,11 +770,12 @@ fn the_last_of_all_routers_is_reached(rt: HostRuntime) {
             &links,
             &owner,
             &mut place,
-            &mut network
+            &mut network,
         ),
-        24
+        24,
     );
-    assert_eq!(rt;
+    equal(
+        &rt,
         tuhvondi_network_within(
             alloc,
             &WIDEST,
@@ -709,14 +783,19 @@ fn the_last_of_all_routers_is_reached(rt: HostRuntime) {
             &links,
             &owner,
             &mut place,
-            &mut network
+            &mut network,
         ),
-        0
+        0,
     );
-    assert_eq!(rt; tuhvondi_network_step(alloc, &mut network, &plain(0, 0)), 0);
-    assert!(rt; settle(alloc, &mut network) > 0);
+    equal(
+        &rt,
+        tuhvondi_network_step(alloc, &mut network, &plain(0, 0)),
+        0,
+    );
+    equal(&rt, settle(alloc, &mut network) > 0, true);
     let (mut hops, mut count, mut end) = ([9, 9, 9], 0, 9);
-    assert_eq!(rt;
+    equal(
+        &rt,
         tuhvondi_network_trace(
             alloc,
             &mut network,
@@ -724,12 +803,12 @@ fn the_last_of_all_routers_is_reached(rt: HostRuntime) {
             0x0a01_0203,
             &mut hops,
             &mut count,
-            &mut end
+            &mut end,
         ),
-        0
+        0,
     );
-    assert_eq!(rt; (count, end), (2, 0));
-    assert_eq!(rt; hops, [0, 65_535, 9]);
+    equal(&rt, (count, end), (2, 0));
+    equal(&rt, hops, [0, 65_535, 9]);
     tuhvondi_network_free(alloc, &mut network);
 }
 
@@ -754,41 +833,49 @@ fn notices_and_held_messages_are_shown(rt: HostRuntime) {
     };
     let (mut notices, mut written, mut more) = ([none; 3], 9, 9);
     let steps = [attachment(6, 3), attachment(7, 0), attachment(6, 2)];
-    assert_eq!(rt;
+    equal(
+        &rt,
         tuhvondi_network_run(alloc, &mut network, &steps, &mut written),
-        0
+        0,
     );
     let told = |cost| NoticeShown {
         addr: 0x0a00_0000,
         cost,
         len: 8,
     };
-    assert_eq!(rt;
+    equal(
+        &rt,
         tuhvondi_network_notices(
             alloc,
             &mut network,
             1,
             &mut notices[..2],
             &mut written,
-            &mut more
+            &mut more,
         ),
-        0
+        0,
     );
-    assert_eq!(rt; (notices, written, more), ([told(3), told(0), none], 2, 1));
-    assert_eq!(rt;
+    equal(
+        &rt,
+        (notices, written, more),
+        ([told(3), told(0), none], 2, 1),
+    );
+    equal(
+        &rt,
         tuhvondi_network_notices(
             alloc,
             &mut network,
             1,
             &mut notices,
             &mut written,
-            &mut more
+            &mut more,
         ),
-        0
+        0,
     );
-    assert_eq!(rt;
+    equal(
+        &rt,
         (notices, written, more),
-        ([told(3), told(0), told(2)], 3, 0)
+        ([told(3), told(0), told(2)], 3, 0),
     );
     // Router 1 hears of both its links, and then of its attachment: it holds an update for each neighbour.
     let taken = |port| StepParts {
@@ -796,33 +883,36 @@ fn notices_and_held_messages_are_shown(rt: HostRuntime) {
         ..plain(3, 1)
     };
     let steps = [plain(0, 0), plain(0, 1), taken(0), taken(1), taken(2)];
-    assert_eq!(rt;
+    equal(
+        &rt,
         tuhvondi_network_run(alloc, &mut network, &steps, &mut written),
-        0
+        0,
     );
     let mut messages = [NO_MESSAGE; 3];
-    assert_eq!(rt;
+    equal(
+        &rt,
         tuhvondi_network_held(
             alloc,
             &mut network,
             1,
             &mut messages[..1],
             &mut written,
-            &mut more
+            &mut more,
         ),
-        0
+        0,
     );
-    assert_eq!(rt; (written, more), (1, 1));
-    assert_eq!(rt;
+    equal(&rt, (written, more), (1, 1));
+    equal(
+        &rt,
         tuhvondi_network_held(
             alloc,
             &mut network,
             1,
             &mut messages,
             &mut written,
-            &mut more
+            &mut more,
         ),
-        0
+        0,
     );
     let update = |port| Frame {
         addr: 0x0a00_0000,
@@ -832,35 +922,38 @@ fn notices_and_held_messages_are_shown(rt: HostRuntime) {
         kind: 0,
         port,
     };
-    assert_eq!(rt;
+    equal(
+        &rt,
         (messages, written, more),
-        ([update(0), update(1), NO_MESSAGE], 2, 0)
+        ([update(0), update(1), NO_MESSAGE], 2, 0),
     );
     // Hostile arguments write nothing.
     for (router, status) in [(3, 10), (65_535, 10)] {
-        assert_eq!(rt;
+        equal(
+            &rt,
             tuhvondi_network_held(
                 alloc,
                 &mut network,
                 router,
                 &mut messages,
                 &mut written,
-                &mut more
+                &mut more,
             ),
-            status
+            status,
         );
-        assert_eq!(rt;
+        equal(
+            &rt,
             tuhvondi_network_notices(
                 alloc,
                 &mut network,
                 router,
                 &mut notices,
                 &mut written,
-                &mut more
+                &mut more,
             ),
-            status
+            status,
         );
     }
-    assert_eq!(rt; (written, more), (2, 0));
+    equal(&rt, (written, more), (2, 0));
     tuhvondi_network_free(alloc, &mut network);
 }

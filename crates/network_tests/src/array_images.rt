@@ -3,7 +3,7 @@
 
 use crate::images::NESTED;
 use crate::refusals::ballast;
-use crate::values::{addr, prefix, via};
+use crate::values::{addr, equal, prefix, via};
 use array_bitmap::parts::{
     FirstBits, copy, empty, remove_row, set_generation, set_row, set_rows, widen, widened, with,
 };
@@ -70,7 +70,7 @@ impl Both {
         let before = self.rows.len();
         self.rows.retain(|row| row.0 != prefix);
         let found = self.rows.len() < before;
-        assert_eq!(rt; remove_row(&mut self.image, prefix), found);
+        equal(rt, remove_row(&mut self.image, prefix), found);
     }
 
     // The row with the longest prefix that covers an address, by a scan.
@@ -116,8 +116,8 @@ impl Both {
         self.image.lookup_all(addrs, &mut answers);
         for k in 0..addrs.len() {
             let wanted = self.scan(addrs[k]);
-            assert_eq!(rt; answers[k], wanted);
-            assert_eq!(rt; self.image.lookup(addrs[k]), answers[k]);
+            equal(rt, answers[k], wanted);
+            equal(rt, self.image.lookup(addrs[k]), answers[k]);
         }
     }
 
@@ -269,7 +269,11 @@ fn array_rows_that_come_and_go_take_no_more_memory(rt: HostRuntime) {
         for _ in 0..20 {
             come_and_go(&rt, &mut both);
         }
-        assert_eq!(rt; (both.image.bytes(), both.image.lookup(AT)), (bytes, None));
+        equal(
+            &rt,
+            (both.image.bytes(), both.image.lookup(AT)),
+            (bytes, None),
+        );
     }
 }
 
@@ -284,10 +288,10 @@ fn copies_and_wider_images_have_the_rows(rt: HostRuntime) {
         let mut other = copy(&old, rt.alloc()).expect(&rt, "memory");
         let gone = prefix(&rt, "10.0.0.0/8");
         set_row(&mut other, gone, via(1)).expect(&rt, "memory");
-        assert_eq!(rt; (old.generation(), other.generation()), (5, 5));
+        equal(&rt, (old.generation(), other.generation()), (5, 5));
         both.image = old;
         both.agrees(&rt, rt.alloc());
-        assert_eq!(rt; other.lookup(0x0a80_0000), Some((gone, via(1))));
+        equal(&rt, other.lookup(0x0a80_0000), Some((gone, via(1))));
     }
 }
 
@@ -297,9 +301,10 @@ fn array_rows_are_set_in_order(rt: HostRuntime) {
     let mut image = empty(rt.alloc()).expect(&rt, "memory");
     set_rows(&mut image, &[]).expect(&rt, "memory");
     set_rows(&mut image, &[(block, via(1)), (block, Entry::Local)]).expect(&rt, "memory");
-    assert_eq!(rt;
+    equal(
+        &rt,
         image.lookup(addr(&rt, "10.0.0.2")),
-        Some((block, Entry::Local))
+        Some((block, Entry::Local)),
     );
 }
 
@@ -353,17 +358,18 @@ fn an_image_that_cannot_be_widened_stays(rt: HostRuntime) {
         }
     }
     widen(&mut image, &heap);
-    assert_eq!(rt; (image.bytes(), image.row_count()), (bytes, 100));
+    equal(&rt, (image.bytes(), image.row_count()), (bytes, 100));
     drop(pieces);
     // It is tried again with twice the words.
     for i in 100..250 {
         set_row(&mut image, far(i), Entry::Local).expect(&rt, "room");
         widen(&mut image, &heap);
     }
-    assert_eq!(rt; image.row_count(), 250);
-    assert_eq!(rt;
+    equal(&rt, image.row_count(), 250);
+    equal(
+        &rt,
         image.lookup(far(249).addr()),
-        Some((far(249), Entry::Local))
+        Some((far(249), Entry::Local)),
     );
 }
 
@@ -384,11 +390,11 @@ pub(crate) fn set_two(rt: &impl Abort, heap: &LocalHeap, left: usize) -> bool {
     let first = set_rows(&mut image, &rows);
     drop(weight);
     if first.is_err() {
-        assert_eq!(rt; image.row_count(), 5);
+        equal(rt, image.row_count(), 5);
         set_rows(&mut image, &rows).expect(rt, "room");
     }
-    assert_eq!(rt; image.row_count(), 7);
-    assert_eq!(rt; image.lookup(far(6).addr()), Some(rows[1]));
+    equal(rt, image.row_count(), 7);
+    equal(rt, image.lookup(far(6).addr()), Some(rows[1]));
     first.is_err()
 }
 
@@ -404,12 +410,13 @@ pub(crate) fn copy_five(rt: &impl Abort, heap: &LocalHeap, left: usize, anew: bo
     };
     drop(weight);
     if let Ok(other) = &first {
-        assert_eq!(rt;
+        equal(
+            rt,
             (other.row_count(), other.lookup(far(4).addr())),
-            (5, Some((far(4), Entry::Local)))
+            (5, Some((far(4), Entry::Local))),
         );
         return false;
     }
-    assert_eq!(rt; (heap.used(), image.row_count()), (used, 5));
+    equal(rt, (heap.used(), image.row_count()), (used, 5));
     true
 }

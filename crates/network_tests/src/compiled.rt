@@ -1,6 +1,6 @@
 //! A table that is compiled, and looked up.
 
-use crate::values::{addr, prefix};
+use crate::values::{addr, equal, prefix};
 use image_compiler::compile;
 use network_model::Entry;
 use route_table::RouteTable;
@@ -39,6 +39,6 @@ fn compiles_the_chosen_rows(rt: HostRuntime) {
     let mut table = RouteTable::new(rt.alloc());
     set_rows(&rt, &mut table);
     let image = compile(rt.alloc(), &table).expect(&rt, "memory");
-    assert_eq!(rt; image.generation(), 0);
+    equal(&rt, image.generation(), 0);
     finds_all(&rt, &image);
 }

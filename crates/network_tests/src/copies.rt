@@ -3,7 +3,7 @@
 use crate::gates::held;
 use crate::links::one_link;
 use crate::routers::{one_port, take, up};
-use crate::values::{ten, update, via};
+use crate::values::{equal, ten, update, via};
 use crate::worlds::{LEARNS, do_all, does, second, two_routers};
 use network_model::{End, Entry, Item};
 use release_gate::Gate;
@@ -24,8 +24,12 @@ fn a_copy_of_a_world_goes_its_own_way(rt: HostRuntime) {
     let mut copy = world.copy(rt.alloc()).expect(&rt, "memory");
     do_all(&rt, &mut copy, &LOSES);
     let lost = second(&rt, &copy).table().published(ten());
-    assert_eq!(rt; lost, Some(Entry::Unreachable));
-    assert_eq!(rt; second(&rt, &world).table().published(ten()), Some(via(0)));
+    equal(&rt, lost, Some(Entry::Unreachable));
+    equal(
+        &rt,
+        second(&rt, &world).table().published(ten()),
+        Some(via(0)),
+    );
     does(&rt, &mut world, Step::Release { router: 1 }, Ok(()));
     assert!(rt; world.links().len() == 1 && world.links().is_up(0));
 }
@@ -38,7 +42,7 @@ fn a_copy_of_links_has_their_items(rt: HostRuntime) {
     let mut copy = links.copy(rt.alloc()).expect(&rt, "memory");
     links.down(0).expect(&rt, "down");
     copy.take(0, End::B).expect(&rt, "up");
-    assert_eq!(rt; copy.take(0, End::B), Ok(Item::Message(update())));
+    equal(&rt, copy.take(0, End::B), Ok(Item::Message(update())));
 }
 
 #[test]
@@ -48,9 +52,9 @@ fn a_copy_of_a_gate_holds_the_same(rt: HostRuntime) {
     gate.ripen();
     gate.hold(held(1)).expect(&rt, "memory");
     let mut copy = gate.copy(rt.alloc()).expect(&rt, "memory");
-    assert_eq!(rt; (copy.held(), copy.ripe()), (2, 1));
-    assert_eq!(rt; copy.release(), Some(held(0)));
-    assert_eq!(rt; (gate.held(), gate.ripe()), (2, 1));
+    equal(&rt, (copy.held(), copy.ripe()), (2, 1));
+    equal(&rt, copy.release(), Some(held(0)));
+    equal(&rt, (gate.held(), gate.ripe()), (2, 1));
 }
 
 #[test]
@@ -59,7 +63,7 @@ fn a_copy_of_a_router_is_as_it_was(rt: HostRuntime) {
     take(&rt, &mut router, up(&rt));
     let mut copy = router.copy(rt.alloc()).expect(&rt, "memory");
     take(&rt, &mut router, Item::Message(update()));
-    assert_eq!(rt; (copy.table().get(ten()), copy.held()), (None, 0));
+    equal(&rt, (copy.table().get(ten()), copy.held()), (None, 0));
     take(&rt, &mut copy, Item::Message(update()));
-    assert_eq!(rt; copy.table().get(ten()), Some(via(0)));
+    equal(&rt, copy.table().get(ten()), Some(via(0)));
 }

@@ -1,4 +1,4 @@
-use crate::values::update;
+use crate::values::{equal, update};
 use network_model::Held;
 use release_gate::Gate;
 
@@ -19,7 +19,7 @@ fn what_was_held_leaves_once_ripe(rt: HostRuntime) {
     let early = gate.release();
     gate.ripen();
     gate.hold(held(1)).expect(&rt, "memory");
-    assert_eq!(rt; (early, gate.release()), (None, Some(held(0))));
-    assert_eq!(rt; gate.front(), None);
-    assert_eq!(rt; (gate.held(), gate.ripe()), (1, 0));
+    equal(&rt, (early, gate.release()), (None, Some(held(0))));
+    equal(&rt, gate.front(), None);
+    equal(&rt, (gate.held(), gate.ripe()), (1, 0));
 }

@@ -1,4 +1,4 @@
-use crate::values::{cost, update};
+use crate::values::{cost, equal, update};
 use link_fifo::{LinkRefusal, Links, Put};
 use network_model::{End, Item, LinkSpec};
 use std::alloc::Allocator;
@@ -25,7 +25,7 @@ fn goes_down(rt: &impl Abort, links: &mut Links) {
 
 // The second router takes this.
 fn takes(rt: &impl Abort, links: &mut Links, wanted: Result<Item, LinkRefusal>) {
-    assert_eq!(rt; links.take(0, End::B), wanted);
+    equal(rt, links.take(0, End::B), wanted);
 }
 
 // The link came up, in this session.
@@ -40,7 +40,7 @@ fn takes_nothing(rt: &impl Abort, links: &mut Links) {
 
 // The first router sends a message of session 1.
 fn puts(rt: &impl Abort, links: &mut Links, wanted: Put) {
-    assert_eq!(rt; links.put(0, End::A, 1, update()), Ok(wanted));
+    equal(rt, links.put(0, End::A, 1, update()), Ok(wanted));
 }
 
 // Notices and messages come out in the order in which they were put in.
@@ -85,12 +85,26 @@ fn both_take(rt: &impl Abort, links: &mut Links) {
 fn sessions_are_spent_at_65535(rt: HostRuntime) {
     let mut links = one_link(&rt, rt.alloc());
     for _ in 0..65535 {
-        comes_up(&rt, &mut links);
-        both_take(&rt, &mut links);
-        goes_down(&rt, &mut links);
-        both_take(&rt, &mut links);
+        comes_and_goes(&rt, &mut links);
     }
-    assert_eq!(rt; links.up(0), Err(LinkRefusal::SessionsSpent));
-    assert_eq!(rt; links.len(), 1);
-    assert_eq!(rt; links.session(0), 65535);
+    are_spent(&rt, &mut links);
+}
+
+// The link comes up and goes down, and each end learns both.
+fn comes_and_goes(rt: &impl Abort, links: &mut Links) {
+    comes_up(rt, links);
+    both_take(rt, links);
+    goes_down(rt, links);
+    both_take(rt, links);
+}
+
+// The link cannot come up again.
+fn are_spent(rt: &impl Abort, links: &mut Links) {
+    equal(rt, links.up(0), Err(LinkRefusal::SessionsSpent));
+    is_in_session(rt, links, 65535);
+}
+
+fn is_in_session(rt: &impl Abort, links: &Links, session: u16) {
+    assert!(rt; links.len() == 1);
+    equal(rt, links.session(0), session);
 }

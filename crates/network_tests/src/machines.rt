@@ -1,5 +1,6 @@
 //! Rows of a machine with ports 0 and 1 up at cost 1. Its attachment has the number 2.
 
+use crate::values::equal;
 use dual_machine::{Cost, Debt, Distance, Event, Kind, Machine, Mode, PortInfo, PortSet, Sends};
 use std::alloc::Global;
 use std::process::Abort;
@@ -70,8 +71,8 @@ fn ports(bits: u32) -> PortSet {
 
 fn shows(rt: &impl Abort, machine: &Machine, row: &Row) {
     let Row(_, distances, successor, active, _) = *row;
-    assert_eq!(rt; (machine.rd().value(), machine.fd().value()), distances);
-    assert_eq!(rt; machine.successor(), successor);
+    equal(rt, (machine.rd().value(), machine.fd().value()), distances);
+    equal(rt, machine.successor(), successor);
     let awaited = ports(active.map_or(0, |(_, bits, _)| bits));
     let shown = match machine.mode() {
         Mode::Passive => None,
@@ -82,9 +83,9 @@ fn shows(rt: &impl Abort, machine: &Machine, row: &Row) {
         } => Some((origin.number(), awaited, debt)),
     };
     let wanted = active.map(|(number, _, debt)| (number, awaited, debt));
-    assert_eq!(rt; shown, wanted);
+    equal(rt, shown, wanted);
     for port in 0..32 {
-        assert_eq!(rt; machine.awaits(port), awaited.has(port));
+        equal(rt, machine.awaits(port), awaited.has(port));
     }
 }
 

@@ -1,3 +1,4 @@
+use crate::values::equal;
 use node_pool::Pool;
 
 #[test]
@@ -5,14 +6,14 @@ fn what_was_given_is_taken_again(rt: HostRuntime) {
     let mut pool = Pool::new(rt.alloc());
     let first = pool.take(3, 'a').expect(&rt, "memory");
     let second = pool.take(3, 'b').expect(&rt, "memory");
-    assert_eq!(rt; (first, second), (0, 3));
+    equal(&rt, (first, second), (0, 3));
     pool.give(second, 3);
-    assert_eq!(rt; (pool.spare(3), pool.cell_count()), (1, 6));
+    equal(&rt, (pool.spare(3), pool.cell_count()), (1, 6));
     let again = pool.take(3, 'c').expect(&rt, "memory");
     // A block of another size does not fit.
     let other = pool.take(2, 'd').expect(&rt, "memory");
-    assert_eq!(rt; (again, other), (3, 6));
-    assert_eq!(rt; (pool.spare(3), pool.cell_count()), (0, 8));
+    equal(&rt, (again, other), (3, 6));
+    equal(&rt, (pool.spare(3), pool.cell_count()), (0, 8));
 }
 
 #[test]
@@ -24,7 +25,7 @@ fn the_pool_stays_as_large_as_it_was(rt: HostRuntime) {
         let small = pool.take(1, turn).expect(&rt, "memory");
         pool.give(small, 1);
     }
-    assert_eq!(rt; pool.cell_count(), 17);
+    equal(&rt, pool.cell_count(), 17);
 }
 
 #[test]
@@ -38,6 +39,6 @@ fn a_block_moves_with_a_gap(rt: HostRuntime) {
     let low = pool.get(pool.place(moved, 0));
     let middle = pool.get(pool.place(moved, 1));
     let high = pool.get(pool.place(moved, 2));
-    assert_eq!(rt; (low, middle, high), ('a', 'b', 'c'));
-    assert_eq!(rt; (moved, pool.cell_count(), pool.spare(2)), (2, 5, 1));
+    equal(&rt, (low, middle, high), ('a', 'b', 'c'));
+    equal(&rt, (moved, pool.cell_count(), pool.spare(2)), (2, 5, 1));
 }

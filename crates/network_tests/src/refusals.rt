@@ -5,7 +5,7 @@ use crate::array_images::{copy_five, set_two};
 use crate::gates::held;
 use crate::links::one_link;
 use crate::routers::{one_port, take, up};
-use crate::values::{addr, prefix, ten, update};
+use crate::values::{addr, equal, prefix, ten, update};
 use crate::word_images::set_words;
 use dual_machine::{Cost, Distance, Event, Kind, Machine, PortInfo, Sends};
 use image_compiler::compile;
@@ -75,7 +75,7 @@ fn needs_room(rt: &impl Abort, alloc: Global, call: Call) {
     let mut refused = 0;
     for units in 0..128usize {
         if call.is_refused(rt, alloc, units * UNIT) {
-            assert_eq!(rt; refused, units);
+            equal(rt, refused, units);
             refused = units + 1;
         }
     }
@@ -109,11 +109,16 @@ fn shown<A: SmallAllocator>(machine: &Machine<A>) -> (Distance, Distance, Option
 
 // A machine over no port, or so many, that has heard nothing.
 fn is_new(rt: &impl Abort, machine: &Machine<&LocalHeap>, count: usize) {
-    assert_eq!(rt; shown(machine), (Distance::INF, Distance::INF, None, true));
+    equal(
+        rt,
+        shown(machine),
+        (Distance::INF, Distance::INF, None, true),
+    );
     for port in 0..32u8 {
-        assert_eq!(rt;
+        equal(
+            rt,
             machine.neighbour(port).is_some(),
-            usize::from(port) < count
+            usize::from(port) < count,
         );
     }
 }
@@ -128,7 +133,7 @@ fn open(rt: &impl Abort, heap: &LocalHeap, left: usize, count: usize) -> bool {
         is_new(rt, machine, count);
         return false;
     }
-    assert_eq!(rt; heap.used(), 0);
+    equal(rt, heap.used(), 0);
     let again = Machine::new(heap, None, ports).expect(rt, "room");
     is_new(rt, &again, count);
     true
@@ -154,7 +159,7 @@ fn hear(rt: &impl Abort, heap: &LocalHeap, left: usize) -> bool {
         machine.event(UPDATE, &mut sends).expect(rt, "room");
     }
     let one = Distance::new(1);
-    assert_eq!(rt; shown(&machine), (one, one, Some(0), true));
+    equal(rt, shown(&machine), (one, one, Some(0), true));
     assert_eq!(rt; sends.as_slice().len(), 2);
     first.is_err()
 }
@@ -170,7 +175,7 @@ fn set(rt: &impl Abort, heap: &LocalHeap, left: usize) -> bool {
         table.set(ten(), Entry::Local).expect(rt, "room");
     }
     assert_eq!(rt; (table.len(), table.get(ten())), (1, Some(Entry::Local)));
-    assert_eq!(rt; table.published(ten()), None);
+    equal(rt, table.published(ten()), None);
     first.is_err()
 }
 
@@ -180,11 +185,11 @@ fn hold(rt: &impl Abort, heap: &LocalHeap, left: usize) -> bool {
     let first = gate.hold(held(0));
     drop(weight);
     if first == Err(NoMemory) {
-        assert_eq!(rt; gate.held(), 0);
+        equal(rt, gate.held(), 0);
         gate.hold(held(0)).expect(rt, "room");
     }
     gate.ripen();
-    assert_eq!(rt; (gate.held(), gate.release()), (1, Some(held(0))));
+    equal(rt, (gate.held(), gate.release()), (1, Some(held(0))));
     first.is_err()
 }
 
@@ -192,7 +197,7 @@ fn hold(rt: &impl Abort, heap: &LocalHeap, left: usize) -> bool {
 fn is_at(rt: &impl Abort, links: &Links<&LocalHeap>, up: bool, notices: usize) {
     assert!(rt; !links.is_empty());
     let queued = (links.queued(0, End::A), links.queued(0, End::B));
-    assert_eq!(rt; (links.is_up(0), queued), (up, (notices, notices)));
+    equal(rt, (links.is_up(0), queued), (up, (notices, notices)));
 }
 
 fn come_up(rt: &impl Abort, heap: &LocalHeap, left: usize) -> bool {
@@ -221,16 +226,16 @@ fn compile_two(rt: &impl Abort, alloc: Global, heap: &LocalHeap, left: usize) ->
         answers_by_two(rt, image);
         return false;
     }
-    assert_eq!(rt; heap.used(), 0);
+    equal(rt, heap.used(), 0);
     answers_by_two(rt, &compile(heap, &table).expect(rt, "room"));
     true
 }
 
 fn answers_by_two(rt: &impl Abort, image: &Image<&LocalHeap>) {
     let narrow = (prefix(rt, "10.1.0.0/16"), Entry::Unreachable);
-    assert_eq!(rt; image.lookup(addr(rt, "10.1.0.1")), Some(narrow));
+    equal(rt, image.lookup(addr(rt, "10.1.0.1")), Some(narrow));
     let wide = (ten(), Entry::Local);
-    assert_eq!(rt; image.lookup(addr(rt, "10.2.0.1")), Some(wide));
+    equal(rt, image.lookup(addr(rt, "10.2.0.1")), Some(wide));
 }
 
 // What a router shows: how many rows it has chosen and messages it holds, and whether it would publish.
@@ -251,7 +256,7 @@ fn accept(
     let first = router.accept(0, &item);
     drop(weight);
     if first == Err(NoMemory) {
-        assert_eq!(rt; told(router), before);
+        equal(rt, told(router), before);
         take(rt, router, item);
     }
     first.is_err()
@@ -268,7 +273,7 @@ fn accept_message(rt: &impl Abort, heap: &LocalHeap, left: usize) -> bool {
     let mut router = one_port(rt, heap, &[]);
     take(rt, &mut router, up(rt));
     let is_refused = accept(rt, heap, left, &mut router, Item::Message(update()));
-    assert_eq!(rt; told(&router), (1, 1, true));
+    equal(rt, told(&router), (1, 1, true));
     is_refused
 }
 

@@ -1,5 +1,6 @@
 //! Replies that come.
 
+use crate::values::equal;
 use diffusing_replies::{PortSet, Replies};
 
 #[test]
@@ -18,7 +19,7 @@ fn the_last_reply_ends_the_wait(rt: HostRuntime) {
     assert!(rt; replies.is_done());
     let before = replies;
     replies.came(31);
-    assert_eq!(rt; replies, before);
+    equal(&rt, replies, before);
     assert!(rt; replies.is_done());
 }
 
@@ -28,8 +29,8 @@ fn a_reply_that_came_comes_again(rt: HostRuntime) {
     replies.came(31);
     let before = replies;
     replies.came(31);
-    assert_eq!(rt; replies, before);
+    equal(&rt, replies, before);
     let awaited = replies.awaited();
-    assert_eq!(rt; awaited, PortSet::empty().with(4));
+    equal(&rt, awaited, PortSet::empty().with(4));
     assert!(rt; awaited.has(4) && !awaited.has(31) && !awaited.has(255));
 }

@@ -1,4 +1,4 @@
-use crate::values::{cost, ten, update, via};
+use crate::values::{cost, equal, ten, update, via};
 use network_model::{Cost, Distance, Entry, Item, Port, Prefix, SmallAllocator};
 use router_core::Router;
 use std::process::Abort;
@@ -38,7 +38,7 @@ fn a_router_learns_a_prefix(rt: HostRuntime) {
     take(&rt, &mut router, up(&rt));
     // Its other end tells of 10.0.0.0/8.
     take(&rt, &mut router, Item::Message(update()));
-    assert_eq!(rt; router.table().get(ten()), Some(via(0)));
+    equal(&rt, router.table().get(ten()), Some(via(0)));
     let rows = router.patch_rows(rt.alloc()).expect(&rt, "memory");
     assert_eq!(rt; (rows.len(), router.held(), router.ripe()), (1, 1, 0));
     assert!(rt; router.due() && router.is_passive());
@@ -47,7 +47,7 @@ fn a_router_learns_a_prefix(rt: HostRuntime) {
 #[test]
 fn is_attached_to_a_prefix(rt: HostRuntime) {
     let router = one_port(&rt, rt.alloc(), &[(ten(), cost(&rt, 3))]);
-    assert_eq!(rt; router.table().published(ten()), Some(Entry::Local));
+    equal(&rt, router.table().published(ten()), Some(Entry::Local));
     assert!(rt; !router.due());
 }
 
@@ -62,7 +62,7 @@ fn is_told(
     router.notice(ten(), attachment).expect(rt, "memory");
     let entry = router.table().get(ten()).expect(rt, "row");
     let machine = router.machine(ten()).expect(rt, "machine");
-    assert_eq!(rt; (entry, machine.rd()), chosen);
+    equal(rt, (entry, machine.rd()), chosen);
 }
 
 #[test]

@@ -1,6 +1,6 @@
 //! A table that is set, published and read.
 
-use crate::values::{prefix, via};
+use crate::values::{equal, prefix, via};
 use route_table::{Entry, RouteTable};
 use std::process::Abort;
 
@@ -22,9 +22,9 @@ fn keeps_rows_in_order(rt: HostRuntime) {
         ("192.0.2.0/24", Entry::Unreachable),
         ("192.0.2.0/25", Entry::Local),
     ] {
-        assert_eq!(rt; rows.next(), Some((prefix(&rt, text), entry)));
+        equal(&rt, rows.next(), Some((prefix(&rt, text), entry)));
     }
-    assert_eq!(rt; rows.next(), None);
+    equal(&rt, rows.next(), None);
 }
 
 // A row that is back at its published entry is no longer changed.
@@ -36,8 +36,8 @@ fn a_table_publishes_what_changed(rt: HostRuntime) {
     table.mark_published();
     assert!(rt; !table.is_changed());
     set(&rt, &mut table, "192.0.2.0/24", via(3));
-    assert_eq!(rt; table.published(away), Some(Entry::Unreachable));
-    assert_eq!(rt; table.changed().next(), Some((away, via(3))));
+    equal(&rt, table.published(away), Some(Entry::Unreachable));
+    equal(&rt, table.changed().next(), Some((away, via(3))));
     set(&rt, &mut table, "192.0.2.0/24", Entry::Unreachable);
     assert!(rt; !table.is_changed());
 }

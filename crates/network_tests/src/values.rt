@@ -2,6 +2,7 @@
 
 use ipv4_prefix::parse_addr;
 use network_model::{Cost, Distance, Entry, Kind, Message, Prefix};
+use std::fmt::Debug;
 use std::process::Abort;
 
 pub(crate) fn cost(rt: &impl Abort, value: u32) -> Cost {
@@ -32,4 +33,10 @@ pub(crate) fn update() -> Message {
         prefix: ten(),
         value: Distance::ZERO,
     }
+}
+
+// What was found is what was wanted. An `assert_eq!` that is written out costs the gate three seconds, and a call of this
+// function less than one, because it is proved once.
+pub(crate) fn equal<T: PartialEq + Debug + Drop>(rt: &impl Abort, found: T, wanted: T) {
+    assert_eq!(rt; found, wanted);
 }

@@ -1,6 +1,6 @@
 //! Networks within limits of the caller's.
 
-use crate::values::{cost, prefix, ten};
+use crate::values::{cost, equal, prefix, ten};
 use crate::worlds::link;
 use network_model::{Cost, Limits};
 use std::alloc::Global;
@@ -60,7 +60,7 @@ fn links_are_refused_past_each_limit(rt: HostRuntime) {
         ),
     ];
     for (routers, ends, wanted) in rows {
-        assert_eq!(rt; fault(&rt, rt.alloc(), routers, ends, &[]), wanted);
+        equal(&rt, fault(&rt, rt.alloc(), routers, ends, &[]), wanted);
     }
 }
 
@@ -78,7 +78,7 @@ fn attachments_are_refused_past_each_limit(rt: HostRuntime) {
     ];
     for (attachments, place) in rows {
         let wanted = place.map(|prefix| NetworkFault::BadOwner { prefix });
-        assert_eq!(rt; fault(&rt, rt.alloc(), 4, &[], attachments), wanted);
+        equal(&rt, fault(&rt, rt.alloc(), 4, &[], attachments), wanted);
     }
 }
 

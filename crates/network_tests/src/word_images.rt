@@ -3,6 +3,7 @@
 ghost use Rattle.std.specs.Prelude.{◌<◌};
 
 use crate::refusals::ballast;
+use crate::values::equal;
 use linked_list_allocator::LocalHeap;
 use network_model::{Entry, Prefix};
 use row_words::{Marked, NO_WORD, WordImage};
@@ -67,7 +68,7 @@ fn words_are_those_of_a_list(rt: HostRuntime) {
         let mut words = [7; 5];
         image.lookup_words(&addrs, &mut words);
         for j in 0..5 {
-            assert_eq!(rt; words[j], scan(&list, addrs[j]));
+            equal(&rt, words[j], scan(&list, addrs[j]));
         }
     }
 }
@@ -82,7 +83,7 @@ fn cells_of_rows_that_are_set_again_are_given_back(rt: HostRuntime) {
             .set_rows(alloc, &[(prefix_of(3), marked(word))])
             .expect(&rt, "memory");
     }
-    assert_eq!(rt; image.lookup_word(0x0bf0_f0f0), 4999);
+    equal(&rt, image.lookup_word(0x0bf0_f0f0), 4999);
     assert!(rt; image.bytes() < 64 * 1024);
 }
 
@@ -94,11 +95,11 @@ pub(crate) fn set_words(rt: &impl Abort, heap: &LocalHeap, left: usize) -> bool 
     let first = image.set_rows(heap, &rows);
     drop(weight);
     if first.is_err() {
-        assert_eq!(rt; image.row_count(), 0);
-        assert_eq!(rt; image.lookup_word(0x0a0f_0f0f), NO_WORD);
+        equal(rt, image.row_count(), 0);
+        equal(rt, image.lookup_word(0x0a0f_0f0f), NO_WORD);
         image.set_rows(heap, &rows).expect(rt, "room");
     }
-    assert_eq!(rt; image.row_count(), 2);
-    assert_eq!(rt; image.lookup_word(0x0a0f_0f0f), 12);
+    equal(rt, image.row_count(), 2);
+    equal(rt, image.lookup_word(0x0a0f_0f0f), 12);
     first.is_err()
 }

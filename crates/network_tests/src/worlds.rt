@@ -1,4 +1,4 @@
-use crate::values::{cost, prefix, ten, via};
+use crate::values::{cost, equal, prefix, ten, via};
 use network_model::{Cost, Entry};
 use router_core::Router;
 use std::alloc::Global;
@@ -26,7 +26,7 @@ pub(crate) fn two_routers(rt: &impl Abort, alloc: Global) -> World {
 // Does the step, or is refused so.
 pub(crate) fn does(rt: &impl Abort, world: &mut World, step: Step, wanted: Result<(), Refusal>) {
     assert!(rt; world.has_room_for(1));
-    assert_eq!(rt; world.step(step), wanted);
+    equal(rt, world.step(step), wanted);
 }
 
 pub(crate) fn do_all(rt: &impl Abort, world: &mut World, steps: &[Step]) {
@@ -63,7 +63,11 @@ fn a_world_learns_the_way(rt: HostRuntime) {
     refused(&rt, &mut world, nothing, Refusal::NothingToDeliver);
     do_all(&rt, &mut world, &LEARNS);
     assert_eq!(rt; world.routers().len(), 2);
-    assert_eq!(rt; second(&rt, &world).table().published(ten()), Some(via(0)));
+    equal(
+        &rt,
+        second(&rt, &world).table().published(ten()),
+        Some(via(0)),
+    );
 }
 
 #[test]
@@ -84,14 +88,18 @@ fn runs_up_to_a_refused_step(rt: HostRuntime) {
     let mut world = two_routers(&rt, rt.alloc());
     assert!(rt; world.has_room_for(STOPS.len()));
     let ran = world.run(&STOPS);
-    assert_eq!(rt; (ran.done, ran.refusal), (1, Some(Refusal::NothingRipe)));
+    equal(
+        &rt,
+        (ran.done, ran.refusal),
+        (1, Some(Refusal::NothingRipe)),
+    );
     assert!(rt; world.links().len() == 1 && world.links().is_up(0));
 }
 
 // How many notices router 1 has yet to take.
 fn waits(rt: &impl Abort, world: &World, notices: usize) {
     assert!(rt; world.routers().len() > 1);
-    assert_eq!(rt; world.notices(1), notices);
+    equal(rt, world.notices(1), notices);
 }
 
 // Router 1 takes what waits at the port past that of its link.
@@ -121,7 +129,7 @@ fn an_attachment_comes_and_goes(rt: HostRuntime) {
     does(&rt, &mut world, TAKE, Ok(()));
     waits(&rt, &world, 1);
     let chosen = second(&rt, &world).table().get(ten());
-    assert_eq!(rt; chosen, Some(Entry::Local));
+    equal(&rt, chosen, Some(Entry::Local));
     does(&rt, &mut world, TAKE, Ok(()));
     waits(&rt, &world, 0);
     are_unknown(&rt, &mut world);

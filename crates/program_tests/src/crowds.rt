@@ -1,5 +1,6 @@
 //! A network in which there is enough to publish for several control threads.
 
+use crate::equal_to::equal;
 use command_line::{Format, Words};
 use harness::{play_in_memory, run_in_memory};
 use play::Host;
@@ -51,8 +52,8 @@ fn is_settled_by<H: Host + Abort>(rt: &H, alloc: Global, threads: u8) {
         progress: false,
     };
     let ran = run_in_memory(rt, alloc, &run, text.as_bytes());
-    assert_eq!(rt; ran.err.as_slice(), b"".as_slice());
-    assert_eq!(rt; ran.status, 0);
+    equal(rt, ran.err.as_slice(), b"".as_slice());
+    equal(rt, ran.status, 0);
     assert!(rt;
         ran.out
             .starts_with(b"lookup leaf0 10.0.0.1: 10.0.0.0/24 unreachable\n")
@@ -65,8 +66,8 @@ fn is_settled_by<H: Host + Abort>(rt: &H, alloc: Global, threads: u8) {
         progress: false,
     };
     let again = play_in_memory(rt, alloc, &replay, text.as_bytes(), ran.kept.as_slice());
-    assert_eq!(rt; again.err.as_slice(), b"".as_slice());
-    assert_eq!(rt; again.status, 0);
+    equal(rt, again.err.as_slice(), b"".as_slice());
+    equal(rt, again.status, 0);
 }
 
 #[test]

@@ -1,5 +1,6 @@
 //! Files that cannot be read or written, and texts that are not UTF-8.
 
+use crate::equal_to::equal;
 use command_line::{Format, Words, exit_status, not_utf8};
 use harness::{Outcome, play_in_memory, run_in_memory};
 use play::{Host, Source, play};
@@ -45,10 +46,10 @@ const SCENARIO: &[u8] = b"routers = [\"a\"]\nlinks = []\nprefixes = [\"0.0.0.0/0
 
 // The fault is told, and nothing else is printed.
 pub fn tells(rt: &impl Abort, got: &Outcome, fault: &str) {
-    assert_eq!(rt; got.err.as_slice(), fault.as_bytes());
+    equal(rt, got.err.as_slice(), fault.as_bytes());
     assert!(rt; got.out.is_empty());
     assert!(rt; got.kept.is_empty());
-    assert_eq!(rt; got.status, 1);
+    equal(rt, got.status, 1);
 }
 
 // A reader that gives one byte and then fails.
@@ -121,8 +122,12 @@ fn journal_without_its_last_line_feed(rt: HostRuntime) {
     let journal =
         b"dualnet journal 2\nend\na gen 0 held 0 ripe 0 attach 0\na 0.0.0.0/0 passive RD 1 FD 1 local";
     let got = play_in_memory(&rt, rt.alloc(), &REPLAY, SCENARIO, journal.as_slice());
-    assert_eq!(rt; got.out.as_slice(), b"replay agrees: 0 steps\n".as_slice());
-    assert_eq!(rt; got.status, 0);
+    equal(
+        &rt,
+        got.out.as_slice(),
+        b"replay agrees: 0 steps\n".as_slice(),
+    );
+    equal(&rt, got.status, 0);
 }
 
 #[test]
@@ -138,7 +143,7 @@ fn word_is_no_text(rt: HostRuntime) {
     let text = error.to_string(rt.alloc()).expect(&rt, "memory");
     assert!(rt; text.starts_with("error: a word is not UTF-8"), "{text}");
     assert!(rt; error.use_stderr());
-    assert_eq!(rt; exit_status(&error), 1);
+    equal(&rt, exit_status(&error), 1);
 }
 
 // A writer that fails.
@@ -179,11 +184,11 @@ fn writes_that_fail_leave_the_status(rt: HostRuntime) {
     let refused =
         b"routers = [\"a\"]\nlinks = []\nprefixes = []\nscript = [\"table a\", \"publish a\"]\n";
     let (status, kept) = lost(&rt, rt.alloc(), SCENARIO);
-    assert_eq!(rt; status, 0);
+    equal(&rt, status, 0);
     assert!(rt; kept.starts_with(b"k\ndualnet journal 2\nend\n"));
     let (status, kept) = lost(&rt, rt.alloc(), refused.as_slice());
-    assert_eq!(rt; status, 2);
-    assert_eq!(rt; kept.as_slice(), b"k\n".as_slice());
+    equal(&rt, status, 2);
+    equal(&rt, kept.as_slice(), b"k\n".as_slice());
     let (status, _) = lost(&rt, rt.alloc(), b"x".as_slice());
-    assert_eq!(rt; status, 1);
+    equal(&rt, status, 1);
 }

@@ -1,5 +1,6 @@
 //! Lines of JSON: with numbers that few runs reach, and read by another reader.
 
+use crate::equal_to::equal;
 use crate::texts_of_lines::{Linked, pair};
 use crate::written::is_written;
 use command_line::{Format, Words};
@@ -265,9 +266,9 @@ pub fn are_objects(rt: &impl Abort, alloc: Global, out: &[u8]) -> usize {
 fn another_reader_reads_each_line(rt: HostRuntime) {
     let alloc = rt.alloc();
     let ran = run_in_memory(&rt, alloc, &RUN, SCENARIO);
-    assert_eq!(rt; ran.status, 0);
-    assert_eq!(rt; are_objects(&rt, alloc, &ran.out), 17);
+    equal(&rt, ran.status, 0);
+    equal(&rt, are_objects(&rt, alloc, &ran.out), 17);
     let again = play_in_memory(&rt, alloc, &REPLAY, SCENARIO, ran.kept.as_slice());
-    assert_eq!(rt; again.status, 0);
-    assert_eq!(rt; are_objects(&rt, alloc, &again.out), 1);
+    equal(&rt, again.status, 0);
+    equal(&rt, are_objects(&rt, alloc, &again.out), 1);
 }

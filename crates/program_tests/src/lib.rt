@@ -35,6 +35,8 @@
 #[cfg(test)]
 mod crowds;
 #[cfg(test)]
+mod equal_to;
+#[cfg(test)]
 mod files;
 #[cfg(test)]
 mod json;

@@ -1,5 +1,6 @@
 //! Scenarios at the limits, and one past each.
 
+use crate::equal_to::equal;
 use crate::files::{CHECK, RUN, TIME, tells};
 use harness::{play_in_memory, run_in_memory};
 use std::alloc::{AllocError, Global};
@@ -15,11 +16,12 @@ fn the_largest_file_is_read(rt: HostRuntime) {
     let more = 4_194_304u64.saturating_sub(SHORT.len() as u64);
     let file = SHORT.chain(io::repeat(b'\n').take(more));
     let got = run_in_memory(&rt, rt.alloc(), &RUN, file);
-    assert_eq!(rt;
+    equal(
+        &rt,
         got.out.as_slice(),
-        b"lookup a 0.0.0.0: none\ndone: 0 steps\n".as_slice()
+        b"lookup a 0.0.0.0: none\ndone: 0 steps\n".as_slice(),
     );
-    assert_eq!(rt; got.status, 0);
+    equal(&rt, got.status, 0);
     let file = SHORT.chain(io::repeat(b'\n').take(more.saturating_add(1)));
     tells(
         &rt,
@@ -134,8 +136,8 @@ fn the_largest_network_is_opened(rt: HostRuntime) {
     push_publications(&mut text, 256).expect(&rt, "memory");
     text.push_str("]\n").expect(&rt, "memory");
     let got = run_in_memory(&rt, rt.alloc(), &RUN, text.as_bytes());
-    assert_eq!(rt; got.out.as_slice(), b"done: 3584 steps\n".as_slice());
-    assert_eq!(rt; got.status, 0);
+    equal(&rt, got.out.as_slice(), b"done: 3584 steps\n".as_slice());
+    equal(&rt, got.status, 0);
 }
 
 #[test]
@@ -178,8 +180,8 @@ fn the_longest_script_is_done(rt: HostRuntime) {
     push_tables(&mut text, 10_000).expect(&rt, "memory");
     text.push_str("]\n").expect(&rt, "memory");
     let got = run_in_memory(&rt, rt.alloc(), &RUN, text.as_bytes());
-    assert_eq!(rt; got.out.as_slice(), b"done: 0 steps\n".as_slice());
-    assert_eq!(rt; got.status, 0);
+    equal(&rt, got.out.as_slice(), b"done: 0 steps\n".as_slice());
+    equal(&rt, got.status, 0);
 }
 
 #[test]
@@ -217,7 +219,7 @@ fn as_many_changes_as_there_may_be(rt: HostRuntime) {
             .as_slice()
             .ends_with(b"done: 0 steps, at rest at 0\n")
     );
-    assert_eq!(rt; got.status, 0);
+    equal(&rt, got.status, 0);
     let times = changes(&rt, alloc, 10_001);
     let got = play_in_memory(&rt, alloc, &TIME, scenario, times.as_bytes());
     tells(&rt, &got, "dualnet: 46 TooLarge in the times\n");

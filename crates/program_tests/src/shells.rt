@@ -1,5 +1,6 @@
 //! Lines that are typed into a shell and that no file of cases can hold.
 
+use crate::equal_to::equal;
 use crate::files::{BROKEN, tells};
 use crate::json::are_objects;
 use command_line::{Format, Words};
@@ -31,23 +32,25 @@ const TYPED: &[u8] =
 #[test]
 fn a_line_that_is_no_text_ends_nothing(rt: HostRuntime) {
     let got = play_in_memory(&rt, rt.alloc(), &SHELL, SCENARIO, TYPED);
-    assert_eq!(rt;
+    equal(
+        &rt,
         got.out.as_slice(),
-        b"\"\\\x01\nb 10.0.0.0/8 via a 1\ndone: 9 steps\n".as_slice()
+        b"\"\\\x01\nb 10.0.0.0/8 via a 1\ndone: 9 steps\n".as_slice(),
     );
-    assert_eq!(rt;
+    equal(
+        &rt,
         got.err.as_slice(),
-        b"dualnet: 45 BadCommand\ndualnet: 45 BadCommand\ndualnet: 45 BadCommand\n".as_slice()
+        b"dualnet: 45 BadCommand\ndualnet: 45 BadCommand\ndualnet: 45 BadCommand\n".as_slice(),
     );
-    assert_eq!(rt; got.status, 0);
+    equal(&rt, got.status, 0);
 }
 
 #[test]
 fn each_line_is_answered_by_an_object(rt: HostRuntime) {
     let got = play_in_memory(&rt, rt.alloc(), &JSON, SCENARIO, TYPED);
-    assert_eq!(rt; are_objects(&rt, rt.alloc(), &got.out), 9);
+    equal(&rt, are_objects(&rt, rt.alloc(), &got.out), 9);
     assert!(rt; got.err.is_empty());
-    assert_eq!(rt; got.status, 0);
+    equal(&rt, got.status, 0);
 }
 
 #[test]

@@ -1,6 +1,7 @@
 //! The states of a run, as lines of JSON and in a page. What is expected was reckoned by the plain model of `model`,
 //! and is of two routers at the costs 1 and 2.
 
+use crate::equal_to::equal;
 use crate::files::Closed;
 use command_line::ViewWords;
 use play::{Host, Source};
@@ -116,7 +117,7 @@ fn states_of_two_routers(rt: HostRuntime) {
     let expected = lines(alloc, &rt, OPENING, 8);
     assert!(rt; out.as_slice() == expected.as_bytes());
     assert!(rt; err.is_empty());
-    assert_eq!(rt; status, 0);
+    equal(&rt, status, 0);
 }
 
 #[test]
@@ -142,12 +143,12 @@ fn states_in_simulated_time(rt: HostRuntime) {
     }
     assert!(rt; out.as_slice() == expected.as_bytes());
     assert!(rt; err.is_empty());
-    assert_eq!(rt; status, 0);
+    equal(&rt, status, 0);
     // A document of times that has a fault.
     let (out, err, status) = shown(&rt, alloc, &IN_TIME, SCENARIO, b"link = -1\n");
     assert!(rt; out.is_empty());
     assert!(rt; err.as_slice().starts_with(b"dualnet: "));
-    assert_eq!(rt; status, 1);
+    equal(&rt, status, 1);
 }
 
 #[test]
@@ -160,7 +161,7 @@ fn page_has_the_states(rt: HostRuntime) {
     assert!(rt; page.contains(expected.as_str()));
     assert!(rt; page.ends_with("</html>\n"));
     assert!(rt; err.is_empty());
-    assert_eq!(rt; status, 0);
+    equal(&rt, status, 0);
 }
 
 // What was done before the step is written; `up a b` is refused where the link is up.
@@ -174,11 +175,12 @@ fn step_of_a_journal_is_refused(rt: HostRuntime) {
         .expect(&rt, "memory");
     let expected = lines(alloc, &rt, opening.as_str(), 2);
     assert!(rt; out.as_slice() == expected.as_bytes());
-    assert_eq!(rt;
+    equal(
+        &rt,
         err.as_slice(),
-        b"dualnet: step 2 refused: 13 AlreadyUp\n".as_slice()
+        b"dualnet: step 2 refused: 13 AlreadyUp\n".as_slice(),
     );
-    assert_eq!(rt; status, 2);
+    equal(&rt, status, 2);
 }
 
 #[test]
@@ -187,11 +189,11 @@ fn nothing_is_shown_of_a_fault(rt: HostRuntime) {
     let (out, err, status) = shown(&rt, alloc, &PAGE, b"routers = 1", b"");
     assert!(rt; out.is_empty());
     assert!(rt; err.as_slice().starts_with(b"dualnet: "));
-    assert_eq!(rt; status, 1);
+    equal(&rt, status, 1);
     let (out, err, status) = shown(&rt, alloc, &JOURNAL, SCENARIO, b"dualnet journal 3\n");
     assert!(rt; out.is_empty());
     assert!(rt; err.as_slice().starts_with(b"dualnet: 48 BadJournal"));
-    assert_eq!(rt; status, 1);
+    equal(&rt, status, 1);
 }
 
 // A scenario whose script is refused has no run.
@@ -202,7 +204,7 @@ fn script_is_refused(rt: HostRuntime) {
     let (out, err, status) = shown(&rt, alloc, &LINES, scenario, b"");
     assert!(rt; out.is_empty());
     assert!(rt; err.as_slice().ends_with(b" at script 0\n"));
-    assert_eq!(rt; status, 2);
+    equal(&rt, status, 2);
 }
 
 #[test]
@@ -212,8 +214,8 @@ fn output_is_lost(rt: HostRuntime) {
         let mut err = Vec::new(alloc);
         let missing: Source<io::Empty> = Source::Missing;
         let status = show(&rt, alloc, &words, SCENARIO, missing, &mut Closed, &mut err);
-        assert_eq!(rt; err.as_slice(), b"dualnet: 49 Unwritable\n".as_slice());
-        assert_eq!(rt; status, 2);
+        equal(&rt, err.as_slice(), b"dualnet: 49 Unwritable\n".as_slice());
+        equal(&rt, status, 2);
     }
 }
 
@@ -239,5 +241,5 @@ fn messages_that_are_lost(rt: HostRuntime) {
     assert!(rt; text.contains(HEARD));
     assert!(rt; text.ends_with(LOST));
     assert!(rt; err.is_empty());
-    assert_eq!(rt; status, 0);
+    equal(&rt, status, 0);
 }

@@ -1,5 +1,6 @@
 //! What faults, costs and distances are written as.
 
+use crate::equal_to::equal;
 use forwarder::GatherFault;
 use ipv4_prefix::PrefixFault;
 use link_fifo::LinkRefusal;
@@ -17,7 +18,7 @@ const FULL: &str = "dualnet: 19 JournalFull\ndualnet: 1000000 steps were done\n"
 
 pub fn is_written<T: Display>(rt: &impl Abort, alloc: Global, value: &T, want: &str) {
     let text = value.to_string(alloc).expect(rt, "memory");
-    assert_eq!(rt; text.as_str(), want);
+    equal(rt, text.as_str(), want);
 }
 
 #[test]
@@ -80,8 +81,8 @@ fn how_refusals_are_written(rt: HostRuntime) {
 fn is_told(rt: &impl Abort, alloc: Global, fault: Fault, text: &str) {
     let mut told = Vec::new(alloc);
     let status = refuse(fault, &mut told);
-    assert_eq!(rt; status, 2);
-    assert_eq!(rt; told.as_slice(), text.as_bytes());
+    equal(rt, status, 2);
+    equal(rt, told.as_slice(), text.as_bytes());
 }
 
 #[test]

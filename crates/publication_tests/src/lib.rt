@@ -20,6 +20,8 @@
 #![tactic(auto)]
 
 #[cfg(test)]
+mod equal_to;
+#[cfg(test)]
 mod publications;
 #[cfg(test)]
 mod queues;

@@ -4,6 +4,7 @@ ghost use Rattle.std.specs.Prelude.{◌≡◌, ◌⊎◌, ◌∷◌, [], All, ma
 ghost use Rattle.std.specs.Thread.{IsSend, IsSync};
 ghost use Rattle.publication.specs.Lists.{opening_of, patched_prefixes};
 
+use crate::equal_to::equal;
 use publication::{
     Answer, Entry, FabricName, ImageReader, ImageWriter, Job, NoImage, NoMemory, Patch, Prefix,
     ReadGate, Told, Unnamed, close_all, open, open_all,
@@ -73,20 +74,20 @@ fn three_patches<B: FabricName, R: Wait + Abort>(
     requires empty { writer.old.waiting ≡ [] }
     requires router { reader.old.router ≡ writer.old.published.router }
 {
-    assert_eq!(rt; reader.lookup(ADDR), Ok(NOTHING));
+    equal(rt, reader.lookup(ADDR), Ok(NOTHING));
     set(rt, alloc, writer, &[(ten(), via(0))]).expect(rt, "memory");
     set(rt, alloc, writer, &[(ten(), via(1))]).expect(rt, "memory");
     let told = set(rt, alloc, writer, &[(ten(), Entry::Unreachable)]).expect(rt, "memory");
     reader.learn(&told);
     assert!(rt; reader.is_at(&told));
-    assert_eq!(rt; reader.lookup(ADDR), found(3, ten(), Entry::Unreachable));
+    equal(rt, reader.lookup(ADDR), found(3, ten(), Entry::Unreachable));
     assert!(rt; !writer.waits_for(ten()));
     let job = Job {
         number: 1,
         addr: ADDR,
         told,
     };
-    assert_eq!(rt; (job.router(), job.generation()), (1, 3));
+    equal(rt, (job.router(), job.generation()), (1, 3));
 }
 
 // At the second of two routers.
@@ -176,9 +177,9 @@ fn race<B: FabricName + Send + Sync, R: Threads + Wait + Abort + Sync>(
     let mut reader = reader;
     let last = reader.lookup(addr);
     writer.close(rt);
-    assert_eq!(rt; wrong, 0);
-    assert_eq!(rt; last, found(200, narrow, via(200)));
-    assert_eq!(rt; reader.lookup(addr), Err(NoImage));
+    equal(rt, wrong, 0);
+    equal(rt, last, found(200, narrow, via(200)));
+    equal(rt, reader.lookup(addr), Err(NoImage));
 }
 
 #[test]
@@ -263,7 +264,7 @@ fn set_while_held<B: FabricName, R: Wait + Clock + Abort>(
 fn has_learned<B: FabricName>(rt: &impl Abort, mut reader: ImageReader<B>, told: &Told<B>) {
     assert!(rt; reader.view().router() == told.router());
     reader.learn(told);
-    assert_eq!(rt; reader.lookup(ADDR), found(2, ten(), via(1)));
+    equal(rt, reader.lookup(ADDR), found(2, ten(), via(1)));
 }
 
 // Looks up 1000 times once the writer publishes, and counts the answers that were refused or whose
@@ -340,7 +341,7 @@ fn publish_while_held<B: FabricName + Send + Sync, R: Threads + Wait + Clock + A
     has_learned(rt, second, &told);
     writer.close(rt);
     assert!(rt; !gate.late.load(Ordering::SeqCst));
-    assert_eq!(rt; (answer, wrong), (Ok(NOTHING), 0));
+    equal(rt, (answer, wrong), (Ok(NOTHING), 0));
 }
 
 #[test]

@@ -6,6 +6,7 @@ ghost use Rattle.publication.specs.Lists.{opening_of};
 ghost use Rattle.packet_queue.specs.Ends.{puts_into, takes_from, put_by, taken_by, parts_of, AreAllEnds, IsSameInjector};
 ghost use Rattle.packet_queue.specs.Jobs.{jobs_of};
 
+use crate::equal_to::equal;
 use packet_queue::{FabricName, Injector, Job, PacketQueue, Taken, Taker, reckon};
 use publication::{Told, Unnamed, open};
 use std::alloc::{AllocError, Global};
@@ -60,17 +61,17 @@ fn puts<B: FabricName, R: Wait + Abort>(
 )
     ensures { IsSameInjector injector.old injector.new }
 {
-    assert_eq!(rt; back(injector.inject(rt, asked(number, told))), wanted);
+    equal(rt, back(injector.inject(rt, asked(number, told))), wanted);
 }
 
 // What comes out of the queue next.
 fn gives<B: FabricName, R: Wait + Abort>(rt: &R, taker: &mut Taker<B>, wanted: Sight) {
-    assert_eq!(rt; seen_as(taker.next(rt)), wanted);
+    equal(rt, seen_as(taker.next(rt)), wanted);
 }
 
 fn in_order<B: FabricName, R: Wait + Abort>(rt: &R, alloc: Global, told: &Told<B>) {
     let (mut injector, mut takers) = PacketQueue::new::<B, _>(alloc, 2).expect(rt, "memory");
-    assert_eq!(rt; injector.workers(), 2);
+    equal(rt, injector.workers(), 2);
     let mut second = takers.pop().expect(rt, "two");
     let mut first = takers.pop().expect(rt, "two");
     assert!(rt; takers.is_empty());
@@ -116,7 +117,7 @@ fn left_of<B: FabricName, R: Wait + Abort>(
 
 fn counted<B: FabricName, R: Wait + Abort>(rt: &R, alloc: Global, told: &Told<B>) {
     for (put, take, left) in [(0, 0, 0), (5, 0, 5), (61, 20, 41), (5, 5, 0), (5, 7, 0)] {
-        assert_eq!(rt; left_of(rt, alloc, told, put, take), left);
+        equal(rt, left_of(rt, alloc, told, put, take), left);
     }
 }
 
@@ -125,7 +126,7 @@ fn closed_from_the_first<B: FabricName, R: Wait + Abort>(rt: &R, alloc: Global, 
     let (mut injector, takers) = PacketQueue::new::<B, _>(alloc, 0).expect(rt, "memory");
     puts(rt, &mut injector, told, 1, Some(1));
     assert!(rt; injector.stop(rt));
-    assert_eq!(rt; reckon(injector, takers), 0);
+    equal(rt, reckon(injector, takers), 0);
 }
 
 // Nor does one whose takers are gone.

@@ -4,6 +4,7 @@
 ghost use Rattle.std.specs.Prelude.{◌≡◌, ◌∷◌, [], length};
 ghost use Rattle.publication.specs.Lists.{opening_of};
 
+use crate::equal_to::equal;
 use crate::publications::{found, set, via};
 use crate::workers::{port_of, put};
 use forwarder::{ForwardPort, JobGate, Reply, work};
@@ -134,8 +135,16 @@ fn answers<'h, B: FabricName>(
 {
     reader.learn(told);
     let [(one, first), (two, second)] = *rows;
-    assert_eq!(rt; reader.lookup(0x0A00_0001), found(generation, one, first));
-    assert_eq!(rt; reader.lookup(0x0A01_0001), found(generation, two, second));
+    equal(
+        rt,
+        reader.lookup(0x0A00_0001),
+        found(generation, one, first),
+    );
+    equal(
+        rt,
+        reader.lookup(0x0A01_0001),
+        found(generation, two, second),
+    );
 }
 
 // Publishes a row of 10.0.0.0/8, then with a refusal another, and one of 10.1.0.0/16. Where that is
@@ -162,7 +171,7 @@ fn is_publication_refused<'h, B: FabricName, R: Wait + Abort>(
     let Err(NoMemory) = second else {
         return was_met;
     };
-    assert_eq!(rt; writer.generation(), 1);
+    equal(rt, writer.generation(), 1);
     answers(
         rt,
         reader,
@@ -174,7 +183,7 @@ fn is_publication_refused<'h, B: FabricName, R: Wait + Abort>(
     let told = writer
         .publish(rt, Patch { generation, rows })
         .expect(rt, "memory");
-    assert_eq!(rt; writer.generation(), 2);
+    equal(rt, writer.generation(), 2);
     answers(rt, reader, &told, 2, &last);
     true
 }
@@ -282,7 +291,7 @@ where
         &|_place, seat| { sit(rt, memory, gate, seat) },
     );
     assert!(rt; !gate.late.load(Ordering::SeqCst));
-    assert_eq!(rt; gate.answered.load(Ordering::SeqCst), 6);
+    equal(rt, gate.answered.load(Ordering::SeqCst), 6);
 }
 
 // Whether one of two workers has its list of replies refused. Both go on to their stop messages, behind

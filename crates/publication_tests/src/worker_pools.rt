@@ -3,6 +3,7 @@
 ghost use Rattle.std.specs.Prelude.{◌≡◌, ◌≤◌, All, IfOk, length, map, vec_len};
 ghost use Rattle.network_model.specs.Network.{most_workers};
 
+use crate::equal_to::equal;
 use crate::publications::via;
 use forwarder::{Answer, GatherFault, ImageReader};
 use network_model::{NoMemory, Refusal};
@@ -103,15 +104,16 @@ fn are_right<B: FabricName, R: Abort>(rt: &R, replies: &[Reply<B>], jobs: u8) {
         let reply = replies.get(usize::from(number)).expect(rt, "reply");
         let router = number % 2;
         let job = reply.job();
-        assert_eq!(rt;
+        equal(
+            rt,
             (job.number, job.router()),
-            (u64::from(number), u16::from(router))
+            (u64::from(number), u16::from(router)),
         );
         let answer = Answer {
             generation: 0,
             matched: Some((ten(), via(router))),
         };
-        assert_eq!(rt; reply.answer(), answer);
+        equal(rt, reply.answer(), answer);
     }
 }
 

@@ -3,6 +3,7 @@
 ghost use Rattle.std.specs.Prelude.{◌≡◌, ◌∷◌, [], length};
 ghost use Rattle.publication.specs.Lists.{new_writing};
 
+use crate::equal_to::equal;
 use crate::publications::via;
 use forwarder::{ForwardPort, GatherFault, JobGate, Reply, gather, work};
 use network_model::{Answer, Refusal};
@@ -84,7 +85,7 @@ fn gathers_as<B: FabricName>(
         Ok(replies) => Ok(numbers_of(rt, &replies)),
         Err(fault) => Err(fault),
     };
-    assert_eq!(rt; gathered, wanted);
+    equal(rt, gathered, wanted);
 }
 
 fn gathers<B: FabricName, R: Abort>(
@@ -117,10 +118,11 @@ fn is_answered<B: FabricName>(
         panic!(rt; "image");
     };
     let (kept, generation) = (reply.job(), want.generation);
-    assert_eq!(rt; reply.answer(), want);
-    assert_eq!(rt;
+    equal(rt, reply.answer(), want);
+    equal(
+        rt,
         (reply.seen().generation(), kept.number, kept.addr),
-        (generation, job.number, job.addr)
+        (generation, job.number, job.addr),
     );
 }
 
@@ -192,8 +194,8 @@ pub fn work_five<B: FabricName, A: Allocator, R: Wait + Abort>(
         after: AtomicU64::new(0),
     };
     let replies = work(rt, alloc, port, taker, &gate).replies;
-    assert_eq!(rt; gate.before.load(Ordering::SeqCst), 15);
-    assert_eq!(rt; gate.after.load(Ordering::SeqCst), 15);
+    equal(rt, gate.before.load(Ordering::SeqCst), 15);
+    equal(rt, gate.after.load(Ordering::SeqCst), 15);
     replies
 }
 
@@ -224,7 +226,7 @@ fn works<B: FabricName, R: Wait + Abort>(
 fn are_one_to_five<B: FabricName>(rt: &impl Abort, replies: &[Reply<B>]) {
     assert!(rt; replies.len() == 5);
     for place in 0..5usize {
-        assert_eq!(rt; replies[place].job().number, place as u64 + 1);
+        equal(rt, replies[place].job().number, place as u64 + 1);
     }
 }
 
@@ -328,7 +330,7 @@ fn goes_on<B: FabricName, R: Wait + Abort>(
     drop(injector);
     let taker = takers.pop().expect(rt, "taker");
     let refusal = work_five(rt, alloc, port, taker).err();
-    assert_eq!(rt; refusal, Some(Refusal::NoImage));
+    equal(rt, refusal, Some(Refusal::NoImage));
 }
 
 // What is done with a writer of one router and two of its readers.

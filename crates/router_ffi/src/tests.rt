@@ -11,7 +11,15 @@ use crate::{
 use c_interface::{CallFault, Row};
 use single_router::{Attachment, Counts, Frame, State};
 use std::alloc::Global;
+use std::fmt::Debug;
+use std::process::Abort;
 use std::test::Fail;
+
+// What was found is what was wanted. An `assert_eq!` that is written out costs the gate three seconds, and a call of this
+// function less than one, because it is proved once.
+pub(crate) fn equal<T: PartialEq + Debug + Drop>(rt: &impl Abort, found: T, wanted: T) {
+    assert_eq!(rt; found, wanted);
+}
 
 const UPDATE: u8 = 0;
 
@@ -138,71 +146,98 @@ fn message(alloc: Global, router: &mut RouterHandle, kind: u8, value: u32) -> u3
 fn a_route_is_learnt_published_and_told(rt: HostRuntime) {
     let alloc = rt.alloc();
     let mut router = RouterHandle::none(alloc);
-    assert_eq!(rt;
+    equal(
+        &rt,
         tuhvondi_router_new(alloc, &[5, 10], &[], 4, &mut router),
-        0
+        0,
     );
-    assert_eq!(rt; tuhvondi_router_link_up(alloc, &mut router, 0, 1, 5), 0);
-    assert_eq!(rt; state(alloc, &mut router), Err(28));
+    equal(&rt, tuhvondi_router_link_up(alloc, &mut router, 0, 1, 5), 0);
+    equal(&rt, state(alloc, &mut router), Err(28));
     // The neighbour at port 0 has a way of 7, so there is one of 12.
-    assert_eq!(rt;
+    equal(
+        &rt,
         tuhvondi_router_message(alloc, &mut router, &frame(UPDATE, 0, 7)),
-        0
+        0,
     );
     let shown = state(alloc, &mut router);
-    assert!(rt; shown.is_ok_and(|s| s.rd == 12 && s.fd == 12 && s.active == 0 && s.owed == 255));
-    assert!(rt; shown.is_ok_and(|s| s.chosen == via(0) && s.published == NO_ROW));
+    equal(
+        &rt,
+        shown.is_ok_and(|s| s.rd == 12 && s.fd == 12 && s.active == 0 && s.owed == 255),
+        true,
+    );
+    equal(
+        &rt,
+        shown.is_ok_and(|s| s.chosen == via(0) && s.published == NO_ROW),
+        true,
+    );
     // Nothing leaves before the publication.
-    assert_eq!(rt; release(alloc, &mut router), Err(18));
-    assert_eq!(rt; publish(alloc, &mut router), Ok((1, via(0), 1)));
-    assert_eq!(rt; release(alloc, &mut router), Ok(frame(UPDATE, 0, 12)));
-    assert_eq!(rt; release(alloc, &mut router), Err(18));
-    assert_eq!(rt; publish(alloc, &mut router), Err(17));
+    equal(&rt, release(alloc, &mut router), Err(18));
+    equal(&rt, publish(alloc, &mut router), Ok((1, via(0), 1)));
+    equal(&rt, release(alloc, &mut router), Ok(frame(UPDATE, 0, 12)));
+    equal(&rt, release(alloc, &mut router), Err(18));
+    equal(&rt, publish(alloc, &mut router), Err(17));
     let mut rows = [NO_ROW; 1];
     let mut written = 9;
-    assert_eq!(rt;
+    equal(
+        &rt,
         tuhvondi_router_rows(alloc, &mut router, &mut rows, &mut written),
-        0
+        0,
     );
-    assert!(rt; written == 1 && rows[0] == via(0));
+    equal(&rt, written == 1 && rows[0] == via(0), true);
     tuhvondi_router_free(alloc, &mut router);
-    assert_eq!(rt; state(alloc, &mut router), Err(7));
+    equal(&rt, state(alloc, &mut router), Err(7));
 }
 
 #[test]
 fn a_router_asks_where_no_neighbour_is_feasible(rt: HostRuntime) {
     let alloc = rt.alloc();
     let mut router = RouterHandle::none(alloc);
-    assert_eq!(rt;
+    equal(
+        &rt,
         tuhvondi_router_new(alloc, &[5, 10], &[], 4, &mut router),
-        0
+        0,
     );
-    assert_eq!(rt; tuhvondi_router_link_up(alloc, &mut router, 0, 1, 5), 0);
-    assert_eq!(rt;
+    equal(&rt, tuhvondi_router_link_up(alloc, &mut router, 0, 1, 5), 0);
+    equal(
+        &rt,
         tuhvondi_router_message(alloc, &mut router, &frame(UPDATE, 0, 7)),
-        0
+        0,
     );
     // 100 is not below the feasible distance 12: the router asks its only neighbour.
-    assert_eq!(rt;
+    equal(
+        &rt,
         tuhvondi_router_message(alloc, &mut router, &frame(UPDATE, 0, 100)),
-        0
+        0,
     );
     let shown = state(alloc, &mut router);
-    assert!(rt; shown.is_ok_and(|s| s.active == 1 && s.awaited[0] == 1 && s.awaited[1] == 0));
-    assert!(rt; publish(alloc, &mut router).is_ok());
-    assert_eq!(rt; release(alloc, &mut router), Ok(frame(UPDATE, 0, 12)));
-    assert_eq!(rt; release(alloc, &mut router), Ok(frame(QUERY, 0, 105)));
-    assert_eq!(rt;
+    equal(
+        &rt,
+        shown.is_ok_and(|s| s.active == 1 && s.awaited[0] == 1 && s.awaited[1] == 0),
+        true,
+    );
+    equal(&rt, publish(alloc, &mut router).is_ok(), true);
+    equal(&rt, release(alloc, &mut router), Ok(frame(UPDATE, 0, 12)));
+    equal(&rt, release(alloc, &mut router), Ok(frame(QUERY, 0, 105)));
+    equal(
+        &rt,
         tuhvondi_router_message(alloc, &mut router, &frame(REPLY, 0, 100)),
-        0
+        0,
     );
     let shown = state(alloc, &mut router);
-    assert!(rt; shown.is_ok_and(|s| s.active == 0 && s.rd == 105 && s.fd == 105));
+    equal(
+        &rt,
+        shown.is_ok_and(|s| s.active == 0 && s.rd == 105 && s.fd == 105),
+        true,
+    );
     // The link goes down, and with it the only way.
-    assert_eq!(rt; tuhvondi_router_link_cost(alloc, &mut router, 0, 6), 0);
-    assert_eq!(rt; tuhvondi_router_link_down(alloc, &mut router, 0), 0);
+    equal(&rt, tuhvondi_router_link_cost(alloc, &mut router, 0, 6), 0);
+    equal(&rt, tuhvondi_router_link_down(alloc, &mut router, 0), 0);
     let shown = state(alloc, &mut router);
-    assert!(rt; shown.is_ok_and(|s| s.rd == u32::MAX && s.chosen.kind == 2));
+    equal(
+        &rt,
+        shown.is_ok_and(|s| s.rd == u32::MAX && s.chosen.kind == 2),
+        true,
+    );
 }
 
 #[test]
@@ -223,47 +258,67 @@ fn rows_are_published_as_many_as_there_is_room_for(rt: HostRuntime) {
         &mut more,
         &mut generation,
     );
-    assert!(rt; first == 0 && written == 1 && more == 1 && generation == 0);
-    assert_eq!(rt; rows[0].addr, 0x0a00_0000);
+    equal(
+        &rt,
+        first == 0 && written == 1 && more == 1 && generation == 0,
+        true,
+    );
+    equal(&rt, rows[0].addr, 0x0a00_0000);
     // The first row is in force, and nothing may leave before the second is.
-    assert_eq!(rt; counts(alloc, &mut router).changed, 1);
-    assert_eq!(rt; release(alloc, &mut router), Err(18));
+    equal(&rt, counts(alloc, &mut router).changed, 1);
+    equal(&rt, release(alloc, &mut router), Err(18));
     let second = publish(alloc, &mut router);
-    assert!(rt; second.is_ok_and(|p| p.0 == 1 && p.1.addr == 0xc000_0200 && p.2 == 1));
-    assert!(rt; release(alloc, &mut router).is_ok());
+    equal(
+        &rt,
+        second.is_ok_and(|p| p.0 == 1 && p.1.addr == 0xc000_0200 && p.2 == 1),
+        true,
+    );
+    equal(&rt, release(alloc, &mut router).is_ok(), true);
 }
 
 #[test]
 fn a_prefix_of_which_nothing_is_known_is_forgotten(rt: HostRuntime) {
     let alloc = rt.alloc();
     let mut router = one_port(alloc, 1);
-    assert_eq!(rt; message(alloc, &mut router, UPDATE, 7), 0);
-    assert!(rt; publish(alloc, &mut router).is_ok());
-    assert_eq!(rt;
+    equal(&rt, message(alloc, &mut router, UPDATE, 7), 0);
+    equal(&rt, publish(alloc, &mut router).is_ok(), true);
+    equal(
+        &rt,
         tuhvondi_router_forget(alloc, &mut router, 0x0a00_0000, 8),
-        44
+        44,
     );
     // The neighbour has no way any more, and answers so. It asks nothing twice, and answers once.
-    assert_eq!(rt; message(alloc, &mut router, QUERY, u32::MAX), 0);
-    assert_eq!(rt; message(alloc, &mut router, QUERY, u32::MAX), 39);
-    assert_eq!(rt; message(alloc, &mut router, REPLY, u32::MAX), 0);
-    assert_eq!(rt; message(alloc, &mut router, REPLY, u32::MAX), 38);
-    assert_eq!(rt;
+    equal(&rt, message(alloc, &mut router, QUERY, u32::MAX), 0);
+    equal(&rt, message(alloc, &mut router, QUERY, u32::MAX), 39);
+    equal(&rt, message(alloc, &mut router, REPLY, u32::MAX), 0);
+    equal(&rt, message(alloc, &mut router, REPLY, u32::MAX), 38);
+    equal(
+        &rt,
         tuhvondi_router_forget(alloc, &mut router, 0x0a00_0000, 8),
-        44
+        44,
     );
-    assert!(rt; publish(alloc, &mut router).is_ok());
+    equal(&rt, publish(alloc, &mut router).is_ok(), true);
     // There is room for one prefix: for another once it is forgotten.
-    assert_eq!(rt; tuhvondi_router_attached(alloc, &mut router, 0, 0, 1), 27);
-    assert_eq!(rt;
-        tuhvondi_router_forget(alloc, &mut router, 0x0a00_0000, 8),
-        0
+    equal(
+        &rt,
+        tuhvondi_router_attached(alloc, &mut router, 0, 0, 1),
+        27,
     );
-    assert_eq!(rt;
+    equal(
+        &rt,
         tuhvondi_router_forget(alloc, &mut router, 0x0a00_0000, 8),
-        28
+        0,
     );
-    assert_eq!(rt; tuhvondi_router_attached(alloc, &mut router, 0, 0, 1), 0);
+    equal(
+        &rt,
+        tuhvondi_router_forget(alloc, &mut router, 0x0a00_0000, 8),
+        28,
+    );
+    equal(
+        &rt,
+        tuhvondi_router_attached(alloc, &mut router, 0, 0, 1),
+        0,
+    );
 }
 
 #[test]
@@ -271,30 +326,50 @@ fn an_attachment_is_published_from_the_opening_on(rt: HostRuntime) {
     let alloc = rt.alloc();
     let mut router = RouterHandle::none(alloc);
     let ours = [attachment(0x0a00_0000, 8, 3)];
-    assert_eq!(rt; tuhvondi_router_new(alloc, &[5], &ours, 4, &mut router), 0);
+    equal(
+        &rt,
+        tuhvondi_router_new(alloc, &[5], &ours, 4, &mut router),
+        0,
+    );
     let shown = state(alloc, &mut router);
-    assert!(rt; shown.is_ok_and(|s| s.attached == 3 && s.rd == 3 && s.published.kind == 0));
-    assert_eq!(rt; publish(alloc, &mut router), Err(17));
+    equal(
+        &rt,
+        shown.is_ok_and(|s| s.attached == 3 && s.rd == 3 && s.published.kind == 0),
+        true,
+    );
+    equal(&rt, publish(alloc, &mut router), Err(17));
     // At another cost, then no more, then again.
-    assert_eq!(rt;
+    equal(
+        &rt,
         tuhvondi_router_attached(alloc, &mut router, 0x0a00_0000, 8, 2),
-        0
+        0,
     );
-    assert!(rt; state(alloc, &mut router).is_ok_and(|s| s.attached == 2 && s.rd == 2));
-    assert_eq!(rt;
+    equal(
+        &rt,
+        state(alloc, &mut router).is_ok_and(|s| s.attached == 2 && s.rd == 2),
+        true,
+    );
+    equal(
+        &rt,
         tuhvondi_router_detached(alloc, &mut router, 0x0a00_0000, 8),
-        0
+        0,
     );
-    assert!(rt; state(alloc, &mut router).is_ok_and(|s| s.attached == 0 && s.chosen.kind == 2));
-    assert_eq!(rt;
+    equal(
+        &rt,
+        state(alloc, &mut router).is_ok_and(|s| s.attached == 0 && s.chosen.kind == 2),
+        true,
+    );
+    equal(
+        &rt,
         tuhvondi_router_detached(alloc, &mut router, 0x0a00_0000, 8),
-        29
+        29,
     );
-    assert_eq!(rt;
+    equal(
+        &rt,
         tuhvondi_router_attached(alloc, &mut router, 0x0a00_0000, 8, 4),
-        0
+        0,
     );
-    assert_eq!(rt; counts(alloc, &mut router).prefixes, 1);
+    equal(&rt, counts(alloc, &mut router).prefixes, 1);
 }
 
 #[test]
@@ -302,58 +377,88 @@ fn each_fault_has_its_number(rt: HostRuntime) {
     let alloc = rt.alloc();
     let mut router = RouterHandle::none(alloc);
     let bad = [attachment(0x0a00_0000, 33, 0), attachment(1, 8, 1)];
-    assert_eq!(rt;
+    equal(
+        &rt,
         tuhvondi_router_new(alloc, &[1; 33], &bad, 4, &mut router),
-        26
+        26,
     );
-    assert_eq!(rt;
+    equal(
+        &rt,
         tuhvondi_router_new(alloc, &[1, 0, 70000], &bad, 4, &mut router),
-        5
+        5,
     );
-    assert_eq!(rt; tuhvondi_router_new(alloc, &[1], &bad, 4, &mut router), 3);
-    assert_eq!(rt;
+    equal(
+        &rt,
+        tuhvondi_router_new(alloc, &[1], &bad, 4, &mut router),
+        3,
+    );
+    equal(
+        &rt,
         tuhvondi_router_new(alloc, &[1], &bad[1..], 4, &mut router),
-        4
+        4,
     );
-    assert_eq!(rt; tuhvondi_router_link_down(alloc, &mut router, 0), 7);
-    assert_eq!(rt; release(alloc, &mut router), Err(7));
-    assert_eq!(rt; publish(alloc, &mut router), Err(7));
-    assert_eq!(rt; tuhvondi_router_new(alloc, &[1, 1], &[], 4, &mut router), 0);
-    assert_eq!(rt; tuhvondi_router_link_up(alloc, &mut router, 2, 1, 0), 5);
-    assert_eq!(rt; tuhvondi_router_link_up(alloc, &mut router, 2, 1, 1), 11);
-    assert_eq!(rt; tuhvondi_router_link_up(alloc, &mut router, 0, 0, 1), 36);
-    assert_eq!(rt; tuhvondi_router_link_down(alloc, &mut router, 0), 14);
-    assert_eq!(rt;
+    equal(&rt, tuhvondi_router_link_down(alloc, &mut router, 0), 7);
+    equal(&rt, release(alloc, &mut router), Err(7));
+    equal(&rt, publish(alloc, &mut router), Err(7));
+    equal(
+        &rt,
+        tuhvondi_router_new(alloc, &[1, 1], &[], 4, &mut router),
+        0,
+    );
+    equal(&rt, tuhvondi_router_link_up(alloc, &mut router, 2, 1, 0), 5);
+    equal(
+        &rt,
+        tuhvondi_router_link_up(alloc, &mut router, 2, 1, 1),
+        11,
+    );
+    equal(
+        &rt,
+        tuhvondi_router_link_up(alloc, &mut router, 0, 0, 1),
+        36,
+    );
+    equal(&rt, tuhvondi_router_link_down(alloc, &mut router, 0), 14);
+    equal(
+        &rt,
         tuhvondi_router_message(alloc, &mut router, &frame(UPDATE, 0, 1)),
-        14
+        14,
     );
-    assert_eq!(rt; tuhvondi_router_link_up(alloc, &mut router, 0, 2, 1), 0);
-    assert_eq!(rt; tuhvondi_router_link_up(alloc, &mut router, 0, 3, 1), 13);
-    assert_eq!(rt;
+    equal(&rt, tuhvondi_router_link_up(alloc, &mut router, 0, 2, 1), 0);
+    equal(
+        &rt,
+        tuhvondi_router_link_up(alloc, &mut router, 0, 3, 1),
+        13,
+    );
+    equal(
+        &rt,
         tuhvondi_router_message(alloc, &mut router, &frame(UPDATE, 0, 1)),
-        36
+        36,
     );
-    assert_eq!(rt;
+    equal(
+        &rt,
         tuhvondi_router_message(alloc, &mut router, &frame(3, 0, 1)),
-        6
+        6,
     );
-    assert_eq!(rt;
+    equal(
+        &rt,
         tuhvondi_router_attached(alloc, &mut router, 0x0a00_0000, 8, 0),
-        5
+        5,
     );
-    assert_eq!(rt;
+    equal(
+        &rt,
         tuhvondi_router_attached(alloc, &mut router, 0x0a00_0000, 8, 1),
-        0
+        0,
     );
     let mut written = 9;
-    assert_eq!(rt;
+    equal(
+        &rt,
         tuhvondi_router_rows(alloc, &mut router, &mut [], &mut written),
-        8
+        8,
     );
-    assert_eq!(rt; written, 9);
-    assert_eq!(rt;
+    equal(&rt, written, 9);
+    equal(
+        &rt,
         tuhvondi_router_new(alloc, &[1], &[attachment(0, 0, 1)], 0, &mut router),
-        27
+        27,
     );
-    assert_eq!(rt; CallFault::GenerationsSpent.number(), 37);
+    equal(&rt, CallFault::GenerationsSpent.number(), 37);
 }

@@ -23,6 +23,14 @@ use network_calls::{
 };
 use single_router::State;
 use std::alloc::Global;
+use std::fmt::Debug;
+use std::process::Abort;
+
+// What was found is what was wanted. An `assert_eq!` that is written out costs the gate three seconds, and a call of this
+// function less than one, because it is proved once.
+pub(crate) fn equal<T: PartialEq + Debug + Drop>(rt: &impl Abort, found: T, wanted: T) {
+    assert_eq!(rt; found, wanted);
+}
 
 const LIMITS: LimitsParts = LimitsParts {
     routers: 256,
@@ -168,24 +176,31 @@ fn two_routers_come_to_rest(rt: HostRuntime) {
     let alloc = rt.alloc();
     let mut timed = opened(alloc);
     let mut done = 9;
-    assert_eq!(rt; rests(alloc, &mut timed), 1);
-    assert_eq!(rt; next(alloc, &mut timed), event(0, plain(255, 0), 0));
-    assert_eq!(rt; tuhvondi_timed_at(alloc, &mut timed, 3, &plain(0, 0)), 0);
-    assert_eq!(rt; next(alloc, &mut timed), event(3, plain(0, 0), 1));
-    assert_eq!(rt; rests(alloc, &mut timed), 0);
-    assert_eq!(rt;
+    equal(&rt, rests(alloc, &mut timed), 1);
+    equal(&rt, next(alloc, &mut timed), event(0, plain(255, 0), 0));
+    equal(
+        &rt,
+        tuhvondi_timed_at(alloc, &mut timed, 3, &plain(0, 0)),
+        0,
+    );
+    equal(&rt, next(alloc, &mut timed), event(3, plain(0, 0), 1));
+    equal(&rt, rests(alloc, &mut timed), 0);
+    equal(
+        &rt,
         tuhvondi_timed_run_until(alloc, &mut timed, 17, 1000, &mut done),
-        0
+        0,
     );
-    assert_eq!(rt; (done, now(alloc, &mut timed)), (3, 10));
-    assert_eq!(rt; next(alloc, &mut timed), event(18, plain(4, 0), 0));
-    assert_eq!(rt;
+    equal(&rt, (done, now(alloc, &mut timed)), (3, 10));
+    equal(&rt, next(alloc, &mut timed), event(18, plain(4, 0), 0));
+    equal(
+        &rt,
         tuhvondi_timed_run_to_rest(alloc, &mut timed, 1000, &mut done),
-        0
+        0,
     );
-    assert_eq!(rt;
+    equal(
+        &rt,
         (done, now(alloc, &mut timed), rests(alloc, &mut timed)),
-        (6, 50, 1)
+        (6, 50, 1),
     );
     let row = Row {
         addr: 0x0a00_0000,
@@ -195,25 +210,29 @@ fn two_routers_come_to_rest(rt: HostRuntime) {
         session: 1,
     };
     let (mut answers, mut rows, mut count, mut more) = ([NO_ROW], [NO_ROW], 9, 9);
-    assert_eq!(rt;
+    equal(
+        &rt,
         tuhvondi_timed_lookup(alloc, &mut timed, 1, &[ADDR], &mut answers),
-        0
+        0,
     );
-    assert_eq!(rt; answers, [row]);
-    assert_eq!(rt;
+    equal(&rt, answers, [row]);
+    equal(
+        &rt,
         tuhvondi_timed_rows(alloc, &mut timed, 1, &mut rows, &mut count, &mut more),
-        0
+        0,
     );
-    assert_eq!(rt; (rows, count, more), ([row], 1, 0));
+    equal(&rt, (rows, count, more), ([row], 1, 0));
     let (mut hops, mut end) = ([9, 9, 9], 9);
-    assert_eq!(rt;
+    equal(
+        &rt,
         tuhvondi_timed_trace(alloc, &mut timed, 1, ADDR, &mut hops, &mut count, &mut end),
-        0
+        0,
     );
-    assert_eq!(rt; (hops, count, end), ([1, 0, 9], 2, 0));
-    assert_eq!(rt;
+    equal(&rt, (hops, count, end), ([1, 0, 9], 2, 0));
+    equal(
+        &rt,
         machine(alloc, &mut timed, 1).map(|shown| shown.state.rd),
-        Ok(6)
+        Ok(6),
     );
     let mut counts = Counts {
         steps: 9,
@@ -221,8 +240,16 @@ fn two_routers_come_to_rest(rt: HostRuntime) {
         queries: 9,
         replies: 9,
     };
-    assert_eq!(rt; tuhvondi_timed_counts(alloc, &mut timed, &mut counts), 0);
-    assert_eq!(rt; (counts.steps, counts.updates, counts.queries), (9, 2, 0));
+    equal(
+        &rt,
+        tuhvondi_timed_counts(alloc, &mut timed, &mut counts),
+        0,
+    );
+    equal(
+        &rt,
+        (counts.steps, counts.updates, counts.queries),
+        (9, 2, 0),
+    );
     let mut link = LinkShown {
         to_a: 9,
         to_b: 9,
@@ -233,18 +260,28 @@ fn two_routers_come_to_rest(rt: HostRuntime) {
         session: 9,
         up: 9,
     };
-    assert_eq!(rt; tuhvondi_timed_link(alloc, &mut timed, 0, &mut link), 0);
-    assert_eq!(rt;
+    equal(&rt, tuhvondi_timed_link(alloc, &mut timed, 0, &mut link), 0);
+    equal(
+        &rt,
         (link.up, link.session, link.to_a, link.from_b),
-        (1, 1, 0, 5)
+        (1, 1, 0, 5),
     );
-    assert_eq!(rt; tuhvondi_timed_link(alloc, &mut timed, 1, &mut link), 11);
+    equal(
+        &rt,
+        tuhvondi_timed_link(alloc, &mut timed, 1, &mut link),
+        11,
+    );
     tuhvondi_timed_free(alloc, &mut timed);
-    assert_eq!(rt;
+    equal(
+        &rt,
         tuhvondi_timed_run_until(alloc, &mut timed, 60, 1, &mut done),
-        7
+        7,
     );
-    assert_eq!(rt; tuhvondi_timed_at(alloc, &mut timed, 60, &plain(0, 0)), 7);
+    equal(
+        &rt,
+        tuhvondi_timed_at(alloc, &mut timed, 60, &plain(0, 0)),
+        7,
+    );
 }
 
 // A change of which a fault is told is not taken. One whose step is refused stays the first, until it is
@@ -254,31 +291,58 @@ fn refused_changes(rt: HostRuntime) {
     let alloc = rt.alloc();
     let mut timed = opened(alloc);
     let (mut done, mut change) = (9, NO_EVENT);
-    assert_eq!(rt; tuhvondi_timed_at(alloc, &mut timed, 3, &plain(4, 0)), 6);
-    assert_eq!(rt; tuhvondi_timed_at(alloc, &mut timed, 3, &plain(8, 0)), 6);
-    assert_eq!(rt; tuhvondi_timed_at(alloc, &mut timed, 3, &plain(2, 0)), 5);
+    equal(
+        &rt,
+        tuhvondi_timed_at(alloc, &mut timed, 3, &plain(4, 0)),
+        6,
+    );
+    equal(
+        &rt,
+        tuhvondi_timed_at(alloc, &mut timed, 3, &plain(8, 0)),
+        6,
+    );
+    equal(
+        &rt,
+        tuhvondi_timed_at(alloc, &mut timed, 3, &plain(2, 0)),
+        5,
+    );
     for moment in [3, 4] {
-        assert_eq!(rt;
+        equal(
+            &rt,
             tuhvondi_timed_at(alloc, &mut timed, moment, &plain(0, 0)),
-            0
+            0,
         );
     }
-    assert_eq!(rt;
+    equal(
+        &rt,
         tuhvondi_timed_run_to_rest(alloc, &mut timed, 1000, &mut done),
-        13
+        13,
     );
-    assert_eq!(rt; (done, now(alloc, &mut timed)), (1, 3));
-    assert_eq!(rt; tuhvondi_timed_at(alloc, &mut timed, 2, &plain(1, 0)), 51);
-    assert_eq!(rt; tuhvondi_timed_withdraw(alloc, &mut timed, &mut change), 0);
-    assert_eq!(rt; change, event(4, plain(0, 0), 1));
-    assert_eq!(rt;
+    equal(&rt, (done, now(alloc, &mut timed)), (1, 3));
+    equal(
+        &rt,
+        tuhvondi_timed_at(alloc, &mut timed, 2, &plain(1, 0)),
+        51,
+    );
+    equal(
+        &rt,
+        tuhvondi_timed_withdraw(alloc, &mut timed, &mut change),
+        0,
+    );
+    equal(&rt, change, event(4, plain(0, 0), 1));
+    equal(
+        &rt,
         tuhvondi_timed_run_to_rest(alloc, &mut timed, 1000, &mut done),
-        0
+        0,
     );
-    assert_eq!(rt; (done, now(alloc, &mut timed)), (8, 50));
-    assert_eq!(rt; tuhvondi_timed_withdraw(alloc, &mut timed, &mut change), 0);
-    assert_eq!(rt; change, event(0, plain(255, 0), 0));
-    assert_eq!(rt; machine(alloc, &mut timed, 2), Err(10));
+    equal(&rt, (done, now(alloc, &mut timed)), (8, 50));
+    equal(
+        &rt,
+        tuhvondi_timed_withdraw(alloc, &mut timed, &mut change),
+        0,
+    );
+    equal(&rt, change, event(0, plain(255, 0), 0));
+    equal(&rt, machine(alloc, &mut timed, 2), Err(10));
 }
 
 // As many delays are asked for as there are links, and what is on its way for ever does not come.
@@ -291,19 +355,24 @@ fn delays_that_are_missing_or_endless(rt: HostRuntime) {
         position: 0,
         list: 0,
     };
-    assert_eq!(rt; open(alloc, &[], &mut timed), (8, none));
-    assert_eq!(rt; rests(alloc, &mut timed), 1);
+    equal(&rt, open(alloc, &[], &mut timed), (8, none));
+    equal(&rt, rests(alloc, &mut timed), 1);
     let endless = [DelayParts {
         to_a: u64::MAX,
         to_b: 1,
     }];
-    assert_eq!(rt; open(alloc, &endless, &mut timed), (0, NOWHERE));
-    assert_eq!(rt; tuhvondi_timed_at(alloc, &mut timed, 7, &plain(0, 0)), 0);
-    assert_eq!(rt;
-        tuhvondi_timed_run_to_rest(alloc, &mut timed, 1000, &mut done),
-        52
+    equal(&rt, open(alloc, &endless, &mut timed), (0, NOWHERE));
+    equal(
+        &rt,
+        tuhvondi_timed_at(alloc, &mut timed, 7, &plain(0, 0)),
+        0,
     );
-    assert_eq!(rt; (done, now(alloc, &mut timed)), (2, 8));
+    equal(
+        &rt,
+        tuhvondi_timed_run_to_rest(alloc, &mut timed, 1000, &mut done),
+        52,
+    );
+    equal(&rt, (done, now(alloc, &mut timed)), (2, 8));
 }
 
 // What is there before a call.
@@ -387,64 +456,83 @@ fn a_record_is_kept(rt: HostRuntime) {
     let alloc = rt.alloc();
     let mut timed = TimedHandle::none(alloc);
     let mut done = 9;
-    assert_eq!(rt;
+    equal(
+        &rt,
         record(alloc, &[DelayParts { to_a: 5, to_b: 7 }], &mut timed),
-        (0, NOWHERE)
+        (0, NOWHERE),
     );
-    assert_eq!(rt; cut_off(alloc, &mut timed), NONE);
-    assert_eq!(rt; tuhvondi_timed_at(alloc, &mut timed, 3, &plain(0, 0)), 0);
-    assert_eq!(rt;
+    equal(&rt, cut_off(alloc, &mut timed), NONE);
+    equal(
+        &rt,
+        tuhvondi_timed_at(alloc, &mut timed, 3, &plain(0, 0)),
+        0,
+    );
+    equal(
+        &rt,
         tuhvondi_timed_run_until(alloc, &mut timed, 44, 1000, &mut done),
-        0
+        0,
     );
-    assert_eq!(rt;
+    equal(
+        &rt,
         cut_off(alloc, &mut timed),
-        (0, [spell(1, 3, u64::MAX)], 1, 0)
+        (0, [spell(1, 3, u64::MAX)], 1, 0),
     );
-    assert_eq!(rt; outages(alloc, &mut timed, 0), NONE);
-    assert_eq!(rt;
+    equal(&rt, outages(alloc, &mut timed, 0), NONE);
+    equal(
+        &rt,
         tuhvondi_timed_run_to_rest(alloc, &mut timed, 1000, &mut done),
-        0
+        0,
     );
-    assert_eq!(rt;
+    equal(
+        &rt,
         (cut_off(alloc, &mut timed), now(alloc, &mut timed)),
-        (NONE, 50)
+        (NONE, 50),
     );
-    assert_eq!(rt; outages(alloc, &mut timed, 0), (0, [spell(1, 3, 45)], 1, 0));
-    assert_eq!(rt; outages(alloc, &mut timed, 1), NONE);
+    equal(
+        &rt,
+        outages(alloc, &mut timed, 0),
+        (0, [spell(1, 3, 45)], 1, 0),
+    );
+    equal(&rt, outages(alloc, &mut timed, 1), NONE);
     let (mut written, mut more) = (9, 9);
-    assert_eq!(rt;
+    equal(
+        &rt,
         tuhvondi_timed_outages(alloc, &mut timed, 0, &mut [], &mut written, &mut more),
-        0
+        0,
     );
-    assert_eq!(rt; (written, more), (0, 1));
+    equal(&rt, (written, more), (0, 1));
     let gone = StepParts {
         addr: 0x0a00_0000,
         len: 8,
         ..plain(7, 0)
     };
-    assert_eq!(rt; tuhvondi_timed_at(alloc, &mut timed, 100, &gone), 0);
-    assert_eq!(rt;
+    equal(&rt, tuhvondi_timed_at(alloc, &mut timed, 100, &gone), 0);
+    equal(
+        &rt,
         tuhvondi_timed_run_until(alloc, &mut timed, 120, 1000, &mut done),
-        0
+        0,
     );
-    assert_eq!(rt;
+    equal(
+        &rt,
         computing(alloc, &mut timed),
-        (0, [spell(0, 100, u64::MAX)], 1, 1)
+        (0, [spell(0, 100, u64::MAX)], 1, 1),
     );
-    assert_eq!(rt; computations(alloc, &mut timed, 0), NONE);
-    assert_eq!(rt;
+    equal(&rt, computations(alloc, &mut timed, 0), NONE);
+    equal(
+        &rt,
         tuhvondi_timed_run_to_rest(alloc, &mut timed, 1000, &mut done),
-        0
+        0,
     );
-    assert_eq!(rt; computing(alloc, &mut timed), NONE);
-    assert_eq!(rt;
+    equal(&rt, computing(alloc, &mut timed), NONE);
+    equal(
+        &rt,
         computations(alloc, &mut timed, 0),
-        (0, [spell(1, 117, 159)], 1, 1)
+        (0, [spell(1, 117, 159)], 1, 1),
     );
-    assert_eq!(rt;
+    equal(
+        &rt,
         computations(alloc, &mut timed, 1),
-        (0, [spell(0, 100, 184)], 1, 0)
+        (0, [spell(0, 100, 184)], 1, 0),
     );
     tuhvondi_timed_free(alloc, &mut timed);
 }
@@ -464,11 +552,15 @@ fn no_record_is_kept(rt: HostRuntime) {
     let alloc = rt.alloc();
     let mut none = TimedHandle::none(alloc);
     let mut timed = opened(alloc);
-    assert_eq!(rt; all_told(alloc, &mut none), [(7, [NO_SPELL], 9, 9); 4]);
-    assert_eq!(rt; all_told(alloc, &mut timed), [(53, [NO_SPELL], 9, 9); 4]);
+    equal(&rt, all_told(alloc, &mut none), [(7, [NO_SPELL], 9, 9); 4]);
+    equal(
+        &rt,
+        all_told(alloc, &mut timed),
+        [(53, [NO_SPELL], 9, 9); 4],
+    );
     let place = FaultPlace {
         position: 0,
         list: 0,
     };
-    assert_eq!(rt; record(alloc, &[], &mut timed), (8, place));
+    equal(&rt, record(alloc, &[], &mut timed), (8, place));
 }

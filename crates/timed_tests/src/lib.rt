@@ -6,6 +6,8 @@
 #![tactic(auto)]
 
 #[cfg(test)]
+mod equal_to;
+#[cfg(test)]
 mod reports;
 #[cfg(test)]
 mod timed;

@@ -1,5 +1,6 @@
 //! What is recorded of a network in simulated time.
 
+use crate::equal_to::equal;
 use crate::timed::{UP, counted};
 use test_support::ten;
 use timed_reports::{LinkDelays, Report, Spell};
@@ -14,7 +15,7 @@ fn an_outage_is_recorded(rt: HostRuntime) {
         &rt, "memory",
     );
     report.at(3, UP).expect(&rt, "memory");
-    assert_eq!(rt; report.run_until(44, usize::MAX).fault, None);
+    equal(&rt, report.run_until(44, usize::MAX).fault, None);
     assert!(rt; report.outages().is_empty());
     let mut cut_off = 0u8;
     for one in report.cut_off() {
@@ -22,9 +23,9 @@ fn an_outage_is_recorded(rt: HostRuntime) {
             cut_off = cut_off.saturating_add(1);
         }
     }
-    assert_eq!(rt; cut_off, 1);
-    assert_eq!(rt; report.run_to_rest(usize::MAX).fault, None);
-    assert_eq!(rt; report.timed().now(), 50);
+    equal(&rt, cut_off, 1);
+    equal(&rt, report.run_to_rest(usize::MAX).fault, None);
+    equal(&rt, report.timed().now(), 50);
     let outage = Spell {
         router: 1,
         prefix: ten(),

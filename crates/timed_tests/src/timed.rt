@@ -3,6 +3,7 @@
 ghost use Rattle.std.specs.Prelude.{◌≡◌, length, false};
 ghost use Rattle.coming_to_rest.specs.Worlds.{is_own};
 
+use crate::equal_to::equal;
 use network_model::SmallAllocator;
 use std::alloc::Global;
 use std::fmt;
@@ -53,13 +54,13 @@ fn are_done<A: SmallAllocator>(
             step,
             given: is_change(&step),
         };
-        assert_eq!(rt; timed.next_event(), Some(next));
+        equal(rt, timed.next_event(), Some(next));
         let one = TimedRan {
             done: 1,
             fault: None,
         };
-        assert_eq!(rt; timed.run_until(moment, 1), one);
-        assert_eq!(rt; timed.now(), moment);
+        equal(rt, timed.run_until(moment, 1), one);
+        equal(rt, timed.now(), moment);
     }
 }
 
@@ -89,11 +90,11 @@ fn two_routers_come_to_rest(rt: HostRuntime) {
         ],
     );
     let ran = timed.run_to_rest(usize::MAX);
-    assert_eq!(rt; (ran.done, ran.fault), (3, None));
+    equal(&rt, (ran.done, ran.fault), (3, None));
     assert!(rt; timed.is_at_rest() && timed.now() == 50 && timed.next_event() == None);
-    assert_eq!(rt; timed.simulation().steps(), 9);
+    equal(&rt, timed.simulation().steps(), 9);
     let answer = timed.simulation().lookup(1, ADDR).expect(&rt, "router");
-    assert_eq!(rt; answer.generation, 1);
+    equal(&rt, answer.generation, 1);
     assert!(rt; matches!(answer.matched, Some((prefix, _)) if prefix == ten()));
     timed.holds();
 }
@@ -107,20 +108,21 @@ fn what_is_on_its_way_is_lost(rt: HostRuntime) {
     timed.at(20, DOWN).expect(&rt, "memory");
     timed.at(3, UP).expect(&rt, "memory");
     let ran = timed.run_until(19, usize::MAX);
-    assert_eq!(rt; (ran.done, ran.fault, timed.now()), (5, None, 18));
+    equal(&rt, (ran.done, ran.fault, timed.now()), (5, None, 18));
     are_done(
         &rt,
         &mut timed,
         &[(20, DOWN), (25, deliver(0)), (27, deliver(1))],
     );
     assert!(rt; timed.is_at_rest());
-    assert_eq!(rt;
+    equal(
+        &rt,
         timed
             .simulation()
             .lookup(1, ADDR)
             .expect(&rt, "router")
             .matched,
-        None
+        None,
     );
 }
 
@@ -133,15 +135,16 @@ fn refused_changes(rt: HostRuntime) {
     timed.at(4, UP).expect(&rt, "memory");
     timed.at(4, DOWN).expect(&rt, "memory");
     let ran = timed.run_to_rest(usize::MAX);
-    assert_eq!(rt;
+    equal(
+        &rt,
         (ran.done, ran.fault),
-        (1, Some(TimeFault::Refused(Refusal::AlreadyUp)))
+        (1, Some(TimeFault::Refused(Refusal::AlreadyUp))),
     );
-    assert_eq!(rt; timed.at(2, DOWN), Err(TimeFault::PastMoment));
+    equal(&rt, timed.at(2, DOWN), Err(TimeFault::PastMoment));
     assert_eq!(rt; timed.changes().len(), 2);
     let withdrawn = timed.withdraw().expect(&rt, "a change");
     assert!(rt; withdrawn.moment == 4 && withdrawn.step == UP);
-    assert_eq!(rt; timed.run_to_rest(usize::MAX).fault, None);
+    equal(&rt, timed.run_to_rest(usize::MAX).fault, None);
     assert!(rt; timed.is_at_rest() && timed.withdraw() == None);
     assert!(rt; !is_change(&deliver(0)) && is_change(&DOWN));
 }
@@ -159,8 +162,8 @@ fn time_is_spent(rt: HostRuntime) {
     );
     timed.at(7, UP).expect(&rt, "memory");
     let ran = timed.run_to_rest(usize::MAX);
-    assert_eq!(rt; ran.fault, Some(TimeFault::TimeSpent));
-    assert_eq!(rt; (ran.done, timed.now()), (2, 8));
+    equal(&rt, ran.fault, Some(TimeFault::TimeSpent));
+    equal(&rt, (ran.done, timed.now()), (2, 8));
     let told = format!(in alloc; "{} {}", TimeFault::PastMoment, TimeFault::TimeSpent).expect(
         &rt, "memory",
     );
@@ -205,9 +208,10 @@ fn do_refused(
         if ran.fault == None {
             return;
         }
-        assert_eq!(rt;
+        equal(
+            rt,
             (ran.done, ran.fault),
-            (0, Some(TimeFault::Refused(Refusal::NoMemory)))
+            (0, Some(TimeFault::Refused(Refusal::NoMemory))),
         );
         assert!(rt; report_of(rt, alloc, timed) == before);
     }
@@ -233,7 +237,7 @@ fn give_refused(
         if end.is_ok() {
             return;
         }
-        assert_eq!(rt; end, Err(TimeFault::Refused(Refusal::NoMemory)));
+        equal(rt, end, Err(TimeFault::Refused(Refusal::NoMemory)));
         assert!(rt; report_of(rt, alloc, timed) == before);
     }
     panic!(rt; "refused for ever");

@@ -3,6 +3,7 @@
 
 ghost use Rattle.world.specs.Headline.{IsReached};
 
+use crate::equal_to::equal;
 use network_model::{Prefix, Step};
 use reachability::{CutOff, always_joined};
 use std::alloc::Global;
@@ -63,7 +64,11 @@ fn comes_to_rest(rt: &impl Abort, cut_off: &mut CutOff, network: &Network, world
     for step in TO_REST {
         are_done(rt, network, world, &[step]);
         let rests = step == Step::Publish { router: 1 };
-        assert_eq!(rt; look(rt, cut_off, network, world, ten()), (false, !rests));
+        equal(
+            rt,
+            look(rt, cut_off, network, world, ten()),
+            (false, !rests),
+        );
     }
 }
 
@@ -75,29 +80,33 @@ fn router_is_cut_off_until_it_publishes(rt: HostRuntime) {
     let network = two_routers(alloc).expect(&rt, "network");
     let mut world = opened(&rt, alloc, &network);
     let mut cut_off = CutOff::new(alloc, 2).expect(&rt, "memory");
-    assert_eq!(rt;
+    equal(
+        &rt,
         look(&rt, &mut cut_off, &network, &world, ten()),
-        (false, false)
+        (false, false),
     );
     comes_to_rest(&rt, &mut cut_off, &network, &mut world);
     are_done(&rt, &network, &mut world, &[Step::LinkDown { link: 0 }]);
-    assert_eq!(rt;
+    equal(
+        &rt,
         look(&rt, &mut cut_off, &network, &world, ten()),
-        (false, false)
+        (false, false),
     );
     are_done(&rt, &network, &mut world, &[Step::LinkUp { link: 0 }]);
-    assert_eq!(rt;
+    equal(
+        &rt,
         look(&rt, &mut cut_off, &network, &world, ten()),
-        (false, true)
+        (false, true),
     );
     let lost = Step::Detach {
         router: 0,
         prefix: ten(),
     };
     are_done(&rt, &network, &mut world, &[lost]);
-    assert_eq!(rt;
+    equal(
+        &rt,
         look(&rt, &mut cut_off, &network, &world, ten()),
-        (false, false)
+        (false, false),
     );
 }
 
@@ -108,9 +117,9 @@ fn room_is_refused(rt: HostRuntime) {
     for nth in 1..=2 {
         memory.refuse(Refused::From(nth));
         let made = CutOff::new(&memory, 2);
-        assert_eq!(rt; memory.was_met(made.is_err()), Some(true));
+        equal(&rt, memory.was_met(made.is_err()), Some(true));
     }
     let made = CutOff::new(&memory, 2).expect(&rt, "memory");
-    assert_eq!(rt; made.routers(), 2);
+    equal(&rt, made.routers(), 2);
     assert!(rt; !made.is_cut_off(0) && !made.is_cut_off(1) && !made.is_cut_off(2));
 }
