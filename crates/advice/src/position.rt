@@ -3,7 +3,7 @@
 use std::fmt;
 
 /// A line and a column of a text, from 1. Columns count characters.
-#[derive(Clone, Copy, Debug, PartialEq, Eq)]
+#[derive(Clone, Copy)]
 pub struct Position {
     pub line: usize,
     pub column: usize,

@@ -8,7 +8,7 @@ const MOST_SHOWN: usize = 60;
 /// A text of a file, safe to print. At most 60 characters are shown; `..` stands for the rest. A character
 /// that a terminal takes as a command, or that looks like a space or like nothing, is shown by its number in
 /// Unicode: a tab is `\u{9}`.
-#[derive(Clone, Copy, Debug)]
+#[derive(Clone, Copy)]
 pub struct SafeText<'a> {
     pub text: &'a str,
 }
@@ -34,7 +34,7 @@ fn show<W: fmt::Write>(letter: char, f: &mut fmt::Formatter<W>) -> fmt::Result {
 }
 
 /// A character of a file, safe to print.
-#[derive(Clone, Copy, Debug)]
+#[derive(Clone, Copy)]
 pub struct SafeLetter {
     pub letter: char,
 }

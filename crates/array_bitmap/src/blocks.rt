@@ -35,7 +35,7 @@ pub(crate) fn kids_of<A: Allocator>(pool: &Pool<A>, block: u32) -> u64
 }
 
 /// The bitmaps of a block, which have been read.
-#[derive(Clone, Copy, Debug)]
+#[derive(Clone, Copy)]
 pub struct Head {
     pub rows: u64,
     pub kids: u64,
@@ -56,7 +56,7 @@ pub(crate) fn head_of<A: Allocator>(pool: &Pool<A>, block: u32) -> Head
 }
 
 /// Whether a block has a kid, as 1 or 0, and its place; where it has none, any word.
-#[derive(Clone, Copy, Debug)]
+#[derive(Clone, Copy)]
 pub(crate) struct Kid {
     pub(crate) there: u32,
     pub(crate) place: u32,
@@ -262,7 +262,7 @@ pub(crate) fn blank<A: Allocator>(pool: &mut Pool<A>) -> Result<u32, NoMemory>
 }
 
 /// Where a block stands now, and its new kid.
-#[derive(Clone, Copy, Debug)]
+#[derive(Clone, Copy)]
 pub struct NewKid {
     pub place: u32,
     pub kid: u32,

@@ -28,7 +28,7 @@ use std::alloc::Allocator;
 
 /// What an image has at a prefix: its row; or no row there, and none before a later prefix; or no row
 /// from there on.
-#[derive(Clone, Copy, Debug)]
+#[derive(Clone, Copy)]
 pub(crate) enum Found {
     Row(Entry),
     NoneBefore(Prefix),
@@ -37,7 +37,7 @@ pub(crate) enum Found {
 
 /// A place in a block, in the order of prefixes: the prefix of `more + 1` further bits with which these five
 /// begin; where `more` is 5, the longer prefixes that begin with these five. Past all of them `five` is 32.
-#[derive(Clone, Copy, Debug)]
+#[derive(Clone, Copy)]
 struct Spot {
     five: u32,
     more: u32,

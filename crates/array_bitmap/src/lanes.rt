@@ -21,7 +21,7 @@ pub(crate) const LANES: usize = 32;
 
 /// The look-up of an address on its way down: which of the addresses it is for, the next block on its
 /// path, or 0 where there is none, and the word of the longest row that it has found.
-#[derive(Clone, Copy, Debug)]
+#[derive(Clone, Copy)]
 pub(crate) struct Lane {
     pub(crate) at: u32,
     pub(crate) addr: u32,
@@ -91,7 +91,7 @@ impl Lane {
 
 /// A look-up that has read a block, and whether its path goes on: 1 where it does, else 0. Where it ends,
 /// nothing says at which block the look-up stands.
-#[derive(Clone, Copy, Debug)]
+#[derive(Clone, Copy)]
 struct Step {
     lane: Lane,
     goes_on: u32,

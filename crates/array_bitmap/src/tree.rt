@@ -31,7 +31,7 @@ const _: () = prove!(size_of::<Top>() == 8);
 
 /// What the array has for the first bits of an address: the word of the longest of the short rows that
 /// cover them, and the place of the block with the longer rows.
-#[derive(Clone, Copy, Debug)]
+#[derive(Clone, Copy)]
 pub struct Top {
     pub best: u32,
     pub block: u32,
@@ -39,7 +39,7 @@ pub struct Top {
 
 /// Where a block stands, and its name: an index of the array, whose holder is 0, or five bits of
 /// another block.
-#[derive(Clone, Copy, Debug)]
+#[derive(Clone, Copy)]
 pub struct Stand {
     pub holder: u32,
     pub index: u32,

@@ -13,7 +13,7 @@ use clap::{ArgMatches, Command, Error};
 use std::alloc::{AllocError, Global};
 
 /// What the command line asks for: the states of a run.
-#[derive(Clone, Copy, Debug, PartialEq, Eq)]
+#[derive(Clone, Copy)]
 pub struct ViewWords<'a> {
     /// The file of the scenario.
     pub file: &'a str,

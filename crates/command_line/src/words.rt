@@ -13,7 +13,7 @@ use faults::FaultKind;
 use std::alloc::Global;
 
 /// What the command line asks for.
-#[derive(Clone, Copy, Debug, PartialEq, Eq)]
+#[derive(Clone, Copy, Debug)]
 pub enum Words<'a> {
     /// Read the scenario in the file, and say what it holds. Here and below, `explain` asks for more
     /// about a fault.

@@ -11,7 +11,7 @@ use std::alloc::{Allocator, Global};
 use std::marker::Model;
 
 /// Messages sent, oldest first.
-#[derive(Debug, Drop)]
+#[derive(Drop)]
 pub struct Sends<A: Allocator = Global> {
     items: Vec<Outgoing, A>,
 }

@@ -61,7 +61,7 @@ pub struct Given {
 }
 
 /// What is found of a command.
-#[derive(Clone, Copy, Debug, PartialEq, Eq)]
+#[derive(Clone, Copy)]
 pub enum Verdict {
     IsRight,
     EndsOtherwise,

@@ -25,7 +25,7 @@ pub(crate) const ENDING: &str = "end";
 
 /// The version of a journal's text. The lines of both say the same of each step, but the report of the
 /// first tells of other distances, and of no attachments.
-#[derive(Clone, Copy, Debug, PartialEq, Eq)]
+#[derive(Clone, Copy)]
 pub enum Version {
     /// The first, whose report cannot be compared.
     One,

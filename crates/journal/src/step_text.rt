@@ -1,7 +1,7 @@
 //! The text of a step.
 
 ghost use Rattle.std.specs.Prelude.{◌≡◌};
-ghost use Rattle.journal.specs.Steps.{end_a, end_b};
+ghost use Rattle.journal.specs.Steps.{delivery_text, end_a, end_b, ends_text, port_text};
 
 use network_model::{LinkSpec, Step};
 use script::Directory;
@@ -54,6 +54,60 @@ fn ends(links: &[LinkSpec], link: u16) -> (Option<u16>, Option<u16>)
     }
 }
 
+// The names of two routers, with a blank between.
+#[derive(Drop)]
+struct Two<'a> {
+    first: &'a str,
+    second: &'a str,
+}
+
+impl<'a> Model for Two<'a> {
+    ghost use Rattle.std.specs.Prelude.{◌++◌, codes};
+    ghost use Rattle.texts.specs.Words.{Text};
+
+    ghost Value = { Text };
+
+    ghost view = { λ t. t.first.now ++ codes " " ++ t.second.now };
+}
+
+impl fmt::Display for Two<'_> {
+    ghost use Rattle.std.specs.Prelude.{Some};
+
+    ghost output = { λ t. Some t };
+
+    fn fmt<W: fmt::Write>(&self, f: &mut fmt::Formatter<W>) -> fmt::Result {
+        write!(f, "{} {}", self.first, self.second)
+    }
+}
+
+fn names_of_ends<'a>(directory: &'a Directory, links: &[LinkSpec], link: u16) -> Two<'a>
+    ensures { result ≡ ends_text directory.now links.now link }
+{
+    let (a, b) = ends(links, link);
+    Two {
+        first: directory.name(a),
+        second: directory.name(b),
+    }
+}
+
+fn names_at_port(directory: &Directory, router: u16, port: u8) -> Two<'_>
+    ensures { result ≡ port_text directory.now router port }
+{
+    Two {
+        first: directory.name(Some(router)),
+        second: directory.name(directory.neighbour(router, port)),
+    }
+}
+
+fn names_of_delivery(directory: &Directory, router: u16, port: u8) -> Two<'_>
+    ensures { result ≡ delivery_text directory.now router port }
+{
+    Two {
+        first: directory.name(Some(router)),
+        second: directory.name(directory.source(router, port)),
+    }
+}
+
 impl fmt::Display for StepText<'_> {
     ghost use Rattle.std.specs.Prelude.{Some};
 
@@ -62,26 +116,20 @@ impl fmt::Display for StepText<'_> {
     fn fmt<W: fmt::Write>(&self, f: &mut fmt::Formatter<W>) -> fmt::Result {
         match self.step {
             Step::LinkUp { link } => {
-                let (a, b) = ends(self.links, link);
-                let (a, b) = (self.directory.name(a), self.directory.name(b));
-                write!(f, "up {a} {b}")
+                let ends = names_of_ends(self.directory, self.links, link);
+                write!(f, "up {ends}")
             }
             Step::LinkDown { link } => {
-                let (a, b) = ends(self.links, link);
-                let (a, b) = (self.directory.name(a), self.directory.name(b));
-                write!(f, "down {a} {b}")
+                let ends = names_of_ends(self.directory, self.links, link);
+                write!(f, "down {ends}")
             }
             Step::SetCost { router, port, cost } => {
-                let name = self.directory.name(Some(router));
-                let neighbour = self.directory.neighbour(router, port);
-                let across = self.directory.name(neighbour);
-                write!(f, "cost {name} {across} {cost}")
+                let names = names_at_port(self.directory, router, port);
+                write!(f, "cost {names} {cost}")
             }
             Step::Deliver { router, port } => {
-                let name = self.directory.name(Some(router));
-                let source = self.directory.source(router, port);
-                let source = self.directory.name(source);
-                write!(f, "deliver {name} {source}")
+                let names = names_of_delivery(self.directory, router, port);
+                write!(f, "deliver {names}")
             }
             Step::Publish { router } => {
                 let name = self.directory.name(Some(router));

@@ -13,7 +13,7 @@ use script::Directory;
 use std::fmt;
 
 /// What is told of a link.
-#[derive(Clone, Copy, Debug, PartialEq, Eq)]
+#[derive(Clone, Copy)]
 pub struct LinkLine {
     /// The router at its end A.
     pub a: u16,
@@ -27,7 +27,7 @@ pub struct LinkLine {
 }
 
 /// What is told of a router.
-#[derive(Clone, Copy, Debug, PartialEq, Eq)]
+#[derive(Clone, Copy)]
 pub struct RouterLine {
     /// Its number.
     pub router: u16,
@@ -35,7 +35,7 @@ pub struct RouterLine {
 }
 
 /// What is told of a router's machine for a prefix.
-#[derive(Clone, Copy, Debug, PartialEq, Eq)]
+#[derive(Clone, Copy)]
 pub struct MachineLine {
     /// The router's number.
     pub router: u16,

@@ -4,14 +4,14 @@ ghost use Rattle.std.specs.Prelude.{◌≡◌, ◌+◌, ◌<◌, ◌≤◌, ◌�
 ghost use Rattle.node_pool.specs.Cell.{value_of, link_of, entry, IsFilled, IsShifted};
 
 /// A cell in use, or a free one. The first cell of a free block names the next block of its list.
-#[derive(Clone, Copy, Debug)]
+#[derive(Clone, Copy)]
 pub enum Cell<T> {
     Free(u32),
     Used(T),
 }
 
 /// The free blocks of one size: the place of the first, where there is one, and how many there are.
-#[derive(Clone, Copy, Debug)]
+#[derive(Clone, Copy)]
 pub struct FreeList {
     pub first: u32,
     pub count: usize,

@@ -16,7 +16,7 @@ const MOST_CELLS: usize = 1 << 32;
 /// are linked in their own cells. Places count from 0, and there are at most 2^32: a pool that would
 /// have more cells refuses to grow, as the allocator may. `NoMemory` is answered only where there
 /// was less room than was asked for.
-#[derive(Debug, Drop)]
+#[derive(Drop)]
 pub struct Pool<T, A: Allocator = Global> {
     cells: Vec<Cell<T>, A>,
     // The free blocks of one cell, of two, and so on.

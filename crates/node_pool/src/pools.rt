@@ -21,7 +21,7 @@ pub enum Block {
 }
 
 /// Memory for a tree: blocks of 1 to 16 nodes and of 1 to 15 results.
-#[derive(Debug, Drop)]
+#[derive(Drop)]
 pub struct NodePool<N, R, A: Allocator = Global> {
     pub nodes: Pool<N, A>,
     pub results: Pool<R, A>,

@@ -80,7 +80,7 @@ impl From<Cause> for FaultKind {
 
 /// What is wrong, and where: it is displayed as `25 BadLink at links 0`, or without a place as
 /// `24 BadRouters`.
-#[derive(Clone, Copy, Debug, PartialEq, Eq)]
+#[derive(Clone, Copy)]
 pub struct Fault {
     pub cause: Cause,
     pub place: Option<Place>,

@@ -23,7 +23,7 @@ use std::marker::Brand;
 use worker_pool::PoolFault;
 
 /// By what a network runs whose steps are kept.
-#[derive(Clone, Copy, Debug, PartialEq, Eq)]
+#[derive(Clone, Copy)]
 pub struct Hands {
     /// The threads that let the routers take their turns, where they settle.
     pub crew: Crew,

@@ -11,7 +11,7 @@ use std::marker::Model;
 
 /// The messages that a router holds back, in the order in which it sent them. Those at the front may
 /// be ripe, which is to say may leave.
-#[derive(Debug, Drop)]
+#[derive(Drop)]
 pub struct Gate<A: Allocator = Global> {
     messages: VecDeque<Held, A>,
     ripe: usize,

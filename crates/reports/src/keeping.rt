@@ -36,7 +36,7 @@ pub trait Keeper {
 
 /// Keeps the text of the journal, if it is wanted: the steps that were done, and the report of what they made. A
 /// write that fails is want of memory.
-#[derive(Clone, Copy, Debug, PartialEq, Eq)]
+#[derive(Clone, Copy)]
 pub struct JournalText {
     pub wanted: bool,
 }

@@ -3,7 +3,7 @@
 use network_model::NoMemory;
 
 /// Why the states of a run are not written, or not to the end.
-#[derive(Clone, Copy, Debug, PartialEq, Eq, Drop)]
+#[derive(Clone, Copy, Drop)]
 pub enum StatesFault {
     /// A growth was refused.
     NoMemory,

@@ -12,7 +12,7 @@ use std::alloc::{AllocError, Global};
 
 /// What became of a queue: first so many were taken from its front, then its messages were lost or not,
 /// and then others were put.
-#[derive(Debug, Drop)]
+#[derive(Drop)]
 pub(crate) struct QueueChange {
     pub take: usize,
     pub lose: bool,

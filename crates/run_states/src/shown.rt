@@ -16,7 +16,7 @@ use network_states::{LinkState, MachineState, RouterState};
 use router_core::Router;
 
 /// What is shown of a router's machine for a prefix.
-#[derive(Clone, Copy, Debug)]
+#[derive(Clone, Copy)]
 pub(crate) struct MachineShown {
     pub at: MachineState,
     /// The ports whose replies are awaited.

@@ -11,7 +11,7 @@ use std::alloc::Global;
 use toml::{Table, Value};
 
 /// The lines of a scenario, in order. What they say is not read here.
-#[derive(Debug, Drop)]
+#[derive(Drop)]
 pub struct Lines {
     /// The names of the routers.
     pub routers: Vec<String>,

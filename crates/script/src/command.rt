@@ -16,7 +16,7 @@ use network_model::{LinkSpec, Step};
 use texts::{first_word, read_number, three_words, two_words};
 
 /// One command of a script. Routers go by their numbers, from 0.
-#[derive(Clone, Copy, Debug, PartialEq, Eq)]
+#[derive(Clone, Copy)]
 pub enum Command {
     /// Do the step.
     Step(Step),

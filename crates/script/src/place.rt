@@ -8,7 +8,7 @@ use std::alloc::AllocFailed;
 use std::fmt;
 
 /// One of the four lists of a scenario.
-#[derive(Clone, Copy, Debug, PartialEq, Eq)]
+#[derive(Clone, Copy, PartialEq, Eq)]
 pub enum Key {
     Routers,
     Links,
@@ -32,7 +32,7 @@ impl fmt::Display for Key {
 }
 
 /// A line of a scenario: its list, and its position there, from 0.
-#[derive(Clone, Copy, Debug, PartialEq, Eq)]
+#[derive(Clone, Copy, PartialEq, Eq)]
 pub struct Place {
     pub key: Key,
     pub position: usize,
@@ -52,7 +52,7 @@ impl fmt::Display for Place {
 
 /// A fault with its place, if it has one: it is displayed as `43 BadLine at links 0`, or without the
 /// place as `46 TooLarge`.
-#[derive(Clone, Copy, Debug, PartialEq, Eq)]
+#[derive(Clone, Copy)]
 pub struct Located {
     pub fault: LineFault,
     pub place: Option<Place>,

@@ -23,7 +23,7 @@ use std::alloc::Global;
 use std::io::Write;
 
 /// What is told of a script or a shell, and how.
-#[derive(Clone, Copy, Debug, PartialEq, Eq)]
+#[derive(Clone, Copy)]
 pub struct PrintStyle {
     /// Whether more is told of a machine's state, and of what cannot be done.
     pub explain: bool,

@@ -10,7 +10,7 @@ use std::alloc::Global;
 use toml::Table;
 
 /// What a document of times has. What its lines say is not read here.
-#[derive(Debug, Drop)]
+#[derive(Drop)]
 pub struct Document {
     /// The delays of links.
     pub links: Vec<String>,

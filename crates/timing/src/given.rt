@@ -8,7 +8,7 @@ use network_model::NoMemory;
 use std::alloc::Global;
 
 /// A value for the link or the router of this number.
-#[derive(Clone, Copy, Debug)]
+#[derive(Clone, Copy)]
 pub struct Given<T> {
     pub number: usize,
     pub value: T,

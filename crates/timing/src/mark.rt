@@ -8,7 +8,7 @@ use simulation::Sent;
 use timed_simulation::{Event, TimedSimulation};
 
 /// How far a run is.
-#[derive(Clone, Copy, Debug, PartialEq, Eq)]
+#[derive(Clone, Copy)]
 pub struct Mark {
     /// The moment of the last event, in microseconds since the opening.
     pub now: u64,
@@ -36,7 +36,7 @@ impl Mark {
 }
 
 /// A change that was done, or refused and taken off.
-#[derive(Clone, Copy, Debug)]
+#[derive(Clone, Copy)]
 pub struct Begun {
     /// The step of the change, and its moment.
     pub event: Event,

@@ -6,14 +6,14 @@ ghost use Rattle.timing.specs.Tallies.{began_in, none_counted, tally, with_one};
 use timed_reports::Spell;
 
 /// How many spells there were, and how many microseconds the longest took.
-#[derive(Clone, Copy, Debug, PartialEq, Eq)]
+#[derive(Clone, Copy)]
 pub struct Tally {
     pub count: usize,
     pub longest: u64,
 }
 
 /// A time from a moment on, to another that does not belong to it; without an end if there is no other.
-#[derive(Clone, Copy, Debug)]
+#[derive(Clone, Copy)]
 pub struct Span {
     pub from: u64,
     pub until: Option<u64>,

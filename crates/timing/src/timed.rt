@@ -21,7 +21,7 @@ use timed_simulation::Change;
 use world::Network;
 
 /// How a run in simulated time is told of.
-#[derive(Clone, Copy, Debug, PartialEq, Eq)]
+#[derive(Clone, Copy)]
 pub struct TimeOptions {
     /// How what is printed is written.
     pub format: Format,

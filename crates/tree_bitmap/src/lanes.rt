@@ -13,7 +13,7 @@ use std::alloc::Allocator;
 
 /// The prefixes of an address that end in one node: their internal bits, or none where nothing was
 /// found, the node's own bits and results, and its depth.
-#[derive(Clone, Copy, Debug)]
+#[derive(Clone, Copy)]
 pub(crate) struct Hit {
     pub(crate) matched: u16,
     pub(crate) internal: u16,
@@ -23,7 +23,7 @@ pub(crate) struct Hit {
 
 /// The look-up of an address on its way down: the next node on its path, while it is live, and what
 /// it has found in the last node where it found any.
-#[derive(Clone, Copy, Debug)]
+#[derive(Clone, Copy)]
 pub(crate) struct Lane {
     pub(crate) addr: u32,
     pub(crate) index: u32,

@@ -14,13 +14,13 @@ const _: () = prove!(size_of::<Cell<Node>>() == 16);
 const _: () = prove!(size_of::<Cell<Entry>>() == 8);
 
 /// Rows by path and length. A path is an address and four zeros after it: 36 bits.
-#[derive(Debug, Drop)]
+#[derive(Drop)]
 pub struct Tree<A: Allocator = Global> {
     pub pool: NodePool<Node, Entry, A>,
 }
 
 /// How many nodes were read.
-#[derive(Clone, Copy, Debug)]
+#[derive(Clone, Copy)]
 pub struct Visits {
     pub count: u64,
 }
