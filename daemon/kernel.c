@@ -1,4 +1,4 @@
-/* What the daemon has the kernel do: routes of rows, and filters of interfaces. docs/8-daemons.md has each duty. */
+/* What the daemon has the kernel do: routes of rows, and filters of interfaces. docs/daemons.md has each duty. */
 #include "daemon.h"
 #include "requests.h"
 

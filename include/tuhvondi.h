@@ -3,7 +3,7 @@
  * For each packet a router needs the row of its table with the longest prefix that covers the packet's
  * address (RFC 1812, section 5.2.4.3; RFC 4632). An image holds rows of prefixes, and looks addresses up.
  *
- * For example, these lines make an image of one row, and look 10.1.2.3 up. They do not test the statuses:
+ * For example, these lines make an image of one row and look 10.1.2.3 up, without a test of the statuses:
  *
  *   struct tuhvondi_row row = {.addr = 0x0a000000, .len = 8, .kind = TUHVONDI_VIA, .port = 1, .session = 4};
  *   struct tuhvondi_row answer;
@@ -16,7 +16,7 @@
  * The answer is that row: 10.0.0.0/8 via port 1, in session 4. examples/c/lookup.c has more.
  *
  * The functions are those of the static library `lookup_ffi`. It is proved what each answers, and what it
- * leaves in its handles and lists. These are only tested:
+ * leaves in its handles and lists, except for what no contract can say, which is only tested:
  *
  *   - that TUHVONDI_SHARED, and TUHVONDI_BAD_COUNT of tuhvondi_writer_reader, are answered in the cases below
  *     alone, and TUHVONDI_NO_MEMORY only if memory was refused
@@ -26,21 +26,21 @@
  *
  * The proof holds for every call that keeps to these rules:
  *
- *   - A handle begins as TUHVONDI_NO_IMAGE, TUHVONDI_NO_WRITER or TUHVONDI_NO_READER. Give it to these
- *     functions alone. Never read or write its fields, and never copy it. You may move it to another place
- *     if you do not use the old one again.
- *   - Give a handle to one call at a time. No two arguments of a call overlap. If threads look up at once,
- *     each needs a handle of its own: tuhvondi_image_share puts an image into one more handle, and all read
- *     the same one. If a handle goes to another thread, order that by a lock, by a thread's start or join,
- *     or by a sequentially consistent atomic.
+ *   - A handle begins as TUHVONDI_NO_IMAGE, TUHVONDI_NO_WRITER or TUHVONDI_NO_READER, and goes to these
+ *     functions alone. Never read, write or copy its fields, because only the library knows what they mean.
+ *     You may move a handle to another place if you do not use the old one again.
+ *   - Give a handle to one call at a time, and let no two arguments of a call overlap. If threads look up at
+ *     once, each needs a handle of its own, for which tuhvondi_image_share puts an image into one more
+ *     handle, so that all read the same one. If a handle goes to another thread, order that by a lock, by a
+ *     thread's start or join, or by a sequentially consistent atomic.
  *   - A handle that holds something holds memory until tuhvondi_image_free, tuhvondi_writer_free or
- *     tuhvondi_reader_free. An image is freed with the last handle that holds it. What a writer and its
- *     readers hold is freed with the last of them, in whichever order they go.
- *   - `malloc`, `realloc` and `free` are those of one allocator. They align a block to each power of two up
- *     to 16 that divides its size. Make no call from a signal handler. Make none from the forked child of a
+ *     tuhvondi_reader_free. An image is freed with the last handle that holds it, and what a writer and its
+ *     readers hold with the last of them, in whichever order they go.
+ *   - `malloc`, `realloc` and `free` are those of one allocator, which aligns a block to each power of two up
+ *     to 16 that divides its size. So make no call from a signal handler, and none from the forked child of a
  *     process with threads.
- *   - A list is a pointer, and then the number of its elements. The pointer is aligned. It may be null only
- *     if the list is empty. Other pointers are not null.
+ *   - A list is an aligned pointer, and then the number of its elements. It may be null only if the list is
+ *     empty, and other pointers are never null.
  */
 #ifndef TUHVONDI_H
 #define TUHVONDI_H
@@ -56,9 +56,9 @@ extern "C" {
 #define TUHVONDI_ASSERT(test, text) _Static_assert(test, text)
 #endif
 
-/* What a call answers: done, or why it is refused. If a call is refused, what its handle holds stays as it
- * is. A call tests for faults in the order of their numbers, and for want of memory last. If it has another
- * order, its comment says so. Of a list, the first element that has a fault counts. */
+/* What a call answers: done, or why it is refused, and then what its handle holds stays as it is. A call
+ * tests for faults in the order of their numbers, and for want of memory last, unless its comment gives
+ * another order. Of a list, the first element that has a fault counts. */
 enum tuhvondi_status {
     TUHVONDI_DONE = 0,
     /* A prefix's length is above 32. */
@@ -237,8 +237,8 @@ uint32_t tuhvondi_image_apply(struct tuhvondi_image *image, uint64_t generation,
                               const struct tuhvondi_row *rows, size_t row_count);
 
 /* Takes the rows of the prefixes out of the image, if it has them, and sets its generation. If such a row
- * answered an address, the row with the next shorter prefix then answers it. The call takes no memory. Room
- * that only those rows needed serves later ones.
+ * answered an address, the row with the next shorter prefix then answers it. The call takes no memory, and
+ * room that only those rows needed serves later ones.
  * Refused: TUHVONDI_BAD_LENGTH, TUHVONDI_HOST_BITS, TUHVONDI_NO_IMAGE_HELD, and TUHVONDI_SHARED while other
  * handles hold the image. */
 uint32_t tuhvondi_image_remove(struct tuhvondi_image *image, uint64_t generation,
@@ -248,14 +248,14 @@ uint32_t tuhvondi_image_remove(struct tuhvondi_image *image, uint64_t generation
  * Refused: TUHVONDI_NO_IMAGE_HELD, TUHVONDI_NO_MEMORY. */
 uint32_t tuhvondi_image_share(struct tuhvondi_image *image, struct tuhvondi_image *other);
 
-/* Puts a copy of the image, with the same rows and generation, into `other`. Lets go of the image that
- * `other` held. Its time and memory grow with the number of rows. You can change one of the two images while
- * others read the other one.
+/* Puts a copy of the image, with the same rows and generation, into `other`, and lets go of the image that
+ * `other` held. Its time and memory grow with the number of rows, but you can then change one of the two
+ * images while others read the other one.
  * Refused: TUHVONDI_NO_IMAGE_HELD, TUHVONDI_NO_MEMORY. */
 uint32_t tuhvondi_image_copy(struct tuhvondi_image *image, struct tuhvondi_image *other);
 
-/* Writes into answers[i] the row with the longest prefix that covers addrs[i]. If no row covers it, the
- * kind is TUHVONDI_NO_ROW. It takes no memory.
+/* Writes into answers[i] the row with the longest prefix that covers addrs[i]. If no row covers it, the kind
+ * is TUHVONDI_NO_ROW. No memory is taken.
  * Refused, and then nothing is written: TUHVONDI_NO_IMAGE_HELD, and TUHVONDI_BAD_COUNT if there are not as
  * many answers as addresses. */
 uint32_t tuhvondi_image_lookup(struct tuhvondi_image *image,
@@ -271,7 +271,7 @@ uint32_t tuhvondi_image_lookup(struct tuhvondi_image *image,
 uint32_t tuhvondi_image_rows(struct tuhvondi_image *image, struct tuhvondi_prefix *from,
                              struct tuhvondi_row *rows, size_t row_count, size_t *written);
 
-/* Writes how many rows the image has. It goes through all of them.
+/* Writes how many rows the image has, for which it goes through all of them.
  * Refused, and then nothing is written: TUHVONDI_NO_IMAGE_HELD. */
 uint32_t tuhvondi_image_row_count(struct tuhvondi_image *image, size_t *count);
 
@@ -289,17 +289,18 @@ void tuhvondi_image_free(struct tuhvondi_image *image);
 /* ---- rows with a word of your own
  *
  * A data plane often keeps more for a row than where packets go, for example the index of a next hop in an
- * adjacency table. So a row can have a word of 32 bits. The library never reads it: a look-up gives it back.
+ * adjacency table. So a row can have a word of 32 bits. The library never reads it, and a look-up gives it
+ * back.
  *
  *     struct tuhvondi_row rows[] = {{0x0a000000, 8, TUHVONDI_VIA, 1, 4}};
  *     uint32_t indices[] = {700}, addrs[] = {0x0a010203}, found[1];
  *     tuhvondi_image_new_words(rows, 1, indices, 1, &image);
  *     tuhvondi_image_lookup_words(&image, addrs, 1, found, 1);      (found[0] is 700)
  *
- * examples/c/adjacency.c has more. You can mix these calls with the others. If another call sets a row, the
- * word of the row is TUHVONDI_NO_WORD. An image takes no memory for words until a call gives it a row with a
- * word. That call makes the image anew, in memory of its own, in the time of listing all rows and setting
- * them. An image with words has at most 16,777,214 rows, and takes 8 to 32 bytes more for each. */
+ * examples/c/adjacency.c has more. You can mix these calls with the others. If another call sets a row, its
+ * word is TUHVONDI_NO_WORD. An image takes no memory for words until a call gives it a row with a word, and
+ * that call makes the image anew, in memory of its own, in the time of listing all rows and setting them. An
+ * image with words has at most 16,777,214 rows, and takes 8 to 32 bytes more for each. */
 
 /* The word of a row that another call set. A look-up answers it, too, if no row covers the address. */
 #define TUHVONDI_NO_WORD UINT32_MAX
@@ -337,8 +338,8 @@ uint32_t tuhvondi_image_rows_words(struct tuhvondi_image *image, struct tuhvondi
 
 /* ---- a table that changes while it forwards
  *
- * You cannot change an image that several handles hold: the call is refused. If you lock it, packets wait.
- * So a writer holds two copies of an image: one is shown, and the other is hidden. This is a double buffer.
+ * An image that several handles hold cannot be changed, and with a lock packets would wait. A writer therefore
+ * holds two copies of an image, of which one is shown and the other is hidden, as in a double buffer.
  * The writer changes the hidden copy, and then shows that one. Readers look up in the copy that is shown,
  * each in a thread of its own. They take no lock, wait for nobody, and see only published images. */
 
@@ -371,9 +372,9 @@ uint32_t tuhvondi_writer_new(struct tuhvondi_image *image, size_t reader_count,
                              struct tuhvondi_writer *writer);
 
 /* Publishes: sets rows over those of the image in order, then takes the rows of the prefixes out, and sets
- * the generation. Readers see all of it or nothing. If the call is refused, nothing was published.
- * What is tricky: each change is made twice, once in each copy. The next publication makes it in the second
- * copy. So the writer keeps rows and prefixes until then, in memory of its own.
+ * the generation. Readers see all of it or nothing. If the call is refused, nothing was published. What is
+ * tricky: each change is made twice, once in each copy. The next publication makes it in the second copy, so
+ * the writer keeps rows and prefixes until then, in memory of its own.
  * Refused, in this order: TUHVONDI_BAD_LENGTH, TUHVONDI_HOST_BITS, TUHVONDI_BAD_KIND; TUHVONDI_NO_IMAGE_HELD
  * if the handle holds no writer; TUHVONDI_NO_MEMORY; TUHVONDI_SHARED while a look-up goes on that began
  * before the last publication. After TUHVONDI_SHARED, call again. */

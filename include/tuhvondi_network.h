@@ -1,10 +1,10 @@
 /* A whole network of routers in one process, for C and C++ programs.
  *
  * A simulator wants to see what happens while a network changes: which packets are lost, how many messages it
- * takes, when it is over. Here is such a network. Its routers route by DUAL (Garcia-Luna-Aceves, Loop-Free
- * Routing Using Diffusing Computations, 1993), and each forwards by an image of the rows that it published.
+ * takes, when it is over. Here is such a network, whose routers route by DUAL (Garcia-Luna-Aceves, Loop-Free
+ * Routing Using Diffusing Computations, 1993), each forwarding by an image of the rows that it published.
  *
- * For example, these lines make two routers with a link, and let them learn routes. They test no status:
+ * For example, these lines make two routers with a link and let them learn routes, without testing a status:
  *
  *   struct tuhvondi_link link = {.from_a = 5, .from_b = 5, .a = 0, .b = 1};
  *   struct tuhvondi_owner owner = {.addr = 0x0a000000, .len = 8, .cost = 1, .router = 0};
@@ -21,8 +21,8 @@
  * Nothing happens but by steps. There are three ways to do them:
  *
  *   - You do the steps that you choose, one (tuhvondi_network_step) or many (tuhvondi_network_run).
- *   - You ask a router what it has to do next (tuhvondi_network_next_step), and do that when you like. For
- *     example, a simulator with a clock can delay messages so.
+ *   - You ask a router what it has to do next (tuhvondi_network_next_step), and do that when you like, as a
+ *     simulator with a clock does to delay messages.
  *   - You let routers take turns until nothing is left to do (tuhvondi_network_settle).
  *
  * The functions are those of the static library `network_ffi`. It is proved what each answers, and what it
@@ -33,15 +33,15 @@
  *   - A list is a pointer that is not null, and then the number of its elements.
  *   - No two arguments overlap.
  *
- * Whatever steps are done, and in whatever order, it is proved of the network (docs/6-network.md):
+ * Whatever steps are done, and in whatever order, it is proved of the network (docs/theorem.md):
  *
  *   - An image answers each address by the longest match over the rows that its router published.
  *   - No packet meets a router twice along the images in force.
  *   - If nothing is left to do, rows lead at least cost, that of the attachment at the end included.
  *   - Once links, costs and attachments stay as they are, finitely many steps are left, in any order.
  *
- * A network takes no lock and starts no thread. It takes memory by its routers, links, rows and messages, and
- * not by its steps. The number of its steps is limited by 2^64 - 1 alone.
+ * A network takes no lock and starts no thread. It takes memory by its routers, links, rows and messages, but
+ * not by its steps, so their number is limited by 2^64 - 1 alone.
  */
 #ifndef TUHVONDI_NETWORK_H
 #define TUHVONDI_NETWORK_H

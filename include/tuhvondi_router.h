@@ -1,8 +1,8 @@
 /* One router of a network, for C and C++ programs.
  *
- * When a link fails, routers change their routes one after another, and packets can circle meanwhile. DUAL
- * avoids that (Garcia-Luna-Aceves, Loop-Free Routing Using Diffusing Computations, 1993). Here is one router
- * that routes by DUAL. Its neighbours are other processes or other machines.
+ * When a link fails, routers change their routes one after another, so packets can circle meanwhile, which
+ * DUAL avoids (Garcia-Luna-Aceves, Loop-Free Routing Using Diffusing Computations, 1993). Here is one router
+ * that routes by DUAL, whose neighbours are other processes or other machines.
  *
  * The functions are those of the static library `router_ffi`. It is proved what each answers, and what it
  * makes of the router. The proof holds for every call that keeps to the rules of "tuhvondi.h":
@@ -19,24 +19,25 @@
  *     while tuhvondi_router_release answers TUHVONDI_DONE: send the message, or drop it if the
  *         connection of its port is of another session
  *
- * To forward by the rows, put them into your table: tuhvondi_image_apply takes them as they are. Only then
- * tell the router more, or release messages and put them on their links. For example, examples/c/router.c
- * does so with three routers in one process.
+ * To forward by the rows, put them into your table, for example by tuhvondi_image_apply, which takes them as
+ * they are. Only then tell the router more, or release messages and put them on their links, because a
+ * neighbour that hears of a row may send packets by it at once. examples/c/router.c does so with three
+ * routers in one process.
  *
- * Suppose that every router of a network is of this library, and that every program keeps the five duties of
- * docs/8-daemons.md: order within a session, later sessions, forwarding first, letting in, one call at a
- * time. Then it is proved of the network as a whole:
+ * If every router of a network is of this library, and every program keeps the five duties of
+ * docs/daemons.md (order within a session, later sessions, forwarding first, letting in, one call at a
+ * time), it is proved of the network as a whole:
  *
- *   - No packet meets a router twice. This also holds while links fail, messages are lost and processes begin
- *     anew (`no_packet_circles` of crates/daemon_laws).
+ *   - No packet meets a router twice, even while links fail, messages are lost and processes begin anew
+ *     (`no_packet_circles` of crates/daemon_laws).
  *   - Once links, costs and attachments stay as they are and no process begins anew, the network comes to
  *     rest. It does so at least cost if it has at most 65,536 routers, no message is lost and the ends of
  *     each link agree (`processes_converge` of crates/daemons_come_to_rest).
  *
- * The library refuses what no router sends (TUHVONDI_UNASKED, TUHVONDI_ASKED_TWICE, TUHVONDI_OTHER_SESSION).
- * It also refuses a prefix more than the router may know (TUHVONDI_TOO_MANY_PREFIXES). If a message is
- * refused, end the session of its link, because the two ends no longer know the same. You need not end it
- * if the message is of another session, or if memory was refused.
+ * The library refuses what no router sends (TUHVONDI_UNASKED, TUHVONDI_ASKED_TWICE, TUHVONDI_OTHER_SESSION),
+ * and a prefix more than the router may know (TUHVONDI_TOO_MANY_PREFIXES). If a message is refused, end the
+ * session of its link, because the two ends no longer know the same. Only if it is of another session, or if
+ * memory was refused, you need not end it.
  */
 #ifndef TUHVONDI_ROUTER_H
 #define TUHVONDI_ROUTER_H
@@ -131,11 +132,12 @@ TUHVONDI_ASSERT(sizeof(struct tuhvondi_router) == 16, "a handle takes 16 bytes")
 /* What a handle begins with: it holds no router. */
 #define TUHVONDI_NO_ROUTER {NULL, false}
 
-/* Makes a router with these attachments and with a port for each of these costs. The cost is that of the
- * port's link from here. Puts the router into the handle, and frees the one that the handle held.
- * All links are down. The attachments are published, so a table begins with their rows, of kind
- * TUHVONDI_LOCAL. If a prefix stands twice, its first cost counts. The router may know most_prefixes
- * prefixes. If it has heard of a prefix, that counts until it is forgotten (tuhvondi_router_forget).
+/* Makes a router with these attachments and with a port for each of these costs, which is that of the port's
+ * link from here, and puts it into the handle, freeing the one that the handle held. All links are down. Since
+ * each coming up says the cost again, a daemon that knows its neighbours later makes all ports at cost 1.
+ * The attachments are published, so a table begins with their rows, of kind TUHVONDI_LOCAL, and if a prefix
+ * stands twice, its first cost counts. The router may know most_prefixes prefixes, among which one that it has
+ * heard of counts until it is forgotten (tuhvondi_router_forget).
  * Refused, in this order: TUHVONDI_TOO_MANY_PORTS; TUHVONDI_BAD_COST of a port; of an attachment
  * TUHVONDI_BAD_LENGTH, TUHVONDI_HOST_BITS, TUHVONDI_BAD_COST; TUHVONDI_TOO_MANY_PREFIXES if there are more
  * attachments than most_prefixes; TUHVONDI_NO_MEMORY. */

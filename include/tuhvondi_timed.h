@@ -1,12 +1,12 @@
 /* A whole network of routers in simulated time, for C and C++ programs.
  *
- * A simulator wants to know how long a network takes to come to rest, and for how long packets are lost. A list
- * of steps (tuhvondi_network.h) says nothing of that. So here messages are on their way for a time, and a router
- * takes a time to publish its rows. What is due first is done first, and the clock jumps from one event to the
- * next: a discrete-event simulation. The clock does not wait, so an hour of the network takes what its events
- * take.
+ * A simulator wants to know how long a network takes to come to rest, and for how long packets are lost, of
+ * which a list of steps (tuhvondi_network.h) says nothing. So here messages are on their way for a time, and a
+ * router takes a time to publish its rows. What is due first is done first, and the clock jumps from one event to
+ * the next: a discrete-event simulation. Since the clock does not wait, an hour of the network takes what its
+ * events take.
  *
- * For example, these lines make two routers with a link that comes up after a millisecond. They test no status:
+ * For example, these lines make two routers with a link that comes up after a millisecond:
  *
  *   struct tuhvondi_limits limits = TUHVONDI_PROGRAM_LIMITS;
  *   struct tuhvondi_link link = {.from_a = 5, .from_b = 5, .a = 0, .b = 1};
@@ -28,11 +28,11 @@
  * A network can keep a record of what goes on in it, if you open it so (tuhvondi_timed_recorded):
  *
  *   - its computations: from when until when the machine of a router for a prefix awaited replies
- *   - its outages: from when until when a router was cut off from a prefix. That is, links that were up led from
- *     it to a router that was attached to the prefix, and the rows that routers had published did not
+ *   - its outages: from when until when a router was cut off from a prefix, which means that links that were up
+ *     led from it to a router that was attached to the prefix, although the published rows did not
  *
- * The record costs time with each event, and memory by the routers times the prefixes. Without it a network
- * takes neither.
+ * The record costs time with each event, and memory by the routers times the prefixes, neither of which a
+ * network takes without it.
  *
  * A moment is a number of microseconds since the opening. What is left to do is due so:
  *
@@ -49,7 +49,7 @@
  * "tuhvondi_network.h". All that is proved of a network holds of this one at every moment, whatever the delays
  * are: for example, no packet meets a router twice. It is also proved that nothing is done before it is due, and
  * that nothing that is due is left out. A record is exact: a spell stands in it if and only if there was one
- * (docs/6-network.md).
+ * (docs/network.md).
  */
 #ifndef TUHVONDI_TIMED_H
 #define TUHVONDI_TIMED_H

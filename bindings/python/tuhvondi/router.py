@@ -163,7 +163,7 @@ class Router(Owner):
     6
 
     If every router of a network is of this library, and every program keeps the five duties of
-    docs/8-daemons.md, it is proved that no packet meets a router twice. `examples/python/own_loop.py` has an
+    docs/daemons.md, it is proved that no packet meets a router twice. `examples/python/own_loop.py` has an
     event loop with delays.
 
     Raises TooManyPorts, BadCost, TooManyPrefixes, NoMemory.
