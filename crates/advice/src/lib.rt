@@ -1,7 +1,7 @@
 //! More about a fault, if you ask for it: its line, what is wrong there, and what to do.
 //!
-//! The problem: a fault is one line, for example `45 BadCommand at script 3`. So you have to count lines, and
-//! to guess what the program expected. With `--explain` this crate says it:
+//! A fault is one line, for example `45 BadCommand at script 3`, so you have to count lines, and to guess
+//! what the program expected. With `--explain` this crate says it:
 //!
 //! ```text
 //! dualnet: 45 BadCommand at script 3
@@ -18,8 +18,8 @@
 //!
 //! - [`explain`] finds the line in the file (`src/position.rt`), and reads it again to see what is wrong
 //!   (`src/command.rt`, `src/line.rt`). For example, a word is too many, a name is not known, or no link
-//!   joins two routers. If a text is not a TOML document, it says at which place. If keys are missing or
-//!   unknown, it names them. If the text is not UTF-8, it tells the first byte that is not.
+//!   joins two routers. If a text is not a TOML document, it says at which place, if keys are missing or
+//!   unknown, it names them, and if the text is not UTF-8, it tells the first byte that is not.
 //! - If the scenario was only to be checked, other faults are told, too, 20 in all (`src/others.rt`): those that
 //!   need no guess.
 //! - Of a journal the line at fault is shown (`src/journal_line.rt`), and of a document of times the string
@@ -27,14 +27,13 @@
 //! - What is shown of a file is safe for a terminal (`src/shown.rt`): at most 60 characters, and those that
 //!   cannot be seen by their numbers.
 //!
-//! What always holds: more is told only if it is asked for (the clause of [`file_to_explain`], which names the
-//! scenario). Nothing else of this crate has a contract. What it prints is tested by
-//! files of cases.
+//! What always holds: more is told only if it is asked for (the clause of [`file_to_explain`], which names
+//! the scenario). Nothing else of this crate has a contract, so what it prints is tested by files of cases.
 //!
-//! What is tricky: the fault itself is never decided here. `plans` has decided it, and this crate only looks
-//! for words that explain it. If it finds none, it prints the line, when the number comes, and what to do.
-//! The place of a string is found by a scan of the text, which gives up at strings of several lines. Then no
-//! line number is told.
+//! What is tricky: the fault itself is never decided here, because `plans` has decided it, and this crate
+//! only looks for words that explain it. If it finds none, it prints the line, when the number comes, and
+//! what to do. The place of a string is found by a scan of the text, which gives up at strings of several
+//! lines, and then no line number is told.
 //!
 //! The nearest command is found by the edit distance of V. I. Levenshtein, of 2 at most (`strsim`).
 #![tactic(auto)]

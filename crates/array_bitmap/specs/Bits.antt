@@ -31,6 +31,7 @@ row_bit five more = 2 ^ (more + 1) - 2 + five / 2 ^ (4 - more)
 abbrev pub level_of : ℕ → ℕ
 level_of len = (len - 5) / 5
 
+-- how many bits of the prefix are read in that block, but for one
 abbrev pub more_of : ℕ → ℕ
 more_of len = (len - 5) % 5
 

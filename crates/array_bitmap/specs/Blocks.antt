@@ -11,6 +11,7 @@ use Rattle.array_bitmap.specs.declared.blocks.Head.{Head}
 abbrev pub rows_of : List ℕ → ℕ
 rows_of ws = slice_index ws 0 + 2 ^ 32 * slice_index ws 1
 
+-- the bitmap of the children of a block: its third word
 abbrev pub kids_of : List ℕ → ℕ
 kids_of ws = slice_index ws 2
 
@@ -18,6 +19,7 @@ kids_of ws = slice_index ws 2
 abbrev pub row_index : List ℕ → ℕ → ℕ
 row_index ws bit = 3 + rank (rows_of ws) bit
 
+-- where the place of a child stands in a block: behind its bitmaps and its rows
 abbrev pub kid_index : List ℕ → ℕ → ℕ
 kid_index ws five = 3 + count_ones (rows_of ws) + rank (kids_of ws) five
 

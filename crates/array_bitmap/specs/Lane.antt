@@ -11,6 +11,7 @@ use Rattle.array_bitmap.specs.declared.lanes.Lane.{Lane}
 abbrev pub lane_at : List Lane → ℕ → Lane
 lane_at lanes k = slice_index_or lanes k (record { at = 0; addr = 0; block = 0; best = 0 })
 
+-- the bitmaps of a lane, by number
 abbrev pub head_at : List Head → ℕ → Head
 head_at heads k = slice_index_or heads k (record { rows = 0; kids = 0 })
 

@@ -12,12 +12,15 @@ nothing = 3 * 2 ^ 24
 abbrev pub session_of : ℕ → ℕ
 session_of w = w % 2 ^ 16
 
+-- the port that the word of a row names
 abbrev pub port_of : ℕ → ℕ
 port_of w = w / 2 ^ 16 % 2 ^ 8
 
+-- its kind
 abbrev pub kind_of : ℕ → ℕ
 kind_of w = w / 2 ^ 24 % 4
 
+-- the length of the row's prefix
 abbrev pub len_of : ℕ → ℕ
 len_of w = w / 2 ^ 26
 

@@ -34,9 +34,9 @@
 //! - Many rows are set one after another. Where one is refused, what each prefix had before is put back,
 //!   the last first. That needs no memory, so no room has to be made before.
 //! - A row is taken out where it ends. A block whose words fit into half of its size moves to a free
-//!   block of that size. Where none is free, it gives its upper half back. So this needs no memory, and
-//!   rows that come and go take the same blocks each time. From there up, each block that is left with
-//!   no row and no kid is given back, up to the first that has some.
+//!   block of that size. Where none is free, it gives its upper half back, so this needs no memory, and
+//!   rows that come and go take the same blocks each time. From there up, each block that is left with no
+//!   row and no kid is given back, up to the first that has some.
 //! - Look-ups of many addresses go down side by side, each in a *lane*, 32 at a time and one level at a
 //!   time. First the bitmaps of all blocks of a level are read, so that they wait for memory at once. Then
 //!   each lane takes its step. A lane whose path has ended writes its word, and leaves.
@@ -50,6 +50,21 @@
 //! What always holds: each place in the array or in a block is that of a block in use, or 0, and no
 //! block has two names; a block is as large as its words want; the array has the longest of its rows
 //! (`IsSound` in `specs/Tree.antt`). Contracts see an image as its rows and its generation, and no word.
+//!
+//! Where there was a choice:
+//!
+//! - Most rows of real tables have 24 bits, and blocks read five. So after 4, 9, 14 and 19 bits a row of
+//!   24 bits is of the last length in a block, and its look-up reads no block more. `FirstBits::for_rows`
+//!   goes by the number of rows.
+//! - Rows and kids stand beside the bitmaps, because with words apart a look-up took 1.1 to 1.4 times as
+//!   long in C, and blocks have sizes of powers of two, because exact sizes took 1.1 to 1.2 times as
+//!   long.
+//! - A block that shrinks moves to a free block of half its size. If it always gave back its upper half,
+//!   a row that comes and goes at the edge of two sizes would take a larger block each time and leave two
+//!   smaller ones, because free blocks are not joined.
+//! - No count of rows is kept. The words of the pool say when an image is to be made anew, and then the
+//!   rows are counted. The next row of a block is found by a count of zeros for each of the five lengths,
+//!   because a block may have few rows.
 #![tactic(auto)]
 
 mod batch;

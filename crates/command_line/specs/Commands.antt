@@ -36,6 +36,7 @@ rule_as Choice id = record (new_rule id) { long = Some id; value_names = 1; defa
 -- an option with no value, which may be left out
 rule_as Flag id = record (new_rule id) { long = Some id; action = Some SetTrue }
 
+-- the rule of an argument by its shape and its name
 abbrev pub argument_rule : Argument → Rule
 argument_rule a = rule_as a.shape (a.id).now
 

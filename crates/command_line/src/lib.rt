@@ -1,8 +1,8 @@
 //! Reads the command lines of the programs: what the words of `dualnet` and of `dualnet-view` ask for.
 //!
-//! The problem: a command line has to be read as people expect it, with help, defaults, options in any order
-//! and good errors. The kit's crate `clap` does that, and has a definition of what it does. This crate tells
-//! `clap` of the commands, and makes of its matches a value with a type:
+//! A command line has to be read as people expect it, with help, defaults, options in any order and good
+//! errors. The kit's crate `clap` does that, and has a definition of what it does. This crate tells `clap`
+//! of the commands, and makes of its matches a value with a type:
 //!
 //! ```text
 //!   dualnet check FILE [--explain]
@@ -38,6 +38,13 @@
 //! What is tricky: help that is asked for comes as an error, too, because `clap` has it so. Three things are
 //! tested here and not by `clap`: the name of a format, that a number to be explained is printed at all, and
 //! what `--no-journal` goes with. Their errors are told as the other errors of the command line.
+//!
+//! Where there was a choice:
+//!
+//! - A word that is not UTF-8 is an error of the command line, with status 1. Want of memory while it is read is
+//!   `20 NoMemory` with status 2, as everywhere else, and not `clap`'s text.
+//! - What `--no-journal` goes with is tested here, because `clap` looks at which options are given, and
+//!   not at their values, so `--threads 1` may stand beside it.
 #![tactic(auto)]
 
 mod arguments;

@@ -6,9 +6,11 @@ use Rattle.control.specs.declared.share.Opening.{Opening}
 abbrev pub high_name : Opening → ℕ
 high_name o = (o.high).name
 
+-- the name of the book of the low halves
 abbrev pub low_name : Opening → ℕ
 low_name o = (o.low).name
 
+-- the name of the book of the writers that are out
 abbrev pub out_name : Opening → ℕ
 out_name o = (o.out).name
 

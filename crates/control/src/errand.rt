@@ -33,6 +33,7 @@ impl<B: FabricName, N: ControlName> Model for Errand<B, N> {
 }
 
 impl<B: FabricName, N: ControlName> Errand<B, N> {
+    /// An errand of a ticket of a router whose writer was in when the control was made.
     pub fn new(ticket: Ticket<B>) -> Errand<B, N>
         requires was_in { is_lent N.opened ticket.before.router ≡ false }
         requires can_fail { CanFailOutside N.opened N.asked }
@@ -44,12 +45,14 @@ impl<B: FabricName, N: ControlName> Errand<B, N> {
         }
     }
 
+    /// The router whose rows are to be published.
     pub fn router(&self) -> u16
         ensures { result ≡ self.now.before.router }
     {
         self.ticket.router()
     }
 
+    /// Whether the ticket has published.
     pub fn is_published(&self) -> bool
         ensures { result ≡ self.now.is_published }
     {

@@ -54,6 +54,8 @@ impl<B: FabricName, N: ControlName> Model for Guarded<B, N> {
 }
 
 impl<B: FabricName, N: ControlName> Guarded<B, N> {
+    /// What the lock guards: a fabric, and the books in which its steps and its writers that are out
+    /// are counted.
     pub fn new(
         fabric: Fabric<B>,
         high: Book<High<N>>,

@@ -29,6 +29,25 @@
 //! What always holds: what lies under the lock is the fabric of the name with some more steps done, each
 //! one that some router had to do next, or that may be asked for (`IsServed` in `specs/Served.antt`), so
 //! that the headline holds of it.
+//!
+//! Where there was a choice:
+//!
+//! - The sum of a share stands in two ledgers, because a ledger adds 64 bits at a time: one has the units
+//!   of 2^64, the other the rest.
+//! - The name of a control has how many writers were out when it was made, because `settle` makes one
+//!   control after another of a fabric that goes on. Outstanding tickets stay so until it is closed,
+//!   because a control takes back no ticket that it did not give.
+//! - Of several refusals `settle` answers 35 before any other, so a caller who is answered another knows
+//!   that its writers are in. `serve` answers that of the lowest thread.
+//! - By the program's `THRESHOLDS`, threads are started with 16,384 rows to publish and a publication of
+//!   512 or more due. A thread ends its pass with 512 rows to publish, calls another, and leaves
+//!   publications of 32 rows and more to tickets. All steps but publications are done under the lock, and
+//!   each is shorter than the lock's way from one thread to another, which is why one thread begins
+//!   alone.
+//! - Some things no clause says, and they are seen in the code: that no ticket of a turn is rejected
+//!   (35), which thread did a step, and that `settle_in_order` keeps to the order that it is given. If
+//!   the system gives fewer threads than there are shares, `serve` may never return. `settle` returns
+//!   then, because each of its threads serves all routers.
 #![tactic(auto)]
 
 mod control;

@@ -1,14 +1,14 @@
 //! What holds of routers in processes of their own, whatever happens: no packet meets a router twice, and at
 //! rest rows lead at least cost.
 //!
-//! The problem: the laws of networks speak of one world, in which a link is up or down at both ends at once
-//! (`no_packet_loops`). Between daemons each end of a link begins and ends its sessions by itself. A process can
-//! end and begin anew, a message can be lost, and rows are written into a table one by one.
+//! The laws of networks speak of one world, in which a link is up or down at both ends at once
+//! (`no_packet_loops`). Between daemons each end of a link begins and ends its sessions by itself. A process
+//! can end and begin anew, a message can be lost, and rows are written into a table one by one.
 //!
 //! So these laws are of *processes* (`Processes` in `specs/Processes.antt`). These are routers, and for each
 //! end of a link what is on its way there and its sessions. A *happening* (`Happening` in
 //! `specs/Happenings.antt`) is a call of `SingleRouter`, by the definitions that its contracts cite, or the
-//! loss of a message. The five duties of a daemon are in docs/8-daemons.md.
+//! loss of a message. The five duties of a daemon are in docs/daemons.md.
 //!
 //! ```text
 //!    router a                                     router b

@@ -1,11 +1,11 @@
 //! What one router keeps of a diffusing computation.
 //!
-//! The problem: a router finds no neighbour that it may safely take as its successor. So it asks all of them:
-//! it sends each a query with its distance, and keeps that distance and its successor until each has replied.
-//! A neighbour that need not ask replies at once. If its own successor asks it, and it finds no other, it
-//! asks its neighbours first, and owes its reply until they have replied. So queries spread as far as they
-//! must, and replies come back on the same ways. The computation diffuses, and ends at the router that began
-//! it. A router is in at most one for a destination at a time.
+//! A router finds no neighbour that it may safely take as its successor. So it asks all of them: it sends
+//! each a query with its distance, and keeps that distance and its successor until each has replied. A
+//! neighbour that need not ask replies at once. If its own successor asks it, and it finds no other, it asks
+//! its neighbours first, and owes its reply until they have replied. So queries spread as far as they must,
+//! and replies come back on the same ways. The computation diffuses, and ends at the router that began it. A
+//! router is in at most one for a destination at a time.
 //!
 //! Of a computation under way a router keeps
 //!
@@ -38,6 +38,14 @@
 //! nearest neighbour without a test. In the states 0 and 2 it tests the condition first. If that fails, the
 //! next computation begins at once: from 0 in state 1, and from 2 in state 3 with the reply still owed. For
 //! example, a computation of its own start (1) whose distance rose (0) is tested at its end.
+//!
+//! Where there was a choice:
+//!
+//! - A set of ports is a word of 32 bits. In contracts its value is a finite set of numbers, so that two
+//!   sets with the same ports are equal, and no clause tells how the set is kept. You may ask `has` about
+//!   any port, because none from 32 on is in a set.
+//! - `lost` and `came` end a wait in the same way, and are two calls so that callers say which of the two
+//!   it was.
 #![tactic(auto)]
 
 mod origin;

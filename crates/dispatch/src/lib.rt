@@ -1,7 +1,7 @@
 //! The jobs of a script, which workers answer, and the handles by which threads are made.
 //!
-//! The problem: a script injects packets one by one, goes on meanwhile, and asks for the answers later.
-//! Workers cost threads, so they should not run if nobody injects. And at the end none may be left running. A
+//! A script injects packets one by one, goes on meanwhile, and asks for the answers later. Workers cost
+//! threads, so they should not run if nobody injects. And at the end none may be left running. A
 //! [`Dispatcher`] sees to that: its workers are *at rest* until a job comes.
 //!
 //! ```text

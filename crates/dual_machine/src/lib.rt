@@ -1,8 +1,8 @@
 //! The machine of DUAL: what one router keeps for one prefix, and what it does at each event.
 //!
-//! The problem: a router that takes whatever neighbour is nearest can take one that goes through itself. So
-//! DUAL asks for more than a short way. The *distance by way of* a port is what the neighbour reported there,
-//! and the link's cost. A router takes the neighbour with the least such distance only under the *source node
+//! A router that takes whatever neighbour is nearest can take one that goes through itself, so DUAL asks for
+//! more than a short way. The *distance by way of* a port is what the neighbour reported there, and the
+//! link's cost. A router takes the neighbour with the least such distance only under the *source node
 //! condition*: its report is below the router's *feasible distance*, FD. That is the least distance that the
 //! router had since its last computation ended, that of the computation included.
 //!
@@ -36,6 +36,17 @@
 //!
 //! What is tricky: in the states 1 and 3 the code makes no test when a computation ends, because the
 //! condition holds then. That it does is proved (`proofs/Costs.antt`).
+//!
+//! Where there was a choice:
+//!
+//! - The records of neighbours stand by port in a `SmallVec`: up to four in the machine itself, and more
+//!   in one allocation that is made when the machine opens. Awaited ports are kept with the computation,
+//!   in place, so a machine asks for memory once at most.
+//! - If a neighbour and the attachment are at the same distance, the present successor stays, and
+//!   otherwise the lowest number is taken. So a neighbour comes before the attachment, and a router that
+//!   is attached need not be `Local`.
+//! - A debt is dropped if the link to the neighbour that it is owed to goes down. That neighbour is the
+//!   successor, which is proved.
 #![tactic(auto)]
 
 mod distances;

@@ -1,7 +1,7 @@
 //! The program: a network of IPv4 routers, run by the script of a scenario.
 //!
-//! The problem: contracts and tests cannot see files, streams and the arguments of a process. So this crate
-//! has these alone, and as little else as it can. All that can be proved or tested stands in crates below:
+//! Contracts and tests cannot see files, streams and the arguments of a process, so this crate has these
+//! alone, and as little else as it can. All that can be proved or tested stands in crates below:
 //! `command_line` reads the command line, `play` does what it asks for, `advice` tells more of a fault.
 //!
 //! ```text
@@ -27,8 +27,8 @@
 //! journal cannot be written after that, it is 2. No function here has a contract of its own.
 //!
 //! What is tricky: what was printed before a fault has to be seen before it, although output may come in
-//! blocks. So `play` flushes the output first. And the program goes by two names: called as `dualnet-view`, by a
-//! link, it shows a run (`src/pages.rt`). One program is proved and compiled in half the time of two.
+//! blocks, so `play` flushes the output first. And the program goes by two names: called as `dualnet-view`, by a
+//! link, it shows a run (`src/pages.rt`), because one program is proved and compiled in half the time of two.
 #![tactic(auto)]
 
 mod pages;

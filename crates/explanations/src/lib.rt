@@ -1,8 +1,8 @@
 //! A page for each number of a fault: what it says, when it comes, and what to do.
 //!
-//! The problem: a fault is a few letters, for example `45 BadCommand`, because people and programs have to
-//! tell it from others. That is too short if you meet it for the first time. So `dualnet explain 45` prints
-//! the page of that number, and `--explain` prints two of its lines below a fault:
+//! A fault is a few letters, for example `45 BadCommand`, because people and programs have to tell it from
+//! others. That is too short if you meet it for the first time. So `dualnet explain 45` prints the page of
+//! that number, and `--explain` prints two of its lines below a fault:
 //!
 //! ```text
 //! 4 HostBits

@@ -9,12 +9,15 @@ pub record Desk : Type 0 where
   pub writing : Writing
   pub out : Option Patch
 
+-- a desk whose writer is in
 abbrev pub desk_in : Writing → Desk
 desk_in w = record { writing = w; out = None }
 
+-- a desk whose writer is out with this patch, which waits until the writer is back
 abbrev pub desk_out : Known → Patch → Desk
 desk_out before patch = record { writing = record { published = before; waiting = patch ∷ [] }; out = Some patch }
 
+-- what the writers of these desks have published, and what waits
 abbrev pub writings : List Desk → List Writing
 writings desks = map (λ d. d.writing) desks
 

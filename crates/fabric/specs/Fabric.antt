@@ -23,6 +23,7 @@ pub record Fabric : Type 0 where
   pub images : List Image
   pub lent : List (Option Patch)
 
+-- a fabric of its parts
 abbrev pub fabric_of : Network → List Step → World → List Image → List (Option Patch) → Fabric
 fabric_of network journal world images lent = record { network = network; journal = journal; world = world; images = images; lent = lent }
 

@@ -1,8 +1,8 @@
 //! A network that runs, with each router's image in force and the journal of all steps done.
 //!
-//! The problem: a world knows which rows a router has published, and packets are forwarded by images, in
-//! which readers look up at any moment. What the one says and what the others do must never part, also if
-//! memory is refused in between.
+//! A world knows which rows a router has published, and packets are forwarded by images, in which readers
+//! look up at any moment. What the one says and what the others do must never part, also if memory is
+//! refused in between.
 //!
 //! ```text
 //!   Fabric
@@ -36,6 +36,24 @@
 //!
 //! What is tricky: a fabric is not `Drop`, because a writer ends only by `close`, which waits for its
 //! readers.
+//!
+//! Where there was a choice:
+//!
+//! - Room for the journal is made when a network is opened, for a million steps, so no step is refused
+//!   for want of it. The journal's sum is kept by the fabric, because a control may be made after every
+//!   step of a script.
+//! - A look-up that finds its reader ahead of the writer is answered as such (22, `Stale`), which happens
+//!   from a ticket's publication until the ticket is back. No clause of `left_right` rules out that it
+//!   happens at other times, or that there is no image (34, `NoImage`). It does not, and no step is
+//!   refused with either.
+//! - Which ticket is a router's is known by its patch, which has the number after its list's generation.
+//!   A ticket that `give_back` rejects is met by no test, because no program can come to one.
+//! - 21 (`Busy`) comes before what the world says, because a router whose writer is out is there. So a
+//!   delivery at a port that it does not have is refused with 21, too.
+//! - A ticket that is closed ends its writer, which the fabric cannot know: the router stays busy, and
+//!   its place in the journal stays reserved.
+//! - What holds of every fabric may be asked at any time by `Fabric::holds`, which does nothing, for
+//!   example of a fabric that you were handed under a lock.
 #![tactic(auto)]
 
 ghost use Rattle.fabric.specs.Ahead.{SomePacketGoesAhead};

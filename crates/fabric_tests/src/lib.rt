@@ -1,8 +1,8 @@
 //! Tests of fabrics, control threads and traces, each through its public surface.
 //!
-//! The problem: some facts of threads and of memory are in no clause. For example, a port answers a job while a
-//! turn waits. A turn lets the lock go while it publishes. A body that does neither meets every contract. So
-//! these tests make it happen: at a *gate* a thread waits until another has come so far.
+//! Some facts of threads and of memory are in no clause. For example, a port answers a job while a turn
+//! waits. A turn lets the lock go while it publishes. A body that does neither meets every contract, so these
+//! tests make it happen: at a *gate* a thread waits until another has come so far.
 //!
 //! ```text
 //!   fabrics, controls, outside    steps, turns, threads that serve and settle side by side
@@ -25,7 +25,7 @@
 //! and each router's answers. The end is that of a run without refusals.
 //!
 //! What is tricky: a call that takes the lock does not say what it did. Only what its share gained says so,
-//! and the fabric that comes back. So such tests close the control, and look at both.
+//! and the fabric that comes back, so such tests close the control, and look at both.
 //!
 //! What a test expects is taken from the definitions, and never from what the program gave. The crate
 //! promises nothing, and no crate stands on it.

@@ -1,8 +1,8 @@
 //! The faults that the program and its libraries tell, each with its number and its name, in one table.
 //!
-//! The problem: programs tell faults apart by their numbers, people by their names, and both have to be the
-//! same wherever a fault comes from. So an error that the program prints says which [`FaultKind`] it is, and
-//! is displayed as that:
+//! Programs tell faults apart by their numbers, people by their names, and both have to be the same wherever
+//! a fault comes from. So an error that the program prints says which [`FaultKind`] it is, and is displayed
+//! as that:
 //!
 //! ```text
 //! #[derive(.., Error)]
@@ -28,6 +28,10 @@
 //! `specs/Numbers.antt`).
 //!
 //! What is tricky: nearly all crates stand on this one, so a new number has them proved anew.
+//!
+//! Each enum of faults is one of `thiserror`, and displays its kind, for example `4 HostBits`. What the
+//! derive writes has no contract, so that is tested. Which kind each is, is proved, by an `impl From` of
+//! its own with a ghost member (`from_gives`) that no derive can write.
 #![tactic(auto)]
 
 mod kind;

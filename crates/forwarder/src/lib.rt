@@ -1,13 +1,13 @@
 //! Forwarding workers: the readers by which they look up, what they answer to jobs, and replies in order.
 //!
-//! The problem: a packet is looked up in another thread than the one that asked. When the answer comes back,
-//! its router may have published again. So an answer has to say of itself to which job it is, and which table
-//! it is from.
+//! A packet is looked up in another thread than the one that asked. When the answer comes back, its router
+//! may have published again. So an answer has to say of itself to which job it is, and which table it is
+//! from.
 //!
 //! That is what a [`Reply`] does: it keeps the job, the answer, and the list of publications that answered.
 //! Its type promises the rest (`IsOfPublished` in `specs/Replies.antt`). The list begins with what the job
 //! was told, so no older table than the asker knew of has answered. And the answer is the longest match of
-//! that list's image. So a reply needs no test, by whatever way it came.
+//! that list's image, so a reply needs no test, by whatever way it came.
 //!
 //! ```text
 //!   Job     number 7, router 3, address 10.1.2.3     told: publications p1, p2

@@ -17,6 +17,7 @@ pub enum Text<'a> {
 }
 
 impl<'a> Text<'a> {
+    /// Whether what was given is this text, or begins with it.
     pub fn is_met(&self, given: &[u8]) -> bool
         ensures { IsTrue result → IsTextOf self.now given.now }
     {
@@ -147,6 +148,7 @@ pub struct Tally {
 }
 
 impl Tally {
+    /// No case yet.
     pub fn new() -> Self
         ensures { (result.all ≡ 0) × (result.wrong ≡ 0) }
     {

@@ -1,9 +1,9 @@
 //! What the program does, held in memory, and what is found of it: for examples, cases, random scenarios and
 //! tests.
 //!
-//! The problem: a test of a program has to know its status, its output, its faults and its journal, all at
-//! once. A program that opens files and prints cannot be asked for these. But `play` runs over any readers
-//! and writers, so here it runs over lists of bytes:
+//! A test of a program has to know its status, its output, its faults and its journal, all at once. A
+//! program that opens files and prints cannot be asked for these. But `play` runs over any readers and
+//! writers, so here it runs over lists of bytes:
 //!
 //! ```text
 //! let ran = play_in_memory(&rt, alloc, &words, b"routers = [..", journal);
@@ -13,10 +13,10 @@
 //! ran.kept         // the journal's text, if a run or a shell ended with 0
 //! ```
 //!
-//! Beside the [`Outcome`] stand the verdicts, each with its rule in a contract. So what was gathered is not
+//! Beside the [`Outcome`] stand the verdicts, each with its rule in a contract, so what was gathered is not
 //! called right by mistake:
 //!
-//! - `example::judge`: the run and the shell ended with 0 and printed what is wanted, to the byte. And the
+//! - `example::judge`: the run and the shell ended with 0 and printed what is wanted, to the byte, and the
 //!   replay of the run's journal ended with 0.
 //! - `case::judge`: status, output and fault are those that the case says, and so are journal and words, if
 //!   it asks for them (`IsAsWanted` in `specs/Wanted.antt`). A [`case::Tally`] is right only if a case was
@@ -26,7 +26,7 @@
 //! What always holds: what [`play_in_memory`] gives is an end or a fault of that command (`Gave` in
 //! `specs/Outcomes.antt`), as `play` promises.
 //!
-//! What is tricky: in a file without cases no case is wrong. So `Tally::is_right` is false if there was none.
+//! What is tricky: in a file without cases no case is wrong, so `Tally::is_right` is false if there was none.
 //! And `soak::is_good` only says what is made of two statuses. That they are those of a run and its replay is
 //! seen in the code of `trials`.
 #![tactic(auto)]

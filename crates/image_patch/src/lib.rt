@@ -1,9 +1,9 @@
 //! Patches of images, in place: rows to set, and the generation that they make.
 //!
-//! The problem: a router publishes often, and most publications change a few rows of many. To make a new
-//! image each time would take time by the whole table. So a publication is a [`Patch`], which an image takes
-//! by [`Apply`]. That takes time by the nodes on the way to the patch's prefixes, but for the rare times that
-//! a pool moves to larger memory.
+//! A router publishes often, and most publications change a few rows of many. To make a new image each time
+//! would take time by the whole table, so a publication is a [`Patch`], which an image takes by [`Apply`].
+//! That takes time by the nodes on the way to the patch's prefixes, but for the rare times that a pool moves
+//! to larger memory.
 //!
 //! ```text
 //!   image, generation 4     10.0.0.0/8 via port 0     192.0.2.0/24 local
@@ -17,15 +17,15 @@
 //!
 //! What always holds: after a patch the image has the patch's rows set over its own, in order, and the
 //! patch's generation (`patched` in `specs/Patches.antt`). If two rows of a patch have one prefix, the later
-//! one stands. A patch that is refused changes nothing, and one without rows is never refused.
+//! one stands, and a patch that is refused changes nothing.
 //!
 //! The same patch serves twice: `publication` keeps two copies of an image, and gives each the patch in turn.
 //! And the changed rows of a table are enough for a patch, because they make its published rows the chosen
 //! ones (`changed` of `RouteTable`).
 //!
 //! What is tricky: all room is asked for before the first row is set, 23 nodes and 15 results for each row.
-//! The code does not ask if a row is new, so it may ask for more than it uses. What is left serves the next
-//! patch. A patch takes no row out: a router whose way is lost sets the row `Unreachable`.
+//! The code does not ask if a row is new, so it may ask for more than it uses, and what is left serves the
+//! next patch. A patch takes no row out, because a router whose way is lost sets the row `Unreachable`.
 #![tactic(auto)]
 
 ghost use Rattle.std.specs.Prelude.{◌≡◌, ◌<◌, length, OnOk, OnErr};

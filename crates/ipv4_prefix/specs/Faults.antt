@@ -39,6 +39,7 @@ SpellsPrefix text p = IsPrefix p × (text ≡ prefix_text p)
 abbrev pub slash : ℕ
 slash = 47
 
+-- whether a byte is the slash before a length
 abbrev pub is_slash : ℕ → Bool
 is_slash b = b == slash
 

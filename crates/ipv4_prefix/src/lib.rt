@@ -1,8 +1,8 @@
 //! IPv4 addresses and prefixes: what they cover, their order and their canonical texts.
 //!
-//! The problem: routers do not route single addresses, but blocks of them. A block could be written in many
-//! ways, for example as 10.0.0.0/8, 10.1.2.3/8 or 010.0.0.0/8. Then two rows could be one row, and equal
-//! tables could differ. So a [`Prefix`] has one value and one text.
+//! Routers do not route single addresses, but blocks of them. A block could be written in many ways, for
+//! example as 10.0.0.0/8, 10.1.2.3/8 or 010.0.0.0/8. Then two rows could be one row, and equal tables could
+//! differ, so a [`Prefix`] has one value and one text.
 //!
 //! - An *address* is a number of 32 bits, its first octet the highest.
 //! - A *prefix* is an address and a length of 0 to 32 bits. It *covers* the addresses that agree with it in

@@ -14,6 +14,7 @@ use Rattle.script.specs.Directories.{Directory, name_text, neighbour_at, source_
 abbrev pub end_a : List LinkSpec → ℕ → Option ℕ
 end_a links link = option_map (λ s. s.a) (slice_get links link)
 
+-- likewise the router at its end B
 abbrev pub end_b : List LinkSpec → ℕ → Option ℕ
 end_b links link = option_map (λ s. s.b) (slice_get links link)
 

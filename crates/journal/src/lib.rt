@@ -1,9 +1,9 @@
 //! The text of a journal: written, read, and compared with a network's state.
 //!
-//! The problem: a run has to be repeatable, also by others and later. The script alone does not say what was
-//! done, because `settle` may leave the order to threads. So a run writes down each step that it did, in the
-//! words of a script, and behind them a report of what they made. A *replay* does the steps again, and
-//! compares the reports.
+//! A run has to be repeatable, also by others and later. The script alone does not say what was done,
+//! because `settle` may leave the order to threads. So a run writes down each step that it did, in the words
+//! of a script, and behind them a report of what they made. A *replay* does the steps again, and compares
+//! the reports.
 //!
 //! ```text
 //! dualnet journal 2                    the heading, with the version
@@ -29,11 +29,11 @@
 //!
 //! What is tricky:
 //!
-//! - A step does not keep in which order its routers were named. So `up` and `down` are written in the order
+//! - A step does not keep in which order its routers were named, so `up` and `down` are written in the order
 //!   of the link, and read in either.
 //! - A journal has plain steps alone: no `settle`, no `try`, no `report`.
-//! - Two versions are read, and one is written. The report of the first has other distances, so it is not
-//!   compared.
+//! - Two versions are read, of which one is written. The report of the first has other distances, so it
+//!   is not compared.
 //! - That a journal which was written is read again as the same steps is tested, and no clause says it.
 #![tactic(auto)]
 

@@ -1,4 +1,8 @@
 -- How many of the first numbers have a value below a bound.
+-- The limit of 65,536 routers is exact. Along 65,535 links at the greatest cost, with an attachment at it, a way
+-- costs 4,294,901,760, which is below infinity, and one link more would reach it. So where a router can be reached
+-- and a neighbour of it seems to be out of reach, neither of the two is nearer than the first (`two_not_nearer`). The
+-- first is therefore at most 65,534 links away, and the neighbour can be reached over one link more.
 use Rattle.std.proofs.Common.{◌≡◌, ◌⊎◌, ℕ, zero, suc, ◌+◌, ◌<◌, ◌≤◌, Bool, true, false, refl, inl, inr, arith, ltb-true, lt-ltb, nat_lt}
 use Rattle.network_model.proofs.Common.{both_ways, cases_eq, one_if}
 

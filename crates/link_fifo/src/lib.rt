@@ -1,10 +1,10 @@
 //! Links between routers. Each direction of a link is a list of items, put at the back and taken at the
 //! front.
 //!
-//! The problem: a router has to learn of messages, and of its link, in one order. If it heard that a link is
-//! down before it took the messages that came before, it could not tell old news from new. So notices of the
-//! link stand among the messages. A *session* counts how often the link came up, and tells messages of an
-//! earlier life of the link from those of its present one.
+//! A router has to learn of messages, and of its link, in one order. If it heard that a link is down before
+//! it took the messages that came before, it could not tell old news from new. So notices of the link stand
+//! among the messages. A *session* counts how often the link came up, and tells messages of an earlier life
+//! of the link from those of its present one.
 //!
 //! ```text
 //!   router A -- end A                                        end B -- router B

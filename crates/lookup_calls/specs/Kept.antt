@@ -7,6 +7,7 @@ use Rattle.lookup_calls.specs.Tables.{wordless_table}
 use Rattle.lookup_calls.specs.declared.kept.Form.{Form}
 use Rattle.lookup_calls.specs.declared.kept.Form.TheVariants.{Plain, Words}
 
+-- the rows and words of an image of either form
 abbrev pub form_table : Form → WordTable
 form_table (Plain image) = wordless_table image
 form_table (Words table) = table

@@ -55,6 +55,7 @@ cursor_fault b = if b.len == 33 then None else block_fault b
 abbrev pub listed_row : Prefix × Marked → Row
 listed_row r = entry_row r.0 r.1.entry
 
+-- the word of a row that is listed
 abbrev pub listed_word : Prefix × Marked → ℕ
 listed_word r = r.1.word
 

@@ -19,6 +19,7 @@ pub struct Page {
 }
 
 impl Page {
+    /// A page of this image, which is the last of these.
     pub fn new(image: Shared, past: Past) -> Page
         requires { last_image past.images ≡ Some image }
         ensures { (result.image ≡ image) × (result.past ≡ past) }
@@ -26,12 +27,14 @@ impl Page {
         Page { image, past }
     }
 
+    /// The image that the page holds.
     pub fn image(&self) -> &Shared
         ensures { result.now ≡ self.now.image }
     {
         &self.image
     }
 
+    /// The images that were published up to this one.
     pub fn past(&self) -> &Past
         ensures { result.now ≡ self.now.past }
     {

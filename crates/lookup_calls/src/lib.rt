@@ -1,8 +1,8 @@
 //! What the calls on images do for C programs, below their handles (`lookup_ffi`).
 //!
-//! The problem: C gives rows, words and addresses as lists of numbers, and wants answers written over lists of
-//! its own. Meanwhile another thread may change the image. All of that needs no pointer and no name of C, so
-//! it stands here, and is proved once. A crate with tests is proved twice.
+//! C gives rows, words and addresses as lists of numbers, and wants answers written over lists of its own.
+//! Meanwhile another thread may change the image. All of that needs no pointer and no name of C, so it stands
+//! here and is proved once, while a crate with tests is proved twice.
 //!
 //! ```text
 //!   Row, word ── check_rows, check_words ──> first fault, or none
@@ -15,17 +15,33 @@
 //! - An image is *kept* with words or without (`src/kept.rt`). Without words it stays as small and as fast as
 //!   one that could have none.
 //! - A *shared* image has several holders, and does not change while it has more than one (`src/shared.rt`).
-//! - A *writer* has two copies. Readers take the one that is shown, and the writer changes the other
-//!   (`src/writer.rt`). It keeps the last change, because the other copy misses it.
-//! - A *board* has two places for each reader, one for each copy (`src/board.rt`). Nobody waits there: each
-//!   tries, and is refused if the other has the place.
+//! - A *writer* has two copies, of which readers take the one that is shown, while the writer changes the
+//!   other (`src/writer.rt`). It keeps the last change, because the other copy misses it.
+//! - A *board* has two places for each reader, one for each copy (`src/board.rt`), where nobody waits,
+//!   because each tries, and is refused if the other has the place.
 //!
 //! What always holds: answers are those of the longest match over the rows that were given, set in order
 //! (`answer_rows` and `answer_words` in `specs/Rows.antt`). A reader never answers by an older image than
 //! before (`GoesOn` in `specs/Histories.antt`). A refused call changes nothing.
 //!
 //! What is tricky: what a reader knows of its writer is a list of images that exists in the proofs alone
-//! (`src/past.rt`). At run time only its length is there.
+//! (`src/past.rt`), while at run time only its length is there.
+//!
+//! Where there was a choice:
+//!
+//! - The crate `publication` has such copies too, but its `publish` waits for readers, so it needs a
+//!   handle `Wait`, which an exported function cannot have, and a static library may not wait. Claims of
+//!   `counted_slot` never wait: one that cannot be had says so.
+//! - A change is made twice, once in each copy, because to copy the whole image for each publication
+//!   takes time and memory by all rows. Each reader has places of its own with unused memory between
+//!   them, so that no reader slows another one down.
+//! - A reader tries 1,000 times before it is refused (9), and it tries again only if its writer has
+//!   published since. A copy to which something happened that cannot happen is never shown again, and
+//!   each later publication is refused (9). No clause rules that out.
+//! - The order of atomic steps is `SeqCst` everywhere, so without data races the orders that the model of
+//!   `trials/readers` tries are all there are.
+//! - An image with words stays one, even if all rows with words are taken out, because to find that out
+//!   it would have to go through all rows.
 #![tactic(auto)]
 
 mod board;

@@ -1,8 +1,8 @@
 //! Forwarding images for C programs, behind handles.
 //!
-//! The problem: a data plane in C wants the longest match of many addresses, also in several threads, while
-//! routes change. C sees `include/tuhvondi.h`. Each call answers 0, or the number of the fault for which it
-//! is refused.
+//! A data plane in C wants the longest match of many addresses, also in several threads, while routes
+//! change. C sees `include/tuhvondi.h`. Each call answers 0, or the number of the fault for which it is
+//! refused.
 //!
 //! ```text
 //! struct tuhvondi_image image = TUHVONDI_NO_IMAGE, other = TUHVONDI_NO_IMAGE;

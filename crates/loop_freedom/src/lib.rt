@@ -1,8 +1,8 @@
 //! No loop along published successors, over every run of a network of router machines.
 //!
-//! The problem: routers decide one by one, by what they heard some time ago. So why can three of them not
-//! send a packet round in a circle? The answer has to hold at every moment, also while computations go on,
-//! links fail, and one router has published what another has only chosen.
+//! Routers decide one by one, by what they heard some time ago, so why can three of them not send a packet
+//! round in a circle? The answer has to hold at every moment, also while computations go on, links fail,
+//! and one router has published what another has only chosen.
 //!
 //! A network is seen as one prefix sees it (`network_model/specs/View.antt`). It has a machine for each
 //! router. At each end of each link it has what is still to be taken there, and what is held for the other
@@ -38,6 +38,14 @@
 //! The proofs treat a step at the two ends of one link alone (`proofs/Link.antt`, `proofs/LinkSteps.antt`).
 //! Then they treat each kind of step of the network (`proofs/Taking.antt`, `proofs/Publishing.antt`,
 //! `proofs/Linking.antt` and others).
+//!
+//! Where there was a choice:
+//!
+//! - The network of one destination is a model of its own, of functions of routers and link ends, so that
+//!   the argument for a link is about two small records. Each step of a world is shown to be a step of it
+//!   (`no_packet_loops`).
+//! - A notice of an attachment is a change from outside in this network, which has no queue of them. In
+//!   whole networks to take one is an own step, and comes first in the measure of `coming_to_rest`.
 #![tactic(auto)]
 
 ghost use Rattle.loop_freedom.specs.Facts.{HasFacts};

@@ -31,22 +31,27 @@ as_prefix addr len = record { addr = addr; len = len }
 
 -- ---- limits
 
+-- limits of the numbers that C gives
 abbrev pub limits_of : LimitsParts → Limits
 limits_of l = record { routers = l.routers; links = l.links; ports = l.ports; prefixes = l.prefixes; attachments = l.attachments }
 
 -- ---- links
 
+-- the fault of a link's numbers: the cost from A, and then that from B
 abbrev pub link_fault : LinkParts → Option CallFault
 link_fault l = first_of (cost_fault l.from_a) (cost_fault l.from_b)
 
+-- a link of these numbers
 abbrev pub link_spec : LinkParts → LinkSpec
 link_spec l = record { a = l.a; b = l.b; from_a = l.from_a; from_b = l.from_b }
 
 -- ---- attachments
 
+-- the fault of an attachment's numbers: its prefix, and then its cost
 abbrev pub attachment_fault : AttachmentParts → Option CallFault
 attachment_fault a = first_of (prefix_fault a.addr a.len) (cost_fault a.cost)
 
+-- an attachment of these numbers
 abbrev pub attachment_row : AttachmentParts → Prefix × ℕ × ℕ
 attachment_row a = (as_prefix a.addr a.len, a.router, a.cost)
 

@@ -30,6 +30,7 @@ neighbour_shown m q = option_map_or (λ n. record { reported = n.reported; cost 
 abbrev pub successor_shown : Machine → ℕ
 successor_shown m = unwrap_or m.successor 255
 
+-- what C is shown of a machine: its state, the neighbours at 32 ports, and its successor
 abbrev pub machine_shown : Router → Prefix → Machine → MachineShown
 machine_shown r p m = record { state = state_of r.table p m; neighbours = map (neighbour_shown m) (range_with_len 0 32); successor = successor_shown m }
 
@@ -39,6 +40,7 @@ machine_at p r = option_map (machine_shown r p) (row_of prefix_cmp p r.machines)
 
 -- ---- links and queues
 
+-- what C is shown of a link
 abbrev pub link_shown : Link → LinkShown
 link_shown k = record {
   to_a = length (k.a).inbox;
@@ -86,6 +88,7 @@ gate_shown r notices = record {
   due = flag (is_due r);
 }
 
+-- what C is shown of what a router holds, by its number
 abbrev pub gate_at : ℕ → World → Option GateShown
 gate_at i w = option_and_then (λ r. option_map (λ a. gate_shown r (length a.notices)) (slice_get w.attachments i)) (slice_get w.routers i)
 

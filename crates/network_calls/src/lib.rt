@@ -1,8 +1,8 @@
 //! What the calls on whole networks share, for C programs: a network behind a handle (`network_ffi`), and one in
 //! simulated time (`timed_ffi`).
 //!
-//! The problem: C has a network as lists of numbers, does steps as numbers, and is shown numbers. Two static
-//! libraries need that, and no crate can stand on a static library. So it stands here.
+//! C has a network as lists of numbers, does steps as numbers, and is shown numbers. Two static libraries
+//! need that, and no crate can stand on a static library, so it stands here.
 //!
 //! ```text
 //!   LimitsParts, LinkParts, AttachmentParts ── read_network ──> Network         (or Failure, FaultPlace)

@@ -1,9 +1,9 @@
 //! A whole network for C programs, behind a handle.
 //!
-//! The problem: a simulator in C wants a network that it changes and looks at (`simulation`). It has no
-//! types that keep it from giving a wrong number, or from using a network that is not there. So each call
-//! tests what it is given, in a fixed order, and answers a number. C sees `include/tuhvondi_network.h`, which
-//! has the rules for callers.
+//! A simulator in C wants a network that it changes and looks at (`simulation`). It has no types that keep it
+//! from giving a wrong number, or from using a network that is not there. So each call tests what it is
+//! given, in a fixed order, and answers a number. C sees `include/tuhvondi_network.h`, which has the rules
+//! for callers.
 //!
 //! ```text
 //! struct tuhvondi_network n = TUHVONDI_NO_NETWORK;

@@ -1,6 +1,11 @@
 -- The machine of one router for one prefix: what each event makes of it, and what it sends.
 -- (DUAL, as in Garcia-Luna-Aceves, Loop-Free Routing Using Diffusing Computations, 1993, in this project's profile:
--- docs/2-model.md says where the two differ.)
+-- docs/model.md says where the two differ.)
+-- What the paper leaves open: a port that goes down keeps what was reported there until it comes up, which sets it to
+-- infinity. Whether the distance by way of the successor has risen is judged on the state after the event. That no
+-- one is up to be asked is said of the links alone, because otherwise an attached router with no link up would begin
+-- a computation that awaits no reply and never ends. In a sound machine that makes no difference, because with no
+-- neighbour up an attachment may always be taken (`least_ways-none_up`).
 use Rattle.std.specs.Prelude.{ℕ, zero, suc, min, Bool, true, false, not, ◌&&◌, nat_lt, ◌==◌, if◌then◌else◌, List, [], ◌∷◌, ◌++◌, Option, Some, None, map, slice_get, option_and_then, length}
 use Rattle.std.specs.List.{list_any, position_from}
 use Rattle.std.specs.Option.{option_map_or}

@@ -16,15 +16,19 @@ use Rattle.network_model.specs.World.{Network, prefixes_of}
 abbrev pub most_routers : ℕ
 most_routers = 65536
 
+-- the most links of a network
 abbrev pub most_links : ℕ
 most_links = 65536
 
+-- the most links of one router
 abbrev pub most_ports : ℕ
 most_ports = 32
 
+-- the most prefixes of a network
 abbrev pub most_prefixes : ℕ
 most_prefixes = 4294967295
 
+-- the most attachments of a network
 abbrev pub most_attachments : ℕ
 most_attachments = 4294967295
 

@@ -1,10 +1,10 @@
 //! What a network of DUAL routers is: the plain types that code and definitions share, and the definitions
 //! that every contract above cites.
 //!
-//! The problem: a theorem about a model says nothing of a program that was written beside it. So both use one
-//! set of definitions. The code's contracts cite them, and so do the laws. There is no translation in
-//! between: a `Vec<Outgoing>` of the code is the `List Outgoing` of the definition. So a law of the
-//! definitions is a law of the program.
+//! A theorem about a model says nothing of a program that was written beside it, so both use one set of
+//! definitions. The code's contracts cite them, and so do the laws, without a translation in between: a
+//! `Vec<Outgoing>` of the code is the `List Outgoing` of the definition. So a law of the definitions is a law
+//! of the program.
 //!
 //! ```text
 //!   specs/Machine       one router's machine for one prefix: what an event makes of it, and what it sends
@@ -27,15 +27,15 @@
 //! ```
 //!
 //! What always holds: worked examples hold of the definitions by computation (`proofs/MachineRows.antt`,
-//! `proofs/NetworkRows.antt`). And a step that can be asked for is lawful exactly if it is not refused
+//! `proofs/NetworkRows.antt`), and a step that can be asked for is lawful exactly if it is not refused
 //! (`proofs/Lawful.antt`).
 //!
-//! The machine is that of J. J. Garcia-Luna-Aceves, *Loop-Free Routing Using Diffusing Computations*, 1993.
-//! docs/2-model.md says how it differs. Forwarding is that of RFC 1812, section 5.2.4.3. The gate, which
-//! holds messages back until rows are published, is this project's own.
+//! The machine is that of J. J. Garcia-Luna-Aceves, *Loop-Free Routing Using Diffusing Computations*, 1993,
+//! from which it differs as docs/model.md says. Forwarding is that of RFC 1812, section 5.2.4.3. The gate,
+//! which holds messages back until rows are published, is this project's own.
 //!
-//! What is tricky: nearly all crates stand on this one, so a change here proves them all again. And a mistake
-//! here is in every law, so read a definition aloud before you change it.
+//! What is tricky: nearly all crates stand on this one, so a change here proves them all again. Since a
+//! mistake here is in every law, read a definition aloud before you change it.
 #![tactic(auto)]
 
 mod item;

@@ -1,9 +1,9 @@
 //! Tests of addresses, costs, tables, images, machines, links, routers and worlds, each through its public
 //! surface.
 //!
-//! The problem: a body that gives up for want of memory meets any contract, because such a refusal is always
-//! allowed. So calls that take memory are run here on a path on which they have to succeed. And some facts
-//! have no clause. For example, rows that come and go take no more memory from their second round on.
+//! A body that gives up for want of memory meets any contract, because such a refusal is always allowed. So
+//! calls that take memory are run here on a path on which they have to succeed, and some facts have no
+//! clause. For example, rows that come and go take no more memory from their second round on.
 //!
 //! The tests stand in a crate above those that they test, because a crate with tests is checked a second time
 //! with them. So they see public surfaces alone, as a user does.

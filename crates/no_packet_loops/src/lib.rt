@@ -1,20 +1,20 @@
 //! No packet meets a router twice along routers that match its address by one prefix, over every run of a
 //! network.
 //!
-//! The problem: `loop_freedom` speaks of one destination, of machines and messages. A network has routers
-//! with many machines, tables, queues and steps (`network_model/specs/World.antt`). So two things have to be
-//! shown: each prefix sees such a network as that law has it, and packets go along successors.
+//! `loop_freedom` speaks of one destination, of machines and messages. A network has routers with many
+//! machines, tables, queues and steps (`network_model/specs/World.antt`). So two things have to be shown:
+//! each prefix sees such a network as that law has it, and packets go along successors.
 //!
 //! The law ([`no_packet_loop`]): take any network without faults, and any list of lawful steps. In the world
 //! that they make, no packet meets a router twice along published rows (`NoPacketLoops` in
 //! `specs/Packets.antt`). This is said of a packet that one prefix matches at each router, but perhaps the
-//! last. It is true of a *mixture*, too, in which each router uses either its published or its chosen rows.
-//! So each *trace* ends.
+//! last. It is true of a *mixture*, too, in which each router uses either its published or its chosen rows,
+//! so each *trace* ends.
 //!
 //! Why it is true: for each prefix, each step of a world is a step of the network of one destination, or
 //! nothing there (`proofs/Runs.antt`). So the four facts hold at the two ends of each link that is up
 //! ([`four_facts`]). A longest match is the row of its prefix, so a packet's way by one prefix is a walk
-//! along successors. Along each edge feasible distances fall ([`distances_fall`]). So no router comes twice.
+//! along successors. Along each edge feasible distances fall ([`distances_fall`]), so no router comes twice.
 //!
 //! ```text
 //!    packet for 10.1.2.3, matched by 10.0.0.0/8 at each router

@@ -1,11 +1,11 @@
 //! Memory for the nodes and results of a tree: blocks of cells, taken and given back.
 //!
-//! The problem: an image changes row by row for as long as its router runs. A new row makes blocks of
-//! children or results a cell larger. The block that it leaves must be found again without memory.
+//! An image changes row by row for as long as its router runs. A new row makes blocks of children or
+//! results a cell larger, and the block that it leaves must be found again without memory.
 //!
 //! So all cells of one kind stand in one vector, a [`Pool`]. The *place* of its first cell, a number of 32
 //! bits, names a block. A free block names the next free one of its size in its own first cell, so to give a
-//! block back takes no memory. A [`NodePool`] is two pools: one of nodes, one of results.
+//! block back takes no memory. A [`NodePool`] is two such pools, one of nodes and one of results.
 //!
 //! ```text
 //! let mut pool = Pool::new(Global);
@@ -15,20 +15,25 @@
 //! ```
 //!
 //! - `take` uses a free block of the very size, if there is one. If not, the pool gets more cells at its end.
-//! - `grow` moves a block to one that is a cell larger, with a gap for the new value. The old block is free
-//!   then.
-//! - `reserve` makes room first. Then takes that ask for no more cells than this are not refused.
+//! - `grow` moves a block to one that is a cell larger, with a gap for the new value, and the old block is
+//!   free then.
+//! - `reserve` makes room first, so that takes which ask for no more cells than this are not refused.
 //!
-//! The words: the *spare* of a size is how many free blocks of it there are. The *room* is how many cells can
-//! be added without memory. A pool has at most 2^32 cells, and the room counts that bound.
+//! The *spare* of a size is how many free blocks of it there are, and the *room* is how many cells can be
+//! added without memory. A pool has at most 2^32 cells, and the room counts that bound.
 //!
 //! What always holds (`IsLinked` in `specs/FreeLists.antt`): each list links as many free blocks as it
-//! counts. All their cells are free, and no two of them share a cell. Contracts see a pool as a function from
+//! counts, all their cells are free, and no two of them share a cell. Contracts see a pool as a function from
 //! places to values. So blocks in use never overlap: every cell of a block that is taken was free, and all
 //! others stay (`IsTaken` in `specs/Pool.antt`).
 //!
 //! What is tricky: a pool does not know which cells were taken as one block. When you give cells back, you
-//! say how many they are. They only have to be in use.
+//! say how many they are, and they only have to be in use.
+//!
+//! Where there was a choice:
+//!
+//! - Places have 32 bits, so that a node with its tag takes 16 bytes. With 64 it would take 32.
+//! - A pool takes a block with the value that its cells get, so that no cell is without one.
 #![tactic(auto)]
 
 mod cells;

@@ -1,7 +1,7 @@
 //! A queue of packets from one injector to several workers. Each job comes out as often as it went in.
 //!
-//! The problem: the ends of the queue are in several threads. A clause can say what one end did, but not what
-//! the others did meanwhile. So who can say that no job was lost, and none was answered twice?
+//! The ends of the queue are in several threads. A clause can say what one end did, but not what the others
+//! did meanwhile. So who can say that no job was lost, and none was answered twice?
 //!
 //! The answer is a rule that the channel keeps (`crossbeam_channel`), and a sum at the end. Each end has a
 //! list, in the proofs alone, of what it has put or taken. The rule: what all ends have put is what all ends
@@ -34,6 +34,9 @@
 //! - No clause says when a job is handed back, or when a taker finds none. The tests try both.
 //! - A taker that is dropped takes its part along. Then nobody can reckon any more.
 //! - After 2^64 - 1 jobs an end waits for ever, because it counts them in 64 bits.
+//!
+//! A queue with no workers is closed from the start: each job is handed back, and `stop` has put all its
+//! messages.
 #![tactic(auto)]
 
 mod injector;

@@ -1,8 +1,7 @@
 //! What a scenario asks for, and what can be wrong: the text of a file is read, and a [`Plan`] is made of it.
 //!
-//! The problem: a scenario can be wrong in many ways, and often in several at once. Whoever wrote it has to
-//! be told one fault, always the same one, with its place. So the tests have a fixed order, and each has its
-//! number:
+//! A scenario can be wrong in many ways, and often in several at once. Whoever wrote it has to be told one
+//! fault, always the same one, with its place. So the tests have a fixed order, and each has its number:
 //!
 //! ```text
 //!   file            47 Unreadable, 46 TooLarge (above 4,194,304 bytes; a journal above 268,435,456)

@@ -83,6 +83,7 @@ pub record IsWorked (opened : Network → Net) (Done : List Command → Net → 
   pub done : Done parts.commands (opened (network_read parts)) after
   pub keeps : Keeps (directory_of parts.names parts.links) after
 
+-- a scenario without faults was opened, and its work stops for this fault
 pub record StopsAtWork (opened : Network → Net) (Stops : List Command → Net → Net → Fault → Type 0) (bytes : Text) (fault : Fault) : Type 0 where
   pub short : length bytes ≤ most_bytes
   pub parts : Parts
@@ -90,6 +91,7 @@ pub record StopsAtWork (opened : Network → Net) (Stops : List Command → Net 
   pub after : Net
   pub stops : Stops parts.commands (opened (network_read parts)) after fault
 
+-- a text stops a run while it is read, before it is opened, or at its work
 abbrev pub StopsOn : (Network → Net) → (Fault → Type 0) → (List Command → Net → Net → Fault → Type 0) → Text → Fault → Type 0
 StopsOn opened Early Stops bytes fault = StopsReading bytes fault ⊎ Early fault ⊎ StopsAtWork opened Stops bytes fault
 

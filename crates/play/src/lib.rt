@@ -1,8 +1,8 @@
 //! What the program does, over any readers and writers.
 //!
-//! The problem: a program reads files, prints, starts threads and ends with a status. If its code opened
-//! these itself, no test could hold what it reads and writes, and no contract could speak of it. So `main`
-//! opens files and streams, and [`play`] does the rest with whatever it is handed:
+//! A program reads files, prints, starts threads and ends with a status. If its code opened these itself,
+//! no test could hold what it reads and writes, and no contract could speak of it. So `main` opens files
+//! and streams, and [`play`] does the rest with whatever it is handed:
 //!
 //! ```text
 //!   words, scenario, journal  -->  play  -->  out, err, kept, told     and the exit status
@@ -39,6 +39,17 @@
 //! nobody reads any more. What is printed is not in these
 //! clauses, but for the texts of single lines. [`play_by`] is the same with other thresholds for threads and
 //! a gate that they call, so tests can start threads in a small network.
+//!
+//! Where there was a choice:
+//!
+//! - A replay stops after a million steps as a fabric does (19), because no run writes a longer journal.
+//! - `--journal` with a file that is read is 49 before the run begins. A journal that cannot be written
+//!   at its end is 49 without a place: what the run printed stands, and the status is 2.
+//! - A fault in a shell is told without a place. A shell has one control thread and one worker, and its
+//!   words `help`, `say` and `quit` are 45 in a script, where they would do nothing.
+//! - A journal that is full (19) is followed by a line that says how many steps were done. A replay
+//!   that wants memory prints `step K refused: 20 NoMemory` if a step does, and otherwise `20
+//!   NoMemory`.
 #![tactic(auto)]
 
 mod answers;

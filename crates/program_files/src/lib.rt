@@ -1,8 +1,8 @@
 //! The files that the programs read and write, and the words that they are given.
 //!
-//! The problem: `dualnet` and `dualnet-view` both have to find out which files their words name, open them,
-//! and say what is wrong with a command line. And neither may write over a file that it reads. These parts
-//! stand here once, above the handles of the system and below both programs.
+//! `dualnet` and `dualnet-view` both have to find out which files their words name, open them, and say what
+//! is wrong with a command line, and neither may write over a file that it reads. These parts stand here
+//! once, above the handles of the system and below both programs.
 //!
 //! ```text
 //! let words = given_words(&rt)?;                   // Err(status) if a word is not UTF-8
@@ -13,8 +13,8 @@
 //!
 //! - `scenario_path`, `replayed_path`, `times_path` and `kept_path` say which file is which: the scenario, the
 //!   journal that is read, the document of times, and the journal that is written. [`is_read`] says so for `dualnet-view`.
-//! - [`open_file`] never fails. A file that cannot be opened is `Source::Missing`, and each read of it fails.
-//!   So `plans` finds that it is unreadable, as it finds all other faults of a scenario.
+//! - [`open_file`] never fails. A file that cannot be opened is `Source::Missing`, of which each read fails,
+//!   so `plans` finds that it is unreadable, as it finds all other faults of a scenario.
 //! - [`explain_unreadable`] says why, in the system's words.
 //! - [`print_error`] prints an error of the command line, or the help that was asked for, and answers the status.
 //!

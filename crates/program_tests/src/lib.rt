@@ -1,9 +1,9 @@
 //! Tests of the program that no file of cases can say.
 //!
-//! The problem: most of what the program does is tested by files of cases, which `trials` reads: a scenario,
-//! words, and what is printed. But such a file cannot say that another file is unreadable, that a write
-//! fails, or that a text is not UTF-8. Nor does a small scenario reach the limits, or the threads that only a
-//! large network starts. These stand here, as code:
+//! Most of what the program does is tested by files of cases, which `trials` reads: a scenario, words, and
+//! what is printed. But such a file cannot say that another file is unreadable, that a write fails, or that a
+//! text is not UTF-8. Nor does a small scenario reach the limits, or the threads that only a large network
+//! starts. These stand here, as code:
 //!
 //! ```text
 //!   files     files that cannot be read or written, and texts that are not UTF-8
@@ -26,7 +26,7 @@
 //! What a test expects comes from the definitions, from the man page or from the plain model in `model`. It
 //! never comes from what the program printed. For example, the lines of `views` were reckoned by that model.
 //!
-//! What is tricky: a fault displays its number and name by a derive, which has no contract. So `written` has
+//! What is tricky: a fault displays its number and name by a derive, which has no contract, so `written` has
 //! the texts that they have to be.
 //!
 //! The crate promises nothing, and no crate stands on it.

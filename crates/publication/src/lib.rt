@@ -24,6 +24,20 @@
 //! mixed.
 //!
 //! A writer may leave with a patch ([`Ticket`]), and is known again by what stayed ([`Stub`]).
+//!
+//! Where there was a choice:
+//!
+//! - A publication carries the generation above the writer's, without a limit, because that of a million
+//!   is the journal's. Its rows may come in any order and name a prefix twice, and then the later row
+//!   stands.
+//! - A ticket may publish again after it was refused. Its patch may then itself be pending, and stand in
+//!   the list once more than it is published. So of what was pending a ticket says only that its patch
+//!   names it, which is all that the image depends on.
+//! - A stub's patch tells which list the writer had, without a comparison of lists: a list has as many
+//!   publications as its generation says, and lists of one writer that have as many are one
+//!   (`Told::meet`).
+//! - A pending patch is kept for the list alone, and no image takes it in, because the next patch names
+//!   all its prefixes.
 #![tactic(auto)]
 
 mod book;

@@ -1,12 +1,12 @@
 //! What holds of a network of routers that has come to rest: no machine is in a computation, and published
 //! rows lead along cheapest ways.
 //!
-//! The problem: `least_cost` says this of one destination, and a caller has a whole network. A caller also
-//! wants to see by a look at queues that all is well, and not by a look into each machine.
+//! `least_cost` says this of one destination, and a caller has a whole network. A caller also wants to see
+//! by a look at queues that all is well, and not by a look into each machine.
 //!
 //! The first law ([`settled_is_quiet`]): a network has *settled* exactly if it is *quiet* (`SettledIsQuiet`
 //! in `specs/Settled.antt`). Settled is what a caller can see: nothing is queued, no notice waits, nothing is
-//! due and nothing ripe. Quiet says more: besides, every machine is passive and nothing is held.
+//! due and nothing ripe. Quiet says besides that every machine is passive and nothing is held.
 //!
 //! Why it is true: what a router holds is ripe, or it is due. So in a network that has settled nothing is
 //! held, and nothing is on a link. Then the machines of each prefix are passive, by the first law of
@@ -14,12 +14,12 @@
 //!
 //! The second law ([`quiet_routes`]): in a quiet network each router has its best row for each prefix
 //! (`HasBestRow` in `specs/Routes.antt`). If links that are up lead to an attached router, its row is
-//! `Local`, or begins a chain of rows to a `Local` one. The chain costs what the router reports, and no way
-//! to an attached router costs less. The cost of the attachment counts. If no links lead to one, the row is
-//! `Unreachable`, or the prefix is unheard.
+//! `Local`, or begins a chain of rows to a `Local` one. The chain costs what the router reports, the
+//! attachment's cost included, and no way to an attached router costs less. If no links lead to one, the
+//! row is `Unreachable`, or the prefix is unheard.
 //!
 //! Why it is true: what a prefix sees of a quiet world is a quiet network of one destination
-//! (`proofs/Still.antt`). Walks over the world's links are walks there, and the other way round. So the
+//! (`proofs/Still.antt`). Walks over the world's links are walks there, and the other way round, so the
 //! second law of `least_cost` gives the chain.
 //!
 //! ```text

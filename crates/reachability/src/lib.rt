@@ -1,7 +1,7 @@
 //! Which routers are cut off from a prefix.
 //!
-//! The problem: while a network comes to rest, some routers have no way to a prefix although links lead there.
-//! No router knows that of itself: its row may lead to a neighbour whose row is not there yet. So [`CutOff`]
+//! While a network comes to rest, some routers have no way to a prefix although links lead there. No router
+//! knows that of itself, because its row may lead to a neighbour whose row is not there yet. So [`CutOff`]
 //! looks at the whole world, and works out two sets of routers.
 //!
 //! ```text
@@ -12,8 +12,8 @@
 //!   cut off   none          c and d do not reach a at all
 //! ```
 //!
-//! If the link of `b` and `c` comes up again, `c` and `d` are reached. The row of `c` is of an earlier session,
-//! so it leads nowhere: `c` and `d` are cut off, until `c` has published a row of this session.
+//! If the link of `b` and `c` comes up again, `c` and `d` are reached. Since the row of `c` is of an earlier
+//! session, it leads nowhere, and `c` and `d` are cut off until `c` has published a row of this session.
 //!
 //! - *Reached* is each router that is attached, and each router across a link that is up from one that is
 //!   reached.
@@ -22,7 +22,7 @@
 //! - A router is *cut off* (`IsCutOff` in `specs/Ways.antt`) if it is reached and not routed.
 //!
 //! Each set is worked out in rounds. A round adds what is missing by one link or one row more, and the first
-//! round that adds nothing is the last. `look` takes no memory: the sets are made once, by `new`.
+//! round that adds nothing is the last. `look` takes no memory, because the sets are made once, by `new`.
 //!
 //! What is tricky: a link may lead to a router that no list has, if a world is built wrongly. So `look` asks for a
 //! world whose parts fit together (`IsJoined`). Each world of a run is one ([`always_joined`]).

@@ -1,9 +1,8 @@
 //! What a router holds back until it has published: a list of messages, those at the front ripe.
 //!
-//! The problem: a router chooses a row first, and puts it in force later, when it publishes. If it told its
-//! neighbours of the row at once, they could send it packets for that row. But it would still forward these
-//! by the old one, perhaps back to them. So what a router sends waits in its [`Gate`] until the router has
-//! published.
+//! A router chooses a row first, and puts it in force later, when it publishes. If it told its neighbours
+//! of the row at once, they could send it packets for that row. But it would still forward these by the old
+//! one, perhaps back to them. So what a router sends waits in its [`Gate`] until the router has published.
 //!
 //! A message is *held* when it is sent, *ripe* when its router has published since, and *released* when it
 //! leaves. Messages leave in the order in which they were held, so the ripe ones are always at the front:

@@ -1,8 +1,8 @@
 //! What is told of a network, line by line.
 //!
-//! The problem: a run, a shell and a replay print the same lines, as text or as JSON, and a journal keeps
-//! some of them. If each wrote its own, a replay could not compare them. So what a line tells of a network
-//! is read from it here, and a [`Printer`] that knows the names and the format prints it.
+//! A run, a shell and a replay print the same lines, as text or as JSON, and a journal keeps some of them.
+//! If each wrote its own, a replay could not compare them. So what a line tells of a network is read from
+//! it here, and a [`Printer`] that knows the names and the format prints it.
 //!
 //! - [`print_report`] prints each link, then each router with its machines, in the order of the prefixes.
 //! - [`print_state`] prints one machine, and why it is at that, if more is to be told. [`show_table`] prints
@@ -30,6 +30,9 @@
 //! The statuses ([`Outcome`]): 0 done, 2 a step of the journal was refused, 3 the reports differ.
 //!
 //! What is tricky: no clause says that a report tells of all links and routers. The tests do.
+//!
+//! A journal's text takes a quarter of a run's instructions, and nearly half of its memory, so it is made
+//! only if somebody wants it.
 #![tactic(auto)]
 
 mod checking;

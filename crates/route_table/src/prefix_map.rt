@@ -19,6 +19,7 @@ pub struct PrefixMap<X, A: Allocator = Global> {
 impl<X: Copy, A: Allocator> PrefixMap<X, A> {
     ghost use Rattle.route_table.specs.PrefixMap.{map_rows, map_capacity};
 
+    /// No rows, and no memory taken.
     pub fn new(alloc: A) -> Self
         ensures rows { map_rows result ≡ [] }
         ensures capacity { map_capacity result ≡ 0 }
@@ -42,12 +43,14 @@ impl<X: Copy, A: Allocator> PrefixMap<X, A> {
         Ok(PrefixMap { entries })
     }
 
+    /// The rows, in the order of their prefixes.
     pub fn as_slice(&self) -> &[(Prefix, X)]
         ensures { result.now ≡ map_rows self.now }
     {
         self.entries.as_slice()
     }
 
+    /// How many rows there are.
     pub fn len(&self) -> usize
         ensures { result ≡ length (map_rows self.now) }
     {
@@ -61,6 +64,7 @@ impl<X: Copy, A: Allocator> PrefixMap<X, A> {
         self.entries.capacity()
     }
 
+    /// What the prefix has, if it is there: a binary search.
     pub fn get(&self, prefix: Prefix) -> Option<X>
         ensures { result ≡ value_at prefix_cmp prefix (map_rows self.now) }
     {
@@ -90,6 +94,7 @@ impl<X: Copy, A: Allocator> PrefixMap<X, A> {
         }
     }
 
+    /// Takes the prefix out, if it is there. Its place stays reserved.
     pub fn remove(&mut self, prefix: Prefix)
         ensures rows { map_rows self.new ≡ without prefix (map_rows self.old) }
         ensures capacity { map_capacity self.new ≡ map_capacity self.old }
@@ -108,6 +113,7 @@ impl<X: Copy, A: Allocator> PrefixMap<X, A> {
         self.entries.drain(..count);
     }
 
+    /// Takes all rows out. Their places stay reserved.
     pub fn clear(&mut self)
         ensures rows { map_rows self.new ≡ [] }
         ensures capacity { map_capacity self.new ≡ map_capacity self.old }

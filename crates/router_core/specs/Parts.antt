@@ -21,6 +21,7 @@ machines_of ms = map (λ m. (m.0, (m.1).machine)) ms
 abbrev pub ups : List Neighbour → List Bool
 ups ns = map (λ n. n.up) ns
 
+-- which ports of a router are up
 abbrev pub port_ups : List Port → List Bool
 port_ups ports = map (λ p. p.up) ports
 

@@ -1,9 +1,9 @@
 //! One router for C programs, behind handles.
 //!
-//! The problem: a routing daemon in C wants one router whose neighbours are other processes
-//! (`single_router`). It has no types that keep it from giving a wrong number, or from using a router that is
-//! not there. So each call tests what it is given, in a fixed order, and answers a number. C sees
-//! `include/tuhvondi_router.h`, which has the rules for callers.
+//! A routing daemon in C wants one router whose neighbours are other processes (`single_router`). It has no
+//! types that keep it from giving a wrong number, or from using a router that is not there. So each call
+//! tests what it is given, in a fixed order, and answers a number. C sees `include/tuhvondi_router.h`, which
+//! has the rules for callers.
 //!
 //! ```text
 //! struct tuhvondi_router r = TUHVONDI_NO_ROUTER;

@@ -25,6 +25,7 @@ abbrev pub word_or_none : Option (Prefix × Marked) → ℕ
 word_or_none None = 2 ^ 32 - 1
 word_or_none (Some row) = row.1.word
 
+-- the caller's word of the longest match, or 2^32 - 1 if no row covers the address
 abbrev pub word_answer : WordTable → ℕ → ℕ
 word_answer table addr = word_or_none (marked_answer table addr)
 

@@ -21,7 +21,7 @@ use std::mem::size_of;
 const FEW_CELLS: usize = 1024;
 
 /// Rows with a word of the caller's own beside their entries, for looking up addresses. It has at most
-/// 2^24 - 1 rows.
+/// 2^24 - 2 rows.
 #[derive(Drop)]
 pub struct WordImage<A: Allocator = Global> {
     // Its entries say the numbers of cells.
@@ -127,6 +127,7 @@ impl<A: Allocator> WordImage<A> {
         self.image.generation()
     }
 
+    /// Gives the image another generation. Its rows and words stay.
     pub fn set_generation(&mut self, generation: u64)
         ensures { self.new ≡ record self.old { generation = generation } }
     {

@@ -49,9 +49,11 @@ pub record IsRouterCurrent (prefixes : List Prefix) (x : Router) (notices : ℕ)
 abbrev pub AreLinksCurrent : World → Recorder → Type 0
 AreLinksCurrent = LinksShownWhere (λ marked. marked ≡ false)
 
+-- of each router what is not marked is shown as it is
 abbrev pub AreRoutersCurrent : World → Recorder → Type 0
 AreRoutersCurrent w r = EachRouter (IsRouterCurrent (r.prefixes).items) w r
 
+-- a recorder shows of the whole world all that is not marked, so that what is marked is all that may have changed
 pub record IsCurrent (w : World) (r : Recorder) : Type 0 where
   pub links : AreLinksCurrent w r
   pub routers : AreRoutersCurrent w r
@@ -60,9 +62,11 @@ pub record IsCurrent (w : World) (r : Recorder) : Type 0 where
 abbrev pub ShowsLinks : World → Recorder → Type 0
 ShowsLinks = LinksShownWhere (λ _. Unit {0})
 
+-- each router is shown as it is
 abbrev pub ShowsRouters : World → Recorder → Type 0
 ShowsRouters w r = EachRouter (ShowsRouter (r.prefixes).items) w r
 
+-- the whole world is shown as it is
 pub record ShowsWorld (w : World) (r : Recorder) : Type 0 where
   pub links : ShowsLinks w r
   pub routers : ShowsRouters w r
@@ -86,12 +90,15 @@ BooksFollow Becomes [] before after = after ≡ before
 BooksFollow {B = B} Becomes (c ∷ cs) before after = (old : B) × (new : B) × (slice_get before c.0 ≡ Some old) × Becomes c.1 old new
     × BooksFollow Becomes cs (slice_set before c.0 new) after
 
+-- the books of links after these changes, one after another
 abbrev pub LinksFollow : List (ℕ × LinkChange) → List LinkBook → List LinkBook → Type 0
 LinksFollow = BooksFollow LinkFollows
 
+-- the books of routers after these changes, one after another
 abbrev pub RoutersFollow : List (ℕ × RouterChange) → List RouterBook → List RouterBook → Type 0
 RoutersFollow = BooksFollow RouterFollows
 
+-- one recorder follows from another by these changes
 pub record Follows (c : Changes) (before after : Recorder) : Type 0 where
   pub prefixes : after.prefixes ≡ before.prefixes
   pub links : LinksFollow (c.links).items (before.links).items (after.links).items

@@ -28,12 +28,15 @@ use Rattle.run_states.specs.declared.router_book.RouterChange.{RouterChange}
 use Rattle.run_states.specs.declared.recorder.Changes.{Changes}
 use Rattle.run_states.specs.Queues.{is_nothing}
 
+-- a count, as a number
 abbrev pub count : ℕ → Data
 count n = number (unsigned n)
 
+-- a word, as a string
 abbrev pub word : Text → Data
 word text = string text
 
+-- values one after another, as an array
 abbrev pub list : List Data → Data
 list ds = array (items_of ds)
 
@@ -45,6 +48,7 @@ link_data l k =
     (member (codes "session") (count k.session)
     (member (codes "up") (boolean k.up) no_members))))
 
+-- what is shown of a router, with its number
 abbrev pub router_data : ℕ → RouterState → Data
 router_data i r =
     object (member (codes "generation") (count r.generation)
@@ -91,6 +95,7 @@ machine_data w i p m =
 
 -- ---- queues
 
+-- the kind of a message, in a word
 abbrev pub kind_text : Kind → Text
 kind_text Update = codes "update"
 kind_text Query = codes "query"
@@ -100,6 +105,7 @@ kind_text Reply = codes "reply"
 abbrev pub number_of_prefix : Prefix → List Prefix → ℕ
 number_of_prefix p ps = unwrap_or (position (λ other. prefix_eq other p) ps) (length ps)
 
+-- the number of an end of a link: A is 0, and B is 1
 abbrev pub number_of_end : End → ℕ
 number_of_end End.A = 0
 number_of_end End.B = 1
@@ -111,6 +117,7 @@ item_data ps (Item.Down session) = list (word (codes "down") ∷ [])
 item_data ps (Item.Cost session cost) = list (word (codes "cost") ∷ count cost ∷ [])
 item_data ps (Item.Message m) = list (word (kind_text m.kind) ∷ count (number_of_prefix m.prefix ps) ∷ distance_data m.value ∷ [])
 
+-- the items on their way, oldest first
 abbrev pub items_data : List Prefix → List Item → Data
 items_data ps items = list (map (item_data ps) items)
 

@@ -1,9 +1,8 @@
 //! The states of a run as lines of JSON, each with what has changed since the one before.
 //!
-//! The problem: a reader who wants to see a run needs the network after each step, and a run may have a
-//! million steps. To write all routers after each of them would be far too much. Almost all of a network
-//! stays as it was in a step. So a line has only what is new, and whoever reads the lines in order has the
-//! whole state.
+//! A reader who wants to see a run needs the network after each step, and a run may have a million steps.
+//! To write all routers after each of them would be far too much. Almost all of a network stays as it was
+//! in a step. So a line has only what is new, and whoever reads the lines in order has the whole state.
 //!
 //! - A *book* has what was shown last of a link or of a router. Its *mark* says if that may have changed. A
 //!   router's book has a mark for each of its machines, too.
@@ -37,6 +36,9 @@
 //! What is tricky: a change is read off the book and the world, and not off the step. So it is right also if
 //! states are told after every second step, or after each thousandth. That a line names nothing that did not
 //! change is only tested.
+//!
+//! Links and prefixes are named by their positions in the lines, so that a hundred thousand states stay
+//! below 20 MB. Members come in the order of their names, because the crate for JSON keeps objects so.
 #![tactic(auto)]
 
 mod fault;

@@ -1,8 +1,8 @@
 //! The text of a scenario: a TOML document with four keys, each an array of strings.
 //!
-//! The problem: a scenario is written by people and by programs, so its outer form is a format that both
-//! know. But TOML can say much that a scenario cannot: tables, numbers, dates, other keys. This crate takes
-//! the document apart, and refuses whatever is not exactly four lists of lines:
+//! A scenario is written by people and by programs, so its outer form is a format that both know. But TOML
+//! can say much that a scenario cannot: tables, numbers, dates, other keys. This crate takes the document
+//! apart, and refuses whatever is not exactly four lists of lines:
 //!
 //! ```text
 //! routers = ["a", "b"]                     # the names of the routers
@@ -15,17 +15,18 @@
 //! let lines = read_scenario(alloc, text)?;     // lines.links[0] is "a b 5 5"
 //! ```
 //!
-//! What the strings say is not read here, but in `script`. So a string may be any text, also an empty one.
+//! What the strings say is not read here, but in `script`, so a string may be any text, also an empty one.
 //!
 //! What always holds: [`read_scenario`] gives the strings of the four arrays, in order, as `toml`'s own
 //! definition reads them (`lists_in` in `specs/Scenario.antt`). It answers `BadKey` only for a document that
-//! has no such lists, and `BadToml` only for a text that is no document. The third fault is want of memory.
+//! has no such lists, and `BadToml` only for a text that is no document, and its third fault is want of
+//! memory.
 //!
 //! What is tricky: the order of the tests. A text that is no TOML document is `40 BadToml`, whatever keys it
 //! has. A document with a fifth key, or with a number among the strings of a list, is `41 BadKey`.
 //!
-//! TOML is a format of its own, and the kit's crate `toml` reads it. So what is a document is that crate's
-//! definition (`parse_document`), and this crate adds the four keys alone.
+//! TOML is read by the kit's crate `toml`, so what is a document is that crate's definition
+//! (`parse_document`), and this crate adds the four keys alone.
 #![tactic(auto)]
 
 mod fault;

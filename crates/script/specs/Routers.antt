@@ -2,9 +2,11 @@
 use Rattle.std.specs.Prelude.{◌≡◌, ◌≢◌, ℕ, ◌≤◌, min, length, slice_index, List, Option, ◌⊎◌, All, AllPairs, Contains, position, option_map, bytes_eq}
 use Rattle.texts.specs.Words.{Text}
 
+-- a byte from a to z
 abbrev pub IsSmallLetter : ℕ → Type 0
 IsSmallLetter b = (97 ≤ b) × (b ≤ 122)
 
+-- a byte from 0 to 9
 abbrev pub IsDigit : ℕ → Type 0
 IsDigit b = (48 ≤ b) × (b ≤ 57)
 

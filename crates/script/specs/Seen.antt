@@ -2,5 +2,6 @@
 use Rattle.script.specs.Reading.{Parts}
 use Rattle.script.specs.declared.reading.Script.{Script}
 
+-- the parts of a script that was read
 abbrev pub script_parts : Script → Parts
 script_parts s = record { names = s.names; links = s.links.items; attachments = s.attachments.items; commands = s.commands.items }

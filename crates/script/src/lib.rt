@@ -1,9 +1,9 @@
 //! What the lines of a scenario say: names, links, prefixes and commands; and the names of routers.
 //!
-//! The problem: people call routers by names, and the network by numbers. Each command, fault and printed row
-//! has to be translated, and a wrong number would be a wrong router. So a name becomes a number once, when a
-//! line is read ([`Names`]), and a number a name once, when a line is written ([`Directory`]). What is written
-//! is in `lines`.
+//! People call routers by names, and the network by numbers. Each command, fault and printed row has to be
+//! translated, and a wrong number would be a wrong router. So a name becomes a number once, when a line is
+//! read ([`Names`]), and a number a name once, when a line is written ([`Directory`]). What is written is in
+//! `lines`.
 //!
 //! ```text
 //!   "a b 5 5"           ->  LinkSpec { a: 0, b: 1, from_a: 5, from_b: 5 }
@@ -30,12 +30,16 @@
 //!
 //! What is tricky:
 //!
-//! - A link may name a router that is not known. That end is read as 65535, which no network has. So the
+//! - A link may name a router that is not known. That end is read as 65535, which no network has, so the
 //!   fault is found when the network is opened, after the faults of all lines.
 //! - In a command, an unknown name or link is `45 BadCommand`. It comes before the fault of a cost or an
 //!   address, but a prefix that the scenario does not have comes last.
 //! - `deliver a a` asks for the port of a's own attachments, which has the number after its last link's.
-//! - `up a` and `down a` ask for all links of a, and are no steps. So `try up a` is a `45 BadCommand`.
+//! - `up a` and `down a` ask for all links of a, and are no steps, so `try up a` is a `45 BadCommand`.
+//!
+//! An unknown name in a command, or a link that is not there, is 45, and comes before the 5 of a cost. An
+//! unreadable address is 2, after the 45 of the router, and an unknown prefix is 45 after all other tests.
+//! Lines of a journal are tested in the same order.
 #![tactic(auto)]
 
 mod attachment;

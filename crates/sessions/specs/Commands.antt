@@ -23,6 +23,7 @@ abbrev pub is_amiss : Bool → ℕ → Link → Bool
 is_amiss true router k = (nat_eq k.a.router router || nat_eq k.b.router router) && not k.up
 is_amiss false router k = (nat_eq k.a.router router || nat_eq k.b.router router) && k.up
 
+-- the same of a link by its number
 abbrev pub is_amiss_at : World → Bool → ℕ → ℕ → Bool
 is_amiss_at w up router l = option_map_or (is_amiss up router) (slice_get w.links l) false
 
@@ -57,6 +58,8 @@ pub record StopsPutting (up : Bool) (router : ℕ) (f g : Net) (e : Refusal) : T
   pub amiss : is_amiss_at (world_of g) up router link ≡ true
   pub refused : CanBeRefused (refusal_of g (put up link)) e
 
+-- `up A` or `down A` is refused: the router is unknown, and nothing was done, or one of its links could not be put so, and
+-- those before it were
 abbrev pub CannotPut : Bool → ℕ → Net → Net → Refusal → Type 0
 CannotPut up router f g e = ((unknown_router (world_of f) router ≡ Some e) × (g ≡ f)) ⊎ StopsPutting up router f g e
 

@@ -29,6 +29,7 @@ pub record Counted : Type 0 where
   pub simulation : Simulation
   pub saved : Option Simulation
 
+-- a network that counts its steps, and the state that it saved
 abbrev pub counted_of : Simulation → Option Simulation → Counted
 counted_of simulation saved = record { simulation = simulation; saved = saved }
 
@@ -56,6 +57,7 @@ world_of (Right c) = c.simulation.world
 abbrev pub counted_after : Counted → Step → Counted
 counted_after c s = counted_of (after_step_there c.simulation s) c.saved
 
+-- a network after a step, of either kind
 abbrev pub after : Net → Step → Net
 after (Left f) s = Left (after_step f s)
 after (Right c) s = Right (counted_after c s)
@@ -108,6 +110,7 @@ abbrev pub CannotInject : Net → ℕ → Cause → Type 0
 CannotInject (Left f) router cause = CannotGive (unknown_router f.world router) cause
 CannotInject (Right c) router cause = OfRefusal (CanBeRefused (unknown_router c.simulation.world router)) cause
 
+-- why a drain is refused: only workers can be the cause
 abbrev pub CannotDrain : Net → Cause → Type 0
 CannotDrain (Left f) cause = OfWorkers (λ e. ⊤) cause
 CannotDrain (Right c) cause = ⊥
@@ -119,6 +122,7 @@ abbrev pub IsSaved : Net → Net → Type 0
 IsSaved (Left f) n = ⊥
 IsSaved (Right c) n = n ≡ Right (counted_of c.simulation (Some c.simulation))
 
+-- why nothing is saved: a journal is kept, or memory was refused
 abbrev pub CannotSave : Net → Cause → Type 0
 CannotSave (Left f) cause = cause ≡ JournalKept
 CannotSave (Right c) cause = OfRefusal (λ e. e ≡ NoMemory) cause
@@ -128,6 +132,7 @@ abbrev pub IsRestored : Net → Net → Type 0
 IsRestored (Left f) n = ⊥
 IsRestored (Right c) n = (s : Simulation) × (c.saved ≡ Some s) × (n ≡ Right (counted_of s (Some s)))
 
+-- why nothing is restored: a journal is kept, nothing was saved, or memory was refused
 abbrev pub CannotRestore : Net → Cause → Type 0
 CannotRestore (Left f) cause = cause ≡ JournalKept
 CannotRestore (Right c) cause = ((c.saved ≡ None) × (cause ≡ NothingSaved)) ⊎ OfRefusal (λ e. e ≡ NoMemory) cause

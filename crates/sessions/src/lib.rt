@@ -1,8 +1,8 @@
 //! Commands of a script or a shell, done one by one on a network that runs.
 //!
-//! The problem: a run keeps its journal, so that it can be replayed, and so it takes memory by its steps and ends
-//! after a million. Who lets a network run for days wants neither. But the same commands should do the same in
-//! both. So the commands are done here alone, on a network that is [`Live`], which is one of two:
+//! A run keeps its journal, so that it can be replayed, and so it takes memory by its steps and ends after a
+//! million. Who lets a network run for days wants neither, but the same commands should do the same in both.
+//! So the commands are done here alone, on a network that is [`Live`], which is one of two:
 //!
 //! ```text
 //!   Kept      a fabric: the steps are kept; routers settle on threads, workers look up
@@ -25,6 +25,14 @@
 //! What is tricky: with a seed both settle in the same order, so a script ends with the same lines. No clause says
 //! so, and cases test it. A job of [`Counted`] is answered as soon as it is given, and told by the next `drain`. That is lawful, because the answer
 //! of a worker may be that of any table from then on.
+//!
+//! Where there was a choice:
+//!
+//! - `settle` begins with router 0 each time, and `settle --seed N` draws anew from N, so it does the
+//!   same wherever it stands.
+//! - `save` keeps one state, the last, and `restore` leaves it saved. What was done before a `restore`
+//!   and not yet counted is counted by the next `count`, and jobs keep their numbers and their answers. A
+//!   run with a journal cannot go back (54), because a replay of its journal would end in another state.
 #![tactic(auto)]
 
 mod commands;

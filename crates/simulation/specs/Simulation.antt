@@ -20,6 +20,7 @@ pub record Simulation : Type 0 where
   pub steps : ℕ
   pub sent : Sent
 
+-- a simulation of its parts
 abbrev pub simulation_of : Network → World → List Image → ℕ → Sent → Simulation
 simulation_of network world images steps sent = record { network = network; world = world; images = images; steps = steps; sent = sent }
 

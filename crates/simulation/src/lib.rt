@@ -19,6 +19,15 @@
 //! as long as the count says, leads from the opening of the network to the world, and each image has what its
 //! router published. From that come the four parts of the headline, which `open`, `step`, `run` and `holds`
 //! hand on: `forwards`, `no_loop`, `least_cost` and `converges`.
+//!
+//! Where there was a choice:
+//!
+//! - After 2^64 - 1 steps the next is refused with `JournalFull` (19), though no journal is kept, because
+//!   no other refusal says that a count is full.
+//! - Which image is in force, and which is due, is defined in `fabric` and once more here, in the same
+//!   words. Neither stands on the other, so a library for C has no lock below it.
+//! - That routers take turns in cyclic order, or in one that the seed draws, is seen in the code. Which
+//!   of them may have something to do is a hint, and if it names none, all are asked.
 #![tactic(auto)]
 
 mod images;

@@ -48,19 +48,24 @@ prefix_of addr len = unless (prefix_fault addr len) (record { addr = addr; len =
 abbrev pub kind_of : ℕ → Result Kind CallFault
 kind_of n = if n == 0 then Ok Update else if n == 1 then Ok Query else if n == 2 then Ok Reply else Err BadKind
 
+-- a link that comes up, if its cost is one
 abbrev pub up_input : ℕ → ℕ → ℕ → Result Input CallFault
 up_input port session cost = and_then (cost_of cost) (λ c. Ok (input.Up port session c))
 
+-- another cost of a link, if it is one
 abbrev pub cost_input : ℕ → ℕ → Result Input CallFault
 cost_input port cost = and_then (cost_of cost) (λ c. Ok (input.Cost port c))
 
+-- a message, if its prefix and its kind are such
 abbrev pub frame_input : Frame → Result Input CallFault
 frame_input f = and_then (prefix_of f.addr f.len) (λ p. and_then (kind_of f.kind) (λ k.
     Ok (input.Message f.port f.session (record { kind = k; prefix = p; value = f.value }))))
 
+-- an attachment, if its prefix and its cost are such
 abbrev pub attached_input : ℕ → ℕ → ℕ → Result Input CallFault
 attached_input addr len cost = and_then (prefix_of addr len) (λ p. and_then (cost_of cost) (λ c. Ok (input.Attached p c)))
 
+-- an attachment that goes, if its prefix is one
 abbrev pub detached_input : ℕ → ℕ → Result Input CallFault
 detached_input addr len = and_then (prefix_of addr len) (λ p. Ok (input.Detached p))
 

@@ -17,6 +17,7 @@ use Rattle.single_router.specs.declared.state.State.{State}
 abbrev pub flag : Bool → ℕ
 flag b = if b then 1 else 0
 
+-- what a router has, in numbers
 abbrev pub counts_of : Router → Counts
 counts_of r = record {
   prefixes = length (r.table).control;

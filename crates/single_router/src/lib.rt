@@ -1,13 +1,13 @@
 //! One router of a network whose other routers are elsewhere: in other processes, or on other machines.
 //!
-//! The problem: a daemon has one router, and no world. Its links are connections, which begin and end by
-//! themselves, and its neighbours may be wrong or hostile. So it needs the network's router by itself, which
-//! tests whatever it is told.
+//! A daemon has one router, and no world. Its links are connections, which begin and end by themselves, and
+//! its neighbours may be wrong or hostile, so it needs the network's router by itself, which tests whatever
+//! it is told.
 //!
-//! A program hands a [`SingleRouter`] what its links bring, an [`Input`] each. That is a link that comes up
+//! A program hands a [`SingleRouter`] what its links bring, an [`Input`] each, which is a link that comes up
 //! or goes down, a cost, a message, or an attachment. It publishes when that is due, and puts the messages on
-//! their links that the router then releases. All comes and goes as numbers, as a program in C has them. Each
-//! is tested, and what is refused changes nothing.
+//! their links that the router then releases. All comes and goes as numbers, as a program in C has them, of
+//! which each is tested, and what is refused changes nothing.
 //!
 //! ```text
 //!   connection, timer ──> Input ──> tell ──> ┌────────────┐ ──> publish ──> rows ──> the program's image
@@ -26,13 +26,20 @@
 //! prefixes as it was made for.
 //!
 //! What is tricky: three kinds of message are refused though they are well formed, because no router sends
-//! them. These are a reply that is not awaited (38), a second query before the first is answered (39), and a
-//! message of another session (36).
+//! them: a reply that is not awaited (38), a second query before the first is answered (39), and a message
+//! of another session (36).
 //!
 //! What is proved of many such routers, each in a process of its own, stands above this crate, because it
 //! speaks of its definitions. `daemon_laws::no_packet_circles`: no packet meets a router twice, whatever
 //! happens. `daemon_laws::none_refused` and `daemons_come_to_rest::processes_converge` say the rest.
-//! docs/8-daemons.md has the five duties that these laws ask of a program.
+//! docs/daemons.md has the five duties that these laws ask of a program.
+//!
+//! Where there was a choice:
+//!
+//! - A prefix is forgotten at once, its row with it, and not by the next publication, because its row in
+//!   force is `Unreachable`, so no packet goes by it.
+//! - The limit of prefixes is no part of the laws. A prefix that it refuses is a message that is lost.
+//! - `release` gives also messages of sessions that have ended. Whoever puts them on links drops them there.
 #![tactic(auto)]
 
 mod frame;

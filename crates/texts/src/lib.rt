@@ -1,8 +1,8 @@
 //! Texts: the lines of a text, the words of a line, and numbers in decimal digits.
 //!
-//! The problem: a scenario, its script and a journal are texts, and other programs write and read them too.
-//! If two crates had two ideas of a word or of a number, one text would have two meanings. So all crates
-//! above read by the few rules of this one:
+//! A scenario, its script and a journal are texts, and other programs write and read them too. If two
+//! crates had two ideas of a word or of a number, one text would have two meanings. So all crates above
+//! read by the few rules of this one:
 //!
 //! - A *line* ends with a line feed, and the last one may end without it (`lines_of` in `specs/Lines.antt`).
 //! - *Words* are the parts of a line between its spaces (`words_of` in `specs/Words.antt`). So two spaces in

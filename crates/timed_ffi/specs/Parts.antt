@@ -23,6 +23,7 @@ use Rattle.timed_ffi.specs.declared.parts.EventParts.{EventParts}
 
 -- ---- openings
 
+-- the delays of a link of the numbers that C gives
 abbrev pub delays_of : DelayParts → LinkDelays
 delays_of d = record { to_a = d.to_a; to_b = d.to_b }
 

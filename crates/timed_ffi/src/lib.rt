@@ -1,9 +1,9 @@
 //! A whole network in simulated time for C programs, behind a handle.
 //!
-//! The problem: a simulator in C wants to know how long a network takes, and not only which steps it takes. So
-//! messages are on their way for a time, and routers take a time to publish (`timed_simulation`). C has no types
-//! that keep it from giving a wrong number, or from using a network that is not there. So each call tests what
-//! it is given, in a fixed order, and answers a number. C sees `include/tuhvondi_timed.h`, which has the rules
+//! A simulator in C wants to know how long a network takes, and not only which steps it takes. So messages
+//! are on their way for a time, and routers take a time to publish (`timed_simulation`). C has no types that
+//! keep it from giving a wrong number, or from using a network that is not there. So each call tests what it
+//! is given, in a fixed order, and answers a number. C sees `include/tuhvondi_timed.h`, which has the rules
 //! for callers.
 //!
 //! ```text

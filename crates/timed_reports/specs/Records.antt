@@ -121,5 +121,6 @@ moves_ways (Release i) = false
 moves_ways (Attach i p cost) = true
 moves_ways (Detach i p) = true
 
+-- the step moves no way, so whoever is cut off stays so, and nobody else becomes so
 abbrev pub MovesNoWay : Step → Watched → Type 0
 MovesNoWay s c = moves_ways s ≡ false

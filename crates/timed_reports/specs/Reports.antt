@@ -21,6 +21,7 @@ pub record Reported : Type 0 where
   pub outages : List Spell
   pub cut_off : List Watched
 
+-- a network with its record, of their parts
 abbrev pub reported_of : Timed → List Spell → List Watched → List Spell → List Watched → Reported
 reported_of timed computations computing outages cut_off = record { timed = timed; computations = computations; computing = computing; outages = outages; cut_off = cut_off }
 

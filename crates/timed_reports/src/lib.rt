@@ -1,8 +1,8 @@
 //! What goes on in simulated time while a network comes to rest.
 //!
-//! The problem: a change makes work. Machines begin computations, and some routers have no way to a prefix
-//! although links lead there. Who runs a network asks for how long. So this crate says what that means, and
-//! records it.
+//! A change makes work. Machines begin computations, and some routers have no way to a prefix although
+//! links lead there. Who runs a network asks for how long, so this crate says what that means, and records
+//! it.
 //!
 //! - A router is *cut off* from a prefix (`IsCutOff` of `reachability`) if links that are up lead to a router
 //!   which is attached to it, and the rows that routers published do not.
@@ -37,8 +37,8 @@
 //! ([`nothing_goes_on`]). So each spell ends, at the latest with the event after which the network is at rest.
 //! The lists of what ended only grow (`HasGrown`), so you read them on from where you were.
 //!
-//! What is tricky is memory: nothing may be refused after an event is done. So room is made first for all that
-//! may end with it.
+//! What is tricky is memory: nothing may be refused after an event is done, so room is made first for all
+//! that may end with it.
 #![tactic(auto)]
 
 ghost use Rattle.std.specs.Prelude.{ℕ};

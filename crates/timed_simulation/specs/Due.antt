@@ -113,6 +113,7 @@ pub record IsTimely (now : ℕ) (items : List Item) (d : Direction) : Type 0 whe
   pub rises : RisesFrom (λ a. a.moment) now d.arrivals
   pub up_to : UpTo (λ a. a.moment) (later now d.delay) d.arrivals
 
+-- both directions of a link are timely
 pub record IsTimelyLink (now : ℕ) (k : Link) (x : TimedLink) : Type 0 where
   pub to_a : IsTimely now (k.a).inbox x.to_a
   pub to_b : IsTimely now (k.b).inbox x.to_b

@@ -34,9 +34,11 @@ pub record TimedLink : Type 0 where
   pub to_a : Direction
   pub to_b : Direction
 
+-- a direction of a link, as its contract speaks of it
 abbrev pub direction_of : {A : Type 0} → Line A → Direction
 direction_of d = record { delay = d.delay; arrivals = d.arrivals.items }
 
+-- both directions of a link, likewise
 abbrev pub link_of : {A : Type 0} → LinkTimes A → TimedLink
 link_of k = record { to_a = direction_of k.to_a; to_b = direction_of k.to_b }
 
@@ -44,6 +46,7 @@ link_of k = record { to_a = direction_of k.to_a; to_b = direction_of k.to_b }
 abbrev pub opening_direction : ℕ → Direction
 opening_direction delay = record { delay = delay; arrivals = [] }
 
+-- a link on which nothing is yet, in both directions
 abbrev pub opening_link : LinkDelays → TimedLink
 opening_link d = record { to_a = opening_direction d.to_a; to_b = opening_direction d.to_b }
 

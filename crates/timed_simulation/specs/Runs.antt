@@ -18,6 +18,7 @@ use Rattle.timed_simulation.specs.Events.{next_event}
 use Rattle.timed_simulation.specs.Due.{IsDue, IsFirst, IsOnTime}
 use Rattle.timed_simulation.specs.Since.{HoldsSince}
 
+-- the steps of these events
 abbrev pub steps_of : List Event → List Step
 steps_of es = map (λ e. e.step) es
 

@@ -21,6 +21,7 @@ pub record Timed : Type 0 where
   pub routers : List RouterTime
   pub changes : List Change
 
+-- a network in simulated time of its parts
 abbrev pub timed_of : Simulation → ℕ → List TimedLink → List RouterTime → List Change → Timed
 timed_of simulation clock links routers changes = record { simulation = simulation; clock = clock; links = links; routers = routers; changes = changes }
 
@@ -28,6 +29,7 @@ timed_of simulation clock links routers changes = record { simulation = simulati
 abbrev pub world_of : Timed → World
 world_of t = (t.simulation).world
 
+-- a router that has had nothing to publish yet
 abbrev pub opening_router : ℕ → RouterTime
 opening_router delay = record { delay = delay; since = 0 }
 

@@ -1,9 +1,9 @@
 //! A network that runs in simulated time: a discrete-event simulation.
 //!
-//! The problem: how long a network takes to come to rest depends on how long messages are on their way and
-//! how long routers take to publish. A list of steps says nothing of that. So here each direction of a link
-//! has a *delay*, and so has each router. What is due first is done first, and the clock jumps from one event
-//! to the next.
+//! How long a network takes to come to rest depends on how long messages are on their way and how long
+//! routers take to publish. A list of steps says nothing of that, so here each direction of a link has a
+//! *delay*, and so has each router. What is due first is done first, and the clock jumps from one event to
+//! the next.
 //!
 //! ```text
 //!   TimedSimulation
@@ -39,6 +39,20 @@
 //!
 //! What always holds (`IsTimed` in `specs/Runs.antt`): some events, whose moments never decrease, lead by
 //! lawful steps from the opening of the network to its world. A refused call changes nothing.
+//!
+//! Where there was a choice:
+//!
+//! - A notice of a link takes the direction's delay, as a message does, so one list for each direction
+//!   keeps the order. A delay cannot change, because then a later item could arrive first.
+//! - What is due is said twice. `next_event` says which event is next, as the code looks for it, and
+//!   `IsDue` says of each event by itself that it is left to do, and when. So a `next_event` that leaves
+//!   something out, or does it late, does not pass.
+//! - A row that changes back before it is published begins its delay anew later.
+//! - Sums stop at 2^64 - 1, and an event at that moment is refused with 52 (`TimeSpent`), because a sum
+//!   that wrapped would be done first. A change for a moment that is past is refused with 51
+//!   (`PastMoment`).
+//! - The next event is looked for in all routers. A heap of events would have to take out those of
+//!   messages that a link loses.
 #![tactic(auto)]
 
 mod events;

@@ -31,6 +31,7 @@ abbrev pub natural : ℤ → Option ℕ
 natural (pos n) = Some n
 natural (negsuc n) = None
 
+-- a delay is an integer that is not negative
 abbrev pub delay_of : Data → Option ℕ
 delay_of (integer z) = natural z
 delay_of _ = None

@@ -30,6 +30,7 @@ abbrev pub done_of : List Came → List Event
 done_of [] = []
 done_of (c ∷ cs) = if_done c.refusal c.event ++ done_of cs
 
+-- the moments of these events
 abbrev pub moments_of : List Event → List ℕ
 moments_of es = map (λ e. e.moment) es
 

@@ -1,9 +1,9 @@
 //! Runs a network in simulated time, as a scenario and a document of times say, and tells what comes of each
 //! change.
 //!
-//! The problem: a scenario says what a network is, and its script in which order steps are done. Nothing there
-//! says how long a message is on its way. So whoever wants to know when the network is at rest again gives a
-//! second document, with the delays, and with the changes at their moments:
+//! A scenario says what a network is, and its script in which order steps are done. Nothing there says how
+//! long a message is on its way. So whoever wants to know when the network is at rest again gives a second
+//! document, with the delays, and with the changes at their moments:
 //!
 //! ```text
 //! links = ["a b 500 700"]          # microseconds from a to b, and from b to a

@@ -1,8 +1,8 @@
 //! Where packets go along the images in force: the way of a packet, router by router, and why it ends.
 //!
-//! The problem: each router forwards by its own image, and no image tells how a packet ends. You want to see
-//! the way as packets take it now, and not as the routing tables mean it. So [`trace`] asks the image in
-//! force at each router, and follows the row's link if that is up in the row's session.
+//! Each router forwards by its own image, and no image tells how a packet ends. You want to see the way as
+//! packets take it now, and not as the routing tables mean it. So [`trace`] asks the image in force at each
+//! router, and follows the row's link if that is up in the row's session.
 //!
 //! ```text
 //! trace(&mut fabric, alloc, 2, 0x0a010001)?            // 10.1.0.1 from router c
@@ -21,8 +21,8 @@
 //! case [`trace_through`] goes on, so it never ends there (`ended`).
 //!
 //! What always holds: the path is a way along the images in force (`in_force`). It meets no router twice
-//! (`no_loop`), and has 256 routers at most (`few`). The fabric stays as it is (`same`). The result is that
-//! of the definition (`trace` in `network_model/specs/Forwarding.antt`, `through` in
+//! (`no_loop`), and has no more routers than the network (`few`). The fabric stays as it is (`same`). The
+//! result is that of the definition (`trace` in `network_model/specs/Forwarding.antt`, `through` in
 //! `all_packets/specs/Through.antt`).
 //!
 //! What is tricky: the loop makes as many rounds as there are routers. That the packet has come to an end by
@@ -30,6 +30,9 @@
 //!
 //! A trace waits for nobody. While a router's writer is out with a ticket, its image may be ahead of the
 //! fabric: then the trace is refused with `Stale`. It is refused with `NoMemory` if its path cannot grow.
+//!
+//! A trace and a trace through are one loop (`follow`), which carries the first prefix on or drops it. It
+//! asks for memory router by router, for its path alone, so a refused one has changed nothing.
 #![tactic(auto)]
 
 mod fault;

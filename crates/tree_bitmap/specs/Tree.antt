@@ -85,6 +85,7 @@ pub record IsLaidOut (nodes : ℕ → Option Node) (results : ℕ → Option Ent
 abbrev pub with_children : Node → ℕ → ℕ → Node
 with_children a external base = record a { external = external; child_base = base }
 
+-- a node with one child more, and its children at this place
 abbrev pub with_child : Node → ℕ → ℕ → Node
 with_child a four base = with_children a (a.external + 2 ^ four) base
 
@@ -92,6 +93,7 @@ with_child a four base = with_children a (a.external + 2 ^ four) base
 abbrev pub with_results : Node → ℕ → ℕ → Node
 with_results a internal base = record a { internal = internal; result_base = base }
 
+-- a node with one result more, and its results at this place
 abbrev pub with_result : Node → ℕ → ℕ → Node
 with_result a bit base = with_results a (a.internal + 2 ^ bit) base
 

@@ -25,13 +25,21 @@
 //!   deeper, or in the same node at a higher bit.
 //! - A row is set from the root down. If a child or a result is missing, a block of one cell more takes the
 //!   place of the old block ([`node_pool`]), with what stood to its right moved up by one. The cells are
-//!   reserved before the first is written. So a refusal leaves the image as it was.
+//!   reserved before the first is written, so a refusal leaves the image as it was.
 //! - A row stays. A router publishes that a prefix has no route by a row with a null entry, so it takes no row
 //!   out of its image. (`array_bitmap` does take rows out, for programs that keep a table of their own.)
 //!
 //! What always holds of a tree: its root is in use, the children and results of every node that is in
 //! use are there, no two nodes share any, and the root is no one's child (`IsLaidOut` in
 //! `specs/Tree.antt`). Contracts see an image as its rows and its generation, and no cell.
+//!
+//! Where there was a choice:
+//!
+//! - The rows that an image stands for are those of all prefixes that have an entry (`table_rows`),
+//!   although the image keeps no such list. So contracts are equations. Which cells are in use is kept
+//!   with each cell, so soundness need not speak of reachable nodes.
+//! - Nodes with nothing in them are left by a set that is refused half way, and the next set of that row
+//!   uses them.
 #![tactic(auto)]
 
 mod image;

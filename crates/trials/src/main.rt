@@ -1,8 +1,8 @@
 //! The program of the gate: tries the program, in memory, on what its words name, and tells what it finds.
 //!
-//! The problem: examples, cases and random runs are many, and each has to be tried in several ways. A test
-//! for each would say the same again and again. So they are data, and this program tries them: `trials
-//! WORD..`. The words are
+//! Examples, cases and random runs are many, and each has to be tried in several ways. A test for each
+//! would say the same again and again, so they are data, and this program tries them: `trials WORD..`. The
+//! words are
 //!
 //! ```text
 //!   FILE.toml               an example: the scenario of that file

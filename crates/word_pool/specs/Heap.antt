@@ -1,6 +1,7 @@
 -- What the callers of a pool see: from places to the words of the block in use that begins there, or none. Other blocks are other cells of this heap: nothing about overlaps.
 use Rattle.std.specs.Prelude.{ℕ, ◌≡◌, ◌≢◌, ◌+◌, ◌%◌, ◌==◌, ◌||◌, Bool, List, [], ◌∷◌, length, take, slice_set, slice_index_or, Option, Some, None}
 
+-- from places to blocks in use
 abbrev pub Heap : Type 0
 Heap = ℕ → Option (List ℕ)
 

@@ -1,8 +1,8 @@
 //! Workers that answer jobs, each in a thread of its own.
 //!
-//! The problem: threads have to begin, be fed and end on every path, also if the tenth of them cannot be
-//! made. And who gave the jobs wants to know that each was answered once, whatever the threads did.
-//! [`WorkerPool`] does both, over the queue of `packet_queue` and the workers of `forwarder`:
+//! Threads have to begin, be fed and end on every path, also if the tenth of them cannot be made. And who
+//! gave the jobs wants to know that each was answered once, whatever the threads did. [`WorkerPool`] does
+//! both, over the queue of `packet_queue` and the workers of `forwarder`:
 //!
 //! ```text
 //! let mut pool = WorkerPool::new(rt, alloc, ports)?;    // a worker, in a thread, for each port: 0 to 16
@@ -27,13 +27,16 @@
 //!
 //! What is tricky:
 //!
-//! - A pool is not `Drop`. If you let one go without `drain` or `end`, your program does not compile. So no
+//! - A pool is not `Drop`. If you let one go without `drain` or `end`, your program does not compile, so no
 //!   thread is left for which nobody waits.
 //! - A pool without workers is a pool. It refuses each job as closed.
 //! - No clause says that threads come back, or that ports which are given back are those that the workers
 //!   had. Nor does one say that a `new` that is refused has waited for the threads that it began.
 //! - A thread that could not be made leaves its work behind, with the port inside. So `new` closes the queue and
 //!   does that work itself: it finds no job, and gives the port back.
+//!
+//! The takers of a pool are let go when their workers have ended, so nobody reckons what is left in its
+//! queue. `gather` compares the replies with the jobs, which the pool keeps.
 #![tactic(auto)]
 
 mod fault;

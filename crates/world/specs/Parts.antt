@@ -10,6 +10,7 @@ use Rattle.network_model.specs.declared.item.Notice.{Notice}
 use Rattle.network_model.specs.World.{Network, Link, Router, Attachments, World, prefixes_of}
 use Rattle.network_model.specs.Network.{degree}
 
+-- a network of its parts
 abbrev pub network_of : ℕ → List LinkSpec → List (Prefix × ℕ × ℕ) → Network
 network_of routers links attachments = record { routers = routers; links = links; attachments = attachments }
 

@@ -1,8 +1,8 @@
 //! A network of routers and links, and its atomic steps.
 //!
-//! The problem: what a network does is a mixture of what many routers do at once. To speak of all mixtures,
-//! you need steps so small that each is done whole or not at all. Then a run is a list of steps, in any
-//! order, and a law has to hold after each list.
+//! What a network does is a mixture of what many routers do at once. To speak of all mixtures, you need
+//! steps so small that each is done whole or not at all. Then a run is a list of steps, in any order, and a
+//! law has to hold after each list.
 //!
 //! A [`Network`] is what can be opened: so many routers, links with a cost from each end, and which routers
 //! are attached to which prefixes. `Network::new` refuses the first fault with its place. A [`World`] is such
@@ -36,8 +36,22 @@
 //! A [`WatchedWorld`] counts besides what is not at rest, so one comparison tells if a world has settled.
 //!
 //! If lawful steps lead to a world from the opening of a network without faults, the laws apply (`headline`
-//! of [`World::run`]). No packet circles along the published rows. In a quiet world rows lead at least cost.
-//! And a network that is left alone comes to rest there.
+//! of [`World::run`]). No packet circles along the published rows. In a quiet world rows lead at least cost,
+//! and a network that is left alone comes to rest there.
+//!
+//! Where there was a choice:
+//!
+//! - `World::port` answers `None` for a router or a port that does not exist, so no caller has to know
+//!   that it exists, and one test refuses a step there.
+//! - A link that goes down is never refused for want of memory, because nobody can put off the failure of
+//!   a line. So a link that comes up, a new cost and a message ask for room for two items: their own, and
+//!   the notice that the link went down.
+//! - To attach a router at the cost that it has puts a notice, too. To detach one is judged by the
+//!   world's record, and not by what the router has been told.
+//! - Two lines of one prefix are two attachments of it, and only the same prefix twice at one router is a
+//!   fault. Prefixes are counted once each.
+//! - Room in the generations, which are numbers of 64 bits, is asked of the caller, and `has_room_for`
+//!   tells whether it is there.
 #![tactic(auto)]
 
 mod attachment_faults;

@@ -1,4 +1,4 @@
-/* The five duties of a daemon (docs/8-daemons.md) in code: one router, whose neighbours are other processes, over TCP.
+/* The five duties of a daemon (docs/daemons.md) in code: one router, whose neighbours are other processes, over TCP.
  *
  *     cc -o daemon examples/c/daemon.c $(pkg-config --cflags --libs tuhvondi)
  *     ./daemon 1 2:1 3:9 </dev/null & ./daemon 2 1:1 3:1 </dev/null &        in one terminal
