@@ -171,7 +171,7 @@ fn is_publication_refused<'h, B: FabricName, R: Wait + Abort>(
     let Err(NoMemory) = second else {
         return was_met;
     };
-    equal(rt, writer.generation(), 1);
+    assert_eq!(rt; writer.generation(), 1);
     answers(
         rt,
         reader,
