@@ -1,11 +1,15 @@
 #include "config.h"
 
+#include "frames.h"
 #include "log.h"
 
 #include <errno.h>
 #include <string.h>
 
-enum { MOST_WORDS = 16, LINE_SIZE = 1024, MOST_COMPLAINTS = 20, NO_BOUND = 33 };
+enum { MOST_WORDS = 16, LINE_SIZE = 1024, MOST_COMPLAINTS = 20, NO_BOUND = 33, ACTIVE_DEADS = 10 };
+
+/* Who waits himself says so once a second. */
+enum { LEAST_ACTIVE_MS = 2000 };
 
 /* ---- what each keyword takes: what is wrong with its words; NULL: nothing */
 
@@ -32,6 +36,15 @@ static const char *take_control(struct config *config, size_t count, char **word
     return NULL;
 }
 
+static const char *take_state(struct config *config, size_t count, char **words)
+{
+    (void)count;
+    if (strlen(words[0]) >= sizeof config->state)
+        return "the path of a file has at most 255 bytes";
+    strcpy(config->state, words[0]);
+    return NULL;
+}
+
 static bool copy_name(const char *word, char name[NAME_SIZE])
 {
     size_t size = strlen(word);
@@ -41,11 +54,12 @@ static bool copy_name(const char *word, char name[NAME_SIZE])
     return true;
 }
 
-enum option { PASSIVE, TTL_SECURITY, MOST, SECRET, PREFIXES, LIST, NO_OPTION };
+enum option { PASSIVE, TTL_SECURITY, MOST, SECRET, SECRET_FILE, PREFIXES, WARN, LIST, NO_OPTION };
 
 static enum option option_of(const char *word)
 {
-    static const char *const NAMES[] = {"passive", "ttl-security", "most", "secret", "most-prefixes", "list"};
+    static const char *const NAMES[] = {"passive",     "ttl-security",  "most",          "secret",
+                                        "secret-file", "most-prefixes", "warn-prefixes", "list"};
     unsigned option = 0;
     while (option < NO_OPTION && strcmp(word, NAMES[option]) != 0)
         option++;
@@ -69,9 +83,15 @@ static const char *take_option(struct neighbour *to, uint32_t *most, enum option
             return "a secret has at most 80 bytes";
         strcpy(to->secret, value);
         return NULL;
+    case SECRET_FILE:
+        if (strlen(value) >= sizeof to->secret_file)
+            return "the path of a file has at most 255 bytes";
+        strcpy(to->secret_file, value);
+        return NULL;
     case PREFIXES:
-        return read_number(value, 1, MOST_PREFIXES, &to->most_prefixes) ? NULL
-                                                                        : "most-prefixes is a number from 1 to 4096";
+        return read_number(value, 1, MOST_PREFIXES, &to->most_prefixes) ? NULL : "most-prefixes is a number from 1 to 1000000";
+    case WARN:
+        return read_number(value, 1, MOST_PREFIXES, &to->warn_prefixes) ? NULL : "warn-prefixes is a number from 1 to 1000000";
     default:
         return copy_name(value, to->list) ? NULL : "the name of a list has at most 31 bytes";
     }
@@ -88,15 +108,25 @@ static const char *take_link(struct neighbour *to, uint32_t *most, size_t count,
         enum option option = option_of(words[at]);
         bool has_value = option >= MOST;
         if (option == NO_OPTION || option == (most ? PASSIVE : MOST) || (has_value && at + 1 == count))
-            return most ? "an option is most N, ttl-security, secret TEXT, most-prefixes N or list NAME"
-                        : "an option is passive, ttl-security, secret TEXT, most-prefixes N or list NAME";
+            return most ? "an option is most N, ttl-security, secret TEXT, secret-file PATH, most-prefixes N, warn-prefixes N or list NAME"
+                        : "an option is passive, ttl-security, secret TEXT, secret-file PATH, most-prefixes N, warn-prefixes N or list NAME";
         if (seen >> option & 1)
             return "an option stands twice";
         seen |= 1U << option;
         at += has_value;
         wrong = take_option(to, most, option, words[at]);
     }
-    return wrong;
+    return !wrong && to->secret[0] && to->secret_file[0] ? "a neighbour has one secret, in its line or in a file" : wrong;
+}
+
+const char *config_take_secret(struct neighbour *neighbour, const char *text)
+{
+    size_t size = strcspn(text, "\r\n");
+    if (size == 0 || size >= SECRET_SIZE || memchr(text, ' ', size) || memchr(text, '\t', size))
+        return "the first line of the file is a secret of at most 80 bytes, without spaces";
+    memcpy(neighbour->secret, text, size);
+    neighbour->secret[size] = '\0';
+    return NULL;
 }
 
 static const char *add_neighbours(struct config *config, const struct neighbour *neighbour, uint32_t count)
@@ -152,25 +182,83 @@ const char *config_attachment(size_t count, char **words, struct tuhvondi_attach
     return wrong;
 }
 
+static const char *take_connected(struct config *config, const char *interface, const char *cost)
+{
+    struct connected found = {0};
+    if (strlen(interface) >= sizeof found.interface)
+        return "the name of an interface has at most 15 bytes";
+    strcpy(found.interface, interface);
+    if (!read_number(cost, 1, 65535, &found.cost))
+        return "a cost is a number from 1 to 65535";
+    for (size_t i = 0; i < config->connected_count; i++)
+        if (strcmp(config->connected[i].interface, interface) == 0)
+            return "the interface stands twice";
+    if (config->connected_count == MOST_CONNECTED)
+        return "there are at most 64 interfaces whose subnets are attached";
+    config->connected[config->connected_count++] = found;
+    return NULL;
+}
+
+static const char *take_redistributed(struct config *config, size_t count, char **words)
+{
+    struct redistributed found = {0};
+    if (!read_number(words[0], 3, 255, &found.protocol))
+        return "a protocol is a number from 3 to 255, as `ip route' shows it";
+    if (!read_number(words[1], 1, 65535, &found.cost))
+        return "a cost is a number from 1 to 65535";
+    if (count == 4 && (strcmp(words[2], "list") != 0 || !copy_name(words[3], found.list)))
+        return "expected: list NAME, of at most 31 bytes";
+    for (size_t i = 0; i < config->redistributed_count; i++)
+        if (config->redistributed[i].protocol == found.protocol)
+            return "the protocol stands twice";
+    if (config->redistributed_count == MOST_CONNECTED)
+        return "there are at most 64 protocols whose routes are attached";
+    config->redistributed[config->redistributed_count++] = found;
+    return NULL;
+}
+
 static const char *take_attach(struct config *config, size_t count, char **words)
 {
     struct tuhvondi_attachment found;
+    if (count == 3 && strcmp(words[0], "connected") == 0)
+        return take_connected(config, words[1], words[2]);
+    if ((count == 3 || count == 5) && strcmp(words[0], "protocol") == 0)
+        return take_redistributed(config, count - 1, words + 1);
+    if (count != 2)
+        return "expected: attach PREFIX COST, attach connected INTERFACE COST, or attach protocol NUMBER COST, and list NAME";
     const char *wrong = config_attachment(count, words, &found);
     for (size_t i = 0; i < config->attachment_count && !wrong; i++)
         if (config->attachments[i].addr == found.addr && config->attachments[i].len == found.len)
             wrong = "the prefix stands twice";
-    if (!wrong && config->attachment_count == MOST_PREFIXES)
-        wrong = "there are at most 4096 prefixes";
+    if (!wrong && config->attachment_count == MOST_ATTACHMENTS)
+        wrong = "there are at most 4096 lines of attachments";
     if (!wrong)
         config->attachments[config->attachment_count++] = found;
     return wrong;
 }
 
+static const char *take_source(struct config *config, size_t count, char **words)
+{
+    (void)count;
+    return read_address(words[0], &config->source) && config->source.s_addr ? NULL : "an address is expected, as 10.0.0.1";
+}
+
+static const char *take_answer(const char *word, bool *is_yes)
+{
+    *is_yes = strcmp(word, "yes") == 0;
+    return *is_yes || strcmp(word, "no") == 0 ? NULL : "yes or no is expected";
+}
+
+static const char *take_stub(struct config *config, size_t count, char **words)
+{
+    (void)count;
+    return take_answer(words[0], &config->stub);
+}
+
 static const char *take_install(struct config *config, size_t count, char **words)
 {
     (void)count;
-    config->installs = strcmp(words[0], "yes") == 0;
-    return config->installs || strcmp(words[0], "no") == 0 ? NULL : "yes or no is expected";
+    return take_answer(words[0], &config->installs);
 }
 
 /* 255 is the table of local addresses, and 0 is none. */
@@ -204,7 +292,22 @@ static const char *take_alive(struct config *config, size_t count, char **words)
 static const char *take_dead(struct config *config, size_t count, char **words)
 {
     (void)count;
-    return read_number(words[0], 30, 600000, &config->dead_ms) ? NULL : "milliseconds are expected, 30 to 600000";
+    return read_number(words[0], LEAST_DEAD_MS, MOST_DEAD_MS, &config->dead_ms)
+               ? NULL : "milliseconds are expected, 30 to 600000";
+}
+
+static const char *take_active(struct config *config, size_t count, char **words)
+{
+    (void)count;
+    return read_number(words[0], LEAST_ACTIVE_MS, 6000000, &config->active_ms)
+               ? NULL : "milliseconds are expected, 2000 to 6000000";
+}
+
+static const char *take_prefixes(struct config *config, size_t count, char **words)
+{
+    (void)count;
+    bool fits = read_number(words[0], 1, MOST_PREFIXES, &config->prefixes);
+    return fits ? NULL : "the prefixes of all neighbours are a number from 1 to 1000000";
 }
 
 static const char *take_log(struct config *config, size_t count, char **words)
@@ -270,16 +373,21 @@ static const struct keyword {
     {"router-id", take_router_id, 1, 1, true, "router-id ADDRESS"},
     {"listen", take_listen, 1, 1, true, "listen ADDRESS"},
     {"control", take_control, 1, 1, true, "control PATH"},
+    {"state", take_state, 1, 1, true, "state PATH"},
     {"neighbour", config_neighbour, 2, MOST_WORDS - 1, false, "neighbour ADDRESS COST, and options"},
     {"neighbor", config_neighbour, 2, MOST_WORDS - 1, false, "neighbor ADDRESS COST, and options"},
     {"discover", take_discover, 2, MOST_WORDS - 1, false, "discover INTERFACE COST, and options"},
-    {"attach", take_attach, 2, 2, false, "attach PREFIX COST"},
+    {"attach", take_attach, 2, 5, false, "attach PREFIX COST, attach connected INTERFACE COST, or attach protocol NUMBER COST"},
+    {"stub", take_stub, 1, 1, true, "stub yes|no"},
     {"install", take_install, 1, 1, true, "install yes|no"},
     {"table", take_table, 1, 1, true, "table NUMBER"},
     {"metric", take_metric, 1, 1, true, "metric NUMBER"},
+    {"source", take_source, 1, 1, true, "source ADDRESS"},
     {"protocol", take_protocol, 1, 1, true, "protocol NUMBER"},
     {"alive", take_alive, 1, 1, true, "alive MILLISECONDS"},
     {"dead", take_dead, 1, 1, true, "dead MILLISECONDS"},
+    {"active", take_active, 1, 1, true, "active MILLISECONDS"},
+    {"prefixes", take_prefixes, 1, 1, true, "prefixes NUMBER"},
     {"log", take_log, 1, 2, true, "log stderr|syslog, and a level"},
     {"metrics", take_metrics, 2, 2, true, "metrics ADDRESS PORT"},
     {"accept", take_accept, 2, 6, false, "accept NAME PREFIX, and le N, ge N"},
@@ -370,6 +478,16 @@ static void check_whole(struct reading *at, const struct config *config)
         fault(at, "", "expected: a line control PATH");
     if (config->dead_ms < 2 * config->alive_ms)
         fault(at, "", "dead is to be at least twice alive, or sessions end while both ends are there");
+    if (config->attachment_count > config->prefixes + OWN_PREFIXES)
+        fault(at, "", "there are more attachments than the router may know prefixes");
+    if (config->active_ms < 2 * config->dead_ms)
+        fault(at, "", "active is to be at least twice dead, so that a silent neighbour is found silent first");
+    for (size_t i = 0; i < config->redistributed_count; i++) {
+        if (!config_has_list(config, config->redistributed[i].list))
+            fault(at, "", "a line `attach protocol' names a list of which there is no line");
+        if (config->redistributed[i].protocol == config->protocol)
+            fault(at, "", "a line `attach protocol' names the daemon's own protocol");
+    }
     for (size_t i = 0; i < config->neighbour_count; i++) {
         const struct neighbour *one = &config->neighbours[i];
         char text[NAME_SIZE + 64];
@@ -387,11 +505,15 @@ bool config_read(FILE *file, const char *name, struct config *config, complain *
     struct reading at = {.name = name, .complain = complain, .whom = whom};
     char line[LINE_SIZE];
     *config = (struct config){.log_level = LOG_INFO, .table = 254, .metric = 201, .protocol = 201,
-                              .alive_ms = 1000, .dead_ms = 3500};
+                              .alive_ms = 100, .dead_ms = 500, .prefixes = DEFAULT_PREFIXES};
     while (next_line(&at, file, line)) {
         bool marked = at.line == 1 && memcmp(line, MARK, sizeof MARK) == 0;
         obey(&at, config, line + (marked ? sizeof MARK : 0));
     }
+    if (!config->active_ms)
+        config->active_ms = ACTIVE_DEADS * config->dead_ms;
+    if (config->active_ms < LEAST_ACTIVE_MS)
+        config->active_ms = LEAST_ACTIVE_MS;
     if (ferror(file)) {
         at.line = 0;
         fault(&at, "", strerror(errno));
@@ -406,7 +528,7 @@ bool config_read(FILE *file, const char *name, struct config *config, complain *
 bool config_accepts(const struct config *config, const char *list, uint32_t addr, uint8_t len)
 {
     if (!*list)
-        return true;
+        return !is_martian(addr, len);
     for (size_t i = 0; i < config->line_count; i++) {
         const struct list_line *line = &config->lines[i];
         uint32_t mask = line->prefix.len ? UINT32_MAX << (32 - line->prefix.len) : 0;

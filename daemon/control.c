@@ -139,21 +139,30 @@ static const char *change_prefix(struct daemon *daemon, size_t count, char **wor
     return wrong ? wrong : status_text(router_detach(daemon, prefix.addr, prefix.len));
 }
 
+static const char *add_neighbour(struct daemon *daemon, struct neighbour *neighbour)
+{
+    const char *wrong = reload_read_secret(neighbour);
+    if (wrong)
+        return wrong;
+    if (peer_of(daemon, neighbour->address))
+        return "it is a neighbour already";
+    if (!config_has_list(&daemon->config, neighbour->list))
+        return "the configuration has no line of this list";
+    if (neighbour->secret[0] && !sessions_set_secret(daemon->listener, neighbour))
+        return "this kernel has no MD5 option of TCP";
+    return peer_add(daemon, neighbour);
+}
+
 /* A neighbour may be added while the daemon runs; the next reload takes it away, if the file does not name it. */
 static const char *change_neighbour(struct daemon *daemon, size_t count, char **words)
 {
     static struct config alone;
     alone.neighbour_count = 0;
     const char *wrong = config_neighbour(&alone, count - 1, words + 1);
-    if (wrong)
-        return wrong;
-    if (peer_of(daemon, alone.neighbours[0].address))
-        return "it is a neighbour already";
-    if (!config_has_list(&daemon->config, alone.neighbours[0].list))
-        return "the configuration has no line of this list";
-    if (alone.neighbours[0].secret[0] && !sessions_set_secret(daemon->listener, &alone.neighbours[0]))
-        return "this kernel has no MD5 option of TCP";
-    return peer_add(daemon, &alone.neighbours[0]);
+    if (!wrong)
+        wrong = add_neighbour(daemon, &alone.neighbours[0]);
+    explicit_bzero(&alone, sizeof alone);
+    return wrong;
 }
 
 static const char *change_peer(struct daemon *daemon, size_t count, char **words)
@@ -175,6 +184,22 @@ static const char *change_peer(struct daemon *daemon, size_t count, char **words
     return NULL;
 }
 
+static const char *unfilter(struct daemon *daemon, size_t count, char **words)
+{
+    if (count != 2)
+        return "expected: unfilter INTERFACE";
+    return peer_unfilter(daemon, words[1]) ? NULL : "no neighbour that is gone has a filter there";
+}
+
+/* Packets go round a router whose links cost most, where there is another way. */
+static const char *change_drain(struct daemon *daemon, size_t count, char **words)
+{
+    if (count != 1)
+        return "expected: drain, or undrain";
+    daemon->drains = words[0][0] == 'd';
+    return status_text(router_costs(daemon));
+}
+
 /* Makes a change: what is wrong, if anything. While published rows do not forward, the router is told nothing. */
 static const char *change(struct daemon *daemon, size_t count, char **words)
 {
@@ -182,11 +207,8 @@ static const char *change(struct daemon *daemon, size_t count, char **words)
         const char *name;
         const char *(*make)(struct daemon *daemon, size_t count, char **words);
     } CHANGES[] = {{"attach", change_prefix}, {"detach", change_prefix}, {"cost", change_peer}, {"down", change_peer},
-                   {"up", change_peer},       {"neighbour", change_neighbour}};
-    if (count == 1 && strcmp(words[0], "reload") == 0) {
-        daemon->reload = true;
-        return NULL;
-    }
+                   {"up", change_peer},       {"neighbour", change_neighbour}, {"unfilter", unfilter},
+                   {"drain", change_drain},   {"undrain", change_drain}};
     for (size_t i = 0; i < sizeof CHANGES / sizeof *CHANGES; i++)
         if (count > 0 && strcmp(words[0], CHANGES[i].name) == 0)
             return daemon->blocked ? "rows wait for the kernel: try again" : CHANGES[i].make(daemon, count, words);
@@ -201,6 +223,33 @@ static void trace_for(struct daemon *daemon, struct client *client, struct in_ad
     trace_begin(daemon, &(struct trace){.from = -1, .client = client->number}, ntohl(address.s_addr), HOPS - 1);
 }
 
+/* Each fault of the file is a line of the answer. */
+static void answer_reload(struct daemon *daemon, struct client *client)
+{
+    struct text faults = {0};
+    char *rest = NULL;
+    bool is_first = true;
+    if (!daemon->blocked && reload(daemon, &faults)) {
+        text_put(&client->out, client->json ? "{\"done\":true}\n" : "done\n");
+        text_free(&faults);
+        return;
+    }
+    if (daemon->blocked)
+        text_put(&faults, "rows wait for the kernel: try again");
+    text_put(&client->out, client->json ? "{\"error\":[" : "");
+    for (char *line = faults.bytes ? strtok_r(faults.bytes, "\n", &rest) : NULL; line; line = strtok_r(NULL, "\n", &rest)) {
+        if (client->json && !is_first)
+            text_put(&client->out, ",");
+        if (client->json)
+            text_put_string(&client->out, line);
+        else
+            text_put(&client->out, "error: %s\n", line);
+        is_first = false;
+    }
+    text_put(&client->out, client->json ? "]}\n" : "");
+    text_free(&faults);
+}
+
 static void answer(struct daemon *daemon, struct client *client)
 {
     char *words[MOST_WORDS];
@@ -213,7 +262,9 @@ static void answer(struct daemon *daemon, struct client *client)
         count--;
     }
     client->state = CLIENT_ANSWERED;
-    if (count == 2 && strcmp(at[0], "trace") == 0 && read_address(at[1], &address)) {
+    if (count == 1 && strcmp(at[0], "reload") == 0) {
+        answer_reload(daemon, client);
+    } else if (count == 2 && strcmp(at[0], "trace") == 0 && read_address(at[1], &address)) {
         trace_for(daemon, client, address);
     } else if (count == 1 && strcmp(at[0], "monitor") == 0) {
         client->state = CLIENT_FOLLOWS;

@@ -124,7 +124,7 @@ static bool announce(const struct daemon *daemon, const struct segment *segment)
 {
     struct sockaddr_in group = {.sin_family = AF_INET, .sin_port = htons(TCP_PORT), .sin_addr = {htonl(GROUP)}};
     struct ip_mreqn by = {.imr_address = segment->own, .imr_ifindex = (int)segment->index};
-    struct frame frame = {.type = FRAME_ANNOUNCEMENT, .kind = FRAME_VERSION, .number = TCP_PORT,
+    struct frame frame = {.type = FRAME_ANNOUNCEMENT, .kind = FIRST_VERSION, .number = TCP_PORT,
                           .addr = ntohl(daemon->config.router_id.s_addr), .value = ntohl(segment->own.s_addr)};
     unsigned char bytes[FRAME_SIZE];
     frame_write(&frame, bytes);
@@ -150,11 +150,11 @@ void discover_begin(struct daemon *daemon, const struct config *config)
 
 /* ---- who is found */
 
-/* Whether its place may be another's. Whoever had a session here has noticed its end by then, as of a neighbour that a
- * reload takes away. */
+/* Whether its place may be another's. Where rows of it may lead here, no time is enough: it has to say hello again, or the
+ * operator has to know better. */
 static bool is_over(const struct daemon *daemon, const struct peer *peer, int64_t now)
 {
-    return peer->state != PEER_UP && !peer->shut && !peer->leaving && !peer->stale
+    return peer->state != PEER_UP && !peer->shut && !peer->marked && !peer->leaving && !peer->stale
            && now - peer->over > 2 * (int64_t)daemon->config.dead_ms;
 }
 
@@ -162,7 +162,7 @@ static struct peer *place_on(struct daemon *daemon, const struct segment *segmen
 {
     struct peer *place = NULL;
     for (struct peer *peer = daemon->peers; peer < peers_end(daemon); peer++) {
-        if (!peer->used || peer->removed_at || strcmp(peer->config.interface, segment->interface) != 0)
+        if (!peer->used || peer->removed || strcmp(peer->config.interface, segment->interface) != 0)
             continue;
         if (!peer->config.address.s_addr)
             return peer;
@@ -177,8 +177,9 @@ static enum refusal fault_of(const struct daemon *daemon, const struct segment *
 {
     struct in_addr from = heard->from;
     struct frame frame;
+    uint32_t host = ntohl(from.s_addr & ~segment->mask.s_addr), most = ntohl(~segment->mask.s_addr);
     if (!from.s_addr || !segment->own.s_addr || ((from.s_addr ^ segment->base.s_addr) & segment->mask.s_addr)
-        || heard->ttl != OWN_TTL)
+        || heard->ttl != OWN_TTL || (most > 1 && (host == 0 || host == most)))
         return IS_ELSEWHERE;
     if (heard->size != FRAME_SIZE || frame_read(heard->bytes, &frame) || frame.type != FRAME_ANNOUNCEMENT
         || frame.number != TCP_PORT || frame.value != ntohl(from.s_addr))

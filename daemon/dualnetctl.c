@@ -5,17 +5,21 @@
 #include <stdlib.h>
 #include <string.h>
 #include <sys/socket.h>
+#include <sys/time.h>
 #include <sys/un.h>
 #include <unistd.h>
 
+enum { ANSWER_S = 5, MOST_SECONDS = 3600 };
+
 static const char USAGE[] =
-    "usage: dualnetctl [--socket PATH] [--json] COMMAND\n"
+    "usage: dualnetctl [--socket PATH] [--json] [--timeout SECONDS] COMMAND\n"
     "       dualnetctl --help | --version\n"
     "\n"
     "Sends a command to a dualnetd that runs, and prints its answer. With --json that is JSON.\n"
     "\n"
     "Commands that ask:\n"
     "  table                prints the neighbours with their sessions, and the rows in force\n"
+    "  routes               prints each row's next hop, interface, distance and age\n"
     "  state [PREFIX]       prints what the router knows of each prefix, or of one\n"
     "  neighbours           prints each neighbour's session, cost and interface\n"
     "  why PREFIX           prints why a prefix is active: whose replies it awaits\n"
@@ -33,9 +37,14 @@ static const char USAGE[] =
     "  up NEIGHBOUR         lets one begin again\n"
     "  neighbour ADDRESS COST [OPTION ..]\n"
     "                       adds a neighbour; dualnetd.conf(5) has the options\n"
-    "  reload               reads the configuration again\n"
+    "  unfilter INTERFACE   lets in what comes by it, where a neighbour that is gone may have\n"
+    "                       routes that lead here: you know that it has none\n"
+    "  drain, undrain       sets the cost of each link to 65535, so that packets go round this\n"
+    "                       router where they can, or back\n"
+    "  reload               reads the configuration again, so that it holds\n"
     "\n"
     "If you give no --socket, the socket is DUALNETD_SOCKET, or else /run/dualnetd/dualnetd.sock.\n"
+    "If the daemon says nothing for 5 seconds, or as many as --timeout says (0: any), the status is 1.\n"
     "Example: dualnetctl why 10.1.0.0/16\n";
 
 static int fail(const char *what, const char *why)
@@ -61,7 +70,15 @@ static bool join(char *line, size_t size, bool json, char **words)
     return true;
 }
 
-static int connect_to(const char *path)
+/* Limits how long each step may take; a monitor may be quiet. */
+static void limit(int fd, unsigned seconds)
+{
+    struct timeval most = {.tv_sec = seconds};
+    setsockopt(fd, SOL_SOCKET, SO_SNDTIMEO, &most, sizeof most);
+    setsockopt(fd, SOL_SOCKET, SO_RCVTIMEO, &most, sizeof most);
+}
+
+static int connect_to(const char *path, unsigned seconds)
 {
     struct sockaddr_un address = {.sun_family = AF_UNIX};
     if (strlen(path) >= sizeof address.sun_path) {
@@ -70,6 +87,7 @@ static int connect_to(const char *path)
     }
     strcpy(address.sun_path, path);
     int fd = socket(AF_UNIX, SOCK_STREAM | SOCK_CLOEXEC, 0);
+    limit(fd, seconds);
     if (fd >= 0 && connect(fd, (struct sockaddr *)&address, sizeof address) == 0)
         return fd;
     int error = errno;
@@ -104,7 +122,7 @@ static int copy_answer(int fd)
         if (got < 0 && errno == EINTR)
             continue;
         if (got < 0)
-            return fail("the daemon", strerror(errno));
+            return fail("the daemon", errno == EAGAIN ? "it says nothing" : strerror(errno));
         if (got == 0)
             break;
         if (total == 0)
@@ -123,14 +141,19 @@ static int copy_answer(int fd)
 int main(int count, char **words)
 {
     const char *path = getenv("DUALNETD_SOCKET");
-    char line[512];
+    char line[512], *end;
     bool json = false;
+    unsigned long seconds = ANSWER_S;
     int at = 1;
     for (; at < count && words[at][0] == '-'; at++) {
         if (strcmp(words[at], "--json") == 0) {
             json = true;
         } else if (strcmp(words[at], "--socket") == 0 && at + 1 < count) {
             path = words[++at];
+        } else if (strcmp(words[at], "--timeout") == 0 && at + 1 < count) {
+            seconds = strtoul(words[++at], &end, 10);
+            if (!*words[at] || *end || seconds > MOST_SECONDS)
+                return fail("--timeout", "0 to 3600 seconds are expected");
         } else if (strcmp(words[at], "--help") == 0) {
             return fputs(USAGE, stdout) < 0 || fflush(stdout);
         } else if (strcmp(words[at], "--version") == 0) {
@@ -146,7 +169,7 @@ int main(int count, char **words)
     path = path ? path : "/run/dualnetd/dualnetd.sock";
     if (!join(line, sizeof line, json, words + at))
         return fail("a command is one line of at most 500 bytes", NULL);
-    int fd = connect_to(path);
+    int fd = connect_to(path, strcmp(words[at], "monitor") == 0 ? 0 : (unsigned)seconds);
     if (fd < 0)
         return fail(path, strerror(errno));
     if (!send_all(fd, line))

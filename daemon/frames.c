@@ -4,6 +4,8 @@
 
 #include <stdbool.h>
 
+enum { VERSION_SHIFT = 24 };
+
 TUHVONDI_ASSERT((int)TRACE_DEAD_LINK > (int)TUHVONDI_NO_ROW, "the ends of a trace go on behind the kinds of rows");
 
 static uint32_t number_at(const unsigned char *bytes, size_t count)
@@ -22,6 +24,11 @@ static void put_number(unsigned char *bytes, size_t count, uint32_t number)
 
 void frame_write(const struct frame *frame, unsigned char bytes[FRAME_SIZE])
 {
+    if (frame->type == FRAME_TERMS) {
+        frame_write(&(struct frame){.type = FRAME_ROUTER, .addr = (uint32_t)frame->kind << VERSION_SHIFT | frame->value},
+                    bytes);
+        return;
+    }
     bytes[0] = frame->type;
     bytes[1] = frame->kind;
     put_number(bytes + 2, 2, frame->number);
@@ -31,13 +38,28 @@ void frame_write(const struct frame *frame, unsigned char bytes[FRAME_SIZE])
     put_number(bytes + 13, 3, 0);
 }
 
-/* A message has the faults that the library has for its fields. */
-static const char *wrong_message(const struct frame *frame)
+/* Terms have the version in the highest byte of the address, and the time below it. */
+static struct frame terms_of(const struct frame *frame)
+{
+    return (struct frame){.type = FRAME_TERMS, .kind = (uint8_t)(frame->addr >> VERSION_SHIFT),
+                          .value = frame->addr & (((uint32_t)1 << VERSION_SHIFT) - 1)};
+}
+
+static const char *wrong_prefix(const struct frame *frame)
 {
     if (frame->len > 32)
         return tuhvondi_status_text(TUHVONDI_BAD_LENGTH);
     if (frame->len < 32 && (frame->addr << frame->len) != 0)
         return tuhvondi_status_text(TUHVONDI_HOST_BITS);
+    return NULL;
+}
+
+/* A message has the faults that the library has for its fields. */
+static const char *wrong_message(const struct frame *frame)
+{
+    const char *wrong = wrong_prefix(frame);
+    if (wrong)
+        return wrong;
     return frame->kind > TUHVONDI_REPLY ? tuhvondi_status_text(TUHVONDI_BAD_KIND) : NULL;
 }
 
@@ -46,11 +68,17 @@ static bool is_well_formed(const struct frame *frame)
     bool has_prefix = frame->value != 0 || frame->len != 0;
     switch (frame->type) {
     case FRAME_HELLO:
-        return frame->kind == FRAME_VERSION && !has_prefix;
+        return frame->kind == FIRST_VERSION && !has_prefix;
+    case FRAME_TERMS:
+        return frame->kind >= FRAME_VERSION && frame->value >= LEAST_DEAD_MS && frame->value <= MOST_DEAD_MS;
     case FRAME_ALIVE:
         return frame->kind == 0 && frame->number == 0 && frame->addr == 0 && !has_prefix;
+    case FRAME_PARTING:
+        return frame->kind >= FRAME_VERSION && frame->number == 0 && frame->addr == 0 && !has_prefix;
     case FRAME_ANNOUNCEMENT:
-        return frame->kind == FRAME_VERSION && frame->number != 0 && frame->value != 0 && frame->len == 0;
+        return frame->kind == FIRST_VERSION && frame->number != 0 && frame->value != 0 && frame->len == 0;
+    case FRAME_WAIT:
+        return frame->kind == 0 && frame->value == 0 && !wrong_prefix(frame);
     case FRAME_TRACE:
         return frame->kind < HOPS && !has_prefix;
     case FRAME_ROUTER:
@@ -67,5 +95,13 @@ const char *frame_read(const unsigned char bytes[FRAME_SIZE], struct frame *fram
                             .value = number_at(bytes + 8, 4)};
     if (number_at(bytes + 13, 3) == 0 && frame->type == FRAME_MESSAGE)
         return wrong_message(frame);
-    return number_at(bytes + 13, 3) == 0 && is_well_formed(frame) ? NULL : "a frame is malformed";
+    if (frame->type == FRAME_HELLO && frame->kind != FIRST_VERSION)
+        return "it speaks another version of the protocol";
+    bool formed = number_at(bytes + 13, 3) == 0 && frame->type != FRAME_TERMS && is_well_formed(frame);
+    if (formed && frame->type == FRAME_ROUTER && frame->number == 0) {
+        formed = frame->kind == 0;
+        *frame = terms_of(frame);
+        formed = formed && is_well_formed(frame);
+    }
+    return formed ? NULL : "a frame is malformed";
 }

@@ -7,8 +7,11 @@
 
 enum {
     FRAME_SIZE = 16,
-    FRAME_VERSION = 1, /* of the protocol, which a hello tells */
+    FIRST_VERSION = 1, /* of the protocol, with which every hello and every announcement begins */
+    FRAME_VERSION = 2, /* which the terms behind a hello tell */
     HOPS = 64,         /* routers that a trace passes at most */
+    LEAST_DEAD_MS = 30,
+    MOST_DEAD_MS = 600000,
 };
 
 /* Each frame takes 16 bytes, and numbers have their high byte first:
@@ -18,8 +21,11 @@ enum {
  *
  * A field that a type does not have is zero. */
 enum frame_type {
-    /* Kind: the version. Number: the session that the link had last. Address: the sender's router id. */
+    /* Kind: the first version. Number: the session that the link had last. Address: the sender's router id. */
     FRAME_HELLO = 'H',
+    /* Behind a hello. Kind: the sender's version. Value: how long the receiver may be silent, in milliseconds. It goes as
+     * a router of trace 0, of which there is none: a daemon of the first version leaves it, and takes the hello. */
+    FRAME_TERMS = 'V',
     /* A sign of life: all else is zero. */
     FRAME_ALIVE = 'A',
     /* To a whole segment, as a datagram. Kind: the version. Number: the port of TCP. Address: the sender's router id.
@@ -27,6 +33,11 @@ enum frame_type {
     FRAME_ANNOUNCEMENT = 'N',
     /* A message of the router: its kind, session (number), prefix (address, length) and value. */
     FRAME_MESSAGE = 'M',
+    /* Instead of a hello, or in a session: no row of the sender leads to the receiver, and it is to have none, as no
+     * neighbour, or as one that is shut. Kind: the version. */
+    FRAME_PARTING = 'P',
+    /* A reply is late, because the sender waits for others itself: of a prefix (address, length), in a session (number). */
+    FRAME_WAIT = 'W',
     /* A trace goes on. Kind: how many hops more. Number: the trace at the sender. Address: the packet's. */
     FRAME_TRACE = 'T',
     /* A router of a trace. Kind: how the trace ends there. Number: the trace at the receiver. Address: its id. */

@@ -4,19 +4,27 @@
 
 #include <arpa/inet.h>
 #include <errno.h>
+#include <fcntl.h>
 #include <ifaddrs.h>
+#include <linux/ethtool.h>
 #include <linux/fib_rules.h>
 #include <linux/filter.h>
 #include <linux/rtnetlink.h>
+#include <linux/sockios.h>
 #include <net/if_arp.h>
 #include <stdio.h>
+#include <stdlib.h>
 #include <string.h>
 #include <sys/ioctl.h>
 #include <sys/socket.h>
 #include <sys/un.h>
 #include <unistd.h>
 
-enum { ROUNDS = 10, COMPLAIN_MS = 1000 };
+enum {
+    ROUNDS = 10,
+    COMPLAIN_MS = 1000,
+    KEEP_ALIVE = 4096, /* routes that are read between signs of life: there may be very many */
+};
 
 static void ask(struct daemon *daemon, struct batch *batch)
 {
@@ -39,27 +47,119 @@ static void complain_of(struct daemon *daemon, const char *what, int error)
         say(LOG_ERR, "%s: %s", what, strerror(error));
 }
 
-/* ---- filters */
+/* ---- filters and marks */
+
+static struct kernel_rule filter_of(const struct daemon *daemon, const struct peer *peer)
+{
+    struct kernel_rule rule = {.preference = RULE_PREFERENCE, .protocol = (uint8_t)daemon->config.protocol,
+                               .action = FR_ACT_BLACKHOLE};
+    memcpy(rule.interface, peer->interface, sizeof rule.interface);
+    return rule;
+}
+
+/* It also tells the next process which end connects. */
+static struct kernel_rule mark_of(const struct daemon *daemon, const struct peer *peer)
+{
+    struct kernel_rule rule = filter_of(daemon, peer);
+    rule.preference = MARK_PREFERENCE + peer->config.passive;
+    rule.action = FR_ACT_NOP;
+    rule.from = peer->config.address;
+    return rule;
+}
+
+static bool is_same_rule(const struct kernel_rule *one, const struct kernel_rule *other)
+{
+    return one->preference == other->preference && one->action == other->action
+           && one->from.s_addr == other->from.s_addr && strcmp(one->interface, other->interface) == 0;
+}
+
+/* Whether a rule of ours is to stand, for another neighbour than this. Where several are told apart, the filter of the whole
+ * interface stands while none of them is let in. */
+static bool is_needed(struct daemon *daemon, const struct peer *but, const struct kernel_rule *rule)
+{
+    if (rule->action == FR_ACT_BLACKHOLE && !daemon->kernel.tables_due && sharing_is_shared(daemon, rule->interface)
+        && sharing_has_one(daemon, rule->interface))
+        return false;
+    for (struct peer *peer = daemon->peers; peer < peers_end(daemon); peer++) {
+        struct kernel_rule filter = filter_of(daemon, peer), mark = mark_of(daemon, peer);
+        if (peer != but && peer->used
+            && ((peer->filtered && is_same_rule(rule, &filter)) || (peer->marked && is_same_rule(rule, &mark))))
+            return true;
+    }
+    return false;
+}
+
+static bool set_rule(struct daemon *daemon, const struct peer *peer, const struct kernel_rule *rule, bool stands)
+{
+    struct batch batch = {0};
+    if (!stands && is_needed(daemon, peer, rule))
+        return true;
+    batch_add(&batch, netlink_rule(batch_room(&batch), rule, stands, stands ? NLM_F_CREATE | NLM_F_EXCL : 0), NULL);
+    ask(daemon, &batch);
+    int error = batch.errors[0];
+    if (error == 0 || error == (stands ? EEXIST : ENOENT))
+        return true;
+    complain_of(daemon, stands ? "a rule is not set" : "a rule is not taken away", error);
+    return false;
+}
+
+/* The same for one of several at an interface. The table of those who are let in changes first where somebody is. If it cannot
+ * be written, all of the interface is dropped. */
+static bool filter_one(struct daemon *daemon, struct peer *peer, bool drops)
+{
+    struct kernel_rule rule = filter_of(daemon, peer);
+    bool before = peer->filtered;
+    if (!drops && !peer->removed && !sharing_find_link_address(daemon, peer, peer->link_address))
+        return false;
+    if (!drops && !peer->removed && !sharing_is_alone(daemon, peer)) {
+        say(LOG_WARNING, "%s: another neighbour at %s has its link address", peer->name, peer->interface);
+        return false;
+    }
+    peer->filtered = drops;
+    if (!sharing_has_one(daemon, peer->interface))
+        return set_rule(daemon, peer, &rule, true) && sharing_write(daemon);
+    if (sharing_write(daemon))
+        return drops || set_rule(daemon, peer, &rule, false);
+    if (!drops)
+        peer->filtered = before;
+    return drops && set_rule(daemon, peer, &rule, true);
+}
 
 /* Has the kernel drop what comes in by the neighbour's interface, or let it through again: whether it does. */
 bool kernel_filter(struct daemon *daemon, struct peer *peer, bool drops)
 {
-    struct batch batch = {0};
-    struct kernel_rule rule = {.preference = RULE_PREFERENCE, .protocol = (uint8_t)daemon->config.protocol};
+    struct kernel_rule rule = filter_of(daemon, peer);
     if (!daemon->kernel.installs)
         return true;
     if (!peer->interface[0])
         return !drops;
-    memcpy(rule.interface, peer->interface, sizeof rule.interface);
-    batch_add(&batch, netlink_rule(batch_room(&batch), &rule, drops, drops ? NLM_F_CREATE | NLM_F_EXCL : 0), NULL);
-    ask(daemon, &batch);
-    int error = batch.errors[0];
-    if (error == 0 || (drops && error == EEXIST) || (!drops && error == ENOENT)) {
+    if (sharing_is_shared(daemon, peer->interface))
+        return filter_one(daemon, peer, drops);
+    bool done = set_rule(daemon, peer, &rule, drops);
+    if (done)
         peer->filtered = drops;
+    return done;
+}
+
+/* The mark is a rule that does nothing, so it stands as long as routes of old may. Beside it stands a line in the file of
+ * `state`, which comes first, and goes last. */
+bool kernel_mark(struct daemon *daemon, struct peer *peer, bool stands)
+{
+    struct kernel_rule rule = mark_of(daemon, peer);
+    if (!daemon->kernel.installs || !peer->interface[0])
         return true;
+    if (stands && !peer->marked) {
+        peer->marked = daemon->marks.due = true;
+        marks_save(daemon);
     }
-    complain_of(daemon, drops ? "a filter is not set" : "a filter is not taken away", error);
-    return false;
+    if (!set_rule(daemon, peer, &rule, stands))
+        return false;
+    if (!stands) {
+        peer->marked = false;
+        daemon->marks.due = true;
+        marks_save(daemon);
+    }
+    return true;
 }
 
 /* ---- interfaces */
@@ -89,6 +189,24 @@ static unsigned find_interface(struct in_addr neighbour, char name[IF_NAMESIZE])
     return index && if_indextoname(index, name) ? index : 0;
 }
 
+bool kernel_has_moved(const struct daemon *daemon, const struct peer *peer)
+{
+    struct ifaddrs *list;
+    bool is_here = false, is_there = false;
+    if (!daemon->kernel.installs || !peer->index || peer->removed || peer->config.interface[0] || getifaddrs(&list))
+        return false;
+    for (const struct ifaddrs *at = list; at; at = at->ifa_next) {
+        if (!is_beside(at, peer->config.address))
+            continue;
+        if (if_nametoindex(at->ifa_name) == peer->index)
+            is_here = true;
+        else
+            is_there = true;
+    }
+    freeifaddrs(list);
+    return is_there && !is_here;
+}
+
 /* The interface of this name, where neighbours are sought. What the host sends itself comes in by the loopback, which no
  * rule may drop. */
 static unsigned named_interface(const struct daemon *daemon, const char *given, char name[IF_NAMESIZE])
@@ -104,38 +222,59 @@ static unsigned named_interface(const struct daemon *daemon, const char *given, 
 
 const char *const kernel_no_interface = "no interface leads to it";
 
-/* The interface was that of a neighbour which is none any more, and whose link is down for the router. Its filter is now
- * the new one's, and no session begins before the old one must have noticed. */
-static void succeed(struct peer *peer, struct peer *old)
+/* One that is none any more is at the interface that its mark names. While no daemon ran, that may have got another name: then
+ * the neighbour's subnet tells which one, unless another port of it is there already. */
+static unsigned former_interface(struct daemon *daemon, const struct peer *peer, char name[IF_NAMESIZE])
 {
-    peer->waits_until = old->removed_at;
-    old->index = 0;
-    old->interface[0] = '\0';
-    old->filtered = false;
+    unsigned index = named_interface(daemon, peer->interface, name);
+    if (index)
+        return index;
+    index = find_interface(peer->config.address, name);
+    for (const struct peer *other = daemon->peers; index && other < peers_end(daemon); other++)
+        if (other->used && other->config.address.s_addr == peer->config.address.s_addr
+            && strcmp(other->interface, name) == 0)
+            return 0;
+    return index;
+}
+
+/* Somebody else comes to an interface. Whoever is let in there is to be known by his link address from now on: NULL; else what
+ * is wrong. */
+static const char *share(struct daemon *daemon, const struct peer *peer, const char *name)
+{
+    for (struct peer *other = daemon->peers; other < peers_end(daemon); other++) {
+        if (other == peer || !other->used || strcmp(other->interface, name) != 0 || other->cleared)
+            continue;
+        if (!other->removed && !peer->removed && other->index && !sharing_is_possible(daemon, name))
+            return "another neighbour is on its interface, and they cannot be told apart there";
+        if (other->state == PEER_UP && sharing_is_possible(daemon, name)
+            && !sharing_find_link_address(daemon, other, other->link_address))
+            peer_hang_up(daemon, other, BY_LINK, "another is on its interface now");
+    }
+    return NULL;
 }
 
 /* Finds the neighbour's interface, which may be down, and has what comes in by it dropped: what is wrong, if anything.
- * A filter knows packets by their interface, so no two neighbours are at one. Where one is sought, another may have rows
- * by the process before this one, until it must have noticed its end. */
+ * A filter knows packets by their interface, and several neighbours are told apart by link addresses.
+ * Where one is sought, and it is not known who had a session before the host began, there may have been one. */
 const char *kernel_find_interface(struct daemon *daemon, struct peer *peer)
 {
     char name[IF_NAMESIZE] = "";
     if (!daemon->kernel.installs || peer->index)
         return NULL;
     const char *given = peer->config.interface;
-    unsigned index = *given ? named_interface(daemon, given, name) : find_interface(peer->config.address, name);
+    unsigned index = peer->removed ? former_interface(daemon, peer, name)
+                     : *given      ? named_interface(daemon, given, name)
+                                   : find_interface(peer->config.address, name);
     if (!index)
         return kernel_no_interface;
-    for (struct peer *other = daemon->peers; other < peers_end(daemon); other++) {
-        if (other == peer || !other->used || !other->index || strcmp(other->interface, name) != 0)
-            continue;
-        if (!other->removed_at || other->leaving)
-            return "another neighbour is on its interface";
-        succeed(peer, other);
-    }
+    const char *wrong = share(daemon, peer, name);
+    if (wrong)
+        return wrong;
+    if (peer->marked && strcmp(peer->interface, name) != 0 && !peer_leave_behind(daemon, peer))
+        return "there is no port for the neighbour that it was at another interface";
     memcpy(peer->interface, name, sizeof name);
     peer->index = index;
-    if (*given)
+    if (*given && !peer->removed && !peer->marked && !daemon->marks.known)
         peer->waits_until = now_ms() + 2 * (int64_t)daemon->config.dead_ms;
     if (!kernel_filter(daemon, peer, true)) {
         peer->index = 0;
@@ -143,6 +282,20 @@ const char *kernel_find_interface(struct daemon *daemon, struct peer *peer)
     }
     peer->stale = true;
     return NULL;
+}
+
+/* Whether no row leads by the interface at which this address is. It may be another address of a neighbour there. */
+bool kernel_is_free(struct daemon *daemon, struct in_addr address)
+{
+    char name[IF_NAMESIZE] = "";
+    if (!daemon->kernel.installs)
+        return true;
+    if (!find_interface(address, name))
+        return false;
+    for (struct peer *peer = daemon->peers; peer < peers_end(daemon); peer++)
+        if (peer->used && strcmp(peer->interface, name) == 0)
+            return false;
+    return true;
 }
 
 /* Has the connection go by the neighbour's interface alone, and by no router: whether it does. If it went another way,
@@ -170,12 +323,67 @@ void kernel_drop_waiting(const struct daemon *daemon, const struct peer *peer)
     }
 }
 
-bool kernel_interface_works(const struct daemon *daemon, const struct peer *peer)
+/* A number that the kernel tells of the interface; -1: it tells none. */
+static int64_t number_of(const struct peer *peer, const char *what)
 {
-    struct ifreq request = {0};
+    char path[64 + IF_NAMESIZE], text[24];
+    snprintf(path, sizeof path, "/sys/class/net/%s/%s", peer->interface, what);
+    int fd = open(path, O_RDONLY | O_CLOEXEC);
+    ssize_t got = fd >= 0 ? read(fd, text, sizeof text - 1) : -1;
+    if (fd >= 0)
+        close(fd);
+    if (got <= 0)
+        return -1;
+    text[got] = '\0';
+    return strtoll(text, NULL, 10);
+}
+
+static int64_t carrier_losses(const struct peer *peer)
+{
+    return number_of(peer, "carrier_down_count");
+}
+
+/* A driver that cannot be asked counts as one with carrier. */
+static bool is_carrier_there(const struct daemon *daemon, const struct peer *peer)
+{
+    struct ethtool_value value = {.cmd = ETHTOOL_GLINK};
+    struct ifreq request = {.ifr_data = (void *)&value};
     memcpy(request.ifr_name, peer->interface, sizeof peer->interface);
-    bool known = ioctl(daemon->kernel.device, SIOCGIFFLAGS, &request) == 0;
-    return known && (request.ifr_flags & IFF_UP) && (request.ifr_flags & IFF_RUNNING);
+    return ioctl(daemon->kernel.device, SIOCETHTOOL, &request) != 0 || value.data;
+}
+
+/* The kernel holds notices of carrier back for up to a second after another one, but counts losses at once. Whoever asks
+ * whether carrier is there waits for each change of any interface; so that is asked only where losses are not counted:
+ * before Linux 4.16, or where /sys is that of another network namespace. */
+static bool has_carrier(const struct daemon *daemon, const struct peer *peer)
+{
+    int64_t losses = peer->carrier_losses < 0 ? -1 : carrier_losses(peer);
+    return losses < 0 ? is_carrier_there(daemon, peer) : losses == peer->carrier_losses;
+}
+
+bool kernel_note_carrier(const struct daemon *daemon, struct peer *peer)
+{
+    if (!daemon->kernel.installs)
+        return true;
+    peer->carrier_losses = number_of(peer, "ifindex") == (int64_t)peer->index ? carrier_losses(peer) : -1;
+    return is_carrier_there(daemon, peer);
+}
+
+void kernel_ask_for_carrier(struct daemon *daemon, int64_t now)
+{
+    if (!daemon->kernel.installs || now < daemon->kernel.next_carrier)
+        return;
+    daemon->kernel.next_carrier = now + CARRIER_MS;
+    for (struct peer *peer = daemon->peers; peer < peers_end(daemon); peer++) {
+        unsigned char found[LINK_ADDRESS];
+        if (!peer->used || peer->state != PEER_UP)
+            continue;
+        if (!has_carrier(daemon, peer))
+            peer_hang_up(daemon, peer, BY_LINK, "its interface has no carrier");
+        else if (sharing_is_shared(daemon, peer->interface) && sharing_find_link_address(daemon, peer, found)
+                 && memcmp(found, peer->link_address, LINK_ADDRESS) != 0)
+            peer_hang_up(daemon, peer, BY_LINK, "its link address is another now");
+    }
 }
 
 /* ---- routes of rows */
@@ -191,6 +399,25 @@ static struct kernel_route route_via(const struct daemon *daemon, uint32_t addr,
     return (struct kernel_route){.addr = addr, .len = len, .table = daemon->config.table,
                                  .metric = daemon->config.metric, .type = RTN_UNICAST,
                                  .protocol = (uint8_t)daemon->config.protocol};
+}
+
+/* The kernel takes only an address of this host as the source, so a route names it while it is one. */
+static struct in_addr source_of(const struct daemon *daemon)
+{
+    return daemon->kernel.has_source ? daemon->config.source : (struct in_addr){0};
+}
+
+void kernel_find_source(struct daemon *daemon)
+{
+    struct ifaddrs *list;
+    bool found = false;
+    if (!daemon->config.source.s_addr || getifaddrs(&list))
+        return;
+    for (const struct ifaddrs *at = list; at && !found; at = at->ifa_next)
+        found = at->ifa_addr && at->ifa_addr->sa_family == AF_INET
+                && ((struct sockaddr_in *)at->ifa_addr)->sin_addr.s_addr == daemon->config.source.s_addr;
+    freeifaddrs(list);
+    daemon->kernel.has_source = found;
 }
 
 static struct noted *noted_of(struct daemon *daemon, const struct tuhvondi_row *row)
@@ -244,12 +471,14 @@ static void request_via(struct daemon *daemon, struct batch *batch, const struct
     uint16_t flags = NLM_F_CREATE | (noted->via ? NLM_F_REPLACE : NLM_F_EXCL);
     if (!peer && !noted->via)
         return;
-    if (peer && noted->via && noted->by.s_addr == peer->config.address.s_addr && noted->index == peer->index)
+    if (peer && noted->via && noted->by.s_addr == peer->config.address.s_addr && noted->index == peer->index
+        && noted->source.s_addr == source_of(daemon).s_addr)
         return;
     noted->asked = peer ? row->port : NOT_ASKED;
     if (peer) {
         route.by = peer->config.address;
         route.index = peer->index;
+        route.source = source_of(daemon);
     }
     batch_add(batch, netlink_route(batch_room(batch), &route, peer != NULL, peer ? flags : 0), row);
 }
@@ -291,6 +520,7 @@ static bool note_via(struct daemon *daemon, const struct tuhvondi_row *row, int 
         return note_refusal(daemon, noted, peer, error);
     noted->via = true;
     noted->by = peer->config.address;
+    noted->source = source_of(daemon);
     noted->index = peer->index;
     daemon->kernel.set++;
     return true;
@@ -359,6 +589,7 @@ struct left_over {
     struct batch batch;
     bool all;
     size_t found;
+    unsigned seen;
 };
 
 static void remove_left_over(struct left_over *left, size_t size)
@@ -383,9 +614,11 @@ static bool is_noted(struct daemon *daemon, const struct kernel_route *route)
     }
     if (route->type != RTN_UNICAST || route->metric != daemon->config.metric || noted->found_via)
         return false;
-    noted->differs |= !noted->via || route->by.s_addr != noted->by.s_addr || route->index != noted->index;
+    noted->differs |= !noted->via || route->by.s_addr != noted->by.s_addr || route->index != noted->index
+                      || route->source.s_addr != source_of(daemon).s_addr;
     noted->via = noted->found_via = true;
     noted->by = route->by;
+    noted->source = route->source;
     noted->index = route->index;
     return true;
 }
@@ -393,7 +626,7 @@ static bool is_noted(struct daemon *daemon, const struct kernel_route *route)
 /* Each look begins with nothing found. */
 static void find_none(struct daemon *daemon)
 {
-    for (size_t i = 0; i < PREFIX_SLOTS; i++) {
+    for (size_t i = 0; i < daemon->prefixes.size; i++) {
         struct noted *noted = &daemon->prefixes.slots[i];
         noted->found_behind = noted->found_via = false;
     }
@@ -403,6 +636,8 @@ static void take_route(void *to, const struct nlmsghdr *message)
 {
     struct left_over *left = to;
     struct kernel_route route;
+    if (++left->seen % KEEP_ALIVE == 0)
+        sessions_keep_alive(left->daemon);
     if (!netlink_read_route(message, &route) || route.protocol != left->daemon->config.protocol)
         return;
     if (!left->all && is_noted(left->daemon, &route))
@@ -414,16 +649,16 @@ static void take_rule(void *to, const struct nlmsghdr *message)
 {
     struct left_over *left = to;
     struct kernel_rule rule;
-    if (!netlink_read_rule(message, &rule) || rule.protocol != left->daemon->config.protocol
-        || rule.action != FR_ACT_BLACKHOLE)
+    if (!netlink_read_rule(message, &rule) || rule.protocol != left->daemon->config.protocol)
         return;
-    for (struct peer *peer = left->daemon->peers; !left->all && peer < peers_end(left->daemon); peer++)
-        if (peer->used && peer->filtered && strcmp(peer->interface, rule.interface) == 0)
-            return;
+    bool is_mark = rule.action == FR_ACT_NOP;
+    if ((!is_mark && rule.action != FR_ACT_BLACKHOLE) || (left->all ? is_mark : is_needed(left->daemon, NULL, &rule)))
+        return;
     remove_left_over(left, netlink_rule(batch_room(&left->batch), &rule, false, 0));
 }
 
-/* Takes away what is ours and should not stand, in all tables where `all`: whether nothing of it stands. A dump may
+/* Takes away what is ours and should not stand, in all tables where `all`: whether nothing of it stands. Marks then stay for
+ * the next process. A dump may
  * miss what changes meanwhile, so it is repeated until it finds nothing. */
 static bool sweep(struct daemon *daemon, bool routes, bool all)
 {
@@ -487,12 +722,71 @@ static void leave_out_own(int notices, uint32_t port)
     setsockopt(notices, SOL_SOCKET, SO_ATTACH_FILTER, &program, sizeof program);
 }
 
+struct taking {
+    struct daemon *daemon;
+    uint8_t protocol;
+    void *to;
+    void (*take)(void *to, const struct kernel_route *route);
+    unsigned count;
+};
+
+static void take_of_protocol(void *to, const struct nlmsghdr *message)
+{
+    struct taking *taking = to;
+    struct kernel_route route;
+    if (++taking->count % KEEP_ALIVE == 0)
+        sessions_keep_alive(taking->daemon);
+    if (netlink_read_route(message, &route) && route.protocol == taking->protocol
+        && route.table == taking->daemon->config.table)
+        taking->take(taking->to, &route);
+}
+
+bool kernel_each_route(struct daemon *daemon, uint8_t protocol, void *to, void take(void *to, const struct kernel_route *route))
+{
+    _Alignas(struct nlmsghdr) unsigned char request[REQUEST_SIZE];
+    struct taking taking = {daemon, protocol, to, take, 0};
+    size_t size = netlink_dump_routes(request, daemon->config.table, protocol);
+    return requests_dump(daemon->kernel.dumps, &daemon->kernel.number, request, size, &taking, take_of_protocol);
+}
+
+static void take_mark(void *to, const struct nlmsghdr *message)
+{
+    struct left_over *left = to;
+    struct kernel_rule rule;
+    if (!netlink_read_rule(message, &rule) || rule.protocol != left->daemon->config.protocol
+        || rule.action != FR_ACT_NOP || !rule.from.s_addr || !rule.interface[0])
+        return;
+    struct neighbour neighbour = {.address = rule.from, .cost = 1, .passive = rule.preference != MARK_PREFERENCE};
+    if (peer_inherit(left->daemon, &neighbour, rule.interface, NULL))
+        return;
+    char text[INET_ADDRSTRLEN];
+    say(LOG_ERR, "%s: there is no port for this former neighbour at %s; if no route of it leads here: ip rule del iif %s "
+        "from %s preference %u", address_text(rule.from, text), rule.interface, rule.interface, text,
+        (unsigned)rule.preference);
+    left->found++;
+}
+
+/* Finds whom processes before had sessions with: whether all of them are known, and have a port. */
+static bool inherit(struct daemon *daemon)
+{
+    static struct left_over left;
+    _Alignas(struct nlmsghdr) unsigned char request[REQUEST_SIZE];
+    for (int round = 0; round < ROUNDS; round++) {
+        left = (struct left_over){.daemon = daemon};
+        size_t size = netlink_dump_rules(request);
+        if (requests_dump(daemon->kernel.dumps, &daemon->kernel.number, request, size, &left, take_mark))
+            return left.found == 0;
+    }
+    return false;
+}
+
 /* Filters each neighbour's interface, also after one that cannot be. A neighbour whose interface is not there yet waits
  * for it. */
 static bool filter_all(struct daemon *daemon)
 {
     bool done = true;
     for (struct peer *peer = daemon->peers; peer < peers_end(daemon); peer++) {
+        done &= !peer->marked || kernel_filter(daemon, peer, true);
         const char *wrong = kernel_find_interface(daemon, peer);
         if (!wrong)
             continue;
@@ -508,7 +802,7 @@ static bool may_change(struct daemon *daemon)
 {
     struct batch batch = {0};
     struct kernel_rule none = {.preference = RULE_PREFERENCE, .protocol = (uint8_t)daemon->config.protocol,
-                               .interface = "/"};
+                               .action = FR_ACT_BLACKHOLE, .interface = "/"};
     batch_add(&batch, netlink_rule(batch_room(&batch), &none, false, 0), NULL);
     ask(daemon, &batch);
     if (batch.errors[0] == EPERM)
@@ -548,15 +842,24 @@ bool kernel_open(struct daemon *daemon)
     if (!may_change(daemon))
         return false;
     kernel->installs = true;
+    sharing_open(daemon);
+    kernel_find_source(daemon);
     warn_of_forwarding();
+    if (!inherit(daemon) || !marks_open(daemon)) {
+        say(LOG_ERR, "install: neighbours of the process before are not known, or there is no port for them");
+        kernel->installs = false;
+        return false;
+    }
     bool filtered = filter_all(daemon), swept = sweep(daemon, true, true);
-    if (filtered && swept && sweep(daemon, false, false))
+    if (filtered && swept && sweep(daemon, false, false) && sharing_write(daemon))
         return true;
     if (filtered)
         say(LOG_ERR, "install: routes or rules of protocol %u cannot be taken away", (unsigned)daemon->config.protocol);
     /* Filters go only behind the routes of old: while such a route stands, what comes in is to be dropped. */
-    if (swept)
+    if (swept) {
         sweep(daemon, false, true);
+        sharing_write(daemon);
+    }
     kernel->installs = false;
     return false;
 }
@@ -604,7 +907,7 @@ bool kernel_close(struct daemon *daemon)
             close(peer->fd);
         peer->fd = -1;
     }
-    bool gone = sweep(daemon, true, true) && sweep(daemon, false, true);
+    bool gone = sweep(daemon, true, true) && sweep(daemon, false, true) && sharing_write(daemon);
     if (!gone)
         say(LOG_ERR, "routes or rules of protocol %u are left in the kernel", (unsigned)daemon->config.protocol);
     close(daemon->kernel.requests);
@@ -613,6 +916,7 @@ bool kernel_close(struct daemon *daemon)
     close(daemon->kernel.routes);
     close(daemon->kernel.device);
     close(daemon->kernel.lock);
+    sharing_close(daemon);
     daemon->kernel.installs = false;
     return gone;
 }
@@ -655,7 +959,7 @@ static bool put_all_right(struct daemon *daemon)
 {
     bool done = true;
     unsigned differed = 0;
-    for (size_t i = 0; i < PREFIX_SLOTS;) {
+    for (size_t i = 0; i < daemon->prefixes.size;) {
         struct noted *noted = &daemon->prefixes.slots[i];
         uint32_t addr = noted->addr;
         uint8_t len = noted->len;
@@ -676,6 +980,11 @@ bool kernel_check(struct daemon *daemon)
     struct kernel *kernel = &daemon->kernel;
     if (!kernel->installs)
         return true;
+    if (daemon->kernel.tables_due && !sharing_write(daemon))
+        return false;
+    for (struct peer *peer = daemon->peers; peer < peers_end(daemon); peer++)
+        if (peer->used && peer->marked && !kernel_mark(daemon, peer, true))
+            return false;
     if (!sweep(daemon, true, false) || !sweep(daemon, false, false)) {
         if (may_complain(daemon))
             say(LOG_ERR, "routes or rules of protocol %u cannot be read, or not be taken away",
@@ -683,9 +992,11 @@ bool kernel_check(struct daemon *daemon)
         return false;
     }
     bool done = put_all_right(daemon);
-    for (struct peer *peer = daemon->peers; peer < peers_end(daemon); peer++)
-        if (peer->used && peer->filtered && peer->index)
-            done &= kernel_filter(daemon, peer, true);
+    for (struct peer *peer = daemon->peers; peer < peers_end(daemon); peer++) {
+        struct kernel_rule rule = filter_of(daemon, peer);
+        if (peer->used && peer->filtered && (peer->index || peer->marked) && is_needed(daemon, NULL, &rule))
+            done = set_rule(daemon, peer, &rule, true) && done;
+    }
     kernel->check_due = !done;
     kernel->next_check = now_ms() + CHECK_MS;
     return done;

@@ -9,7 +9,10 @@
 #include <sys/select.h>
 #include <unistd.h>
 
-enum { BLOCKED_MS = 50, MOST_POLLS = 5 + TUHVONDI_PORTS * (2 + CANDIDATES) + CLIENTS };
+/* Of which there is one, or none. */
+enum single { LINKS, ROUTES, TABLES, MARKS, CONTROL, METRICS, LISTENER, SINGLES };
+
+enum { BLOCKED_MS = 50, MOST_POLLS = SINGLES + TUHVONDI_PORTS * (2 + CANDIDATES) + CLIENTS };
 
 static volatile sig_atomic_t stopping, reloading;
 
@@ -20,7 +23,7 @@ struct polled {
     struct pollfd polls[MOST_POLLS];
     struct peer *peers[MOST_POLLS];
     struct client *clients[MOST_POLLS];
-    nfds_t count;
+    nfds_t count, singles[SINGLES]; /* MOST_POLLS: it is not polled */
 };
 
 static void add(struct polled *polled, int fd, short events, struct peer *peer, struct client *client)
@@ -30,19 +33,35 @@ static void add(struct polled *polled, int fd, short events, struct peer *peer, 
     polled->clients[polled->count++] = client;
 }
 
+/* The kernel polls no more than there may be descriptors, so what is not there takes no place. */
+static void add_single(struct polled *polled, enum single single, bool waits, int fd)
+{
+    polled->singles[single] = waits && fd >= 0 ? polled->count : MOST_POLLS;
+    if (waits && fd >= 0)
+        add(polled, fd, POLLIN, NULL, NULL);
+}
+
+static bool is_awake(const struct polled *polled, enum single single)
+{
+    return polled->singles[single] < MOST_POLLS && polled->polls[polled->singles[single]].revents;
+}
+
 /* While published rows do not forward, neighbours are not read. Nor is it looked whether they have closed: that would
  * wake the loop again and again, since it cannot act on it. */
 static void gather(struct daemon *daemon, struct polled *polled)
 {
     bool accepts = now_ms() >= daemon->accepts_at;
     polled->count = 0;
-    add(polled, daemon->kernel.installs ? daemon->kernel.links : -1, POLLIN, NULL, NULL);
-    add(polled, daemon->kernel.installs ? daemon->kernel.routes : -1, POLLIN, NULL, NULL);
-    add(polled, accepts ? daemon->control : -1, POLLIN, NULL, NULL);
-    add(polled, accepts ? daemon->metrics : -1, POLLIN, NULL, NULL);
-    add(polled, accepts && !daemon->blocked ? daemon->listener : -1, POLLIN, NULL, NULL);
+    add_single(polled, LINKS, daemon->kernel.installs, daemon->kernel.links);
+    add_single(polled, ROUTES, daemon->kernel.installs, daemon->kernel.routes);
+    add_single(polled, TABLES, daemon->kernel.installs, daemon->kernel.table_notices);
+    add_single(polled, MARKS, daemon->marks.writes, daemon->marks.done);
+    add_single(polled, CONTROL, accepts, daemon->control);
+    add_single(polled, METRICS, accepts, daemon->metrics);
+    add_single(polled, LISTENER, accepts && !daemon->blocked, daemon->listener);
     for (size_t i = 0; i < daemon->segment_count && !daemon->blocked; i++)
-        add(polled, daemon->segments[i].fd, POLLIN, NULL, NULL);
+        if (daemon->segments[i].fd >= 0)
+            add(polled, daemon->segments[i].fd, POLLIN, NULL, NULL);
     for (struct peer *peer = daemon->peers; peer < peers_end(daemon); peer++) {
         bool writes = peer->state == PEER_CONNECTING || peer->out_count > 0;
         if (!peer->used)
@@ -50,7 +69,7 @@ static void gather(struct daemon *daemon, struct polled *polled)
         if (peer->fd >= 0 && (writes || !daemon->blocked))
             add(polled, peer->fd, (short)((daemon->blocked ? 0 : POLLIN) | (writes ? POLLOUT : 0)), peer, NULL);
         for (size_t i = 0; i < CANDIDATES && !daemon->blocked; i++)
-            if (peer->candidates[i].fd >= 0 && !peer->candidates[i].proved)
+            if (peer->candidates[i].fd >= 0 && !peer->candidates[i].answered)
                 add(polled, peer->candidates[i].fd, POLLIN, NULL, NULL);
     }
     for (struct client *client = daemon->clients; client < daemon->clients + CLIENTS; client++) {
@@ -69,6 +88,8 @@ static int patience(const struct daemon *daemon)
         next = now + BLOCKED_MS;
     if (next > daemon->next_forget)
         next = daemon->next_forget;
+    if (daemon->config.connected_count + daemon->config.redistributed_count > 0 && next > daemon->next_found)
+        next = daemon->next_found;
     if (daemon->segment_count > 0 && next > daemon->next_announcement)
         next = daemon->next_announcement;
     if (daemon->accepts_at > now && next > daemon->accepts_at)
@@ -82,11 +103,15 @@ static int patience(const struct daemon *daemon)
  * since a new one may take the place of one that is closed. */
 static void take(struct daemon *daemon, const struct polled *polled)
 {
-    if (polled->polls[0].revents)
+    if (is_awake(polled, LINKS))
         kernel_read_links(daemon);
-    if (polled->polls[1].revents)
+    if (is_awake(polled, ROUTES))
         kernel_read_routes(daemon);
-    for (nfds_t i = 5; i < polled->count; i++) {
+    if (is_awake(polled, TABLES))
+        sharing_read(daemon);
+    if (is_awake(polled, MARKS))
+        marks_save(daemon);
+    for (nfds_t i = 0; i < polled->count; i++) {
         struct peer *peer = polled->peers[i];
         const struct pollfd *at = &polled->polls[i];
         bool pending = peer && peer->in_count - peer->in_from >= FRAME_SIZE;
@@ -100,20 +125,20 @@ static void take(struct daemon *daemon, const struct polled *polled)
             sessions_read_candidates(daemon, peer);
     if (!daemon->blocked)
         discover_read(daemon);
-    if (polled->polls[4].revents)
+    if (is_awake(polled, LISTENER))
         sessions_accept(daemon);
 }
 
 static void serve(struct daemon *daemon, const struct polled *polled)
 {
-    for (nfds_t i = 5; i < polled->count; i++) {
+    for (nfds_t i = 0; i < polled->count; i++) {
         struct client *client = polled->clients[i];
         if (client && client->used && client->fd == polled->polls[i].fd && polled->polls[i].revents)
             control_serve(daemon, client, polled->polls[i].revents);
     }
-    if (polled->polls[2].revents)
+    if (is_awake(polled, CONTROL))
         control_accept(daemon, daemon->control, false);
-    if (polled->polls[3].revents)
+    if (is_awake(polled, METRICS))
         control_accept(daemon, daemon->metrics, true);
 }
 
@@ -134,22 +159,25 @@ static void turn(struct daemon *daemon, const sigset_t *mask)
     take(daemon, &polled);
     serve(daemon, &polled);
     int64_t now = now_ms();
-    if ((reloading || daemon->reload) && !daemon->blocked) {
+    if (reloading && !daemon->blocked) {
         reloading = 0;
-        daemon->reload = false;
-        reload(daemon);
+        reload(daemon, NULL);
     }
-    if (daemon->kernel.installs && now >= daemon->kernel.next_check)
+    if (daemon->kernel.installs && now >= daemon->kernel.next_check && !daemon->kernel.check_due) {
         daemon->kernel.check_due = true;
+        kernel_find_interfaces(daemon);
+    }
     discover_tick(daemon, now);
+    connected_tick(daemon, now);
     sessions_tick(daemon, now);
     traces_tick(daemon, now);
     control_tick(daemon, now);
+    router_tick(daemon, now);
     daemon->blocked = !router_publish_and_release(daemon);
+    daemon->blocked_at = !daemon->blocked ? 0 : daemon->blocked_at ? daemon->blocked_at : now;
     if (now >= daemon->next_forget) {
-        daemon->next_forget = now + FORGET_MS;
-        if (!daemon->blocked)
-            router_forget(daemon);
+        bool done = daemon->blocked || router_forget(daemon);
+        daemon->next_forget = done ? now + FORGET_MS : now;
     }
     for (struct peer *peer = daemon->peers; peer < peers_end(daemon); peer++)
         if (peer->used)
@@ -166,7 +194,8 @@ static void on_signal(int number)
         stopping = 1;
 }
 
-/* Signals come only while the loop waits: those that were blocked before stay so. */
+/* Signals come only while the loop waits: those that were blocked before stay so. A reload that comes in the first moments
+ * waits for the first turn. */
 static void take_signals(sigset_t *mask)
 {
     static const int NUMBERS[] = {SIGTERM, SIGINT, SIGHUP};
@@ -212,16 +241,15 @@ static bool begin(struct daemon *daemon)
 static bool end(struct daemon *daemon)
 {
     bool clean = kernel_close(daemon);
+    marks_close(daemon);
     control_close(daemon);
     router_close(daemon);
     say(LOG_NOTICE, "stopped");
     return clean;
 }
 
-static int run(struct daemon *daemon)
+static int run(struct daemon *daemon, const sigset_t *mask)
 {
-    sigset_t mask;
-    take_signals(&mask);
     if (!begin(daemon)) {
         /* Who starts it by hand sees no line of syslog. */
         if (daemon->config.to_syslog) {
@@ -233,8 +261,19 @@ static int run(struct daemon *daemon)
     say(LOG_INFO, "dualnetd %s begins: %zu neighbours, %zu prefixes%s", DUALNETD_VERSION,
         daemon->config.neighbour_count, daemon->config.attachment_count,
         daemon->kernel.installs ? ", routes in the kernel" : "");
-    while (!stopping)
-        turn(daemon, &mask);
+    if (!drop_privileges(daemon->kernel.installs))
+        say(LOG_WARNING, "privileges that are not needed are not dropped: %s", strerror(errno));
+    /* Root may have written to a folder of another user, and may not any more: then a line says so now. */
+    daemon->marks.due = daemon->kernel.installs;
+    marks_save(daemon);
+    service_tell("READY=1");
+    if (daemon->kernel.installs && !daemon->config.state[0])
+        say(LOG_NOTICE, "install: without a line `state' it is not known after a boot who had a session");
+    while (!stopping) {
+        turn(daemon, mask);
+        service_watch(now_ms());
+    }
+    service_tell("STOPPING=1");
     return end(daemon) ? 0 : 1;
 }
 
@@ -277,21 +316,23 @@ int main(int count, char **words)
         fputs(USAGE, stderr);
         return 2;
     }
+    sigset_t mask;
+    take_signals(&mask);
     struct daemon *daemon = calloc(1, sizeof *daemon);
     if (!daemon) {
         say(LOG_ERR, "no memory");
         return 1;
     }
     daemon->path = path;
-    daemon->listener = daemon->control = daemon->metrics = -1;
+    daemon->listener = daemon->control = daemon->metrics = daemon->marks.done = -1;
     for (size_t i = 0; i < CLIENTS; i++)
         daemon->clients[i].fd = -1;
     int status = 1;
-    if (reload_read(path, &daemon->config)) {
+    if (reload_read(path, &daemon->config, NULL)) {
         daemon->install_asked = installs;
         daemon->config.installs |= installs;
         log_to(daemon->config.to_syslog, daemon->config.log_level);
-        status = checks ? 0 : run(daemon);
+        status = checks ? 0 : run(daemon, &mask);
     }
     free(daemon);
     return status;

@@ -45,7 +45,7 @@ static void put_messages(struct daemon *daemon, struct text *out, const char *na
                      told ? peer->counters.told[kind] : peer->counters.taken[kind]);
 }
 
-static void put_peers(struct daemon *daemon, struct text *out)
+static void put_peers(struct daemon *daemon, struct text *out, const size_t awaited[TUHVONDI_PORTS])
 {
     put_head(out, "neighbour_up", "gauge", "1 while the session of the neighbour is up.");
     for (const struct peer *peer = daemon->peers; peer < peers_end(daemon); peer++)
@@ -56,14 +56,24 @@ static void put_peers(struct daemon *daemon, struct text *out)
         if (is_somebody(peer))
             text_put(out, "dualnetd_sessions_total{neighbour=\"%s\"} %" PRIu64 "\n", peer->name,
                      peer->counters.sessions);
+    put_head(out, "replies_awaited", "gauge", "Prefixes of which a reply of the neighbour is awaited.");
+    for (const struct peer *peer = daemon->peers; peer < peers_end(daemon); peer++)
+        if (is_somebody(peer))
+            text_put(out, "dualnetd_replies_awaited{neighbour=\"%s\"} %zu\n", peer->name,
+                     awaited[port_of(daemon, peer)]);
+    put_head(out, "reports_left_total", "counter", "Reports of prefixes that were not taken, since they are too many.");
+    for (const struct peer *peer = daemon->peers; peer < peers_end(daemon); peer++)
+        if (is_somebody(peer))
+            text_put(out, "dualnetd_reports_left_total{neighbour=\"%s\"} %" PRIu64 "\n", peer->name,
+                     peer->counters.left);
 }
 
-/* Prefixes whose computation is under way. */
-static uint64_t active_count(const struct daemon *daemon)
+/* Interfaces on which what comes in is dropped because rows of a neighbour that is none any more may lead here. */
+static uint64_t removed_count(const struct daemon *daemon)
 {
     uint64_t count = 0;
-    for (size_t i = 0; i < PREFIX_SLOTS; i++)
-        count += daemon->prefixes.slots[i].used && daemon->prefixes.slots[i].active_since != 0;
+    for (size_t i = 0; i < daemon->peer_count; i++)
+        count += daemon->peers[i].used && daemon->peers[i].removed && daemon->peers[i].marked;
     return count;
 }
 
@@ -71,13 +81,21 @@ void metrics_answer(struct daemon *daemon, struct client *client)
 {
     struct text body = {0};
     struct tuhvondi_counts counts = {0};
+    size_t awaited[TUHVONDI_PORTS] = {0};
+    int64_t oldest = router_oldest(daemon, now_ms(), awaited);
     tuhvondi_router_counts(&daemon->router.machine, &counts);
     client->state = CLIENT_ANSWERED;
-    put_peers(daemon, &body);
+    put_peers(daemon, &body, awaited);
     put_messages(daemon, &body, "messages_taken_total", "Messages of neighbours that were taken, by kind.", false);
     put_messages(daemon, &body, "messages_told_total", "Messages that were sent to neighbours, by kind.", true);
     put(&body, "prefixes", "gauge", "Prefixes that the router knows.", counts.prefixes);
-    put(&body, "active_prefixes", "gauge", "Prefixes whose computation is under way.", active_count(daemon));
+    put(&body, "active_prefixes", "gauge", "Prefixes whose computation is under way.", daemon->router.active);
+    put(&body, "oldest_active_milliseconds", "gauge", "How long the oldest computation has been under way.",
+        (uint64_t)oldest);
+    put(&body, "late_replies_total", "counter", "Sessions that ended because a reply was owed for too long.",
+        daemon->router.late);
+    put(&body, "removed_neighbours", "gauge", "Neighbours that are gone, and whose interface is filtered.",
+        removed_count(daemon));
     put(&body, "computations_total", "counter", "Diffusing computations that began.", daemon->router.computations);
     put(&body, "longest_computation_milliseconds", "gauge", "The longest computation that ended.",
         (uint64_t)daemon->router.longest_ms);

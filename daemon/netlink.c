@@ -41,16 +41,20 @@ size_t netlink_route(void *room, const struct kernel_route *route, bool stays, u
         add(request, RTA_GATEWAY, &route->by, sizeof route->by);
         add(request, RTA_OIF, &route->index, sizeof route->index);
     }
+    if (stays && route->source.s_addr)
+        add(request, RTA_PREFSRC, &route->source, sizeof route->source);
     return NLMSG_ALIGN(request->nlmsg_len);
 }
 
 size_t netlink_rule(void *room, const struct kernel_rule *rule, bool stays, uint16_t flags)
 {
-    struct fib_rule_hdr body = {.family = AF_INET, .action = FR_ACT_BLACKHOLE};
+    struct fib_rule_hdr body = {.family = AF_INET, .action = rule->action, .src_len = rule->from.s_addr ? 32 : 0};
     struct nlmsghdr *request = begin(room, stays ? RTM_NEWRULE : RTM_DELRULE, flags, &body, sizeof body);
     add(request, FRA_PRIORITY, &rule->preference, sizeof rule->preference);
     add(request, FRA_IIFNAME, rule->interface, strlen(rule->interface) + 1);
     add(request, FRA_PROTOCOL, &rule->protocol, sizeof rule->protocol);
+    if (rule->from.s_addr)
+        add(request, FRA_SRC, &rule->from, sizeof rule->from);
     return NLMSG_ALIGN(request->nlmsg_len);
 }
 
@@ -137,6 +141,9 @@ static void take_of_route(void *to, uint16_t type, const void *data, size_t size
     case RTA_GATEWAY:
         take_number(&route->by.s_addr, data, size);
         break;
+    case RTA_PREFSRC:
+        take_number(&route->source.s_addr, data, size);
+        break;
     case RTA_OIF:
         take_number(&route->index, data, size);
         break;
@@ -164,6 +171,8 @@ static void take_of_rule(void *to, uint16_t type, const void *data, size_t size)
         take_number(&rule->preference, data, size);
     if (type == FRA_IIFNAME)
         take_name(rule->interface, data, size);
+    if (type == FRA_SRC)
+        take_number(&rule->from.s_addr, data, size);
     if (type == FRA_PROTOCOL && size == sizeof rule->protocol)
         memcpy(&rule->protocol, data, size);
 }
@@ -198,4 +207,9 @@ bool netlink_read_link(const struct nlmsghdr *message, struct kernel_link *link)
                                  .works = !gone && (body.ifi_flags & IFF_UP) && (body.ifi_flags & IFF_RUNNING)};
     each_attribute(message, sizeof body, link, take_of_link);
     return true;
+}
+
+bool netlink_is_address(const struct nlmsghdr *message)
+{
+    return message->nlmsg_type == RTM_NEWADDR || message->nlmsg_type == RTM_DELADDR;
 }

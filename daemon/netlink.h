@@ -11,7 +11,8 @@
 
 enum {
     REQUEST_SIZE = 128,  /* bytes that a request takes at most */
-    RULE_PREFERENCE = 1, /* of our rules: next after the rule of local addresses */
+    RULE_PREFERENCE = 1, /* of our filters: next after the rule of local addresses */
+    MARK_PREFERENCE = 2, /* of a mark where this end connects; where it is passive, one more */
 };
 
 /* The metric of the route behind each row: no other is worse. */
@@ -21,14 +22,15 @@ enum {
 struct kernel_route {
     uint32_t addr, table, metric;
     uint8_t len, type, protocol, tos;
-    struct in_addr by;
+    struct in_addr by, source;
     unsigned index;
 };
 
-/* A rule that drops what comes in by an interface. */
+/* A rule for what comes in by an interface, from this address (zero: any). A filter drops it. A mark does nothing to it. */
 struct kernel_rule {
     uint32_t preference;
     uint8_t protocol, action;
+    struct in_addr from;
     char interface[IF_NAMESIZE];
 };
 
@@ -53,5 +55,7 @@ struct nlmsghdr *netlink_next(void *bytes, size_t size, size_t *place);
 bool netlink_read_route(const struct nlmsghdr *message, struct kernel_route *route);
 bool netlink_read_rule(const struct nlmsghdr *message, struct kernel_rule *rule);
 bool netlink_read_link(const struct nlmsghdr *message, struct kernel_link *link);
+/* Whether an address came or went. */
+bool netlink_is_address(const struct nlmsghdr *message);
 
 #endif

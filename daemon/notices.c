@@ -22,6 +22,7 @@ static void link_changed(struct daemon *daemon, const struct kernel_link *link)
         if (!link->gone && link->name[0] && strcmp(link->name, peer->interface) != 0) {
             say(LOG_NOTICE, "%s: its interface %s is now %s", peer->name, peer->interface, link->name);
             memcpy(peer->interface, link->name, sizeof peer->interface);
+            daemon->marks.due |= peer->marked;
             peer_hang_up(daemon, peer, BY_LINK, "its interface has another name");
             if (peer->filtered)
                 kernel_filter(daemon, peer, true);
@@ -35,11 +36,30 @@ static void link_changed(struct daemon *daemon, const struct kernel_link *link)
     }
 }
 
-static void find_interfaces(struct daemon *daemon)
+/* An address of this host may stand at another interface now. What comes in by the old one is dropped as before. */
+static void leave_interfaces(struct daemon *daemon)
 {
-    for (struct peer *peer = daemon->peers; peer < peers_end(daemon); peer++)
-        if (peer->used && !peer->removed_at && !peer->index && !kernel_find_interface(daemon, peer))
+    for (struct peer *peer = daemon->peers; peer < peers_end(daemon); peer++) {
+        if (!peer->used || !kernel_has_moved(daemon, peer))
+            continue;
+        peer_hang_up(daemon, peer, BY_LINK, "its subnet is at another interface now");
+        peer->index = 0;
+        peer_wake(peer);
+    }
+}
+
+/* What the kernel refuses may be done the next time. */
+void kernel_find_interfaces(struct daemon *daemon)
+{
+    for (struct peer *peer = daemon->peers; peer < peers_end(daemon); peer++) {
+        if (!peer->used || peer->index)
+            continue;
+        const char *wrong = kernel_find_interface(daemon, peer);
+        if (!wrong)
             say(LOG_NOTICE, "%s: its interface is %s", peer->name, peer->interface);
+        else if (wrong != kernel_no_interface)
+            say(LOG_ERR, "%s: %s", peer->name, wrong);
+    }
 }
 
 /* Takes each change, and not only how interfaces are now. If some were lost, each may have been down. */
@@ -51,6 +71,7 @@ void kernel_read_links(struct daemon *daemon)
         if (got <= 0 && errno != ENOBUFS)
             return;
         size_t size = got > 0 ? (size_t)got : 0, place = 0;
+        bool moved = got < 0;
         daemon->kernel.check_due = true;
         for (struct peer *peer = daemon->peers; got < 0 && peer < peers_end(daemon); peer++)
             if (peer->used && peer->state != PEER_IDLE)
@@ -59,19 +80,35 @@ void kernel_read_links(struct daemon *daemon)
             struct kernel_link link;
             if (netlink_read_link(at, &link))
                 link_changed(daemon, &link);
+            moved |= netlink_is_address(at);
         }
-        find_interfaces(daemon);
+        if (moved) {
+            kernel_find_source(daemon);
+            leave_interfaces(daemon);
+        }
+        daemon->next_found = 0;
+        kernel_find_interfaces(daemon);
     }
 }
 
-/* Whether a change by somebody else may be of what is ours. */
-static bool is_of_ours(const struct daemon *daemon, const struct nlmsghdr *message)
+static bool is_redistributed(const struct config *config, const struct kernel_route *route)
+{
+    for (size_t i = 0; i < config->redistributed_count; i++)
+        if (config->redistributed[i].protocol == route->protocol && route->table == config->table)
+            return true;
+    return false;
+}
+
+/* Whether a change by somebody else may be of what is ours. One of a route that is attached is looked at soon. */
+static bool is_of_ours(struct daemon *daemon, const struct nlmsghdr *message)
 {
     const struct config *config = &daemon->config;
     struct kernel_route route;
     struct kernel_rule rule;
     if (message->nlmsg_pid == daemon->kernel.port)
         return false;
+    if (netlink_read_route(message, &route) && is_redistributed(config, &route))
+        daemon->next_found = 0;
     if (netlink_read_route(message, &route))
         return route.protocol == config->protocol
                || (route.table == config->table && (route.metric == config->metric || route.metric == WORST_METRIC));

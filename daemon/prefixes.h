@@ -7,31 +7,38 @@
 #include <stddef.h>
 #include <stdint.h>
 
-enum {
-    PREFIX_SLOTS = 1 << 15, /* a power of two */
-    PREFIXES_NOTED = PREFIX_SLOTS / 2,
-    NOT_ASKED = 255,
-};
+enum { NOT_ASKED = 255 };
 
 /* `behind`: the unreachable route of the worst metric stands in the kernel, and is ours. `via`: so does the route by
- * the neighbour `by` at the interface `index`. `foreign`: a route that is not ours stands in the place of one of
+ * the neighbour `by` at the interface `index`, which names `source`. `foreign`: a route that is not ours stands in the place of one of
  * these. `asked`: the port by which a route is being asked for. `found_behind`, `found_via`, `differs`: what a look
  * at the kernel found. `reported`: the ports whose neighbours told a finite distance last. `active_since` is 0 while
- * no computation is under way. */
+ * no computation is under way. `excused`: the ports that said since the last look that they wait themselves; `judged_at`:
+ * when who has not, and owes a reply, has its session ended; `excuses`: how often that was looked at; `awaited`: the ports whose
+ * replies were awaited last, by which another computation is told from the same. `told`: there was a line. `since`:
+ * its row forwards. `brought`: by the neighbour of the port
+ * before this number the router came to know the prefix; zero: by nobody. */
 struct noted {
     uint32_t addr;
-    uint8_t len, asked;
+    uint8_t len, asked, brought;
     bool used, behind, via, foreign, found_behind, found_via, differs;
-    struct in_addr by;
+    struct in_addr by, source;
     unsigned index;
-    uint32_t reported;
-    int64_t active_since;
+    uint32_t reported, excused, awaited;
+    uint8_t excuses;
+    bool told;
+    int64_t active_since, judged_at, since;
 };
 
+/* The slots are a power of two, and at most half of them are used. */
 struct prefixes {
-    struct noted slots[PREFIX_SLOTS];
-    size_t count;
+    struct noted *slots;
+    size_t size, count;
 };
+
+/* Room for so many: false where memory is refused. */
+bool prefixes_open(struct prefixes *prefixes, size_t most);
+void prefixes_close(struct prefixes *prefixes);
 
 /* What is noted of a prefix, or NULL. What is added has nothing noted; NULL: there are too many. A pointer is good
  * until the next prefix is let go of. */

@@ -1,6 +1,7 @@
 /* Calls of the library: what the router is told, what it publishes, and what it releases. */
 #include "daemon.h"
 
+#include <stdlib.h>
 #include <string.h>
 
 bool router_open(struct daemon *daemon)
@@ -11,7 +12,11 @@ bool router_open(struct daemon *daemon)
     /* All ports that there may be: a port has its cost when its link comes up. */
     for (size_t i = 0; i < TUHVONDI_PORTS; i++)
         costs[i] = 1;
-    if (tuhvondi_router_new(costs, TUHVONDI_PORTS, &none, 0, MOST_PREFIXES, &router->machine)
+    router->most_known = daemon->config.prefixes + TUHVONDI_PORTS * SHARE + OWN_PREFIXES;
+    router->known = calloc(router->most_known + PART, sizeof *router->known);
+    router->forgets = calloc(router->most_known + PART, sizeof *router->forgets);
+    if (!router->known || !router->forgets || !prefixes_open(&daemon->prefixes, router->most_known)
+        || tuhvondi_router_new(costs, TUHVONDI_PORTS, &none, 0, router->most_known, &router->machine)
         || tuhvondi_image_new(router->rows, 0, &router->image)
         || tuhvondi_image_share(&router->image, &router->reader)) {
         say(LOG_ERR, "no memory for a router");
@@ -25,9 +30,43 @@ void router_close(struct daemon *daemon)
     tuhvondi_image_free(&daemon->router.reader);
     tuhvondi_image_free(&daemon->router.image);
     tuhvondi_router_free(&daemon->router.machine);
+    prefixes_close(&daemon->prefixes);
+    free(daemon->router.known);
+    free(daemon->router.forgets);
+    daemon->router.known = NULL;
+    daemon->router.forgets = NULL;
 }
 
 /* ---- computations */
+
+enum {
+    LOOK_MS = 1000,   /* between looks at computations that take long */
+    EXCUSES = 8,      /* looks at which a neighbour may say that it waits for others */
+    LATE_LINES = 5,   /* at a look */
+    MOST_COST = 65535,
+    FORGETTING_MS = 20, /* at a turn */
+};
+
+/* The ports whose replies are awaited. */
+static uint32_t ports_of(const struct tuhvondi_prefix_state *state)
+{
+    uint32_t ports = 0;
+    for (size_t i = 0; i < TUHVONDI_PORTS; i++)
+        ports |= state->awaited[i] ? (uint32_t)1 << i : 0;
+    return ports;
+}
+
+/* Within a computation fewer and fewer replies are awaited. Where another is, one has ended, and the next has begun in the same
+ * moment: who is asked now has as long as who was asked first. */
+static void note_asked(const struct daemon *daemon, struct noted *noted, uint32_t awaited, int64_t now)
+{
+    if (awaited & ~noted->awaited) {
+        noted->judged_at = now + daemon->config.active_ms;
+        noted->excused = 0;
+        noted->excuses = 0;
+    }
+    noted->awaited = awaited;
+}
 
 /* Notes whether a computation of the prefix is under way, and how long one took that has ended. */
 static void note_activity(struct daemon *daemon, uint32_t addr, uint8_t len)
@@ -37,35 +76,139 @@ static void note_activity(struct daemon *daemon, uint32_t addr, uint8_t len)
     bool active = tuhvondi_router_state(&daemon->router.machine, addr, len, &state) == TUHVONDI_DONE && state.active;
     if (active && !noted)
         noted = prefixes_add(&daemon->prefixes, addr, len);
-    if (!noted || active == (noted->active_since != 0))
+    if (!noted)
         return;
     int64_t now = now_ms();
+    note_asked(daemon, noted, active ? ports_of(&state) : 0, now);
+    if (active == (noted->active_since != 0))
+        return;
     if (active) {
         daemon->router.computations++;
+        daemon->router.active++;
         noted->active_since = now;
+        noted->told = false;
         return;
     }
     if (now - noted->active_since > daemon->router.longest_ms)
         daemon->router.longest_ms = now - noted->active_since;
     noted->active_since = 0;
+    daemon->router.active--;
     prefixes_let_go(&daemon->prefixes, noted);
 }
 
 /* A link changed, so each prefix may have become active or passive. */
 static void note_all_activity(struct daemon *daemon)
 {
-    static struct tuhvondi_row known[MOST_PREFIXES];
+    const struct tuhvondi_row *known = daemon->router.known;
     size_t count = 0;
-    tuhvondi_router_rows(&daemon->router.machine, known, MOST_PREFIXES, &count);
+    tuhvondi_router_rows(&daemon->router.machine, daemon->router.known, daemon->router.most_known, &count);
     for (size_t i = 0; i < count; i++)
         note_activity(daemon, known[i].addr, known[i].len);
 }
 
+/* Whose replies are awaited, by port. */
+static uint32_t awaited_for(struct daemon *daemon, const struct noted *noted, struct tuhvondi_prefix_state *state)
+{
+    bool active = tuhvondi_router_state(&daemon->router.machine, noted->addr, noted->len, state) == TUHVONDI_DONE
+                  && state->active;
+    return active ? ports_of(state) : 0;
+}
+
+void router_excuse(struct daemon *daemon, const struct peer *peer, const struct frame *frame)
+{
+    struct noted *noted = prefixes_find(&daemon->prefixes, frame->addr, frame->len);
+    if (noted && noted->active_since)
+        noted->excused |= (uint32_t)1 << port_of(daemon, peer);
+}
+
+/* Whoever asked is told that this router waits itself, if he understands that. Its session may end by that. */
+static void excuse_to(struct daemon *daemon, const struct noted *noted, uint8_t owed)
+{
+    struct peer *peer = owed < daemon->peer_count ? &daemon->peers[owed] : NULL;
+    if (peer && peer->state == PEER_UP && peer->greeting.version > FIRST_VERSION)
+        peer_put(daemon, peer, &(struct frame){.type = FRAME_WAIT, .number = peer->last, .addr = noted->addr,
+                                               .len = noted->len});
+}
+
+static void tell_late(const struct daemon *daemon, const struct noted *noted, uint32_t awaited, int64_t now)
+{
+    char text[PREFIX_TEXT];
+    for (size_t i = 0; i < daemon->peer_count; i++)
+        if (awaited >> i & 1)
+            say(LOG_WARNING, "%s: active for %lld ms: awaits %s", prefix_text(noted->addr, noted->len, text),
+                (long long)(now - noted->active_since), daemon->peers[i].name);
+}
+
+/* A look at one computation: the ports whose sessions are to end. */
+static uint32_t look_at(struct daemon *daemon, struct noted *noted, int64_t now, unsigned *lines)
+{
+    const struct config *config = &daemon->config;
+    struct tuhvondi_prefix_state state;
+    uint32_t awaited = awaited_for(daemon, noted, &state), late = 0;
+    int64_t age = now - noted->active_since;
+    if (awaited && !noted->told && age > (int64_t)config->dead_ms && *lines < LATE_LINES) {
+        noted->told = true;
+        ++*lines;
+        tell_late(daemon, noted, awaited, now);
+    }
+    if (awaited && now >= noted->judged_at) {
+        noted->excuses += noted->excuses < EXCUSES;
+        late = awaited & ~(noted->excuses == EXCUSES ? 0 : noted->excused);
+        noted->judged_at = now + config->active_ms;
+        noted->excused = 0;
+    }
+    if (awaited)
+        excuse_to(daemon, noted, state.owed);
+    return late;
+}
+
+/* One router that does not reply would have others wait for ever. To end its session is lawful at any moment, and is the
+ * reply. */
+void router_tick(struct daemon *daemon, int64_t now)
+{
+    uint32_t late = 0;
+    unsigned lines = 0;
+    if (daemon->blocked || daemon->router.active == 0 || now < daemon->router.next_look)
+        return;
+    daemon->router.next_look = now + (LOOK_MS < daemon->config.active_ms / 4 ? LOOK_MS : daemon->config.active_ms / 4);
+    for (size_t i = 0; i < daemon->prefixes.size; i++)
+        if (daemon->prefixes.slots[i].active_since)
+            late |= look_at(daemon, &daemon->prefixes.slots[i], now, &lines);
+    for (struct peer *peer = daemon->peers; peer < peers_end(daemon); peer++)
+        if (late >> port_of(daemon, peer) & 1 && peer->state == PEER_UP) {
+            daemon->router.late++;
+            peer_hang_up(daemon, peer, BY_DEBT, "it owes a reply for too long");
+        }
+}
+
+int64_t router_oldest(struct daemon *daemon, int64_t now, size_t awaited[TUHVONDI_PORTS])
+{
+    int64_t oldest = 0;
+    for (size_t i = 0; i < daemon->prefixes.size && daemon->router.active > 0; i++) {
+        const struct noted *noted = &daemon->prefixes.slots[i];
+        struct tuhvondi_prefix_state state;
+        if (!noted->active_since)
+            continue;
+        oldest = now - noted->active_since > oldest ? now - noted->active_since : oldest;
+        uint32_t ports = awaited_for(daemon, noted, &state);
+        for (size_t port = 0; port < TUHVONDI_PORTS; port++)
+            awaited[port] += ports >> port & 1;
+    }
+    return oldest;
+}
+
 /* ---- what the router is told */
+
+/* A router that drains, or is a stub, has the greatest cost on each link, so that packets go round it (as in RFC 6987). */
+static uint32_t cost_now(const struct daemon *daemon, uint32_t cost)
+{
+    return daemon->drains || daemon->config.stub ? MOST_COST : cost;
+}
 
 uint32_t router_link_up(struct daemon *daemon, struct peer *peer)
 {
-    return tuhvondi_router_link_up(&daemon->router.machine, port_of(daemon, peer), peer->last, peer->config.cost);
+    return tuhvondi_router_link_up(&daemon->router.machine, port_of(daemon, peer), peer->last,
+                                   cost_now(daemon, peer->config.cost));
 }
 
 /* What the neighbour told is void with its session. */
@@ -75,7 +218,7 @@ uint32_t router_link_down(struct daemon *daemon, struct peer *peer)
     uint32_t status = tuhvondi_router_link_down(&daemon->router.machine, port_of(daemon, peer));
     if (status == TUHVONDI_NO_MEMORY)
         return status;
-    for (size_t i = 0; i < PREFIX_SLOTS; i++)
+    for (size_t i = 0; i < daemon->prefixes.size; i++)
         daemon->prefixes.slots[i].reported &= ~bit;
     peer->reported = 0;
     note_all_activity(daemon);
@@ -87,10 +230,20 @@ uint32_t router_cost(struct daemon *daemon, struct peer *peer, uint32_t cost)
 {
     uint32_t status = TUHVONDI_DONE;
     if (peer->state == PEER_UP)
-        status = tuhvondi_router_link_cost(&daemon->router.machine, port_of(daemon, peer), cost);
+        status = tuhvondi_router_link_cost(&daemon->router.machine, port_of(daemon, peer),
+                                           cost_now(daemon, cost));
     if (status == TUHVONDI_DONE)
         peer->config.cost = cost;
     note_all_activity(daemon);
+    return status;
+}
+
+uint32_t router_costs(struct daemon *daemon)
+{
+    uint32_t status = TUHVONDI_DONE;
+    for (struct peer *peer = daemon->peers; peer < peers_end(daemon); peer++)
+        if (peer->used && status == TUHVONDI_DONE)
+            status = router_cost(daemon, peer, peer->config.cost);
     return status;
 }
 
@@ -115,41 +268,145 @@ static bool is_known(struct daemon *daemon, uint32_t addr, uint8_t len)
     return tuhvondi_router_state(&daemon->router.machine, addr, len, &state) == TUHVONDI_DONE;
 }
 
-/* Notes whether the neighbour tells a finite distance: false where that would be one prefix more than it may. */
-static bool note_report(struct daemon *daemon, struct peer *peer, const struct tuhvondi_message *message)
+/* One line each time that it goes above the number of the configuration. */
+static void warn_of_many(const struct peer *peer, uint32_t reported)
 {
-    uint32_t bit = (uint32_t)1 << message->port, most = peer->config.most_prefixes;
+    if (peer->config.warn_prefixes && reported == peer->config.warn_prefixes + 1)
+        say(LOG_WARNING, "%s: it tells of more than %u prefixes", peer->name, (unsigned)peer->config.warn_prefixes);
+}
+
+/* Notes whether the neighbour tells a finite distance. */
+static void note_report(struct daemon *daemon, struct peer *peer, const struct tuhvondi_message *message)
+{
+    uint32_t bit = (uint32_t)1 << message->port;
     bool told = message->value != TUHVONDI_INFINITY;
     struct noted *noted = told ? prefixes_add(&daemon->prefixes, message->addr, message->len)
                                : prefixes_find(&daemon->prefixes, message->addr, message->len);
     if (!noted)
-        return !told;
-    if (told && !(noted->reported & bit) && most && peer->reported >= most)
-        return false;
-    peer->reported += told && !(noted->reported & bit);
-    peer->reported -= !told && (noted->reported & bit);
+        return;
+    /* If its reply is awaited again, it was asked anew. */
+    if (message->kind == TUHVONDI_REPLY)
+        noted->awaited &= ~bit;
+    if (told && !(noted->reported & bit))
+        warn_of_many(peer, ++peer->reported);
+    if (!told && (noted->reported & bit))
+        peer->reported--;
     noted->reported = told ? noted->reported | bit : noted->reported & ~bit;
     prefixes_let_go(&daemon->prefixes, noted);
-    return true;
 }
 
-/* Gives a message to the router. A prefix that the neighbour's list refuses is taken as one that it does not reach: a
- * query is answered, and no row leads there. */
+static size_t above(size_t count, size_t share)
+{
+    return count > share ? count - share : 0;
+}
+
+/* Whether the router may come to know one prefix more by this neighbour, or (NULL) by what the host has. Each has a share, so
+ * that one which tells too many leaves room for others, and for attachments, and these leave room for neighbours. */
+static bool has_room(struct daemon *daemon, const struct peer *peer)
+{
+    const size_t *brought = daemon->router.brought;
+    struct tuhvondi_counts counts = {0};
+    size_t common = 0, own;
+    tuhvondi_router_counts(&daemon->router.machine, &counts);
+    own = counts.prefixes;
+    for (size_t i = 0; i < TUHVONDI_PORTS; i++) {
+        common += above(brought[i], SHARE);
+        own -= brought[i];
+    }
+    bool has_share = peer ? brought[port_of(daemon, peer)] < SHARE : own < OWN_PREFIXES;
+    return has_share || common + above(own, OWN_PREFIXES) < daemon->config.prefixes;
+}
+
+uint32_t router_attach_found(struct daemon *daemon, const struct tuhvondi_attachment *attachment)
+{
+    bool fits = is_known(daemon, attachment->addr, attachment->len) || has_room(daemon, NULL);
+    return fits ? router_attach(daemon, attachment) : TUHVONDI_TOO_MANY_PREFIXES;
+}
+
+/* Notes by whom the router came to know the prefix, until it is forgotten. */
+static void note_brought(struct daemon *daemon, const struct peer *peer, uint32_t addr, uint8_t len)
+{
+    struct noted *noted = prefixes_add(&daemon->prefixes, addr, len);
+    if (!noted || noted->brought)
+        return;
+    noted->brought = (uint8_t)(port_of(daemon, peer) + 1);
+    daemon->router.brought[port_of(daemon, peer)]++;
+}
+
+static void note_forgotten(struct daemon *daemon, uint32_t addr, uint8_t len)
+{
+    struct noted *noted = prefixes_find(&daemon->prefixes, addr, len);
+    if (!noted || !noted->brought)
+        return;
+    daemon->router.brought[noted->brought - 1]--;
+    noted->brought = 0;
+    /* Without routes in the kernel nobody else does so. */
+    prefixes_let_go(&daemon->prefixes, noted);
+}
+
+/* Whether it is one prefix more than is taken of the neighbour at a time. */
+static bool is_too_many(struct daemon *daemon, const struct peer *peer, const struct frame *frame)
+{
+    const struct noted *noted = prefixes_find(&daemon->prefixes, frame->addr, frame->len);
+    bool is_reported = noted && (noted->reported >> port_of(daemon, peer) & 1);
+    uint32_t most = peer->config.most_prefixes;
+    return most && frame->value != TUHVONDI_INFINITY && !is_reported && peer->reported >= most;
+}
+
+/* One line a session: a neighbour that tells too many prefixes may go on doing so. */
+static void note_left(struct peer *peer, const struct frame *frame, const char *why)
+{
+    char text[PREFIX_TEXT];
+    peer->counters.left++;
+    if (!peer->crowded)
+        say(LOG_WARNING, "%s: %s and more that it tells are left: %s", peer->name,
+            prefix_text(frame->addr, frame->len, text), why);
+    peer->crowded = true;
+}
+
+/* The router does not come to know the prefix. A query of it is answered as by one that does: it is not reached from here. */
+static void leave_prefix(struct daemon *daemon, struct peer *peer, const struct frame *frame)
+{
+    struct frame reply = *frame;
+    peer->counters.taken[frame->kind]++;
+    if (frame->kind != TUHVONDI_QUERY)
+        return;
+    reply.kind = TUHVONDI_REPLY;
+    reply.value = TUHVONDI_INFINITY;
+    peer->counters.told[TUHVONDI_REPLY]++;
+    peer_put(daemon, peer, &reply);
+}
+
+/* Gives a message to the router. A prefix that the neighbour's list refuses, or that is one too many, is taken as one
+ * that it does not reach: a query is answered, and no row leads there. If the router does not know it, it need not. A
+ * reply to no question, and a message of another session, are the router's to refuse. */
 uint32_t router_take(struct daemon *daemon, struct peer *peer, const struct frame *frame)
 {
     struct tuhvondi_message message = {.addr = frame->addr, .value = frame->value, .len = frame->len,
                                        .session = frame->number, .kind = frame->kind, .port = port_of(daemon, peer)};
-    if (!config_accepts(&daemon->config, peer->config.list, frame->addr, frame->len)) {
+    bool known = is_known(daemon, frame->addr, frame->len);
+    bool too_many = is_too_many(daemon, peer, frame), no_room = !known && !has_room(daemon, peer);
+    if ((too_many || no_room) && frame->value != TUHVONDI_INFINITY)
+        note_left(peer, frame, too_many ? "more are not taken of it" : "there is no room for more");
+    bool refused = too_many || !config_accepts(&daemon->config, peer->config.list, frame->addr, frame->len);
+    if (refused)
         message.value = TUHVONDI_INFINITY;
-        if (frame->kind == TUHVONDI_UPDATE && !is_known(daemon, frame->addr, frame->len)) {
-            peer->counters.taken[frame->kind]++;
-            return TUHVONDI_DONE;
-        }
+    if (!known && (refused || no_room) && frame->kind != TUHVONDI_REPLY
+        && is_in_session(peer, frame->number)) {
+        leave_prefix(daemon, peer, frame);
+        return TUHVONDI_DONE;
     }
-    if (!note_report(daemon, peer, &message))
-        return TUHVONDI_TOO_MANY_PREFIXES;
     uint32_t status = tuhvondi_router_message(&daemon->router.machine, &message);
+    /* Whatever fills the table, it is no fault of whoever tells the next prefix. That it may ask was tested before. */
+    if (status == TUHVONDI_TOO_MANY_PREFIXES) {
+        note_left(peer, frame, "there is no room for more");
+        leave_prefix(daemon, peer, frame);
+        return TUHVONDI_DONE;
+    }
     if (status == TUHVONDI_DONE) {
+        if (!known)
+            note_brought(daemon, peer, frame->addr, frame->len);
+        note_report(daemon, peer, &message);
         peer->counters.taken[frame->kind]++;
         note_activity(daemon, frame->addr, frame->len);
     }
@@ -157,6 +414,15 @@ uint32_t router_take(struct daemon *daemon, struct peer *peer, const struct fram
 }
 
 /* ---- publication and release */
+
+/* Tells those who follow changes. Since when it forwards is noted where anything is noted of the prefix. */
+static void note_row(struct daemon *daemon, const struct tuhvondi_row *row)
+{
+    struct noted *noted = prefixes_find(&daemon->prefixes, row->addr, row->len);
+    if (noted)
+        noted->since = now_ms();
+    control_tell_row(daemon, row);
+}
 
 /* What the kernel lost is set first, and then what was published. The reader is let go of while the image changes. */
 bool router_forward(struct daemon *daemon)
@@ -170,17 +436,18 @@ bool router_forward(struct daemon *daemon)
         done = !tuhvondi_image_apply(&router->image, router->generation, router->rows, router->row_count)
                && kernel_set_rows(daemon, router->rows, router->row_count);
         for (size_t i = 0; done && i < router->row_count; i++)
-            control_tell_row(daemon, &router->rows[i]);
+            note_row(daemon, &router->rows[i]);
         router->row_count = done ? 0 : router->row_count;
     }
     return tuhvondi_image_share(&router->image, &router->reader) == TUHVONDI_DONE && done && !daemon->kernel.check_due;
 }
 
-/* Puts what may leave on the links; what is of a session that has ended is dropped. */
+/* Puts what may leave on the links; what is of a session that has ended is dropped. What a queue does not take now stays with
+ * the router, and all behind it, because the order is part of the protocol. */
 static void release(struct daemon *daemon)
 {
     struct tuhvondi_message message;
-    while (tuhvondi_router_release(&daemon->router.machine, &message) == TUHVONDI_DONE) {
+    while (sessions_have_room(daemon) && tuhvondi_router_release(&daemon->router.machine, &message) == TUHVONDI_DONE) {
         struct peer *peer = &daemon->peers[message.port];
         struct frame frame = {.type = FRAME_MESSAGE, .kind = message.kind, .len = message.len,
                               .number = message.session, .addr = message.addr, .value = message.value};
@@ -201,6 +468,7 @@ bool router_publish_and_release(struct daemon *daemon)
     do {
         if (!router_forward(daemon))
             return false;
+        sessions_keep_alive(daemon);
         status = tuhvondi_router_publish(&router->machine, router->rows, PART, &router->row_count, &more,
                                          &router->generation);
     } while (status == TUHVONDI_DONE);
@@ -211,25 +479,49 @@ bool router_publish_and_release(struct daemon *daemon)
     return true;
 }
 
-/* Forgets each prefix of which nothing is known any more, and takes its row out of the kernel, and then out of the
- * image. What the kernel keeps stays in the image, and is found there the next time. */
-void router_forget(struct daemon *daemon)
+/* Looks at a part of the rows in force, and notes those that lead nowhere: whether it was the last part. */
+static bool look_for_forgotten(struct router *router)
+{
+    struct tuhvondi_row rows[PART];
+    size_t count = 0, most = router->most_known + PART;
+    tuhvondi_image_rows(&router->image, &router->forgets_from, rows, PART, &count);
+    for (size_t i = 0; i < count && router->forget_count < most; i++)
+        if (rows[i].kind == TUHVONDI_UNREACHABLE)
+            router->forgets[router->forget_count++] = (struct tuhvondi_prefix){rows[i].addr, rows[i].len};
+    return count < PART;
+}
+
+/* What the kernel keeps stays in the image, and is found there the next time. */
+static void forget(struct daemon *daemon, struct tuhvondi_prefix prefix)
 {
     struct router *router = &daemon->router;
-    struct tuhvondi_prefix from = TUHVONDI_FIRST_PREFIX;
-    struct tuhvondi_row row;
-    size_t count;
-    while (tuhvondi_image_rows(&router->image, &from, &row, 1, &count) == TUHVONDI_DONE && count > 0) {
-        struct tuhvondi_prefix prefix = {row.addr, row.len};
-        if (row.kind != TUHVONDI_UNREACHABLE
-            || tuhvondi_router_forget(&router->machine, row.addr, row.len) == TUHVONDI_STILL_USED
-            || !kernel_remove_row(daemon, row.addr, row.len))
-            continue;
-        tuhvondi_image_free(&router->reader);
-        tuhvondi_image_remove(&router->image, router->generation, &prefix, 1);
-        router->forgotten++;
-        row.kind = TUHVONDI_NO_ROW;
-        control_tell_row(daemon, &row);
-    }
+    if (tuhvondi_router_forget(&router->machine, prefix.addr, prefix.len) == TUHVONDI_STILL_USED)
+        return;
+    note_forgotten(daemon, prefix.addr, prefix.len);
+    if (!kernel_remove_row(daemon, prefix.addr, prefix.len))
+        return;
+    tuhvondi_image_free(&router->reader);
+    tuhvondi_image_remove(&router->image, router->generation, &prefix, 1);
+    router->forgotten++;
+    control_tell_row(daemon, &(struct tuhvondi_row){.addr = prefix.addr, .len = prefix.len, .kind = TUHVONDI_NO_ROW});
+}
+
+/* Forgets each prefix of which nothing is known any more, and takes its row out of the kernel, and then out of the
+ * image. The last goes first, because the router moves all that stand behind one that goes. Thousands may go at once, so it
+ * stops after a while, and goes on from there. Whether it has come to the end. */
+bool router_forget(struct daemon *daemon)
+{
+    struct router *router = &daemon->router;
+    int64_t until = now_ms() + FORGETTING_MS;
+    while (!router->forgets_all && now_ms() < until)
+        router->forgets_all = look_for_forgotten(router);
+    while (router->forgets_all && router->forget_count > 0 && now_ms() < until)
+        forget(daemon, router->forgets[--router->forget_count]);
     tuhvondi_image_share(&router->image, &router->reader);
+    bool done = router->forgets_all && router->forget_count == 0;
+    if (done) {
+        router->forgets_all = false;
+        router->forgets_from = (struct tuhvondi_prefix)TUHVONDI_FIRST_PREFIX;
+    }
+    return done;
 }

@@ -4,17 +4,23 @@
 #include <arpa/inet.h>
 #include <errno.h>
 #include <netinet/tcp.h>
+#include <linux/sockios.h>
 #include <stddef.h>
 #include <string.h>
+#include <sys/ioctl.h>
 #include <sys/socket.h>
 #include <unistd.h>
 
 enum {
     RETRY_MS = 250,      /* between attempts to connect, at first; it doubles after each four */
     MOST_ATTEMPTS = 8,   /* so up to a second */
+    MISSED_MS = 30000,   /* without a session, after which a line says so; then each hour */
+    HOUR_MS = 3600000,
+    GREETING_MS = 3500,  /* that hellos may take, and that one of the first version may be silent, if not longer */
     CONNECT_MS = 500,    /* that an attempt takes at most: a link that works again is not found by an old one */
     FAULT_MS = 250,      /* without a session after a neighbour's fault, at first; it doubles */
-    FAULT_DOUBLINGS = 8, /* so up to 64 seconds */
+    DEBT_MS = 2000,      /* after it owed a reply for too long */
+    FAULT_DOUBLINGS = 8, /* so up to 64 seconds, or 512 */
     CALM_MS = 30000,     /* a session that lasts longer has a fault count as the first again */
     BRIEF_MS = 1000,     /* and one that lasts longer has an attempt to connect do so */
     SHORT_MS = 5000,     /* one that is shorter counts as short */
@@ -25,6 +31,8 @@ enum {
     SOON_MS = 50,        /* until what could not be done is tried again */
     COMPLAIN_MS = 1000,
     COMPLAINTS = 5,      /* lines in that time */
+    PARTING_MS = 5000,   /* between attempts of a passive end to connect to one that is no neighbour any more */
+    MOST_PARTING_MS = 30000, /* for which one that is no neighbour any more is told so */
     OWN_TTL = 255, /* of what is sent, so that the other end can tell that no router was passed */
 };
 
@@ -32,6 +40,15 @@ struct peer *peer_of(struct daemon *daemon, struct in_addr address)
 {
     for (struct peer *peer = daemon->peers; peer < peers_end(daemon); peer++)
         if (is_somebody(peer) && peer->config.address.s_addr == address.s_addr)
+            return peer;
+    return NULL;
+}
+
+/* One that is no neighbour any more, and has yet to say that no row of it leads here. */
+static struct peer *removed_of(struct daemon *daemon, struct in_addr address)
+{
+    for (struct peer *peer = daemon->peers; peer < peers_end(daemon); peer++)
+        if (peer->used && peer->removed && peer->config.address.s_addr == address.s_addr)
             return peer;
     return NULL;
 }
@@ -65,7 +82,7 @@ static void complain_of(struct peer *peer, const char *what)
 static void tell_down(struct daemon *daemon, struct peer *peer)
 {
     peer->stale = true;
-    peer->leaving = !kernel_filter(daemon, peer, true) || daemon->blocked
+    peer->leaving = !kernel_filter(daemon, peer, true) || daemon->blocked || daemon->router.row_count > 0
                     || router_link_down(daemon, peer) == TUHVONDI_NO_MEMORY;
 }
 
@@ -84,14 +101,14 @@ static int64_t wait_after_short(struct peer *peer, int64_t lasted)
 static void back_off(struct peer *peer, enum ending ending)
 {
     int64_t now = now_ms();
-    if (peer->begun && now - peer->begun > CALM_MS)
+    if (peer->begun && now - peer->begun > CALM_MS && ending != BY_DEBT)
         peer->faults = 0;
     if (peer->begun && now - peer->begun > BRIEF_MS)
         peer->attempts = 0;
     if (peer->begun)
         peer->waits_until = now + wait_after_short(peer, now - peer->begun);
-    if (ending == BY_FAULT) {
-        peer->waits_until = now + ((int64_t)FAULT_MS << peer->faults);
+    if (ending == BY_FAULT || ending == BY_DEBT) {
+        peer->waits_until = now + ((int64_t)(ending == BY_DEBT ? DEBT_MS : FAULT_MS) << peer->faults);
         peer->faults += peer->faults < FAULT_DOUBLINGS;
     }
     peer->next_try = now + ((int64_t)RETRY_MS << peer->attempts / 4);
@@ -110,30 +127,84 @@ void peer_hang_up(struct daemon *daemon, struct peer *peer, enum ending ending, 
     bool was_up = peer->state == PEER_UP;
     if (was_up) {
         say(LOG_NOTICE, "%s: session %u ends: %s", peer->name, peer->last, why);
-        peer->counters.faults += ending == BY_FAULT;
+        peer->counters.faults += ending == BY_FAULT || ending == BY_DEBT;
         peer->over = now_ms();
+        peer->why = why;
         tell_down(daemon, peer);
     } else if (ending == BY_FAULT) {
         complain_of(peer, why);
     }
+    peer->tried = why;
     if (peer->fd >= 0) {
         close(peer->fd);
         back_off(peer, ending);
     }
     peer->fd = -1;
     peer->state = PEER_IDLE;
-    peer->lost = peer->lets_in = false;
+    peer->lost = peer->lets_in = peer->crowded = peer->greeted = peer->parted = false;
     peer->in_count = peer->in_from = peer->out_count = peer->out_from = 0;
     if (was_up)
         control_tell_peer(daemon, peer, "down");
 }
 
-/* Whether a new session may come: the last one is over, and no row by it forwards. */
-static bool may_begin(const struct daemon *daemon, const struct peer *peer)
+/* ---- connections that are left */
+
+static void drop(struct candidate *candidate)
 {
-    return is_somebody(peer) && !peer->shut && !peer->leaving && !peer->stale && !daemon->blocked
+    if (candidate->fd >= 0)
+        close(candidate->fd);
+    *candidate = (struct candidate){.fd = -1};
+}
+
+static void unsign(struct daemon *daemon, const struct peer *peer)
+{
+    struct neighbour unsigned_one = {.address = peer->config.address};
+    if (peer->config.secret[0] && unsigned_one.address.s_addr)
+        sessions_set_secret(daemon->listener, &unsigned_one);
+}
+
+static void drop_connections(struct daemon *daemon, struct peer *peer, const char *why)
+{
+    peer_hang_up(daemon, peer, BY_OPERATOR, why);
+    for (size_t i = 0; i < CANDIDATES; i++)
+        drop(&peer->candidates[i]);
+}
+
+/* Whether a filter tells the packets of these two apart. Of one that was never heard of no link address is known; to connect
+ * to it tells it. */
+static bool is_apart(const struct daemon *daemon, const struct peer *peer, const struct peer *other, bool connects)
+{
+    static const unsigned char UNKNOWN[LINK_ADDRESS];
+    unsigned char found[LINK_ADDRESS];
+    if (!sharing_is_shared(daemon, peer->interface) || memcmp(other->link_address, UNKNOWN, LINK_ADDRESS) == 0)
+        return false;
+    bool known = sharing_find_link_address(daemon, peer, found);
+    return known ? memcmp(other->link_address, found, LINK_ADDRESS) != 0 : connects;
+}
+
+/* Whether somebody else has to be heard of first: by the interface rows of another may lead here, who is no neighbour
+ * any more. Whoever has that one's address speaks for both. */
+static bool is_doubtful(struct daemon *daemon, const struct peer *peer, bool connects)
+{
+    in_addr_t address = peer->config.address.s_addr;
+    if (peer->removed)
+        return peer_of(daemon, peer->config.address);
+    for (const struct peer *other = daemon->peers; other < peers_end(daemon); other++)
+        if (other->used && other->removed && !other->cleared && other->interface[0]
+            && strcmp(other->interface, peer->interface) == 0
+            && (other->config.address.s_addr != address || other->leaving || other->stale)
+            && !is_apart(daemon, peer, other, connects))
+            return true;
+    return false;
+}
+
+/* Whether a new session may come: the last one is over, and no row by it forwards. Then a hello may be said, also to
+ * one that is no neighbour any more, to hear the same of its rows. */
+static bool may_begin(struct daemon *daemon, const struct peer *peer, bool connects)
+{
+    return peer->used && peer->config.address.s_addr && !peer->shut && !peer->leaving && !peer->stale && !daemon->blocked
            && (!daemon->kernel.installs || peer->index) && now_ms() >= peer->waits_until
-           && now_ms() >= peer->next_try;
+           && now_ms() >= peer->next_try && !is_doubtful(daemon, peer, connects);
 }
 
 void sessions_rows_are_new(struct daemon *daemon)
@@ -160,8 +231,10 @@ void peer_put(struct daemon *daemon, struct peer *peer, const struct frame *fram
         return;
     }
     frame_write(frame, peer->out + peer->out_from + peer->out_count);
-    peer->out_count += FRAME_SIZE;
     peer->said = now_ms();
+    if (peer->out_count == 0)
+        peer->drained = peer->said;
+    peer->out_count += FRAME_SIZE;
 }
 
 /* Writes what waits, as far as the neighbour takes it. */
@@ -171,6 +244,7 @@ void sessions_flush(struct daemon *daemon, struct peer *peer)
         return;
     ssize_t sent = send(peer->fd, peer->out + peer->out_from, peer->out_count, MSG_NOSIGNAL | MSG_DONTWAIT);
     if (sent > 0) {
+        peer->drained = now_ms();
         peer->out_count -= (size_t)sent;
         peer->out_from = peer->out_count ? peer->out_from + (size_t)sent : 0;
     } else if (errno != EAGAIN && errno != EINTR) {
@@ -178,10 +252,31 @@ void sessions_flush(struct daemon *daemon, struct peer *peer)
     }
 }
 
-static struct frame hello_of(const struct daemon *daemon, const struct peer *peer)
+static bool is_crowded(const struct peer *peer)
 {
-    return (struct frame){.type = FRAME_HELLO, .kind = FRAME_VERSION, .number = peer->last,
-                          .addr = ntohl(daemon->config.router_id.s_addr)};
+    return peer->state == PEER_UP && peer->out_count > QUEUE - QUEUE_KEPT;
+}
+
+/* A neighbour is told of every prefix when its session begins, which may be more than its queue takes. */
+bool sessions_have_room(struct daemon *daemon)
+{
+    bool all = true;
+    for (struct peer *peer = daemon->peers; peer < peers_end(daemon); peer++) {
+        if (is_crowded(peer))
+            sessions_flush(daemon, peer);
+        all = all && !is_crowded(peer);
+    }
+    return all;
+}
+
+/* A hello, and the terms behind it. */
+static void write_greeting(const struct daemon *daemon, const struct peer *peer, unsigned char bytes[2 * FRAME_SIZE])
+{
+    const struct frame hello = {.type = FRAME_HELLO, .kind = FIRST_VERSION, .number = peer->last,
+                                .addr = ntohl(daemon->config.router_id.s_addr)};
+    const struct frame terms = {.type = FRAME_TERMS, .kind = FRAME_VERSION, .value = daemon->config.dead_ms};
+    frame_write(&hello, bytes);
+    frame_write(&terms, bytes + FRAME_SIZE);
 }
 
 /* ---- beginnings of sessions */
@@ -199,11 +294,120 @@ static const char *wrong_hello(const struct daemon *daemon, const struct peer *p
     return NULL;
 }
 
-/* Both ends have said which session they had last: the next after both begins. After 65535 there is none. That the
- * other end said hello tells that it has no row by an old session, so what comes in from it may be let in. */
-static void begin_session(struct daemon *daemon, struct peer *peer, uint16_t theirs)
+/* It is no neighbour any more, and no row of it leads here: its filter goes, unless another needs it. Its port is free once
+ * it was told so, or another port of its address tells it all, or it does not listen for too long. */
+static void release(struct daemon *daemon, struct peer *peer, int64_t now)
 {
-    uint16_t last = theirs > peer->last ? theirs : peer->last;
+    bool is_elsewhere = peer_of(daemon, peer->config.address);
+    if (!peer->cleared && (!kernel_mark(daemon, peer, false) || !kernel_filter(daemon, peer, false)))
+        return;
+    if (!peer->cleared) {
+        peer->cleared = now;
+        /* Whoever is left there alone need not be told apart any more. */
+        if (sharing_has_one(daemon, peer->interface))
+            sharing_write(daemon);
+    }
+    if (!peer->told && !is_elsewhere && now - peer->cleared <= MOST_PARTING_MS)
+        return;
+    if (!is_elsewhere)
+        unsign(daemon, peer);
+    drop_connections(daemon, peer, "it is gone");
+    peer->used = false;
+}
+
+/* Whoever has this address has said hello, so none of its rows leads here: also not by an interface at which it was
+ * before. */
+static void clear_of_rows(struct daemon *daemon, struct in_addr address)
+{
+    for (struct peer *peer = daemon->peers; peer < peers_end(daemon); peer++) {
+        if (!peer->used || !peer->removed || peer->config.address.s_addr != address.s_addr)
+            continue;
+        if (peer->marked)
+            say(LOG_NOTICE, "%s: it is gone, and no row of it leads here by %s any more", peer->name, peer->interface);
+        peer->marked = false;
+        if (!peer->leaving && !peer->stale)
+            release(daemon, peer, now_ms());
+    }
+}
+
+static const struct frame PARTING = {.type = FRAME_PARTING, .kind = FRAME_VERSION};
+
+/* One that is no neighbour any more has said hello over this connection. It is told to part, and the connection stays until
+ * it closes it: then it has read that. */
+static void part(struct daemon *daemon, struct peer *peer)
+{
+    if (!peer->parted)
+        peer_put(daemon, peer, &PARTING);
+    peer->parted = peer->fd >= 0;
+    clear_of_rows(daemon, peer->config.address);
+}
+
+/* Whether the other end has read all that was sent to it. One that closes without that resets the connection. */
+static bool is_read(int fd)
+{
+    int left = 0;
+    return ioctl(fd, SIOCOUTQ, &left) == 0 && left == 0;
+}
+
+/* Who connects, and is to have no session, is told so. What it has said is read first, or the kernel would throw this
+ * away, too. A neighbour says no more than its greeting before it is answered. Whoever says more is not read to its end, which
+ * may never come. */
+static void say_parting(int fd)
+{
+    unsigned char bytes[FRAME_SIZE], read[4 * FRAME_SIZE];
+    frame_write(&PARTING, bytes);
+    ssize_t got = recv(fd, read, sizeof read, MSG_DONTWAIT);
+    ssize_t sent = send(fd, bytes, sizeof bytes, MSG_NOSIGNAL | MSG_DONTWAIT);
+    (void)got;
+    (void)sent;
+}
+
+/* It has no session with this router, and no row of it leads here. */
+static void note_parting(struct daemon *daemon, struct peer *peer)
+{
+    if (peer->removed) {
+        peer->told = true;
+        clear_of_rows(daemon, peer->config.address);
+        return;
+    }
+    peer_hang_up(daemon, peer, BY_LINK, "it parts");
+    if (peer->marked)
+        say(LOG_NOTICE, "%s: it parts, and no row of it leads here", peer->name);
+    kernel_mark(daemon, peer, false);
+}
+
+/* Signs of life come three times in the time after which the other end takes silence for an end, or as often as we say
+ * them to all. */
+static void agree(const struct daemon *daemon, struct peer *peer)
+{
+    uint32_t alive_ms = daemon->config.alive_ms, third = peer->greeting.dead_ms / 3;
+    peer->alive_ms = third && third < alive_ms ? third : alive_ms;
+    if (peer->greeting.version == FIRST_VERSION)
+        say(LOG_WARNING, "%s: it speaks version %d of the protocol: upgrade it, since it lets packets in by time alone when a "
+            "neighbour is taken out", peer->name, FIRST_VERSION);
+}
+
+/* From now on the neighbour may have rows that lead here, and that is noted first, also on the disk: whether it is. */
+static bool is_noted(struct daemon *daemon, struct peer *peer)
+{
+    unsigned char found[LINK_ADDRESS] = {0};
+    sharing_find_link_address(daemon, peer, found);
+    daemon->marks.due |= peer->marked && memcmp(found, peer->link_address, LINK_ADDRESS) != 0;
+    memcpy(peer->link_address, found, LINK_ADDRESS);
+    if (!kernel_mark(daemon, peer, true))
+        peer_hang_up(daemon, peer, BY_LINK, "that it has a session cannot be noted");
+    marks_save(daemon);
+    return peer->state == PEER_GREETING && marks_stand(daemon);
+}
+
+/* Both ends have said which session they had last: the next after both begins. After 65535 there is none. That the
+ * other end said hello tells that it has no row by an old session, so what comes in from it may be let in. A sign of life
+ * tells the end that connects that this one is in the session. */
+static void begin_session(struct daemon *daemon, struct peer *peer)
+{
+    struct frame alive = {.type = FRAME_ALIVE};
+    uint16_t named = peer->greeting.hello.number, last = named > peer->last ? named : peer->last;
+    clear_of_rows(daemon, peer->config.address);
     peer->last = (uint16_t)(last + (last < UINT16_MAX));
     uint32_t status = router_link_up(daemon, peer);
     if (status != TUHVONDI_DONE) {
@@ -215,9 +419,14 @@ static void begin_session(struct daemon *daemon, struct peer *peer, uint16_t the
     peer->begun = now_ms();
     peer->counters.sessions++;
     say(LOG_NOTICE, "%s: session %u", peer->name, peer->last);
+    agree(daemon, peer);
     control_tell_peer(daemon, peer, "up");
-    if (!kernel_filter(daemon, peer, false))
+    if (!kernel_note_carrier(daemon, peer))
+        peer_hang_up(daemon, peer, BY_LINK, "its interface has no carrier");
+    else if (!kernel_filter(daemon, peer, false))
         peer_hang_up(daemon, peer, BY_LINK, "what comes in from it is still dropped");
+    else
+        peer_put(daemon, peer, &alive);
 }
 
 /* ---- connections that go from here */
@@ -263,7 +472,8 @@ static void try_to_connect(struct daemon *daemon, struct peer *peer)
 }
 
 /* The attempt to connect is over: each end says which session the link had last. It also says by this that no row of
- * that session forwards. */
+ * that session forwards. To one that is no neighbour any more nothing is said until it has said hello, so no session
+ * begins. */
 static void connected(struct daemon *daemon, struct peer *peer)
 {
     struct sockaddr_in to;
@@ -272,10 +482,109 @@ static void connected(struct daemon *daemon, struct peer *peer)
         peer_hang_up(daemon, peer, BY_LINK, "it does not answer");
         return;
     }
-    struct frame hello = hello_of(daemon, peer);
+    if (is_doubtful(daemon, peer, false)) {
+        peer_hang_up(daemon, peer, BY_LINK, "another that was there has yet to be heard");
+        return;
+    }
     peer->state = PEER_GREETING;
     peer->heard = now_ms();
-    peer_put(daemon, peer, &hello);
+    peer->greeting = (struct greeting){.version = FIRST_VERSION};
+    if (peer->removed)
+        return;
+    write_greeting(daemon, peer, peer->out);
+    peer->out_count = (size_t)2 * FRAME_SIZE;
+}
+
+/* ---- what neighbours send */
+
+static void note_terms(struct greeting *greeting, const struct frame *terms)
+{
+    greeting->version = terms->kind;
+    greeting->dead_ms = terms->value;
+}
+
+/* Each end has said hello when a session begins, and each has heard of the other since. The end that connects is answered by
+ * the first frame of the session, which the other sends once it is in it; until then it may have gone on with an older
+ * connection. An empty answer: the disk has yet to take the mark. */
+static const char *take_while_greeting(struct daemon *daemon, struct peer *peer, const struct frame *frame)
+{
+    struct frame alive = {.type = FRAME_ALIVE};
+    const char *wrong = peer->greeted ? NULL : wrong_hello(daemon, peer, frame);
+    if (wrong)
+        return wrong;
+    if (peer->removed) {
+        part(daemon, peer);
+    } else if (peer->greeted) {
+        if (!is_noted(daemon, peer))
+            return peer->state == PEER_GREETING ? "" : NULL;
+        begin_session(daemon, peer);
+    } else {
+        peer->greeting.hello = *frame;
+        peer->greeted = true;
+        peer_put(daemon, peer, &alive);
+    }
+    return NULL;
+}
+
+/* Gives a message to the router. Why it is refused, if it is; an empty answer: there was no memory for it. */
+static const char *take_message(struct daemon *daemon, struct peer *peer, const struct frame *frame)
+{
+    uint32_t status = router_take(daemon, peer, frame);
+    peer->lets_in |= status == TUHVONDI_DONE;
+    return status == TUHVONDI_DONE ? NULL : status == TUHVONDI_NO_MEMORY ? "" : tuhvondi_status_text(status);
+}
+
+/* Takes a frame. What is wrong with it, if anything; an empty answer asks for it again later. */
+static const char *take_frame(struct daemon *daemon, struct peer *peer, const unsigned char *bytes)
+{
+    struct frame frame;
+    const char *wrong = frame_read(bytes, &frame);
+    if (wrong || peer->parted)
+        return peer->parted ? NULL : wrong;
+    if (frame.type == FRAME_PARTING) {
+        note_parting(daemon, peer);
+        return NULL;
+    }
+    if (frame.type == FRAME_TERMS && peer->state == PEER_GREETING && peer->greeted
+        && peer->greeting.version == FIRST_VERSION) {
+        note_terms(&peer->greeting, &frame);
+        return NULL;
+    }
+    bool is_late = peer->state == PEER_UP || peer->greeted;
+    if (frame.type == FRAME_ANNOUNCEMENT || frame.type == FRAME_TERMS || (is_late && frame.type == FRAME_HELLO))
+        return "a frame is not due";
+    if (peer->state == PEER_GREETING) {
+        wrong = take_while_greeting(daemon, peer, &frame);
+        if (wrong || peer->state != PEER_UP)
+            return wrong;
+    }
+    if (frame.type == FRAME_MESSAGE)
+        return take_message(daemon, peer, &frame);
+    if (frame.type == FRAME_WAIT)
+        router_excuse(daemon, peer, &frame);
+    if (frame.type == FRAME_TRACE)
+        trace_begin(daemon, &(struct trace){.asked = frame.number, .from = port_of(daemon, peer)}, frame.addr,
+                    frame.kind);
+    if (frame.type == FRAME_ROUTER)
+        trace_answered(daemon, peer, &frame);
+    return NULL;
+}
+
+/* Takes the frames that are there, whole. */
+static void take_frames(struct daemon *daemon, struct peer *peer)
+{
+    while (peer->fd >= 0 && peer->in_count - peer->in_from >= FRAME_SIZE) {
+        const char *wrong = take_frame(daemon, peer, peer->in + peer->in_from);
+        if (wrong && !*wrong)
+            return;
+        if (peer->fd >= 0)
+            peer->in_from += FRAME_SIZE;
+        if (wrong)
+            peer_hang_up(daemon, peer, BY_FAULT, wrong);
+    }
+    memmove(peer->in, peer->in + peer->in_from, peer->in_count - peer->in_from);
+    peer->in_count -= peer->in_from;
+    peer->in_from = 0;
 }
 
 /* ---- connections that come here */
@@ -321,18 +630,10 @@ int sessions_listen(struct daemon *daemon)
     return fd;
 }
 
-static void drop(struct candidate *candidate)
-{
-    if (candidate->fd >= 0)
-        close(candidate->fd);
-    *candidate = (struct candidate){.fd = -1};
-}
-
 static void greet(const struct daemon *daemon, const struct peer *peer, struct candidate *candidate)
 {
-    unsigned char bytes[FRAME_SIZE];
-    struct frame hello = hello_of(daemon, peer);
-    frame_write(&hello, bytes);
+    unsigned char bytes[2 * FRAME_SIZE];
+    write_greeting(daemon, peer, bytes);
     candidate->greeted = send(candidate->fd, bytes, sizeof bytes, MSG_NOSIGNAL | MSG_DONTWAIT) == sizeof bytes;
     if (!candidate->greeted)
         drop(candidate);
@@ -354,15 +655,28 @@ static struct candidate *place_for(struct peer *peer)
     return oldest;
 }
 
+/* Whether no row leads to whoever connects, and is to have no session: one who is shut, or a stranger. That one may have
+ * been a neighbour, and the port of a neighbour is free only then. */
+static bool may_part(struct daemon *daemon, const struct peer *peer, struct in_addr from)
+{
+    if (peer)
+        return peer->shut && peer->state == PEER_IDLE && !peer->leaving && !peer->stale;
+    return kernel_is_free(daemon, from);
+}
+
 /* A neighbour that is to connect is known by its address. That alone ends nothing: a session goes on until the new
  * connection has said a hello that fits, and the old one is closed or silent. */
 static void accept_one(struct daemon *daemon, int fd, struct in_addr from)
 {
     struct peer *peer = peer_of(daemon, from);
+    if (!peer)
+        peer = removed_of(daemon, from);
     if (peer && !peer->config.passive)
         complain_of(peer, "it connects, and is not passive in the configuration");
     if (!peer || !peer->config.passive || peer->shut) {
         daemon->strangers += !peer;
+        if (may_part(daemon, peer, from))
+            say_parting(fd);
         close(fd);
         return;
     }
@@ -371,7 +685,7 @@ static void accept_one(struct daemon *daemon, int fd, struct in_addr from)
         close(fd);
         return;
     }
-    *place = (struct candidate){.fd = fd, .since = now_ms()};
+    *place = (struct candidate){.fd = fd, .since = now_ms(), .greeting = {.version = FIRST_VERSION}};
 }
 
 /* Without a free descriptor the connection stays in the queue, and the loop would be woken for it at once, again and
@@ -403,55 +717,83 @@ void sessions_accept(struct daemon *daemon)
  * that has begun anew answers that it knows nothing of it. */
 static void prove(struct daemon *daemon, struct peer *peer, struct candidate *candidate)
 {
-    struct frame hello, alive = {.type = FRAME_ALIVE};
-    const char *wrong = frame_read(candidate->in, &hello);
+    struct frame frame, alive = {.type = FRAME_ALIVE};
+    const char *wrong = frame_read(candidate->in, &frame);
+    if (!wrong && frame.type == FRAME_PARTING && candidate->greeted && peer->state != PEER_UP) {
+        drop(candidate);
+        note_parting(daemon, peer);
+        return;
+    }
     if (!wrong)
-        wrong = wrong_hello(daemon, peer, &hello);
+        wrong = wrong_hello(daemon, peer, &frame);
     if (wrong) {
         complain_of(peer, wrong);
         drop(candidate);
         return;
     }
+    candidate->greeting.hello = frame;
     candidate->proved = true;
     candidate->proved_at = now_ms();
-    candidate->theirs = hello.number;
     if (peer->state == PEER_UP)
         peer_put(daemon, peer, &alive);
 }
 
-/* Reads no more than the hello: what comes behind it is the session's. */
+/* Takes a hello, and the terms behind it. What comes behind these is the session's, and tells that the other end has read
+ * our hello over this connection. */
+static void take_greeting(struct daemon *daemon, struct peer *peer, struct candidate *candidate)
+{
+    while (candidate->fd >= 0 && !candidate->answered && candidate->in_count - candidate->in_from >= FRAME_SIZE) {
+        const unsigned char *bytes = candidate->in + candidate->in_from;
+        struct frame frame;
+        if (!candidate->proved)
+            prove(daemon, peer, candidate);
+        else if (!frame_read(bytes, &frame) && frame.type == FRAME_TERMS && candidate->greeting.version == FIRST_VERSION)
+            note_terms(&candidate->greeting, &frame);
+        else
+            candidate->answered = true;
+        if (candidate->fd >= 0 && !candidate->answered)
+            candidate->in_from += FRAME_SIZE;
+    }
+}
+
 void sessions_read_candidates(struct daemon *daemon, struct peer *peer)
 {
     for (struct candidate *candidate = peer->candidates; candidate < peer->candidates + CANDIDATES; candidate++) {
-        unsigned char next;
-        if (candidate->fd < 0)
+        if (candidate->fd < 0 || candidate->answered)
             continue;
-        ssize_t got = candidate->proved ? recv(candidate->fd, &next, 1, MSG_PEEK | MSG_DONTWAIT)
-                                        : recv(candidate->fd, candidate->in + candidate->in_count,
-                                               FRAME_SIZE - candidate->in_count, MSG_DONTWAIT);
+        ssize_t got = recv(candidate->fd, candidate->in + candidate->in_count, sizeof candidate->in - candidate->in_count,
+                           MSG_DONTWAIT);
         if (got == 0 || (got < 0 && errno != EAGAIN && errno != EINTR)) {
-            if (candidate->in_count > 0 && candidate->in_count < FRAME_SIZE)
+            if (candidate->in_count % FRAME_SIZE)
                 complain_of(peer, "it closed in the middle of a frame");
             drop(candidate);
-        } else if (got > 0 && !candidate->proved) {
+        } else if (got > 0) {
             candidate->in_count += (size_t)got;
-            if (candidate->in_count == FRAME_SIZE)
-                prove(daemon, peer, candidate);
+            take_greeting(daemon, peer, candidate);
         }
     }
 }
 
-/* The connection becomes the neighbour's, and its session begins. */
+/* The connection becomes the neighbour's, and its session begins; one that is no neighbour any more parts. */
 static void adopt(struct daemon *daemon, struct peer *peer, struct candidate *candidate)
 {
-    uint16_t theirs = candidate->theirs;
     peer->fd = candidate->fd;
+    peer->greeting = candidate->greeting;
+    peer->in_count = candidate->in_count - candidate->in_from;
+    memcpy(peer->in, candidate->in + candidate->in_from, peer->in_count);
     candidate->fd = -1;
     for (struct candidate *other = peer->candidates; other < peer->candidates + CANDIDATES; other++)
         drop(other);
     peer->state = PEER_GREETING;
     peer->heard = now_ms();
-    begin_session(daemon, peer, theirs);
+    peer->greeted = true;
+    take_frames(daemon, peer);
+}
+
+/* Hellos go there and back over links that may be long, whatever is agreed on for the session. */
+static int64_t greeting_patience(const struct daemon *daemon)
+{
+    return daemon->config.dead_ms > GREETING_MS ? (int64_t)daemon->config.dead_ms : GREETING_MS;
 }
 
 /* Looks whether a connection may take the place of the session that goes on: not while that one is heard. */
@@ -460,7 +802,7 @@ static void compare(struct daemon *daemon, struct peer *peer, struct candidate *
     if (peer->heard > candidate->proved_at) {
         complain_of(peer, "the session goes on over another");
         drop(candidate);
-    } else if (now - candidate->proved_at > 2 * (int64_t)daemon->config.alive_ms) {
+    } else if (now - candidate->proved_at > (int64_t)daemon->config.dead_ms * 2 / 3) {
         peer_hang_up(daemon, peer, BY_LINK, "it connects anew");
     }
 }
@@ -468,72 +810,18 @@ static void compare(struct daemon *daemon, struct peer *peer, struct candidate *
 static void tick_candidates(struct daemon *daemon, struct peer *peer, int64_t now)
 {
     for (struct candidate *candidate = peer->candidates; candidate < peer->candidates + CANDIDATES; candidate++) {
-        if (candidate->fd >= 0 && (peer->shut || now - candidate->since > (int64_t)daemon->config.dead_ms))
+        if (candidate->fd >= 0 && (peer->shut || now - candidate->since > greeting_patience(daemon)))
             drop(candidate);
         if (candidate->fd >= 0 && candidate->proved && peer->state == PEER_UP)
             compare(daemon, peer, candidate, now);
-        if (candidate->fd >= 0 && !candidate->greeted && peer->state == PEER_IDLE && may_begin(daemon, peer))
+        if (candidate->fd >= 0 && !candidate->greeted && peer->state == PEER_IDLE && may_begin(daemon, peer, false))
             greet(daemon, peer, candidate);
-        if (candidate->fd >= 0 && candidate->greeted && candidate->proved && peer->state == PEER_IDLE
-            && may_begin(daemon, peer)) {
+        if (candidate->fd >= 0 && candidate->greeted && candidate->answered && peer->state == PEER_IDLE
+            && may_begin(daemon, peer, false)) {
             adopt(daemon, peer, candidate);
             return;
         }
     }
-}
-
-/* ---- what neighbours send */
-
-/* Gives a message to the router. Why it is refused, if it is; an empty answer: there was no memory for it. */
-static const char *take_message(struct daemon *daemon, struct peer *peer, const struct frame *frame)
-{
-    uint32_t status = router_take(daemon, peer, frame), most = peer->config.most_prefixes;
-    peer->lets_in |= status == TUHVONDI_DONE;
-    if (status == TUHVONDI_TOO_MANY_PREFIXES && most && peer->reported >= most)
-        return "it tells of more prefixes than it may";
-    return status == TUHVONDI_DONE ? NULL : status == TUHVONDI_NO_MEMORY ? "" : tuhvondi_status_text(status);
-}
-
-/* Takes a frame. What is wrong with it, if anything; an empty answer asks for it again later. */
-static const char *take_frame(struct daemon *daemon, struct peer *peer, const unsigned char *bytes)
-{
-    struct frame frame;
-    const char *wrong = frame_read(bytes, &frame);
-    if (wrong)
-        return wrong;
-    if (peer->state == PEER_GREETING) {
-        wrong = wrong_hello(daemon, peer, &frame);
-        if (!wrong)
-            begin_session(daemon, peer, frame.number);
-        return wrong;
-    }
-    if (frame.type == FRAME_HELLO || frame.type == FRAME_ANNOUNCEMENT)
-        return "a frame is not due";
-    if (frame.type == FRAME_MESSAGE)
-        return take_message(daemon, peer, &frame);
-    if (frame.type == FRAME_TRACE)
-        trace_begin(daemon, &(struct trace){.asked = frame.number, .from = port_of(daemon, peer)}, frame.addr,
-                    frame.kind);
-    if (frame.type == FRAME_ROUTER)
-        trace_answered(daemon, peer, &frame);
-    return NULL;
-}
-
-/* Takes the frames that are there, whole. */
-static void take_frames(struct daemon *daemon, struct peer *peer)
-{
-    while (peer->fd >= 0 && peer->in_count - peer->in_from >= FRAME_SIZE) {
-        const char *wrong = take_frame(daemon, peer, peer->in + peer->in_from);
-        if (wrong && !*wrong)
-            return;
-        if (peer->fd >= 0)
-            peer->in_from += FRAME_SIZE;
-        if (wrong)
-            peer_hang_up(daemon, peer, BY_FAULT, wrong);
-    }
-    memmove(peer->in, peer->in + peer->in_from, peer->in_count - peer->in_from);
-    peer->in_count -= peer->in_from;
-    peer->in_from = 0;
 }
 
 void sessions_read(struct daemon *daemon, struct peer *peer, bool writable)
@@ -548,6 +836,8 @@ void sessions_read(struct daemon *daemon, struct peer *peer, bool writable)
         if (got < 0 && (errno == EAGAIN || errno == EINTR))
             return;
         if (got <= 0) {
+            if (got == 0 && peer->parted && is_read(peer->fd))
+                peer->told = true;
             peer_hang_up(daemon, peer, BY_LINK, peer->in_count ? "it closed in the middle of a frame" : "it closed");
             return;
         }
@@ -559,37 +849,84 @@ void sessions_read(struct daemon *daemon, struct peer *peer, bool writable)
 
 /* ---- time */
 
-/* How long the other end may be silent now. */
+/* How long the other end may be silent now. One of the first version was not told of our time. */
 static int64_t patience(const struct daemon *daemon, const struct peer *peer)
 {
-    return peer->state == PEER_CONNECTING ? CONNECT_MS : (int64_t)daemon->config.dead_ms;
+    if (peer->state == PEER_CONNECTING)
+        return CONNECT_MS;
+    if (peer->state == PEER_GREETING || peer->greeting.version == FIRST_VERSION)
+        return greeting_patience(daemon);
+    return daemon->config.dead_ms;
+}
+
+/* Whoever configures two ends with two secrets sees nothing else: the kernel drops what is not signed as it has to be. */
+static void miss(struct peer *peer, int64_t now)
+{
+    bool is_missed = is_somebody(peer) && !peer->shut && peer->state != PEER_UP;
+    if (!is_missed || !peer->missed) {
+        peer->missed = is_missed ? now + MISSED_MS : 0;
+        return;
+    }
+    if (now < peer->missed)
+        return;
+    say(LOG_WARNING, "%s: there is no session: %s%s", peer->name, peer->tried ? peer->tried : "it does not connect",
+        peer->config.secret[0] ? "; its secret may be another" : "");
+    peer->missed = now + HOUR_MS;
 }
 
 static void tick_peer(struct daemon *daemon, struct peer *peer, int64_t now)
 {
     struct frame alive = {.type = FRAME_ALIVE};
+    miss(peer, now);
     if (peer->leaving && !daemon->blocked)
         tell_down(daemon, peer);
     if (peer->state == PEER_UP && peer->lost)
-        peer_hang_up(daemon, peer, kernel_interface_works(daemon, peer) ? BY_FAULT : BY_LINK,
-                     "the kernel takes no route by it");
+        peer_hang_up(daemon, peer, BY_LINK, "the kernel takes no route by it");
     if (peer->state != PEER_IDLE && !daemon->blocked && now - peer->heard > patience(daemon, peer))
         peer_hang_up(daemon, peer, BY_LINK, "it is silent");
+    if (is_crowded(peer) && now - peer->drained > (int64_t)daemon->config.dead_ms)
+        peer_hang_up(daemon, peer, BY_LINK, "it does not read");
     tick_candidates(daemon, peer, now);
-    if (peer->state == PEER_IDLE && !peer->config.passive && may_begin(daemon, peer))
+    bool connects = !peer->config.passive || (peer->removed && now - peer->heard > PARTING_MS);
+    if (peer->state == PEER_IDLE && connects && may_begin(daemon, peer, true))
         try_to_connect(daemon, peer);
-    if (peer->state == PEER_UP && now - peer->said >= (int64_t)daemon->config.alive_ms)
+    if (peer->state == PEER_UP && now - peer->said >= (int64_t)peer->alive_ms)
         peer_put(daemon, peer, &alive);
-    if (peer->removed_at && now >= peer->removed_at && !peer->leaving && !peer->stale
-        && kernel_filter(daemon, peer, false))
-        peer->used = false;
+    if (peer->used && peer->removed && !peer->marked && !peer->leaving && !peer->stale)
+        release(daemon, peer, now);
+}
+
+/* To set or to read many routes takes longer than neighbours may wait, or a service manager. */
+void sessions_keep_alive(struct daemon *daemon)
+{
+    const struct frame alive = {.type = FRAME_ALIVE};
+    int64_t now = now_ms();
+    service_watch(now);
+    for (struct peer *peer = daemon->peers; peer < peers_end(daemon); peer++) {
+        if (!peer->used || peer->state != PEER_UP || now - peer->said < (int64_t)peer->alive_ms)
+            continue;
+        peer_put(daemon, peer, &alive);
+        sessions_flush(daemon, peer);
+    }
+}
+
+/* A router that tells its neighbours nothing new is none to them: whoever awaits a reply would wait for ever. */
+static void end_blocked(struct daemon *daemon)
+{
+    for (struct peer *peer = daemon->peers; peer < peers_end(daemon); peer++)
+        if (peer->used && peer->state != PEER_IDLE)
+            peer_hang_up(daemon, peer, BY_LINK, "rows have been waiting for the kernel for too long");
 }
 
 void sessions_tick(struct daemon *daemon, int64_t now)
 {
+    if (daemon->blocked && now - daemon->blocked_at > (int64_t)daemon->config.dead_ms)
+        end_blocked(daemon);
+    kernel_ask_for_carrier(daemon, now);
     for (struct peer *peer = daemon->peers; peer < peers_end(daemon); peer++)
         if (peer->used)
             tick_peer(daemon, peer, now);
+    marks_save(daemon);
 }
 
 static int64_t earlier(int64_t one, int64_t other)
@@ -602,14 +939,16 @@ static int64_t earlier(int64_t one, int64_t other)
 static int64_t deadline_of(const struct daemon *daemon, const struct peer *peer, int64_t now)
 {
     int64_t next = now + IDLE_MS, begins = peer->next_try > peer->waits_until ? peer->next_try : peer->waits_until;
-    if (peer->leaving || peer->stale || peer->lost || peer->removed_at)
+    if (peer->leaving || peer->stale || peer->lost || (peer->removed && !peer->marked))
         next = now + SOON_MS;
     if (peer->state != PEER_IDLE)
         next = earlier(next, peer->heard + patience(daemon, peer) + 1);
     else if (!peer->config.passive && begins > now - SOON_MS)
         next = earlier(next, begins);
     if (peer->state == PEER_UP)
-        next = earlier(next, peer->said + daemon->config.alive_ms);
+        next = earlier(next, peer->said + peer->alive_ms);
+    if (peer->state == PEER_UP && daemon->kernel.installs)
+        next = earlier(next, daemon->kernel.next_carrier);
     for (size_t i = 0; i < CANDIDATES; i++)
         if (peer->candidates[i].fd >= 0)
             next = earlier(next, now + SOON_MS / 2);
@@ -644,11 +983,12 @@ static struct peer *free_port(struct daemon *daemon, struct in_addr address)
     return found;
 }
 
-const char *peer_add(struct daemon *daemon, const struct neighbour *neighbour)
+/* The neighbour has a port; NULL: there is none for it. */
+static struct peer *take_port(struct daemon *daemon, const struct neighbour *neighbour)
 {
     struct peer *peer = free_port(daemon, neighbour->address);
     if (!peer)
-        return "there are at most 32 neighbours";
+        return NULL;
     uint16_t last = peer->last;
     memset(peer, 0, offsetof(struct peer, in));
     peer->config = *neighbour;
@@ -659,37 +999,132 @@ const char *peer_add(struct daemon *daemon, const struct neighbour *neighbour)
         peer->candidates[i].fd = -1;
     peer->used = true;
     daemon->peer_count += peer == peers_end(daemon);
+    return peer;
+}
+
+/* One that was removed is a neighbour again, before it has said anything. Its interface is looked up anew. */
+static void take_back(struct daemon *daemon, struct peer *peer, const struct neighbour *neighbour)
+{
+    drop_connections(daemon, peer, "it is a neighbour again");
+    if (!neighbour->secret[0])
+        unsign(daemon, peer);
+    peer->config = *neighbour;
+    peer->removed = peer->told = false;
+    peer->cleared = 0;
+    peer->index = 0;
+    peer->counters = (struct peer_counters){0};
+    peer->faults = 0;
+    peer_wake(peer);
+}
+
+const char *peer_add(struct daemon *daemon, const struct neighbour *neighbour)
+{
+    struct peer *peer = neighbour->address.s_addr ? removed_of(daemon, neighbour->address) : NULL;
+    bool was_removed = peer;
+    if (peer)
+        take_back(daemon, peer, neighbour);
+    else
+        peer = take_port(daemon, neighbour);
+    if (!peer)
+        return "there are at most 32 neighbours";
     const char *wrong = kernel_find_interface(daemon, peer);
     if (wrong == kernel_no_interface) {
         say(LOG_WARNING, "%s: %s yet", peer->name, wrong);
         wrong = NULL;
     }
-    peer->used = !wrong;
+    peer->removed = wrong && was_removed;
+    peer->used = !wrong || was_removed;
     return wrong;
 }
 
-/* Its secret goes at once: whoever has the address later may have none. */
-static void part_from(struct daemon *daemon, struct peer *peer)
-{
-    struct neighbour unsigned_one = {.address = peer->config.address};
-    if (peer->config.secret[0] && is_somebody(peer))
-        sessions_set_secret(daemon->listener, &unsigned_one);
-    peer_hang_up(daemon, peer, BY_OPERATOR, "it is no neighbour any more");
-    for (size_t i = 0; i < CANDIDATES; i++)
-        drop(&peer->candidates[i]);
-}
-
-/* What comes in from it is dropped until it must have noticed. */
+/* What comes in from it is dropped until it has said hello once more, however long that takes: then none of its rows leads
+ * here. So its secret stays as long. Who never had a session has no rows. */
 void peer_remove(struct daemon *daemon, struct peer *peer)
 {
-    part_from(daemon, peer);
-    peer->removed_at = now_ms() + 2 * (int64_t)daemon->config.dead_ms;
+    drop_connections(daemon, peer, "it is no neighbour any more");
+    peer->removed = true;
+    peer->told = !peer->marked;
+    peer->shut = false;
+    if (peer->marked)
+        say(LOG_NOTICE, "%s: what comes in by %s is dropped until it says that no row of it leads here", peer->name,
+            peer->interface);
+}
+
+/* It stands as one that was removed, if the configuration neither names it nor seeks neighbours on its interface. */
+bool peer_inherit(struct daemon *daemon, const struct neighbour *neighbour, const char *interface,
+                  const unsigned char *link_address)
+{
+    struct peer *found = NULL;
+    for (struct peer *peer = daemon->peers; peer < peers_end(daemon); peer++) {
+        bool is_it = peer->config.address.s_addr == neighbour->address.s_addr;
+        if (peer->used && peer->marked && is_it && strcmp(peer->interface, interface) == 0) {
+            if (link_address)
+                memcpy(peer->link_address, link_address, LINK_ADDRESS);
+            return true;
+        }
+        bool is_place = !peer->config.address.s_addr && strcmp(peer->config.interface, interface) == 0;
+        if (peer->used && !peer->marked && (is_it || (is_place && !found)))
+            found = peer;
+    }
+    if (found && !found->config.address.s_addr && !peer_give(daemon, found, neighbour->address))
+        found = NULL;
+    if (found && found->config.interface[0])
+        found->config.passive = neighbour->passive;
+    if (!found) {
+        found = take_port(daemon, neighbour);
+        if (!found)
+            return false;
+        found->removed = true;
+        say(LOG_WARNING, "%s: it was a neighbour, and is none now: what comes in by %s is dropped until it says that no "
+            "row of it leads here, or until `dualnetctl unfilter %s`", found->name, interface, interface);
+    }
+    snprintf(found->interface, sizeof found->interface, "%s", interface);
+    if (link_address)
+        memcpy(found->link_address, link_address, LINK_ADDRESS);
+    found->marked = true;
+    return true;
+}
+
+bool peer_leave_behind(struct daemon *daemon, struct peer *peer)
+{
+    struct peer *left = take_port(daemon, &peer->config);
+    if (!left)
+        return false;
+    left->removed = left->marked = true;
+    memcpy(left->interface, peer->interface, sizeof left->interface);
+    memcpy(left->link_address, peer->link_address, sizeof left->link_address);
+    left->filtered = peer->filtered;
+    /* Of one that is none any more it is not known at which of both it is. */
+    peer->marked = peer->removed;
+    peer->filtered = false;
+    daemon->marks.due = true;
+    say(LOG_NOTICE, "%s: what comes in by %s, where it was, is dropped until its next session", peer->name,
+        left->interface);
+    return kernel_filter(daemon, left, true);
+}
+
+bool peer_unfilter(struct daemon *daemon, const char *interface)
+{
+    bool found = false;
+    for (struct peer *peer = daemon->peers; peer < peers_end(daemon); peer++) {
+        bool is_gone = peer->removed || (peer->config.interface[0] && peer->state != PEER_UP);
+        if (!peer->used || !peer->marked || !is_gone || strcmp(peer->interface, interface) != 0)
+            continue;
+        if (!kernel_mark(daemon, peer, false))
+            continue;
+        found = true;
+        peer->told = true;
+        if (!peer->removed)
+            peer_give(daemon, peer, (struct in_addr){0});
+    }
+    return found;
 }
 
 /* It has no session now. Packets may wait for its link address, as after a session. */
 bool peer_give(struct daemon *daemon, struct peer *peer, struct in_addr address)
 {
-    part_from(daemon, peer);
+    unsign(daemon, peer);
+    drop_connections(daemon, peer, "it is no neighbour any more");
     peer->config.address = address;
     bool done = !address.s_addr || !peer->config.secret[0] || sessions_set_secret(daemon->listener, &peer->config);
     if (!done)

@@ -104,15 +104,16 @@ static void show_head(struct daemon *daemon, struct text *out, bool json)
 /* The rows in force, or what the router knows of each prefix. */
 static void show_rows(struct daemon *daemon, struct text *out, bool all, bool json)
 {
-    static struct tuhvondi_row known[MOST_PREFIXES + PART];
+    struct tuhvondi_row *known = daemon->router.known;
+    size_t most = daemon->router.most_known;
     struct tuhvondi_prefix from = TUHVONDI_FIRST_PREFIX;
     struct tuhvondi_prefix_state state;
     size_t count = 0;
     show_head(daemon, out, json);
     if (all)
-        tuhvondi_router_rows(&daemon->router.machine, known, MOST_PREFIXES, &count);
+        tuhvondi_router_rows(&daemon->router.machine, known, most, &count);
     else
-        tuhvondi_image_rows(&daemon->router.image, &from, known, MOST_PREFIXES + PART, &count);
+        tuhvondi_image_rows(&daemon->router.image, &from, known, most + PART, &count);
     for (size_t i = 0; i < count; i++) {
         text_put(out, json && i > 0 ? "," : "");
         if (all
@@ -123,6 +124,48 @@ static void show_rows(struct daemon *daemon, struct text *out, bool all, bool js
         text_put(out, json ? "" : "\n");
     }
     text_put(out, json ? "]}\n" : "");
+}
+
+/* The rows in force as other programs show routes: by which router and interface, how far, and for how long. */
+static void show_route(struct daemon *daemon, struct text *out, const struct tuhvondi_row *row, bool json)
+{
+    struct tuhvondi_prefix_state state = {.rd = TUHVONDI_INFINITY};
+    const struct noted *noted = prefixes_find(&daemon->prefixes, row->addr, row->len);
+    const struct peer *peer = row->kind == TUHVONDI_VIA ? &daemon->peers[row->port] : NULL;
+    char text[PREFIX_TEXT];
+    tuhvondi_router_state(&daemon->router.machine, row->addr, row->len, &state);
+    int64_t age = noted && noted->since ? (now_ms() - noted->since) / 1000 : -1;
+    prefix_text(row->addr, row->len, text);
+    if (json) {
+        text_put(out, "{\"prefix\":\"%s\",\"kind\":\"%s\",\"next_hop\":\"%s\",\"interface\":", text, KINDS[row->kind],
+                 peer ? peer->name : "");
+        text_put_string(out, peer ? peer->interface : "");
+        show_distance(out, "distance", state.rd);
+        text_put(out, ",\"seconds\":%" PRId64 "}", age);
+        return;
+    }
+    text_put(out, "%-18s %s", text, KINDS[row->kind]);
+    if (peer)
+        text_put(out, " %s%s%s", peer->name, peer->interface[0] ? " dev " : "", peer->interface);
+    if (state.rd != TUHVONDI_INFINITY)
+        text_put(out, ", distance %" PRIu32, state.rd);
+    if (age >= 0)
+        text_put(out, ", for %" PRId64 " s", age);
+    text_put(out, "\n");
+}
+
+static void show_routes(struct daemon *daemon, struct text *out, bool json)
+{
+    struct tuhvondi_row *rows = daemon->router.known;
+    struct tuhvondi_prefix from = TUHVONDI_FIRST_PREFIX;
+    size_t count = 0;
+    tuhvondi_image_rows(&daemon->router.image, &from, rows, daemon->router.most_known + PART, &count);
+    text_put(out, json ? "[" : "");
+    for (size_t i = 0; i < count; i++) {
+        text_put(out, json && i > 0 ? "," : "");
+        show_route(daemon, out, &rows[i], json);
+    }
+    text_put(out, json ? "]\n" : "");
 }
 
 static void show_fault(struct text *out, const char *what, bool json)
@@ -192,22 +235,25 @@ void show_hop(struct text *out, bool json, uint32_t id, uint8_t end)
 static const char *state_name(const struct peer *peer)
 {
     static const char *const STATES[] = {"idle", "connecting", "greeting", "up"};
-    return !is_somebody(peer) ? "sought" : peer->shut ? "shut" : STATES[peer->state];
+    return peer->removed ? "removed" : !is_somebody(peer) ? "sought" : peer->shut ? "shut" : STATES[peer->state];
 }
 
 static void show_neighbour_json(struct text *out, const struct peer *peer, int64_t now)
 {
     const struct peer_counters *counters = &peer->counters;
-    text_put(out, is_somebody(peer) ? "{\"address\":\"%s\"" : "{\"address\":null", peer->name);
+    text_put(out, peer->config.address.s_addr ? "{\"address\":\"%s\"" : "{\"address\":null", peer->name);
     text_put(out, ",\"state\":\"%s\",\"session\":%u,\"cost\":%" PRIu32 ",\"interface\":", state_name(peer), peer->last,
              peer->config.cost);
     text_put_string(out, peer->interface);
     text_put(out, ",\"discover\":");
     text_put_string(out, peer->config.interface);
     text_put(out, ",\"seconds\":%" PRId64 ",\"filtered\":%s,\"passive\":%s,\"prefixes\":%" PRIu32
-             ",\"sessions\":%" PRIu64 ",\"faults\":%" PRIu64, peer->begun ? (now - peer->begun) / 1000 : 0,
+             ",\"sessions\":%" PRIu64 ",\"faults\":%" PRIu64 ",\"left\":%" PRIu64, peer->begun ? (now - peer->begun) / 1000 : 0,
              peer->filtered ? "true" : "false", peer->config.passive ? "true" : "false", peer->reported,
-             counters->sessions, counters->faults);
+             counters->sessions, counters->faults, counters->left);
+    text_put(out, ",\"down_seconds\":%" PRId64 ",\"why\":", peer->why && !peer->begun ? (now - peer->over) / 1000 : 0);
+    text_put_string(out, peer->why && !peer->begun ? peer->why : "");
+    text_put(out, ",\"version\":%u", peer->begun ? peer->greeting.version : 0);
     text_put(out, ",\"taken\":[%" PRIu64 ",%" PRIu64 ",%" PRIu64 "],\"told\":[%" PRIu64 ",%" PRIu64 ",%" PRIu64 "]}",
              counters->taken[0], counters->taken[1], counters->taken[2], counters->told[0], counters->told[1],
              counters->told[2]);
@@ -219,8 +265,12 @@ static void show_neighbour(struct text *out, const struct peer *peer, int64_t no
              peer->last, peer->config.cost, peer->reported);
     if (peer->begun)
         text_put(out, ", for %" PRId64 " s", (now - peer->begun) / 1000);
+    else if (peer->why)
+        text_put(out, ", down for %" PRId64 " s: %s", (now - peer->over) / 1000, peer->why);
     if (peer->interface[0])
         text_put(out, ", %s%s", peer->interface, peer->filtered ? " (filtered)" : "");
+    if (peer->counters.left)
+        text_put(out, ", %" PRIu64 " reports left", peer->counters.left);
     if (now < peer->waits_until)
         text_put(out, ", waits %" PRId64 " s", (peer->waits_until - now + 999) / 1000);
     if (peer->config.interface[0] && is_somebody(peer))
@@ -234,7 +284,7 @@ static void show_neighbours(struct daemon *daemon, struct text *out, bool json)
     int64_t now = now_ms();
     text_put(out, json ? "[" : "");
     for (const struct peer *peer = daemon->peers; peer < peers_end(daemon); peer++) {
-        if (!peer->used || peer->removed_at)
+        if (!peer->used || (peer->removed && !peer->marked))
             continue;
         text_put(out, json && !is_first ? "," : "");
         if (json)
@@ -276,6 +326,7 @@ static void show_counters(struct daemon *daemon, struct text *out, bool json)
                  {"replies told", sums.told[TUHVONDI_REPLY]},
                  {"computations", daemon->router.computations},
                  {"longest computation ms", (uint64_t)daemon->router.longest_ms},
+                 {"sessions ended for late replies", daemon->router.late},
                  {"sessions", sums.sessions},
                  {"faults of neighbours", sums.faults},
                  {"connections of strangers", daemon->strangers},
@@ -306,6 +357,8 @@ bool show(struct daemon *daemon, struct client *client, size_t count, char **wor
     const char *verb = count > 0 ? words[0] : "";
     if (count == 1 && (strcmp(verb, "table") == 0 || strcmp(verb, "state") == 0))
         show_rows(daemon, out, verb[0] == 's', client->json);
+    else if (count == 1 && strcmp(verb, "routes") == 0)
+        show_routes(daemon, out, client->json);
     else if (count == 2 && (strcmp(verb, "state") == 0 || strcmp(verb, "why") == 0))
         show_prefix(daemon, out, words[1], verb[0] == 'w', client->json);
     else if (count == 2 && strcmp(verb, "lookup") == 0 && read_address(words[1], &address))

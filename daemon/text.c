@@ -56,6 +56,12 @@ const char *read_prefix(const char *text, struct tuhvondi_prefix *prefix)
     return len < 32 && (prefix->addr << len) != 0 ? tuhvondi_status_text(TUHVONDI_HOST_BITS) : NULL;
 }
 
+bool is_martian(uint32_t addr, uint8_t len)
+{
+    uint32_t first = addr >> 24;
+    return (len >= 8 && (first == 0 || first == 127)) || (len >= 3 && first >= 224);
+}
+
 const char *address_text(struct in_addr address, char text[INET_ADDRSTRLEN])
 {
     return inet_ntop(AF_INET, &address, text, INET_ADDRSTRLEN);

@@ -22,6 +22,9 @@ bool read_address(const char *text, struct in_addr *address);
 /* What is wrong with the prefix; NULL: nothing. */
 const char *read_prefix(const char *text, struct tuhvondi_prefix *prefix);
 
+/* Whether no router forwards to any address of the prefix: those of this network, of the host itself, of multicast, and above. */
+bool is_martian(uint32_t addr, uint8_t len);
+
 const char *address_text(struct in_addr address, char text[INET_ADDRSTRLEN]);
 const char *prefix_text(uint32_t addr, uint8_t len, char text[PREFIX_TEXT]);
 

@@ -25,24 +25,32 @@ static void tell(struct daemon *daemon, struct trace *trace, uint8_t end, uint32
         client->state = CLIENT_ANSWERED;
 }
 
-static struct trace *free_trace(struct daemon *daemon)
+/* No neighbour takes more than a share, so that others, and who asks here, have room. */
+static struct trace *free_trace(struct daemon *daemon, int from)
 {
-    for (struct trace *trace = daemon->traces; trace < daemon->traces + TRACES; trace++)
+    struct trace *found = NULL;
+    size_t count = 0;
+    for (struct trace *trace = daemon->traces; trace < daemon->traces + TRACES; trace++) {
         if (!trace->used)
-            return trace;
-    return NULL;
+            found = trace;
+        else if (from >= 0 && trace->from == from)
+            count++;
+    }
+    return count < TRACES / 4 ? found : NULL;
 }
 
 void trace_begin(struct daemon *daemon, const struct trace *asked, uint32_t addr, uint8_t hops)
 {
     struct tuhvondi_row row;
-    struct trace begun = *asked, *trace = free_trace(daemon);
+    struct trace begun = *asked, *trace = free_trace(daemon, asked->from);
     uint8_t end = tuhvondi_image_lookup(&daemon->router.reader, &addr, 1, &row, 1) ? TRACE_GIVEN_UP : row.kind;
     if (end == TUHVONDI_VIA && !is_in_session(&daemon->peers[row.port], row.session))
         end = TRACE_DEAD_LINK;
     if (end == TUHVONDI_VIA && (hops == 0 || !trace))
         end = TRACE_GIVEN_UP;
-    begun.number = ++daemon->trace_number;
+    /* No trace has the number 0: a frame of it has another meaning. */
+    daemon->trace_number += daemon->trace_number == UINT16_MAX ? 2 : 1;
+    begun.number = daemon->trace_number;
     tell(daemon, &begun, end, ntohl(daemon->config.router_id.s_addr));
     if (!begun.used)
         return;

@@ -6,7 +6,7 @@ from dataclasses import dataclass
 from random import Random
 from typing import Callable
 
-from routers import Daemons
+from routers import Daemons, Dualnetd
 from topology import is_connected
 
 # What happens to a link; trials/loops says what each is.
@@ -15,19 +15,25 @@ LINKS = ("cut", "admin", "onesided", "onecut", "silent", "deaf", "oneway")
 ROUTERS = {"freeze": "thaw", "kill": "restart", "withdraw": "attach"}
 KINDS = (*LINKS, *ROUTERS, "blip", "cost")
 NFT_KINDS = ("deaf", "oneway")
+# What happens to dualnetd alone: a router's line of a neighbour goes, or its kernel refuses routes.
+OWN_KINDS = {"remove": "readd", "refuse": "accept"}
 COSTS = (1, 5, 20, 60)
 BLIP_SECONDS = 0.05
 # BIRD compares its routes with the kernel's once a minute.
 SETTLE_SECONDS = 70
-# In a storm: seconds between events, and until one is undone. Some are near the 3.5 s after which dualnetd takes a
-# neighbour for silent.
+# In a storm: seconds between events, and until one is undone. Some are near the 0.5 s after which dualnetd takes a
+# neighbour for silent, and the 4 s of the others' fast timers.
 PAUSES = (0, 0.02, 0.05, 0.1, 0.3, 0.6)
 LASTS = {
-    "freeze": (0.5, 3, 3.6, 4, 4.4, 5),
+    "freeze": (0.3, 0.5, 0.6, 1, 3.6, 4, 4.4, 5),
     "kill": (0.05, 0.3, 1, 2, 5),
     "withdraw": (0.02, 0.2, 1, 3),
+    # Some for longer than a filter could be kept by time.
+    "remove": (0.1, 0.6, 2, 8, 16),
+    "refuse": (0.2, 1, 3, 5),
+    "deaf": (0.2, 0.5, 0.6, 2, 3.6, 6, 16),
 }
-LINK_LASTS = (0, 0.05, 0.2, 1, 2, 3.3, 3.6, 3.9, 4.2, 4.5, 6)
+LINK_LASTS = (0, 0.05, 0.2, 0.4, 0.5, 0.6, 1, 2, 3.6, 3.9, 4.2, 4.5, 6)
 
 Undo = Callable[[], None]
 
@@ -122,6 +128,27 @@ class Happenings:
 
         return undo
 
+    def change_own(self, kind: str, link: int) -> Undo:
+        daemons = self.daemons
+        assert isinstance(daemons, Dualnetd)
+        router = self.network.links[link][self.random.randrange(2)]
+        self.note(kind, link=link, router=router)
+        if kind == "remove":
+            daemons.take_out(router, link)
+        else:
+            daemons.refuse(router)
+            self.busy[router] = kind
+
+        def undo() -> None:
+            self.note(OWN_KINDS[kind], of=kind, link=link, router=router)
+            if kind == "remove":
+                daemons.put_back(router, link)
+            else:
+                daemons.accept(router)
+                del self.busy[router]
+
+        return undo
+
     # ---- one at a time
 
     def one_at_a_time(self, count: int) -> None:
@@ -137,6 +164,8 @@ class Happenings:
                 undo: Undo | None = self.change_router(kind, self.random.randrange(self.network.routers))
             elif kind in LINKS:
                 undo = self.change_link(kind, self.random.choice(spare))
+            elif kind in OWN_KINDS:
+                undo = self.change_own(kind, self.random.choice(spare))
             else:
                 undo = None
                 (self.blip if kind == "blip" else self.change_cost)(self.random.choice(spare))
@@ -155,6 +184,10 @@ class Happenings:
             same = list(self.busy.values()).count(kind)
             most = 3 if kind == "withdraw" else -(-self.network.routers // 10)
             return self.change_router(kind, router) if router not in self.busy and same < most else None
+        if kind in OWN_KINDS:
+            free = all(self.busy.get(end, "kill") == "kill" and (kind == "remove" or end not in self.busy)
+                       for end in self.network.links[link][:2])
+            return self.change_own(kind, link) if free and not self.taken_out(link) else None
         if kind == "cost":
             self.change_cost(link)
         elif link not in self.down and kind == "blip":
@@ -162,6 +195,11 @@ class Happenings:
         elif link not in self.down and len(self.down) <= len(self.network.links) // 4:
             return self.change_link(kind, link)
         return None
+
+    def taken_out(self, link: int) -> bool:
+        """Whether an end of the link has no line of the other."""
+        assert isinstance(self.daemons, Dualnetd)
+        return any(k == link for _, k in self.daemons.without)
 
     def storm(self, seconds: float) -> None:
         """Events all the time; what fails comes back, sooner or later, while other things fail."""

@@ -16,6 +16,11 @@ UNSEEN = ("silent", "oneway", "onesided", "onecut", "deaf")
 FRR = Path("/usr/lib/frr")
 
 
+def ignore_hang_up() -> None:
+    """A reload that comes before the program has begun ends nothing: the program reads its file later."""
+    signal.signal(signal.SIGHUP, signal.SIG_IGN)
+
+
 class Daemons:
     """What all protocols have in common. `up`: seconds that a repair takes at most; `seen`, `unseen`: that a failure takes
     if an interface tells of it, and if none does."""
@@ -51,7 +56,7 @@ class Daemons:
         dies = ["setpriv", "--pdeathsig", "KILL"] if shutil.which("setpriv") else []
         with (self.folder / f"r{router}.log").open("ab") as log:
             command = [*dies, *self.place.command(router), *map(str, words)]
-            process = subprocess.Popen(command, stdin=subprocess.DEVNULL, stdout=log, stderr=log)
+            process = subprocess.Popen(command, stdin=subprocess.DEVNULL, stdout=log, stderr=log, preexec_fn=ignore_hang_up)
         self.running.setdefault(router, []).append(process)
 
     def start(self, router: int) -> None:
@@ -120,23 +125,70 @@ def ask(control: Path, line: str) -> str:
 
 
 class Dualnetd(Daemons):
-    """`program` is set before the first one is made."""
+    """`program` is set before the first one is made. `more`: lines of a router beside those of its links, of which `without`
+    (router and link) are left out. If `may_refuse`, the kernel of a router can refuse routes."""
 
     up, seen, unseen = 2.5, 2.5, 6.5
     program = Path()
+    may_refuse = False
+
+    def __init__(self, place: Place, folder: Path) -> None:
+        super().__init__(place, folder)
+        self.more: dict[int, str] = {}
+        self.without: set[tuple[int, int]] = set()
 
     def wait(self, kind: str) -> float:
         return {"kill": 4.0, "freeze": 7.0}.get(kind, super().wait(kind))
 
-    def start(self, router: int) -> None:
+    def write(self, router: int) -> Path:
         lines = [f"router-id 10.254.0.{router + 1}", f"control {self.control(router)}"]
         for k, link, cost in self.links(router):
             there = self.place.address(link.other(router), k)
-            lines.append(f"neighbour {there} {cost}{' passive' if router == link.b else ''}")
+            if (router, k) not in self.without:
+                lines.append(f"neighbour {there} {cost}{' passive' if router == link.b else ''}")
         lines += [f"attach {a.prefix} {a.cost}" for a in self.attachments(router)]
         config = self.folder / f"r{router}.conf"
-        config.write_text("\n".join(lines) + "\n", encoding="utf-8")
-        self.run(router, self.program, config, "--install")
+        config.write_text("\n".join([*lines, self.more.get(router, "")]) + "\n", encoding="utf-8")
+        return config
+
+    def start(self, router: int) -> None:
+        words: list[str | Path] = [self.program, self.write(router), "--install"]
+        if self.may_refuse:
+            words = ["env", f"LD_PRELOAD={self.shim()}", f"BLOCK_FILE={self.refusal(router)}", *words]
+        self.run(router, *words)
+
+    def shim(self) -> Path:
+        """What stands between a daemon and its kernel."""
+        shim = self.folder / "block.so"
+        if not shim.exists():
+            words = ["cc", "-shared", "-fPIC", "-O2", "-Wall", "-Werror", "-o", shim, Path(__file__).resolve().parent / "block.c", "-ldl"]
+            subprocess.run(words, check=True)
+        return shim
+
+    def refusal(self, router: int) -> Path:
+        return self.folder / f"r{router}.refuses"
+
+    def refuse(self, router: int) -> None:
+        """The kernel of the router takes no routes from now on."""
+        self.refusal(router).touch()
+
+    def accept(self, router: int) -> None:
+        self.refusal(router).unlink()
+
+    def reload(self, router: int) -> None:
+        """The router's file is as it has to be; a daemon that runs reads it."""
+        self.write(router)
+        if router in self.running:
+            self.tell(router, signal.SIGHUP)
+
+    def take_out(self, router: int, link: int) -> None:
+        """The router has no line of its neighbour on the link any more."""
+        self.without.add((router, link))
+        self.reload(router)
+
+    def put_back(self, router: int, link: int) -> None:
+        self.without.discard((router, link))
+        self.reload(router)
 
     def control(self, router: int) -> Path:
         return self.folder / f"r{router}.sock"

@@ -28,31 +28,44 @@ static uint32_t drawn(uint32_t below)
 static bool is_bad(const unsigned char *b)
 {
     uint32_t addr = (uint32_t)b[4] << 24 | (uint32_t)b[5] << 16 | (uint32_t)b[6] << 8 | b[7];
+    uint32_t dead = addr & 0xffffff;
     bool value = b[8] || b[9] || b[10] || b[11], number = b[2] || b[3];
     if (b[13] || b[14] || b[15])
         return true;
     if (b[0] == 'M')
         return b[1] > 2 || b[12] > 32 || (b[12] < 32 && (uint32_t)(addr << b[12]) != 0);
+    if (b[0] == 'W')
+        return b[1] || value || b[12] > 32 || (b[12] < 32 && (uint32_t)(addr << b[12]) != 0);
     if (b[12] || value)
         return true;
+    if (b[0] == 'H')
+        return b[1] != 1;
+    if (b[0] == 'R' && !number)
+        return b[1] || b[4] < 2 || dead < 30 || dead > 600000;
+    if (b[0] == 'P')
+        return b[1] < 2 || number || addr;
     if (b[0] == 'A')
         return b[1] || number || addr;
-    return b[0] == 'H' ? b[1] != 1 : b[0] == 'T' ? b[1] > 63 : b[1] > 5 || b[0] != 'R';
+    return b[0] == 'T' ? b[1] > 63 : b[1] > 5 || b[0] != 'R';
 }
 
 static uint64_t compare_readers(uint64_t count)
 {
     uint64_t bad = 0;
     for (uint64_t i = 0; i < count; i++) {
-        unsigned char bytes[FRAME_SIZE] = {(unsigned char)"HAMMTRX"[drawn(7)]};
+        unsigned char bytes[FRAME_SIZE] = {(unsigned char)"HAMMTRXWP"[drawn(9)]};
         struct frame frame;
-        bytes[1] = (unsigned char)(bytes[0] == 'H' ? 1 : bytes[0] == 'A' ? 0 : drawn(2) ? drawn(7) : 62 + drawn(3));
-        for (size_t at = 2; at < 8 && bytes[0] != 'A'; at++)
+        bytes[1] = (unsigned char)(bytes[0] == 'H' ? 1 : bytes[0] == 'P' ? 2 : bytes[0] == 'A' || bytes[0] == 'W' ? 0 : drawn(2) ? drawn(7) : 62 + drawn(3));
+        for (size_t at = 2; at < 8 && bytes[0] != 'A' && bytes[0] != 'P'; at++)
             bytes[at] = (unsigned char)(drawn(3) ? drawn(256) : 0);
         if (bytes[0] == 'M') {
             bytes[8 + drawn(4)] = (unsigned char)drawn(256);
             bytes[12] = (unsigned char)drawn(35);
         }
+        if (bytes[0] == 'W')
+            bytes[12] = (unsigned char)(20 + drawn(14));
+        if (bytes[0] == 'R' && drawn(2))
+            bytes[1] = bytes[2] = bytes[3] = 0;
         if (drawn(4) == 0)
             bytes[1 + drawn(FRAME_SIZE - 1)] = (unsigned char)drawn(256);
         EXPECT((frame_read(bytes, &frame) != NULL) == is_bad(bytes));
@@ -68,7 +81,9 @@ static uint64_t answered, looked_up;
 static struct daemon *daemon_of_peers(void)
 {
     struct daemon *daemon = calloc(1, sizeof *daemon);
-    EXPECT(daemon && router_open(daemon));
+    EXPECT(daemon);
+    daemon->config.prefixes = DEFAULT_PREFIXES;
+    EXPECT(router_open(daemon));
     for (uint32_t i = 0; i < PEERS; i++) {
         struct neighbour neighbour = {.address = {0x0afe0000 + i}, .cost = 1 + drawn(100)};
         EXPECT(!peer_add(daemon, &neighbour));
@@ -124,9 +139,9 @@ static bool covers(const struct tuhvondi_row *row, uint32_t addr)
 
 static void compare_answers(struct daemon *daemon)
 {
-    static struct tuhvondi_row published[MOST_PREFIXES];
+    struct tuhvondi_row *published = daemon->router.known;
     size_t count = 0;
-    EXPECT(tuhvondi_router_rows(&daemon->router.machine, published, MOST_PREFIXES, &count) == TUHVONDI_DONE);
+    EXPECT(tuhvondi_router_rows(&daemon->router.machine, published, daemon->router.most_known, &count) == TUHVONDI_DONE);
     for (size_t i = 0; i < count; i++) {
         struct tuhvondi_prefix_state state;
         EXPECT(!tuhvondi_router_state(&daemon->router.machine, published[i].addr, published[i].len, &state));

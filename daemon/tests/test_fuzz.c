@@ -39,14 +39,15 @@ static uint64_t fuzz_frames(uint64_t turns)
     uint64_t good = 0;
     for (uint64_t i = 0; i < turns; i++) {
         unsigned char bytes[FRAME_SIZE], back[FRAME_SIZE];
-        uint8_t type = (uint8_t)"HAMMMTRN"[drawn(8)];
+        uint8_t type = (uint8_t)"HAMMMTRNWV"[drawn(10)];
         bool tells = type == FRAME_HELLO || type == FRAME_ANNOUNCEMENT;
-        uint32_t kind = type == FRAME_ALIVE ? 0 : tells ? FRAME_VERSION : drawn(4);
+        uint32_t kind = type == FRAME_ALIVE || type == FRAME_WAIT ? 0 : tells ? FIRST_VERSION : drawn(4);
         struct frame frame = {.type = type, .kind = (uint8_t)kind,
-                              .len = (uint8_t)(type == FRAME_MESSAGE ? 20 + drawn(14) : 0),
+                              .len = (uint8_t)(type == FRAME_MESSAGE || type == FRAME_WAIT ? 20 + drawn(14) : 0),
                               .number = (uint16_t)(type == FRAME_ALIVE ? 0 : drawn(1 << 16)),
                               .addr = type == FRAME_ALIVE ? 0 : drawn(1 << 20) << 12,
-                              .value = type == FRAME_MESSAGE || type == FRAME_ANNOUNCEMENT ? drawn(UINT32_MAX) : 0};
+                              .value = type == FRAME_MESSAGE || type == FRAME_ANNOUNCEMENT ? drawn(UINT32_MAX)
+                                       : type == FRAME_TERMS ? drawn(700000) : 0};
         frame_write(&frame, bytes);
         if (drawn(2))
             spoil(bytes, sizeof bytes);
@@ -67,11 +68,11 @@ static void no_complaint(void *whom, const char *what)
 
 static uint64_t fuzz_configs(uint64_t turns)
 {
-    static const char GOOD[] = "router-id 10.255.0.1\nlisten 10.0.0.1\ncontrol /run/x\nneighbour 10.0.0.2 10\n"
-                               "neighbour 10.0.0.6 9 passive secret ab ttl-security most-prefixes 9 list l\n"
+    static const char GOOD[] = "router-id 10.255.0.1\nlisten 10.0.0.1\ncontrol /run/x\nstate /x\nneighbour 10.0.0.2 10\n"
+                               "neighbour 10.0.0.6 9 passive secret ab ttl-security most-prefixes 9 warn-prefixes 5 list l\n"
                                "discover e0 5 most 3 secret ab list l\n"
                                "accept l 10.0.0.0/8 le 24 ge 9\ndeny l 0.0.0.0/0\nattach 10.1.0.0/16 1\ninstall yes\n"
-                               "table 100\nmetric 7\nprotocol 250\nalive 100\ndead 350\nlog syslog debug\n"
+                               "table 100\nmetric 7\nprotocol 250\nalive 100\ndead 350\nactive 9000\nprefixes 70\nlog syslog debug\n"
                                "metrics 127.0.0.1 9187\n";
     static struct config config;
     uint64_t good = 0;
@@ -98,7 +99,7 @@ static uint64_t fuzz_netlink(uint64_t turns)
         _Alignas(struct nlmsghdr) unsigned char room[REQUEST_SIZE];
         struct kernel_route route = {.addr = drawn(UINT32_MAX), .len = (uint8_t)drawn(40), .table = drawn(UINT32_MAX),
                                      .index = drawn(2)};
-        struct kernel_rule rule = {.interface = "veth0"};
+        struct kernel_rule rule = {.interface = "veth0", .from = {drawn(2)}};
         struct kernel_link link;
         size_t size = drawn(2) ? netlink_route(room, &route, drawn(2), 0) : netlink_rule(room, &rule, drawn(2), 0);
         uint16_t type = (uint16_t)(RTM_NEWLINK + drawn(2));
@@ -163,6 +164,7 @@ static struct daemon *daemon_of(size_t peers)
     EXPECT(daemon);
     daemon->config.alive_ms = 1000;
     daemon->config.dead_ms = 3500;
+    daemon->config.prefixes = DEFAULT_PREFIXES;
     daemon->config.router_id.s_addr = htonl(0x0a0a0a0a);
     daemon->listener = daemon->control = daemon->metrics = -1;
     EXPECT(router_open(daemon));
@@ -191,7 +193,7 @@ static void end_daemon(struct daemon *daemon, int *far_ends)
 static bool drawn_announcement(struct announcement *heard, const struct daemon *daemon)
 {
     uint32_t from = (drawn(8) ? 0x0afe0000 : 0x0afe0100) + drawn(16);
-    struct frame frame = {.type = FRAME_ANNOUNCEMENT, .kind = FRAME_VERSION, .number = TCP_PORT, .value = from,
+    struct frame frame = {.type = FRAME_ANNOUNCEMENT, .kind = FIRST_VERSION, .number = TCP_PORT, .value = from,
                           .addr = drawn(16) ? from : ntohl(daemon->config.router_id.s_addr)};
     unsigned char good[FRAME_SIZE];
     *heard = (struct announcement){.from = {htonl(from)}, .ttl = drawn(8) ? 255 : 254,
@@ -200,7 +202,7 @@ static bool drawn_announcement(struct announcement *heard, const struct daemon *
     memcpy(heard->bytes, good, sizeof good);
     if (drawn(4) == 0)
         spoil(heard->bytes, sizeof good);
-    return from >> 8 == 0x0afe00 && heard->ttl == 255 && heard->size == FRAME_SIZE
+    return from >> 8 == 0x0afe00 && (from & 0xff) != 0 && heard->ttl == 255 && heard->size == FRAME_SIZE
            && heard->bytes[0] == 'N' && memcmp(heard->bytes + 1, good + 1, 3) == 0
            && memcmp(heard->bytes + 8, good + 8, 8) == 0
            && memcmp(heard->bytes + 4, &daemon->config.router_id, sizeof daemon->config.router_id) != 0;
@@ -311,6 +313,7 @@ static void connect_anew(struct session_test *test, struct peer *peer)
     peer->fd = ends[0];
     *far_end = ends[1];
     peer->state = PEER_GREETING;
+    peer->greeting = (struct greeting){.version = FIRST_VERSION};
     peer->heard = now_ms();
 }
 
@@ -354,9 +357,9 @@ static struct frame drawn_frame(const struct peer *peer)
                               .addr = addr};
     case 2:
         if (drawn(100) == 0)
-            return (struct frame){.type = FRAME_ANNOUNCEMENT, .kind = FRAME_VERSION, .number = 1, .value = 1};
+            return (struct frame){.type = FRAME_ANNOUNCEMENT, .kind = FIRST_VERSION, .number = 1, .value = 1};
         return (struct frame){.type = FRAME_ROUTER, .kind = (uint8_t)drawn(TRACE_GIVEN_UP + 1),
-                              .number = (uint16_t)drawn(100), .addr = addr};
+                              .number = (uint16_t)(1 + drawn(100)), .addr = addr};
     default:
         return (struct frame){.type = FRAME_MESSAGE, .kind = drawn(200) == 0 ? TUHVONDI_REPLY : drawn(4) == 0,
                               .len = len, .number = peer->last, .addr = addr, .value = value};
@@ -366,8 +369,12 @@ static struct frame drawn_frame(const struct peer *peer)
 /* Answers a question that the router asked, if its session goes on; else sends what is drawn. */
 static struct frame next_frame(struct session_test *test, struct peer **peer)
 {
+    if ((*peer)->state == PEER_GREETING && !(*peer)->greeted)
+        return (struct frame){.type = FRAME_HELLO, .kind = FIRST_VERSION, .number = (*peer)->last, .addr = 0x0afe0001};
+    if ((*peer)->state == PEER_GREETING && drawn(2))
+        return (struct frame){.type = FRAME_TERMS, .kind = FRAME_VERSION, .value = 3500};
     if ((*peer)->state == PEER_GREETING)
-        return (struct frame){.type = FRAME_HELLO, .kind = FRAME_VERSION, .number = (*peer)->last, .addr = 0x0afe0001};
+        return (struct frame){.type = FRAME_ALIVE};
     if (test->asked_count > 0 && drawn(2)) {
         test->asked_count--;
         struct frame frame = test->asked[test->asked_count].frame;
@@ -387,7 +394,9 @@ static void send_one(struct session_test *test, struct peer *peer)
 {
     unsigned char bytes[FRAME_SIZE];
     struct frame frame = next_frame(test, &peer), back;
-    bool greets = peer->state == PEER_GREETING;
+    bool greets = peer->state == PEER_GREETING && !peer->greeted;
+    bool has_terms = peer->state != PEER_GREETING || greets || peer->greeting.version != FIRST_VERSION;
+    uint16_t session = (uint16_t)(peer->last + (peer->state != PEER_UP));
     frame_write(&frame, bytes);
     if (drawn(64) == 0)
         spoil(bytes, sizeof bytes);
@@ -399,7 +408,7 @@ static void send_one(struct session_test *test, struct peer *peer)
         return;
     }
     bool bad = frame_read(bytes, &back) || (back.type == FRAME_HELLO) != greets || back.type == FRAME_ANNOUNCEMENT
-               || (back.type == FRAME_MESSAGE && back.number != peer->last);
+               || (back.type == FRAME_TERMS && has_terms) || (back.type == FRAME_MESSAGE && back.number != session);
     send_in_pieces(test, peer, bytes, sizeof bytes);
     EXPECT(!bad || peer->state == PEER_IDLE);
     test->ended += peer->state == PEER_IDLE;
@@ -408,9 +417,9 @@ static void send_one(struct session_test *test, struct peer *peer)
 /* The image has the rows that were published, and what the neighbours report is counted right. */
 static void check_rows(struct daemon *daemon)
 {
-    static struct tuhvondi_row known[MOST_PREFIXES];
+    struct tuhvondi_row *known = daemon->router.known;
     size_t count = 0, in_force = 0, set = 0;
-    EXPECT(tuhvondi_router_rows(&daemon->router.machine, known, MOST_PREFIXES, &count) == TUHVONDI_DONE);
+    EXPECT(tuhvondi_router_rows(&daemon->router.machine, known, daemon->router.most_known, &count) == TUHVONDI_DONE);
     for (size_t i = 0; i < count; i++) {
         struct tuhvondi_prefix_state state;
         EXPECT(tuhvondi_router_state(&daemon->router.machine, known[i].addr, known[i].len, &state) == TUHVONDI_DONE);
@@ -421,7 +430,7 @@ static void check_rows(struct daemon *daemon)
     EXPECT(tuhvondi_image_row_count(&daemon->router.image, &set) == TUHVONDI_DONE && set == in_force);
     for (size_t port = 0; port < daemon->peer_count; port++) {
         uint32_t reported = 0;
-        for (size_t i = 0; i < PREFIX_SLOTS; i++)
+        for (size_t i = 0; i < daemon->prefixes.size; i++)
             reported += daemon->prefixes.slots[i].reported >> port & 1;
         EXPECT(reported == daemon->peers[port].reported);
     }

@@ -4,6 +4,7 @@
 #include "test.h"
 
 #include <arpa/inet.h>
+#include <linux/fib_rules.h>
 #include <linux/rtnetlink.h>
 #include <string.h>
 
@@ -30,12 +31,24 @@ static void test_frames(void)
     EXPECT(!frame_read(bytes, &back));
     EXPECT(back.type == 'M' && back.kind == 1 && back.len == 24 && back.number == 0x1234);
     EXPECT(back.addr == frame.addr && back.value == frame.value);
-    /* A hello, a sign of life, a trace, a router; and each with a field too many. */
+    /* A hello, of another version, with a value, with a length; a sign of life, a trace, a router; with a field too many. */
     EXPECT(is_frame("4801000aac10000100000000" "00000000"));
     EXPECT(!is_frame("4802000aac10000100000000" "00000000"));
-    EXPECT(!is_frame("4801000aac10000100000001" "00000000"));
+    EXPECT(!is_frame("4801000aac10000100000dac" "00000000"));
     EXPECT(!is_frame("4801000aac10000100000000" "01000000"));
     EXPECT(!is_frame("4801000aac10000100000000" "00000100"));
+    /* Terms: of a version before them, too impatient, too patient, with a kind; and none by a type of their own. */
+    EXPECT(is_frame("5200000002000dac00000000" "00000000"));
+    EXPECT(is_frame("5200000003000dac00000000" "00000000"));
+    EXPECT(!is_frame("5200000001000dac00000000" "00000000"));
+    EXPECT(!is_frame("520000000200001d00000000" "00000000"));
+    EXPECT(!is_frame("52000000020927c100000000" "00000000"));
+    EXPECT(!is_frame("5201000002000dac00000000" "00000000"));
+    EXPECT(!is_frame("560200000000000000000dac" "00000000"));
+    frame = (struct frame){.type = FRAME_TERMS, .kind = 2, .value = 3500};
+    frame_write(&frame, bytes);
+    EXPECT(memcmp(bytes, "R\0\0\0\x02\0\x0d\xac\0\0\0\0\0\0\0\0", FRAME_SIZE) == 0);
+    EXPECT(!frame_read(bytes, &back) && back.type == FRAME_TERMS && back.kind == 2 && back.value == 3500 && back.addr == 0);
     EXPECT(is_frame("410000000000000000000000" "00000000"));
     EXPECT(!is_frame("410000010000000000000000" "00000000"));
     EXPECT(!is_frame("410100000000000000000000" "00000000"));
@@ -50,6 +63,16 @@ static void test_frames(void)
     EXPECT(!is_frame("4e0100000aff00010a000001" "00000000"));
     EXPECT(!is_frame("4e01182b0aff000100000000" "00000000"));
     EXPECT(!is_frame("4e01182b0aff00010a000001" "01000000"));
+    /* Who parts: another version, a field too many. */
+    EXPECT(is_frame("500200000000000000000000" "00000000"));
+    EXPECT(!is_frame("500100000000000000000000" "00000000"));
+    EXPECT(!is_frame("500200010000000000000000" "00000000"));
+    EXPECT(!is_frame("500200000000000100000000" "00000000"));
+    /* Who waits: a value, a kind, bits after the length. */
+    EXPECT(is_frame("570000010a00000000000000" "08000000"));
+    EXPECT(!is_frame("570000010a00000000000001" "08000000"));
+    EXPECT(!is_frame("570100010a00000000000000" "08000000"));
+    EXPECT(!is_frame("570000010a01000000000000" "08000000"));
     /* Messages: a length above 32, bits after the length, a kind above 2, a type that is none. */
     EXPECT(is_frame("4d0200010a00000000000005" "08000000"));
     EXPECT(is_frame("4d0200010a0102030000000520000000"));
@@ -165,15 +188,34 @@ static void test_good_config(void)
     EXPECT(config.table == 100 && config.metric == 7 && config.protocol == 250 && config.dead_ms == 350);
     EXPECT(config.neighbours[1].passive && config.neighbours[1].ttl_security && config.has_secret);
     EXPECT(strcmp(config.neighbours[1].secret, "a#b") == 0 && config.neighbours[1].most_prefixes == 9);
+    EXPECT(reads("router-id 1.1.1.1\ncontrol c\nstate /s\nprefixes 1000000\nsource 10.0.0.9\nattach connected e0 3\n"
+                 "attach connected e1 4\nattach protocol 4 7 list l\nattach protocol 186 8\naccept l 10.0.0.0/8\n"
+                 "neighbour 10.0.0.2 1 warn-prefixes 7 secret-file /k\nactive 2000\n"));
+    EXPECT(strcmp(config.state, "/s") == 0 && config.prefixes == 1000000 && config.source.s_addr == htonl(0x0a000009));
+    EXPECT(config.connected_count == 2 && strcmp(config.connected[1].interface, "e1") == 0 && config.connected[1].cost == 4);
+    EXPECT(config.redistributed_count == 2 && config.redistributed[0].protocol == 4 && config.redistributed[0].cost == 7);
+    EXPECT(strcmp(config.redistributed[0].list, "l") == 0 && config.redistributed[1].list[0] == '\0');
+    EXPECT(config.neighbours[0].warn_prefixes == 7 && strcmp(config.neighbours[0].secret_file, "/k") == 0);
+    EXPECT(reads("router-id 1.1.1.1\ncontrol c\nalive 20\ndead 100\n") && config.active_ms == 2000);
     EXPECT(reads("\xef\xbb\xbfrouter-id 1.1.1.1\ncontrol c"));
     EXPECT(!config.installs && config.table == 254 && config.metric == 201 && config.protocol == 201);
-    EXPECT(config.alive_ms == 1000 && config.dead_ms == 3500 && config.log_level == LOG_INFO);
+    EXPECT(config.alive_ms == 100 && config.dead_ms == 500 && config.log_level == LOG_INFO);
 }
 
 static void test_bad_config(void)
 {
     EXPECT(!reads("") && !reads("router-id 1.1.1.1\n") && !reads("control c\n"));
     EXPECT(refused("router-id 2.2.2.2\n", "f:3:", "twice"));
+    EXPECT(refused("attach connected e0 0\n", "f:3:", "a cost") && refused("attach connected e0\n", "f:3:", "prefix"));
+    EXPECT(refused("attach connected e0 1\nattach connected e0 2\n", "f:4:", "twice"));
+    EXPECT(refused("attach connected 0123456789012345 1\n", "f:3:", "15 bytes") && refused("attach near e0 1\n", "f:3:", "expected"));
+    EXPECT(refused("attach protocol 2 1\n", "f:3:", "3 to 255") && refused("attach protocol 4 1\nattach protocol 4 2\n", "f:4:", "twice"));
+    EXPECT(refused("attach protocol 4 1 liste l\n", "f:3:", "list NAME") && refused("attach protocol 4 1 list l\n", "f:", "no line"));
+    EXPECT(refused("attach protocol 201 1\n", "f:", "own protocol"));
+    EXPECT(refused("prefixes 0\n", "f:3:", "1 to 1000000") && refused("prefixes 1000001\n", "f:3:", "1 to 1000000"));
+    EXPECT(refused("source 0.0.0.0\n", "f:3:", "address") && refused("active 1999\n", "f:3:", "2000"));
+    EXPECT(refused("neighbour 10.0.0.2 1 secret a secret-file b\n", "f:3:", "one secret"));
+    EXPECT(refused("neighbour 10.0.0.2 1 warn-prefixes 0\n", "f:3:", "1 to 1000000"));
     EXPECT(refused("neighbour 10.0.0.2\n", "f:3:", "expected: neighbour"));
     EXPECT(refused("neighbour 10.0.0.2 0\n", "f:3:", "1 to 65535"));
     EXPECT(refused("neighbour 10.0.0.2 4294967298\n", "f:3:", "1 to 65535"));
@@ -234,6 +276,28 @@ static void test_long_config(void)
     for (int i = 0, at = 0; i < 33; i++)
         at += sprintf(lines + at, "neighbour 10.0.0.%d 5\n", i + 1);
     EXPECT(refused(lines, "f:35:", "at most 32"));
+}
+
+static void test_secret(void)
+{
+    struct neighbour one = {.cost = 1};
+    char longest[SECRET_SIZE + 1];
+    memset(longest, 'x', sizeof longest);
+    longest[SECRET_SIZE - 1] = '\0';
+    EXPECT(!config_take_secret(&one, "hush\r\nmore") && strcmp(one.secret, "hush") == 0);
+    EXPECT(!config_take_secret(&one, longest) && strlen(one.secret) == SECRET_SIZE - 1);
+    longest[SECRET_SIZE - 1] = 'x';
+    longest[SECRET_SIZE] = '\0';
+    EXPECT(config_take_secret(&one, longest) && config_take_secret(&one, "") && config_take_secret(&one, "\nx"));
+    EXPECT(config_take_secret(&one, "two words") && strlen(one.secret) == SECRET_SIZE - 1);
+}
+
+static void test_martians(void)
+{
+    EXPECT(is_martian(0, 8) && is_martian(0x00010000, 16) && is_martian(0x7f000001, 32) && is_martian(0xe0000000, 4));
+    EXPECT(is_martian(0xffffffff, 32) && is_martian(0xf0000000, 4) && is_martian(0xe0000000, 3));
+    EXPECT(!is_martian(0, 0) && !is_martian(0, 7) && !is_martian(0x0a000000, 8) && !is_martian(0xc0000000, 2));
+    EXPECT(!config_accepts(&config, "", 0x7f000000, 8) && config_accepts(&config, "", 0, 0));
 }
 
 static void test_lists(void)
@@ -301,6 +365,7 @@ static void test_prefixes(void)
     static struct prefixes table;
     static bool there[4096];
     uint32_t state = 1993;
+    EXPECT(prefixes_open(&table, 4096) && table.size == 8192);
     for (int turn = 0; turn < 200000; turn++) {
         state = state * 1664525 + 1013904223;
         uint32_t number = state >> 20, addr = number << 20 | (number & 1 ? 0x12300 : 0);
@@ -321,13 +386,14 @@ static void test_prefixes(void)
     for (size_t i = 0; i < 4096; i++)
         count += there[i];
     EXPECT(table.count == count);
-    for (size_t i = 0; i < PREFIX_SLOTS; i++)
+    for (size_t i = 0; i < table.size; i++)
         table.slots[i].behind = false;
     prefixes_tidy(&table);
     EXPECT(table.count == 0);
-    for (uint32_t i = 0; i < PREFIXES_NOTED; i++)
+    for (uint32_t i = 0; i < table.size / 2; i++)
         EXPECT(prefixes_add(&table, i, 32));
-    EXPECT(!prefixes_add(&table, PREFIXES_NOTED, 32));
+    EXPECT(!prefixes_add(&table, (uint32_t)table.size, 32));
+    prefixes_close(&table);
 }
 
 /* ---- a place where nobody is yet */
@@ -349,7 +415,8 @@ static void test_netlink(void)
     struct kernel_route route = {.addr = 0x0a010000, .len = 16, .table = 1000, .metric = 201, .type = RTN_UNICAST,
                                  .protocol = 201, .by = {htonl(0x0a000002)}, .index = 9},
                         back;
-    struct kernel_rule rule = {.preference = 1, .protocol = 201}, rule_back;
+    struct kernel_rule rule = {.preference = 1, .protocol = 201, .action = FR_ACT_NOP, .from = {htonl(0x0a000002)}},
+                       rule_back;
     struct kernel_link link;
     EXPECT(netlink_route(room, &route, true, 0) <= sizeof room);
     EXPECT(netlink_read_route(message, &back) && back.addr == route.addr && back.len == 16 && back.table == 1000);
@@ -358,7 +425,8 @@ static void test_netlink(void)
     memset(rule.interface, 'i', IF_NAMESIZE - 1);
     EXPECT(netlink_rule(room, &rule, true, 0) <= sizeof room);
     EXPECT(netlink_read_rule(message, &rule_back) && strcmp(rule.interface, rule_back.interface) == 0);
-    EXPECT(rule_back.preference == 1 && rule_back.protocol == 201);
+    EXPECT(rule_back.preference == 1 && rule_back.protocol == 201 && rule_back.action == FR_ACT_NOP);
+    EXPECT(rule_back.from.s_addr == rule.from.s_addr);
     EXPECT(netlink_dump_routes(room, 254, 201) <= sizeof room && netlink_dump_rules(room) <= sizeof room);
 }
 
@@ -370,6 +438,8 @@ int main(void)
     test_good_config();
     test_bad_config();
     test_long_config();
+    test_secret();
+    test_martians();
     test_lists();
     test_ports();
     test_prefixes();
