@@ -147,9 +147,10 @@ class Dualnetd(Daemons):
             if (router, k) not in self.without:
                 lines.append(f"neighbour {there} {cost}{' passive' if router == link.b else ''}")
         lines += [f"attach {a.prefix} {a.cost}" for a in self.attachments(router)]
-        config = self.folder / f"r{router}.conf"
-        config.write_text("\n".join([*lines, self.more.get(router, "")]) + "\n", encoding="utf-8")
-        return config
+        config, whole = (self.folder / f"r{router}.conf{more}" for more in ("", ".new"))
+        whole.write_text("\n".join([*lines, self.more.get(router, "")]) + "\n", encoding="utf-8")
+        # A daemon that begins just now reads the old file or the new one, and no half of one.
+        return whole.replace(config)
 
     def start(self, router: int) -> None:
         words: list[str | Path] = [self.program, self.write(router), "--install"]
