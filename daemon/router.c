@@ -377,6 +377,13 @@ static void leave_prefix(struct daemon *daemon, struct peer *peer, const struct 
     peer_put(daemon, peer, &reply);
 }
 
+/* Whether a computation goes on after this reply, because others owe theirs, so that the router need not be asked. */
+static bool goes_on(struct daemon *daemon, const struct frame *frame)
+{
+    const struct noted *noted = prefixes_find(&daemon->prefixes, frame->addr, frame->len);
+    return frame->kind == TUHVONDI_REPLY && noted && noted->active_since && noted->awaited;
+}
+
 /* Gives a message to the router. A prefix that the neighbour's list refuses, or that is one too many, is taken as one
  * that it does not reach: a query is answered, and no row leads there. If the router does not know it, it need not. A
  * reply to no question, and a message of another session, are the router's to refuse. */
@@ -384,7 +391,7 @@ uint32_t router_take(struct daemon *daemon, struct peer *peer, const struct fram
 {
     struct tuhvondi_message message = {.addr = frame->addr, .value = frame->value, .len = frame->len,
                                        .session = frame->number, .kind = frame->kind, .port = port_of(daemon, peer)};
-    bool known = is_known(daemon, frame->addr, frame->len);
+    bool known = frame->kind == TUHVONDI_REPLY || is_known(daemon, frame->addr, frame->len);
     bool too_many = is_too_many(daemon, peer, frame), no_room = !known && !has_room(daemon, peer);
     if ((too_many || no_room) && frame->value != TUHVONDI_INFINITY)
         note_left(peer, frame, too_many ? "more are not taken of it" : "there is no room for more");
@@ -408,7 +415,8 @@ uint32_t router_take(struct daemon *daemon, struct peer *peer, const struct fram
             note_brought(daemon, peer, frame->addr, frame->len);
         note_report(daemon, peer, &message);
         peer->counters.taken[frame->kind]++;
-        note_activity(daemon, frame->addr, frame->len);
+        if (!goes_on(daemon, frame))
+            note_activity(daemon, frame->addr, frame->len);
     }
     return status;
 }
